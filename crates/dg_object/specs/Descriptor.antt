@@ -1,0 +1,45 @@
+-- What a page says as a descriptor.
+use Rattle.std.specs.Prelude.{◌≡◌, ◌≢◌, ℕ, ◌+◌, ◌-◌, ◌*◌, ◌^◌, ◌<◌, ◌≤◌, IsTrue, List, length, take, slice_index}
+use Rattle.dg_base.specs.Name.{names}
+use Rattle.dg_object.specs.Object.{Row, head_of, pages_for}
+
+-- the fields of a descriptor
+pub record Details : Type 0 where
+  pub image : ℕ
+  pub version : ℕ
+  pub pages : ℕ
+  pub length : ℕ
+  pub name : List ℕ
+
+-- the first two bytes are `DG`
+pub record HasTag (head : List ℕ) : Type 0 where
+  pub first : slice_index head 0 ≡ 68
+  pub second : slice_index head 1 ≡ 71
+
+-- 28 bytes spell these fields, and each is in its range
+pub record IsHead (head : List ℕ) (d : Details) : Type 0 where
+  pub spelled : head ≡ head_of d.image d.pages d.version d.length d.name
+  pub image : d.image ≤ 3
+  pub version : 1 ≤ d.version
+  pub version_fits : d.version < 2 ^ 32
+  pub some : 1 ≤ d.length
+  pub fits : d.length ≤ 70656
+  pub pages : d.pages ≡ pages_for d.length
+  pub name : IsTrue (names d.name)
+
+-- the bytes that stand at `at` of a page are 0xFF wherever they are past the CRC of the last page
+abbrev pub RestFits : ℕ → ℕ → List ℕ → Type 0
+RestFits pages at piece = (k : ℕ) → k < length piece → 28 + 2 * (pages - 1) ≤ at + k → slice_index piece k ≡ 255
+
+-- a page of 1,104 bytes is a descriptor of these fields
+pub record IsDescriptor (page : List ℕ) (d : Details) : Type 0 where
+  pub head : IsHead (take 28 page) d
+  pub rest : RestFits d.pages 0 page
+
+-- what the descriptor of a row says
+abbrev pub details : Row → Details
+details row = record { image = row.image; version = row.version; pages = pages_for (length row.bytes); length = length row.bytes; name = row.name }
+
+-- the CRC that a descriptor keeps of data page p
+abbrev pub crc_in : List ℕ → ℕ → ℕ
+crc_in page p = 256 * slice_index page (26 + 2 * p) + slice_index page (27 + 2 * p)

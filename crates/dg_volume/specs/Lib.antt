@@ -1,0 +1,5 @@
+pub mod Snapshot
+pub mod Header
+pub mod Store
+pub mod Start
+pub mod Told

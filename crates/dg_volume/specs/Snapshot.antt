@@ -1,0 +1,33 @@
+-- The 64 bytes of a place in a control sector, in their form number 1.
+use Rattle.std.specs.Prelude.{◌≡◌, ℕ, ◌^◌, ◌<◌, ◌≤◌, Bool, true, false, List, [], ◌∷◌, ◌++◌, replicate, slice_index_or}
+use Rattle.std.specs.Int.{to_be_bytes, w32}
+use Rattle.dg_volume.specs.declared.snapshot.SlotState.{SlotState}
+use Rattle.dg_volume.specs.declared.snapshot.SlotState.TheVariants.{Dirty, Live}
+use Rattle.dg_volume.specs.declared.snapshot.Program.{Program}
+use Rattle.dg_volume.specs.declared.snapshot.Program.TheVariants.{Blank, Set}
+use Rattle.dg_volume.specs.declared.snapshot.Order.{Order}
+use Rattle.dg_volume.specs.declared.snapshot.Snapshot.{Snapshot}
+
+-- a slot: whether it is Live, and its version, 0 where it is Dirty
+abbrev pub slot_bytes : SlotState → List ℕ
+slot_bytes Dirty = 0 ∷ to_be_bytes w32 0
+slot_bytes (Live v) = 1 ∷ to_be_bytes w32 v
+
+-- program memory: whether it is Set, its image and its version, 0 where it is Blank
+abbrev pub program_bytes : Program → List ℕ
+program_bytes Blank = 0 ∷ 0 ∷ to_be_bytes w32 0
+program_bytes (Set i v) = 1 ∷ i ∷ to_be_bytes w32 v
+
+abbrev pub order_bytes : Order → List ℕ
+order_bytes o = to_be_bytes w32 o.number ++ o.image ∷ to_be_bytes w32 o.version
+
+abbrev pub bit : Bool → ℕ
+bit true = 1
+bit false = 0
+
+-- a committed place that holds the snapshot
+abbrev pub place_of : Snapshot → List ℕ
+place_of s =
+    127 ∷ 1 ∷ slot_bytes (slice_index_or s.slots 0 Dirty) ++ slot_bytes (slice_index_or s.slots 1 Dirty)
+    ++ slot_bytes (slice_index_or s.slots 2 Dirty) ++ slot_bytes (slice_index_or s.slots 3 Dirty)
+    ++ program_bytes s.program ++ order_bytes s.order ++ s.gesture ∷ bit s.waived ∷ replicate 25 255

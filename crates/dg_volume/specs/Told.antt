@@ -1,0 +1,22 @@
+-- What a mounted volume tells of the store that its chip stands for.
+use Rattle.std.specs.Prelude.{◌≡◌, ℕ, ◌<◌, List, length, Option, Some, None}
+use Rattle.dg_volume.specs.Store.{Store, Held, App, held}
+use Rattle.dg_volume.specs.declared.snapshot.Program.{Program}
+use Rattle.dg_volume.specs.declared.snapshot.Program.TheVariants.{Blank, Set}
+use Rattle.dg_volume.specs.declared.snapshot.SlotState.{SlotState}
+use Rattle.dg_volume.specs.declared.snapshot.SlotState.TheVariants.{Dirty, Live}
+use Rattle.dg_volume.specs.declared.volume.Kept.{Kept}
+
+-- what is told of an image that is kept: version, pages, how many of them are complete, the CRC of page 0
+abbrev pub told : Option Held → Option Kept
+told None = None
+told (Some h) = Some (record { version = h.version; pages = h.pages; done = length h.complete; crc = h.crc })
+
+-- what is told of program memory
+abbrev pub program_told : Option App → Program
+program_told None = Blank
+program_told (Some app) = Set app.image app.version
+
+abbrev pub slot_told : Option Held → SlotState
+slot_told None = Dirty
+slot_told (Some h) = Live h.version

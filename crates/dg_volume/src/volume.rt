@@ -1,0 +1,18 @@
+//! A mounted volume.
+use crate::Snapshot;
+
+/// What is kept of an image: its version, its page count, how many pages are complete, and the CRC of page 0.
+#[derive(Clone, Copy, Debug, PartialEq, Eq)]
+pub struct Kept {
+    pub version: u32,
+    pub pages: u8,
+    pub done: u8,
+    pub crc: u16,
+}
+
+/// A volume as it was mounted. It stands for the chip that it was mounted from.
+#[derive(Drop)]
+pub struct Volume {
+    snapshot: Snapshot,
+    kept: [Option<Kept>; 4],
+}

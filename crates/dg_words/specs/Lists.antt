@@ -1,0 +1,15 @@
+-- Lists that are told by a function of the place, and lists that are filled up.
+use Rattle.std.specs.Prelude.{ℕ, ◌-◌, List, ◌++◌, length, map, replicate}
+use Rattle.std.specs.List.{range_with_len, flat_map}
+
+-- the values at 0 to n − 1, in this order
+abbrev pub tabulate : {A : Type 0} → ℕ → (ℕ → A) → List A
+tabulate n f = map f (range_with_len 0 n)
+
+-- the list, and as many x behind it as make n of them
+unfoldable pub padded : ℕ → ℕ → List ℕ → List ℕ
+padded n x xs = xs ++ replicate (n - length xs) x
+
+-- the lists one after the other
+abbrev pub joined : List (List ℕ) → List ℕ
+joined xss = flat_map (λ xs. xs) xss
