@@ -1,0 +1,12 @@
+//! A NOR flash chip as its bytes: reads, programs that turn bits from 1 to 0, erases of whole sectors.
+//!
+//! `Nor` is the device. A `Board` is a chip in memory.
+#![tactic(auto)]
+
+mod board;
+mod device;
+mod sectors;
+
+pub use board::Board;
+pub use device::{CHIP, Nor, PAGE, SECTOR, SECTORS, Stopped};
+pub use sectors::{erase_sector, program_in, read_in};
