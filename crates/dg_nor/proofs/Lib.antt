@@ -1,3 +1,4 @@
 pub mod BitLemmas
 pub mod ChipLemmas
 pub mod DeviceLemmas
+pub mod TrailLemmas

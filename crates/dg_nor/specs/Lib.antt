@@ -1,3 +1,4 @@
 pub mod Board
 pub mod Chip
 pub mod Device
+pub mod Trail
