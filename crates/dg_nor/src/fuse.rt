@@ -1,8 +1,8 @@
 //! A power cut in the middle of a flash operation, as a device.
 ghost use Rattle.std.specs.Prelude.{◌≡◌, ◌+◌, ◌*◌, ◌%◌, ◌∷◌, ◌<◌, ◌≤◌, ◌≢◌, ℕ, true, false, Some, length, slice_index, bit_and, bit_or, OnOk, OnErr, IfSome};
 ghost use Rattle.dg_words.specs.Cells.{AreBytes};
-ghost use Rattle.dg_nor.specs.Chip.{CutProgram, CutErase};
-ghost use Rattle.dg_nor.specs.Device.{more};
+ghost use Rattle.dg_nor.specs.Chip.{programmed, erased, CutProgram, CutErase};
+ghost use Rattle.dg_nor.specs.Device.{more, Ran, Halts};
 ghost use Rattle.dg_nor.specs.Masks.{mask_byte, MaskedProgram, MaskedErase, Drifts};
 ghost use Rattle.dg_nor.specs.declared.device.TheConstants.{SECTORS};
 
@@ -55,7 +55,7 @@ impl<'a, N: Nor> Fused<'a, N> {
 }
 
 impl<N: Nor> Nor for Fused<'_, N> {
-    ghost use Rattle.dg_nor.specs.Fuse.{inner_of, name_of, mask_of, fused_device};
+    ghost use Rattle.dg_nor.specs.Fuse.{inner_of, mask_of, fused_device};
 
     ghost device = { fused_device N.device };
 
@@ -70,7 +70,32 @@ impl<N: Nor> Nor for Fused<'_, N> {
         self.inner.read(at, into)
     }
 
-    fn program(&mut self, at: u32, bytes: &[u8]) -> Result<(), Stopped> {
+    fn program(&mut self, at: u32, bytes: &[u8]) -> Result<(), Stopped>
+        requires some { 0 < length bytes.now }
+        requires in_chip { at < CHIP }
+        requires in_sector { at % SECTOR + length bytes.now ≤ SECTOR }
+
+        ensures image { OnOk result ((fused_device N.device self.new).image
+            ≡ programmed (fused_device N.device self.old).image at bytes.now) }
+        ensures ran { OnOk result (Ran 1 (fused_device N.device self.old) (fused_device N.device self.new)) }
+        ensures awake { OnOk result ((fused_device N.device self.old).stopped ≡ false) }
+
+        ensures stopped { OnErr result (Halts 1 0 (fused_device N.device self.old) (fused_device N.device self.new)) }
+        ensures cut { OnErr result (CutProgram (fused_device N.device self.old).image at bytes.now
+            (fused_device N.device self.new).image) }
+        ensures blows { (fused_device N.device self.old).stopped ≡ false
+            → (fused_device N.device self.old).left ≡ Some 0 → (fused_device N.device self.new).blown ≡ true }
+
+        // It leaves what the mask says, unless the inner device stops meanwhile.
+        ensures masked { (fused_device N.device self.old).stopped ≡ false
+            → (fused_device N.device self.old).left ≡ Some 0 → (N.device (inner_of self.new)).stopped ≡ false
+            → MaskedProgram (fused_device N.device self.old).image at bytes.now (mask_of self.old)
+                (fused_device N.device self.new).image }
+        ensures same_mask { mask_of self.new ≡ mask_of self.old }
+
+        ensures passed { OnOk result (Ran 1 (N.device (inner_of self.old)) (N.device (inner_of self.new))) }
+        ensures drifts { Drifts 2 (N.device (inner_of self.old)) (N.device (inner_of self.new)) }
+    {
         if self.is_stopped() {
             return Err(Stopped);
         }
@@ -84,7 +109,30 @@ impl<N: Nor> Nor for Fused<'_, N> {
         Ok(())
     }
 
-    fn erase(&mut self, sector: u32) -> Result<(), Stopped> {
+    fn erase(&mut self, sector: u32) -> Result<(), Stopped>
+        requires { sector < SECTORS }
+
+        ensures image { OnOk result ((fused_device N.device self.new).image
+            ≡ erased (fused_device N.device self.old).image sector) }
+        ensures ran { OnOk result (Ran 1 (fused_device N.device self.old) (fused_device N.device self.new)) }
+        ensures awake { OnOk result ((fused_device N.device self.old).stopped ≡ false) }
+
+        ensures stopped { OnErr result (Halts 1 0 (fused_device N.device self.old) (fused_device N.device self.new)) }
+        ensures cut { OnErr result (CutErase (fused_device N.device self.old).image sector
+            (fused_device N.device self.new).image) }
+        ensures blows { (fused_device N.device self.old).stopped ≡ false
+            → (fused_device N.device self.old).left ≡ Some 0 → (fused_device N.device self.new).blown ≡ true }
+
+        // It leaves the mask, unless the inner device stops meanwhile.
+        ensures masked { (fused_device N.device self.old).stopped ≡ false
+            → (fused_device N.device self.old).left ≡ Some 0 → (N.device (inner_of self.new)).stopped ≡ false
+            → MaskedErase (fused_device N.device self.old).image sector (mask_of self.old)
+                (fused_device N.device self.new).image }
+        ensures same_mask { mask_of self.new ≡ mask_of self.old }
+
+        ensures passed { OnOk result (Ran 1 (N.device (inner_of self.old)) (N.device (inner_of self.new))) }
+        ensures drifts { Drifts 2 (N.device (inner_of self.old)) (N.device (inner_of self.new)) }
+    {
         if self.is_stopped() {
             return Err(Stopped);
         }
