@@ -1,11 +1,17 @@
 -- What programs and erases leave, cell by cell and sector by sector.
-use Rattle.std.proofs.Common.{◌≡◌, ℕ, ◌+◌, ◌*◌, ◌<◌, ◌≤◌, ◌⊎◌, List, [], ◌∷◌, length, get_or, bit_and, zero, suc, refl, sym, ap, ◌∙◌, subst, inl, inr, arith}
+use Rattle.std.proofs.Common.{◌≡◌, ℕ, ◌+◌, ◌*◌, ◌<◌, ◌≤◌, ◌⊎◌, List, [], ◌∷◌, length, get_or, bit_and, zero, suc, refl, sym, ap, ⊎_elim, ◌∙◌, subst, inl, inr, arith, ◌^◌}
 use Rattle.std.proofs.lemmas.List.{length-replicate, get_or-replicate, same_lists}
+use Rattle.std.proofs.lemmas.Nat.{and_comm}
 use Rattle.std.proofs.lemmas.Grind.{common_steps, same_number_lists}
 use Rattle.dg_words.specs.Cells.{part, overwritten, AreBytes}
-use Rattle.dg_words.proofs.CellLemmas.{length-part, length-overwritten, get_or-part, part-part, part-overwritten_at, part-overwritten_apart, part-overwritten_around, overwritten_same}
+use Rattle.dg_words.proofs.CellLemmas.{length-part, length-overwritten, get_or-part, part-part, part-overwritten_at, part-overwritten_apart, part-overwritten_around, overwritten_same, get_or-overwritten_inside, get_or-overwritten_outside}
 use Rattle.dg_nor.specs.Chip.{blank, sector, and_each, programmed, erased, IsBetween, CutProgram, CutErase, Keeps}
-use Rattle.dg_nor.proofs.BitLemmas.{IsBetween-old, IsBetween-finished}
+use Rattle.dg_nor.proofs.BitLemmas.{IsBetween-old, IsBetween-finished, one_bit}
+
+pub one_element : (xs : List ℕ) (x : ℕ) → length xs ≡ 1 → get_or xs 0 0 ≡ x → xs ≡ x ∷ []
+one_element [] x n h = absurd (omega arith)
+one_element (y ∷ []) x n h = ap (λ z. z ∷ []) h
+one_element (y ∷ (z ∷ zs)) x n h = absurd (omega arith)
 
 -- ---- blank cells
 
@@ -194,3 +200,41 @@ CutProgram-finished cells at bs h =
           (IsBetween-finished (get_or cells (at + k) 0) (get_or bs k 0));
       leaves = refl;
     }
+
+-- ---- single bytes
+
+pub get_or-programmed : (cells : List ℕ) (at : ℕ) (bs : List ℕ) (k : ℕ) → at + length bs ≤ length cells → k < length bs → get_or (programmed cells at bs) (at + k) 0 ≡ bit_and (get_or cells (at + k) 0) (get_or bs k 0)
+unfolding programmed
+get_or-programmed cells at bs k h l =
+    let p : length (part cells at (length bs)) ≡ length bs = length-part cells at (length bs) h in
+    let n : length (and_each (part cells at (length bs)) bs) ≡ length bs = length-and_each (part cells at (length bs)) bs p in
+    get_or-overwritten_inside cells at (and_each (part cells at (length bs)) bs) k 0 (omega arith) (omega arith)
+    ∙ get_or-and_each (part cells at (length bs)) bs k (omega arith) l ∙ ap (λ x. bit_and x (get_or bs k 0)) (get_or-part cells at (length bs) k 0 l)
+
+pub get_or-programmed_outside : (cells : List ℕ) (at : ℕ) (bs : List ℕ) (k : ℕ) → at + length bs ≤ length cells → (k < at) ⊎ (at + length bs ≤ k) → get_or (programmed cells at bs) k 0 ≡ get_or cells k 0
+unfolding programmed
+get_or-programmed_outside cells at bs k h outside =
+    let p : length (part cells at (length bs)) ≡ length bs = length-part cells at (length bs) h in
+    let n : length (and_each (part cells at (length bs)) bs) ≡ length bs = length-and_each (part cells at (length bs)) bs p in
+    get_or-overwritten_outside cells at (and_each (part cells at (length bs)) bs) k 0 (omega arith) (⊎_elim (λ low. inl low) (λ high. inr (omega arith)) outside)
+
+-- A program of one byte that clears one bit leaves the old cells or the new ones, wherever it is interrupted.
+pub cut_one_bit : (cells : List ℕ) (at byte i : ℕ) (new : List ℕ) → at < length cells → get_or cells at 0 ≡ bit_and (get_or cells at 0) byte + 2 ^ i → CutProgram cells at (byte ∷ []) new → (new ≡ cells) ⊎ (new ≡ programmed cells at (byte ∷ []))
+unfolding programmed
+cut_one_bit cells at byte i new h bit cut =
+    let old = get_or cells at 0 in
+    let here : at + 0 ≡ at = omega arith in
+    let fits : at + length (byte ∷ []) ≤ length cells = omega arith in
+    let between : IsBetween old (bit_and old byte) (get_or cut.found 0 0) = subst (λ p. IsBetween (get_or cells p 0) (bit_and (get_or cells p 0) byte) (get_or cut.found 0 0)) here (cut.each 0 (omega arith)) in
+    let within : bit_and old (bit_and old byte) ≡ bit_and old byte = and_comm old (bit_and old byte) ∙ (IsBetween-finished old byte).below in
+    let n : length (part cells at 1) ≡ 1 = length-part cells at 1 fits in
+    let cell : get_or (part cells at 1) 0 0 ≡ old = get_or-part cells at 1 0 0 (omega arith) ∙ ap (λ p. get_or cells p 0) here in
+    let found_is : (x : ℕ) → get_or cut.found 0 0 ≡ x → cut.found ≡ x ∷ [] = λ x e. one_element cut.found x cut.count e in
+    let m = length-and_each (part cells at 1) (byte ∷ []) n in
+    let finished : and_each (part cells at 1) (byte ∷ []) ≡ bit_and old byte ∷ [] =
+    one_element (and_each (part cells at 1) (byte ∷ [])) (bit_and old byte) m
+    (get_or-and_each (part cells at 1) (byte ∷ []) 0 (omega arith) (omega arith) ∙ ap (λ x. bit_and x byte) cell) in
+    ⊎_elim
+    (λ stays. inl (cut.leaves ∙ ap (overwritten cells at) (found_is old stays ∙ sym (one_element (part cells at 1) old n cell)) ∙ overwritten_same cells at 1 fits))
+    (λ done. inr (cut.leaves ∙ ap (overwritten cells at) (found_is (bit_and old byte) done ∙ sym finished)))
+    (one_bit old (bit_and old byte) (get_or cut.found 0 0) i within bit between)

@@ -2,4 +2,5 @@ pub mod BitLemmas
 pub mod ChipLemmas
 pub mod DeviceLemmas
 pub mod MaskLemmas
+pub mod PublishLemmas
 pub mod TrailLemmas

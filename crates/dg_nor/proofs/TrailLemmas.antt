@@ -168,6 +168,32 @@ module _ {S : Type 0} (near : S → S → Type 0) where
       (subst (λ j. Leaves near u j s) (sym e) (Leaves_first u s works (subst (λ a. near a s) same stays))))
       (cases_lt k (operations t))
 
+-- ---- trails of one part
+
+pub operations-resting : {S : Type 0} (a : S) (n : ℕ) → operations (resting a n) ≡ n
+unfolding operations_of
+operations-resting a n = omega arith
+
+pub operations-stepping : {S : Type 0} (a : S) (n : ℕ) (next : S) → operations (stepping a n next) ≡ n
+unfolding operations_of
+operations-stepping a n next = omega arith
+
+pub last-resting : {S : Type 0} (a : S) (n : ℕ) → last (resting a n) ≡ a
+unfolding last_of
+last-resting a n = refl
+
+pub last-stepping : {S : Type 0} (a : S) (n : ℕ) (next : S) → last (stepping a n next) ≡ next
+unfolding last_of
+last-stepping a n next = refl
+
+pub EachWorks-resting : {S : Type 0} (a : S) (n : ℕ) → EachWorks (resting a n).steps
+unfolding EachWorks
+EachWorks-resting a n = tt
+
+pub EachWorks-stepping : {S : Type 0} (a : S) (n : ℕ) (next : S) → 0 < n → EachWorks (stepping a n next).steps
+unfolding EachWorks
+EachWorks-stepping a n next h = (h, tt)
+
 -- ---- acts that follow one another
 
 -- both parts ran
@@ -180,13 +206,13 @@ module _ {S : Type 0} (stands : List ℕ → S → Type 0) (near : S → S → T
   Halted-joined_first t u {a} {b} works same h =
       subst (λ n. Halted n (MayLeave stands near (joined t u)) a b) (sym (operations-joined t u))
       (Halted_first (operations u) (Halted-weaker
-      (λ k c within l. record { store = l.store; stands_for = l.stands_for; allowed = Leaves-joined_first near t u k l.store works same within l.allowed }) h))
+      (λ k within l. record { store = l.store; stands_for = l.stands_for; allowed = Leaves-joined_first near t u k l.store works same within l.allowed }) h))
 
   -- the first part ran, and the second stopped
   pub Halted-joined_second : (t u : Trail S) {a b c : Device} → last t ≡ u.first → Ran (operations t) a b → Halted (operations u) (MayLeave stands near u) b c → Halted (operations (joined t u)) (MayLeave stands near (joined t u)) a c
   Halted-joined_second t u {a} {b} {c} same ran h =
       subst (λ n. Halted n (MayLeave stands near (joined t u)) a c) (sym (operations-joined t u))
-      (Halted_second (MayLeave stands near u) ran (λ k image within l.
+      (Halted_second (MayLeave stands near u) ran (λ k within l.
       let e : (operations t + k) - operations t ≡ k = omega arith in
       record {
         store = l.store;

@@ -5,10 +5,12 @@
 
 mod board;
 mod device;
+mod example;
 mod fuse;
 mod sectors;
 
 pub use board::Board;
 pub use device::{CHIP, Nor, PAGE, SECTOR, SECTORS, Stopped};
+pub use example::{publish, publish_with_cut, refill};
 pub use fuse::Fused;
 pub use sectors::{erase_sector, program_in, read_in};
