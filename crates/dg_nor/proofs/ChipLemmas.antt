@@ -84,6 +84,10 @@ pub length-sector : (image : List ℕ) (k : ℕ) → length image ≡ 679936 →
 unfolding sector
 length-sector image k whole h = length-part image (2048 * k) 2048 (omega arith)
 
+pub sector-blank : (n k : ℕ) → 2048 * k + 2048 ≤ n → sector (blank n) k ≡ blank 2048
+unfolding sector
+sector-blank n k h = part-blank n (2048 * k) 2048 h
+
 -- ---- a sector after a write within it
 
 pub sector-overwritten : (image : List ℕ) (k at : ℕ) (bs : List ℕ) → length image ≡ 679936 → k < 332 → at + length bs ≤ 2048 → sector (overwritten image (2048 * k + at) bs) k ≡ overwritten (sector image k) at bs
