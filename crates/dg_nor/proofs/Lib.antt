@@ -1,0 +1,6 @@
+pub mod BitLemmas
+pub mod ChipLemmas
+pub mod DeviceLemmas
+pub mod MaskLemmas
+pub mod PublishLemmas
+pub mod TrailLemmas
