@@ -1,0 +1,4 @@
+pub mod PageLemmas
+pub mod NameLemmas
+pub mod HeadLemmas
+pub mod RestLemmas
