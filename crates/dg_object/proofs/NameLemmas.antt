@@ -7,7 +7,7 @@ use Rattle.std.proofs.lemmas.List.{get_or_past, get_or-replicate, length-replica
 use Rattle.std.proofs.lemmas.List.Folds.{list_all_at}
 use Rattle.std.specs.List.{list_all}
 use Rattle.dg_words.specs.Lists.{padded}
-use Rattle.dg_words.proofs.Lists.{take-padded, get_or-padded_front, get_or-padded_behind, length-padded}
+use Rattle.dg_words.proofs.ListLemmas.{take-padded, get_or-padded_front, get_or-padded_behind, length-padded}
 use Rattle.dg_base.specs.Texts.{names, is_name_byte}
 
 pub names-some : (n : List ℕ) → IsTrue (names n) → 1 ≤ length n

@@ -5,7 +5,7 @@ use Rattle.std.specs.Int.{to_be_bytes, w16}
 use Rattle.std.proofs.lemmas.List.{take_rest, drop_min, take_min, take_all, drop-replicate, length-replicate}
 use borrow.Rule.Slice.PartMut.{put_mid}
 use Rattle.dg_words.specs.Lists.{padded}
-use Rattle.dg_words.proofs.Lists.{padded_none, padded-append, length-padded, flat_map-range_more}
+use Rattle.dg_words.proofs.ListLemmas.{padded_none, padded-append, length-padded, flat_map-range_more}
 use Rattle.dg_base.specs.Crc.{crc_of, crc_more}
 use Rattle.dg_base.proofs.CrcLemmas.{crc_more-append}
 use Rattle.dg_object.specs.Object.{Row, data_page, head_of, crcs_to, descriptor_page, page_of_row}

@@ -1,1 +1,2 @@
-pub mod Lists
+pub mod CellLemmas
+pub mod ListLemmas

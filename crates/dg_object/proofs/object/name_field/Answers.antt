@@ -1,5 +1,5 @@
 use Rattle.std.proofs.Common.{[], length, replicate, refl, sym}
-use Rattle.dg_words.proofs.Lists.{padded_none}
+use Rattle.dg_words.proofs.ListLemmas.{padded_none}
 use Rattle.dg_object.proofs.PageLemmas.{put_piece}
 use Rattle.dg_object.proofs.object.name_field.Goals as goal
 
