@@ -2,3 +2,4 @@ pub mod PageLemmas
 pub mod NameLemmas
 pub mod HeadLemmas
 pub mod RestLemmas
+pub mod RowLemmas

@@ -2,6 +2,8 @@
 use Rattle.std.proofs.Common.{◌≡◌, ℕ, ◌+◌, ◌-◌, ◌*◌, ◌<◌, ◌≤◌, min, List, ◌++◌, length, take, drop, get_or, refl, sym, ap, ◌∙◌, subst, arith, length-drop, length-take, get_or-drop, get_or-take, length-append, inl, inr}
 use Rattle.std.proofs.lemmas.Bool.{cases_lt}
 use Rattle.std.proofs.lemmas.List.{take_rest, take_all, get_or_append_left, get_or-append-add}
+use Rattle.dg_words.specs.Cells.{part}
+use Rattle.dg_words.proofs.CellLemmas.{part-append-part, length-part}
 use Rattle.dg_object.specs.Descriptor.{RestFits, HasTag, IsHead, IsDescriptor, Details}
 
 -- what a piece has from place m on
@@ -81,3 +83,25 @@ tag_of_page page tag = record { first = sym (get_or-take 28 page 0 0 (omega arit
 
 pub tag_of_head : (page : List ℕ) → HasTag page → HasTag (take 28 page)
 tag_of_head page tag = record { first = get_or-take 28 page 0 0 (omega arith) ∙ tag.first; second = get_or-take 28 page 1 0 (omega arith) ∙ tag.second }
+
+-- a further piece of a page
+pub RestFits-more : (pages : ℕ) (page : List ℕ) (at m n : ℕ) → at + (m + n) ≤ length page → RestFits pages at (part page at m) → RestFits pages (at + m) (part page (at + m) n) → RestFits pages at (part page at (m + n))
+RestFits-more pages page at m n within front back =
+    let Fits : List ℕ → Type 0 = RestFits pages at in
+    let Behind : ℕ → Type 0 = λ k. RestFits pages (at + k) (part page (at + m) n) in
+    subst Fits (part-append-part page at m n within)
+      (RestFits-append pages at (part page at m) (part page (at + m) n) front (subst Behind (sym (length-part page at m (omega arith))) back))
+
+-- all pieces behind the head, and the head
+pub descriptor_from_pieces : (page : List ℕ) (d : Details) → length page ≡ 1104 → IsHead (part page 0 28) d → RestFits d.pages 28 (part page 28 1076) → IsDescriptor page d
+unfolding part
+descriptor_from_pieces page d len head rest = descriptor_from_parts page d len head rest
+
+-- each piece of a descriptor
+pub pieces_of_descriptor : (page : List ℕ) (d : Details) (at n : ℕ) → IsDescriptor page d → RestFits d.pages at (part page at n)
+unfolding part
+pieces_of_descriptor page d at n is k low past = RestFits-part d.pages 0 at n page is.rest k low (omega arith)
+
+pub head_of_descriptor : (page : List ℕ) (d : Details) → IsDescriptor page d → IsHead (part page 0 28) d
+unfolding part
+head_of_descriptor page d is = is.head

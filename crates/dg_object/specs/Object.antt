@@ -2,6 +2,7 @@
 use Rattle.std.specs.Prelude.{◌≡◌, ℕ, ◌+◌, ◌-◌, ◌*◌, ◌/◌, ◌^◌, ◌<◌, ◌≤◌, IsTrue, List, [], ◌∷◌, ◌++◌, length, take, drop, slice_index, suc, zero}
 use Rattle.std.specs.List.{flat_map, range_with_len}
 use Rattle.std.specs.Int.{to_be_bytes, w16, w32}
+use Rattle.dg_words.specs.Cells.{AreBytes}
 use Rattle.dg_words.specs.Lists.{tabulate, padded, joined}
 use Rattle.dg_base.specs.Crc.{crc_of}
 use Rattle.dg_base.specs.Texts.{names}
@@ -24,7 +25,7 @@ pub record IsRow (row : Row) : Type 0 where
   pub name : IsTrue (names row.name)
   pub some : 1 ≤ length row.bytes
   pub fits : length row.bytes ≤ 70656
-  pub bytes : (k : ℕ) → slice_index row.bytes k < 256
+  pub bytes : AreBytes row.bytes
 
 -- the pages of an object with that many bytes: the descriptor, and a page for each 1,104 bytes begun
 abbrev pub pages_for : ℕ → ℕ

@@ -5,12 +5,14 @@
 #![tactic(auto)]
 
 mod descriptor;
+mod laws;
 mod name;
 mod object;
 mod profile;
 mod size;
 
 pub use descriptor::{Descriptor, DescriptorFault};
+pub use laws::{a_descriptor_is_read_in_pieces, a_head_is_read_in_one_way, a_row_has_a_descriptor, a_row_is_its_pages};
 pub use name::Name;
 pub use object::{page_of, profile_of};
 pub use profile::Profile;
