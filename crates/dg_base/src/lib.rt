@@ -1,0 +1,22 @@
+//! What every layer of the project stands on: the traits of the outside, numbers and texts as
+//! bytes, and the checksum of pages and frames.
+#![tactic(auto)]
+
+mod answers;
+mod checksum;
+mod checksum_tables;
+mod hexadecimal;
+mod memory;
+mod numbers;
+mod outside;
+mod standard;
+mod texts;
+
+pub use answers::Status;
+pub use checksum::{checksum_is_a_remainder, crc16, crc16_more};
+pub use hexadecimal::{HexFault, hex_reads_back, parse_hex, push_hex};
+pub use memory::{MemSink, MemSource};
+pub use numbers::{parse_u32, push_u32, reads_what_is_printed};
+pub use outside::{ReadFailed, Sink, Source, WriteFailed};
+pub use standard::{StdSink, StdSource};
+pub use texts::{Bytes, is_name, next_line};
