@@ -1,4 +1,5 @@
 pub mod Snapshot
+pub mod Ranges
 pub mod Header
 pub mod Store
 pub mod Start
