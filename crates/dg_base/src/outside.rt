@@ -1,0 +1,51 @@
+//! Where bytes come from and go to.
+//!
+//! Each trait counts its faults. The count never falls, a call answers its failure only where the
+//! count rose in that call, and at the end of a `u64` the count stands still.
+ghost use Rattle.std.specs.Prelude.{◌≡◌, ℕ, Option, IsTrue, ◌<◌, ◌≤◌, List, [], length, take, Ok, IfOk, OnOk, OnErr, MatchResult};
+ghost use Rattle.dg_words.specs.Counts.{Rose};
+ghost use Rattle.dg_base.specs.Outside.{Takes, Puts, PutsFront, AtEnd};
+
+/// A read failed. No byte was taken.
+#[derive(Clone, Copy, PartialEq, Eq, Debug)]
+pub struct ReadFailed;
+
+/// A write failed. Some front of the piece, maybe none of it, was written.
+#[derive(Clone, Copy, PartialEq, Eq, Debug)]
+pub struct WriteFailed;
+
+/// An input of bytes.
+pub trait Source {
+    // The bytes that are left, where the source tells them.
+    ghost left: { Self → Option (List ℕ) };
+
+    // How many reads failed.
+    ghost faults: { Self → ℕ };
+
+    /// Reads the next bytes into the front of `into`, and answers how many. 0 comes only at the
+    /// end of the input.
+    fn read(&mut self, into: &mut [u8]) -> Result<usize, ReadFailed>
+        requires { 0 < length into.old }
+        ensures count { IfOk result (λ n. n ≤ length into.old) }
+        ensures bytes { MatchResult result (λ n. Takes (left self.old) (left self.new) (take n into.new))
+            (λ _. left self.new ≡ left self.old) }
+        ensures end { result ≡ Ok 0 → AtEnd (left self.old) }
+        ensures counts { faults self.old ≤ faults self.new }
+        ensures failed { OnErr result (Rose (faults self.old) (faults self.new)) };
+}
+
+/// An output of bytes.
+pub trait Sink {
+    // The bytes that were written, where the sink tells them.
+    ghost written: { Self → Option (List ℕ) };
+
+    // How many writes failed.
+    ghost faults: { Self → ℕ };
+
+    /// Writes all of `bytes` behind what was written.
+    fn write(&mut self, bytes: &[u8]) -> Result<(), WriteFailed>
+        ensures ok { OnOk result (Puts (written self.old) (written self.new) bytes.now) }
+        ensures err { OnErr result (PutsFront (written self.old) (written self.new) bytes.now) }
+        ensures counts { faults self.old ≤ faults self.new }
+        ensures failed { OnErr result (Rose (faults self.old) (faults self.new)) };
+}
