@@ -1,6 +1,7 @@
 //! A volume on a chip: what it keeps of each image, what is in program memory, and how a mote starts from it.
 #![tactic(auto)]
 
+mod header;
 mod place;
 mod snapshot;
 mod volume;
