@@ -1,1 +1,4 @@
+pub mod HexLemmas
+pub mod LineLemmas
+pub mod NumberLemmas
 pub mod OutsideLemmas

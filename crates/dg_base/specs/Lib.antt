@@ -1,4 +1,7 @@
+pub mod Hexadecimal
 pub mod Memory
+pub mod Numbers
 pub mod Outside
 pub mod Standard
 pub mod Status
+pub mod Texts

@@ -3,11 +3,17 @@
 #![tactic(auto)]
 
 mod answers;
+mod hexadecimal;
 mod memory;
+mod numbers;
 mod outside;
 mod standard;
+mod texts;
 
 pub use answers::Status;
+pub use hexadecimal::{HexFault, hex_reads_back, parse_hex, push_hex};
 pub use memory::{MemSink, MemSource};
+pub use numbers::{parse_u32, push_u32, reads_what_is_printed};
 pub use outside::{ReadFailed, Sink, Source, WriteFailed};
 pub use standard::{StdSink, StdSource};
+pub use texts::{Bytes, is_name, next_line};

@@ -1,0 +1,142 @@
+//! Bytes as hex digits, two a byte.
+ghost use Rattle.std.specs.Prelude.{◌≡◌, ◌≢◌, ℕ, ◌+◌, ◌*◌, ◌%◌, ◌<◌, ◌↔◌, List, ◌++◌, ◌⊎◌, length, Some, None, OnOk, OnErr, IfOk, All, Any, true, false, take, drop, unwrap_or};
+ghost use Rattle.std.specs.Bool.{OnTrue, OnFalse};
+ghost use Rattle.dg_base.specs.Hexadecimal.{hex_bytes, hex_digit, hex_text, hex_value, is_hex_digit};
+
+use std::alloc::{AllocError, Global};
+
+/// Why digits could not be read as bytes.
+#[derive(Clone, Copy, PartialEq, Eq, Debug)]
+pub enum HexFault {
+    /// The number of digits is odd.
+    Odd,
+    /// A byte is no hex digit.
+    Digit,
+    /// Memory ran out.
+    Memory,
+}
+
+impl From<AllocError> for HexFault {
+    ghost use Rattle.std.specs.Prelude.{◌≡◌};
+    ghost use Rattle.dg_base.specs.declared.hexadecimal.HexFault.{HexFault};
+
+    ghost from_gives = { λ _ e. e ≡ HexFault.Memory };
+
+    fn from(_error: AllocError) -> HexFault {
+        HexFault::Memory
+    }
+}
+
+// The value of each byte as a hex digit, or 255.
+static VALUES: [u8; 256] = [
+    255, 255, 255, 255, 255, 255, 255, 255, 255, 255, 255, 255, 255, 255, 255, 255, 255, 255, 255,
+    255, 255, 255, 255, 255, 255, 255, 255, 255, 255, 255, 255, 255, 255, 255, 255, 255, 255, 255,
+    255, 255, 255, 255, 255, 255, 255, 255, 255, 255, 0, 1, 2, 3, 4, 5, 6, 7, 8, 9, 255, 255, 255,
+    255, 255, 255, 255, 10, 11, 12, 13, 14, 15, 255, 255, 255, 255, 255, 255, 255, 255, 255, 255,
+    255, 255, 255, 255, 255, 255, 255, 255, 255, 255, 255, 255, 255, 255, 255, 255, 10, 11, 12, 13,
+    14, 15, 255, 255, 255, 255, 255, 255, 255, 255, 255, 255, 255, 255, 255, 255, 255, 255, 255,
+    255, 255, 255, 255, 255, 255, 255, 255, 255, 255, 255, 255, 255, 255, 255, 255, 255, 255, 255,
+    255, 255, 255, 255, 255, 255, 255, 255, 255, 255, 255, 255, 255, 255, 255, 255, 255, 255, 255,
+    255, 255, 255, 255, 255, 255, 255, 255, 255, 255, 255, 255, 255, 255, 255, 255, 255, 255, 255,
+    255, 255, 255, 255, 255, 255, 255, 255, 255, 255, 255, 255, 255, 255, 255, 255, 255, 255, 255,
+    255, 255, 255, 255, 255, 255, 255, 255, 255, 255, 255, 255, 255, 255, 255, 255, 255, 255, 255,
+    255, 255, 255, 255, 255, 255, 255, 255, 255, 255, 255, 255, 255, 255, 255, 255, 255, 255, 255,
+    255, 255, 255, 255, 255, 255, 255, 255, 255, 255, 255, 255, 255, 255, 255, 255, 255, 255, 255,
+    255, 255, 255,
+];
+
+// The lower case digits.
+static DIGITS: [u8; 16] = *b"0123456789abcdef";
+
+/// The bytes that pairs of hex digits of either case write.
+pub fn parse_hex(alloc: Global, digits: &[u8]) -> Result<Vec<u8>, HexFault>
+    ensures ok { IfOk result (λ bytes. hex_bytes digits.now ≡ Some bytes.items) }
+    ensures odd { result ≡ Err HexFault.Odd ↔ (length digits.now % 2 ≡ 1) }
+    ensures digit { result ≡ Err HexFault.Digit → Any (λ c. is_hex_digit c ≡ false) digits.now }
+{
+    if digits.len() % 2 == 1 {
+        return Err(HexFault::Odd);
+    }
+    let mut bytes = vec![in alloc; 0; digits.len() / 2]?;
+    if read_pairs(digits, &mut bytes) {
+        Ok(bytes)
+    } else {
+        Err(HexFault::Digit)
+    }
+}
+
+// The value of a hex digit, or 255.
+#[inline]
+fn value_of(digit: u8) -> u8
+    ensures { result ≡ unwrap_or (hex_value digit) 255 }
+{
+    VALUES[digit as usize]
+}
+
+// The lower case digit of a value.
+#[inline]
+fn digit_of(value: u8) -> u8
+    requires { value < 16 }
+    ensures { result ≡ hex_digit value }
+{
+    DIGITS[value as usize]
+}
+
+// Writes the bytes of pairs of digits. It answers false at a byte that is no digit.
+fn read_pairs(digits: &[u8], into: &mut [u8]) -> bool
+    requires { length digits.now ≡ 2 * length into.old }
+    ensures read { OnTrue result (hex_bytes digits.now ≡ Some into.new) }
+    ensures refused { OnFalse result (Any (λ c. is_hex_digit c ≡ false) digits.now) }
+{
+    for at in 0..into.len() {
+        let high = value_of(digits[2 * at]);
+        let low = value_of(digits[2 * at + 1]);
+        if high > 15 {
+            return false;
+        }
+        if low > 15 {
+            return false;
+        }
+        into[at] = high * 16 + low;
+    }
+    true
+}
+
+/// Appends two lower case digits for each byte. Without memory `out` stays as it was.
+pub fn push_hex(out: &mut Vec<u8>, bytes: &[u8]) -> Result<(), AllocError>
+    ensures ok { OnOk result (out.new.items ≡ out.old.items ++ hex_text bytes.now) }
+    ensures err { OnErr result (out.new.items ≡ out.old.items) }
+{
+    let Some(length) = bytes.len().checked_mul(2) else {
+        return Err(AllocError);
+    };
+    let start = out.len();
+    let Some(end) = start.checked_add(length) else {
+        return Err(AllocError);
+    };
+    out.resize(end, 0)?;
+    write_pairs(bytes, &mut out[start..]);
+    Ok(())
+}
+
+// Writes the two digits of each byte.
+fn write_pairs(bytes: &[u8], into: &mut [u8])
+    requires { length into.old ≡ 2 * length bytes.now }
+    ensures { into.new ≡ hex_text bytes.now }
+{
+    for at in 0..bytes.len() {
+        let byte = bytes[at];
+        into[2 * at] = digit_of(byte / 16);
+        into[2 * at + 1] = digit_of(byte % 16);
+    }
+}
+
+/// What the digits of bytes write is those bytes. Bytes are read exactly from an even number of
+/// digits.
+pub fn hex_reads_back()
+    ensures round { (bytes : List ℕ) → All (λ b. b < 256) bytes → hex_bytes (hex_text bytes) ≡ Some bytes }
+    ensures digits { (text bytes : List ℕ) → hex_bytes text ≡ Some bytes
+        → (length text ≡ 2 * length bytes) × All (λ c. is_hex_digit c ≡ true) text × All (λ b. b < 256) bytes }
+    ensures refused { (text : List ℕ) → hex_bytes text ≡ None
+        → (length text % 2 ≡ 1) ⊎ Any (λ c. is_hex_digit c ≡ false) text }
+{}
