@@ -27,13 +27,14 @@ NotFallen_then (Some x) None c h l = absurd h
 
 -- no operation
 pub Ran-none : (d : Device) → Ran 0 d d
-Ran-none d = record { left = sym (more-zero d.left); stopped = refl; blown = refl; faults = omega arith; taken = NotFallen-same d.taken; names = refl }
+Ran-none d = record { left = sym (more-zero d.left); stopped = refl; unchanged = λ _. refl; blown = refl; faults = omega arith; taken = NotFallen-same d.taken; names = refl }
 
 -- some operations and then more
 pub Ran_then : {m n : ℕ} {a b c : Device} → Ran m a b → Ran n b c → Ran (m + n) a c
 Ran_then {m} {n} {a} {b} {c} first second = record {
   left = first.left ∙ ap (more m) second.left ∙ more-more m n c.left;
   stopped = second.stopped ∙ first.stopped;
+  unchanged = λ was. second.unchanged (first.stopped ∙ was) ∙ first.unchanged was;
   blown = second.blown ∙ first.blown;
   faults = omega arith;
   taken = NotFallen_then a.taken b.taken c.taken first.taken second.taken;

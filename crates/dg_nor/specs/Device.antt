@@ -32,6 +32,8 @@ NotFallen (Some a) new = IsSomeAnd new (λ b. a ≤ b)
 pub record Ran (n : ℕ) (old new : Device) : Type 0 where
   pub left : old.left ≡ more n new.left
   pub stopped : new.stopped ≡ old.stopped
+  -- a stopped device changes in nothing
+  pub unchanged : old.stopped ≡ true → new ≡ old
   pub blown : new.blown ≡ old.blown
   pub faults : old.faults ≤ new.faults
   pub taken : NotFallen old.taken new.taken

@@ -36,6 +36,10 @@ pub trait Nor {
     /// What is known of the device at this moment.
     ghost device: { Self → Device };
 
+    /// Whether the device is stopped.
+    fn is_stopped(&self) -> bool
+        ensures { result ≡ (device self.now).stopped };
+
     /// Reads the bytes from `at` on. After `Stopped` nothing is said of what `into` holds.
     fn read(&mut self, at: u32, into: &mut [u8]) -> Result<(), Stopped>
         requires { at + length into.old ≤ CHIP }
