@@ -1,3 +1,4 @@
+pub mod CrcLemmas
 pub mod HexLemmas
 pub mod LineLemmas
 pub mod NumberLemmas

@@ -1,3 +1,4 @@
+pub mod Crc
 pub mod Hexadecimal
 pub mod Memory
 pub mod Numbers

@@ -3,6 +3,8 @@
 #![tactic(auto)]
 
 mod answers;
+mod checksum;
+mod checksum_tables;
 mod hexadecimal;
 mod memory;
 mod numbers;
@@ -11,6 +13,7 @@ mod standard;
 mod texts;
 
 pub use answers::Status;
+pub use checksum::{checksum_is_a_remainder, crc16, crc16_more};
 pub use hexadecimal::{HexFault, hex_reads_back, parse_hex, push_hex};
 pub use memory::{MemSink, MemSource};
 pub use numbers::{parse_u32, push_u32, reads_what_is_printed};

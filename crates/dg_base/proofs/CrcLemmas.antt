@@ -1,0 +1,212 @@
+-- The checksum, by the byte and in parts.
+use Rattle.std.proofs.Common.{◌≡◌, ℕ, zero, suc, ◌+◌, ◌-◌, ◌*◌, ◌/◌, ◌%◌, ◌^◌, ◌<◌, ◌≤◌, ◌==◌, bit_xor, Bool, true, false, List, [], ◌∷◌, ◌++◌, length, get_or, drop, fold, All, if◌then◌else◌, zero-add, pow-suc, refl, sym, ap, ap₂, ◌∙◌, subst, arith, inl, inr}
+use lib.Bits.{xor_assoc, xor_self, xor_zero_r, xor_zero_l}
+use Rattle.std.proofs.lemmas.Bool.{agree_below_at, eqb-true, cases_lt}
+use Rattle.std.proofs.lemmas.List.{drop_all, drop_more}
+use Rattle.std.proofs.lemmas.List.Sums.{fold-append}
+use Rattle.std.proofs.lemmas.List.Elements.{All-head, All-tail}
+use Rattle.std.proofs.lemmas.Nat.{mul-le, pow_pos, xor_block, xor_comm, xor_lt, xor_shr}
+use Rattle.dg_base.specs.declared.checksum_tables.TheConstants.{AFTER_1}
+use Rattle.dg_base.specs.Crc.{crc_more, crc_of, generator, polynomial_of, product, shifted, times_x, with_byte}
+
+-- ---- sums of polynomials
+
+xor_swap : (a b c d : ℕ) → bit_xor (bit_xor a b) (bit_xor c d) ≡ bit_xor (bit_xor a c) (bit_xor b d)
+xor_swap a b c d =
+    xor_assoc a b (bit_xor c d) ∙ ap (bit_xor a) (sym (xor_assoc b c d) ∙ ap (λ t. bit_xor t d) (xor_comm b c) ∙ xor_assoc c b d)
+    ∙ sym (xor_assoc a c (bit_xor b d))
+
+xor_double : (a b : ℕ) → 2 * bit_xor a b ≡ bit_xor (2 * a) (2 * b)
+xor_double a b =
+    let left : a * 2 ^ 1 + 0 ≡ 2 * a = omega arith in
+    let right : b * 2 ^ 1 + 0 ≡ 2 * b = omega arith in
+    let whole : bit_xor a b * 2 ^ 1 + bit_xor 0 0 ≡ 2 * bit_xor a b = omega arith in
+    sym whole ∙ sym (xor_block 1 a b 0 0 (omega arith) (omega arith)) ∙ ap (λ t. bit_xor t (b * 2 ^ 1 + 0)) left ∙ ap (bit_xor (2 * a)) right
+
+-- a bit times the generator
+xor_bits : (t u : ℕ) → t < 2 → u < 2 → bit_xor t u * generator ≡ bit_xor (t * generator) (u * generator)
+xor_bits zero u h k = ap (λ v. v * generator) (xor_zero_l u) ∙ sym (xor_zero_l (u * generator))
+xor_bits (suc zero) zero h k = refl
+xor_bits (suc zero) (suc zero) h k = refl
+xor_bits (suc zero) (suc (suc u)) h k = absurd (omega arith)
+xor_bits (suc (suc t)) u h k = absurd (omega arith)
+
+-- ---- the register
+
+times_x-xor : (a b : ℕ) → a < 2 ^ 16 → b < 2 ^ 16 → times_x (bit_xor a b) ≡ bit_xor (times_x a) (times_x b)
+unfolding times_x
+times_x-xor a b h k =
+    let top = xor_bits (a / 2 ^ 15) (b / 2 ^ 15) (omega arith) (omega arith) in
+    ap (λ t. bit_xor t (bit_xor a b / 2 ^ 15 * generator)) (xor_double a b)
+    ∙ ap (λ t. bit_xor (bit_xor (2 * a) (2 * b)) t) (ap (λ t. t * generator) (xor_shr a b 15) ∙ top)
+    ∙ xor_swap (2 * a) (2 * b) (a / 2 ^ 15 * generator) (b / 2 ^ 15 * generator)
+
+-- below x^15 nothing is taken off
+times_x-low : (r : ℕ) → r < 2 ^ 15 → times_x r ≡ 2 * r
+unfolding times_x
+times_x-low r h =
+    let none : r / 2 ^ 15 ≡ 0 = omega arith in
+    ap (λ t. bit_xor (2 * r) (t * generator)) none ∙ xor_zero_r (2 * r)
+
+times_x-high : (r : ℕ) → 2 ^ 15 ≤ r → r < 2 ^ 16 → times_x r ≡ bit_xor (2 * r - 2 ^ 16) 0x1021
+unfolding times_x
+times_x-high r h k =
+    let one : r / 2 ^ 15 ≡ 1 = omega arith in
+    let parted : 2 * r ≡ 1 * 2 ^ 16 + (2 * r - 2 ^ 16) = omega arith in
+    ap (λ t. bit_xor (2 * r) (t * generator)) one ∙ ap (λ t. bit_xor t (1 * generator)) parted
+    ∙ xor_block 16 1 1 (2 * r - 2 ^ 16) 0x1021 (omega arith) (omega arith) ∙ zero-add (bit_xor (2 * r - 2 ^ 16) 0x1021)
+
+pub times_x-lt : (r : ℕ) → r < 2 ^ 16 → times_x r < 2 ^ 16
+times_x-lt r h =
+    elim (cases_lt r (2 ^ 15)) [
+      | inl low ↦ let e = times_x-low r low in omega (arith, e)
+      | inr high ↦
+          let e = times_x-high r high h in
+          let s = xor_lt 16 (2 * r - 2 ^ 16) 0x1021 (omega arith) (omega arith) in
+          omega (arith, e, s)
+    ]
+
+pub shifted-lt : (n r : ℕ) → r < 2 ^ 16 → shifted n r < 2 ^ 16
+unfolding shifted
+shifted-lt zero r h = h
+shifted-lt (suc n) r h = shifted-lt n (times_x r) (times_x-lt r h)
+
+pub shifted-xor : (n a b : ℕ) → a < 2 ^ 16 → b < 2 ^ 16 → shifted n (bit_xor a b) ≡ bit_xor (shifted n a) (shifted n b)
+unfolding shifted
+shifted-xor zero a b h k = refl
+shifted-xor (suc n) a b h k = ap (shifted n) (times_x-xor a b h k) ∙ shifted-xor n (times_x a) (times_x b) (times_x-lt a h) (times_x-lt b k)
+
+pub shifted-shifted : (m n r : ℕ) → shifted n (shifted m r) ≡ shifted (m + n) r
+unfolding shifted
+shifted-shifted zero n r = ap (λ k. shifted k r) (let e : n ≡ 0 + n = omega arith in e)
+shifted-shifted (suc m) n r = shifted-shifted m n (times_x r) ∙ ap (λ k. shifted k r) (let e : suc (m + n) ≡ suc m + n = omega arith in e)
+
+-- eight shifts of a low byte
+shifted-low : (n r : ℕ) → r * 2 ^ n < 2 ^ 16 → shifted n r ≡ r * 2 ^ n
+unfolding shifted
+shifted-low zero r h = omega arith
+shifted-low (suc n) r h =
+    let twice : r * 2 ^ suc n ≡ 2 * r * 2 ^ n = ap (λ t. r * t) (pow-suc 2 n) ∙ (let e : r * (2 ^ n * 2) ≡ 2 * r * 2 ^ n = omega arith in e) in
+    let some : 1 ≤ 2 ^ n = pow_pos n in
+    let fits : 2 * r * 2 ^ n < 2 ^ 16 = omega (arith, twice) in
+    let least : 2 * r * 1 ≤ 2 * r * 2 ^ n = mul-le (2 * r) 1 (2 * r) (2 ^ n) (omega arith) some in
+    ap (shifted n) (times_x-low r (omega arith)) ∙ shifted-low n (2 * r) fits ∙ sym twice
+
+-- ---- one byte more
+
+-- the table
+pub after_1 : (v : ℕ) → v < 256 → get_or AFTER_1 v 0 ≡ shifted 8 (v * 2 ^ 8)
+unfolding shifted times_x
+after_1 v h = eqb-true _ _ (agree_below_at (λ v. get_or AFTER_1 v 0 == shifted 8 (v * 2 ^ 8)) (λ _. true) 256 v refl h)
+
+pub crc_more-nil : (r : ℕ) → crc_more r [] ≡ r
+unfolding crc_more
+crc_more-nil r = refl
+
+pub crc_more-cons : (r byte : ℕ) (bytes : List ℕ) → crc_more r (byte ∷ bytes) ≡ crc_more (with_byte r byte) bytes
+unfolding crc_more
+crc_more-cons r byte bytes = refl
+
+-- The checksum of two parts is that of the second with the first's before it.
+pub crc_more-append : (r : ℕ) (xs ys : List ℕ) → crc_more (crc_more r xs) ys ≡ crc_more r (xs ++ ys)
+unfolding crc_more
+crc_more-append r [] ys = refl
+crc_more-append r (x ∷ xs) ys = crc_more-append (with_byte r x) xs ys
+
+pub with_byte-lt : (r byte : ℕ) → r < 2 ^ 16 → byte < 2 ^ 8 → with_byte r byte < 2 ^ 16
+with_byte-lt r byte h k = shifted-lt 8 (bit_xor r (byte * 2 ^ 8)) (xor_lt 16 r (byte * 2 ^ 8) h (omega arith))
+
+pub crc_more-lt : (r : ℕ) (bytes : List ℕ) → r < 2 ^ 16 → All (λ b. b < 2 ^ 8) bytes → crc_more r bytes < 2 ^ 16
+unfolding crc_more
+crc_more-lt r [] h k = h
+crc_more-lt r (b ∷ bytes) h k = crc_more-lt (with_byte r b) bytes (with_byte-lt r b h (All-head (λ b. b < 2 ^ 8) b bytes k)) (All-tail (λ b. b < 2 ^ 8) b bytes k)
+
+-- one byte more, by the table
+pub with_byte-table : (r byte : ℕ) → r < 2 ^ 16 → byte < 2 ^ 8 → bit_xor (get_or AFTER_1 (bit_xor (r / 2 ^ 8) byte) 0) (r * 2 ^ 8 % 2 ^ 16) ≡ with_byte r byte
+with_byte-table r byte h k =
+    let high = r / 2 ^ 8 in
+    let low = r % 2 ^ 8 in
+    let top = bit_xor high byte in
+    let small : top < 2 ^ 8 = xor_lt 8 high byte (omega arith) k in
+    let parted : r ≡ high * 2 ^ 8 + low = omega arith in
+    let added : bit_xor r (byte * 2 ^ 8) ≡ top * 2 ^ 8 + low =
+    ap₂ bit_xor parted (let e : byte * 2 ^ 8 ≡ byte * 2 ^ 8 + 0 = omega arith in e)
+    ∙ xor_block 8 high byte low 0 (omega arith) (omega arith) ∙ ap (λ t. top * 2 ^ 8 + t) (xor_zero_r low) in
+    let apart : top * 2 ^ 8 + low ≡ bit_xor (top * 2 ^ 8) low =
+    sym (
+    ap₂ bit_xor (let e : top * 2 ^ 8 ≡ top * 2 ^ 8 + 0 = omega arith in e) (let e : low ≡ 0 * 2 ^ 8 + low = omega arith in e)
+    ∙ xor_block 8 top 0 0 low (omega arith) (omega arith) ∙ ap₂ (λ t u. t * 2 ^ 8 + u) (xor_zero_r top) (xor_zero_l low)
+    ) in
+    let out : r * 2 ^ 8 % 2 ^ 16 ≡ low * 2 ^ 8 = omega arith in
+    sym (
+    ap (shifted 8) (added ∙ apart) ∙ shifted-xor 8 (top * 2 ^ 8) low (omega arith) (omega arith)
+    ∙ ap₂ bit_xor (sym (after_1 top small)) (shifted-low 8 low (omega arith) ∙ sym out)
+    )
+
+-- ---- the remainder
+
+-- the two polynomials differ by a multiple of the generator
+abbrev IsCongruent : ℕ → ℕ → Type 0
+IsCongruent n r = (quotient : List Bool) × (bit_xor n r ≡ product quotient generator)
+
+remainder-times_x : (n r : ℕ) → r < 2 ^ 16 → IsCongruent n r → IsCongruent (2 * n) (times_x r)
+unfolding times_x product
+remainder-times_x n r h e =
+    let q = e.0 in
+    let whole : 2 * bit_xor n r ≡ bit_xor (2 * n) (2 * r) = xor_double n r in
+    elim (cases_lt r (2 ^ 15)) [
+      | inl low ↦
+          let none : r / 2 ^ 15 ≡ 0 = omega arith in (
+            q ++ false ∷ [],
+            ap (λ t. bit_xor (2 * n) (bit_xor (2 * r) (t * generator))) none ∙ sym (xor_assoc (2 * n) (2 * r) 0)
+                ∙ ap (λ t. bit_xor t 0) (sym whole ∙ ap (λ t. 2 * t) e.1) ∙ sym (fold-append (λ n c. bit_xor (2 * n) (if c then generator else 0)) 0 q (false ∷ [])),
+          )
+      | inr high ↦
+          let one : r / 2 ^ 15 ≡ 1 = omega arith in (
+            q ++ true ∷ [],
+            ap (λ t. bit_xor (2 * n) (bit_xor (2 * r) (t * generator))) one ∙ sym (xor_assoc (2 * n) (2 * r) generator)
+                ∙ ap (λ t. bit_xor t generator) (sym whole ∙ ap (λ t. 2 * t) e.1) ∙ sym (fold-append (λ n c. bit_xor (2 * n) (if c then generator else 0)) 0 q (true ∷ [])),
+          )
+    ]
+
+remainder-shifted : (k n r : ℕ) → r < 2 ^ 16 → IsCongruent n r → IsCongruent (n * 2 ^ k) (shifted k r)
+unfolding shifted
+remainder-shifted zero n r h e = subst (λ m. IsCongruent m r) (let same : n ≡ n * 2 ^ 0 = omega arith in same) e
+remainder-shifted (suc k) n r h e =
+    let same : 2 * n * 2 ^ k ≡ n * 2 ^ suc k = (let e : 2 * n * 2 ^ k ≡ n * (2 ^ k * 2) = omega arith in e) ∙ ap (λ t. n * t) (sym (pow-suc 2 k)) in
+    subst (λ m. IsCongruent m (shifted k (times_x r))) same (remainder-shifted k (2 * n) (times_x r) (times_x-lt r h) (remainder-times_x n r h e))
+
+remainder-byte : (m r byte : ℕ) → r < 2 ^ 16 → byte < 2 ^ 8 → IsCongruent (m * 2 ^ 16) r → IsCongruent ((m * 2 ^ 8 + byte) * 2 ^ 16) (with_byte r byte)
+remainder-byte m r byte h k e =
+    let c = byte * 2 ^ 8 in
+    let n = m * 2 ^ 16 in
+    let added : bit_xor n c ≡ n + c =
+    ap₂ bit_xor (let e : m * 2 ^ 16 ≡ m * 2 ^ 16 + 0 = omega arith in e) (let e : byte * 2 ^ 8 ≡ 0 * 2 ^ 16 + byte * 2 ^ 8 = omega arith in e)
+    ∙ xor_block 16 m 0 0 c (omega arith) (omega arith) ∙ ap₂ (λ t u. t * 2 ^ 16 + u) (xor_zero_r m) (xor_zero_l c) in
+    let same : bit_xor (n + c) (bit_xor r c) ≡ bit_xor n r =
+    ap (λ t. bit_xor t (bit_xor r c)) (sym added) ∙ xor_swap n c r c ∙ ap (bit_xor (bit_xor n r)) (xor_self c) ∙ xor_zero_r (bit_xor n r) in
+    let moved : (n + c) * 2 ^ 8 ≡ (m * 2 ^ 8 + byte) * 2 ^ 16 = omega arith in
+    subst (λ t. IsCongruent t (with_byte r byte)) moved
+    (remainder-shifted 8 (n + c) (bit_xor r c) (xor_lt 16 r c h (omega arith)) (e.0, same ∙ e.1))
+
+remainder-more : (m r : ℕ) (bytes : List ℕ) → r < 2 ^ 16 → All (λ b. b < 2 ^ 8) bytes → IsCongruent (m * 2 ^ 16) r
+    → IsCongruent (fold (λ n byte. n * 2 ^ 8 + byte) m bytes * 2 ^ 16) (crc_more r bytes)
+unfolding crc_more
+remainder-more m r [] h k e = e
+remainder-more m r (b ∷ bytes) h k e =
+    let small = All-head (λ b. b < 2 ^ 8) b bytes k in
+    remainder-more (m * 2 ^ 8 + b) (with_byte r b) bytes (with_byte-lt r b h small) (All-tail (λ b. b < 2 ^ 8) b bytes k) (remainder-byte m r b h small e)
+
+-- The checksum is the remainder of the message times x^16.
+pub crc_of-remainder : (bytes : List ℕ) → All (λ b. b < 2 ^ 8) bytes → IsCongruent (polynomial_of bytes * 2 ^ 16) (crc_of bytes)
+unfolding product
+crc_of-remainder bytes h = remainder-more 0 0 bytes (omega arith) h ([], refl)
+
+-- ---- the loop
+
+-- one byte more of a rest
+pub crc_more-drop : (r : ℕ) (bytes : List ℕ) (i : ℕ) → i < length bytes → crc_more r (drop i bytes) ≡ crc_more (with_byte r (get_or bytes i 0)) (drop (i + 1) bytes)
+crc_more-drop r bytes i h = ap (crc_more r) (drop_more bytes i 0 h) ∙ crc_more-cons r (get_or bytes i 0) (drop (i + 1) bytes)
+
+pub crc_more-drop_all : (r : ℕ) (bytes : List ℕ) (i : ℕ) → length bytes ≤ i → crc_more r (drop i bytes) ≡ r
+crc_more-drop_all r bytes i h = ap (crc_more r) (drop_all i bytes h) ∙ crc_more-nil r
