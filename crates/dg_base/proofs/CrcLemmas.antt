@@ -4,9 +4,9 @@ use lib.Bits.{xor_assoc, xor_self, xor_zero_r, xor_zero_l}
 use Rattle.std.proofs.lemmas.Bool.{agree_below_at, eqb-true, cases_lt}
 use Rattle.std.proofs.lemmas.List.{drop_all, drop_more}
 use Rattle.std.proofs.lemmas.List.Sums.{fold-append}
-use Rattle.std.proofs.lemmas.List.Elements.{All-head, All-tail}
+use Rattle.std.proofs.lemmas.List.Elements.{All-cons, All-head, All-nil, All-tail}
 use Rattle.std.proofs.lemmas.Nat.{mul-le, pow_pos, xor_block, xor_comm, xor_lt, xor_shr}
-use Rattle.dg_base.specs.declared.checksum_tables.TheConstants.{AFTER_1}
+use Rattle.dg_base.specs.declared.checksum_tables.TheConstants.{AFTER_1, AFTER_2, AFTER_3, AFTER_4, AFTER_5, AFTER_6, AFTER_7, AFTER_8}
 use Rattle.dg_base.specs.Crc.{crc_more, crc_of, generator, polynomial_of, product, shifted, times_x, with_byte}
 
 -- ---- sums of polynomials
@@ -66,6 +66,10 @@ times_x-lt r h =
           omega (arith, e, s)
     ]
 
+shifted-none : (r : ℕ) → shifted 0 r ≡ r
+unfolding shifted
+shifted-none r = refl
+
 pub shifted-lt : (n r : ℕ) → r < 2 ^ 16 → shifted n r < 2 ^ 16
 unfolding shifted
 shifted-lt zero r h = h
@@ -94,10 +98,38 @@ shifted-low (suc n) r h =
 
 -- ---- one byte more
 
--- the table
+-- the tables
 pub after_1 : (v : ℕ) → v < 256 → get_or AFTER_1 v 0 ≡ shifted 8 (v * 2 ^ 8)
 unfolding shifted times_x
 after_1 v h = eqb-true _ _ (agree_below_at (λ v. get_or AFTER_1 v 0 == shifted 8 (v * 2 ^ 8)) (λ _. true) 256 v refl h)
+
+pub after_2 : (v : ℕ) → v < 256 → get_or AFTER_2 v 0 ≡ shifted 16 (v * 2 ^ 8)
+unfolding shifted times_x
+after_2 v h = eqb-true _ _ (agree_below_at (λ v. get_or AFTER_2 v 0 == shifted 16 (v * 2 ^ 8)) (λ _. true) 256 v refl h)
+
+pub after_3 : (v : ℕ) → v < 256 → get_or AFTER_3 v 0 ≡ shifted 24 (v * 2 ^ 8)
+unfolding shifted times_x
+after_3 v h = eqb-true _ _ (agree_below_at (λ v. get_or AFTER_3 v 0 == shifted 24 (v * 2 ^ 8)) (λ _. true) 256 v refl h)
+
+pub after_4 : (v : ℕ) → v < 256 → get_or AFTER_4 v 0 ≡ shifted 32 (v * 2 ^ 8)
+unfolding shifted times_x
+after_4 v h = eqb-true _ _ (agree_below_at (λ v. get_or AFTER_4 v 0 == shifted 32 (v * 2 ^ 8)) (λ _. true) 256 v refl h)
+
+pub after_5 : (v : ℕ) → v < 256 → get_or AFTER_5 v 0 ≡ shifted 40 (v * 2 ^ 8)
+unfolding shifted times_x
+after_5 v h = eqb-true _ _ (agree_below_at (λ v. get_or AFTER_5 v 0 == shifted 40 (v * 2 ^ 8)) (λ _. true) 256 v refl h)
+
+pub after_6 : (v : ℕ) → v < 256 → get_or AFTER_6 v 0 ≡ shifted 48 (v * 2 ^ 8)
+unfolding shifted times_x
+after_6 v h = eqb-true _ _ (agree_below_at (λ v. get_or AFTER_6 v 0 == shifted 48 (v * 2 ^ 8)) (λ _. true) 256 v refl h)
+
+pub after_7 : (v : ℕ) → v < 256 → get_or AFTER_7 v 0 ≡ shifted 56 (v * 2 ^ 8)
+unfolding shifted times_x
+after_7 v h = eqb-true _ _ (agree_below_at (λ v. get_or AFTER_7 v 0 == shifted 56 (v * 2 ^ 8)) (λ _. true) 256 v refl h)
+
+pub after_8 : (v : ℕ) → v < 256 → get_or AFTER_8 v 0 ≡ shifted 64 (v * 2 ^ 8)
+unfolding shifted times_x
+after_8 v h = eqb-true _ _ (agree_below_at (λ v. get_or AFTER_8 v 0 == shifted 64 (v * 2 ^ 8)) (λ _. true) 256 v refl h)
 
 pub crc_more-nil : (r : ℕ) → crc_more r [] ≡ r
 unfolding crc_more
@@ -122,7 +154,7 @@ crc_more-lt r [] h k = h
 crc_more-lt r (b ∷ bytes) h k = crc_more-lt (with_byte r b) bytes (with_byte-lt r b h (All-head (λ b. b < 2 ^ 8) b bytes k)) (All-tail (λ b. b < 2 ^ 8) b bytes k)
 
 -- one byte more, by the table
-pub with_byte-table : (r byte : ℕ) → r < 2 ^ 16 → byte < 2 ^ 8 → bit_xor (get_or AFTER_1 (bit_xor (r / 2 ^ 8) byte) 0) (r * 2 ^ 8 % 2 ^ 16) ≡ with_byte r byte
+pub with_byte-table : (r byte : ℕ) → r < 2 ^ 16 → byte < 2 ^ 8 → bit_xor (shifted 8 (bit_xor (r / 2 ^ 8) byte * 2 ^ 8)) (r * 2 ^ 8 % 2 ^ 16) ≡ with_byte r byte
 with_byte-table r byte h k =
     let high = r / 2 ^ 8 in
     let low = r % 2 ^ 8 in
@@ -140,7 +172,7 @@ with_byte-table r byte h k =
     let out : r * 2 ^ 8 % 2 ^ 16 ≡ low * 2 ^ 8 = omega arith in
     sym (
     ap (shifted 8) (added ∙ apart) ∙ shifted-xor 8 (top * 2 ^ 8) low (omega arith) (omega arith)
-    ∙ ap₂ bit_xor (sym (after_1 top small)) (shifted-low 8 low (omega arith) ∙ sym out)
+    ∙ ap (bit_xor (shifted 8 (top * 2 ^ 8))) (shifted-low 8 low (omega arith) ∙ sym out)
     )
 
 -- ---- the remainder
@@ -210,3 +242,118 @@ crc_more-drop r bytes i h = ap (crc_more r) (drop_more bytes i 0 h) ∙ crc_more
 
 pub crc_more-drop_all : (r : ℕ) (bytes : List ℕ) (i : ℕ) → length bytes ≤ i → crc_more r (drop i bytes) ≡ r
 crc_more-drop_all r bytes i h = ap (crc_more r) (drop_all i bytes h) ∙ crc_more-nil r
+
+-- ---- eight bytes at a time
+
+-- what came before, and the bytes, add up
+crc_more-parts : (r : ℕ) (bytes : List ℕ) → r < 2 ^ 16 → All (λ b. b < 2 ^ 8) bytes → crc_more r bytes ≡ bit_xor (shifted (8 * length bytes) r) (crc_more 0 bytes)
+unfolding crc_more
+crc_more-parts r [] h k = sym (xor_zero_r r) ∙ ap (λ t. bit_xor t 0) (sym (shifted-none r))
+crc_more-parts r (b ∷ bytes) h k =
+    let n = 8 * length bytes in
+    let c = b * 2 ^ 8 in
+    let byte : b < 2 ^ 8 = All-head (λ b. b < 2 ^ 8) b bytes k in
+    let small : c < 2 ^ 16 = omega arith in
+    let others = All-tail (λ b. b < 2 ^ 8) b bytes k in
+    let before = shifted 8 r in
+    let here = shifted 8 c in
+    let here-lt : here < 2 ^ 16 = shifted-lt 8 c small in
+    let one : with_byte r b ≡ bit_xor before here = shifted-xor 8 r c h small in
+    let alone : with_byte 0 b ≡ here = ap (shifted 8) (xor_zero_l c) in
+    let steps : 8 + n ≡ 8 * suc (length bytes) = omega arith in
+    crc_more-parts (with_byte r b) bytes (with_byte-lt r b h byte) others
+    ∙ ap (λ t. bit_xor (shifted n t) (crc_more 0 bytes)) one
+    ∙ ap (λ t. bit_xor t (crc_more 0 bytes)) (shifted-xor n before here (shifted-lt 8 r h) here-lt)
+    ∙ xor_assoc (shifted n before) (shifted n here) (crc_more 0 bytes)
+    ∙ ap₂ bit_xor (shifted-shifted 8 n r ∙ ap (λ m. shifted m r) steps)
+    (sym (crc_more-parts here bytes here-lt others) ∙ ap (λ t. crc_more t bytes) (sym alone))
+
+-- a sum of two bytes at the top
+at_top : (n a b : ℕ) → a < 2 ^ 8 → b < 2 ^ 8 → bit_xor (shifted n (a * 2 ^ 8)) (shifted n (b * 2 ^ 8)) ≡ shifted n (bit_xor a b * 2 ^ 8)
+at_top n a b h k =
+    sym (shifted-xor n (a * 2 ^ 8) (b * 2 ^ 8) (omega arith) (omega arith))
+    ∙ ap (shifted n) (
+    ap₂ bit_xor (let e : a * 2 ^ 8 ≡ a * 2 ^ 8 + 0 = omega arith in e) (let e : b * 2 ^ 8 ≡ b * 2 ^ 8 + 0 = omega arith in e)
+    ∙ xor_block 8 a b 0 0 (omega arith) (omega arith) ∙ (let e : bit_xor a b * 2 ^ 8 + 0 ≡ bit_xor a b * 2 ^ 8 = omega arith in e)
+    )
+
+-- the first of some bytes adds what it becomes
+crc_more-first : (b n : ℕ) (bytes : List ℕ) → n ≡ 8 * length bytes → b < 2 ^ 8 → All (λ b. b < 2 ^ 8) bytes
+    → crc_more 0 (b ∷ bytes) ≡ bit_xor (shifted (8 + n) (b * 2 ^ 8)) (crc_more 0 bytes)
+crc_more-first b n bytes e h k =
+    crc_more-cons 0 b bytes ∙ ap (λ t. crc_more (shifted 8 t) bytes) (xor_zero_l (b * 2 ^ 8))
+    ∙ crc_more-parts (shifted 8 (b * 2 ^ 8)) bytes (shifted-lt 8 (b * 2 ^ 8) (omega arith)) k
+    ∙ ap (λ t. bit_xor t (crc_more 0 bytes)) (ap (λ m. shifted m (shifted 8 (b * 2 ^ 8))) (sym e) ∙ shifted-shifted 8 n (b * 2 ^ 8))
+
+-- the register stands over the first two bytes
+register : (r b c : ℕ) → r < 2 ^ 16 → b < 2 ^ 8 → c < 2 ^ 8
+    → bit_xor (shifted 64 r) (bit_xor (shifted 64 (b * 2 ^ 8)) (shifted 56 (c * 2 ^ 8)))
+    ≡ bit_xor (shifted 64 (bit_xor (r / 2 ^ 8) b * 2 ^ 8)) (shifted 56 (bit_xor (r % 2 ^ 8) c * 2 ^ 8))
+register r b c h k l =
+    let high = r / 2 ^ 8 in
+    let low = r % 2 ^ 8 in
+    let whole : bit_xor (high * 2 ^ 8) low ≡ r =
+    ap₂ bit_xor (let e : high * 2 ^ 8 ≡ high * 2 ^ 8 + 0 = omega arith in e) (let e : low ≡ 0 * 2 ^ 8 + low = omega arith in e)
+    ∙ xor_block 8 high 0 0 low (omega arith) (omega arith) ∙ ap₂ (λ t u. t * 2 ^ 8 + u) (xor_zero_r high) (xor_zero_l low)
+    ∙ (let e : high * 2 ^ 8 + low ≡ r = omega arith in e) in
+    let parted : shifted 64 r ≡ bit_xor (shifted 64 (high * 2 ^ 8)) (shifted 56 (low * 2 ^ 8)) =
+    ap (shifted 64) (sym whole) ∙ shifted-xor 64 (high * 2 ^ 8) low (omega arith) (omega arith)
+    ∙ ap (bit_xor (shifted 64 (high * 2 ^ 8))) (sym (shifted-shifted 8 56 low) ∙ ap (shifted 56) (shifted-low 8 low (omega arith))) in
+    ap (λ t. bit_xor t (bit_xor (shifted 64 (b * 2 ^ 8)) (shifted 56 (c * 2 ^ 8)))) parted
+    ∙ xor_swap (shifted 64 (high * 2 ^ 8)) (shifted 56 (low * 2 ^ 8)) (shifted 64 (b * 2 ^ 8)) (shifted 56 (c * 2 ^ 8))
+    ∙ ap₂ bit_xor (at_top 64 high b (omega arith) k) (at_top 56 low c (omega arith) l)
+
+grouped : (z a b c d e f g h : ℕ) → bit_xor z (bit_xor a (bit_xor b (bit_xor c (bit_xor d (bit_xor e (bit_xor f (bit_xor g (bit_xor h 0))))))))
+    ≡ bit_xor (bit_xor z (bit_xor a b)) (bit_xor (bit_xor (bit_xor c d) e) (bit_xor (bit_xor f g) h))
+grouped z a b c d e f g h = simp (xor_assoc, xor_zero_r)
+
+pub crc_more-eight : (r a b c d e f g h : ℕ) (rest : List ℕ) → r < 2 ^ 16 → a < 2 ^ 8 → b < 2 ^ 8 → c < 2 ^ 8 → d < 2 ^ 8 → e < 2 ^ 8 → f < 2 ^ 8 → g < 2 ^ 8 → h < 2 ^ 8
+    → crc_more (bit_xor (bit_xor (shifted 64 (bit_xor (r / 2 ^ 8) a * 2 ^ 8)) (shifted 56 (bit_xor (r % 2 ^ 8) b * 2 ^ 8)))
+    (bit_xor (bit_xor (bit_xor (shifted 48 (c * 2 ^ 8)) (shifted 40 (d * 2 ^ 8))) (shifted 32 (e * 2 ^ 8)))
+    (bit_xor (bit_xor (shifted 24 (f * 2 ^ 8)) (shifted 16 (g * 2 ^ 8))) (shifted 8 (h * 2 ^ 8))))) rest
+    ≡ crc_more r (a ∷ b ∷ c ∷ d ∷ e ∷ f ∷ g ∷ h ∷ rest)
+crc_more-eight r a b c d e f g h rest low la lb lc ld le lf lg lh =
+    let P : ℕ → Type 0 = λ b. b < 2 ^ 8 in
+    let kh : All P (h ∷ []) = All-cons P h [] lh (All-nil P) in
+    let kg : All P (g ∷ h ∷ []) = All-cons P g (h ∷ []) lg kh in
+    let kf : All P (f ∷ g ∷ h ∷ []) = All-cons P f (g ∷ h ∷ []) lf kg in
+    let ke : All P (e ∷ f ∷ g ∷ h ∷ []) = All-cons P e (f ∷ g ∷ h ∷ []) le kf in
+    let kd : All P (d ∷ e ∷ f ∷ g ∷ h ∷ []) = All-cons P d (e ∷ f ∷ g ∷ h ∷ []) ld ke in
+    let kc : All P (c ∷ d ∷ e ∷ f ∷ g ∷ h ∷ []) = All-cons P c (d ∷ e ∷ f ∷ g ∷ h ∷ []) lc kd in
+    let kb : All P (b ∷ c ∷ d ∷ e ∷ f ∷ g ∷ h ∷ []) = All-cons P b (c ∷ d ∷ e ∷ f ∷ g ∷ h ∷ []) lb kc in
+    let bytes = a ∷ b ∷ c ∷ d ∷ e ∷ f ∷ g ∷ h ∷ [] in
+    let x = bit_xor in
+    let s = λ (n b : ℕ). shifted n (b * 2 ^ 8) in
+    let e1 : crc_more 0 (h ∷ []) ≡ x (s 8 h) 0 = crc_more-first h 0 [] refl lh (All-nil P) ∙ ap (x (s 8 h)) (crc_more-nil 0) in
+    let e2 : crc_more 0 (g ∷ h ∷ []) ≡ x (s 16 g) (x (s 8 h) 0) = crc_more-first g 8 _ refl lg kh ∙ ap (x (s 16 g)) e1 in
+    let e3 : crc_more 0 (f ∷ g ∷ h ∷ []) ≡ x (s 24 f) (x (s 16 g) (x (s 8 h) 0)) = crc_more-first f 16 _ refl lf kg ∙ ap (x (s 24 f)) e2 in
+    let e4 : crc_more 0 (e ∷ f ∷ g ∷ h ∷ []) ≡ x (s 32 e) (x (s 24 f) (x (s 16 g) (x (s 8 h) 0))) = crc_more-first e 24 _ refl le kf ∙ ap (x (s 32 e)) e3 in
+    let e5 : crc_more 0 (d ∷ e ∷ f ∷ g ∷ h ∷ []) ≡ x (s 40 d) (x (s 32 e) (x (s 24 f) (x (s 16 g) (x (s 8 h) 0)))) = crc_more-first d 32 _ refl ld ke ∙ ap (x (s 40 d)) e4 in
+    let e6 : crc_more 0 (c ∷ d ∷ e ∷ f ∷ g ∷ h ∷ []) ≡ x (s 48 c) (x (s 40 d) (x (s 32 e) (x (s 24 f) (x (s 16 g) (x (s 8 h) 0))))) =
+    crc_more-first c 40 _ refl lc kd ∙ ap (x (s 48 c)) e5 in
+    let e7 : crc_more 0 (b ∷ c ∷ d ∷ e ∷ f ∷ g ∷ h ∷ []) ≡ x (s 56 b) (x (s 48 c) (x (s 40 d) (x (s 32 e) (x (s 24 f) (x (s 16 g) (x (s 8 h) 0)))))) =
+    crc_more-first b 48 _ refl lb kc ∙ ap (x (s 56 b)) e6 in
+    let e8 : crc_more 0 bytes ≡ x (s 64 a) (x (s 56 b) (x (s 48 c) (x (s 40 d) (x (s 32 e) (x (s 24 f) (x (s 16 g) (x (s 8 h) 0))))))) =
+    crc_more-first a 56 _ refl la kb ∙ ap (x (s 64 a)) e7 in
+    let all : crc_more r bytes ≡ x (x (shifted 64 r) (x (s 64 a) (s 56 b))) (x (x (x (s 48 c) (s 40 d)) (s 32 e)) (x (x (s 24 f) (s 16 g)) (s 8 h))) =
+    crc_more-parts r bytes low (All-cons P a (b ∷ c ∷ d ∷ e ∷ f ∷ g ∷ h ∷ []) la kb) ∙ ap (x (shifted 64 r)) e8
+    ∙ grouped (shifted 64 r) (s 64 a) (s 56 b) (s 48 c) (s 40 d) (s 32 e) (s 24 f) (s 16 g) (s 8 h) in
+    let tail = x (x (x (s 48 c) (s 40 d)) (s 32 e)) (x (x (s 24 f) (s 16 g)) (s 8 h)) in
+    ap (λ t. crc_more (x t tail) rest) (sym (register r a b low la lb)) ∙ ap (λ t. crc_more t rest) (sym all) ∙ crc_more-append r bytes rest
+
+-- eight bytes at a place
+drop_next : (bytes : List ℕ) (at k j : ℕ) → at + k + 1 ≡ at + j → at + k < length bytes → drop (at + k) bytes ≡ get_or bytes (at + k) 0 ∷ drop (at + j) bytes
+drop_next bytes at k j e h = drop_more bytes (at + k) 0 h ∙ ap (λ n. get_or bytes (at + k) 0 ∷ drop n bytes) e
+
+pub drop_eight : (bytes : List ℕ) (at : ℕ) → at + 8 ≤ length bytes → drop at bytes ≡ get_or bytes at 0 ∷ get_or bytes (at + 1) 0 ∷ get_or bytes (at + 2) 0 ∷ get_or bytes (at + 3) 0
+    ∷ get_or bytes (at + 4) 0 ∷ get_or bytes (at + 5) 0 ∷ get_or bytes (at + 6) 0 ∷ get_or bytes (at + 7) 0 ∷ drop (at + 8) bytes
+drop_eight bytes at h =
+    let g = λ (n : ℕ). get_or bytes n 0 in
+    drop_more bytes at 0 (omega arith)
+    ∙ ap (λ t. g at ∷ t) (drop_next bytes at 1 2 (omega arith) (omega arith)
+    ∙ ap (λ t. g (at + 1) ∷ t) (drop_next bytes at 2 3 (omega arith) (omega arith)
+    ∙ ap (λ t. g (at + 2) ∷ t) (drop_next bytes at 3 4 (omega arith) (omega arith)
+    ∙ ap (λ t. g (at + 3) ∷ t) (drop_next bytes at 4 5 (omega arith) (omega arith)
+    ∙ ap (λ t. g (at + 4) ∷ t) (drop_next bytes at 5 6 (omega arith) (omega arith)
+    ∙ ap (λ t. g (at + 5) ∷ t) (drop_next bytes at 6 7 (omega arith) (omega arith)
+    ∙ ap (λ t. g (at + 6) ∷ t) (drop_next bytes at 7 8 (omega arith) (omega arith))))))))

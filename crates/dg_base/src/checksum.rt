@@ -1,8 +1,10 @@
 //! The checksum of pages and frames.
-ghost use Rattle.std.specs.Prelude.{◌≡◌, ℕ, ◌+◌, ◌*◌, ◌^◌, ◌<◌, List, ◌++◌, All, Bool, bit_xor};
-ghost use Rattle.dg_base.specs.Crc.{crc_more, crc_of, generator, polynomial_of, product, with_byte};
+ghost use Rattle.std.specs.Prelude.{◌≡◌, ℕ, ◌+◌, ◌*◌, ◌^◌, ◌<◌, ◌≤◌, List, ◌++◌, length, drop, All, Bool, bit_xor};
+ghost use Rattle.dg_base.specs.Crc.{crc_more, crc_of, generator, polynomial_of, product, shifted, with_byte};
 
-use crate::checksum_tables::AFTER_1;
+use crate::checksum_tables::{
+    AFTER_1, AFTER_2, AFTER_3, AFTER_4, AFTER_5, AFTER_6, AFTER_7, AFTER_8,
+};
 
 /// The checksum of `bytes` by the polynomial x^16 + x^12 + x^5 + 1, start 0, most significant bit
 /// first, no final change.
@@ -17,8 +19,22 @@ pub fn crc16_more(before: u16, bytes: &[u8]) -> u16
     ensures { result ≡ crc_more before bytes.now }
 {
     let mut crc = before;
-    for byte in bytes {
-        crc = with_byte(crc, *byte);
+    let mut at = 0;
+    while bytes.len() - at >= 8 {
+        crc = with_eight(crc, bytes, at);
+        at += 8;
+    }
+    with_rest(crc, bytes, at)
+}
+
+// The checksum with the bytes from `at` on, one at a time.
+fn with_rest(before: u16, bytes: &[u8], at: usize) -> u16
+    requires { at ≤ length bytes.now }
+    ensures { result ≡ crc_more before (drop at bytes.now) }
+{
+    let mut crc = before;
+    for next in at..bytes.len() {
+        crc = with_byte(crc, bytes[next]);
     }
     crc
 }
@@ -29,7 +45,78 @@ fn with_byte(crc: u16, byte: u8) -> u16
     ensures { result ≡ with_byte crc byte }
 {
     let high = (crc >> 8) as u8;
-    AFTER_1[(high ^ byte) as usize] ^ (crc << 8)
+    after_1(high ^ byte) ^ (crc << 8)
+}
+
+// The checksum with the eight bytes at `at`: the register stands over the first two.
+#[inline]
+fn with_eight(crc: u16, bytes: &[u8], at: usize) -> u16
+    requires { at + 8 ≤ length bytes.now }
+    ensures { crc_more result (drop (at + 8) bytes.now) ≡ crc_more crc (drop at bytes.now) }
+{
+    let high = (crc >> 8) as u8;
+    let low = (crc % 256) as u8;
+    let first = after_8(high ^ bytes[at]) ^ after_7(low ^ bytes[at + 1]);
+    let middle = after_6(bytes[at + 2]) ^ after_5(bytes[at + 3]) ^ after_4(bytes[at + 4]);
+    let last = after_3(bytes[at + 5]) ^ after_2(bytes[at + 6]) ^ after_1(bytes[at + 7]);
+    first ^ (middle ^ last)
+}
+
+// What a byte at the top of the register becomes once one byte, or more, are shifted out.
+#[inline]
+fn after_1(byte: u8) -> u16
+    ensures { result ≡ shifted 8 (byte * 2 ^ 8) }
+{
+    AFTER_1[byte as usize]
+}
+
+#[inline]
+fn after_2(byte: u8) -> u16
+    ensures { result ≡ shifted 16 (byte * 2 ^ 8) }
+{
+    AFTER_2[byte as usize]
+}
+
+#[inline]
+fn after_3(byte: u8) -> u16
+    ensures { result ≡ shifted 24 (byte * 2 ^ 8) }
+{
+    AFTER_3[byte as usize]
+}
+
+#[inline]
+fn after_4(byte: u8) -> u16
+    ensures { result ≡ shifted 32 (byte * 2 ^ 8) }
+{
+    AFTER_4[byte as usize]
+}
+
+#[inline]
+fn after_5(byte: u8) -> u16
+    ensures { result ≡ shifted 40 (byte * 2 ^ 8) }
+{
+    AFTER_5[byte as usize]
+}
+
+#[inline]
+fn after_6(byte: u8) -> u16
+    ensures { result ≡ shifted 48 (byte * 2 ^ 8) }
+{
+    AFTER_6[byte as usize]
+}
+
+#[inline]
+fn after_7(byte: u8) -> u16
+    ensures { result ≡ shifted 56 (byte * 2 ^ 8) }
+{
+    AFTER_7[byte as usize]
+}
+
+#[inline]
+fn after_8(byte: u8) -> u16
+    ensures { result ≡ shifted 64 (byte * 2 ^ 8) }
+{
+    AFTER_8[byte as usize]
 }
 
 /// The checksum is the remainder of the message, times x^16, by the generator. Over GF(2) the sum

@@ -1,3 +1,5 @@
 pub mod BitLemmas
 pub mod ChipLemmas
 pub mod DeviceLemmas
+pub mod MaskLemmas
+pub mod TrailLemmas

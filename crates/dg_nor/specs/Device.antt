@@ -53,3 +53,9 @@ pub record Halts (n done : ℕ) (old new : Device) : Type 0 where
   pub faults : old.faults ≤ new.faults
   pub taken : NotFallen old.taken new.taken
   pub names : new.names ≡ old.names
+
+-- An act of n programs and erases stopped: `done` of them were made, and `may done` holds of the chip.
+pub record Halted (n : ℕ) (may : ℕ → List ℕ → Type 0) (old new : Device) : Type 0 where
+  pub done : ℕ
+  pub halts : Halts n done old new
+  pub leaves : may done new.image

@@ -1,3 +1,6 @@
 pub mod Board
 pub mod Chip
 pub mod Device
+pub mod Fuse
+pub mod Masks
+pub mod Trail

@@ -1,6 +1,6 @@
 -- What a page says as a descriptor.
 use Rattle.std.specs.Prelude.{◌≡◌, ◌≢◌, ℕ, ◌+◌, ◌-◌, ◌*◌, ◌^◌, ◌<◌, ◌≤◌, IsTrue, List, length, take, slice_index}
-use Rattle.dg_base.specs.Name.{names}
+use Rattle.dg_base.specs.Texts.{names}
 use Rattle.dg_object.specs.Object.{Row, head_of, pages_for}
 
 -- the fields of a descriptor
@@ -16,9 +16,8 @@ pub record HasTag (head : List ℕ) : Type 0 where
   pub first : slice_index head 0 ≡ 68
   pub second : slice_index head 1 ≡ 71
 
--- 28 bytes spell these fields, and each is in its range
-pub record IsHead (head : List ℕ) (d : Details) : Type 0 where
-  pub spelled : head ≡ head_of d.image d.pages d.version d.length d.name
+-- each field is in its range
+pub record IsInRange (d : Details) : Type 0 where
   pub image : d.image ≤ 3
   pub version : 1 ≤ d.version
   pub version_fits : d.version < 2 ^ 32
@@ -26,6 +25,11 @@ pub record IsHead (head : List ℕ) (d : Details) : Type 0 where
   pub fits : d.length ≤ 70656
   pub pages : d.pages ≡ pages_for d.length
   pub name : IsTrue (names d.name)
+
+-- 28 bytes spell these fields, which are in their ranges
+pub record IsHead (head : List ℕ) (d : Details) : Type 0 where
+  pub spelled : head ≡ head_of d.image d.pages d.version d.length d.name
+  pub range : IsInRange d
 
 -- the bytes that stand at `at` of a page are 0xFF wherever they are past the CRC of the last page
 abbrev pub RestFits : ℕ → ℕ → List ℕ → Type 0

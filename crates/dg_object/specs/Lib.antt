@@ -1,2 +1,3 @@
 pub mod Object
 pub mod Descriptor
+pub mod Records

@@ -2,9 +2,10 @@
 use Rattle.std.specs.Prelude.{◌≡◌, ℕ, ◌+◌, ◌-◌, ◌*◌, ◌/◌, ◌^◌, ◌<◌, ◌≤◌, IsTrue, List, [], ◌∷◌, ◌++◌, length, take, drop, slice_index, suc, zero}
 use Rattle.std.specs.List.{flat_map, range_with_len}
 use Rattle.std.specs.Int.{to_be_bytes, w16, w32}
+use Rattle.dg_words.specs.Cells.{AreBytes}
 use Rattle.dg_words.specs.Lists.{tabulate, padded, joined}
 use Rattle.dg_base.specs.Crc.{crc_of}
-use Rattle.dg_base.specs.Name.{names}
+use Rattle.dg_base.specs.Texts.{names}
 
 -- one version of one image: what an operator injects
 pub record Row : Type 0 where
@@ -12,6 +13,9 @@ pub record Row : Type 0 where
   pub version : ℕ
   pub name : List ℕ
   pub bytes : List ℕ
+
+abbrev pub row_of : (image version : ℕ) (name bytes : List ℕ) → Row
+row_of image version name bytes = record { image = image; version = version; name = name; bytes = bytes }
 
 -- what a row may be: images 0 to 3, versions from 1, a name, and 1 to 70,656 bytes
 pub record IsRow (row : Row) : Type 0 where
@@ -21,7 +25,7 @@ pub record IsRow (row : Row) : Type 0 where
   pub name : IsTrue (names row.name)
   pub some : 1 ≤ length row.bytes
   pub fits : length row.bytes ≤ 70656
-  pub bytes : (k : ℕ) → slice_index row.bytes k < 256
+  pub bytes : AreBytes row.bytes
 
 -- the pages of an object with that many bytes: the descriptor, and a page for each 1,104 bytes begun
 abbrev pub pages_for : ℕ → ℕ
@@ -36,9 +40,13 @@ abbrev pub head_of : (image pages version len : ℕ) → List ℕ → List ℕ
 head_of image pages version len name =
     68 ∷ 71 ∷ image ∷ pages ∷ to_be_bytes w32 version ++ to_be_bytes w32 len ++ padded 16 0 name
 
--- the CRC of each data page, two bytes each
+-- the CRCs of the first n data pages, two bytes each
+abbrev pub crcs_to : List ℕ → ℕ → List ℕ
+crcs_to bytes n = flat_map (λ p. to_be_bytes w16 (crc_of (data_page bytes p))) (range_with_len 1 n)
+
+-- the CRC of each data page
 abbrev pub page_crcs : List ℕ → List ℕ
-page_crcs bytes = flat_map (λ p. to_be_bytes w16 (crc_of (data_page bytes p))) (range_with_len 1 (pages_for (length bytes) - 1))
+page_crcs bytes = crcs_to bytes (pages_for (length bytes) - 1)
 
 -- page 0
 abbrev pub descriptor_page : Row → List ℕ

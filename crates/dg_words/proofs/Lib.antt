@@ -1,2 +1,3 @@
+pub mod ByteLemmas
 pub mod CellLemmas
-pub mod Lists
+pub mod ListLemmas

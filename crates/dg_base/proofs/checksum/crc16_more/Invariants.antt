@@ -1,7 +1,10 @@
 -- The checksum so far, with the bytes behind it, is that of all bytes.
-use Rattle.std.proofs.Common.{◌≡◌, drop}
+use Rattle.std.proofs.Common.{◌≡◌, ◌≤◌, ◌-◌, drop, length}
 use Rattle.dg_base.specs.Crc.{crc_more}
 use Rattle.dg_base.proofs.checksum.crc16_more.Given as goal
 
-abbrev pub invariant-loop-byte : goal.invariant-loop-byte
-invariant-loop-byte l = crc_more l.crc (drop l.byte-index l.bytes) ≡ crc_more l.before l.bytes
+abbrev pub invariant-loop-at : goal.invariant-loop-at
+invariant-loop-at l = (l.at ≤ length l.bytes) × (crc_more l.crc (drop l.at l.bytes) ≡ crc_more l.before l.bytes)
+
+abbrev pub decreases-loop-at : goal.decreases-loop-at
+decreases-loop-at l = length l.bytes - l.at

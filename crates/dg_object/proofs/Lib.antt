@@ -1,0 +1,5 @@
+pub mod PageLemmas
+pub mod NameLemmas
+pub mod HeadLemmas
+pub mod RestLemmas
+pub mod RowLemmas

@@ -1,0 +1,13 @@
+-- The four fields, each put behind the ones before it.
+use Rattle.std.proofs.Common.{◌≡◌, List, ℕ, [], ◌∷◌, ◌++◌, length, refl}
+use Rattle.std.specs.Int.{to_be_bytes, w32}
+use Rattle.dg_words.specs.Lists.{padded}
+use Rattle.dg_object.proofs.object.write_head.Goals as goal
+
+pub returns : goal.returns
+returns c =
+    let tag = 68 ∷ 71 ∷ c.args.image ∷ c.args.pages ∷ [] in
+    let tagged = c.put_behind.ensures [] refl c.blank.ensures in
+    let versioned = rw c.to_be_bytes.ensures at (c.put_behind-2.ensures tag refl tagged) in
+    let measured = rw c.to_be_bytes-2.ensures at (c.put_behind-3.ensures (tag ++ to_be_bytes w32 c.args.version) refl versioned) in
+    rw c.name_field.ensures at (c.put_behind-4.ensures (tag ++ to_be_bytes w32 c.args.version ++ to_be_bytes w32 c.args.len) refl measured)

@@ -1,0 +1,135 @@
+//! The pages of an object, made from an image.
+ghost use Rattle.std.specs.Prelude.{◌≡◌, ℕ, ◌+◌, ◌-◌, ◌*◌, ◌^◌, ◌<◌, ◌≤◌, List, [], ◌++◌, IsTrue, length, take, drop};
+ghost use Rattle.std.specs.Int.{to_be_bytes, w16};
+ghost use Rattle.dg_words.specs.Lists.{padded};
+ghost use Rattle.dg_base.specs.Crc.{crc_of};
+ghost use Rattle.dg_base.specs.Texts.{names};
+ghost use Rattle.dg_object.specs.Records.{outline_of};
+ghost use Rattle.dg_object.specs.Object.{row_of, profile, pages_for, data_page, head_of, descriptor_page, page_of_row};
+
+use crate::Profile;
+use crate::size::{PAGE, pages_of};
+use dg_base::{crc16, crc16_more};
+
+/// What fills a page behind its last byte.
+const FILLING: u8 = 0xFF;
+
+/// Bytes of a descriptor in front of the CRCs.
+const HEAD: usize = 28;
+
+/// Writes page `p` of the object of an image into `into`: for 0 the descriptor, else the bytes of the image
+/// from `(p - 1) * 1104` on.
+pub fn page_of(bytes: &[u8], image: u8, version: u32, name: &[u8], p: u8, into: &mut [u8; 1104])
+    requires some { 1 ≤ length bytes.now }
+    requires fits { length bytes.now ≤ 70656 }
+    requires known_image { image ≤ 3 }
+    requires real_version { 1 ≤ version }
+    requires named { IsTrue (names name.now) }
+    requires page { p < pages_for (length bytes.now) }
+    ensures { into.new ≡ page_of_row (row_of image version name.now bytes.now) p }
+{
+    if p == 0 {
+        write_descriptor(bytes, image, version, name, into);
+    } else {
+        write_data_page(bytes, p, into);
+    }
+}
+
+/// The profile of the object of an image, in one pass over its bytes.
+pub fn profile_of(bytes: &[u8], image: u8, version: u32, name: &[u8]) -> Profile
+    requires some { 1 ≤ length bytes.now }
+    requires fits { length bytes.now ≤ 70656 }
+    requires known_image { image ≤ 3 }
+    requires real_version { 1 ≤ version }
+    requires named { IsTrue (names name.now) }
+    ensures { outline_of result ≡ profile (row_of image version name.now bytes.now) }
+{
+    let mut descriptor = [0; PAGE];
+    write_descriptor(bytes, image, version, name, &mut descriptor);
+    Profile {
+        image,
+        version,
+        pages: pages_of(bytes.len() as u32),
+        crc: crc16(&descriptor),
+    }
+}
+
+/// The bytes of the image in data page `p`.
+fn held_in(bytes: &[u8], p: u8) -> &[u8]
+    requires { 1 ≤ p }
+    ensures held { result.now ≡ take 1104 (drop ((p - 1) * 1104) bytes.now) }
+    ensures fits { length result.now ≤ 1104 }
+{
+    let start = (usize::from(p) - 1) * PAGE;
+    let rest = &bytes[start.min(bytes.len())..];
+    &rest[..rest.len().min(PAGE)]
+}
+
+/// A page without bytes.
+fn blank() -> [u8; 1104]
+    ensures { result ≡ padded 1104 255 [] }
+{
+    [FILLING; PAGE]
+}
+
+fn write_data_page(bytes: &[u8], p: u8, into: &mut [u8; 1104])
+    requires { 1 ≤ p }
+    ensures { into.new ≡ data_page bytes.now p }
+{
+    *into = blank();
+    put_behind(into, 0, held_in(bytes, p));
+}
+
+/// The CRC of data page `p`, without a copy of it.
+fn data_page_crc(bytes: &[u8], p: u8) -> u16
+    requires { 1 ≤ p }
+    ensures { result ≡ crc_of (data_page bytes.now p) }
+{
+    let held = held_in(bytes, p);
+    let filling = blank();
+    crc16_more(crc16(held), &filling[held.len()..])
+}
+
+/// Writes `piece` behind the `at` bytes that stand at the front of a page that is filled up.
+fn put_behind(page: &mut [u8; 1104], at: usize, piece: &[u8])
+    requires { at + length piece.now ≤ 1104 }
+    ensures { (front : List ℕ) → length front ≡ at → page.old ≡ padded 1104 255 front → page.new ≡ padded 1104 255 (front ++ piece.now) }
+{
+    page[at..at + piece.len()].copy_from_slice(piece);
+}
+
+/// The name in its field of 16 bytes.
+fn name_field(name: &[u8]) -> [u8; 16]
+    requires { length name.now ≤ 16 }
+    ensures { result ≡ padded 16 0 name.now }
+{
+    let mut field = [0; 16];
+    field[..name.len()].copy_from_slice(name);
+    field
+}
+
+/// Writes the first 28 bytes of a descriptor, and fills the page behind them.
+fn write_head(image: u8, pages: u8, version: u32, len: u32, name: &[u8], into: &mut [u8; 1104])
+    requires { length name.now ≤ 16 }
+    ensures { into.new ≡ padded 1104 255 (head_of image pages version len name.now) }
+{
+    *into = blank();
+    put_behind(into, 0, &[b'D', b'G', image, pages]);
+    put_behind(into, 4, &version.to_be_bytes());
+    put_behind(into, 8, &len.to_be_bytes());
+    put_behind(into, 12, &name_field(name));
+}
+
+fn write_descriptor(bytes: &[u8], image: u8, version: u32, name: &[u8], into: &mut [u8; 1104])
+    requires fits { length bytes.now ≤ 70656 }
+    requires named { length name.now ≤ 16 }
+    ensures { into.new ≡ descriptor_page (row_of image version name.now bytes.now) }
+{
+    let len = bytes.len() as u32;
+    let pages = pages_of(len);
+    write_head(image, pages, version, len, name, into);
+    for p in 1..pages {
+        let crc = data_page_crc(bytes, p);
+        put_behind(into, HEAD + 2 * (usize::from(p) - 1), &crc.to_be_bytes());
+    }
+}

@@ -1,0 +1,14 @@
+//! What is told of an object before any of its pages.
+ghost use Rattle.std.specs.Prelude.{◌≤◌};
+
+/// An object in outline: `crc` is that of page 0, which keeps the CRCs of the other pages.
+#[derive(Clone, Copy, Debug, PartialEq, Eq)]
+pub struct Profile {
+    pub image: u8,
+    pub version: u32,
+    pub pages: u8,
+    pub crc: u16,
+    ghost real_version: { 1 ≤ version },
+    ghost some_pages: { 2 ≤ pages },
+    ghost most_pages: { pages ≤ 65 },
+}
