@@ -1,2 +1,5 @@
 pub mod PlaceLemmas
 pub mod HeaderLemmas
+pub mod ActLemmas
+pub mod ChipLemmas
+pub mod PageLemmas

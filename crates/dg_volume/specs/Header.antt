@@ -1,5 +1,5 @@
 -- The header of a slot: what it holds, and which of its pages are complete.
-use Rattle.std.specs.Prelude.{◌≡◌, ℕ, ◌+◌, ◌-◌, ◌*◌, ◌/◌, ◌^◌, ◌<◌, ◌≤◌, min, List, ◌∷◌, ◌++◌, take}
+use Rattle.std.specs.Prelude.{◌≡◌, ℕ, ◌+◌, ◌-◌, ◌*◌, ◌/◌, ◌^◌, ◌<◌, ◌≤◌, min, List, ◌∷◌, ◌++◌}
 use Rattle.std.specs.Int.{to_be_bytes, w16, w32}
 use Rattle.dg_words.specs.Lists.{tabulate}
 use Rattle.dg_words.specs.Cells.{part}
@@ -24,4 +24,4 @@ pub record Heads (first gates : List ℕ) (image version pages crc done : ℕ) :
 
 -- the cells of a sector begin with such a header
 abbrev pub IsHeader : List ℕ → (image version pages crc done : ℕ) → Type 0
-IsHeader cells = Heads (take 10 cells) (part cells 16 9)
+IsHeader cells = Heads (part cells 0 10) (part cells 16 9)

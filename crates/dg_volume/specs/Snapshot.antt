@@ -29,3 +29,9 @@ place_of s =
   where
     slot : ℕ → List ℕ
     slot i = slot_bytes (slice_index_or s.slots i Dirty)
+
+-- what a formatted chip commits: golden is Live with version 1, and all else is empty
+pub record IsFresh (s : Snapshot) : Type 0 where
+  pub slots : s.slots ≡ Live 1 ∷ Dirty ∷ Dirty ∷ Dirty ∷ []
+  pub program : s.program ≡ Blank
+  pub order : s.order ≡ record { number = 0; image = 0; version = 0 }
