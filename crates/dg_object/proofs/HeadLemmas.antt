@@ -32,11 +32,11 @@ spelled_word xs at h bytes = sym (be_bytes_4 (take 4 (drop at xs)) (word xs at) 
 in_parts : (h : List ℕ) → h ≡ take 4 h ++ take 4 (drop 4 h) ++ take 4 (drop 8 h) ++ drop 12 h
 in_parts h =
     sym (
-      append_assoc (take 4 h ++ take 4 (drop 4 h)) (take 4 (drop 8 h)) (drop 12 h)
-      ∙ ap (λ xs. take 4 h ++ take 4 (drop 4 h) ++ xs) (step 8)
-      ∙ append_assoc (take 4 h) (take 4 (drop 4 h)) (drop 8 h)
-      ∙ ap (λ xs. take 4 h ++ xs) (step 4)
-      ∙ take-append-drop 4 h
+    append_assoc (take 4 h ++ take 4 (drop 4 h)) (take 4 (drop 8 h)) (drop 12 h)
+    ∙ ap (λ xs. take 4 h ++ take 4 (drop 4 h) ++ xs) (step 8)
+    ∙ append_assoc (take 4 h) (take 4 (drop 4 h)) (drop 8 h)
+    ∙ ap (λ xs. take 4 h ++ xs) (step 4)
+    ∙ take-append-drop 4 h
     )
   where
     step : (k : ℕ) → take 4 (drop k h) ++ drop (k + 4) h ≡ drop k h
@@ -54,6 +54,7 @@ spelled_fields h n len bytes tag name =
   where
     first : List ℕ
     first = 68 ∷ 71 ∷ get_or h 2 0 ∷ get_or h 3 0 ∷ []
+
     front : take 4 h ≡ 68 ∷ 71 ∷ get_or h 2 0 ∷ get_or h 3 0 ∷ []
     front =
         four h (omega arith)
@@ -94,7 +95,7 @@ same_details d e i v p l n =
 pub one_head : (h : List ℕ) (d e : Details) → IsHead h d → IsHead h e → d ≡ e
 one_head h d e a b =
     same_details d e (sym (head_image a) ∙ head_image b) (sym (head_version a) ∙ head_version b) (sym (head_pages a) ∙ head_pages b)
-      (sym (head_length a) ∙ head_length b) (same_names d.name e.name a.range.name b.range.name (sym (head_name a) ∙ head_name b))
+    (sym (head_length a) ∙ head_length b) (same_names d.name e.name a.range.name b.range.name (sym (head_name a) ∙ head_name b))
 
 -- the field of the name is all that stands from byte 12 on
 pub name_field_is : (h : List ℕ) → length h ≡ 28 → mid_of 12 16 h ≡ drop 12 h

@@ -34,12 +34,13 @@ pub length_of_name : (field n : List ℕ) (k : ℕ) → IsTrue (names n) → fie
     → ((j : ℕ) → j < k → get_or field j 0 ≢ 0) → (k < length field → get_or field k 0 ≡ 0) → length n ≡ k
 length_of_name field n k h is len within before ended =
     elim (cases_lt k (length n)) [
-      inl low ↦ absurd (names-nonzero n k h low (sym (at_front low) ∙ ended (omega (arith, names-fits n h))))
-    | inr high ↦ elim (cases_lt (length n) k) [ inl low ↦ absurd (before (length n) low (at_end (omega arith))) | inr same ↦ omega arith ]
+      | inl low ↦ absurd (names-nonzero n k h low (sym (at_front low) ∙ ended (omega (arith, names-fits n h))))
+      | inr high ↦ elim (cases_lt (length n) k) [ inl low ↦ absurd (before (length n) low (at_end (omega arith))) | inr same ↦ omega arith ]
     ]
   where
     at_front : k < length n → get_or field k 0 ≡ get_or n k 0
     at_front low = ap (λ (xs : List ℕ). get_or xs k 0) is ∙ get_or-padded_front 16 0 k 0 n low
+
     at_end : length n < 16 → get_or field (length n) 0 ≡ 0
     at_end low = ap (λ (xs : List ℕ). get_or xs (length n) 0) is ∙ get_or-padded_behind 16 0 (length n) 0 n (omega arith) low
 
@@ -64,6 +65,7 @@ padded-from_parts n x k field len low filled =
   where
     counted : length (drop k field) ≡ n - length (take k field)
     counted = omega (arith, length-drop k field, length-take k field)
+
     rest : drop k field ≡ replicate (n - length (take k field)) x
     rest = ext_get_or 0 (drop k field) (replicate (n - length (take k field)) x) (counted ∙ sym (length-replicate _ x)) (λ j h. filled j h ∙ sym (get_or-replicate (n - length (take k field)) j x 0 (omega (arith, counted))))
 
@@ -72,5 +74,5 @@ pub same_names : (n m : List ℕ) → IsTrue (names n) → IsTrue (names m) → 
 same_names n m hn hm same =
     sym (take-padded 16 0 (length n) n refl)
     ∙ name_is_front (padded 16 0 n) m (length n) hm same (length-padded 16 0 n (names-fits n hn)) (omega (arith, length-padded 16 0 n (names-fits n hn), names-fits n hn))
-      (λ j low e. names-nonzero n j hn low (sym (get_or-padded_front 16 0 j 0 n low) ∙ e))
-      (λ low. get_or-padded_behind 16 0 (length n) 0 n (omega arith) (omega (arith, length-padded 16 0 n (names-fits n hn))))
+    (λ j low e. names-nonzero n j hn low (sym (get_or-padded_front 16 0 j 0 n low) ∙ e))
+    (λ low. get_or-padded_behind 16 0 (length n) 0 n (omega arith) (omega (arith, length-padded 16 0 n (names-fits n hn))))

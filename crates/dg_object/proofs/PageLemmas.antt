@@ -68,8 +68,10 @@ crcs_more bytes head piece p h e =
   where
     crc_bytes : ℕ → List ℕ
     crc_bytes q = to_be_bytes w16 (crc_of (data_page bytes q))
+
     place : p ≡ 1 + (p - 1)
     place = omega arith
+
     count : suc (p - 1) ≡ p + 1 - 1
     count = omega arith
 

@@ -19,6 +19,7 @@ rest_checked pages at m piece e filled k low past =
   where
     place : k ≡ m + (k - m)
     place = omega arith
+
     within : k - m < length (take (length piece - m) (drop m piece))
     within = omega (arith, ap length (take_rest piece m), length-drop m piece)
 
@@ -27,6 +28,7 @@ rest_filled pages at m piece e fits i low = at_rest piece m i ∙ fits (m + i) w
   where
     within : m + i < length piece
     within = omega (arith, ap length (take_rest piece m), length-drop m piece)
+
     past : 28 + 2 * (pages - 1) ≤ at + (m + i)
     past = omega (arith, ap length (take_rest piece m), length-drop m piece)
 
@@ -34,11 +36,11 @@ rest_filled pages at m piece e fits i low = at_rest piece m i ∙ fits (m + i) w
 pub RestFits-append : (pages at : ℕ) (xs ys : List ℕ) → RestFits pages at xs → RestFits pages (at + length xs) ys → RestFits pages at (xs ++ ys)
 RestFits-append pages at xs ys front back k low past =
     elim (cases_lt k (length xs)) [
-      inl early ↦ get_or_append_left xs ys 0 k early ∙ front k early past
-    | inr late ↦
-        ap (λ (j : ℕ). get_or (xs ++ ys) j 0) (place late)
-        ∙ get_or-append-add xs ys (k - length xs) 0
-        ∙ back (k - length xs) (omega (arith, length-append xs ys)) (omega arith)
+      | inl early ↦ get_or_append_left xs ys 0 k early ∙ front k early past
+      | inr late ↦
+          ap (λ (j : ℕ). get_or (xs ++ ys) j 0) (place late)
+          ∙ get_or-append-add xs ys (k - length xs) 0
+          ∙ back (k - length xs) (omega (arith, length-append xs ys)) (omega arith)
     ]
   where
     place : length xs ≤ k → k ≡ length xs + (k - length xs)
@@ -90,7 +92,7 @@ RestFits-more pages page at m n within front back =
     let Fits : List ℕ → Type 0 = RestFits pages at in
     let Behind : ℕ → Type 0 = λ k. RestFits pages (at + k) (part page (at + m) n) in
     subst Fits (part-append-part page at m n within)
-      (RestFits-append pages at (part page at m) (part page (at + m) n) front (subst Behind (sym (length-part page at m (omega arith))) back))
+    (RestFits-append pages at (part page at m) (part page (at + m) n) front (subst Behind (sym (length-part page at m (omega arith))) back))
 
 -- all pieces behind the head, and the head
 pub descriptor_from_pieces : (page : List ℕ) (d : Details) → length page ≡ 1104 → IsHead (part page 0 28) d → RestFits d.pages 28 (part page 28 1076) → IsDescriptor page d

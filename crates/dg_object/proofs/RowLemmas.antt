@@ -46,7 +46,7 @@ length-descriptor_page row is = length-padded 1104 255 (head_of row.image (pages
 pub AreBytes-descriptor_page : (row : Row) → IsRow row → AreBytes (descriptor_page row)
 AreBytes-descriptor_page row is =
     AreBytes-padded 1104 255 (head_of row.image (pages_for (length row.bytes)) row.version (length row.bytes) row.name ++ page_crcs row.bytes) (omega arith)
-      (AreBytes-append (head_of row.image (pages_for (length row.bytes)) row.version (length row.bytes) row.name) (page_crcs row.bytes) head crcs)
+    (AreBytes-append (head_of row.image (pages_for (length row.bytes)) row.version (length row.bytes) row.name) (page_crcs row.bytes) head crcs)
   where
     numbers : AreBytes (68 ∷ 71 ∷ row.image ∷ pages_for (length row.bytes) ∷ to_be_bytes w32 row.version)
     numbers =
@@ -55,11 +55,13 @@ AreBytes-descriptor_page row is =
         let image = AreBytes-cons row.image (pages_for (length row.bytes) ∷ to_be_bytes w32 row.version) (omega (arith, is.image)) pages in
         let second = AreBytes-cons 71 (row.image ∷ pages_for (length row.bytes) ∷ to_be_bytes w32 row.version) (omega arith) image in
         AreBytes-cons 68 (71 ∷ row.image ∷ pages_for (length row.bytes) ∷ to_be_bytes w32 row.version) (omega arith) second
+
     head : AreBytes (head_of row.image (pages_for (length row.bytes)) row.version (length row.bytes) row.name)
     head =
         AreBytes-append (68 ∷ 71 ∷ row.image ∷ pages_for (length row.bytes) ∷ to_be_bytes w32 row.version ++ to_be_bytes w32 (length row.bytes)) (padded 16 0 row.name)
-          (AreBytes-append (68 ∷ 71 ∷ row.image ∷ pages_for (length row.bytes) ∷ to_be_bytes w32 row.version) (to_be_bytes w32 (length row.bytes)) numbers (AreBytes-high_first 4 (length row.bytes)))
-          (AreBytes-padded 16 0 row.name (omega arith) (λ k. names-bytes row.name k is.name))
+        (AreBytes-append (68 ∷ 71 ∷ row.image ∷ pages_for (length row.bytes) ∷ to_be_bytes w32 row.version) (to_be_bytes w32 (length row.bytes)) numbers (AreBytes-high_first 4 (length row.bytes)))
+        (AreBytes-padded 16 0 row.name (omega arith) (λ k. names-bytes row.name k is.name))
+
     crcs : AreBytes (page_crcs row.bytes)
     crcs = AreBytes-flat_map (λ p. to_be_bytes w16 (crc_of (data_page row.bytes p))) (range_with_len 1 (pages_for (length row.bytes) - 1)) (λ p. AreBytes-high_first 2 (crc_of (data_page row.bytes p)))
 
@@ -91,9 +93,10 @@ halves_at c a (suc n) (suc i) h =
     let front = c a / 256 % 256 ∷ c a % 256 ∷ [] in
     let high : 2 * suc i ≡ suc (suc (2 * i)) = omega arith in
     let lower : 2 * suc i + 1 ≡ suc (suc (2 * i + 1)) = omega arith in
-    let next : a + 1 + i ≡ a + suc i = omega arith in
-    (ap (λ k. get_or (front ++ cells) k 0) high ∙ behind.0 ∙ ap (λ q. c q / 256 % 256) next,
-     ap (λ k. get_or (front ++ cells) k 0) lower ∙ behind.1 ∙ ap (λ q. c q % 256) next)
+    let next : a + 1 + i ≡ a + suc i = omega arith in (
+      ap (λ k. get_or (front ++ cells) k 0) high ∙ behind.0 ∙ ap (λ q. c q / 256 % 256) next,
+      ap (λ k. get_or (front ++ cells) k 0) lower ∙ behind.1 ∙ ap (λ q. c q % 256) next,
+    )
 
 from_halves : (n : ℕ) → n < 2 ^ 16 → 256 * (n / 256 % 256) + n % 256 ≡ n
 from_halves n h = omega arith
@@ -107,6 +110,7 @@ crc_cell row k j is e low =
   where
     head : List ℕ
     head = head_of row.image (pages_for (length row.bytes)) row.version (length row.bytes) row.name
+
     place : k - 28 ≡ j
     place = omega arith
 
@@ -120,8 +124,10 @@ crc_in-descriptor_page row p is low high =
   where
     crc : ℕ → ℕ
     crc q = crc_of (data_page row.bytes q)
+
     halves : (get_or (page_crcs row.bytes) (2 * (p - 1)) 0 ≡ crc (1 + (p - 1)) / 256 % 256) × (get_or (page_crcs row.bytes) (2 * (p - 1) + 1) 0 ≡ crc (1 + (p - 1)) % 256)
     halves = halves_at crc 1 (pages_for (length row.bytes) - 1) (p - 1) (omega arith)
+
     place : 1 + (p - 1) ≡ p
     place = omega arith
 

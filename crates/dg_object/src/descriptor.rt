@@ -99,7 +99,11 @@ fn fields(head: &[u8; 28]) -> Option<Descriptor>
         length: word_at(head, 8),
         name,
     };
-    if in_range(&descriptor) { Some(descriptor) } else { None }
+    if in_range(&descriptor) {
+        Some(descriptor)
+    } else {
+        None
+    }
 }
 
 /// Whether the numbers are in their ranges.
@@ -143,7 +147,10 @@ fn name_len(field: &[u8]) -> usize
     ensures before { (k : ℕ) → k < result → slice_index field.now k ≢ 0 }
     ensures ended { result < length field.now → slice_index field.now result ≡ 0 }
 {
-    field.iter().position(|byte| *byte == 0).unwrap_or(field.len())
+    field
+        .iter()
+        .position(|byte| *byte == 0)
+        .unwrap_or(field.len())
 }
 
 fn is_filled(bytes: &[u8], filling: u8) -> bool

@@ -14,8 +14,7 @@ pub fn a_row_is_its_pages()
     ensures long { (row : Row) (p : ℕ) → IsRow row → length (page_of_row row p) ≡ 1104 }
     ensures bytes { (row : Row) (p : ℕ) → IsRow row → AreBytes (page_of_row row p) }
     ensures content { (row : Row) → content (length row.bytes) (object row) ≡ row.bytes }
-{
-}
+{}
 
 /// Page 0 of an object is the descriptor of what the row says, and keeps the CRC of each other page.
 pub fn a_row_has_a_descriptor()
@@ -23,14 +22,12 @@ pub fn a_row_has_a_descriptor()
     ensures others { (row : Row) (p : ℕ) → 1 ≤ p → page_of_row row p ≡ data_page row.bytes p }
     ensures described { (row : Row) → IsRow row → IsDescriptor (descriptor_page row) (details row) }
     ensures crcs { (row : Row) (p : ℕ) → IsRow row → 1 ≤ p → p < pages_for (length row.bytes) → crc_in (descriptor_page row) p ≡ crc_of (data_page row.bytes p) }
-{
-}
+{}
 
 /// 28 bytes are the head of one descriptor at most.
 pub fn a_head_is_read_in_one_way()
     ensures { (head : List ℕ) (d e : Details) → IsHead head d → IsHead head e → d ≡ e }
-{
-}
+{}
 
 /// A page is a descriptor exactly where its first 28 bytes are its head and all that stands behind them fits, in one
 /// piece or in several.
@@ -39,5 +36,4 @@ pub fn a_descriptor_is_read_in_pieces()
     ensures more { (pages : ℕ) (page : List ℕ) (at m n : ℕ) → at + (m + n) ≤ length page → RestFits pages at (part page at m) → RestFits pages (at + m) (part page (at + m) n) → RestFits pages at (part page at (m + n)) }
     ensures head { (page : List ℕ) (d : Details) → IsDescriptor page d → IsHead (part page 0 28) d }
     ensures pieces { (page : List ℕ) (d : Details) (at n : ℕ) → IsDescriptor page d → RestFits d.pages at (part page at n) }
-{
-}
+{}

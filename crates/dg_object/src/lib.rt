@@ -12,8 +12,14 @@ mod profile;
 mod size;
 
 pub use descriptor::{Descriptor, DescriptorFault};
-pub use laws::{a_descriptor_is_read_in_pieces, a_head_is_read_in_one_way, a_row_has_a_descriptor, a_row_is_its_pages};
+pub use laws::{
+    a_descriptor_is_read_in_pieces, a_head_is_read_in_one_way, a_row_has_a_descriptor,
+    a_row_is_its_pages,
+};
 pub use name::Name;
 pub use object::{page_of, profile_of};
 pub use profile::Profile;
 pub use size::{SizeFault, check_size, pages_of};
+
+#[cfg(test)]
+mod tests;

@@ -5,8 +5,8 @@ use Rattle.dg_object.proofs.laws.a_row_has_a_descriptor.Goals as goal
 
 pub returns : goal.returns
 returns c = record {
-    first = λ row. page_of_row-first row 0 refl;
-    others = page_of_row-data;
-    described = descriptor_of_row;
-    crcs = crc_in-descriptor_page;
-  }
+  first = λ row. page_of_row-first row 0 refl;
+  others = page_of_row-data;
+  described = descriptor_of_row;
+  crcs = crc_in-descriptor_page;
+}
