@@ -9,3 +9,4 @@ pub mod Start
 pub mod Started
 pub mod Acts
 pub mod Faults
+pub mod GoldenLaws
