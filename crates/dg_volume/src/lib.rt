@@ -19,7 +19,7 @@ mod volume;
 
 pub use faults::{FormatFault, MountFault, StartFault};
 pub use kept::Kept;
-pub use laws::a_whole_image_is_sound;
+pub use laws::{a_chip_stands_for_one_store, a_whole_image_is_sound};
 pub use snapshot::{Order, Program, SlotState, Snapshot};
 pub use starting::{Started, start};
 pub use volume::Volume;
