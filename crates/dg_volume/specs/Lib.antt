@@ -1,5 +1,12 @@
 pub mod Snapshot
+pub mod Ranges
 pub mod Header
+pub mod Pages
 pub mod Store
-pub mod Start
 pub mod Told
+pub mod Mounted
+pub mod Start
+pub mod Started
+pub mod Acts
+pub mod Faults
+pub mod GoldenLaws

@@ -1,6 +1,6 @@
 -- The 64 bytes of a place in a control sector, in their form number 1.
-use Rattle.std.specs.Prelude.{◌≡◌, ℕ, ◌^◌, ◌<◌, ◌≤◌, Bool, true, false, List, [], ◌∷◌, ◌++◌, replicate, slice_index_or}
-use Rattle.std.specs.Int.{to_be_bytes, w32}
+use Rattle.std.specs.Prelude.{◌≡◌, ℕ, ◌^◌, ◌<◌, ◌≤◌, List, [], ◌∷◌, ◌++◌, replicate, slice_index_or}
+use Rattle.std.specs.Int.{to_be_bytes, from_bool, w32}
 use Rattle.dg_volume.specs.declared.snapshot.SlotState.{SlotState}
 use Rattle.dg_volume.specs.declared.snapshot.SlotState.TheVariants.{Dirty, Live}
 use Rattle.dg_volume.specs.declared.snapshot.Program.{Program}
@@ -21,13 +21,17 @@ program_bytes (Set i v) = 1 ∷ i ∷ to_be_bytes w32 v
 abbrev pub order_bytes : Order → List ℕ
 order_bytes o = to_be_bytes w32 o.number ++ o.image ∷ to_be_bytes w32 o.version
 
-abbrev pub bit : Bool → ℕ
-bit true = 1
-bit false = 0
-
 -- a committed place that holds the snapshot
-abbrev pub place_of : Snapshot → List ℕ
+unfoldable pub place_of : Snapshot → List ℕ
 place_of s =
-    127 ∷ 1 ∷ slot_bytes (slice_index_or s.slots 0 Dirty) ++ slot_bytes (slice_index_or s.slots 1 Dirty)
-    ++ slot_bytes (slice_index_or s.slots 2 Dirty) ++ slot_bytes (slice_index_or s.slots 3 Dirty)
-    ++ program_bytes s.program ++ order_bytes s.order ++ s.gesture ∷ bit s.waived ∷ replicate 25 255
+    127 ∷ 1 ∷ (slot 0 ++ (slot 1 ++ (slot 2 ++ (slot 3
+    ++ (program_bytes s.program ++ (order_bytes s.order ++ (s.gesture ∷ from_bool s.waived ∷ replicate 25 255)))))))
+  where
+    slot : ℕ → List ℕ
+    slot i = slot_bytes (slice_index_or s.slots i Dirty)
+
+-- what a formatted chip commits: golden is Live with version 1, and all else is empty
+pub record IsFresh (s : Snapshot) : Type 0 where
+  pub slots : s.slots ≡ Live 1 ∷ Dirty ∷ Dirty ∷ Dirty ∷ []
+  pub program : s.program ≡ Blank
+  pub order : s.order ≡ record { number = 0; image = 0; version = 0 }

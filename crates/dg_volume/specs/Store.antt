@@ -1,6 +1,6 @@
 -- What a chip stands for: the images that it keeps, what is in program memory, and the kept order.
 use Rattle.std.specs.Prelude.{◌≡◌, ◌⊎◌, ℕ, ◌+◌, ◌-◌, ◌*◌, ◌<◌, ◌≤◌, Bool, true, false, IsTrue, List, [], ◌∷◌, length, take, slice_index_or, Option, Some, None, IsSomeAnd}
-use Rattle.dg_words.specs.Lists.{tabulate}
+use Rattle.dg_words.specs.Cells.{part}
 use Rattle.dg_base.specs.Crc.{crc_of}
 use Rattle.dg_nor.specs.Chip.{sector}
 use Rattle.dg_object.specs.Object.{Row, Outline, object, profile}
@@ -8,6 +8,7 @@ use Rattle.dg_object.specs.Descriptor.{Details, IsDescriptor}
 use Rattle.dg_volume.specs.Ranges.{snapshot_fits}
 use Rattle.dg_volume.specs.Snapshot.{place_of}
 use Rattle.dg_volume.specs.Header.{IsHeader}
+pub use Rattle.dg_volume.specs.Pages.{page_in, program, slot_pages}
 use Rattle.dg_volume.specs.declared.snapshot.SlotState.{SlotState}
 use Rattle.dg_volume.specs.declared.snapshot.SlotState.TheVariants.{Dirty, Live}
 use Rattle.dg_volume.specs.declared.snapshot.Program.{Program}
@@ -38,28 +39,16 @@ pub record Store : Type 0 where
 abbrev pub held : Store → ℕ → Option Held
 held s i = slice_index_or s.kept i None
 
--- the page that stands in a sector
-abbrev pub page_in : List ℕ → ℕ → List ℕ
-page_in c k = take 1104 (sector c k)
-
--- the first n pages of program memory
-abbrev pub program : List ℕ → ℕ → List (List ℕ)
-program c n = tabulate n (λ p. page_in c (3 + p))
-
--- the first n pages of a slot
-abbrev pub slot_pages : List ℕ → ℕ → ℕ → List (List ℕ)
-slot_pages c i n = tabulate n (λ p. page_in c (69 + 66 * i + p))
-
 -- page 0 fits the header: its CRC is the one that the header keeps, and it is the descriptor of that image and version, with that many pages
 pub record HasDescriptor (page : List ℕ) (image version pages crc : ℕ) : Type 0 where
-  pub crc : crc_of page ≡ crc
+  pub same_crc : crc_of page ≡ crc
   pub described : (d : Details) × IsDescriptor page d × (d.image ≡ image) × (d.version ≡ version) × (d.pages ≡ pages)
 
 -- a slot that is Live with this version keeps this
 pub record KeepsImage (c : List ℕ) (image version : ℕ) (h : Held) : Type 0 where
-  pub version : h.version ≡ version
+  pub same_version : h.version ≡ version
   pub header : IsHeader (sector c (68 + 66 * image)) image version h.pages h.crc (length h.complete)
-  pub pages : h.complete ≡ slot_pages c image (length h.complete)
+  pub stored : h.complete ≡ slot_pages c image (length h.complete)
   pub first : 0 < length h.complete → HasDescriptor (page_in c (69 + 66 * image)) image version h.pages h.crc
 
 abbrev pub SlotStands : List ℕ → ℕ → SlotState → Option Held → Type 0
@@ -70,8 +59,8 @@ SlotStands c i (Live v) None = ⊥
 
 -- program memory that is Set to an image holds the pages that its descriptor counts
 pub record HoldsApp (c : List ℕ) (image version : ℕ) (app : App) : Type 0 where
-  pub image : app.image ≡ image
-  pub version : app.version ≡ version
+  pub same_image : app.image ≡ image
+  pub same_version : app.version ≡ version
   pub described : (d : Details) × IsDescriptor (page_in c 3) d × (d.image ≡ image) × (d.version ≡ version) × (app.pages ≡ program c d.pages)
 
 abbrev pub AppStands : List ℕ → Program → Option App → Type 0
@@ -88,7 +77,7 @@ pub record KeepsGolden (s : Store) : Type 0 where
 pub record Stands (c : List ℕ) (s : Store) : Type 0 where
   pub snapshot : Snapshot
   pub fits : IsTrue (snapshot_fits snapshot.slots snapshot.program snapshot.order snapshot.waived snapshot.gesture)
-  pub place : take 64 (sector c 1) ≡ place_of snapshot
+  pub place : part (sector c 1) 0 64 ≡ place_of snapshot
   pub four : length s.kept ≡ 4
   pub slots : (i : ℕ) → i < 4 → SlotStands c i (slice_index_or snapshot.slots i Dirty) (held s i)
   pub golden : KeepsGolden s
@@ -111,3 +100,11 @@ fresh name bytes =
       app = None;
       order = record { number = 0; image = 0; version = 0 };
     }
+
+-- the chip is a volume
+abbrev pub IsVolume : List ℕ → Type 0
+IsVolume c = (s : Store) × Stands c s
+
+-- the chip is no volume
+abbrev pub IsNoVolume : List ℕ → Type 0
+IsNoVolume c = (s : Store) → Stands c s → ⊥

@@ -1,16 +1,19 @@
--- What a mounted volume tells of the store that its chip stands for.
-use Rattle.std.specs.Prelude.{◌≡◌, ℕ, ◌<◌, List, length, Option, Some, None}
-use Rattle.dg_volume.specs.Store.{Store, Held, App, held}
+-- What is told of a store: without the pages.
+use Rattle.std.specs.Prelude.{length, Option, Some, None}
+use Rattle.dg_volume.specs.Store.{Held, App}
 use Rattle.dg_volume.specs.declared.snapshot.Program.{Program}
 use Rattle.dg_volume.specs.declared.snapshot.Program.TheVariants.{Blank, Set}
 use Rattle.dg_volume.specs.declared.snapshot.SlotState.{SlotState}
 use Rattle.dg_volume.specs.declared.snapshot.SlotState.TheVariants.{Dirty, Live}
-use Rattle.dg_volume.specs.declared.volume.Kept.{Kept}
+use Rattle.dg_volume.specs.declared.kept.Kept.{Kept}
 
 -- what is told of an image that is kept: version, pages, how many of them are complete, the CRC of page 0
+abbrev pub told_held : Held → Kept
+told_held h = record { version = h.version; pages = h.pages; done = length h.complete; crc = h.crc }
+
 abbrev pub told : Option Held → Option Kept
 told None = None
-told (Some h) = Some (record { version = h.version; pages = h.pages; done = length h.complete; crc = h.crc })
+told (Some h) = Some (told_held h)
 
 -- what is told of program memory
 abbrev pub program_told : Option App → Program

@@ -1,18 +1,86 @@
 //! A mounted volume.
-use crate::Snapshot;
+ghost use Rattle.std.specs.Prelude.{◌≡◌, ◌↔◌, ◌≤◌, ℕ, Option, IfOk, OnOk, IsErrOf, IsTrue, IsSomeAnd};
+ghost use Rattle.dg_nor.specs.Device.{Ran, Halts};
+ghost use Rattle.dg_volume.specs.Acts.{MountEnds};
+ghost use Rattle.dg_volume.specs.Store.{App, AppStands, Stands, IsNoVolume};
+ghost use Rattle.dg_volume.specs.Told.{program_told};
+ghost use Rattle.dg_volume.specs.Mounted.{snapshot_of, kept_at, IsMounted};
 
-/// What is kept of an image: its version, its page count, how many pages are complete, and the CRC of page 0.
-#[derive(Clone, Copy, Debug, PartialEq, Eq)]
-pub struct Kept {
-    pub version: u32,
-    pub pages: u8,
-    pub done: u8,
-    pub crc: u16,
-}
+use crate::control::read_snapshot;
+use crate::descriptor::read_descriptor;
+use crate::layout::PROGRAM;
+use crate::slots::mount_slots;
+use crate::{Kept, MountFault, Program, Snapshot};
+use dg_nor::Nor;
 
 /// A volume as it was mounted. It stands for the chip that it was mounted from.
 #[derive(Drop)]
 pub struct Volume {
-    snapshot: Snapshot,
-    kept: [Option<Kept>; 4],
+    pub(crate) snapshot: Snapshot,
+    pub(crate) kept: [Option<Kept>; 4],
+}
+
+impl Volume {
+    /// Mounts a chip, whatever its bytes are.
+    pub fn mount<N: Nor>(nor: &mut N) -> Result<Volume, MountFault>
+        ensures mounted { IfOk result (IsMounted (N.device nor.old).image) }
+        ensures not_a_volume { IsErrOf result MountFault.NotAVolume → IsNoVolume (N.device nor.old).image }
+
+        ensures same_image { (N.device nor.new).image ≡ (N.device nor.old).image }
+        ensures ran { OnOk result (Ran 0 (N.device nor.old) (N.device nor.new)) }
+        ensures refused { IsErrOf result MountFault.NotAVolume → Ran 0 (N.device nor.old) (N.device nor.new) }
+        ensures stopped { IsErrOf result MountFault.Stopped → Halts 0 0 (N.device nor.old) (N.device nor.new) }
+    {
+        let snapshot = read_snapshot(nor)?;
+        let kept = mount_slots(nor, &snapshot.slots)?;
+        if !is_golden(&kept[0]) {
+            return Err(MountFault::NotAVolume);
+        }
+        mount_program(nor, snapshot.program)?;
+        Ok(Volume { snapshot, kept })
+    }
+
+    /// What the volume commits as a whole.
+    pub fn snapshot(&self) -> Snapshot
+        ensures { result ≡ snapshot_of self.now }
+    {
+        self.snapshot
+    }
+
+    /// What is kept of an image.
+    pub fn kept(&self, image: u8) -> Option<Kept>
+        requires { image ≤ 3 }
+        ensures { result ≡ kept_at self.now image }
+    {
+        self.kept[usize::from(image)]
+    }
+}
+
+/// Whether this is golden: version 1, and whole.
+fn is_golden(kept: &Option<Kept>) -> bool
+    ensures { IsTrue result ↔ IsSomeAnd kept.now (λ k. (k.version ≡ 1) × (k.done ≡ k.pages)) }
+{
+    match kept {
+        None => false,
+        Some(kept) => kept.version == 1 && kept.done == kept.pages,
+    }
+}
+
+/// Looks whether program memory that is Set begins with its descriptor.
+fn mount_program<N: Nor>(nor: &mut N, program: Program) -> Result<(), MountFault>
+    ensures app { OnOk result ((app : Option App) × AppStands (N.device nor.old).image program app × (program ≡ program_told app)) }
+    ensures none { IsErrOf result MountFault.NotAVolume → (app : Option App) → AppStands (N.device nor.old).image program app → ⊥ }
+    ensures ends { MountEnds result (N.device nor.old) (N.device nor.new) }
+{
+    let Program::Set { image, version } = program else {
+        return Ok(());
+    };
+    let Some(first) = read_descriptor(nor, PROGRAM)? else {
+        return Err(MountFault::NotAVolume);
+    };
+    if first.descriptor.image == image && first.descriptor.version == version {
+        Ok(())
+    } else {
+        Err(MountFault::NotAVolume)
+    }
 }

@@ -1,0 +1,112 @@
+-- Acts that follow one another.
+use Rattle.std.proofs.Common.{◌≡◌, ℕ, ◌+◌, ◌-◌, ◌^◌, ◌≤◌, ◌⊎◌, min, true, false, Result, Ok, Err, OnOk, OnErr, Some, refl, sym, ap, subst, ◌∙◌, inl, inr, ⊎_elim, arith}
+use Rattle.dg_words.specs.Counts.{Rose}
+use Rattle.dg_nor.specs.declared.device.Stopped.{Stopped}
+use Rattle.dg_nor.specs.Device.{Device, Ran, Halts, more, NotFallen}
+use Rattle.dg_nor.proofs.DeviceLemmas.{more-zero, NotFallen_then, Ran-none, Ran_then}
+use Rattle.dg_volume.specs.Acts.{Looked, Halted, Worked, Stops, ReadEnds, ActEnds, MountEnds, StartEnds}
+use Rattle.dg_volume.specs.declared.faults.MountFault.{MountFault}
+use Rattle.dg_volume.specs.declared.faults.MountFault.TheVariants as mount
+use Rattle.dg_volume.specs.declared.faults.StartFault.{StartFault}
+use Rattle.dg_volume.specs.declared.faults.StartFault.TheVariants as start
+
+-- a device that was not stopped
+awake : {P : Type 0} (d : Device) → d.stopped ≡ false → d.stopped ≡ true → P
+awake d e h = absurd cc
+
+-- ---- one call
+
+pub Looked-read : {a b : Device} → b.image ≡ a.image → Ran 0 a b → a.stopped ≡ false → Looked a b
+Looked-read {a} same ran e = record { same_image = same; ran = ran; still = awake a e }
+
+pub Worked-ran : {n : ℕ} {a b : Device} → Ran n a b → a.stopped ≡ false → Worked a b
+Worked-ran {n} {a} ran e = record { operations = n; ran = ran; still = awake a e }
+
+pub Halted-read : {a b : Device} → b.image ≡ a.image → Halts 0 0 a b → Halted a b
+Halted-read same h = record { same_image = same; halts = h }
+
+pub Stops-halts : {n d : ℕ} {a b : Device} → Halts n d a b → Stops a b
+Stops-halts h = record { stopped = h.stopped; cause = h.cause; unchanged = h.unchanged; faults = h.faults; names = h.names }
+
+-- how a program or an erase ends
+pub act_ends : {T : Type 0} (n : ℕ) (r : Result T Stopped) (a b : Device) → OnOk r (Ran n a b) → OnOk r (a.stopped ≡ false) → OnErr r (Halts n 0 a b) → ActEnds r a b
+act_ends n (Ok x) a b ran e h = Worked-ran ran e
+act_ends n (Err x) a b ran e h = Stops-halts h
+
+pub Worked-looked : {a b : Device} → Looked a b → Worked a b
+Worked-looked l = record { operations = 0; ran = l.ran; still = l.still }
+
+pub Stops-halted : {a b : Device} → Halted a b → Stops a b
+Stops-halted h = Stops-halts h.halts
+
+-- ---- no call
+
+pub Looked-none : (d : Device) → Looked d d
+Looked-none d = record { same_image = refl; ran = Ran-none d; still = λ _. refl }
+
+pub Worked-none : (d : Device) → Worked d d
+Worked-none d = record { operations = 0; ran = Ran-none d; still = λ _. refl }
+
+-- ---- calls that follow one another
+
+still_then : (a b c : Device) → (a.stopped ≡ true → b ≡ a) → (b.stopped ≡ true → c ≡ b) → a.stopped ≡ true → c ≡ a
+still_then a b c f g h = let e = f h in g (ap (λ (d : Device). d.stopped) e ∙ h) ∙ e
+
+pub Looked_then : {a b c : Device} → Looked a b → Looked b c → Looked a c
+Looked_then {a} {b} {c} p q = record { same_image = q.same_image ∙ p.same_image; ran = Ran_then p.ran q.ran; still = still_then a b c p.still q.still }
+
+pub Worked_then : {a b c : Device} → Worked a b → Worked b c → Worked a c
+Worked_then {a} {b} {c} p q = record { operations = p.operations + q.operations; ran = Ran_then p.ran q.ran; still = still_then a b c p.still q.still }
+
+rose_after : (a b c : ℕ) → a ≤ b → b ≤ c → Rose b c → Rose a c
+rose_after a b c h l r = omega arith
+
+cause_after : (a b c : Device) → b.stopped ≡ a.stopped → a.faults ≤ b.faults → b.faults ≤ c.faults → (b.stopped ≡ true) ⊎ Rose b.faults c.faults → (a.stopped ≡ true) ⊎ Rose a.faults c.faults
+cause_after a b c e h l (inl s) = inl (sym e ∙ s)
+cause_after a b c e h l (inr r) = inr (rose_after a.faults b.faults c.faults h l r)
+
+pub Stops_after : {a b c : Device} → Worked a b → Stops b c → Stops a c
+Stops_after {a} {b} {c} p q = record {
+  stopped = q.stopped;
+  cause = cause_after a b c p.ran.stopped p.ran.faults q.faults q.cause;
+  unchanged = still_then a b c p.still q.unchanged;
+  faults = omega (arith, p.ran.faults, q.faults);
+  names = q.names ∙ p.ran.names;
+}
+
+pub Halted_after : {a b c : Device} → Looked a b → Halted b c → Halted a c
+Halted_after {a} {b} {c} p q = record {
+  same_image = q.same_image ∙ p.same_image;
+  halts = record {
+    within = q.halts.within;
+    left = p.ran.left ∙ more-zero b.left ∙ q.halts.left;
+    stopped = q.halts.stopped;
+    cause = cause_after a b c p.ran.stopped p.ran.faults q.halts.faults q.halts.cause;
+    unchanged = still_then a b c p.still q.halts.unchanged;
+    blew = λ h. ⊎_elim (λ s. inl (sym p.ran.blown ∙ s)) (λ w. inr w) (q.halts.blew h);
+    blown = λ h. q.halts.blown (p.ran.blown ∙ h);
+    faults = omega (arith, p.ran.faults, q.halts.faults);
+    taken = NotFallen_then a.taken b.taken c.taken p.ran.taken q.halts.taken;
+    names = q.halts.names ∙ p.ran.names;
+  };
+}
+
+-- ---- how a call ends behind others that were done
+
+pub read_after : {T : Type 0} (r : Result T Stopped) (a b c : Device) → Looked a b → ReadEnds r b c → ReadEnds r a c
+read_after (Ok x) a b c p q = Looked_then p q
+read_after (Err e) a b c p q = Halted_after p q
+
+pub act_after : {T : Type 0} (r : Result T Stopped) (a b c : Device) → Worked a b → ActEnds r b c → ActEnds r a c
+act_after (Ok x) a b c p q = Worked_then p q
+act_after (Err e) a b c p q = Stops_after p q
+
+pub mount_after : {T : Type 0} (r : Result T MountFault) (a b c : Device) → Looked a b → MountEnds r b c → MountEnds r a c
+mount_after (Ok x) a b c p q = Looked_then p q
+mount_after (Err mount.NotAVolume) a b c p q = Looked_then p q
+mount_after (Err mount.Stopped) a b c p q = Halted_after p q
+
+-- a call that reads is an act
+pub act_of_read : {T : Type 0} (r : Result T Stopped) (a b : Device) → ReadEnds r a b → ActEnds r a b
+act_of_read (Ok x) a b h = Worked-looked h
+act_of_read (Err e) a b h = Stops-halted h

@@ -1,0 +1,7 @@
+pub mod PlaceLemmas
+pub mod HeaderLemmas
+pub mod ActLemmas
+pub mod ChipLemmas
+pub mod PageLemmas
+pub mod GoldenLemmas
+pub mod OneStore

@@ -1,0 +1,29 @@
+-- What the answer of a start says.
+use Rattle.std.specs.Prelude.{◌≡◌, ℕ, List, length, Option, Some}
+use Rattle.dg_base.specs.Crc.{crc_of}
+use Rattle.dg_object.specs.Object.{content}
+use Rattle.dg_object.specs.Descriptor.{Details, IsDescriptor}
+use Rattle.dg_volume.specs.Store.{Store, Stands, page_in, program}
+use Rattle.dg_volume.specs.Start.{Start, start_of}
+use Rattle.dg_volume.specs.Mounted.{Tells}
+use Rattle.dg_volume.specs.declared.starting.Started.{Started}
+
+-- The answer is what a start of this store gives, and the chip is as that start leaves it.
+pub record Starts (s : Store) (new : List ℕ) (told : Started) : Type 0 where
+  pub start : Start
+  pub chosen : start_of s ≡ Some start
+  pub image : told.image ≡ start.image
+  pub version : told.version ≡ start.version
+  pub pages : told.pages ≡ length start.pages
+  -- the chip stands for the store after it, program memory holds the pages that run, and the volume tells that store
+  pub after : Stands new start.after
+  pub runs : program new told.pages ≡ start.pages
+  pub tells : Tells told.volume start.after
+  -- the first page that runs is their descriptor, and the CRC is that of the image's bytes
+  pub said : Details
+  pub described : IsDescriptor (page_in new 3) said
+  pub same_image : said.image ≡ told.image
+  pub same_version : said.version ≡ told.version
+  pub same_pages : said.pages ≡ told.pages
+  pub length : told.length ≡ said.length
+  pub crc : told.crc ≡ crc_of (content said.length start.pages)

@@ -1,0 +1,120 @@
+//! Formatting: a chip becomes a volume that keeps golden alone.
+ghost use Rattle.std.specs.Prelude.{◌≡◌, ◌↔◌, ◌⊎◌, ℕ, ◌+◌, ◌<◌, ◌≤◌, IsTrue, OnOk, IsErrOf, length};
+ghost use Rattle.dg_words.specs.Cells.{overwritten};
+ghost use Rattle.dg_base.specs.Texts.{names};
+ghost use Rattle.dg_nor.specs.Chip.{sector, blank, Keeps};
+ghost use Rattle.dg_object.specs.Object.{pages_for, page_of_row};
+ghost use Rattle.dg_volume.specs.Acts.{ActEnds, Worked, Stops};
+ghost use Rattle.dg_volume.specs.Header.{header_bytes};
+ghost use Rattle.dg_volume.specs.Pages.{page_in};
+ghost use Rattle.dg_volume.specs.Snapshot.{IsFresh};
+ghost use Rattle.dg_volume.specs.Store.{KeepsImage, Stands, fresh, golden_row, held_whole};
+
+use crate::control::commit;
+use crate::header::{gates_of, header_bytes};
+use crate::layout::{GATES, header_sector, page_sector};
+use crate::{FormatFault, Order, Program, SlotState, Snapshot, Volume};
+use dg_nor::{Nor, Stopped, erase_sector, program_in};
+use dg_object::{Profile, SizeFault, check_size, page_of, profile_of};
+
+/// The image number of golden.
+const GOLDEN: u8 = 0;
+
+/// The one version of golden.
+const GOLDEN_VERSION: u32 = 1;
+
+impl Volume {
+    /// Makes the chip a volume that keeps golden alone: with this name, of 1 to 70,656 bytes. `used` commits are
+    /// told as spent, which is 0 for now.
+    pub fn format<N: Nor>(nor: &mut N, golden: &[u8], name: &[u8], used: u32) -> Result<(), FormatFault>
+        requires named { IsTrue (names name.now) }
+        requires unused { used ≡ 0 }
+
+        ensures formatted { OnOk result (Stands (N.device nor.new).image (fresh name.now golden.now)) }
+        ensures worked { OnOk result (Worked (N.device nor.old) (N.device nor.new)) }
+
+        ensures empty { (result ≡ Err FormatFault.Empty) ↔ (length golden.now ≡ 0) }
+        ensures too_large { (result ≡ Err FormatFault.TooLarge) ↔ (70656 < length golden.now) }
+        ensures refused { IsErrOf result FormatFault.Empty ⊎ IsErrOf result FormatFault.TooLarge
+            → N.device nor.new ≡ N.device nor.old }
+        ensures stopped { IsErrOf result FormatFault.Stopped → Stops (N.device nor.old) (N.device nor.new) }
+    {
+        prove!(used == 0);
+        match check_size(golden.len()) {
+            Ok(()) => {}
+            Err(SizeFault::Empty) => return Err(FormatFault::Empty),
+            Err(SizeFault::TooLarge) => return Err(FormatFault::TooLarge),
+        }
+        write_golden(nor, golden, name)?;
+        Ok(commit(nor, &fresh_snapshot())?)
+    }
+}
+
+/// What a formatted chip commits.
+fn fresh_snapshot() -> Snapshot
+    ensures { IsFresh result }
+{
+    Snapshot {
+        slots: [
+            SlotState::Live {
+                version: GOLDEN_VERSION,
+            },
+            SlotState::Dirty,
+            SlotState::Dirty,
+            SlotState::Dirty,
+        ],
+        program: Program::Blank,
+        order: Order {
+            number: 0,
+            image: 0,
+            version: 0,
+        },
+        waived: false,
+        gesture: 0,
+    }
+}
+
+/// Writes golden into its slot, whole.
+fn write_golden<N: Nor>(nor: &mut N, golden: &[u8], name: &[u8]) -> Result<(), Stopped>
+    requires some { 1 ≤ length golden.now }
+    requires fits { length golden.now ≤ 70656 }
+    requires named { IsTrue (names name.now) }
+    ensures kept { OnOk result (KeepsImage (N.device nor.new).image 0 1 (held_whole (golden_row name.now golden.now))) }
+    ensures keeps { Keeps 68 134 (N.device nor.old).image (N.device nor.new).image }
+    ensures ends { ActEnds result (N.device nor.old) (N.device nor.new) }
+{
+    let profile = profile_of(golden, GOLDEN, GOLDEN_VERSION, name);
+    write_header(nor, &profile)?;
+    for p in 0..profile.pages {
+        write_page(nor, golden, name, p)?;
+    }
+    program_in(nor, header_sector(GOLDEN), GATES, &gates_of(profile.pages))
+}
+
+/// Writes the header of golden's slot, without a complete page.
+fn write_header<N: Nor>(nor: &mut N, profile: &Profile) -> Result<(), Stopped>
+    ensures header { OnOk result (sector (N.device nor.new).image 68
+        ≡ overwritten (blank 2048) 0 (header_bytes 0 1 profile.now.pages profile.now.crc)) }
+    ensures keeps { Keeps 68 69 (N.device nor.old).image (N.device nor.new).image }
+    ensures ends { ActEnds result (N.device nor.old) (N.device nor.new) }
+{
+    let header = header_bytes(GOLDEN, GOLDEN_VERSION, profile.pages, profile.crc);
+    erase_sector(nor, header_sector(GOLDEN))?;
+    program_in(nor, header_sector(GOLDEN), 0, &header)
+}
+
+/// Writes a page of golden.
+fn write_page<N: Nor>(nor: &mut N, golden: &[u8], name: &[u8], p: u8) -> Result<(), Stopped>
+    requires some { 1 ≤ length golden.now }
+    requires fits { length golden.now ≤ 70656 }
+    requires named { IsTrue (names name.now) }
+    requires page { p < pages_for (length golden.now) }
+    ensures page { OnOk result (page_in (N.device nor.new).image (69 + p) ≡ page_of_row (golden_row name.now golden.now) p) }
+    ensures keeps { Keeps (69 + p) (70 + p) (N.device nor.old).image (N.device nor.new).image }
+    ensures ends { ActEnds result (N.device nor.old) (N.device nor.new) }
+{
+    let mut page = [0; 1104];
+    page_of(golden, GOLDEN, GOLDEN_VERSION, name, p, &mut page);
+    erase_sector(nor, page_sector(GOLDEN, p))?;
+    program_in(nor, page_sector(GOLDEN, p), 0, &page)
+}
