@@ -3,3 +3,4 @@ pub mod HeaderLemmas
 pub mod ActLemmas
 pub mod ChipLemmas
 pub mod PageLemmas
+pub mod SoundLemmas
