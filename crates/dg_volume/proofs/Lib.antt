@@ -4,3 +4,4 @@ pub mod ActLemmas
 pub mod ChipLemmas
 pub mod PageLemmas
 pub mod SoundLemmas
+pub mod DescriptorLemmas
