@@ -5,3 +5,4 @@ pub mod ChipLemmas
 pub mod PageLemmas
 pub mod SoundLemmas
 pub mod DescriptorLemmas
+pub mod SlotLemmas
