@@ -6,3 +6,5 @@ pub mod PageLemmas
 pub mod SoundLemmas
 pub mod DescriptorLemmas
 pub mod SlotLemmas
+pub mod StoreLemmas
+pub mod MountLemmas
