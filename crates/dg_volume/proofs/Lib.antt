@@ -8,3 +8,4 @@ pub mod DescriptorLemmas
 pub mod SlotLemmas
 pub mod StoreLemmas
 pub mod MountLemmas
+pub mod GoldenLemmas
