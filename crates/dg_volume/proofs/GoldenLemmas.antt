@@ -1,63 +1,48 @@
--- An image that is kept whole is sound.
-use Rattle.std.proofs.Common.{◌≡◌, ℕ, zero, suc, ◌+◌, ◌<◌, ◌≤◌, Bool, true, false, List, [], ◌∷◌, length, get_or, Some, refl, sym, ap, subst, ◌∙◌, eq-eqb, arith}
-use Rattle.std.specs.Prelude.{◌==◌, ◌&&◌}
-use Rattle.std.specs.List.{list_all, range_with_len}
+-- The rows of golden.
+use Rattle.std.proofs.Common.{◌≡◌, ℕ, ◌+◌, ◌*◌, ◌^◌, ◌<◌, ◌≤◌, List, length, get_or, arith, refl, ap, ◌∙◌, IsTrue, subst, sym}
+use Rattle.std.proofs.lemmas.List.{same_lists}
+use Rattle.dg_words.specs.Cells.{AreBytes, part}
+use Rattle.dg_words.proofs.ListLemmas.{length-tabulate, get_or-tabulate}
 use Rattle.dg_base.specs.Crc.{crc_of}
-use Rattle.dg_object.specs.Object.{Row, IsRow, pages_for, data_page, descriptor_page, object}
-use Rattle.dg_object.specs.Descriptor.{IsDescriptor, details, crc_in}
-use Rattle.dg_object.proofs.PageLemmas.{page_of_row-first, page_of_row-data}
-use Rattle.dg_object.proofs.RowLemmas.{descriptor_of_row, crc_in-descriptor_page, content-object, length-object, get_or-object}
-use Rattle.dg_volume.specs.Store.{Store, Held, held, held_whole}
-use Rattle.dg_volume.specs.Start.{pages_sound, sound}
-use Rattle.dg_volume.specs.GoldenLaws.{GoldenLaws}
+use Rattle.dg_base.specs.Texts.{names}
+use Rattle.dg_nor.specs.Chip.{sector}
+use Rattle.dg_object.specs.Object.{Row, IsRow, object, pages_for, page_of_row, descriptor_page}
+use Rattle.dg_object.specs.Descriptor.{IsDescriptor, details}
+use Rattle.dg_object.proofs.PageLemmas.{page_of_row-first}
+use Rattle.dg_object.proofs.RowLemmas.{AreBytes-page_of_row, AreBytes-descriptor_page, crc_of-small, pages_for-some, pages_for-most, length-object, get_or-object, descriptor_of_row}
+use Rattle.dg_volume.specs.Header.{header_bytes, gates_of}
+use Rattle.dg_volume.specs.Pages.{page_in, slot_pages}
+use Rattle.dg_volume.specs.Store.{KeepsImage, golden_row, held_whole}
 
--- ---- tests of each page
+pub golden_is_row : (name bytes : List ℕ) → IsTrue (names name) → 1 ≤ length bytes → length bytes ≤ 70656 → AreBytes bytes → IsRow (golden_row name bytes)
+golden_is_row name bytes named some fits small = record { image = omega arith; version = omega arith; version_fits = omega arith; name = named; some = some; fits = fits; bytes = small }
 
-both : (a b : Bool) → a ≡ true → b ≡ true → a && b ≡ true
-both true b p q = q
-both false b p q = absurd cc
+pub golden_bytes : (name bytes page : List ℕ) (p : ℕ) → IsRow (golden_row name bytes) → page ≡ page_of_row (golden_row name bytes) p → AreBytes page
+golden_bytes name bytes page p row e = subst (λ (x : List ℕ). AreBytes x) (sym e) (AreBytes-page_of_row (golden_row name bytes) p row)
 
-all_in_range : (p : ℕ → Bool) (a n : ℕ) → ((k : ℕ) → a ≤ k → k < a + n → p k ≡ true) → list_all p (range_with_len a n) ≡ true
-all_in_range p a zero h = refl
-all_in_range p a (suc n) h = both (p a) (list_all p (range_with_len (a + 1) n)) (h a (omega arith) (omega arith)) (all_in_range p (a + 1) n (λ k low high. h k (omega arith) (omega arith)))
+-- ---- golden, kept whole
 
-pages_sound_from : (crc : ℕ) (pages : List (List ℕ)) → 1 ≤ length pages → crc_of (get_or pages 0 []) ≡ crc
-    → ((p : ℕ) → 1 ≤ p → p < length pages → crc_of (get_or pages p []) ≡ crc_in (get_or pages 0 []) p) → pages_sound crc pages ≡ true
-pages_sound_from crc [] some first each = absurd (omega arith)
-pages_sound_from crc (page ∷ pages) some first each =
-    both (crc_of page == crc) (list_all (λ p. crc_of (get_or (page ∷ pages) p []) == crc_in page p) (range_with_len 1 (length pages)))
-    (eq-eqb (crc_of page) crc first)
-    (all_in_range (λ p. crc_of (get_or (page ∷ pages) p []) == crc_in page p) 1 (length pages)
-    (λ p low high. eq-eqb (crc_of (get_or (page ∷ pages) p [])) (crc_in page p) (each p low (omega arith))))
-
--- ---- the pages of a row
-
-first_page : (row : Row) → get_or (object row) 0 [] ≡ descriptor_page row
-first_page row = get_or-object row 0 [] (omega arith) ∙ page_of_row-first row 0 refl
-
-other_page : (row : Row) (p : ℕ) → 1 ≤ p → p < pages_for (length row.bytes) → get_or (object row) p [] ≡ data_page row.bytes p
-other_page row p low high = get_or-object row p [] high ∙ page_of_row-data row p low
-
-object_is_sound : (row : Row) → IsRow row → pages_sound (crc_of (descriptor_page row)) (object row) ≡ true
-object_is_sound row is =
-    let count = length-object row in
-    pages_sound_from (crc_of (descriptor_page row)) (object row) (omega arith) (ap crc_of (first_page row))
-    (λ p low high.
-    let within : p < pages_for (length row.bytes) = omega arith in
-    ap crc_of (other_page row p low within) ∙ sym (crc_in-descriptor_page row p is low within) ∙ ap (λ page. crc_in page p) (sym (first_page row)))
-
--- ---- what is kept
-
-kept_is_sound : (s : Store) (i : ℕ) (h : Held) → held s i ≡ Some h → pages_sound h.crc h.complete ≡ true → sound s i ≡ true
-kept_is_sound s i h e is = rw e is
-
--- an image that is kept whole is sound
-pub whole_is_sound : (row : Row) → IsRow row → (s : Store) (i : ℕ) → held s i ≡ Some (held_whole row) → sound s i ≡ true
-whole_is_sound row is s i e = kept_is_sound s i (held_whole row) e (object_is_sound row is)
-
-pub golden_laws : (row : Row) → IsRow row → row.image ≡ 0 → row.version ≡ 1 → GoldenLaws row
-golden_laws row is _ _ = record {
-  is_sound = λ s e. whole_is_sound row is s 0 e;
-  described = subst (λ page. IsDescriptor page (details row)) (sym (first_page row)) (descriptor_of_row row is);
-  bytes = content-object row;
-}
+pub golden_keeps : (c : List ℕ) (row : Row) (pages crc : ℕ) (gates : List ℕ) → IsRow row → pages ≡ pages_for (length row.bytes) → crc ≡ crc_of (descriptor_page row)
+  → part (sector c 68) 0 10 ≡ header_bytes row.image row.version pages crc → part (sector c 68) 16 9 ≡ gates → gates ≡ gates_of pages → row.image ≡ 0
+  → ((q : ℕ) → q < pages → page_in c (69 + q) ≡ page_of_row row q) → KeepsImage c 0 row.version (held_whole row)
+golden_keeps c row pages crc gates is ep ec front cleared eg image stored =
+    let n = pages_for (length row.bytes) in
+    let long : length (object row) ≡ n = length-object row in
+    let k = crc_of (descriptor_page row) in
+    let small : k < 2 ^ 16 = crc_of-small (descriptor_page row) (AreBytes-descriptor_page row is) in
+    let some : 2 ≤ n = pages_for-some (length row.bytes) is.some in
+    let most : n ≤ 65 = pages_for-most (length row.bytes) is.fits in
+    let spelled : part (sector c 68) 0 10 ≡ header_bytes 0 row.version n k =
+        front ∙ ap (λ x. header_bytes x row.version pages crc) image ∙ ap (λ x. header_bytes 0 row.version x crc) ep ∙ ap (header_bytes 0 row.version n) ec in
+    let first : page_in c 69 ≡ descriptor_page row = let zero : 69 ≡ 69 + 0 = omega arith in ap (page_in c) zero ∙ stored 0 (omega arith) ∙ page_of_row-first row 0 refl in
+    record {
+      same_version = refl;
+      header = record { spelled = spelled; cleared = cleared ∙ eg ∙ ap gates_of (ep ∙ sym long); some = some; most = most; within = omega (arith, long); crc_fits = small };
+      stored = same_lists (object row) (slot_pages c 0 (length (object row))) (sym (length-tabulate (length (object row)) (λ p. page_in c (69 + 66 * 0 + p)))) (λ q d h.
+        get_or-object row q d (omega (arith, long))
+        ∙ sym (get_or-tabulate (length (object row)) q (λ p. page_in c (69 + 66 * 0 + p)) d h ∙ stored q (omega (arith, long))));
+      first = λ _. record {
+        same_crc = ap crc_of first;
+        described = (details row, subst (λ (x : List ℕ). IsDescriptor x (details row)) (sym first) (descriptor_of_row row is), image, refl, refl);
+      };
+    }

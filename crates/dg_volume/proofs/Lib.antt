@@ -3,5 +3,13 @@ pub mod HeaderLemmas
 pub mod ActLemmas
 pub mod ChipLemmas
 pub mod PageLemmas
+pub mod SoundLemmas
+pub mod DescriptorLemmas
+pub mod SlotLemmas
+pub mod StoreLemmas
+pub mod MountLemmas
 pub mod GoldenLemmas
+pub mod KeptLemmas
+pub mod FreshLemmas
+pub mod WholeLemmas
 pub mod OneStore

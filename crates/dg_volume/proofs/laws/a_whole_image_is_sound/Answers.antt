@@ -1,4 +1,4 @@
-use Rattle.dg_volume.proofs.GoldenLemmas.{whole_is_sound, golden_laws}
+use Rattle.dg_volume.proofs.WholeLemmas.{whole_is_sound, golden_laws}
 use Rattle.dg_volume.proofs.laws.a_whole_image_is_sound.Goals as goal
 
 pub returns : goal.returns
