@@ -1,0 +1,41 @@
+//! `deluge` reprograms a network of motes over many hops. `run` of `dg_cli` does all that it does.
+#![tactic(auto)]
+
+use dg_base::{Status, StdSink, StdSource};
+use dg_cli::run;
+use dg_nor::Board;
+use std::env;
+use std::process::ExitCode;
+
+/// The words after the program's name. None where memory runs out.
+fn words(rt: &HostRuntime) -> Option<Vec<String>> {
+    let mut words = Vec::new(rt.alloc());
+    for word in env::args(rt).ok()?.skip(1) {
+        words.push(word).ok()?;
+    }
+    Some(words)
+}
+
+/// One chip in memory, for the one mote. None where memory runs out.
+fn boards(rt: &HostRuntime) -> Option<Vec<Board>> {
+    let mut boards = Vec::new(rt.alloc());
+    boards.push(Board::memory(rt.alloc()).ok()?).ok()?;
+    Some(boards)
+}
+
+/// Runs the command over standard input and output.
+fn status(rt: &HostRuntime) -> Status {
+    let Some(words) = words(rt) else {
+        return Status::Memory;
+    };
+    let Some(mut boards) = boards(rt) else {
+        return Status::Memory;
+    };
+    let mut input = StdSource::new(rt.stdin());
+    let mut out = StdSink::new(rt.stdout());
+    run(rt.alloc(), &words, &mut input, &mut out, &mut boards)
+}
+
+fn main(rt: HostRuntime) -> ExitCode {
+    ExitCode::from(status(&rt).code())
+}

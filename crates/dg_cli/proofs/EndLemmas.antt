@@ -1,0 +1,314 @@
+-- How a replay ends, by the ending that the rules give to its script.
+use Rattle.std.proofs.Common.{◌≡◌, ◌≢◌, ◌⊎◌, inl, inr, ℕ, zero, suc, ◌+◌, ◌<◌, ◌≤◌, Bool, true, false, ◌||◌, ◌&&◌, ◌==◌, not, List, [], ◌∷◌, ◌++◌, length, map, take, drop, get_or, ◌-◌, length-take, min, refl, append-nil, append_assoc, ap, sym, ◌∙◌, subst, arith}
+use Rattle.std.specs.Prelude.{Option, Some, None, Result, Ok, Err, nat_lt, if◌then◌else◌}
+use Rattle.std.specs.Str.Lines.{lines}
+use Rattle.std.specs.List.{flat_map, list_any, AllByRecursion}
+use Rattle.std.proofs.lemmas.List.{take-append-drop, take_more, take-take}
+use Rattle.std.proofs.Math.Seq.{take-length}
+use Rattle.std.proofs.lemmas.Bool.Decides.{nat_tests}
+use Rattle.dg_words.specs.Counts.{Rose}
+use Rattle.dg_base.specs.Outside.{Puts, PutsFront}
+use Rattle.dg_base.proofs.OutsideLemmas.{Puts-join, Puts-nil}
+use Rattle.dg_base.specs.declared.answers.Status.{Status}
+use Rattle.dg_base.specs.declared.answers.Status.TheVariants as status
+use Rattle.dg_nor.specs.Device.{Device}
+use Rattle.dg_cli.specs.Script.{Script, script_from, end_fault}
+use Rattle.dg_cli.specs.Report.{report_text}
+use Rattle.dg_cli.specs.World.{World, Played, last_lines}
+use Rattle.dg_cli.specs.Boards.{BoardsStand, BoardStopped}
+use Rattle.dg_cli.specs.Player.{Stood}
+use Rattle.dg_cli.specs.Ending.{Ending, Ends, NoBoards, FaultAt, Over, is_motes, by_fault, ending_from, ending_line, status_of, up_to, whole_lines, used, is_over, script_of, ending_of}
+use Rattle.dg_cli.specs.Outcome.{IsFront, line_played, played_text, closing, AllPlayed, IsWholeReport, IsFrontOfReport, Wrote, Boards, IsCaused}
+use Rattle.dg_cli.specs.Replaying.{StopEnds, Reached, PlayedFront, PlayedUpTo, LinesAnswer, ReadyToEnd, EndsWith, FinishesWith, ScriptReplayed}
+use Rattle.dg_cli.specs.declared.states.Player.{Player}
+use Rattle.dg_cli.specs.declared.script.Place.{Place}
+use Rattle.dg_cli.specs.declared.script.Place.TheVariants.{First, Second, Later}
+use Rattle.dg_cli.specs.declared.script.Line.{Line}
+use Rattle.dg_cli.specs.declared.script.Line.TheVariants.{Motes}
+use Rattle.dg_cli.specs.declared.stop.Stop.{Stop}
+use Rattle.dg_cli.specs.declared.stop.Stop.TheVariants.{Memory, BadInput, WriteFault, FlashFault, NotAVolume, NoBoard, NoImage}
+
+wrote_whole : (e : Ending) (played : List Played) (rest : List Line) (last : Option World) (text : List ℕ) → IsWholeReport e played rest last text → Wrote (status_of e) e played rest last text
+wrote_whole Ends played rest last text whole = whole
+wrote_whole NoBoards played rest last text whole = whole
+wrote_whole (FaultAt line) played rest last text whole = whole
+wrote_whole Over played rest last text whole = whole
+
+boards_of : (e : Ending) (last : Option World) (initial now : List Device) → BoardsStand last initial now → Boards (status_of e) last initial now
+boards_of Ends last initial now stand = stand
+boards_of NoBoards last initial now stand = stand
+boards_of (FaultAt line) last initial now stand = stand
+boards_of Over last initial now stand = stand
+
+caused_by : (e : Ending) (r w b : Type 0) → IsCaused (status_of e) e r w b
+caused_by Ends r w b = refl
+caused_by NoBoards r w b = refl
+caused_by (FaultAt line) r w b = refl
+caused_by Over r w b = refl
+
+-- the end of the report was written, or a front of it, or memory ran out
+pub ended : (result : Status) (script : Script) (e : Ending) (piece : List ℕ) (initial now : List Device) (before mid after : Option (List ℕ)) (failed worse : Type 0) → (failed → worse)
+    → ReadyToEnd script e piece initial now before mid → EndsWith result (status_of e) piece mid after failed → ScriptReplayed result script e initial now before after worse
+ended result script e piece initial now before mid after failed worse spread r (inl done) =
+    let all : IsWholeReport e r.played r.rest r.last (played_text r.played ++ piece) = record { all = r.all; told = ap (λ (xs : List ℕ). played_text r.played ++ xs) (sym r.line) } in
+    let made : ScriptReplayed (status_of e) script e initial now before after worse = record {
+      played = r.played; rest = r.rest; last = r.last; front = r.front;
+      text = played_text r.played ++ piece;
+      written = Puts-join before mid after _ _ r.told done.1;
+      report = wrote_whole e r.played r.rest r.last _ all;
+      boards = boards_of e r.last initial now r.boards;
+      caused = caused_by e ⊥ worse (BoardStopped initial now);
+    } in
+    subst (λ (s : Status). ScriptReplayed s script e initial now before after worse) (sym done.0) made
+ended result script e piece initial now before mid after failed worse spread r (inr (inl cut)) =
+    let k = cut.1.0 in
+    let made : ScriptReplayed status.WriteFault script e initial now before after worse = record {
+      played = r.played; rest = r.rest; last = r.last; front = r.front;
+      text = played_text r.played ++ take k piece;
+      written = Puts-join before mid after _ _ r.told cut.1.2;
+      report = record {
+        more = drop k piece;
+        front = inr (record {
+          all = r.all;
+          told = append_assoc (played_text r.played) (take k piece) (drop k piece) ∙ ap (λ (xs : List ℕ). played_text r.played ++ xs) (take-append-drop k piece ∙ sym r.line);
+        });
+      };
+      boards = r.boards;
+      caused = spread cut.2;
+    } in
+    subst (λ (s : Status). ScriptReplayed s script e initial now before after worse) (sym cut.0) made
+ended result script e piece initial now before mid after failed worse spread r (inr (inr memory)) =
+    let made : ScriptReplayed status.Memory script e initial now before after worse = record {
+      played = r.played; rest = r.rest; last = r.last; front = r.front;
+      text = played_text r.played;
+      written = subst (λ (o : Option (List ℕ)). Puts before o (played_text r.played)) (sym memory.1) r.told;
+      report = record { more = []; front = inl (append-nil (played_text r.played)) };
+      boards = r.boards;
+      caused = tt;
+    } in
+    subst (λ (s : Status). ScriptReplayed s script e initial now before after worse) (sym memory.0) made
+
+-- a front was played and reported, and more of its report may have been written
+pub front_only : (script : Script) (e : Ending) (initial now : List Device) (before after : Option (List ℕ)) (worse : Type 0) → PlayedFront script initial now before after → ScriptReplayed status.Memory script e initial now before after worse
+front_only script e initial now before after worse f =
+    record { played = f.played; rest = f.rest; last = f.last; front = f.front; text = f.text; written = f.told; report = record { more = f.more; front = inl f.whole }; boards = f.boards; caused = tt }
+
+front_cut : (script : Script) (e : Ending) (initial now : List Device) (before after : Option (List ℕ)) (worse : Type 0) → worse → PlayedFront script initial now before after → ScriptReplayed status.WriteFault script e initial now before after worse
+front_cut script e initial now before after worse rose f =
+    record { played = f.played; rest = f.rest; last = f.last; front = f.front; text = f.text; written = f.told; report = record { more = f.more; front = inl f.whole }; boards = f.boards; caused = rose }
+
+no_motes : (n : ℕ) (over : Bool) (script : Script) → (n ≡ 0 → list_any is_motes script.lines ≡ false) → ending_from n over script ≡ by_fault over script.fault
+no_motes zero over script none = ap (λ (b : Bool). if b then NoBoards else by_fault over script.fault) (none refl)
+no_motes (suc n) over script none =
+    let some : (suc n == 0) ≡ false = grind (arith, nat_tests) in
+    ap (λ (b : Bool). if b && list_any is_motes script.lines then NoBoards else by_fault over script.fault) some
+
+-- a line outside the grammar ends the script
+fault_ending : (n : ℕ) (over : Bool) (script : Script) (line : ℕ) → (n ≡ 0 → list_any is_motes script.lines ≡ false) → script.fault ≡ Some line → ending_from n over script ≡ FaultAt line
+fault_ending n over script line none fault = no_motes n over script none ∙ ap (λ (f : Option ℕ). by_fault over f) fault
+
+or_true : (b : Bool) → (b || true) ≡ true
+or_true true = refl
+or_true false = refl
+
+any_behind : (xs : List Line) (more : List Line) → list_any is_motes (xs ++ Motes ∷ more) ≡ true
+any_behind [] more = refl
+any_behind (x ∷ xs) more = ap (λ (b : Bool). is_motes x || b) (any_behind xs more) ∙ or_true (is_motes x)
+
+board_ending : (over : Bool) (script : Script) (initial : List Device) (played : List Line) (more : List Line) → initial ≡ [] → played ++ Motes ∷ more ≡ script.lines → ending_from (length initial) over script ≡ NoBoards
+board_ending over script initial played more empty lines =
+    let motes : list_any is_motes script.lines ≡ true = ap (λ (ls : List Line). list_any is_motes ls) (sym lines) ∙ any_behind played more in
+    ap (λ (ds : List Device). ending_from (length ds) over script) empty ∙ ap (λ (b : Bool). if b then NoBoards else by_fault over script.fault) motes
+
+-- the end of a replay that stopped
+pub stopped_ends : (stop : Stop) (result : Status) (script : Script) (ends over : Bool) (initial now : List Device) (before mid after : Option (List ℕ)) (failed later worse : Type 0) → (failed → worse) → (later → worse)
+    → LinesAnswer (Err stop) ends script initial now before mid failed → StopEnds stop result mid after later → ScriptReplayed result script (ending_from (length initial) over script) initial now before after worse
+stopped_ends Memory result script ends over initial now before mid after failed later worse spread widen f (same, told) =
+    subst (λ (s : Status). ScriptReplayed s script (ending_from (length initial) over script) initial now before after worse) (sym same)
+        (front_only script (ending_from (length initial) over script) initial now before after worse (subst (λ (o : Option (List ℕ)). PlayedFront script initial now before o) (sym told) f))
+stopped_ends (BadInput line) result script ends over initial now before mid after failed later worse spread widen f done =
+    let e = fault_ending (length initial) over script line f.there.3 f.there.1 in
+    let ready : ReadyToEnd script (FaultAt line) (ending_line (FaultAt line)) initial now before mid = record { played = f.played; rest = f.rest; last = f.last; front = f.front; told = f.told; boards = f.there.2; all = f.there.0; line = refl } in
+    subst (λ (x : Ending). ScriptReplayed result script x initial now before after worse) (sym e) (ended result script (FaultAt line) _ initial now before mid after later worse widen ready done)
+stopped_ends WriteFault result script ends over initial now before mid after failed later worse spread widen (rose, f) (same, told) =
+    subst (λ (s : Status). ScriptReplayed s script (ending_from (length initial) over script) initial now before after worse) (sym same)
+        (front_cut script (ending_from (length initial) over script) initial now before after worse (spread rose) (subst (λ (o : Option (List ℕ)). PlayedFront script initial now before o) (sym told) f))
+stopped_ends FlashFault result script ends over initial now before mid after failed later worse spread widen f (same, told) =
+    let made : ScriptReplayed status.FlashFault script (ending_from (length initial) over script) initial now before after worse = record {
+      played = f.played; rest = f.rest; last = f.last; front = f.front; text = played_text f.played;
+      written = subst (λ (o : Option (List ℕ)). Puts before o (played_text f.played)) (sym told) f.told;
+      report = refl; boards = f.there; caused = f.there;
+    } in
+    subst (λ (s : Status). ScriptReplayed s script (ending_from (length initial) over script) initial now before after worse) (sym same) made
+stopped_ends NotAVolume result script ends over initial now before mid after failed later worse spread widen never done = absurd never
+stopped_ends NoBoard result script ends over initial now before mid after failed later worse spread widen f done =
+    let e = board_ending over script initial (map line_played f.played) f.there.1.0 f.there.0 (ap (λ (ls : List Line). map line_played f.played ++ ls) (sym f.there.1.1) ∙ f.front.lines) in
+    let ready : ReadyToEnd script NoBoards (ending_line NoBoards) initial now before mid = record { played = f.played; rest = f.rest; last = f.last; front = f.front; told = f.told; boards = f.there.2; all = f.there.1; line = refl } in
+    subst (λ (x : Ending). ScriptReplayed result script x initial now before after worse) (sym e) (ended result script NoBoards _ initial now before mid after later worse widen ready done)
+stopped_ends NoImage result script ends over initial now before mid after failed later worse spread widen never done = absurd never
+
+-- a script all of whose lines were played
+lines_done : (ends : Bool) (script : Script) (n : ℕ) (p : Player) (initial now : List Device) (before mid : Option (List ℕ)) → (r : Reached ends script [] n p initial now before mid) → map line_played r.played ++ [] ≡ script.lines
+unfolding script_from
+lines_done ends script n p initial now before mid r = r.lines
+
+fault_done : (ends : Bool) (script : Script) (n : ℕ) (p : Player) (initial now : List Device) (before mid : Option (List ℕ)) → (r : Reached ends script [] n p initial now before mid) → end_fault ends p.place n ≡ script.fault
+unfolding script_from
+fault_done ends script n p initial now before mid r = r.fault
+
+boardless_done : (ends : Bool) (script : Script) (n : ℕ) (p : Player) (initial now : List Device) (before mid : Option (List ℕ)) → (r : Reached ends script [] n p initial now before mid) → length initial ≡ 0 → list_any is_motes script.lines ≡ false
+boardless_done ends script n p initial now before mid r none =
+    ap (λ (ls : List Line). list_any is_motes ls) (sym (sym (append-nil (map line_played r.played)) ∙ lines_done ends script n p initial now before mid r)) ∙ r.boardless none
+
+-- the front of all lines
+front_done : (ends : Bool) (script : Script) (n : ℕ) (p : Player) (initial now : List Device) (before mid : Option (List ℕ)) → (r : Reached ends script [] n p initial now before mid) → IsFront script r.played [] r.last
+front_done ends script n p initial now before mid r = record { lines = lines_done ends script n p initial now before mid r; run = r.run; golden = r.golden }
+
+-- an input that is too long
+pub over_ends : (result : Status) (script : Script) (n : ℕ) (p : Player) (initial now : List Device) (before mid after : Option (List ℕ)) (failed worse : Type 0) → (failed → worse)
+    → Reached false script [] n p initial now before mid → EndsWith result status.TooLong (ending_line Over) mid after failed → ScriptReplayed result script (ending_from (length initial) true script) initial now before after worse
+over_ends result script n p initial now before mid after failed worse spread r done =
+    let e : ending_from (length initial) true script ≡ Over =
+        no_motes (length initial) true script (boardless_done false script n p initial now before mid r) ∙ ap (λ (f : Option ℕ). by_fault true f) (sym (fault_done false script n p initial now before mid r)) in
+    let ready : ReadyToEnd script Over (ending_line Over) initial now before mid = record { played = r.played; rest = []; last = r.last; front = front_done false script n p initial now before mid r; told = r.told; boards = r.stood.boards; all = refl; line = refl } in
+    subst (λ (x : Ending). ScriptReplayed result script x initial now before after worse) (sym e) (ended result script Over _ initial now before mid after failed worse spread ready done)
+
+end_fault_at : (place : Place) (n : ℕ) → place ≢ Later → end_fault true place n ≡ Some n
+end_fault_at First n other = refl
+end_fault_at Second n other = refl
+end_fault_at Later n other = absurd (other refl)
+
+-- a script that ends before its second line
+pub short_ends : (result : Status) (script : Script) (n : ℕ) (p : Player) (initial now : List Device) (before mid after : Option (List ℕ)) (failed worse : Type 0) → (failed → worse) → p.place ≢ Later
+    → Reached true script [] n p initial now before mid → EndsWith result status.BadInput (ending_line (FaultAt n)) mid after failed → ScriptReplayed result script (ending_from (length initial) false script) initial now before after worse
+short_ends result script n p initial now before mid after failed worse spread early r done =
+    let fault : script.fault ≡ Some n = sym (fault_done true script n p initial now before mid r) ∙ end_fault_at p.place n early in
+    let e = fault_ending (length initial) false script n (boardless_done true script n p initial now before mid r) fault in
+    let ready : ReadyToEnd script (FaultAt n) (ending_line (FaultAt n)) initial now before mid = record { played = r.played; rest = []; last = r.last; front = front_done true script n p initial now before mid r; told = r.told; boards = r.stood.boards; all = refl; line = refl } in
+    subst (λ (x : Ending). ScriptReplayed result script x initial now before after worse) (sym e) (ended result script (FaultAt n) _ initial now before mid after failed worse spread ready done)
+
+-- a player that is behind the second line has a world
+world_of : (p : Player) (last : Option World) (initial now : List Device) → p.place ≡ Later → Stood p last initial now → (w : World) × (last ≡ Some w)
+world_of p None initial now later stood = absurd (stood.world.0 later)
+world_of p (Some w) initial now later stood = (w, refl)
+
+finish_as : (result : Status) (script : Script) (w : World) (played : List Played) (initial new : List Device) (before mid after : Option (List ℕ)) (failed worse : Type 0) → (failed → worse)
+    → IsFront script played [] (Some w) → Puts before mid (played_text played) → FinishesWith result w initial new mid after failed → ScriptReplayed result script Ends initial new before after worse
+finish_as result script w played initial new before mid after failed worse spread front told (inl (done, boards)) =
+    ended result script Ends (report_text (last_lines w)) initial new before mid after failed worse spread (record { played = played; rest = []; last = Some w; front = front; told = told; boards = boards; all = refl; line = refl }) done
+finish_as result script w played initial new before mid after failed worse spread front told (inr (same, stopped, kept)) =
+    let made : ScriptReplayed status.FlashFault script Ends initial new before after worse = record {
+      played = played; rest = []; last = Some w; front = front; text = played_text played;
+      written = subst (λ (o : Option (List ℕ)). Puts before o (played_text played)) (sym kept) told;
+      report = refl; boards = stopped; caused = stopped;
+    } in
+    subst (λ (s : Status). ScriptReplayed s script Ends initial new before after worse) (sym same) made
+
+-- a script that ended
+pub script_ends : (result : Status) (script : Script) (n : ℕ) (p : Player) (initial now new : List Device) (before mid after : Option (List ℕ)) (failed worse : Type 0) → (failed → worse) → p.place ≡ Later
+    → (r : Reached true script [] n p initial now before mid) → ((w : World) → r.last ≡ Some w → Stood p (Some w) initial now → FinishesWith result w initial new mid after failed)
+    → ScriptReplayed result script (ending_from (length initial) false script) initial new before after worse
+script_ends result script n p initial now new before mid after failed worse spread later r finishes =
+    let world = world_of p r.last initial now later r.stood in
+    let w = world.0 in
+    let stood = subst (λ (o : Option World). Stood p o initial now) world.1 r.stood in
+    let fault : script.fault ≡ None = sym (fault_done true script n p initial now before mid r) ∙ ap (λ (at : Place). end_fault true at n) later in
+    let e : ending_from (length initial) false script ≡ Ends =
+        no_motes (length initial) false script (boardless_done true script n p initial now before mid r) ∙ ap (λ (f : Option ℕ). by_fault false f) fault in
+    let front = subst (λ (o : Option World). IsFront script r.played [] o) world.1 (front_done true script n p initial now before mid r) in
+    subst (λ (x : Ending). ScriptReplayed result script x initial new before after worse) (sym e)
+        (finish_as result script w r.played initial new before mid after failed worse spread front r.told (finishes w world.1 stood))
+
+-- the bytes up to the last LF
+front_cell : (c : ℕ) (xs : List ℕ) → up_to c (xs ++ 10 ∷ []) ≡ c ∷ xs ++ 10 ∷ []
+front_cell c [] = refl
+front_cell c (x ∷ xs) = refl
+
+pub whole_lines-ended : (xs : List ℕ) (c : ℕ) → c ≡ 10 → whole_lines (xs ++ c ∷ []) ≡ xs ++ c ∷ []
+unfolding whole_lines
+whole_lines-ended [] c e = subst (λ (x : ℕ). up_to x [] ≡ x ∷ []) (sym e) refl
+whole_lines-ended (x ∷ xs) c e =
+    ap (up_to x) (whole_lines-ended xs c e) ∙ subst (λ (y : ℕ). up_to x (xs ++ y ∷ []) ≡ x ∷ xs ++ y ∷ []) (sym e) (front_cell x xs)
+
+pub whole_lines-other : (xs : List ℕ) (c : ℕ) → c ≢ 10 → whole_lines (xs ++ c ∷ []) ≡ whole_lines xs
+unfolding whole_lines
+whole_lines-other [] c other =
+    let test : (c == 10) ≡ false = grind (arith, nat_tests) in
+    ap (λ (b : Bool). if b then c ∷ [] else []) test
+whole_lines-other (x ∷ xs) c other = ap (up_to x) (whole_lines-other xs c other)
+
+-- one byte from the end
+pub whole_front : (xs : List ℕ) (n : ℕ) → 0 < n → n ≤ length xs → get_or xs (n - 1) 0 ≢ 10 → whole_lines (take n xs) ≡ whole_lines (take (n - 1) xs)
+whole_front xs n some within other =
+    let place : n - 1 + 1 ≡ n = omega arith in
+    let below : n - 1 < length xs = omega arith in
+    ap (λ k. whole_lines (take k xs)) (sym place) ∙ ap whole_lines (take_more xs (n - 1) 0 below) ∙ whole_lines-other (take (n - 1) xs) (get_or xs (n - 1) 0) other
+
+pub whole_here : (xs : List ℕ) (n : ℕ) → 0 < n → n ≤ length xs → get_or xs (n - 1) 0 ≡ 10 → whole_lines (take n xs) ≡ take n xs
+whole_here xs n some within here =
+    let place : n - 1 + 1 ≡ n = omega arith in
+    let below : n - 1 < length xs = omega arith in
+    let cells : take n xs ≡ take (n - 1) xs ++ get_or xs (n - 1) 0 ∷ [] = ap (λ k. take k xs) (sym place) ∙ take_more xs (n - 1) 0 below in
+    ap whole_lines cells ∙ whole_lines-ended (take (n - 1) xs) (get_or xs (n - 1) 0) here ∙ sym cells
+
+pub whole_none : whole_lines [] ≡ []
+unfolding whole_lines
+whole_none = refl
+
+below_is_false : (n m : ℕ) → m ≤ n → nat_lt n m ≡ false
+below_is_false n m h = grind (arith, nat_tests)
+
+over_not : (text : List ℕ) → length text ≤ 16777216 → is_over text ≡ false
+over_not text h = below_is_false 16777216 (length text) h
+
+-- the bytes that are used of an input
+pub used_all : (text : List ℕ) → length text ≤ 16777216 → take (length text) text ≡ used text
+used_all text h = take-length text ∙ ap (λ (b : Bool). if b then whole_lines (take 16777216 text) else text) (sym (over_not text h))
+
+
+pub taken_length : (n : ℕ) (xs : List ℕ) → n ≤ length xs → n ≡ length (take n xs)
+taken_length n xs h = omega (arith, length-take n xs, h)
+
+used_front_of : (k : ℕ) (text : List ℕ) (n : ℕ) → k < length text → n ≤ length (take k text) → take n (take k text) ≡ whole_lines (take k text) → take n text ≡ whole_lines (take k text)
+used_front_of k text n more within whole = sym (take-take n k text (omega (arith, length-take k text, within))) ∙ whole
+
+over_is : (n m : ℕ) → n < m → nat_lt n m ≡ true
+over_is n m h = grind (arith, nat_tests)
+
+pub used_front : (text : List ℕ) (n : ℕ) → 16777216 < length text → n ≤ length (take 16777216 text) → take n (take 16777216 text) ≡ whole_lines (take 16777216 text) → take n text ≡ used text
+used_front text n more within whole = used_front_of 16777216 text n more within whole ∙ ap (λ (b : Bool). if b then whole_lines (take 16777216 text) else text) (sym (over_is 16777216 (length text) more))
+
+pub is_over-true : (text : List ℕ) → 16777216 < length text → is_over text ≡ true
+is_over-true text more = over_is 16777216 (length text) more
+
+pub is_over-false : (text : List ℕ) → length text ≤ 16777216 → is_over text ≡ false
+is_over-false text h = below_is_false 16777216 (length text) h
+
+-- an input that is known to be too long, and one that is known not to be
+pub at_over : (result : Status) (script : Script) (over : Bool) (n : ℕ) (p : Player) (initial now : List Device) (before mid after : Option (List ℕ)) (failed worse : Type 0) → over ≡ true → (failed → worse)
+    → Reached (not over) script [] n p initial now before mid → EndsWith result status.TooLong (ending_line Over) mid after failed → ScriptReplayed result script (ending_from (length initial) over script) initial now before after worse
+at_over result script over n p initial now before mid after failed worse is spread r done =
+    let P : Bool → Type 0 = λ b. Reached (not b) script [] n p initial now before mid → ScriptReplayed result script (ending_from (length initial) b script) initial now before after worse in
+    subst P (sym is) (λ s. over_ends result script n p initial now before mid after failed worse spread s done) r
+
+pub at_ended : (result : Status) (script : Script) (over : Bool) (n : ℕ) (p : Player) (initial now new : List Device) (before mid after : Option (List ℕ)) (worse : Type 0) → over ≡ false
+    → Reached (not over) script [] n p initial now before mid → (Reached true script [] n p initial now before mid → ScriptReplayed result script (ending_from (length initial) false script) initial new before after worse)
+    → ScriptReplayed result script (ending_from (length initial) over script) initial new before after worse
+at_ended result script over n p initial now new before mid after worse is r ends =
+    let P : Bool → Type 0 = λ b. Reached (not b) script [] n p initial now before mid → ScriptReplayed result script (ending_from (length initial) b script) initial new before after worse in
+    subst P (sym is) ends r
+
+script_used : (text cells : List ℕ) (over : Bool) → over ≡ is_over text → cells ≡ used text → script_from (not over) First 1 (lines cells) ≡ script_of text
+unfolding script_of
+script_used text cells over is same = ap (λ (b : Bool). script_from (not b) First 1 (lines cells)) is ∙ ap (λ (xs : List ℕ). script_from (not (is_over text)) First 1 (lines xs)) same
+
+-- what was played of the bytes that are used is what was played of the input
+pub replayed_as : (result : Status) (text cells : List ℕ) (over : Bool) (n m : ℕ) (initial now : List Device) (before after : Option (List ℕ)) (worse : Type 0) → over ≡ is_over text → cells ≡ used text → n ≡ m
+    → ScriptReplayed result (script_from (not over) First 1 (lines cells)) (ending_from n over (script_from (not over) First 1 (lines cells))) initial now before after worse
+    → ScriptReplayed result (script_of text) (ending_of m text) initial now before after worse
+replayed_as result text cells over n m initial now before after worse is same count r =
+    let script = script_used text cells over is same in
+    let by_script : Script → Type 0 = λ s. ScriptReplayed result s (ending_from n over s) initial now before after worse in
+    let by_over : Bool → Type 0 = λ b. ScriptReplayed result (script_of text) (ending_from n b (script_of text)) initial now before after worse in
+    let by_count : ℕ → Type 0 = λ k. ScriptReplayed result (script_of text) (ending_from k (is_over text) (script_of text)) initial now before after worse in
+    subst by_count count (subst by_over is (subst by_script script r))

@@ -1,0 +1,190 @@
+-- What the top call did.
+use Rattle.std.proofs.Common.{◌≡◌, ◌≢◌, ◌⊎◌, inl, inr, ℕ, ◌<◌, ◌≤◌, Bool, true, false, List, [], ◌∷◌, ◌++◌, length, map, get_or, length-append, ◌==◌, ◌&&◌, refl, append-nil, ap, sym, ◌∙◌, subst, arith}
+use Rattle.std.specs.Prelude.{Option, Some, None, nat_lt, nat_eq, if◌then◌else◌}
+use Rattle.std.specs.Cmp.Lexicographic.{pointwise}
+use Rattle.std.specs.Bool.{OnTrue, OnFalse}
+use Rattle.std.proofs.lemmas.Bool.{eqb-true, eq-eqb}
+use Rattle.std.proofs.lemmas.List.{length-map}
+use Rattle.std.specs.List.{list_any}
+use Rattle.std.proofs.lemmas.Bool.Decides.{nat_tests}
+use Rattle.dg_base.specs.Outside.{Takes, Puts, PutsFront, AtEnd}
+use Rattle.dg_base.proofs.OutsideLemmas.{Puts-nil, Takes-told, Takes-all}
+use Rattle.dg_base.specs.declared.answers.Status.{Status}
+use Rattle.dg_base.specs.declared.answers.Status.TheVariants.{Done, Memory, Usage, BadInput, ReadFault, WriteFault, FlashFault, NotAVolume, Refused, LinkFault, TooLong, TooMany, NoBoard, NoImage}
+use Rattle.dg_nor.specs.Device.{Device}
+use Rattle.dg_cli.specs.World.{World, Played}
+use Rattle.dg_cli.specs.Boards.{BoardStopped}
+use Rattle.dg_cli.specs.Script.{Script}
+use Rattle.dg_cli.specs.Ending.{Ending, Ends, NoBoards, is_motes, by_fault, ending_from, ending_of, status_of, script_of, is_over}
+use Rattle.dg_cli.specs.Outcome.{IsFront, ReadEnough, IsCaused, Replayed}
+use Rattle.dg_cli.specs.Replaying.{ScriptReplayed}
+use Rattle.dg_cli.specs.declared.script.Line.{Line}
+use Rattle.dg_cli.proofs.ReplayLemmas.{plays_none}
+use Rattle.dg_cli.proofs.EndLemmas.{is_over-true}
+
+enough_for : (s : Status) (input : List ℕ) (at_end : Type 0) → at_end ⊎ (is_over input ≡ true) → ReadEnough s input at_end
+enough_for Memory input at_end e = tt
+enough_for ReadFault input at_end e = tt
+enough_for _ input at_end e = e
+
+caused_too : (s : Status) (e : Ending) (r w b : Type 0) → IsCaused s e ⊥ w b → IsCaused s e r w b
+caused_too ReadFault e r w b h = absurd h
+caused_too Memory e r w b h = h
+caused_too WriteFault e r w b h = h
+caused_too FlashFault e r w b h = h
+caused_too _ e r w b h = h
+
+over_or : (input : List ℕ) (at_end : Type 0) → at_end ⊎ (16777216 < length input) → at_end ⊎ (is_over input ≡ true)
+over_or input at_end (inl e) = inl e
+over_or input at_end (inr more) = inr (is_over-true input more)
+
+-- a script that was read and replayed
+pub read_replayed : (s : Status) (text : List ℕ) (lb la wb wa : Option (List ℕ)) (r w : Type 0) (old new : List Device) (n : ℕ) → n ≡ length old → Takes lb la text → AtEnd la ⊎ (16777216 < length text)
+    → ScriptReplayed s (script_of text) (ending_of n text) old new wb wa w → Replayed s lb la wb wa r w old new
+read_replayed s text lb la wb wa r w old new n count taken enough replayed =
+    let P : ℕ → Type 0 = λ k. ScriptReplayed s (script_of text) (ending_of k text) old new wb wa w in
+    let t = subst P count replayed in
+    record {
+      input = text; taken = taken; enough = enough_for s text (AtEnd la) (over_or text (AtEnd la) enough);
+      played = t.played; rest = t.rest; last = t.last; front = t.front; text = t.text; written = t.written; report = t.report; boards = t.boards;
+      caused = caused_too s (ending_of (length old) text) r w (BoardStopped old new) t.caused;
+    }
+
+front_none : (script : Script) → IsFront script [] script.lines None
+front_none script = record { lines = refl; run = plays_none; golden = tt }
+
+-- memory ran out in reading, and a read failed
+pub memory_unread : (bytes : List ℕ) (lb la wb : Option (List ℕ)) (r w : Type 0) (old : List Device) → Takes lb la bytes → Replayed Memory lb la wb wb r w old old
+memory_unread bytes lb la wb r w old taken =
+    record { input = bytes; taken = taken; enough = tt; played = []; rest = (script_of bytes).lines; last = None; front = front_none (script_of bytes); text = []; written = Puts-nil wb; report = record { more = []; front = inl refl }; boards = refl; caused = tt }
+
+pub read_failed : (bytes : List ℕ) (lb la wb : Option (List ℕ)) (r w : Type 0) (old : List Device) → Takes lb la bytes → r → Replayed ReadFault lb la wb wb r w old old
+read_failed bytes lb la wb r w old taken rose =
+    record { input = bytes; taken = taken; enough = tt; played = []; rest = (script_of bytes).lines; last = None; front = front_none (script_of bytes); text = []; written = Puts-nil wb; report = (refl, refl); boards = refl; caused = rose }
+
+-- the same, where the text was read into a vector
+pub vector_replayed : (s : Status) (text items bytes : List ℕ) (lb la wb wa : Option (List ℕ)) (r w : Type 0) (old new : List Device) (n : ℕ) → text ≡ items → items ≡ bytes → n ≡ length old → Takes lb la bytes → AtEnd la ⊎ (16777216 < length items)
+    → ScriptReplayed s (script_of text) (ending_of n text) old new wb wa w → Replayed s lb la wb wa r w old new
+vector_replayed s text items bytes lb la wb wa r w old new n same read count taken enough replayed =
+    let T : List ℕ → Type 0 = λ xs. Takes lb la xs in
+    let E : List ℕ → Type 0 = λ xs. AtEnd la ⊎ (16777216 < length xs) in
+    read_replayed s text lb la wb wa r w old new n count (subst T (sym (same ∙ read)) taken) (subst E (sym same) enough) replayed
+
+never_fault : (f : Option ℕ) → by_fault true f ≡ Ends → ⊥
+never_fault None e = cc
+never_fault (Some line) e = cc
+
+never_test : (b : Bool) (f : Option ℕ) → (if b then NoBoards else by_fault true f) ≡ Ends → ⊥
+never_test true f e = cc
+never_test false f e = never_fault f e
+
+never_ends : (n : ℕ) (script : Script) → ending_from n true script ≡ Ends → ⊥
+never_ends n script e = never_test ((n == 0) && list_any is_motes script.lines) script.fault e
+
+-- an input that is too long does not end
+over_ending : (n : ℕ) (text : List ℕ) → is_over text ≡ true → ending_of n text ≡ Ends → ⊥
+over_ending n text over ends = never_ends n (script_of text) (subst (λ (b : Bool). ending_from n b (script_of text) ≡ Ends) over ends)
+
+
+
+
+below_true : (n m : ℕ) → nat_lt n m ≡ true → n < m
+below_true n m e = grind (arith, nat_tests)
+
+over_more : (input : List ℕ) → is_over input ≡ true → 16777216 < length input
+over_more input over = below_true 16777216 (length input) over
+
+longer_over : (bytes input rest : List ℕ) → bytes ≡ input ++ rest → is_over input ≡ true → is_over bytes ≡ true
+longer_over bytes input rest parts over =
+    let more : 16777216 < length input = over_more input over in
+    is_over-true bytes (omega (arith, ap length parts, length-append input rest, more))
+
+
+
+over_never : (bytes input : List ℕ) (la : Option (List ℕ)) (n : ℕ) → Takes (Some bytes) la input → is_over input ≡ true → ending_of n bytes ≡ Ends → ⊥
+over_never bytes input la n taken over ends =
+    let told = Takes-told bytes input la taken in
+    over_ending n bytes (longer_over bytes input told.0 told.1 over) ends
+
+by_status : (s : Status) (input : List ℕ) (la : Option (List ℕ)) (r w b : Type 0) (n : ℕ) → ReadEnough s input (AtEnd la) → IsCaused s (ending_of n input) r w b → (r → ⊥) → (w → ⊥) → (b → ⊥)
+    → (AtEnd la ⊎ (is_over input ≡ true) → ending_of n input ≡ Ends) → (s ≡ Done) ⊎ (s ≡ Memory)
+by_status Memory input la r w b n enough caused reads writes stops ends = inr refl
+by_status ReadFault input la r w b n enough caused reads writes stops ends = absurd (reads caused)
+by_status WriteFault input la r w b n enough caused reads writes stops ends = absurd (writes caused)
+by_status FlashFault input la r w b n enough caused reads writes stops ends = absurd (stops caused)
+by_status Done input la r w b n enough caused reads writes stops ends = inl refl
+by_status Usage input la r w b n enough caused reads writes stops ends = inl (caused ∙ ap status_of (ends enough))
+by_status BadInput input la r w b n enough caused reads writes stops ends = inl (caused ∙ ap status_of (ends enough))
+by_status NotAVolume input la r w b n enough caused reads writes stops ends = inl (caused ∙ ap status_of (ends enough))
+by_status Refused input la r w b n enough caused reads writes stops ends = inl (caused ∙ ap status_of (ends enough))
+by_status LinkFault input la r w b n enough caused reads writes stops ends = inl (caused ∙ ap status_of (ends enough))
+by_status TooLong input la r w b n enough caused reads writes stops ends = inl (caused ∙ ap status_of (ends enough))
+by_status TooMany input la r w b n enough caused reads writes stops ends = inl (caused ∙ ap status_of (ends enough))
+by_status NoBoard input la r w b n enough caused reads writes stops ends = inl (caused ∙ ap status_of (ends enough))
+by_status NoImage input la r w b n enough caused reads writes stops ends = inl (caused ∙ ap status_of (ends enough))
+
+-- A script that ends, whose bytes are told, was replayed to its end, unless memory ran out or the outside failed.
+told_end : (bytes input : List ℕ) (la : Option (List ℕ)) (n : ℕ) → Takes (Some bytes) la input → AtEnd la ⊎ (is_over input ≡ true) → ending_of n bytes ≡ Ends → ending_of n input ≡ Ends
+told_end bytes input la n taken (inl at_end) ends = subst (λ (xs : List ℕ). ending_of n xs ≡ Ends) (Takes-all bytes input la taken at_end) ends
+told_end bytes input la n taken (inr over) ends = absurd (over_never bytes input la n taken over ends)
+
+pub completed : (s : Status) (bytes : List ℕ) (lb la wb wa : Option (List ℕ)) (r w : Type 0) (old new : List Device) (n : ℕ) → n ≡ length old → lb ≡ Some bytes → ending_of n bytes ≡ Ends → (r → ⊥) → (w → ⊥) → (BoardStopped old new → ⊥)
+    → Replayed s lb la wb wa r w old new → (s ≡ Done) ⊎ (s ≡ Memory)
+completed s bytes lb la wb wa r w old new n count told ends reads writes stops x =
+    let taken : Takes (Some bytes) la x.input = subst (λ (o : Option (List ℕ)). Takes o la x.input) told x.taken in
+    let wanted : ending_of (length old) bytes ≡ Ends = subst (λ (k : ℕ). ending_of k bytes ≡ Ends) count ends in
+    by_status s x.input la r w (BoardStopped old new) (length old) x.enough x.caused reads writes stops (λ enough. told_end bytes x.input la (length old) taken enough wanted)
+
+-- the words of the program
+and_true : (a b : Bool) → (a && b) ≡ true → (a ≡ true) × (b ≡ true)
+and_true true b e = (refl, e)
+and_true false b e = absurd (let f : false ≡ true = e in cc)
+
+same_cells : (x y : ℕ) (xs ys : List ℕ) → x ≡ y → xs ≡ ys → x ∷ xs ≡ y ∷ ys
+same_cells x y xs ys p q = cc
+
+pub pointwise_same : (xs ys : List ℕ) → pointwise nat_eq xs ys ≡ true → xs ≡ ys
+pointwise_same [] [] e = refl
+pointwise_same [] (y ∷ ys) e = absurd (let f : false ≡ true = e in cc)
+pointwise_same (x ∷ xs) [] e = absurd (let f : false ≡ true = e in cc)
+pointwise_same (x ∷ xs) (y ∷ ys) e =
+    let parts = and_true (nat_eq x y) (pointwise nat_eq xs ys) e in
+    same_cells x y xs ys (eqb-true x y parts.0) (pointwise_same xs ys parts.1)
+
+pub pointwise_self : (xs : List ℕ) → pointwise nat_eq xs xs ≡ true
+pointwise_self [] = refl
+pointwise_self (x ∷ xs) = ap (λ (b : Bool). b && pointwise nat_eq xs xs) (eq-eqb x x refl) ∙ pointwise_self xs
+
+on_true : (b : Bool) (P : Type 0) → (b ≡ true → P) → OnTrue b P
+on_true true P f = f refl
+on_true false P f = tt
+
+on_false : (b : Bool) (P : Type 0) → (b ≡ false → P) → OnFalse b P
+on_false true P f = tt
+on_false false P f = f refl
+
+one_item : {A : Type 0} (f : A → List ℕ) (words : List A) (w : A) → length words ≡ 1 → map f words ≡ f (get_or words 0 w) ∷ []
+one_item f [] w one = absurd (omega (arith, one))
+one_item f (x ∷ []) w one = refl
+one_item f (x ∷ y ∷ more) w one = absurd (omega (arith, one))
+
+head_same : (x y : List ℕ) → x ∷ [] ≡ y ∷ [] → x ≡ y
+head_same x y e = cc
+
+differs : (b : Bool) (text word : List ℕ) → b ≡ pointwise nat_eq text word → b ≡ false → text ≡ word → ⊥
+differs b text word is other same =
+    let yes : pointwise nat_eq text word ≡ true = ap (λ (xs : List ℕ). pointwise nat_eq xs word) same ∙ pointwise_self word in
+    let e : true ≡ false = sym yes ∙ sym is ∙ other in
+    cc
+
+-- one word, which is the text or is not
+pub one_word_is : {A : Type 0} (f : A → List ℕ) (words : List A) (w : A) (b : Bool) (text word : List ℕ) → length words ≡ 1 → text ≡ f (get_or words 0 w) → b ≡ pointwise nat_eq text word → OnTrue b (map f words ≡ word ∷ [])
+one_word_is f words w b text word one reads is =
+    on_true b (map f words ≡ word ∷ []) (λ yes. one_item f words w one ∙ ap (λ (xs : List ℕ). xs ∷ []) (sym reads ∙ pointwise_same text word (sym is ∙ yes)))
+
+pub one_word_differs : {A : Type 0} (f : A → List ℕ) (words : List A) (w : A) (b : Bool) (text word : List ℕ) → length words ≡ 1 → text ≡ f (get_or words 0 w) → b ≡ pointwise nat_eq text word → OnFalse b (map f words ≡ word ∷ [] → ⊥)
+one_word_differs f words w b text word one reads is =
+    on_false b (map f words ≡ word ∷ [] → ⊥) (λ other e. differs b text word is other (reads ∙ head_same (f (get_or words 0 w)) word (sym (one_item f words w one) ∙ e)))
+
+pub other_words : {A : Type 0} (f : A → List ℕ) (words : List A) (word : List ℕ) → length words ≢ 1 → map f words ≡ word ∷ [] → ⊥
+other_words f words word many e = many (sym (length-map words f) ∙ ap length e)

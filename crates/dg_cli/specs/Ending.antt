@@ -1,0 +1,76 @@
+-- How the rules say that a script ends, by its bytes and the number of boards alone.
+use Rattle.std.specs.Prelude.{ℕ, ◌+◌, ◌==◌, nat_le, nat_lt, ◌&&◌, Bool, true, false, not, if◌then◌else◌, List, [], ◌∷◌, ◌++◌, length, take, codes, Option, Some, None}
+use Rattle.std.specs.List.{list_any}
+use Rattle.std.specs.Fmt.{decimal}
+use Rattle.std.specs.Str.Lines.{lines}
+use Rattle.dg_base.specs.declared.answers.Status.{Status}
+use Rattle.dg_base.specs.declared.answers.Status.TheVariants.{Done, BadInput, TooLong, NoBoard}
+use Rattle.dg_cli.specs.Script.{Script, script_from}
+use Rattle.dg_cli.specs.declared.script.Line.{Line}
+use Rattle.dg_cli.specs.declared.script.Line.TheVariants.{Nothing, Motes, Golden, Reset}
+use Rattle.dg_cli.specs.declared.script.Place.TheVariants.{First}
+
+-- the byte, and the bytes up to the last LF behind it
+abbrev pub up_to : ℕ → List ℕ → List ℕ
+up_to c [] = if c == 10 then c ∷ [] else []
+up_to c (d ∷ ds) = c ∷ d ∷ ds
+
+-- the bytes up to the last LF and with it
+unfoldable pub whole_lines : List ℕ → List ℕ
+whole_lines [] = []
+whole_lines (c ∷ cs) = up_to c (whole_lines cs)
+
+-- the first 16,777,216 bytes of an input are used
+abbrev pub is_over : List ℕ → Bool
+is_over input = nat_lt 16777216 (length input)
+
+-- where there are more, the lines that end within them
+abbrev pub used : List ℕ → List ℕ
+used input = if is_over input then whole_lines (take 16777216 input) else input
+
+-- the script that an input spells
+unfoldable pub script_of : List ℕ → Script
+script_of input = script_from (not (is_over input)) First 1 (lines (used input))
+
+-- how a script ends
+pub data Ending : Type 0 where
+  Ends : Ending
+  NoBoards : Ending
+  FaultAt : (line : ℕ) → Ending
+  Over : Ending
+
+abbrev pub is_motes : Line → Bool
+is_motes Motes = true
+is_motes Nothing = false
+is_motes (Golden golden) = false
+is_motes (Reset dt word) = false
+
+abbrev pub by_fault : Bool → Option ℕ → Ending
+by_fault over (Some line) = FaultAt line
+by_fault true None = Over
+by_fault false None = Ends
+
+-- A script needs a board where it says how many motes there are. Else its first fault ends it, and else its length does where its input is too long.
+abbrev pub ending_from : ℕ → Bool → Script → Ending
+ending_from boards over script = if (boards == 0) && list_any is_motes script.lines then NoBoards else by_fault over script.fault
+
+abbrev pub ending_of : ℕ → List ℕ → Ending
+ending_of boards input = ending_from boards (is_over input) (script_of input)
+
+-- the status of an ending
+abbrev pub status_of : Ending → Status
+status_of Ends = Done
+status_of NoBoards = NoBoard
+status_of (FaultAt line) = BadInput
+status_of Over = TooLong
+
+-- the last line of an ending, None where it has none
+abbrev pub ending_line : Ending → List ℕ
+ending_line Ends = []
+ending_line NoBoards = codes "noboard 1 0" ++ 10 ∷ []
+ending_line (FaultAt line) = codes "line " ++ decimal line ++ codes " verb" ++ 10 ∷ []
+ending_line Over = codes "toolong" ++ 10 ∷ []
+
+-- the line that is written where the words are no command
+abbrev pub usage_line : List ℕ
+usage_line = codes "usage" ++ 10 ∷ []

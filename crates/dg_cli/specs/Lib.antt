@@ -1,0 +1,10 @@
+pub mod Words
+pub mod Script
+pub mod Reading
+pub mod Report
+pub mod World
+pub mod Boards
+pub mod Player
+pub mod Ending
+pub mod Outcome
+pub mod Replaying

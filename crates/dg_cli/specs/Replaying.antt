@@ -1,0 +1,171 @@
+-- What the steps of a replay do, line by line.
+use Rattle.std.specs.Prelude.{◌≡◌, ◌⊎◌, ℕ, ◌+◌, ◌<◌, ◌≤◌, Bool, true, false, List, [], ◌∷◌, ◌++◌, length, map, Option, Some, None, Result, Ok, Err, option_to_list}
+use Rattle.std.specs.List.{AllByRecursion, list_any}
+use Rattle.dg_base.specs.Outside.{Puts, PutsFront}
+use Rattle.dg_nor.specs.Device.{Device}
+use Rattle.dg_cli.specs.Script.{Script, script_from, line_of, place_after}
+use Rattle.dg_volume.specs.Mounted.{kept_at}
+use Rattle.dg_volume.specs.declared.volume.Volume.{Volume}
+use Rattle.dg_volume.specs.declared.kept.Kept.{Kept}
+use Rattle.dg_cli.specs.Report.{report_line, report_text}
+use Rattle.dg_base.specs.declared.answers.Status.{Status}
+use Rattle.dg_base.specs.declared.answers.Status.TheVariants as status
+use Rattle.dg_cli.specs.World.{World, Played, Plays, RunsGolden, mote_line, last_lines}
+use Rattle.dg_cli.specs.Boards.{BoardsStand, BoardStopped}
+use Rattle.dg_cli.specs.Player.{Stood, PlayedTo}
+use Rattle.dg_cli.specs.Ending.{Ending, NoBoards, FaultAt, is_motes, ending_line, status_of}
+use Rattle.dg_cli.specs.Outcome.{AllPlayed, closing, Wrote, Boards, IsCaused, IsFront, line_played, played_text}
+use Rattle.dg_cli.specs.declared.states.Player.{Player}
+use Rattle.dg_cli.specs.declared.script.Place.{Place}
+use Rattle.dg_cli.specs.declared.script.Line.{Line}
+use Rattle.dg_cli.specs.declared.script.Line.TheVariants.{Motes}
+use Rattle.dg_cli.specs.declared.report.Report.{Report}
+use Rattle.dg_cli.specs.declared.report.Report.TheVariants.{End, Kept as KeptLine}
+use Rattle.dg_cli.specs.declared.mote.PlayStop.{PlayStop}
+use Rattle.dg_cli.specs.declared.mote.PlayStop.TheVariants as play
+use Rattle.dg_cli.specs.declared.stop.Stop.{Stop}
+use Rattle.dg_cli.specs.declared.stop.Stop.TheVariants.{Memory, BadInput, WriteFault, FlashFault, NotAVolume, NoBoard, NoImage}
+
+-- a line that is not played ends the replay
+abbrev pub stop_of : PlayStop → Stop
+stop_of play.NoBoard = NoBoard
+stop_of play.FlashFault = FlashFault
+stop_of play.NotAVolume = NotAVolume
+stop_of play.NoImage = NoImage
+
+-- The line that a text spells was played, from a player and boards that stand for world w.
+pub record TextPlayed (text : List ℕ) (place : Place) (q : Player) (w : Option World) (initial now : List Device) : Type 0 where
+  pub line : Line
+  pub spelled : line_of place text ≡ Some line
+  pub reports : List Report
+  pub to : PlayedTo q w line reports initial now
+  pub behind : q.place ≡ place_after place line
+
+-- and what it reports was written
+pub record TextTold (text : List ℕ) (place : Place) (q : Player) (w : Option World) (initial now : List Device) (before after : Option (List ℕ)) : Type 0 where
+  pub played : TextPlayed text place q w initial now
+  pub told : Puts before after (report_text played.reports)
+
+-- or a front of it
+pub record TextCut (text : List ℕ) (place : Place) (q : Player) (w : Option World) (initial now : List Device) (before after : Option (List ℕ)) : Type 0 where
+  pub played : TextPlayed text place q w initial now
+  pub told : PutsFront before after (report_text played.reports)
+
+-- nothing was done
+pub record NothingDone (old new : List Device) (before after : Option (List ℕ)) : Type 0 where
+  pub boards : new ≡ old
+  pub told : after ≡ before
+
+-- what playing a text answers
+abbrev pub TextAnswer : Result (Unit {0}) Stop → (text : List ℕ) → Place → ℕ → Player → Option World → (initial old new : List Device) → (before after : Option (List ℕ)) → (write_failed : Type 0) → Type 0
+TextAnswer (Ok u) text place number q w initial old new before after failed = TextTold text place q w initial new before after
+TextAnswer (Err Memory) text place number q w initial old new before after failed = NothingDone old new before after ⊎ TextCut text place q w initial new before after
+TextAnswer (Err (BadInput line)) text place number q w initial old new before after failed = (line ≡ number) × (line_of place text ≡ None) × NothingDone old new before after
+TextAnswer (Err WriteFault) text place number q w initial old new before after failed = failed × TextCut text place q w initial new before after
+TextAnswer (Err FlashFault) text place number q w initial old new before after failed = (line : Line) × (line_of place text ≡ Some line) × BoardStopped initial new × (after ≡ before)
+TextAnswer (Err NotAVolume) text place number q w initial old new before after failed = ⊥
+TextAnswer (Err NoBoard) text place number q w initial old new before after failed = (line_of place text ≡ Some Motes) × (initial ≡ []) × NothingDone old new before after
+TextAnswer (Err NoImage) text place number q w initial old new before after failed = ⊥
+
+-- These texts are left of a script, and what comes before them was played.
+pub record Reached (ends : Bool) (script : Script) (texts : List (List ℕ)) (number : ℕ) (player : Player) (initial now : List Device) (before after : Option (List ℕ)) : Type 0 where
+  pub played : List Played
+  pub last : Option World
+  pub run : Plays None played last
+  pub golden : AllByRecursion RunsGolden played
+  pub lines : map line_played played ++ (script_from ends player.place number texts).lines ≡ script.lines
+  pub fault : (script_from ends player.place number texts).fault ≡ script.fault
+  pub told : Puts before after (played_text played)
+  pub stood : Stood player last initial now
+  -- where there is no board, no line that needs one was played
+  pub boardless : length initial ≡ 0 → list_any is_motes (map line_played played) ≡ false
+
+-- A front of the script was played, and what was written is a front of its report.
+pub record PlayedFront (script : Script) (initial now : List Device) (before after : Option (List ℕ)) : Type 0 where
+  pub played : List Played
+  pub rest : List Line
+  pub last : Option World
+  pub front : IsFront script played rest last
+  pub text : List ℕ
+  pub more : List ℕ
+  pub told : Puts before after text
+  pub whole : text ++ more ≡ played_text played
+  pub boards : BoardsStand last initial now
+
+-- A front of the script was played and reported, and then a line P came.
+pub record PlayedUpTo (script : Script) (before after : Option (List ℕ)) (P : List Line → Option World → Type 0) : Type 0 where
+  pub played : List Played
+  pub rest : List Line
+  pub last : Option World
+  pub front : IsFront script played rest last
+  pub told : Puts before after (played_text played)
+  pub there : P rest last
+
+-- what playing all texts of a script answers
+abbrev pub LinesAnswer : Result (Player × ℕ) Stop → Bool → Script → (initial now : List Device) → (before after : Option (List ℕ)) → (write_failed : Type 0) → Type 0
+LinesAnswer (Ok reached) ends script initial now before after failed = Reached ends script [] reached.1 reached.0 initial now before after
+LinesAnswer (Err Memory) ends script initial now before after failed = PlayedFront script initial now before after
+LinesAnswer (Err (BadInput line)) ends script initial now before after failed = PlayedUpTo script before after (λ rest last. (rest ≡ []) × (script.fault ≡ Some line) × BoardsStand last initial now × (length initial ≡ 0 → list_any is_motes script.lines ≡ false))
+LinesAnswer (Err WriteFault) ends script initial now before after failed = failed × PlayedFront script initial now before after
+LinesAnswer (Err FlashFault) ends script initial now before after failed = PlayedUpTo script before after (λ rest last. BoardStopped initial now)
+LinesAnswer (Err NotAVolume) ends script initial now before after failed = ⊥
+LinesAnswer (Err NoBoard) ends script initial now before after failed = PlayedUpTo script before after (λ rest last. (initial ≡ []) × ((more : List Line) × (rest ≡ Motes ∷ more)) × BoardsStand last initial now)
+LinesAnswer (Err NoImage) ends script initial now before after failed = ⊥
+
+-- the line on an image, by what a volume tells of it
+abbrev pub kept_told : ℕ → Option Kept → Option Report
+kept_told image None = None
+kept_told image (Some kept) = Some (KeptLine 0 image kept.version kept.done)
+
+-- the last lines, by what a volume tells
+abbrev pub last_told : Player → Volume → List ℕ
+last_told player volume =
+    report_line (End player.events) ++ report_line (mote_line player.runs)
+    ++ report_text (option_to_list (kept_told 1 (kept_at volume 1))) ++ report_text (option_to_list (kept_told 2 (kept_at volume 2)))
+    ++ report_text (option_to_list (kept_told 3 (kept_at volume 3)))
+
+-- A script came to its ending, and the end of its report, which is this piece, is not written yet.
+pub record ReadyToEnd (script : Script) (ending : Ending) (piece : List ℕ) (initial now : List Device) (before after : Option (List ℕ)) : Type 0 where
+  pub played : List Played
+  pub rest : List Line
+  pub last : Option World
+  pub front : IsFront script played rest last
+  pub told : Puts before after (played_text played)
+  pub boards : BoardsStand last initial now
+  pub all : AllPlayed ending rest
+  pub line : closing ending last ≡ piece
+
+-- how writing the end of a report ends
+abbrev pub EndsWith : Status → Status → List ℕ → (before after : Option (List ℕ)) → (write_failed : Type 0) → Type 0
+EndsWith result wanted piece before after failed =
+    ((result ≡ wanted) × Puts before after piece)
+    ⊎ ((result ≡ status.WriteFault) × PutsFront before after piece × failed)
+    ⊎ ((result ≡ status.Memory) × (after ≡ before))
+
+-- how a replay that stopped ends
+abbrev pub StopEnds : Stop → Status → (before after : Option (List ℕ)) → (write_failed : Type 0) → Type 0
+StopEnds Memory result before after failed = (result ≡ status.Memory) × (after ≡ before)
+StopEnds (BadInput line) result before after failed = EndsWith result status.BadInput (ending_line (FaultAt line)) before after failed
+StopEnds WriteFault result before after failed = (result ≡ status.WriteFault) × (after ≡ before)
+StopEnds FlashFault result before after failed = (result ≡ status.FlashFault) × (after ≡ before)
+StopEnds NotAVolume result before after failed = Unit {0}
+StopEnds NoBoard result before after failed = EndsWith result status.NoBoard (ending_line NoBoards) before after failed
+StopEnds NoImage result before after failed = Unit {0}
+
+-- how the end of a report that reads its board ends
+abbrev pub FinishesWith : Status → World → (initial now : List Device) → (before after : Option (List ℕ)) → (write_failed : Type 0) → Type 0
+FinishesWith result w initial now before after failed =
+    (EndsWith result status.Done (report_text (last_lines w)) before after failed × BoardsStand (Some w) initial now)
+    ⊎ ((result ≡ status.FlashFault) × BoardStopped initial now × (after ≡ before))
+
+-- A script was replayed, as its ending and the status say.
+pub record ScriptReplayed (status : Status) (script : Script) (ending : Ending) (initial now : List Device) (before after : Option (List ℕ)) (write_failed : Type 0) : Type 0 where
+  pub played : List Played
+  pub rest : List Line
+  pub last : Option World
+  pub front : IsFront script played rest last
+  pub text : List ℕ
+  pub written : Puts before after text
+  pub report : Wrote status ending played rest last text
+  pub boards : Boards status last initial now
+  pub caused : IsCaused status ending ⊥ write_failed (BoardStopped initial now)

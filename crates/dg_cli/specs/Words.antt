@@ -1,0 +1,41 @@
+-- The words of a line, and the words of the program.
+use Rattle.std.specs.Prelude.{ℕ, ◌==◌, nat_eq, Bool, if◌then◌else◌, List, [], ◌∷◌, Option, Some, None}
+use Rattle.std.specs.Cmp.Lexicographic.{pointwise}
+
+-- the bytes up to the first space, and the words behind it
+pub record Split : Type 0 where
+  pub front : List ℕ
+  pub behind : List (List ℕ)
+
+-- a word, unless it is empty, and the words behind it
+abbrev pub with_word : List ℕ → List (List ℕ) → List (List ℕ)
+with_word [] ws = ws
+with_word (c ∷ cs) ws = (c ∷ cs) ∷ ws
+
+unfoldable pub split_of : List ℕ → Split
+split_of [] = record { front = []; behind = [] }
+split_of (c ∷ cs) =
+    let rest = split_of cs in
+    if c == 32 then record { front = []; behind = with_word rest.front rest.behind }
+    else record { front = c ∷ rest.front; behind = rest.behind }
+
+-- the words of a text: its longest pieces without a space
+unfoldable pub words_of : List ℕ → List (List ℕ)
+words_of text = with_word (split_of text).front (split_of text).behind
+
+-- two byte lists are the same
+abbrev pub same : List ℕ → List ℕ → Bool
+same = pointwise nat_eq
+
+-- exactly one word, and exactly three
+abbrev pub one_of : List (List ℕ) → Option (List ℕ)
+one_of [] = None
+one_of (a ∷ []) = Some a
+one_of (a ∷ b ∷ more) = None
+
+abbrev pub three_of : List (List ℕ) → Option (List ℕ × List ℕ × List ℕ)
+three_of [] = None
+three_of (a ∷ []) = None
+three_of (a ∷ b ∷ []) = None
+three_of (a ∷ b ∷ c ∷ []) = Some (a, b, c)
+three_of (a ∷ b ∷ c ∷ d ∷ more) = None

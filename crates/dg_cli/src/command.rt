@@ -1,0 +1,92 @@
+//! The top call.
+ghost use Rattle.std.specs.Prelude.{◌≡◌, ◌⊎◌, ◌≤◌, ℕ, List, Some, map, length, string_bytes};
+ghost use Rattle.std.specs.Bool.{OnTrue, OnFalse};
+ghost use Rattle.dg_words.specs.Counts.{Rose};
+ghost use Rattle.dg_cli.specs.Ending.{Ends, ending_of};
+ghost use Rattle.dg_cli.specs.Outcome.{Replayed, IsReplay, Unknown};
+ghost use Rattle.dg_cli.specs.Boards.{BoardStopped};
+
+use crate::ends::replay_text;
+use crate::finish::end_with;
+use crate::input::{ReadStop, read_input};
+use dg_base::{Sink, Source, Status};
+use dg_nor::Nor;
+use std::alloc::Global;
+
+/// Replays the script that `input` spells over the first board, and writes the report to `out`.
+fn replay<S: Source, K: Sink, N: Nor>(
+    alloc: Global,
+    input: &mut S,
+    out: &mut K,
+    boards: &mut [N],
+) -> Status
+    ensures replayed { Replayed result (S.left input.old) (S.left input.new) (K.written out.old) (K.written out.new)
+        (Rose (S.faults input.old) (S.faults input.new)) (Rose (K.faults out.old) (K.faults out.new)) (map N.device boards.old) (map N.device boards.new) }
+    ensures reads { S.faults input.old ≤ S.faults input.new }
+    ensures writes { K.faults out.old ≤ K.faults out.new }
+{
+    match read_input(alloc, input) {
+        Ok(text) => replay_text(alloc, &text, boards, out),
+        Err(ReadStop::Memory) => Status::Memory,
+        Err(ReadStop::ReadFault) => Status::ReadFault,
+    }
+}
+
+/// The same over a vector of boards.
+fn replay_boards<S: Source, K: Sink, N: Nor>(
+    alloc: Global,
+    input: &mut S,
+    out: &mut K,
+    boards: &mut Vec<N>,
+) -> Status
+    ensures replayed { Replayed result (S.left input.old) (S.left input.new) (K.written out.old) (K.written out.new)
+        (Rose (S.faults input.old) (S.faults input.new)) (Rose (K.faults out.old) (K.faults out.new)) (map N.device boards.old.items) (map N.device boards.new.items) }
+    ensures reads { S.faults input.old ≤ S.faults input.new }
+    ensures writes { K.faults out.old ≤ K.faults out.new }
+{
+    replay(alloc, input, out, boards.as_mut_slice())
+}
+
+/// Whether the words are the command `replay`.
+fn is_replay(words: &[String]) -> bool
+    ensures yes { OnTrue result (IsReplay (map string_bytes words.now)) }
+    ensures other { OnFalse result (IsReplay (map string_bytes words.now) → ⊥) }
+{
+    if words.len() != 1 {
+        return false;
+    }
+    words[0].as_str() == "replay"
+}
+
+/// Does all that the program does with the words after its name, and answers how it ended.
+///
+/// The one command is the word `replay`: it replays the script that `input` spells over the first board, and writes the
+/// report to `out`, a line of the script at a time. All other words are [`Status::Usage`]. A status other than Ok writes its
+/// line last, where it has one.
+pub fn run<S: Source, K: Sink, N: Nor>(
+    alloc: Global,
+    words: &Vec<String>,
+    input: &mut S,
+    out: &mut K,
+    boards: &mut Vec<N>,
+) -> Status
+    // The report is true, what starts is golden, and each status comes where the rules say.
+    ensures replayed { IsReplay (map string_bytes words.now.items) → Replayed result (S.left input.old) (S.left input.new) (K.written out.old) (K.written out.new)
+        (Rose (S.faults input.old) (S.faults input.new)) (Rose (K.faults out.old) (K.faults out.new)) (map N.device boards.old.items) (map N.device boards.new.items) }
+    ensures usage { (IsReplay (map string_bytes words.now.items) → ⊥) → Unknown result (S.left input.old) (S.left input.new) (K.written out.old) (K.written out.new)
+        (Rose (K.faults out.old) (K.faults out.new)) (map N.device boards.old.items) (map N.device boards.new.items) }
+
+    // A script in its grammar and limits, with a board, is replayed to its end, unless memory runs out or the outside fails.
+    ensures complete { (bytes : List ℕ) → IsReplay (map string_bytes words.now.items) → S.left input.old ≡ Some bytes → ending_of (length boards.old.items) bytes ≡ Ends
+        → (Rose (S.faults input.old) (S.faults input.new) → ⊥) → (Rose (K.faults out.old) (K.faults out.new) → ⊥)
+        → (BoardStopped (map N.device boards.old.items) (map N.device boards.new.items) → ⊥)
+        → (result ≡ Status.Done) ⊎ (result ≡ Status.Memory) }
+
+    ensures reads { S.faults input.old ≤ S.faults input.new }
+    ensures writes { K.faults out.old ≤ K.faults out.new }
+{
+    if is_replay(words) {
+        return replay_boards(alloc, input, out, boards);
+    }
+    end_with(out, b"usage\n", Status::Usage)
+}

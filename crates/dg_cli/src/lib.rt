@@ -1,0 +1,19 @@
+//! The commands of the program: `run` does all that it does.
+//!
+//! Today the one command is `replay`, over scripts of one mote that format a chip and start it.
+#![tactic(auto)]
+
+mod ends;
+mod finish;
+mod input;
+mod mote;
+mod replay;
+mod report;
+mod command;
+mod script;
+mod states;
+mod stop;
+mod words;
+
+
+pub use command::run;

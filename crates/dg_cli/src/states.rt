@@ -1,0 +1,17 @@
+//! Where a replay stands.
+use crate::script::Place;
+
+/// An image that a mote runs.
+#[derive(Clone, Copy, Debug, PartialEq, Eq)]
+pub struct Running {
+    pub image: u8,
+    pub version: u32,
+}
+
+/// The place of the next line, the events so far, and what the mote runs, None where it is off.
+#[derive(Clone, Copy, Debug, PartialEq, Eq)]
+pub struct Player {
+    pub place: Place,
+    pub events: u32,
+    pub runs: Option<Running>,
+}

@@ -1,0 +1,13 @@
+//! Why a replay ends before its script does.
+
+#[derive(Clone, Copy, Debug, PartialEq, Eq)]
+pub enum Stop {
+    Memory,
+    /// This line is outside the grammar.
+    BadInput { line: u32 },
+    WriteFault,
+    FlashFault,
+    NotAVolume,
+    NoBoard,
+    NoImage,
+}
