@@ -52,7 +52,10 @@ pub ended : (result : Status) (script : Script) (e : Ending) (piece : List ℕ) 
 ended result script e piece initial now before mid after failed worse spread r (inl done) =
     let all : IsWholeReport e r.played r.rest r.last (played_text r.played ++ piece) = record { all = r.all; told = ap (λ (xs : List ℕ). played_text r.played ++ xs) (sym r.line) } in
     let made : ScriptReplayed (status_of e) script e initial now before after worse = record {
-      played = r.played; rest = r.rest; last = r.last; front = r.front;
+      played = r.played;
+      rest = r.rest;
+      last = r.last;
+      front = r.front;
       text = played_text r.played ++ piece;
       written = Puts-join before mid after _ _ r.told done.1;
       report = wrote_whole e r.played r.rest r.last _ all;
@@ -63,7 +66,10 @@ ended result script e piece initial now before mid after failed worse spread r (
 ended result script e piece initial now before mid after failed worse spread r (inr (inl cut)) =
     let k = cut.1.0 in
     let made : ScriptReplayed status.WriteFault script e initial now before after worse = record {
-      played = r.played; rest = r.rest; last = r.last; front = r.front;
+      played = r.played;
+      rest = r.rest;
+      last = r.last;
+      front = r.front;
       text = played_text r.played ++ take k piece;
       written = Puts-join before mid after _ _ r.told cut.1.2;
       report = record {
@@ -79,7 +85,10 @@ ended result script e piece initial now before mid after failed worse spread r (
     subst (λ (s : Status). ScriptReplayed s script e initial now before after worse) (sym cut.0) made
 ended result script e piece initial now before mid after failed worse spread r (inr (inr memory)) =
     let made : ScriptReplayed status.Memory script e initial now before after worse = record {
-      played = r.played; rest = r.rest; last = r.last; front = r.front;
+      played = r.played;
+      rest = r.rest;
+      last = r.last;
+      front = r.front;
       text = played_text r.played;
       written = subst (λ (o : Option (List ℕ)). Puts before o (played_text r.played)) (sym memory.1) r.told;
       report = record { more = []; front = inl (append-nil (played_text r.played)) };
@@ -125,19 +134,25 @@ pub stopped_ends : (stop : Stop) (result : Status) (script : Script) (ends over 
     → LinesAnswer (Err stop) ends script initial now before mid failed → StopEnds stop result mid after later → ScriptReplayed result script (ending_from (length initial) over script) initial now before after worse
 stopped_ends Memory result script ends over initial now before mid after failed later worse spread widen f (same, told) =
     subst (λ (s : Status). ScriptReplayed s script (ending_from (length initial) over script) initial now before after worse) (sym same)
-        (front_only script (ending_from (length initial) over script) initial now before after worse (subst (λ (o : Option (List ℕ)). PlayedFront script initial now before o) (sym told) f))
+    (front_only script (ending_from (length initial) over script) initial now before after worse (subst (λ (o : Option (List ℕ)). PlayedFront script initial now before o) (sym told) f))
 stopped_ends (BadInput line) result script ends over initial now before mid after failed later worse spread widen f done =
     let e = fault_ending (length initial) over script line f.there.3 f.there.1 in
     let ready : ReadyToEnd script (FaultAt line) (ending_line (FaultAt line)) initial now before mid = record { played = f.played; rest = f.rest; last = f.last; front = f.front; told = f.told; boards = f.there.2; all = f.there.0; line = refl } in
     subst (λ (x : Ending). ScriptReplayed result script x initial now before after worse) (sym e) (ended result script (FaultAt line) _ initial now before mid after later worse widen ready done)
 stopped_ends WriteFault result script ends over initial now before mid after failed later worse spread widen (rose, f) (same, told) =
     subst (λ (s : Status). ScriptReplayed s script (ending_from (length initial) over script) initial now before after worse) (sym same)
-        (front_cut script (ending_from (length initial) over script) initial now before after worse (spread rose) (subst (λ (o : Option (List ℕ)). PlayedFront script initial now before o) (sym told) f))
+    (front_cut script (ending_from (length initial) over script) initial now before after worse (spread rose) (subst (λ (o : Option (List ℕ)). PlayedFront script initial now before o) (sym told) f))
 stopped_ends FlashFault result script ends over initial now before mid after failed later worse spread widen f (same, told) =
     let made : ScriptReplayed status.FlashFault script (ending_from (length initial) over script) initial now before after worse = record {
-      played = f.played; rest = f.rest; last = f.last; front = f.front; text = played_text f.played;
+      played = f.played;
+      rest = f.rest;
+      last = f.last;
+      front = f.front;
+      text = played_text f.played;
       written = subst (λ (o : Option (List ℕ)). Puts before o (played_text f.played)) (sym told) f.told;
-      report = refl; boards = f.there; caused = f.there;
+      report = refl;
+      boards = f.there;
+      caused = f.there;
     } in
     subst (λ (s : Status). ScriptReplayed s script (ending_from (length initial) over script) initial now before after worse) (sym same) made
 stopped_ends NotAVolume result script ends over initial now before mid after failed later worse spread widen never done = absurd never
@@ -169,7 +184,7 @@ pub over_ends : (result : Status) (script : Script) (n : ℕ) (p : Player) (init
     → Reached false script [] n p initial now before mid → EndsWith result status.TooLong (ending_line Over) mid after failed → ScriptReplayed result script (ending_from (length initial) true script) initial now before after worse
 over_ends result script n p initial now before mid after failed worse spread r done =
     let e : ending_from (length initial) true script ≡ Over =
-        no_motes (length initial) true script (boardless_done false script n p initial now before mid r) ∙ ap (λ (f : Option ℕ). by_fault true f) (sym (fault_done false script n p initial now before mid r)) in
+    no_motes (length initial) true script (boardless_done false script n p initial now before mid r) ∙ ap (λ (f : Option ℕ). by_fault true f) (sym (fault_done false script n p initial now before mid r)) in
     let ready : ReadyToEnd script Over (ending_line Over) initial now before mid = record { played = r.played; rest = []; last = r.last; front = front_done false script n p initial now before mid r; told = r.told; boards = r.stood.boards; all = refl; line = refl } in
     subst (λ (x : Ending). ScriptReplayed result script x initial now before after worse) (sym e) (ended result script Over _ initial now before mid after failed worse spread ready done)
 
@@ -198,9 +213,15 @@ finish_as result script w played initial new before mid after failed worse sprea
     ended result script Ends (report_text (last_lines w)) initial new before mid after failed worse spread (record { played = played; rest = []; last = Some w; front = front; told = told; boards = boards; all = refl; line = refl }) done
 finish_as result script w played initial new before mid after failed worse spread front told (inr (same, stopped, kept)) =
     let made : ScriptReplayed status.FlashFault script Ends initial new before after worse = record {
-      played = played; rest = []; last = Some w; front = front; text = played_text played;
+      played = played;
+      rest = [];
+      last = Some w;
+      front = front;
+      text = played_text played;
       written = subst (λ (o : Option (List ℕ)). Puts before o (played_text played)) (sym kept) told;
-      report = refl; boards = stopped; caused = stopped;
+      report = refl;
+      boards = stopped;
+      caused = stopped;
     } in
     subst (λ (s : Status). ScriptReplayed s script Ends initial new before after worse) (sym same) made
 
@@ -214,10 +235,10 @@ script_ends result script n p initial now new before mid after failed worse spre
     let stood = subst (λ (o : Option World). Stood p o initial now) world.1 r.stood in
     let fault : script.fault ≡ None = sym (fault_done true script n p initial now before mid r) ∙ ap (λ (at : Place). end_fault true at n) later in
     let e : ending_from (length initial) false script ≡ Ends =
-        no_motes (length initial) false script (boardless_done true script n p initial now before mid r) ∙ ap (λ (f : Option ℕ). by_fault false f) fault in
+    no_motes (length initial) false script (boardless_done true script n p initial now before mid r) ∙ ap (λ (f : Option ℕ). by_fault false f) fault in
     let front = subst (λ (o : Option World). IsFront script r.played [] o) world.1 (front_done true script n p initial now before mid r) in
     subst (λ (x : Ending). ScriptReplayed result script x initial new before after worse) (sym e)
-        (finish_as result script w r.played initial new before mid after failed worse spread front r.told (finishes w world.1 stood))
+    (finish_as result script w r.played initial new before mid after failed worse spread front r.told (finishes w world.1 stood))
 
 -- the bytes up to the last LF
 front_cell : (c : ℕ) (xs : List ℕ) → up_to c (xs ++ 10 ∷ []) ≡ c ∷ xs ++ 10 ∷ []
@@ -264,7 +285,6 @@ over_not text h = below_is_false 16777216 (length text) h
 -- the bytes that are used of an input
 pub used_all : (text : List ℕ) → length text ≤ 16777216 → take (length text) text ≡ used text
 used_all text h = take-length text ∙ ap (λ (b : Bool). if b then whole_lines (take 16777216 text) else text) (sym (over_not text h))
-
 
 pub taken_length : (n : ℕ) (xs : List ℕ) → n ≤ length xs → n ≡ length (take n xs)
 taken_length n xs h = omega (arith, length-take n xs, h)

@@ -49,7 +49,7 @@ kept_lines : (f : ℕ → Option Report) → report_text (filter_map f (1 ∷ 2 
 kept_lines f =
     lines_more (f 1) (cons_option (f 2) (cons_option (f 3) []))
     ∙ ap (λ (xs : List ℕ). report_text (option_to_list (f 1)) ++ xs) (lines_more (f 2) (cons_option (f 3) [])
-        ∙ ap (λ (xs : List ℕ). report_text (option_to_list (f 2)) ++ xs) (lines_more (f 3) []))
+    ∙ ap (λ (xs : List ℕ). report_text (option_to_list (f 2)) ++ xs) (lines_more (f 3) []))
 
 -- what a volume tells makes the last lines of the world that its board stands for
 last_told_is : (player : Player) (volume : Volume) (w : World) → player.events ≡ w.events → player.runs ≡ w.runs → Tells volume w.store → last_told player volume ≡ report_text (last_lines w)

@@ -46,8 +46,6 @@ start_line_of x d image version length crc described same_image same_version sam
     let line : ℕ → Report = λ n. StartLine 0 x.image x.version n (crc_of (content n x.pages)) in
     ap4 image version length crc x.image x.version d.length (crc_of (content d.length x.pages)) (sym same_image) (sym same_version) same_length same_crc ∙ ap line (sym len)
 
-
-
 same_key : (i j v w : ℕ) → i ≡ j → v ≡ w → ◌≡◌ {A = Running} (record { image = i; version = v }) (record { image = j; version = w })
 same_key i j v w p q = cc
 

@@ -115,7 +115,7 @@ starts_blank : (s : Store) → s.app ≡ None → sound s 0 ≡ true → start_o
 starts_blank s none whole = ap (start_from s) none ∙ ap (λ (b : Bool). if b then Some (golden_start s) else None) whole
 
 golden_starts : (row : Row) (s : Store) → KeepsGoldenRow row s → s.app ≡ None → RunsGoldenRow row (golden_start s)
-golden_starts row s keeps none = 
+golden_starts row s keeps none =
     let pages : golden_pages (held s 0) ≡ object row = ap golden_pages keeps.slot in
     record {
       image = refl;
@@ -152,17 +152,17 @@ starts_golden row s laws keeps x chosen = elim keeps.app [ inl none ↦ blank_st
 pub starts_something : (row : Row) (s : Store) → GoldenLaws row → KeepsGoldenRow row s → start_of s ≡ None → ⊥
 starts_something row s laws keeps nothing =
     elim keeps.app [
-      inl none ↦ no_none (golden_start s) (sym (starts_blank s none (laws.is_sound s keeps.slot)) ∙ nothing)
-    | inr some ↦ no_none (app_start row s) (sym (ap (start_from s) some) ∙ nothing)
+      | inl none ↦ no_none (golden_start s) (sym (starts_blank s none (laws.is_sound s keeps.slot)) ∙ nothing)
+      | inr some ↦ no_none (app_start row s) (sym (ap (start_from s) some) ∙ nothing)
     ]
 
 -- the line on a start of golden
 golden_line_of : (row : Row) (x : Start) → GoldenLaws row → x.image ≡ 0 → x.version ≡ 1 → x.pages ≡ object row → start_line x ≡ StartLine 0 0 1 (length row.bytes) (crc_of row.bytes)
 golden_line_of row x laws image version pages =
     let len : length_in (slice_index_or x.pages 0 []) ≡ length row.bytes =
-        ap (λ (ps : List (List ℕ)). length_in (slice_index_or ps 0 [])) pages ∙ length_in-descriptor _ (details row) laws.described in
+    ap (λ (ps : List (List ℕ)). length_in (slice_index_or ps 0 [])) pages ∙ length_in-descriptor _ (details row) laws.described in
     let bytes : content (length_in (slice_index_or x.pages 0 [])) x.pages ≡ row.bytes =
-        ap (λ n. content n x.pages) len ∙ ap (content (length row.bytes)) pages ∙ laws.bytes in
+    ap (λ n. content n x.pages) len ∙ ap (content (length row.bytes)) pages ∙ laws.bytes in
     line_parts x.image 0 x.version 1 _ _ _ _ image version len (ap crc_of bytes)
 
 none_some : {A : Type 0} (x : A) → None ≡ Some x → ⊥
@@ -231,8 +231,8 @@ board_stopped p (Some w) initial now new d e stood board stop =
       };
       stopped = stop.stopped;
       cause = elim stop.cause [
-        inl came ↦ inl (sym b.stopped ∙ ap (λ (x : Device). x.stopped) (sym same) ∙ came)
-      | inr rose ↦ inr (rose_before b.used.before.faults d.faults e.faults (omega (arith, b.used.faults, risen)) rose)
+        | inl came ↦ inl (sym b.stopped ∙ ap (λ (x : Device). x.stopped) (sym same) ∙ came)
+        | inr rose ↦ inr (rose_before b.used.before.faults d.faults e.faults (omega (arith, b.used.faults, risen)) rose)
       ];
     }
 

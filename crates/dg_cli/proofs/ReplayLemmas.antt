@@ -53,8 +53,8 @@ told_as (Err Memory) text place number q w initial old new before after failed l
     inr (record { played = played_so text place q w initial new line report spelled to behind; told = cut })
 told_as (Err WriteFault) text place number q w initial old new before after failed line report spelled to behind ok cut cause =
     elim cause [
-      inl m ↦ absurd (other_stop WriteFault Memory m (λ e. cc))
-    | inr f ↦ (f.1, record { played = played_so text place q w initial new line report spelled to behind; told = cut })
+      | inl m ↦ absurd (other_stop WriteFault Memory m (λ e. cc))
+      | inr f ↦ (f.1, record { played = played_so text place q w initial new line report spelled to behind; told = cut })
     ]
 told_as (Err (BadInput n)) text place number q w initial old new before after failed line report spelled to behind ok cut cause =
     absurd (elim cause [ inl m ↦ other_stop (BadInput n) Memory m (λ e. cc) | inr f ↦ other_stop (BadInput n) WriteFault f.0 (λ e. cc) ])
@@ -229,7 +229,8 @@ stopped_at (BadInput line) ends script texts text n p q initial old now before m
         ap (λ (s : Script). s.lines) bad,
         sym r.fault ∙ ap (λ (s : Script). s.fault) bad ∙ ap (λ (k : ℕ). Some k) (sym same),
         subst (λ (ds : List Device). BoardsStand r.last initial ds) (sym none.boards) r.stood.boards,
-        λ empty. ap (λ (ls : List Line). list_any is_motes ls) (sym r.lines ∙ ap (λ (s : Script). map line_played r.played ++ s.lines) bad ∙ append-nil (map line_played r.played)) ∙ r.boardless empty);
+        λ empty. ap (λ (ls : List Line). list_any is_motes ls) (sym r.lines ∙ ap (λ (s : Script). map line_played r.played ++ s.lines) bad ∙ append-nil (map line_played r.played)) ∙ r.boardless empty,
+      );
     }
 stopped_at WriteFault ends script texts text n p q initial old now before mid after failed worse spread r (rose, cut) = (spread rose, front_of_report ends script texts text n p q initial old now before mid after r cut)
 stopped_at FlashFault ends script texts text n p q initial old now before mid after failed worse spread r (line, spelled, stopped, told) =
@@ -252,7 +253,8 @@ stopped_at NoBoard ends script texts text n p q initial old now before mid after
       there = (
         empty,
         ((script_from ends (place_after p.place Motes) (n + 1) texts).lines, ap (λ (s : Script). s.lines) (script_line ends p.place n text texts Motes spelled)),
-        subst (λ (ds : List Device). BoardsStand r.last initial ds) (sym none.boards) r.stood.boards);
+        subst (λ (ds : List Device). BoardsStand r.last initial ds) (sym none.boards) r.stood.boards,
+      );
     }
 stopped_at NoImage ends script texts text n p q initial old now before mid after failed worse spread r never = never
 

@@ -45,8 +45,17 @@ read_replayed s text lb la wb wa r w old new n count taken enough replayed =
     let P : ℕ → Type 0 = λ k. ScriptReplayed s (script_of text) (ending_of k text) old new wb wa w in
     let t = subst P count replayed in
     record {
-      input = text; taken = taken; enough = enough_for s text (AtEnd la) (over_or text (AtEnd la) enough);
-      played = t.played; rest = t.rest; last = t.last; front = t.front; text = t.text; written = t.written; report = t.report; boards = t.boards;
+      input = text;
+      taken = taken;
+      enough = enough_for s text (AtEnd la) (over_or text (AtEnd la) enough);
+      played = t.played;
+      rest = t.rest;
+      last = t.last;
+      front = t.front;
+      text = t.text;
+      written = t.written;
+      report = t.report;
+      boards = t.boards;
       caused = caused_too s (ending_of (length old) text) r w (BoardStopped old new) t.caused;
     }
 
@@ -85,9 +94,6 @@ never_ends n script e = never_test ((n == 0) && list_any is_motes script.lines) 
 over_ending : (n : ℕ) (text : List ℕ) → is_over text ≡ true → ending_of n text ≡ Ends → ⊥
 over_ending n text over ends = never_ends n (script_of text) (subst (λ (b : Bool). ending_from n b (script_of text) ≡ Ends) over ends)
 
-
-
-
 below_true : (n m : ℕ) → nat_lt n m ≡ true → n < m
 below_true n m e = grind (arith, nat_tests)
 
@@ -98,8 +104,6 @@ longer_over : (bytes input rest : List ℕ) → bytes ≡ input ++ rest → is_o
 longer_over bytes input rest parts over =
     let more : 16777216 < length input = over_more input over in
     is_over-true bytes (omega (arith, ap length parts, length-append input rest, more))
-
-
 
 over_never : (bytes input : List ℕ) (la : Option (List ℕ)) (n : ℕ) → Takes (Some bytes) la input → is_over input ≡ true → ending_of n bytes ≡ Ends → ⊥
 over_never bytes input la n taken over ends =

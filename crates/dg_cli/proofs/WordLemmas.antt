@@ -32,13 +32,13 @@ pub split_of-at : (text : List ℕ) (n : ℕ) → n ≤ length text → ((k : �
 unfolding words_of split_of
 split_of-at [] zero h none stops = refl
 split_of-at [] (suc n) h none stops = absurd (omega (arith, h))
-split_of-at (c ∷ cs) zero h none stops = 
+split_of-at (c ∷ cs) zero h none stops =
     let family : ℕ → Type 0 = λ x. split_of (x ∷ cs) ≡ record { front = []; behind = words_of (x ∷ cs) } in
     subst family (sym (stops (omega arith))) refl
 split_of-at (c ∷ cs) (suc n) h none stops =
     let other : (c == 32) ≡ false = not_space c (none 0 (omega arith)) in
     let rest : split_of cs ≡ record { front = take n cs; behind = words_of (drop n cs) } =
-        split_of-at cs n (omega (arith, h)) (λ k below. none (suc k) (omega (arith, below))) (λ below. stops (omega (arith, below))) in
+    split_of-at cs n (omega (arith, h)) (λ k below. none (suc k) (omega (arith, below))) (λ below. stops (omega (arith, below))) in
     rw (other, rest) refl
 
 -- a word that ends at the end of the text or at a space

@@ -21,7 +21,11 @@ pub enum ReadStop {
 
 // Reads a piece behind the bytes, up to one byte past those that are used, and answers how many
 // bytes came.
-fn read_piece<S: Source>(source: &mut S, piece: &mut [u8], bytes: &mut Vec<u8>) -> Result<usize, ReadStop>
+fn read_piece<S: Source>(
+    source: &mut S,
+    piece: &mut [u8],
+    bytes: &mut Vec<u8>,
+) -> Result<usize, ReadStop>
     requires piece { 0 < length piece.old }
     requires room { vec_len bytes.old ≤ USED }
     ensures taken { (more : List ℕ) × Takes (S.left source.old) (S.left source.new) more
@@ -42,7 +46,11 @@ fn read_piece<S: Source>(source: &mut S, piece: &mut [u8], bytes: &mut Vec<u8>) 
 }
 
 // Reads an input by pieces.
-fn read_pieces<S: Source>(alloc: Global, source: &mut S, piece: &mut [u8]) -> Result<Vec<u8>, ReadStop>
+fn read_pieces<S: Source>(
+    alloc: Global,
+    source: &mut S,
+    piece: &mut [u8],
+) -> Result<Vec<u8>, ReadStop>
     requires { 0 < length piece.old }
     ensures taken { (bytes : List ℕ) × Takes (S.left source.old) (S.left source.new) bytes × IfOk result (λ v. v.items ≡ bytes) }
     ensures ended { IfOk result (λ v. AtEnd (S.left source.new) ⊎ (USED < length v.items)) }

@@ -3,17 +3,19 @@
 //! Today the one command is `replay`, over scripts of one mote that format a chip and start it.
 #![tactic(auto)]
 
+mod command;
 mod ends;
 mod finish;
 mod input;
 mod mote;
 mod replay;
 mod report;
-mod command;
 mod script;
 mod states;
 mod stop;
 mod words;
 
-
 pub use command::run;
+
+#[cfg(test)]
+mod tests;

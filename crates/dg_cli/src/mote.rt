@@ -149,7 +149,11 @@ pub fn play_line<N: Nor>(
             if boards.is_empty() {
                 return Err(PlayStop::NoBoard);
             }
-            match format(&mut boards[0], golden.name.as_slice(), golden.content.as_slice()) {
+            match format(
+                &mut boards[0],
+                golden.name.as_slice(),
+                golden.content.as_slice(),
+            ) {
                 Ok(()) => {
                     player.place = Place::Later;
                     Ok(None)

@@ -76,7 +76,7 @@ fn play_read<K: Sink, N: Nor>(
     ensures played { (w : Option World) (initial : List Device) (text : List ℕ) (number : ℕ) → line_of player.old.place text ≡ Some line.now
         → Stood player.old w initial (map N.device boards.old)
         → TextAnswer result text player.old.place number player.new w initial (map N.device boards.old) (map N.device boards.new)
-            (K.written out.old) (K.written out.new) (Rose (K.faults out.old) (K.faults out.new)) }
+        (K.written out.old) (K.written out.new) (Rose (K.faults out.old) (K.faults out.new)) }
     ensures events { player.new.events ≤ player.old.events + 1 }
     ensures counts { K.faults out.old ≤ K.faults out.new }
 {
@@ -99,7 +99,7 @@ fn play_text<K: Sink, N: Nor>(
     requires events { player.old.events < 2 ^ 32 - 1 }
     ensures played { (w : Option World) (initial : List Device) → Stood player.old w initial (map N.device boards.old)
         → TextAnswer result text.now player.old.place number player.new w initial (map N.device boards.old) (map N.device boards.new)
-            (K.written out.old) (K.written out.new) (Rose (K.faults out.old) (K.faults out.new)) }
+        (K.written out.old) (K.written out.new) (Rose (K.faults out.old) (K.faults out.new)) }
     ensures events { player.new.events ≤ player.old.events + 1 }
     ensures counts { K.faults out.old ≤ K.faults out.new }
 {
@@ -134,7 +134,15 @@ pub fn play_lines<K: Sink, N: Nor>(
     let mut from = 0;
     while from < text.len() {
         let (end, next) = next_line(text, from);
-        match play_text(alloc, &text[from..end], number, &mut player, boards, out, &mut piece) {
+        match play_text(
+            alloc,
+            &text[from..end],
+            number,
+            &mut player,
+            boards,
+            out,
+            &mut piece,
+        ) {
             Ok(()) => {}
             Err(stop) => return Err(stop),
         }

@@ -17,10 +17,18 @@ pub enum Report {
         crc: u16,
     },
     /// The script ended, after so many events.
-    End { events: u32 },
+    End {
+        events: u32,
+    },
     /// What a mote runs at the end.
-    MoteOn { mote: u8, image: u8, version: u32 },
-    MoteOff { mote: u8 },
+    MoteOn {
+        mote: u8,
+        image: u8,
+        version: u32,
+    },
+    MoteOff {
+        mote: u8,
+    },
     /// An image that a mote keeps at the end, with so many complete pages.
     Kept {
         mote: u8,

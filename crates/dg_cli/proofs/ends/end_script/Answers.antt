@@ -12,15 +12,15 @@ pub returns-in-First-clause-ends : goal.returns-in-First-clause-ends
 returns-in-First-clause-ends g c = λ script initial before faults below r.
     let early : c.args.player.now.place ≢ Later = λ e. let f : First ≡ Later = sym c.in-First.is ∙ e in cc in
     at_ended c.end_at_line.result script c.args.over _ _ initial _ _ before _ _ _ c.if-over.false r
-        (λ s. short_ends c.end_at_line.result script _ _ initial _ before _ _ _ _ (rose_later faults _ _ below) early s c.end_at_line.ensures.ends)
+    (λ s. short_ends c.end_at_line.result script _ _ initial _ before _ _ _ _ (rose_later faults _ _ below) early s c.end_at_line.ensures.ends)
 
 pub returns-in-Second-clause-ends : goal.returns-in-Second-clause-ends
 returns-in-Second-clause-ends g c = λ script initial before faults below r.
     let early : c.args.player.now.place ≢ Later = λ e. let f : Second ≡ Later = sym c.in-Second.is ∙ e in cc in
     at_ended c.end_at_line-in-Second.result script c.args.over _ _ initial _ _ before _ _ _ c.if-over.false r
-        (λ s. short_ends c.end_at_line-in-Second.result script _ _ initial _ before _ _ _ _ (rose_later faults _ _ below) early s c.end_at_line-in-Second.ensures.ends)
+    (λ s. short_ends c.end_at_line-in-Second.result script _ _ initial _ before _ _ _ _ (rose_later faults _ _ below) early s c.end_at_line-in-Second.ensures.ends)
 
 pub returns-in-Later-clause-ends : goal.returns-in-Later-clause-ends
 returns-in-Later-clause-ends g c = λ script initial before faults below r.
     at_ended c.finish.result script c.args.over _ _ initial _ _ before _ _ _ c.if-over.false r
-        (λ s. script_ends c.finish.result script _ _ initial _ _ before _ _ _ _ (rose_later faults _ _ below) c.in-Later.is s (λ w last stood. c.finish.ensures.finishes w initial stood))
+    (λ s. script_ends c.finish.result script _ _ initial _ _ before _ _ _ _ (rose_later faults _ _ below) c.in-Later.is s (λ w last stood. c.finish.ensures.finishes w initial stood))

@@ -30,8 +30,8 @@ loop-from-preserved g c =
     let next = c.next_line-end.ensures.line here in
     record {
       reached = λ ends.
-        let r = reached_texts ends _ _ _ _ _ _ _ _ _ next (c.loop-from.invariant.reached ends) in
-        reached_next ends _ _ _ _ _ c.play_text.new.player _ _ _ _ _ _ r (c.in-Ok.ensures.played r.last _ r.stood);
+          let r = reached_texts ends _ _ _ _ _ _ _ _ _ next (c.loop-from.invariant.reached ends) in
+          reached_next ends _ _ _ _ _ c.play_text.new.player _ _ _ _ _ _ r (c.in-Ok.ensures.played r.last _ r.stood);
       within = c.next_line-end.ensures.within;
       numbered = omega (arith, on, c.loop-from.invariant.numbered);
       events = omega (arith, on, c.loop-from.invariant.events, c.play_text.ensures.events);
