@@ -1,5 +1,7 @@
 -- What follows from what devices did.
-use Rattle.std.proofs.Common.{◌≡◌, ℕ, ◌+◌, ◌≤◌, List, Option, Some, None, Result, Ok, Err, OnOk, OnErr, refl, sym, ap, ◌∙◌, inl, inr, ⊎_elim, arith}
+use Rattle.std.proofs.Common.{◌≡◌, ℕ, ◌+◌, ◌≤◌, List, Option, Some, None, Result, Ok, Err, OnOk, OnErr, refl, sym, ap, ◌∙◌, inl, inr, ⊎_elim, arith, ◌-◌, ◌<◌, true, false, subst}
+use Rattle.std.proofs.lemmas.Bool.{both_ways}
+use Rattle.std.proofs.lemmas.Option.{none-some, same_Some}
 use Rattle.dg_words.specs.Counts.{Rose}
 use Rattle.dg_nor.specs.Device.{Device, more, NotFallen, Ran, Halts, Halted}
 
@@ -100,3 +102,27 @@ Halted_second {m} after ran f h = record { done = m + h.done; halts = Halts_seco
 -- one call that stopped
 pub Halted_once : {n : ℕ} {a b : Device} (may : ℕ → List ℕ → Type 0) → Halts n 0 a b → may 0 b.image → Halted n may a b
 Halted_once may halts leaves = record { done = 0; halts = halts; leaves = leaves }
+
+-- ---- where `left` is told
+
+more_some : (n k : ℕ) (o : Option ℕ) → Some k ≡ more n o → (n ≤ k) × (o ≡ Some (k - n))
+more_some n k None h = absurd (none-some k (sym h))
+more_some n k (Some m) h =
+    let e : k ≡ m + n = same_Some k (m + n) h in
+    (omega arith, ap Some (omega arith))
+
+-- An act that ran had enough left.
+pub left_ran : {n : ℕ} (k : ℕ) {a b : Device} → Ran n a b → a.left ≡ Some k → (n ≤ k) × (b.left ≡ Some (k - n))
+left_ran {n} k {a} {b} r told = more_some n k b.left (sym told ∙ r.left)
+
+-- Where the fuse blew in an act, all that was left was done before, and that was less than the act.
+pub left_blown : {n : ℕ} {may : ℕ → List ℕ → Type 0} (k : ℕ) {a b : Device} → Halted n may a b → a.blown ≡ false → b.blown ≡ true → a.left ≡ Some k → (k < n) × may k b.image
+left_blown {n} {may} k {a} {b} h whole blown told =
+    let m = more_some h.done k b.left (sym told ∙ h.halts.left) in
+    ⊎_elim
+    (λ was. absurd (both_ways a.blown whole was))
+    (λ out.
+    let e : 0 ≡ k - h.done = same_Some 0 (k - h.done) (sym out.1 ∙ m.1) in
+    let f : h.done ≡ k = omega (arith, m.0) in
+    (omega (arith, out.0), subst (λ j. may j b.image) f h.leaves))
+    (h.halts.blew blown)

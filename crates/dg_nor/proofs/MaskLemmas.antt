@@ -3,7 +3,7 @@ use Rattle.std.proofs.Common.{◌≡◌, ℕ, ◌+◌, ◌*◌, ◌<◌, ◌≤�
 use Rattle.std.proofs.lemmas.Nat.{and_comm}
 use Rattle.std.proofs.lemmas.Grind.{same_number_lists}
 use Rattle.dg_words.specs.Cells.{part, overwritten, AreBytes}
-use Rattle.dg_words.proofs.CellLemmas.{length-part, length-overwritten, get_or-part, part-overwritten_at, overwritten_twice, overwritten_same}
+use Rattle.dg_words.proofs.CellLemmas.{length-part, get_or-part, part-overwritten_at, overwritten_twice, overwritten_same}
 use Rattle.dg_nor.specs.Chip.{blank, and_each, programmed, erased, IsBetween, CutProgram, CutErase}
 use Rattle.dg_nor.specs.Device.{Device, Ran, Halts}
 use Rattle.dg_nor.specs.Masks.{mask_byte, MaskedProgram, MaskedErase, Drifts}
