@@ -20,3 +20,6 @@ pub use numbers::{parse_u32, push_u32, reads_what_is_printed};
 pub use outside::{ReadFailed, Sink, Source, WriteFailed};
 pub use standard::{StdSink, StdSource};
 pub use texts::{Bytes, is_name, next_line};
+
+#[cfg(test)]
+mod tests;

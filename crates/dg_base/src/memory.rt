@@ -1,5 +1,5 @@
 //! An input and an output in memory, of whose calls chosen ones fail.
-ghost use Rattle.std.specs.Prelude.{◌≡◌, ℕ, Option, IsTrue, ◌+◌, ◌-◌, ◌^◌, ◌<◌, ◌≤◌, ◌↔◌, ◌⊎◌, min, List, [], ◌++◌, length, take, drop, Ok, Some, IsErr, IfOk, OnOk, OnErr, MatchResult, Contains, vec_len};
+ghost use Rattle.std.specs.Prelude.{◌≡◌, IsTrue, ◌+◌, ◌-◌, ◌^◌, ◌<◌, ◌≤◌, ◌↔◌, ◌⊎◌, min, [], length, take, drop, Ok, Some, IsErr, IfOk, OnOk, OnErr, MatchResult, Contains, vec_len};
 ghost use Rattle.dg_words.specs.Counts.{Rose};
 ghost use Rattle.dg_base.specs.Outside.{Takes, Puts, PutsFront, AtEnd};
 

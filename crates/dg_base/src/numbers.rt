@@ -1,5 +1,5 @@
 //! Numbers as decimal digits.
-ghost use Rattle.std.specs.Prelude.{◌≡◌, ℕ, ◌+◌, ◌*◌, ◌^◌, ◌<◌, ◌↔◌, List, ◌++◌, Some, IsOk, OnOk, OnErr, SomeIff, decimal};
+ghost use Rattle.std.specs.Prelude.{◌≡◌, ℕ, ◌+◌, ◌^◌, ◌<◌, List, ◌++◌, Some, OnOk, OnErr, decimal};
 ghost use Rattle.dg_base.specs.Numbers.{number_of, with_digit};
 
 use itoa::Buffer;

@@ -2,7 +2,7 @@
 //!
 //! Each trait counts its faults. The count never falls, a call answers its failure only where the
 //! count rose in that call, and at the end of a `u64` the count stands still.
-ghost use Rattle.std.specs.Prelude.{◌≡◌, ℕ, Option, IsTrue, ◌<◌, ◌≤◌, List, [], length, take, Ok, IfOk, OnOk, OnErr, MatchResult};
+ghost use Rattle.std.specs.Prelude.{◌≡◌, ℕ, Option, ◌<◌, ◌≤◌, List, length, take, Ok, IfOk, OnOk, OnErr, MatchResult};
 ghost use Rattle.dg_words.specs.Counts.{Rose};
 ghost use Rattle.dg_base.specs.Outside.{Takes, Puts, PutsFront, AtEnd};
 

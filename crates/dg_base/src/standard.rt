@@ -1,9 +1,8 @@
 //! Standard input and output as a source and a sink, or any other reader and writer of std.
-ghost use Rattle.std.specs.Prelude.{◌≡◌, ℕ, Option, IsTrue, ◌<◌, ◌≤◌, List, [], length, take, None, Ok, IfOk, OnOk, OnErr, MatchResult};
+ghost use Rattle.std.specs.Prelude.{◌≡◌, ◌<◌, ◌≤◌, length, None, IfOk, OnOk, OnErr};
 ghost use Rattle.std.specs.Io.KnownBytes.{Appends, ReadConsumes};
 ghost use Rattle.std.specs.Bool.{OnTrue, OnFalse};
 ghost use Rattle.dg_words.specs.Counts.{Rose};
-ghost use Rattle.dg_base.specs.Outside.{Takes, Puts, PutsFront, AtEnd};
 ghost use Rattle.dg_base.specs.Standard.{reader_of, writer_of, faults_read, faults_written, AppendsFront};
 
 use crate::outside::{ReadFailed, Sink, Source, WriteFailed};

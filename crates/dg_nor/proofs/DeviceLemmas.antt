@@ -8,6 +8,16 @@ pub on_either : {T E P Q R : Type 0} (r : Result T E) → (P → R) → (Q → R
 on_either (Ok x) f g p q = f p
 on_either (Err e) f g p q = g q
 
+-- a clause on `Err` that holds anyway
+pub OnErr_from : {T E P : Type 0} (r : Result T E) → P → OnErr r P
+OnErr_from (Ok x) p = tt
+OnErr_from (Err e) p = p
+
+-- from two clauses on `Err`
+pub on_err_both : {T E P Q R : Type 0} (r : Result T E) → (P → Q → R) → OnErr r P → OnErr r Q → OnErr r R
+on_err_both (Ok x) f p q = tt
+on_err_both (Err e) f p q = f p q
+
 pub more-zero : (o : Option ℕ) → more 0 o ≡ o
 more-zero None = refl
 more-zero (Some m) = ap Some (omega arith)
@@ -47,9 +57,9 @@ Ran_then {m} {n} {a} {b} {c} first second = record {
 pub Rose_then : (a b c : ℕ) → a ≤ b → Rose b c → Rose a c
 Rose_then a b c h rose = omega arith
 
--- what is said of a stop may be weakened
-pub Halted-weaker : {n : ℕ} {may may' : ℕ → List ℕ → Type 0} {a b : Device} → ((k : ℕ) (c : List ℕ) → k ≤ n → may k c → may' k c) → Halted n may a b → Halted n may' a b
-Halted-weaker f h = record { done = h.done; halts = h.halts; leaves = f h.done _ h.halts.within h.leaves }
+-- what is said of the chip after a stop may be said in another way
+pub Halted-weaker : {n : ℕ} {may may' : ℕ → List ℕ → Type 0} {a b : Device} → ((k : ℕ) → k ≤ n → may k b.image → may' k b.image) → Halted n may a b → Halted n may' a b
+Halted-weaker f h = record { done = h.done; halts = h.halts; leaves = f h.done h.halts.within h.leaves }
 
 -- a stop in the first part of an act
 pub Halts_first : {m done : ℕ} {a b : Device} (n : ℕ) → Halts m done a b → Halts (m + n) done a b
@@ -84,8 +94,8 @@ Halts_second {m} {n} {done} {a} {b} {c} ran h = record {
 pub Halted_first : {m : ℕ} {may : ℕ → List ℕ → Type 0} {a b : Device} (n : ℕ) → Halted m may a b → Halted (m + n) may a b
 Halted_first n h = record { done = h.done; halts = Halts_first n h.halts; leaves = h.leaves }
 
-pub Halted_second : {m n : ℕ} {may : ℕ → List ℕ → Type 0} (after : ℕ → List ℕ → Type 0) {a b c : Device} → Ran m a b → ((k : ℕ) (image : List ℕ) → k ≤ n → after k image → may (m + k) image) → Halted n after b c → Halted (m + n) may a c
-Halted_second {m} after ran f h = record { done = m + h.done; halts = Halts_second ran h.halts; leaves = f h.done _ h.halts.within h.leaves }
+pub Halted_second : {m n : ℕ} {may : ℕ → List ℕ → Type 0} (after : ℕ → List ℕ → Type 0) {a b c : Device} → Ran m a b → ((k : ℕ) → k ≤ n → after k c.image → may (m + k) c.image) → Halted n after b c → Halted (m + n) may a c
+Halted_second {m} after ran f h = record { done = m + h.done; halts = Halts_second ran h.halts; leaves = f h.done h.halts.within h.leaves }
 
 -- one call that stopped
 pub Halted_once : {n : ℕ} {a b : Device} (may : ℕ → List ℕ → Type 0) → Halts n 0 a b → may 0 b.image → Halted n may a b

@@ -23,13 +23,13 @@ module _ (image : List ℕ) (at : ℕ) (bs mask xs found : List ℕ) (fits : at 
 
   pub found_between : (k : ℕ) → k < length bs → IsBetween (get_or image (at + k) 0) (bit_and (get_or image (at + k) 0) (get_or bs k 0)) (get_or found k 0)
   found_between k h = subst (λ x. IsBetween (get_or image (at + k) 0) (bit_and (get_or image (at + k) 0) (get_or bs k 0)) x) (sym (found_cell k h))
-    (IsBetween-masked (get_or image (at + k) 0) (get_or bs k 0) (mask_byte mask k))
+      (IsBetween-masked (get_or image (at + k) 0) (get_or bs k 0) (mask_byte mask k))
 
   found_stays : and_each (part image at (length found)) found ≡ found
   found_stays =
-    let n : length (part image at (length found)) ≡ length found = length-part image at (length found) (omega arith) in
-    let m = length-and_each (part image at (length found)) found n in
-    same_number_lists (and_each (part image at (length found)) found) found m (λ k h.
+      let n : length (part image at (length found)) ≡ length found = length-part image at (length found) (omega arith) in
+      let m = length-and_each (part image at (length found)) found n in
+      same_number_lists (and_each (part image at (length found)) found) found m (λ k h.
       get_or-and_each (part image at (length found)) found k (omega arith) (omega arith)
       ∙ ap (λ o. bit_and o (get_or found k 0)) (get_or-part image at (length found) k 0 (omega arith))
       ∙ and_comm (get_or image (at + k) 0) (get_or found k 0) ∙ (found_between k (omega arith)).below)
@@ -45,7 +45,7 @@ module _ (image : List ℕ) (at : ℕ) (bs mask xs found : List ℕ) (fits : at 
     found = cut.found;
     count = cut.count ∙ count;
     each = λ k h. IsBetween_then (get_or image (at + k) 0) (bit_and (get_or image (at + k) 0) (get_or bs k 0)) (get_or found k 0) (get_or cut.found k 0) (found_between k h) (cut.each k (omega arith));
-    leaves = cut.leaves
+    leaves = cut.leaves;
   }
 
 pub CutProgram-masked : (image : List ℕ) (at : ℕ) (bs mask new : List ℕ) → MaskedProgram image at bs mask new → CutProgram image at bs new
@@ -53,8 +53,8 @@ CutProgram-masked image at bs mask new m = record {
   found = m.found;
   count = m.count;
   each = λ k h. subst (λ x. IsBetween (get_or image (at + k) 0) (bit_and (get_or image (at + k) 0) (get_or bs k 0)) x) (sym (m.each k h))
-    (IsBetween-masked (get_or image (at + k) 0) (get_or bs k 0) (mask_byte mask k));
-  leaves = m.leaves
+      (IsBetween-masked (get_or image (at + k) 0) (get_or bs k 0) (mask_byte mask k));
+  leaves = m.leaves;
 }
 
 -- ---- erases
@@ -66,12 +66,12 @@ MaskedErase_from image k mask found whole h count small each =
     let l : length (blank 2048) ≡ 2048 = length-blank 2048 in
     let fits : 2048 * k + length (blank 2048) ≤ length image = omega arith in
     let clear : part (overwritten image (2048 * k) (blank 2048)) (2048 * k) (length found) ≡ blank (length found) =
-      ap (part (overwritten image (2048 * k) (blank 2048)) (2048 * k)) (count ∙ sym l) ∙ part-overwritten_at image (2048 * k) (blank 2048) fits ∙ ap blank (sym count) in
+    ap (part (overwritten image (2048 * k) (blank 2048)) (2048 * k)) (count ∙ sym l) ∙ part-overwritten_at image (2048 * k) (blank 2048) fits ∙ ap blank (sym count) in
     record {
       found = found;
       count = count;
       each = λ j i. each j (omega arith);
-      leaves = programmed_blank (overwritten image (2048 * k) (blank 2048)) (2048 * k) found small clear ∙ overwritten_twice image (2048 * k) (blank 2048) found fits (count ∙ sym l)
+      leaves = programmed_blank (overwritten image (2048 * k) (blank 2048)) (2048 * k) found small clear ∙ overwritten_twice image (2048 * k) (blank 2048) found fits (count ∙ sym l);
     }
 
 -- that program, interrupted
@@ -83,7 +83,7 @@ CutErase_from image k found new whole h count cut =
     record {
       found = cut.found;
       count = cut.count ∙ count;
-      leaves = cut.leaves ∙ overwritten_twice image (2048 * k) (blank 2048) cut.found fits (cut.count ∙ count ∙ sym l)
+      leaves = cut.leaves ∙ overwritten_twice image (2048 * k) (blank 2048) cut.found fits (cut.count ∙ count ∙ sym l);
     }
 
 pub CutErase-masked : (image : List ℕ) (k : ℕ) (mask new : List ℕ) → MaskedErase image k mask new → CutErase image k new
@@ -94,7 +94,7 @@ pub CutErase-same : (image : List ℕ) (k : ℕ) → length image ≡ 679936 →
 CutErase-same image k whole h = record {
   found = part image (2048 * k) 2048;
   count = length-part image (2048 * k) 2048 (omega arith);
-  leaves = sym (overwritten_same image (2048 * k) 2048 (omega arith))
+  leaves = sym (overwritten_same image (2048 * k) 2048 (omega arith));
 }
 
 -- ---- the inner device

@@ -24,7 +24,7 @@ fused_device device f = record {
   left = f.left;
   taken = (device f.inner.now).taken;
   blown = f.blown;
-  names = f.inner.ghost_name ∷ (device f.inner.now).names
+  names = f.inner.ghost_name ∷ (device f.inner.now).names;
 }
 
 -- the programs and erases that are made before the one with this number, counted from 1

@@ -10,6 +10,7 @@ use crate::{CHIP, Nor, SECTOR, Stopped};
 
 /// A device over another one. It passes operations on, and interrupts the program or erase with a given
 /// number, counted from 1, as a power cut would: from then on it is stopped. The inner device isn't.
+#[derive(Drop)]
 pub struct Fused<'a, N> {
     inner: &'a mut N,
     mask: &'a [u8],
@@ -30,9 +31,14 @@ impl<'a, N: Nor> Fused<'a, N> {
         ensures same_reference { name_of result ≡ inner.entry.ghost_name }
         ensures mask { mask_of result ≡ mask.now }
         ensures device { fused_device N.device result ≡ record {
-            image = (N.device inner.old).image; stopped = (N.device inner.old).stopped;
-            faults = (N.device inner.old).faults; left = before after; taken = (N.device inner.old).taken;
-            blown = false; names = inner.entry.ghost_name ∷ (N.device inner.old).names } }
+          image = (N.device inner.old).image;
+          stopped = (N.device inner.old).stopped;
+          faults = (N.device inner.old).faults;
+          left = before after;
+          taken = (N.device inner.old).taken;
+          blown = false;
+          names = inner.entry.ghost_name ∷ (N.device inner.old).names;
+        } }
     {
         let left = match after {
             Some(number) => Some(number - 1),
@@ -90,7 +96,7 @@ impl<N: Nor> Nor for Fused<'_, N> {
         ensures masked { (fused_device N.device self.old).stopped ≡ false
             → (fused_device N.device self.old).left ≡ Some 0 → (N.device (inner_of self.new)).stopped ≡ false
             → MaskedProgram (fused_device N.device self.old).image at bytes.now (mask_of self.old)
-                (fused_device N.device self.new).image }
+            (fused_device N.device self.new).image }
         ensures same_mask { mask_of self.new ≡ mask_of self.old }
 
         ensures passed { OnOk result (Ran 1 (N.device (inner_of self.old)) (N.device (inner_of self.new))) }
@@ -127,7 +133,7 @@ impl<N: Nor> Nor for Fused<'_, N> {
         ensures masked { (fused_device N.device self.old).stopped ≡ false
             → (fused_device N.device self.old).left ≡ Some 0 → (N.device (inner_of self.new)).stopped ≡ false
             → MaskedErase (fused_device N.device self.old).image sector (mask_of self.old)
-                (fused_device N.device self.new).image }
+            (fused_device N.device self.new).image }
         ensures same_mask { mask_of self.new ≡ mask_of self.old }
 
         ensures passed { OnOk result (Ran 1 (N.device (inner_of self.old)) (N.device (inner_of self.new))) }
@@ -171,7 +177,7 @@ fn mask_cells(cells: &mut [u8], bytes: &[u8], mask: &[u8])
     requires some { 0 < length mask.now }
     ensures { (k : ℕ) → k < length bytes.now → slice_index cells.new k
         ≡ bit_or (bit_and (slice_index cells.old k) (slice_index bytes.now k))
-            (bit_and (slice_index cells.old k) (mask_byte mask.now k)) }
+        (bit_and (slice_index cells.old k) (mask_byte mask.now k)) }
 {
     for i in 0..cells.len() {
         let old = cells[i];

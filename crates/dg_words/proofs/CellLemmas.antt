@@ -1,10 +1,10 @@
 -- Parts of lists, and lists that are written over.
-use Rattle.std.proofs.Common.{◌≡◌, ℕ, ◌+◌, ◌-◌, ◌<◌, ◌≤◌, ◌⊎◌, List, ◌++◌, length, get_or, take, drop, refl, sym, ap, ◌∙◌, inl, inr, arith, ⊎_elim}
+use Rattle.std.proofs.Common.{◌≡◌, ℕ, ◌+◌, ◌-◌, ◌<◌, ◌≤◌, ◌⊎◌, List, Fits, w8, ◌++◌, length, get_or, take, drop, refl, sym, ap, ◌∙◌, inl, inr, arith, ⊎_elim}
 use Rattle.std.proofs.lemmas.List.{length-take, length-drop, length-append, get_or-take, get_or-drop, get_or_append_left, get_or-append_right, same_lists, length-take-le, take_all}
 use Rattle.std.proofs.lemmas.Bool.{cases_lt}
 use Rattle.std.proofs.lemmas.Slice.{put_mid-paste}
 use borrow.Rule.Slice.PartMut.{put_mid}
-use Rattle.dg_words.specs.Cells.{part, overwritten}
+use Rattle.dg_words.specs.Cells.{part, overwritten, AreBytes}
 
 -- ---- lengths
 
@@ -231,3 +231,7 @@ put_mid-overwritten a k xs ys h =
 pub between-part : (xs : List ℕ) (i j n : ℕ) → j - i ≡ n → take (j - i) (drop i xs) ≡ part xs i n
 unfolding part
 between-part xs i j n h = ap (λ m. take m (drop i xs)) h
+
+-- what the type of a slice of bytes says
+pub AreBytes_fits : (xs : List ℕ) → ((k : ℕ) → Fits w8 (get_or xs k 0)) → AreBytes xs
+AreBytes_fits xs h k = omega (arith, (h k).fits)

@@ -1,0 +1,157 @@
+use super::*;
+use std::io;
+use std::io::{Read, Write};
+use std::test::Fail;
+
+#[test]
+fn checksums(rt: HostRuntime) {
+    assert_eq!(rt; crc16(b"123456789"), 0x31c3);
+    assert_eq!(rt; crc16(b"A"), 0x58e5);
+    assert_eq!(rt; crc16(b"\xff"), 0x1ef0);
+    assert_eq!(rt; crc16(b""), 0);
+    assert_eq!(rt; crc16(&[0; 1104]), 0);
+    assert_eq!(rt; crc16_more(crc16(b"1234"), b"56789"), 0x31c3);
+}
+
+#[test]
+fn reads_texts(rt: HostRuntime) -> Result<(), Fail> {
+    for (text, number) in [
+        ("0", Some(0)),
+        ("7", Some(7)),
+        ("4294967295", Some(4_294_967_295)),
+        ("4294967296", None),
+        ("99999999999", None),
+        ("", None),
+        ("00", None),
+        ("01", None),
+        ("+1", None),
+        ("1x", None),
+    ] {
+        assert_eq!(rt; parse_u32(text.as_bytes()), number, "{text}");
+    }
+    for (text, name) in [
+        ("base", true),
+        ("a-Z_0.9", true),
+        ("0123456789abcdef", true),
+        ("0123456789abcdefg", false),
+        ("", false),
+        ("a b", false),
+        ("a/b", false),
+    ] {
+        assert_eq!(rt; is_name(text.as_bytes()), name, "{text}");
+    }
+    let alloc = rt.alloc();
+    let read = parse_hex(alloc, b"004aF9")?;
+    assert_eq!(rt; read.as_slice(), [0x00, 0x4a, 0xf9].as_slice());
+    assert_eq!(rt; parse_hex(alloc, b"")?.len(), 0);
+    for (text, fault) in [
+        ("4", HexFault::Odd),
+        ("4g5", HexFault::Odd),
+        ("4g", HexFault::Digit),
+    ] {
+        assert_eq!(rt;
+            parse_hex(alloc, text.as_bytes()).err(),
+            Some(fault),
+            "{text}"
+        );
+    }
+    Ok(())
+}
+
+#[test]
+fn reads_lines(rt: HostRuntime) {
+    let bytes = b"ab\r\n\nc\r\r\nd\r";
+    for (from, line) in [
+        (0, (2, 4)),
+        (4, (4, 5)),
+        (5, (7, 9)),
+        (9, (11, 11)),
+        (11, (11, 11)),
+    ] {
+        assert_eq!(rt; next_line(bytes, from), line, "from {from}");
+    }
+}
+
+#[test]
+fn appends(rt: HostRuntime) -> Result<(), Fail> {
+    let mut out = Vec::new(rt.alloc());
+    push_u32(&mut out, 0)?;
+    push_u32(&mut out, 4_294_967_295)?;
+    push_hex(&mut out, &[0x00, 0x4a, 0xf9])?;
+    assert_eq!(rt; out.as_slice(), b"04294967295004af9".as_slice());
+    assert_eq!(rt; Bytes::new(out).into_vec().len(), 17);
+    assert_eq!(rt; Status::Done.code(), 0);
+    assert_eq!(rt; Status::NoImage.code(), 13);
+    Ok(())
+}
+
+#[test]
+fn source_in_memory(rt: HostRuntime) -> Result<(), Fail> {
+    let bytes = b"abcde".to_vec(rt.alloc())?;
+    let failing = vec![in rt.alloc(); 2, 5]?;
+    let mut source = MemSource::new(bytes, failing);
+    let mut into = [0; 3];
+    assert_eq!(rt; source.read(&mut into), Ok(3));
+    assert_eq!(rt; &into, b"abc");
+    assert_eq!(rt; source.read(&mut into), Err(ReadFailed));
+    assert_eq!(rt; source.read(&mut into), Ok(2));
+    assert_eq!(rt; &into, b"dec");
+    assert_eq!(rt; source.read(&mut into), Ok(0));
+    assert_eq!(rt; source.read(&mut into), Err(ReadFailed));
+    assert_eq!(rt; source.read(&mut into), Ok(0));
+    Ok(())
+}
+
+#[test]
+fn sink_in_memory(rt: HostRuntime) -> Result<(), Fail> {
+    let failing = vec![in rt.alloc(); 2]?;
+    let mut sink = MemSink::new(rt.alloc(), 4, failing)?;
+    assert_eq!(rt; sink.write(b"ab"), Ok(()));
+    assert_eq!(rt; sink.write(b"c"), Err(WriteFailed));
+    assert_eq!(rt; sink.write(b"cde"), Err(WriteFailed));
+    assert_eq!(rt; sink.write(b"cd"), Ok(()));
+    assert_eq!(rt; sink.write(b""), Ok(()));
+    assert_eq!(rt; sink.bytes(), b"abcd".as_slice());
+    Ok(())
+}
+
+// A reader whose second call fails, and a writer that takes two bytes, and from its third call on
+// none.
+#[derive(Drop)]
+struct Fake {
+    calls: u8,
+}
+
+impl Read for Fake {
+    fn read(&mut self, buf: &mut [u8]) -> io::Result<usize> {
+        self.calls = self.calls.saturating_add(1);
+        if self.calls == 2 {
+            return Err(io::Error::from(io::ErrorKind::Other));
+        }
+        Ok(buf.len().min(1))
+    }
+}
+
+impl Write for Fake {
+    fn write(&mut self, buf: &[u8]) -> io::Result<usize> {
+        self.calls = self.calls.saturating_add(1);
+        Ok(if self.calls < 3 { buf.len().min(2) } else { 0 })
+    }
+
+    fn flush(&mut self) -> io::Result<()> {
+        Ok(())
+    }
+}
+
+#[test]
+fn over_fakes(rt: HostRuntime) {
+    let mut source = StdSource::new(Fake { calls: 0 });
+    let mut into = [0; 3];
+    assert_eq!(rt; source.read(&mut into), Ok(1));
+    assert_eq!(rt; source.read(&mut into), Err(ReadFailed));
+    assert_eq!(rt; source.read(&mut into), Ok(1));
+    let mut sink = StdSink::new(Fake { calls: 0 });
+    assert_eq!(rt; sink.write(b"abc"), Ok(()));
+    assert_eq!(rt; sink.write(b"d"), Err(WriteFailed));
+    assert_eq!(rt; sink.write(b""), Ok(()));
+}
