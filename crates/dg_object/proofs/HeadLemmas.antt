@@ -1,14 +1,13 @@
 -- The fields that the first 28 bytes of a descriptor spell, and that no others do.
-use Rattle.std.proofs.Common.{◌≡◌, ℕ, ◌+◌, ◌-◌, ◌<◌, ◌≤◌, IsTrue, List, [], ◌∷◌, ◌++◌, length, take, drop, get_or, refl, sym, ap, ◌∙◌, arith, length-drop, length-take, get_or-drop, get_or-take, take-append-drop, append_assoc, inl, inr}
+use Rattle.std.proofs.Common.{◌≡◌, ℕ, ◌+◌, ◌<◌, ◌≤◌, List, [], ◌∷◌, ◌++◌, length, take, drop, get_or, refl, sym, ap, ◌∙◌, arith, length-drop, length-take, get_or-drop, get_or-take, take-append-drop, append_assoc, inl, inr}
 use Rattle.std.proofs.lemmas.List.{drop-drop, get_or_past, take_all}
 use borrow.Rule.Slice.PartMut.{mid_of}
 use Rattle.std.proofs.lemmas.Bool.{cases_lt}
 use Rattle.std.proofs.lemmas.Nat.{be_bytes_4, from_be_bytes-to_be_bytes_4}
 use Rattle.std.specs.Int.{from_be_bytes, to_be_bytes, w32}
 use Rattle.dg_words.specs.Lists.{padded}
-use Rattle.dg_base.specs.Texts.{names}
-use Rattle.dg_object.specs.Object.{head_of, pages_for}
-use Rattle.dg_object.specs.Descriptor.{Details, HasTag, IsInRange, IsHead}
+use Rattle.dg_object.specs.Object.{head_of}
+use Rattle.dg_object.specs.Descriptor.{Details, HasTag, IsHead}
 use Rattle.dg_object.proofs.NameLemmas.{same_names}
 
 -- the number that four bytes at a place spell

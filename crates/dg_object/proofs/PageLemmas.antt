@@ -1,8 +1,8 @@
 -- How the pages of an object are put together.
-use Rattle.std.proofs.Common.{◌≡◌, ℕ, ◌+◌, ◌-◌, ◌*◌, ◌<◌, ◌≤◌, suc, zero, min, List, [], ◌++◌, length, take, drop, replicate, refl, sym, ap, ◌∙◌, arith, append_assoc, length-append}
+use Rattle.std.proofs.Common.{◌≡◌, ℕ, ◌+◌, ◌-◌, ◌*◌, ◌≤◌, suc, zero, min, List, [], ◌++◌, length, take, drop, replicate, refl, sym, ap, ◌∙◌, arith, append_assoc, length-append}
 use Rattle.std.specs.List.{flat_map, range_with_len}
 use Rattle.std.specs.Int.{to_be_bytes, w16}
-use Rattle.std.proofs.lemmas.List.{take_rest, drop_min, take_min, take_all, drop-replicate, length-replicate}
+use Rattle.std.proofs.lemmas.List.{take_rest, drop_min, take_min, drop-replicate}
 use borrow.Rule.Slice.PartMut.{put_mid}
 use Rattle.dg_words.specs.Lists.{padded}
 use Rattle.dg_words.proofs.ListLemmas.{padded_none, padded-append, length-padded, flat_map-range_more}

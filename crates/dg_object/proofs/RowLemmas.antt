@@ -1,19 +1,19 @@
 -- The pages of a row: how many they are, what they hold, and that they hold the image.
-use Rattle.std.proofs.Common.{◌≡◌, ℕ, ◌+◌, ◌-◌, ◌*◌, ◌/◌, ◌%◌, ◌^◌, ◌<◌, ◌≤◌, min, suc, zero, List, [], ◌∷◌, ◌++◌, length, take, drop, map, get_or, refl, sym, ap, ◌∙◌, add-zero, arith, length-append, length-take, length-drop, take-append-drop}
+use Rattle.std.proofs.Common.{◌≡◌, ℕ, ◌+◌, ◌-◌, ◌*◌, ◌/◌, ◌%◌, ◌^◌, ◌<◌, ◌≤◌, suc, zero, List, [], ◌∷◌, ◌++◌, length, take, drop, map, get_or, refl, sym, ap, ◌∙◌, add-zero, arith, length-take}
 use Rattle.std.proofs.lemmas.List.{take_at, get_or-append_right}
 use Rattle.std.proofs.Math.Nat.{sub-zero}
 use Rattle.std.specs.List.{flat_map, range_with_len}
 use Rattle.std.specs.Int.{to_be_bytes, w16, w32}
 use Rattle.dg_words.specs.Cells.{AreBytes}
-use Rattle.dg_words.specs.Lists.{padded, tabulate, joined}
+use Rattle.dg_words.specs.Lists.{padded, joined}
 use Rattle.dg_words.proofs.ListLemmas.{length-padded, take-padded_front, joined_chunks, get_or-padded_front, get_or-padded_behind, length-tabulate, get_or-tabulate}
 use Rattle.dg_words.proofs.ByteLemmas.{AreBytes-cons, AreBytes-append, AreBytes-take, AreBytes-drop, AreBytes-padded, AreBytes-flat_map, AreBytes-high_first, All-from_AreBytes}
 use Rattle.dg_base.specs.Crc.{crc_of}
 use Rattle.dg_base.proofs.CrcLemmas.{crc_more-lt}
-use Rattle.dg_object.specs.Object.{Row, IsRow, pages_for, data_page, head_of, crcs_to, page_crcs, descriptor_page, page_of_row, object, content}
-use Rattle.dg_object.specs.Descriptor.{Details, IsHead, IsInRange, RestFits, IsDescriptor, details, crc_in}
+use Rattle.dg_object.specs.Object.{Row, IsRow, pages_for, data_page, head_of, page_crcs, descriptor_page, page_of_row, object, content}
+use Rattle.dg_object.specs.Descriptor.{IsDescriptor, details, crc_in}
 use Rattle.dg_object.proofs.NameLemmas.{names-fits, names-bytes}
-use Rattle.dg_object.proofs.PageLemmas.{length-head_of, length-crcs_to, length-descriptor, page_of_row-first, page_of_row-data}
+use Rattle.dg_object.proofs.PageLemmas.{length-head_of, length-descriptor, page_of_row-data}
 
 -- 2 to 65 pages
 pub pages_for-some : (len : ℕ) → 1 ≤ len → 2 ≤ pages_for len

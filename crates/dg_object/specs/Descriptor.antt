@@ -1,5 +1,5 @@
 -- What a page says as a descriptor.
-use Rattle.std.specs.Prelude.{◌≡◌, ◌≢◌, ℕ, ◌+◌, ◌-◌, ◌*◌, ◌^◌, ◌<◌, ◌≤◌, IsTrue, List, length, take, slice_index}
+use Rattle.std.specs.Prelude.{◌≡◌, ℕ, ◌+◌, ◌-◌, ◌*◌, ◌^◌, ◌<◌, ◌≤◌, IsTrue, List, length, take, slice_index}
 use Rattle.dg_base.specs.Texts.{names}
 use Rattle.dg_object.specs.Object.{Row, head_of, pages_for}
 

@@ -1,5 +1,4 @@
 -- What the records of the code say.
-use Rattle.std.specs.Prelude.{ℕ}
 use Rattle.dg_object.specs.Object.{Outline}
 use Rattle.dg_object.specs.Descriptor.{Details}
 use Rattle.dg_object.specs.declared.profile.Profile.{Profile}

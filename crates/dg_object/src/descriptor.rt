@@ -8,11 +8,8 @@ ghost use Rattle.dg_object.specs.Descriptor.{Details, HasTag, IsHead, RestFits, 
 ghost use Rattle.dg_object.specs.Records.{details_of};
 
 use crate::Name;
-use crate::size::{check_size, pages_of};
+use crate::size::{HEAD, check_size, pages_of};
 use dg_base::is_name;
-
-/// Bytes of a descriptor in front of the CRCs.
-const HEAD: usize = 28;
 
 /// Why bytes are no descriptor.
 #[derive(Clone, Copy, Debug, PartialEq, Eq)]

@@ -8,14 +8,11 @@ ghost use Rattle.dg_object.specs.Records.{outline_of};
 ghost use Rattle.dg_object.specs.Object.{row_of, profile, pages_for, data_page, head_of, descriptor_page, page_of_row};
 
 use crate::Profile;
-use crate::size::{PAGE, pages_of};
+use crate::size::{HEAD, PAGE, pages_of};
 use dg_base::{crc16, crc16_more};
 
 /// What fills a page behind its last byte.
 const FILLING: u8 = 0xFF;
-
-/// Bytes of a descriptor in front of the CRCs.
-const HEAD: usize = 28;
 
 /// Writes page `p` of the object of an image into `into`: for 0 the descriptor, else the bytes of the image
 /// from `(p - 1) * 1104` on.

@@ -4,6 +4,8 @@ ghost use Rattle.dg_object.specs.Object.{pages_for};
 
 /// Bytes of a page.
 pub const PAGE: usize = 1104;
+/// Bytes of a descriptor in front of the CRCs.
+pub const HEAD: usize = 28;
 /// Bytes of the longest image, which fills 64 data pages.
 pub const LONGEST: usize = 70_656;
 

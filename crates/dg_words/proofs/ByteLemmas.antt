@@ -1,5 +1,5 @@
 -- Lists of bytes that are made of lists of bytes.
-use Rattle.std.proofs.Common.{ℕ, ◌+◌, ◌*◌, ◌/◌, ◌^◌, ◌<◌, suc, zero, List, [], ◌∷◌, ◌++◌, take, drop, replicate, arith, get_or-drop}
+use Rattle.std.proofs.Common.{ℕ, ◌+◌, ◌/◌, ◌^◌, ◌<◌, suc, zero, List, [], ◌∷◌, ◌++◌, take, drop, replicate, arith, get_or-drop}
 use Rattle.std.proofs.lemmas.Nat.{mod_below}
 use Rattle.std.proofs.lemmas.List.Elements.{All-from_get_or}
 use Rattle.std.specs.Int.{bytes_high_first, byte_at}

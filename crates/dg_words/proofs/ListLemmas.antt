@@ -1,5 +1,5 @@
 -- What stands in lists that are filled up, told by a function of the place, or joined.
-use Rattle.std.proofs.Common.{◌≡◌, ℕ, ◌+◌, ◌-◌, ◌*◌, ◌<◌, ◌≤◌, suc, zero, List, [], ◌∷◌, ◌++◌, length, take, drop, get_or, map, replicate, refl, sym, ap, ◌∙◌, subst, arith, append_assoc, length-append, length-take, length-drop, take-append-drop, add-zero, inl, inr}
+use Rattle.std.proofs.Common.{◌≡◌, ℕ, ◌+◌, ◌-◌, ◌*◌, ◌<◌, ◌≤◌, suc, zero, List, [], ◌++◌, length, take, drop, get_or, map, replicate, refl, sym, ap, ◌∙◌, subst, arith, append_assoc, length-append, length-take, length-drop, take-append-drop, add-zero, inl, inr}
 use Rattle.std.proofs.Math.Seq.{take-append-add}
 use Rattle.std.proofs.lemmas.Bool.{cases_lt}
 use Rattle.std.specs.List.{range_with_len, flat_map}
@@ -86,6 +86,7 @@ chunk_more s x k bytes rest more behind =
   where
     full : length (take s (drop k bytes)) ≡ s
     full = omega (arith, length-take s (drop k bytes), length-drop k bytes)
+
     parts : length bytes - k ≡ length (take s (drop k bytes)) + (length bytes - (k + s))
     parts = omega (arith, full)
 
@@ -105,12 +106,13 @@ chunk_step : (s x a : ℕ) (bytes chunk rest : List ℕ) → 1 ≤ a → chunk �
 chunk_step s x a bytes chunk rest low is behind =
     ap (λ (xs : List ℕ). take (length bytes - (a - 1) * s) (xs ++ rest)) is
     ∙ elim (cases_lt s (length bytes - (a - 1) * s)) [
-        inl more ↦ chunk_more s x ((a - 1) * s) bytes rest more (ap (λ (n : ℕ). take (length bytes - n) rest) (sym next) ∙ behind ∙ ap (λ (n : ℕ). drop n bytes) next)
+      | inl more ↦ chunk_more s x ((a - 1) * s) bytes rest more (ap (λ (n : ℕ). take (length bytes - n) rest) (sym next) ∙ behind ∙ ap (λ (n : ℕ). drop n bytes) next)
       | inr last ↦ chunk_last s x ((a - 1) * s) bytes rest last
-      ]
+    ]
   where
     before : a + 1 - 1 ≡ (a - 1) + 1
     before = omega arith
+
     next : (a + 1 - 1) * s ≡ (a - 1) * s + s
     next = ap (λ (n : ℕ). n * s) before ∙ omega arith
 
@@ -121,9 +123,10 @@ joined_chunks s x f bytes a zero each low room =
     take_all (length bytes - (a - 1) * s) [] (omega arith) ∙ sym (drop_all ((a - 1) * s) bytes (omega arith))
 joined_chunks s x f bytes a (suc m) each low room =
     chunk_step s x a bytes (f a) (joined (map f (range_with_len (a + 1) m))) low (each a low)
-      (joined_chunks s x f bytes (a + 1) m each (omega arith) (subst P (ap (λ (n : ℕ). n * s) count) room))
+    (joined_chunks s x f bytes (a + 1) m each (omega arith) (subst P (ap (λ (n : ℕ). n * s) count) room))
   where
     P : ℕ → Type 0
     P n = length bytes ≤ n
+
     count : a - 1 + suc m ≡ a + 1 - 1 + m
     count = omega arith

@@ -1,8 +1,6 @@
-use Rattle.std.proofs.Common.{◌≡◌, ℕ, sym, ap, ◌∙◌, subst, arith, None}
+use Rattle.std.proofs.Common.{sym, ap, ◌∙◌, arith}
 use Rattle.std.proofs.lemmas.Bool.{false≢true}
-use Rattle.std.proofs.lemmas.List.{take_rest}
 use Rattle.dg_object.specs.Object.{pages_for}
-use Rattle.dg_object.specs.Descriptor.{Details, IsHead}
 use Rattle.dg_object.proofs.HeadLemmas.{name_field_is, spelled_fields, head_image, head_pages, head_version, head_length, head_name}
 use Rattle.dg_object.proofs.descriptor.fields.Goals as goal
 

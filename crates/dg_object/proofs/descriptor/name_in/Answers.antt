@@ -1,4 +1,4 @@
-use Rattle.std.proofs.Common.{◌≡◌, ℕ, take, sym, ap, ◌∙◌}
+use Rattle.std.proofs.Common.{◌≡◌, take, sym, ap, ◌∙◌}
 use Rattle.std.proofs.lemmas.Bool.{false≢true}
 use Rattle.dg_base.specs.Texts.{names}
 use Rattle.dg_object.proofs.NameLemmas.{name_is_front, length_of_name, behind_is_filling, padded-from_parts}

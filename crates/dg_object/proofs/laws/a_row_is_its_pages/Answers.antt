@@ -1,4 +1,3 @@
-use Rattle.dg_object.specs.Object.{IsRow}
 use Rattle.std.proofs.Common.{[], length}
 use Rattle.dg_object.proofs.RowLemmas.{pages_for-some, pages_for-most, length-object, get_or-object, length-page_of_row, AreBytes-page_of_row, content-object}
 use Rattle.dg_object.proofs.laws.a_row_is_its_pages.Goals as goal

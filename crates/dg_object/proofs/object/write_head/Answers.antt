@@ -1,7 +1,6 @@
 -- The four fields, each put behind the ones before it.
-use Rattle.std.proofs.Common.{◌≡◌, List, ℕ, [], ◌∷◌, ◌++◌, length, refl}
+use Rattle.std.proofs.Common.{[], ◌∷◌, ◌++◌, refl}
 use Rattle.std.specs.Int.{to_be_bytes, w32}
-use Rattle.dg_words.specs.Lists.{padded}
 use Rattle.dg_object.proofs.object.write_head.Goals as goal
 
 pub returns : goal.returns

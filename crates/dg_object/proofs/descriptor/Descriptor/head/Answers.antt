@@ -1,4 +1,3 @@
-use Rattle.std.proofs.Common.{◌≡◌, ℕ, sym, ap, ◌∙◌, arith}
 use Rattle.dg_object.proofs.HeadLemmas.{one_head}
 use Rattle.dg_object.specs.Records.{details_of}
 use Rattle.dg_object.proofs.descriptor.Descriptor.head.Goals as goal

@@ -1,8 +1,8 @@
-use Rattle.std.proofs.Common.{◌≡◌, ℕ, sym, ap, ◌∙◌, subst, refl, arith, take, drop, length}
+use Rattle.std.proofs.Common.{◌≡◌, sym, ◌∙◌, subst, refl, take, drop}
 use Rattle.std.proofs.lemmas.Bool.{false≢true}
 use Rattle.dg_object.proofs.HeadLemmas.{one_head, head_tag}
 use Rattle.dg_object.proofs.RestLemmas.{descriptor_from_parts, rest_of_descriptor, tag_of_page}
-use Rattle.dg_object.specs.Descriptor.{Details, IsHead, RestFits, IsDescriptor}
+use Rattle.dg_object.specs.Descriptor.{Details, IsHead, RestFits}
 use Rattle.dg_object.specs.Records.{details_of}
 use Rattle.dg_object.proofs.descriptor.Descriptor.read.Goals as goal
 
