@@ -1,16 +1,15 @@
 -- What holds of every history of a reception.
-use Rattle.std.specs.Prelude.{◌≡◌, ℕ, ◌+◌, ◌≤◌, Bool, true, false, not, ◌&&◌, ◌||◌, nat_le, nat_lt, ◌==◌, if◌then◌else◌, List, [], ◌∷◌}
-use Rattle.std.proofs.Common.{cond, eqb, refl, sym, ap, ◌∙◌, inl, inr, arith}
+use Rattle.std.specs.Prelude.{◌≡◌, ℕ, ◌+◌, ◌≤◌, Bool, true, false, not, ◌&&◌, ◌||◌, nat_le, nat_lt, if◌then◌else◌, List, [], ◌∷◌}
+use Rattle.std.proofs.Common.{eqb, refl, sym, ap, ◌∙◌, inl, inr, arith}
 use Rattle.std.proofs.lemmas.Bool.{cases_eq, cond_both, eq-eqb, ne_eqb, leb-true, leb-false, or_left}
 use Rattle.std.specs.FinSet as set
 use Rattle.dg_bits.specs.Sets.{Numbers, below}
 use Rattle.dg_bits.specs.SetLaws.{same_numbers, contains-put, contains-less}
-use Rattle.dg_recv.specs.declared.Ask.{Ask}
 use Rattle.dg_recv.specs.declared.Ask.TheVariants.{Request, GiveUp, Wait}
 use Rattle.dg_recv.specs.declared.TheConstants.{PACKETS, REQUESTS, NEXT_WAIT}
 use Rattle.dg_recv.specs.Reception.{Reception}
-use Rattle.dg_recv.specs.Steps.{begun, missing, ask_of, after_ask, after_accept}
-use Rattle.dg_recv.specs.Histories.{Call, Next, Comes, after, reception, came, counted, requests}
+use Rattle.dg_recv.specs.Steps.{missing, ask_of, after_ask, after_accept}
+use Rattle.dg_recv.specs.Histories.{Call, Next, Comes, reception, came, counted, requests}
 
 -- ---- what was accepted is what came in
 
@@ -29,7 +28,7 @@ got-ask : (r : Reception) (moment : ℕ) → (after_ask r moment).got ≡ r.got
 got-ask r moment =
     let counts : Reception = record r { tries = r.tries + 1; due = moment + NEXT_WAIT } in
     cond_both (nat_lt moment r.due) r _ (λ x. x.got ≡ r.got) (λ _. refl) (λ _.
-      cond_both (nat_le REQUESTS r.tries) r counts (λ x. x.got ≡ r.got) (λ _. refl) (λ _. refl))
+    cond_both (nat_le REQUESTS r.tries) r counts (λ x. x.got ≡ r.got) (λ _. refl) (λ _. refl))
 
 got-accept : (r : Reception) (moment packet : ℕ) → (after_accept r moment packet).got ≡ set.insert r.got packet
 got-accept r moment packet =
@@ -60,7 +59,7 @@ never_again start word earlier moment want e packet known =
     ∙ contains-less (below PACKETS) (came earlier) packet
     ∙ ap (λ b. set.contains (below PACKETS) packet && not b) known
     ∙ never (set.contains (below PACKETS) packet)
-    where
+  where
     never : (b : Bool) → (b && false) ≡ false
     never true = refl
     never false = refl
@@ -92,7 +91,7 @@ tries-bounded : (r : Reception) (moment : ℕ) → r.tries ≤ REQUESTS → (aft
 tries-bounded r moment h =
     let counts : Reception = record r { tries = r.tries + 1; due = moment + NEXT_WAIT } in
     cond_both (nat_lt moment r.due) r _ (λ x. x.tries ≤ REQUESTS) (λ _. h) (λ _.
-      cond_both (nat_le REQUESTS r.tries) r counts (λ x. x.tries ≤ REQUESTS) (λ _. h) (λ e. omega (arith, leb-false REQUESTS r.tries e)))
+    cond_both (nat_le REQUESTS r.tries) r counts (λ x. x.tries ≤ REQUESTS) (λ _. h) (λ e. omega (arith, leb-false REQUESTS r.tries e)))
 
 few_tries : (start word : ℕ) (calls : List Call) → (reception start word calls).tries ≤ REQUESTS
 few_tries start word [] = omega arith

@@ -1,5 +1,5 @@
 -- What a mote that asks for a page keeps: what it has, and how far its asking is.
-use Rattle.std.specs.Prelude.{◌≡◌, ℕ, refl}
+use Rattle.std.specs.Prelude.{ℕ, refl}
 use Rattle.std.specs.Coded.{Coded, code_by, coded×, coded_ℕ}
 use Rattle.std.specs.FinSet as set
 use Rattle.dg_bits.specs.Sets.{Numbers}
@@ -15,4 +15,4 @@ pub record Reception : Type 0 where
 abbrev pub reception_code : Coded Reception
 reception_code =
     code_by (Numbers × (ℕ × ℕ)) (coded× (set.code coded_ℕ) (coded× coded_ℕ coded_ℕ))
-      (λ r. (r.got, (r.tries, r.due))) (λ p. record { got = p.0; tries = p.1.0; due = p.1.1 }) (λ _. refl)
+    (λ r. (r.got, (r.tries, r.due))) (λ p. record { got = p.0; tries = p.1.0; due = p.1.1 }) (λ _. refl)

@@ -156,8 +156,7 @@ pub fn asking_ends()
     ensures gives_up { (start word : ℕ) (earlier : List Call) (moment : ℕ)
         → ask_of (reception start word earlier) moment ≡ Ask.GiveUp
         → requests start word earlier ≡ REQUESTS }
-{
-}
+{}
 
 #[cfg(test)]
 mod tests {

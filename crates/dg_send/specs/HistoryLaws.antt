@@ -20,7 +20,7 @@ union-none s = same_numbers _ _ (λ q. contains-both set.empty s q ∙ ap (λ b.
 union-none_right : (s : Numbers) → set.union s set.empty ≡ s
 union-none_right s =
     same_numbers _ _ (λ q. contains-both s set.empty q ∙ ap (λ b. set.contains s q || b) (contains-none q) ∙ or_false (set.contains s q))
-    where
+  where
     or_false : (b : Bool) → (b || false) ≡ b
     or_false true = refl
     or_false false = refl
@@ -32,28 +32,28 @@ or_assoc false b c = refl
 union-assoc : (s t u : Numbers) → set.union s (set.union t u) ≡ set.union (set.union s t) u
 union-assoc s t u =
     same_numbers _ _ (λ q.
-      contains-both s (set.union t u) q
-      ∙ ap (λ b. set.contains s q || b) (contains-both t u q)
-      ∙ or_assoc (set.contains s q) (set.contains t q) (set.contains u q)
-      ∙ ap (λ b. b || set.contains u q) (sym (contains-both s t q))
-      ∙ sym (contains-both (set.union s t) u q))
+    contains-both s (set.union t u) q
+    ∙ ap (λ b. set.contains s q || b) (contains-both t u q)
+    ∙ or_assoc (set.contains s q) (set.contains t q) (set.contains u q)
+    ∙ ap (λ b. b || set.contains u q) (sym (contains-both s t q))
+    ∙ sym (contains-both (set.union s t) u q))
 
 -- the least packet goes from what is left to what was sent
 moved : (before left : ℕ → Bool) (p q : ℕ) → left p ≡ true → ((eqb q p || before q) || (not (eqb q p) && left q)) ≡ (before q || left q)
 moved before left p q in_left =
     elim (cases_eq q p) [
       | inl e ↦
-        ap (λ b. (b || before q) || (not b && left q)) (eq-eqb q p e) ∙ sym (or_right (before q) (left q) (ap left e ∙ in_left))
+          ap (λ b. (b || before q) || (not b && left q)) (eq-eqb q p e) ∙ sym (or_right (before q) (left q) (ap left e ∙ in_left))
       | inr ne ↦ ap (λ b. (b || before q) || (not b && left q)) (ne_eqb q p ne)
     ]
 
 union-moved : (before left : Numbers) (p : ℕ) → set.contains left p ≡ true → set.union (set.insert before p) (set.remove left p) ≡ set.union before left
 union-moved before left p in_left =
     same_numbers _ _ (λ q.
-      contains-both (set.insert before p) (set.remove left p) q
-      ∙ (λ i. contains-put before p q i || contains-without left p q i)
-      ∙ moved (set.contains before) (set.contains left) p q in_left
-      ∙ sym (contains-both before left q))
+    contains-both (set.insert before p) (set.remove left p) q
+    ∙ (λ i. contains-put before p q i || contains-without left p q i)
+    ∙ moved (set.contains before) (set.contains left) p q in_left
+    ∙ sym (contains-both before left q))
 
 union-next : (first : Option ℕ) (early : Bool) (o : Owed) (moment : ℕ) (before : Numbers) → MatchOption first (o.left ≡ set.empty) (IsLeast o.left)
     → set.union (sent_by (serve_by first early) before) (next_by first early o moment).left ≡ set.union before o.left
@@ -95,7 +95,7 @@ least_first start first earlier moment packet e =
 
 names-union : (s t : Numbers) (p : ℕ) → names (set.union s t) p ≤ names s p + names t p
 names-union s t p = rw (contains-both s t p) (count_either (set.contains s p) (set.contains t p))
-    where
+  where
     count_either : (a b : Bool) → (if a || b then 1 else 0) ≤ (if a then 1 else 0) + (if b then 1 else 0)
     count_either true b = omega arith
     count_either false b = omega arith

@@ -109,8 +109,7 @@ pub fn serves_the_union()
     ensures gap { (o : Owed) (moment later p q : ℕ)
         → serve_of o moment ≡ Serve.Send p → serve_of (after_next o moment) later ≡ Serve.Send q
         → moment + GAP ≤ later }
-{
-}
+{}
 
 #[cfg(test)]
 mod tests {

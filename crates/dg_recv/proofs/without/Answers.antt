@@ -1,5 +1,5 @@
-use Rattle.std.proofs.Common.{◌≡◌, ◌+◌, ◌≤◌, ℕ, Bool, true, false, not, ◌&&◌, eqb, ltb, refl, sym, ap, ◌∙◌, inl, inr, arith}
-use Rattle.std.proofs.lemmas.Bool.{cases_Bool, ltb-true, lt-ltb}
+use Rattle.std.proofs.Common.{◌≡◌, ◌+◌, ℕ, Bool, true, false, not, ◌&&◌, eqb, ltb, refl, sym, ap, ◌∙◌, arith}
+use Rattle.std.proofs.lemmas.Bool.{ltb-true, lt-ltb}
 use Rattle.std.proofs.lemmas.Bool.Decides.{nat_tests}
 use Rattle.std.specs.FinSet as set
 use Rattle.dg_bits.specs.Sets.{below}
@@ -33,20 +33,20 @@ loop-packet-preserved c = λ q.
     let known = set.contains c.args.got.now q in
     elim c.if-has.branch [
       | then-has w ↦
-        ap (λ s. set.contains s q) (w.want-is ∙ w.clear.ensures)
-        ∙ contains-without c.loop-packet.want c.loop-packet.packet q
-        ∙ ap (λ b. not (eqb q c.loop-packet.packet) && b) (c.loop-packet.invariant q)
-        ∙ taken q c.loop-packet.packet page known (λ e. ap (set.contains c.args.got.now) e ∙ sym c.has.ensures.value ∙ w.if-has.true)
+          ap (λ s. set.contains s q) (w.want-is ∙ w.clear.ensures)
+          ∙ contains-without c.loop-packet.want c.loop-packet.packet q
+          ∙ ap (λ b. not (eqb q c.loop-packet.packet) && b) (c.loop-packet.invariant q)
+          ∙ taken q c.loop-packet.packet page known (λ e. ap (set.contains c.args.got.now) e ∙ sym c.has.ensures.value ∙ w.if-has.true)
       | else-has w ↦
-        ap (λ s. set.contains s q) w.want-is
-        ∙ c.loop-packet.invariant q
-        ∙ kept q c.loop-packet.packet page known (λ e. ap (set.contains c.args.got.now) e ∙ sym c.has.ensures.value ∙ w.if-has.false)
+          ap (λ s. set.contains s q) w.want-is
+          ∙ c.loop-packet.invariant q
+          ∙ kept q c.loop-packet.packet page known (λ e. ap (set.contains c.args.got.now) e ∙ sym c.has.ensures.value ∙ w.if-has.false)
     ]
 
 pub returns : goal.returns
 returns c =
     same_numbers _ _ (λ q.
-      c.loop-packet.invariant q
-      ∙ all_taken q c.loop-packet.packet (ltb q PACKETS) (set.contains c.args.got.now q) (λ e. lt-ltb q c.loop-packet.packet (omega (arith, ltb-true q PACKETS e, c.loop-packet-test.false)))
-      ∙ ap (λ b. b && not (set.contains c.args.got.now q)) (sym (contains-below PACKETS q))
-      ∙ sym (contains-less (below PACKETS) c.args.got.now q))
+    c.loop-packet.invariant q
+    ∙ all_taken q c.loop-packet.packet (ltb q PACKETS) (set.contains c.args.got.now q) (λ e. lt-ltb q c.loop-packet.packet (omega (arith, ltb-true q PACKETS e, c.loop-packet-test.false)))
+    ∙ ap (λ b. b && not (set.contains c.args.got.now q)) (sym (contains-below PACKETS q))
+    ∙ sym (contains-less (below PACKETS) c.args.got.now q))
