@@ -14,6 +14,9 @@ ghost use Rattle.dg_send.specs.Histories.{Call, owed, asked, sent, times_asked, 
 use dg_bits::PageBits;
 use std::marker::Model;
 
+/// The packets of a page.
+pub const PACKETS: u8 = 48;
+
 /// The milliseconds from one packet to the next.
 pub const GAP: u64 = 16;
 
@@ -71,6 +74,7 @@ impl Serving {
         requires { now < 2 ^ 62 }
         ensures serve { result ≡ serve_of self.old now }
         ensures after { self.new ≡ after_next self.old now }
+        ensures of_page { (packet : ℕ) → result ≡ Serve.Send packet → packet < PACKETS }
     {
         let Some(packet) = self.left.first() else {
             return Serve::Done;
