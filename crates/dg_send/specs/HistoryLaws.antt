@@ -1,16 +1,15 @@
 -- What holds of every history of a serving.
-use Rattle.std.specs.Prelude.{◌≡◌, ℕ, ◌+◌, ◌≤◌, Bool, true, false, not, ◌&&◌, ◌||◌, nat_lt, ◌==◌, if◌then◌else◌, Option, None, Some, MatchOption, List, [], ◌∷◌}
-use Rattle.std.proofs.Common.{cond, eqb, refl, sym, ap, subst, ◌∙◌, inl, inr, arith}
+use Rattle.std.specs.Prelude.{◌≡◌, ℕ, ◌+◌, ◌≤◌, Bool, true, false, not, ◌&&◌, ◌||◌, nat_lt, if◌then◌else◌, Option, None, Some, MatchOption, List, [], ◌∷◌}
+use Rattle.std.proofs.Common.{eqb, refl, sym, ap, subst, ◌∙◌, inl, inr, arith}
 use Rattle.std.proofs.lemmas.Bool.{cases_eq, cases_lt, eq-eqb, ne_eqb, lt-ltb, or_right}
 use Rattle.std.specs.FinSet as set
 use Rattle.dg_bits.specs.Sets.{Numbers, IsLeast, least}
 use Rattle.dg_bits.specs.SetLaws.{same_numbers, contains-none, contains-put, contains-without, contains-both, least_cases}
-use Rattle.dg_send.specs.declared.Serve.{Serve}
-use Rattle.dg_send.specs.declared.Serve.TheVariants.{Send, Done, Wait}
+use Rattle.dg_send.specs.declared.Serve.TheVariants.{Send, Done}
 use Rattle.dg_send.specs.declared.TheConstants.{GAP}
 use Rattle.dg_send.specs.Owed.{Owed}
-use Rattle.dg_send.specs.Steps.{begun, serve_by, serve_of, next_by, after_next}
-use Rattle.dg_send.specs.Histories.{Call, Asks, Next, after, owed, asked, sent_by, sent, names, times_asked, sends, times_sent}
+use Rattle.dg_send.specs.Steps.{serve_by, serve_of, next_by, after_next}
+use Rattle.dg_send.specs.Histories.{Call, Asks, Next, owed, asked, sent_by, sent, names, times_asked, sends, times_sent}
 
 -- ---- what was sent and what is left make what was asked for
 
