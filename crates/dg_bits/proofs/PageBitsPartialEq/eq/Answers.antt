@@ -1,0 +1,10 @@
+use Rattle.std.proofs.Common.{◌∙◌}
+use Rattle.dg_bits.specs.Sets.{same}
+use Rattle.dg_bits.specs.ByteFormLaws.{same-packed}
+use Rattle.dg_bits.proofs.PageBitsPartialEq.eq.Goals as goal
+
+pub returns : goal.returns
+returns g c =
+    c.eq.ensures
+    ∙ same-packed g.row.N c.self.inside.bytes c.other.inside.bytes c.self.invariant c.other.invariant
+    ∙ (λ i. same (c.self.view_is i) (c.other.view_is i))

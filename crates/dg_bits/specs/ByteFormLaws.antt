@@ -1,0 +1,407 @@
+-- The bits of a byte form, and the set that they make.
+use Rattle.std.proofs.Common.{◌≡◌, ◌≢◌, ℕ, zero, suc, ◌+◌, ◌-◌, ◌*◌, ◌/◌, ◌%◌, ◌<◌, ◌≤◌, Bool, true, false, Decides, not, ◌&&◌, ◌||◌, cond, List, [], ◌∷◌, ◌++◌, take, drop, length, get_or, replicate, slice_index, eqb, leb, ltb, refl, sym, ap, ◌∙◌, max, inl, inr, arith}
+use Rattle.std.proofs.Math.ListN.{set as put, length-replicate, length-set}
+use Rattle.std.proofs.lemmas.Bool.{both_ways, cases_lt, cases_eq, cond_both, eq-eqb, eqb-true, ne_eqb, or_left, false≢true}
+use Rattle.std.proofs.lemmas.Bool.Decides.{nat_tests, same_from_decides, Decides-like}
+use Rattle.std.proofs.lemmas.List.{get_or_past, get_or-drop, get_or-take, get_or-replicate, length-append, length-drop, length-take-le, get_or-set_other, get_or-set_same}
+use Rattle.std.proofs.lemmas.List.FromFn.{fill_by_all, get_or-map-range_with_len, length-map-range_with_len}
+use Rattle.std.proofs.lemmas.Map.Views.{any-filter_same}
+use Rattle.std.proofs.lemmas.Nat.{or_lt}
+use Rattle.std.proofs.lemmas.Nat.Bits.{bit_at-zero, bit_at-lt, bit_at_or}
+use Rattle.std.specs.Cmp.Lexicographic.{pointwise, bytes_decides}
+use Rattle.std.specs.Int.{bit_at}
+use Rattle.std.specs.Int.RustNames.{bit_or}
+use Rattle.std.specs.FinSet as set
+use Rattle.dg_bits.specs.Sets.{Numbers, AllBelow, IsLeast, same}
+use Rattle.dg_bits.specs.ByteForm.{is_marked, numbers_of, bit_of, byte_of, byte_form, IsPacked}
+use Rattle.dg_bits.specs.SetLaws.{same_numbers, same_decides, any_in_range, contains-none, contains-put, contains-without, contains-both}
+
+no_bit : (b i : ℕ) → b ≡ 0 → eqb (bit_at b i) 1 ≡ false
+no_bit b i e = ap (λ x. eqb (bit_at x i) 1) e ∙ ap (λ x. eqb x 1) (bit_at-zero i)
+
+-- past the end there is no bit
+pub unmarked_past : (bytes : List ℕ) (n : ℕ) → 8 * length bytes ≤ n → is_marked bytes n ≡ false
+unfolding is_marked
+unmarked_past bytes n h = no_bit _ _ (get_or_past bytes (n / 8) 0 (omega arith))
+
+within_length : (len n : ℕ) (m : Bool) → (len ≤ n → m ≡ false) → (m && (leb 0 n && ltb n (0 + len))) ≡ m
+within_length len n true past = elim (cases_lt n len) [ inl h ↦ grind (arith, nat_tests) | inr h ↦ absurd (false≢true (sym (past h))) ]
+within_length len n false past = refl
+
+-- a number is in the set of some bytes exactly where its bit is set
+pub contains-numbers_of : (bytes : List ℕ) (n : ℕ) → set.contains (numbers_of bytes) n ≡ is_marked bytes n
+unfolding numbers_of
+contains-numbers_of bytes n =
+    set.contains-from_list_nat _ n
+    ∙ any-filter_same (λ y. eqb y n) (is_marked bytes) (is_marked bytes n) (λ k e. ap (is_marked bytes) (eqb-true k n e)) _
+    ∙ ap (λ b. is_marked bytes n && b) (any_in_range 0 (8 * length bytes) n)
+    ∙ within_length (8 * length bytes) n (is_marked bytes n) (unmarked_past bytes n)
+
+-- ---- packed bytes
+
+abbrev pub zeros : ℕ → List ℕ
+zeros n = replicate n 0
+
+length_of_zeros : (n : ℕ) → length (zeros n) ≡ n
+length_of_zeros n = length-replicate {A = ℕ} n 0
+
+byte_of_zeros : (n k : ℕ) → get_or (zeros n) k 0 ≡ 0
+byte_of_zeros n k =
+    elim (cases_lt k n) [
+      | inl h ↦ get_or-replicate n k 0 0 h
+      | inr h ↦ let e : length (zeros n) ≡ n = length_of_zeros n in get_or_past (zeros n) k 0 (omega arith)
+    ]
+
+-- bytes of 0 have no bit
+pub is_marked-zeros : (width n : ℕ) → is_marked (replicate width 0) n ≡ false
+unfolding is_marked
+is_marked-zeros width n = no_bit _ _ (byte_of_zeros width (n / 8))
+
+pub numbers_of-zeros : (width : ℕ) → numbers_of (replicate width 0) ≡ set.empty
+numbers_of-zeros width = same_numbers _ _ (λ q. contains-numbers_of _ q ∙ is_marked-zeros width q ∙ sym (contains-none q))
+
+pub IsPacked-zeros : (size : ℕ) → 1 ≤ size → size ≤ 72 → IsPacked size (replicate 9 0)
+IsPacked-zeros size some fits =
+    record {
+      width = refl;
+      bytes_fit = λ k. let e = byte_of_zeros 9 k in omega arith;
+      within = λ n _. is_marked-zeros 9 n;
+      not_empty = some;
+      not_over = fits;
+    }
+
+below_size : (size n : ℕ) (m : Bool) → (size ≤ n → m ≡ false) → m ≡ true → n < size
+below_size size n m none is = elim (cases_lt n size) [ inl h ↦ h | inr h ↦ absurd (both_ways m (none h) is) ]
+
+-- the set of packed bytes has numbers below the size alone
+pub AllBelow-packed : (size : ℕ) (bytes : List ℕ) (s : Numbers) → numbers_of bytes ≡ s → ((n : ℕ) → size ≤ n → is_marked bytes n ≡ false) → AllBelow size s
+AllBelow-packed size bytes s e within q is = below_size size q (is_marked bytes q) (within q) (sym (contains-numbers_of bytes q) ∙ ap (λ t. set.contains t q) e ∙ is)
+
+-- the first number whose bit is set is the least
+pub IsLeast-marked : (bytes : List ℕ) (s : Numbers) (n : ℕ) → numbers_of bytes ≡ s → is_marked bytes n ≡ true → ((q : ℕ) → q < n → is_marked bytes q ≡ false) → IsLeast s n
+IsLeast-marked bytes s n e here before =
+    record {
+      member = ap (λ t. set.contains t n) (sym e) ∙ contains-numbers_of bytes n ∙ here;
+      no_smaller = λ q is. not_before n q _ (before q) (sym (contains-numbers_of bytes q) ∙ ap (λ t. set.contains t q) e ∙ is);
+    }
+  where
+    not_before : (low high : ℕ) (m : Bool) → (high < low → m ≡ false) → m ≡ true → low ≤ high
+    not_before low high m none is = elim (cases_lt high low) [ inl h ↦ absurd (both_ways m (none h) is) | inr h ↦ h ]
+
+-- where no bit is set the set is empty
+pub empty_unmarked : (size : ℕ) (bytes : List ℕ) (s : Numbers) → numbers_of bytes ≡ s → ((q : ℕ) → q < size → is_marked bytes q ≡ false) → ((q : ℕ) → size ≤ q → is_marked bytes q ≡ false) → s ≡ set.empty
+empty_unmarked size bytes s e low high =
+    sym e ∙ same_numbers _ _ (λ q.
+    contains-numbers_of bytes q
+    ∙ elim (cases_lt q size) as (λ _. is_marked bytes q ≡ false) [ inl h ↦ low q h | inr h ↦ high q h ]
+    ∙ sym (contains-none q))
+
+-- ---- one byte is changed
+
+-- b is the byte of number n with that number's bit as v, and each other bit as it was
+pub record ChangesBit (bytes : List ℕ) (n v b : ℕ) : Type 0 where
+  pub here : bit_at b (7 - n % 8) ≡ v
+  pub others : (i : ℕ) → i < 8 → i ≢ 7 - n % 8 → bit_at b i ≡ bit_at (get_or bytes (n / 8) 0) i
+
+marked_here : (bytes : List ℕ) (n v b : ℕ) → n / 8 < length bytes → ChangesBit bytes n v b → is_marked (put bytes (n / 8) b) n ≡ eqb v 1
+unfolding is_marked
+marked_here bytes n v b h c =
+    ap (λ x. eqb (bit_at x (7 - n % 8)) 1) (get_or-set_same bytes (n / 8) b 0 h) ∙ ap (λ x. eqb x 1) c.here
+
+marked_there : (bytes : List ℕ) (n v b q : ℕ) → n / 8 < length bytes → ChangesBit bytes n v b → q ≢ n → is_marked (put bytes (n / 8) b) q ≡ is_marked bytes q
+unfolding is_marked
+marked_there bytes n v b q h c other =
+    elim (cases_eq (q / 8) (n / 8)) [
+      | inl same ↦
+          ap (λ x. eqb (bit_at (get_or (put bytes (n / 8) b) x 0) (7 - q % 8)) 1) same
+          ∙ ap (λ x. eqb (bit_at x (7 - q % 8)) 1) (get_or-set_same bytes (n / 8) b 0 h)
+          ∙ ap (λ x. eqb x 1) (c.others (7 - q % 8) (omega arith) (omega arith))
+          ∙ ap (λ x. eqb (bit_at (get_or bytes x 0) (7 - q % 8)) 1) (sym same)
+      | inr apart ↦ ap (λ x. eqb (bit_at x (7 - q % 8)) 1) (get_or-set_other bytes (n / 8) (q / 8) b 0 apart)
+    ]
+
+tells_put : (n q : ℕ) (before after : Bool) → (q ≡ n → after ≡ true) → (q ≢ n → after ≡ before) → after ≡ (eqb q n || before)
+tells_put n q before after same other =
+    elim (cases_eq q n) [
+      | inl e ↦ same e ∙ sym (or_left _ _ (eq-eqb q n e))
+      | inr ne ↦ other ne ∙ ap (λ b. b || before) (sym (ne_eqb q n ne))
+    ]
+
+tells_without : (n q : ℕ) (before after : Bool) → (q ≡ n → after ≡ false) → (q ≢ n → after ≡ before) → after ≡ (not (eqb q n) && before)
+tells_without n q before after same other =
+    elim (cases_eq q n) [
+      | inl e ↦ same e ∙ ap (λ b. not b && before) (sym (eq-eqb q n e))
+      | inr ne ↦ other ne ∙ ap (λ b. not b && before) (sym (ne_eqb q n ne))
+    ]
+
+-- the set after a bit was set
+pub numbers_of-marked : (bytes : List ℕ) (n b : ℕ) → n / 8 < length bytes → ChangesBit bytes n 1 b → numbers_of (put bytes (n / 8) b) ≡ set.insert (numbers_of bytes) n
+numbers_of-marked bytes n b h c =
+    same_numbers _ _ (λ q.
+    contains-numbers_of _ q
+    ∙ tells_put n q (is_marked bytes q) _ (λ e. ap (is_marked (put bytes (n / 8) b)) e ∙ marked_here bytes n 1 b h c) (marked_there bytes n 1 b q h c)
+    ∙ ap (λ x. eqb q n || x) (sym (contains-numbers_of bytes q))
+    ∙ sym (contains-put (numbers_of bytes) n q))
+
+-- the set after a bit was cleared
+pub numbers_of-cleared : (bytes : List ℕ) (n b : ℕ) → n / 8 < length bytes → ChangesBit bytes n 0 b → numbers_of (put bytes (n / 8) b) ≡ set.remove (numbers_of bytes) n
+numbers_of-cleared bytes n b h c =
+    same_numbers _ _ (λ q.
+    contains-numbers_of _ q
+    ∙ tells_without n q (is_marked bytes q) _ (λ e. ap (is_marked (put bytes (n / 8) b)) e ∙ marked_here bytes n 0 b h c) (marked_there bytes n 0 b q h c)
+    ∙ ap (λ x. not (eqb q n) && x) (sym (contains-numbers_of bytes q))
+    ∙ sym (contains-without (numbers_of bytes) n q))
+
+byte_fits : (bytes : List ℕ) (i b : ℕ) → b < 256 → ((k : ℕ) → slice_index bytes k < 256) → (k : ℕ) → slice_index (put bytes i b) k < 256
+byte_fits bytes i b h fit k =
+    elim (cases_eq k i) [
+      | inl e ↦
+          elim (cases_lt i (length bytes)) [
+            | inl lt ↦ let at : get_or (put bytes i b) k 0 ≡ b = ap (λ x. get_or (put bytes i b) x 0) e ∙ get_or-set_same bytes i b 0 lt in omega arith
+            | inr past ↦ let at : get_or (put bytes i b) k 0 ≡ 0 = get_or_past (put bytes i b) k 0 (rw length-set (omega arith)) in omega arith
+          ]
+      | inr ne ↦ let at : get_or (put bytes i b) k 0 ≡ get_or bytes k 0 = get_or-set_other bytes i k b 0 ne in omega (arith, fit k)
+    ]
+
+-- packed bytes stay so where one bit below the size changes
+pub IsPacked-changed : (size : ℕ) (bytes : List ℕ) (n v b : ℕ) → IsPacked size bytes → n < size → b < 256 → ChangesBit bytes n v b → IsPacked size (put bytes (n / 8) b)
+IsPacked-changed size bytes n v b packed lt fits c =
+    record {
+      width = length-set bytes (n / 8) b ∙ packed.width;
+      bytes_fit = byte_fits bytes (n / 8) b fits packed.bytes_fit;
+      within = λ q past. marked_there bytes n v b q (omega (arith, packed.width, packed.not_over)) c (omega arith) ∙ packed.within q past;
+      not_empty = packed.not_empty;
+      not_over = packed.not_over;
+    }
+
+-- ---- two sets joined byte by byte
+
+-- each byte of c has the bits of a's and of b's
+pub record JoinsBytes (a b c : List ℕ) : Type 0 where
+  pub joined : (k : ℕ) → get_or c k 0 ≡ bit_or (get_or a k 0) (get_or b k 0)
+
+joined_bit : (x y : ℕ) → x < 2 → y < 2 → eqb (max x y) 1 ≡ (eqb x 1 || eqb y 1)
+joined_bit x y hx hy = grind (arith, nat_tests)
+
+is_marked-joined : (a b c : List ℕ) → JoinsBytes a b c → (n : ℕ) → is_marked c n ≡ (is_marked a n || is_marked b n)
+unfolding is_marked
+is_marked-joined a b c j n =
+    ap (λ x. eqb (bit_at x (7 - n % 8)) 1) (j.joined (n / 8))
+    ∙ ap (λ x. eqb x 1) (bit_at_or (get_or a (n / 8) 0) (get_or b (n / 8) 0) (7 - n % 8))
+    ∙ joined_bit _ _ (bit_at-lt (get_or a (n / 8) 0) (7 - n % 8)) (bit_at-lt (get_or b (n / 8) 0) (7 - n % 8))
+
+pub numbers_of-joined : (a b c : List ℕ) → JoinsBytes a b c → numbers_of c ≡ set.union (numbers_of a) (numbers_of b)
+numbers_of-joined a b c j =
+    same_numbers _ _ (λ q.
+    contains-numbers_of c q
+    ∙ is_marked-joined a b c j q
+    ∙ (λ i. sym (contains-numbers_of a q) i || sym (contains-numbers_of b q) i)
+    ∙ sym (contains-both (numbers_of a) (numbers_of b) q))
+
+pub IsPacked-joined : (size : ℕ) (a b c : List ℕ) → IsPacked size a → IsPacked size b → JoinsBytes a b c → length c ≡ 9 → IsPacked size c
+IsPacked-joined size a b c pa pb j long =
+    record {
+      width = long;
+      bytes_fit = λ k. rw (j.joined k) (or_lt 8 (get_or a k 0) (get_or b k 0) (pa.bytes_fit k) (pb.bytes_fit k));
+      within = λ q past. is_marked-joined a b c j q ∙ (λ i. pa.within q past i || pb.within q past i);
+      not_empty = pa.not_empty;
+      not_over = pa.not_over;
+    }
+
+-- ---- from a set to bytes
+
+bit_of-lt : (s : Numbers) (n : ℕ) → bit_of s n < 2
+bit_of-lt s n = cond_both (set.contains s n) 1 0 (λ x. x < 2) (λ _. omega arith) (λ _. omega arith)
+
+bit_of-is : (b : Bool) → eqb (cond b 1 0) 1 ≡ b
+bit_of-is true = refl
+bit_of-is false = refl
+
+-- the bits of a sum of eight weights
+abbrev weights : ℕ → ℕ → ℕ → ℕ → ℕ → ℕ → ℕ → ℕ → ℕ
+weights a b c d e f g h = 128 * a + 64 * b + 32 * c + 16 * d + 8 * e + 4 * f + 2 * g + h
+
+abbrev pick : ℕ → ℕ → ℕ → ℕ → ℕ → ℕ → ℕ → ℕ → ℕ → ℕ
+pick a b c d e f g h zero = a
+pick a b c d e f g h (suc zero) = b
+pick a b c d e f g h (suc (suc zero)) = c
+pick a b c d e f g h (suc (suc (suc zero))) = d
+pick a b c d e f g h (suc (suc (suc (suc zero)))) = e
+pick a b c d e f g h (suc (suc (suc (suc (suc zero))))) = f
+pick a b c d e f g h (suc (suc (suc (suc (suc (suc zero)))))) = g
+pick a b c d e f g h (suc (suc (suc (suc (suc (suc (suc rest))))))) = h
+
+module _ (a b c d e f g h : ℕ) (ha : a < 2) (hb : b < 2) (hc : c < 2) (hd : d < 2) (he : e < 2) (hf : f < 2) (hg : g < 2) (hh : h < 2) where
+  bit_at-weights : (r : ℕ) → r < 8 → bit_at (weights a b c d e f g h) (7 - r) ≡ pick a b c d e f g h r
+  bit_at-weights zero lt = omega arith
+  bit_at-weights (suc zero) lt = omega arith
+  bit_at-weights (suc (suc zero)) lt = omega arith
+  bit_at-weights (suc (suc (suc zero))) lt = omega arith
+  bit_at-weights (suc (suc (suc (suc zero)))) lt = omega arith
+  bit_at-weights (suc (suc (suc (suc (suc zero))))) lt = omega arith
+  bit_at-weights (suc (suc (suc (suc (suc (suc zero)))))) lt = omega arith
+  bit_at-weights (suc (suc (suc (suc (suc (suc (suc zero))))))) lt = omega arith
+  bit_at-weights (suc (suc (suc (suc (suc (suc (suc (suc r)))))))) lt = absurd (omega arith)
+
+picked : (f : ℕ → ℕ) (k r : ℕ) → r < 8 → pick (f (8 * k)) (f (8 * k + 1)) (f (8 * k + 2)) (f (8 * k + 3)) (f (8 * k + 4)) (f (8 * k + 5)) (f (8 * k + 6)) (f (8 * k + 7)) r ≡ f (8 * k + r)
+picked f k zero lt = ap f (omega arith)
+picked f k (suc zero) lt = refl
+picked f k (suc (suc zero)) lt = refl
+picked f k (suc (suc (suc zero))) lt = refl
+picked f k (suc (suc (suc (suc zero)))) lt = refl
+picked f k (suc (suc (suc (suc (suc zero))))) lt = refl
+picked f k (suc (suc (suc (suc (suc (suc zero)))))) lt = refl
+picked f k (suc (suc (suc (suc (suc (suc (suc zero))))))) lt = refl
+picked f k (suc (suc (suc (suc (suc (suc (suc (suc r)))))))) lt = absurd (omega arith)
+
+bit_at-byte_of : (s : Numbers) (k r : ℕ) → r < 8 → bit_at (byte_of s k) (7 - r) ≡ bit_of s (8 * k + r)
+unfolding byte_of
+bit_at-byte_of s k r lt =
+    bit_at-weights _ _ _ _ _ _ _ _ (bit_of-lt s (8 * k)) (bit_of-lt s (8 * k + 1)) (bit_of-lt s (8 * k + 2)) (bit_of-lt s (8 * k + 3)) (bit_of-lt s (8 * k + 4)) (bit_of-lt s (8 * k + 5)) (bit_of-lt s (8 * k + 6)) (bit_of-lt s (8 * k + 7)) r lt
+    ∙ picked (bit_of s) k r lt
+
+pub byte_of-fits : (s : Numbers) (k : ℕ) → byte_of s k < 256
+unfolding byte_of
+byte_of-fits s k =
+    let h0 = bit_of-lt s (8 * k) in
+    let h1 = bit_of-lt s (8 * k + 1) in
+    let h2 = bit_of-lt s (8 * k + 2) in
+    let h3 = bit_of-lt s (8 * k + 3) in
+    let h4 = bit_of-lt s (8 * k + 4) in
+    let h5 = bit_of-lt s (8 * k + 5) in
+    let h6 = bit_of-lt s (8 * k + 6) in
+    let h7 = bit_of-lt s (8 * k + 7) in
+    omega arith
+
+pub length-byte_form : (width : ℕ) (s : Numbers) → length (byte_form width s) ≡ width
+unfolding byte_form
+length-byte_form width s = length-map-range_with_len (byte_of s) 0 width
+
+get_or-byte_form : (width : ℕ) (s : Numbers) (k : ℕ) → k < width → get_or (byte_form width s) k 0 ≡ byte_of s k
+unfolding byte_form
+get_or-byte_form width s k h = get_or-map-range_with_len (byte_of s) 0 width k k 0 h (omega arith)
+
+is_marked-byte_form : (width : ℕ) (s : Numbers) (n : ℕ) → n < 8 * width → is_marked (byte_form width s) n ≡ set.contains s n
+unfolding is_marked
+is_marked-byte_form width s n h =
+    let whole : 8 * (n / 8) + n % 8 ≡ n = omega arith in
+    ap (λ x. eqb (bit_at x (7 - n % 8)) 1) (get_or-byte_form width s (n / 8) (omega arith))
+    ∙ ap (λ x. eqb x 1) (bit_at-byte_of s (n / 8) (n % 8) (omega arith) ∙ ap (bit_of s) whole)
+    ∙ bit_of-is (set.contains s n)
+
+past_all : (width n : ℕ) (b : Bool) → (b ≡ true → n < 8 * width) → 8 * width ≤ n → false ≡ b
+past_all width n true within past = absurd (omega (arith, within refl))
+past_all width n false within past = refl
+
+-- a set of numbers that fit is the one that its byte form makes
+pub numbers_of-byte_form : (width : ℕ) (s : Numbers) → AllBelow (8 * width) s → numbers_of (byte_form width s) ≡ s
+numbers_of-byte_form width s fits =
+    same_numbers _ _ (λ q.
+    contains-numbers_of _ q
+    ∙ elim (cases_lt q (8 * width)) [
+      | inl h ↦ is_marked-byte_form width s q h
+      | inr h ↦ unmarked_past (byte_form width s) q (rw (length-byte_form width s) h) ∙ past_all width q _ (fits q) h
+    ])
+
+-- ---- from bytes to a set and back
+
+eight_bits : (b : ℕ) → b < 256 → b ≡ weights (bit_at b 7) (bit_at b 6) (bit_at b 5) (bit_at b 4) (bit_at b 3) (bit_at b 2) (bit_at b 1) (bit_at b 0)
+eight_bits b h = omega arith
+
+bit_back : (x : ℕ) → x < 2 → cond (eqb x 1) 1 0 ≡ x
+bit_back x h = grind (arith, nat_tests)
+
+bit_of-placed : (bytes : List ℕ) (n k r : ℕ) → n / 8 ≡ k → n % 8 ≡ r → bit_of (numbers_of bytes) n ≡ bit_at (get_or bytes k 0) (7 - r)
+unfolding is_marked
+bit_of-placed bytes n k r place at =
+    ap (λ b. cond b 1 0) (contains-numbers_of bytes n)
+    ∙ bit_back (bit_at (get_or bytes (n / 8) 0) (7 - n % 8)) (bit_at-lt (get_or bytes (n / 8) 0) (7 - n % 8))
+    ∙ (λ i. bit_at (get_or bytes (place i) 0) (7 - at i))
+
+bit_of-numbers_of : (bytes : List ℕ) (k r : ℕ) → r < 8 → bit_of (numbers_of bytes) (8 * k + r) ≡ bit_at (get_or bytes k 0) (7 - r)
+bit_of-numbers_of bytes k r lt = bit_of-placed bytes (8 * k + r) k r (omega arith) (omega arith)
+
+byte_of-numbers_of : (bytes : List ℕ) (k : ℕ) → get_or bytes k 0 < 256 → get_or bytes k 0 ≡ byte_of (numbers_of bytes) k
+unfolding byte_of
+byte_of-numbers_of bytes k h =
+    let e0 = bit_of-numbers_of bytes k 0 (omega arith) in
+    let e1 = bit_of-numbers_of bytes k 1 (omega arith) in
+    let e2 = bit_of-numbers_of bytes k 2 (omega arith) in
+    let e3 = bit_of-numbers_of bytes k 3 (omega arith) in
+    let e4 = bit_of-numbers_of bytes k 4 (omega arith) in
+    let e5 = bit_of-numbers_of bytes k 5 (omega arith) in
+    let e6 = bit_of-numbers_of bytes k 6 (omega arith) in
+    let e7 = bit_of-numbers_of bytes k 7 (omega arith) in
+    eight_bits (get_or bytes k 0) h ∙ sym (λ i. weights ((ap (bit_of (numbers_of bytes)) first ∙ e0) i) (e1 i) (e2 i) (e3 i) (e4 i) (e5 i) (e6 i) (e7 i))
+  where
+    first : 8 * k ≡ 8 * k + 0
+    first = omega arith
+
+-- bytes are the byte form of the set that they make
+pub byte_form-numbers_of : (bytes : List ℕ) (width : ℕ) → length bytes ≡ width → ((k : ℕ) → k < width → get_or bytes k 0 < 256) → byte_form width (numbers_of bytes) ≡ bytes
+unfolding byte_form
+byte_form-numbers_of bytes width e fit = sym (fill_by_all (byte_of (numbers_of bytes)) bytes width 0 e (λ k h. byte_of-numbers_of bytes k (fit k h)))
+
+-- ---- packed bytes and the byte form
+
+-- two packed forms of one set are equal
+pub same_packed : (size : ℕ) (a b : List ℕ) → IsPacked size a → IsPacked size b → numbers_of a ≡ numbers_of b → a ≡ b
+same_packed size a b pa pb e =
+    sym (byte_form-numbers_of a 9 pa.width (λ k _. pa.bytes_fit k)) ∙ ap (byte_form 9) e ∙ byte_form-numbers_of b 9 pb.width (λ k _. pb.bytes_fit k)
+
+lists_decide : (xs ys : List ℕ) → Decides (pointwise eqb xs ys) (xs ≡ ys)
+lists_decide xs ys = bytes_decides xs ys
+
+-- the test of equal bytes is that of equal sets
+pub same-packed : (size : ℕ) (a b : List ℕ) → IsPacked size a → IsPacked size b → pointwise eqb a b ≡ same (numbers_of a) (numbers_of b)
+same-packed size a b pa pb =
+    same_from_decides _ _
+    (Decides-like _ (ap numbers_of) (same_packed size a b pa pb) (lists_decide a b))
+    (same_decides (numbers_of a) (numbers_of b))
+
+-- the first bytes of a packed form are the byte form of that width
+pub byte_form-packed : (size width : ℕ) (bytes : List ℕ) → IsPacked size bytes → width ≤ 9 → take width bytes ≡ byte_form width (numbers_of bytes)
+unfolding byte_form
+byte_form-packed size width bytes packed fits =
+    let room : width ≤ length bytes = omega (arith, packed.width) in
+    fill_by_all (byte_of (numbers_of bytes)) (take width bytes) width 0 (length-take-le width bytes room) (λ k h.
+    get_or-take width bytes k 0 h ∙ byte_of-numbers_of bytes k (packed.bytes_fit k))
+
+pub AllBelow-wider : (low high : ℕ) (s : Numbers) → low ≤ high → AllBelow low s → AllBelow high s
+AllBelow-wider low high s h all q is = omega (arith, all q is)
+
+-- bytes of 0 after it change nothing
+byte_of_padded : (bytes rest : List ℕ) → ((k : ℕ) → get_or rest k 0 ≡ 0) → (k : ℕ) → get_or (bytes ++ rest) k 0 ≡ get_or bytes k 0
+byte_of_padded [] rest none zero = none 0
+byte_of_padded [] rest none (suc k) = none (suc k)
+byte_of_padded (b ∷ bytes) rest none zero = refl
+byte_of_padded (b ∷ bytes) rest none (suc k) = byte_of_padded bytes rest none k
+
+no_byte_after : (len k : ℕ) → get_or (drop len (zeros 9)) k 0 ≡ 0
+no_byte_after len k = get_or-drop len (zeros 9) k 0 ∙ byte_of_zeros 9 (len + k)
+
+-- bytes made up to nine by bytes of 0
+abbrev pub padded : List ℕ → List ℕ
+padded bytes = bytes ++ drop (length bytes) (zeros 9)
+
+is_marked-padded : (bytes : List ℕ) (n : ℕ) → is_marked (padded bytes) n ≡ is_marked bytes n
+unfolding is_marked
+is_marked-padded bytes n =
+    ap (λ x. eqb (bit_at x (7 - n % 8)) 1) (byte_of_padded bytes (drop (length bytes) (zeros 9)) (no_byte_after (length bytes)) (n / 8))
+
+pub numbers_of-padded : (bytes : List ℕ) → numbers_of (padded bytes) ≡ numbers_of bytes
+numbers_of-padded bytes =
+    same_numbers _ _ (λ q. contains-numbers_of (padded bytes) q ∙ is_marked-padded bytes q ∙ sym (contains-numbers_of bytes q))
+
+pub IsPacked-padded : (size : ℕ) (bytes : List ℕ) → 1 ≤ size → size ≤ 72 → length bytes ≡ (size + 7) / 8 → ((k : ℕ) → get_or bytes k 0 < 256) → ((q : ℕ) → size ≤ q → q < 8 * length bytes → is_marked bytes q ≡ false) → IsPacked size (padded bytes)
+IsPacked-padded size bytes some fits e fit none =
+    record {
+      width = length-append bytes _ ∙ ap (λ n. length bytes + n) (length-drop (length bytes) (zeros 9)) ∙ whole;
+      bytes_fit = λ k. let same : get_or (padded bytes) k 0 ≡ get_or bytes k 0 = byte_of_padded bytes (drop (length bytes) (zeros 9)) (no_byte_after (length bytes)) k in omega (arith, fit k);
+      within = λ q past. is_marked-padded bytes q ∙ elim (cases_lt q (8 * length bytes)) [ inl h ↦ none q past h | inr h ↦ unmarked_past bytes q h ];
+      not_empty = some;
+      not_over = fits;
+    }
+  where
+    whole : length bytes + (9 - length bytes) ≡ 9
+    whole = omega arith

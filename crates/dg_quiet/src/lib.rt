@@ -1,0 +1,144 @@
+//! When a mote may ask for an image: not while others ask for it, and not while it is being sent.
+//!
+//! A mote that overhears a request of an image, or a packet of it, keeps quiet about that image for
+//! a while, since what is sent will reach it too (suppression, Hui and Culler, SenSys 2004).
+//! Moments are milliseconds.
+#![tactic(auto)]
+
+ghost use Rattle.std.specs.Prelude.{◌≡◌, ℕ, ◌-◌, ◌≤◌, ◌&&◌, ◌↔◌, List, IsTrue};
+ghost use Rattle.std.specs.FinMap as map;
+ghost use Rattle.dg_quiet.specs.Noted.{nothing_noted, with_request, with_packet, IsPast, is_past, may_ask};
+ghost use Rattle.dg_quiet.specs.Histories.{Note, noted, last_request, last_packet};
+
+use std::marker::Model;
+
+/// The images whose frames are overheard: 1 to this number.
+pub const IMAGES: u8 = 3;
+
+/// How long an overheard request keeps a mote quiet, in milliseconds.
+pub const REQUEST_QUIET: u64 = 128_000;
+
+/// How long an overheard packet keeps a mote quiet, in milliseconds.
+pub const PACKET_QUIET: u64 = 64_000;
+
+/// The windows in which a mote asks for no image of which it overheard something.
+#[derive(Debug, Drop)]
+pub struct Windows {
+    requests: [Option<u64>; IMAGES as usize],
+    packets: [Option<u64>; IMAGES as usize],
+}
+
+impl Model for Windows {
+    ghost use Rattle.dg_quiet.specs.Noted.{Noted, noted_code, moments_of};
+
+    ghost Value = { Noted };
+
+    ghost coded = { noted_code };
+
+    ghost use Rattle.std.specs.Prelude.{◌≡◌, length};
+
+    ghost view = { λ w. record { requests = moments_of w.requests; packets = moments_of w.packets } };
+
+    ghost invariant = { λ w. (length w.requests ≡ 3) × (length w.packets ≡ 3) };
+}
+
+impl Windows {
+    /// No windows: nothing was overheard yet.
+    pub fn new() -> Self
+        ensures { result ≡ nothing_noted }
+    {
+        Self {
+            requests: [None; IMAGES as usize],
+            packets: [None; IMAGES as usize],
+        }
+    }
+
+    /// Notes that a request of the image was overheard.
+    pub fn note_request(&mut self, now: u64, image: u8)
+        requires low { 1 ≤ image }
+        requires high { image ≤ IMAGES }
+        ensures { self.new ≡ with_request self.old now image }
+    {
+        let k = place(image);
+        self.requests[k] = Some(now);
+    }
+
+    /// Notes that a packet of the image was overheard.
+    pub fn note_packet(&mut self, now: u64, image: u8)
+        requires low { 1 ≤ image }
+        requires high { image ≤ IMAGES }
+        ensures { self.new ≡ with_packet self.old now image }
+    {
+        let k = place(image);
+        self.packets[k] = Some(now);
+    }
+
+    /// Whether both windows of the image are over.
+    pub fn may_ask(&self, now: u64, image: u8) -> bool
+        requires low { 1 ≤ image }
+        requires high { image ≤ IMAGES }
+        ensures value { result ≡ may_ask self.now now image }
+        ensures over { IsTrue result
+            ↔ (IsPast (map.get self.now.requests image) REQUEST_QUIET now
+            × IsPast (map.get self.now.packets image) PACKET_QUIET now) }
+    {
+        let k = place(image);
+        are_over(self.requests[k], self.packets[k], now)
+    }
+}
+
+/// In every history of overheard frames the last noted moment counts: whether a mote may ask for an
+/// image follows from the newest request of it and from the newest packet of it alone.
+pub fn last_note_counts()
+    ensures request { (notes : List Note) (image : ℕ)
+        → map.get (noted notes).requests image ≡ last_request notes image }
+    ensures packet { (notes : List Note) (image : ℕ)
+        → map.get (noted notes).packets image ≡ last_packet notes image }
+    ensures ask { (notes : List Note) (moment image : ℕ) → may_ask (noted notes) moment image
+        ≡ (is_past (last_request notes image) REQUEST_QUIET moment
+        && is_past (last_packet notes image) PACKET_QUIET moment) }
+{}
+
+// Where the moment of an image stands.
+fn place(image: u8) -> usize
+    requires { 1 ≤ image }
+    ensures { result ≡ image - 1 }
+{
+    usize::from(image - 1)
+}
+
+// Whether the windows after a request and after a packet are over.
+fn are_over(request: Option<u64>, packet: Option<u64>, now: u64) -> bool
+    ensures { result ≡ (is_past request REQUEST_QUIET now && is_past packet PACKET_QUIET now) }
+{
+    is_over(request, REQUEST_QUIET, now) && is_over(packet, PACKET_QUIET, now)
+}
+
+// Whether what was noted, if anything, is at least `quiet` milliseconds ago.
+fn is_over(noted: Option<u64>, quiet: u64, now: u64) -> bool
+    requires { 1 ≤ quiet }
+    ensures { result ≡ is_past noted quiet now }
+{
+    match noted {
+        None => true,
+        Some(moment) => now.saturating_sub(moment) >= quiet,
+    }
+}
+
+#[cfg(test)]
+mod tests {
+    use super::*;
+
+    #[test]
+    fn a_request_keeps_quiet_about_its_image(rt: HostRuntime) {
+        let mut windows = Windows::new();
+        windows.note_request(0, 1);
+        assert!(rt; !windows.may_ask(127_999, 1));
+        assert!(rt; windows.may_ask(128_000, 1));
+        assert!(rt; windows.may_ask(0, 2));
+
+        windows.note_packet(128_000, 1);
+        assert!(rt; !windows.may_ask(191_999, 1));
+        assert!(rt; windows.may_ask(192_000, 1));
+    }
+}

@@ -1,0 +1,4 @@
+pub mod Reception
+pub mod Steps
+pub mod Histories
+pub mod HistoryLaws

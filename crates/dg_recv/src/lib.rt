@@ -1,0 +1,188 @@
+//! Asking for the packets of a page: which are missing, when to ask again, and when to give up.
+//!
+//! A request names the missing packets by a set. A mote waits for a random while before the first
+//! request, so that neighbours with the same need don't all ask at once, and it gives up after
+//! eight requests (Hui and Culler, SenSys 2004, has the states and the requests by bit vector).
+//! Moments are milliseconds, and a word stands for a random draw.
+#![tactic(auto)]
+
+ghost use Rattle.std.specs.Prelude.{◌≡◌, ℕ, ◌+◌, ◌≤◌, ◌<◌, ◌^◌, ◌&&◌, not, nat_lt, true, false, List};
+ghost use Rattle.std.specs.FinSet as set;
+ghost use Rattle.dg_bits.specs.Sets.{Numbers, below, AllBelow};
+ghost use Rattle.dg_recv.specs.Steps.{begun, missing, ask_of, after_ask, accept_of, after_accept};
+ghost use Rattle.dg_recv.specs.Histories.{Call, reception, came, requests};
+
+use dg_bits::PageBits;
+use std::marker::Model;
+
+/// The packets of a page.
+pub const PACKETS: u8 = 48;
+
+/// The requests that are made for one page.
+pub const REQUESTS: u8 = 8;
+
+/// The first request waits for 1 to this many milliseconds.
+pub const FIRST_WAIT: u32 = 512;
+
+/// How long the next request waits after a request or a new packet, in milliseconds.
+pub const NEXT_WAIT: u64 = 1024;
+
+/// What to do now.
+#[derive(Clone, Copy, Debug, PartialEq, Eq)]
+pub enum Ask {
+    /// Ask for these packets.
+    Request(PageBits<48>),
+    /// All requests were made.
+    GiveUp,
+    /// The next request is not due yet.
+    Wait,
+}
+
+/// Whether a packet was new.
+#[derive(Clone, Copy, Debug, PartialEq, Eq)]
+pub enum Accept {
+    /// The packet was missing.
+    New,
+    /// The packet was there already.
+    Known,
+}
+
+/// The asking for the packets of one page.
+#[derive(Clone, Copy, Debug, PartialEq, Eq)]
+pub struct Asking {
+    got: PageBits<48>,
+    tries: u8,
+    due: u64,
+}
+
+impl Model for Asking {
+    ghost use Rattle.std.specs.Prelude.{◌≤◌};
+    ghost use Rattle.dg_recv.specs.Reception.{Reception, reception_code};
+    ghost use Rattle.dg_recv.specs.declared.TheConstants.{REQUESTS};
+
+    ghost Value = { Reception };
+
+    ghost coded = { reception_code };
+
+    ghost view = { λ a. record { got = a.got; tries = a.tries; due = a.due } };
+
+    ghost invariant = { λ a. a.tries ≤ REQUESTS };
+
+    ghost inverse = { λ r. record { got = r.got; tries = r.tries; due = r.due } };
+}
+
+impl Asking {
+    /// Begins with no packet and no request. The first request is due 1 + (word mod 512)
+    /// milliseconds after `now`.
+    pub fn new(now: u64, word: u32) -> Self
+        requires { now < 2 ^ 62 }
+        ensures { result ≡ begun now word }
+    {
+        Self {
+            got: PageBits::none(),
+            tries: 0,
+            due: now + 1 + u64::from(word % FIRST_WAIT),
+        }
+    }
+
+    /// What to do at this moment. A request counts, and puts off the next one.
+    pub fn next(&mut self, now: u64) -> Ask
+        requires { now < 2 ^ 62 }
+        ensures ask { result ≡ ask_of self.old now }
+        ensures after { self.new ≡ after_ask self.old now }
+        ensures tries { self.new.tries ≤ REQUESTS }
+    {
+        if now < self.due {
+            return Ask::Wait;
+        }
+        if self.tries >= REQUESTS {
+            return Ask::GiveUp;
+        }
+        self.tries += 1;
+        self.due = now + NEXT_WAIT;
+        Ask::Request(without(&self.got))
+    }
+
+    /// Notes a packet that came in. A new one puts off the next request.
+    pub fn accept(&mut self, now: u64, packet: u8) -> Accept
+        requires moment { now < 2 ^ 62 }
+        requires packet { packet < PACKETS }
+        ensures accept { result ≡ accept_of self.old packet }
+        ensures after { self.new ≡ after_accept self.old now packet }
+    {
+        if self.got.has(packet) {
+            return Accept::Known;
+        }
+        self.got.set(packet);
+        self.due = now + NEXT_WAIT;
+        Accept::New
+    }
+
+    /// The packets that were accepted.
+    pub fn got(&self) -> PageBits<48>
+        ensures value { result ≡ self.now.got }
+    {
+        self.got
+    }
+}
+
+// The packets of a page that are not in a set.
+fn without(got: &PageBits<48>) -> PageBits<48>
+    ensures { result ≡ set.difference (below PACKETS) got.now }
+{
+    let mut want = PageBits::all();
+    for packet in 0..PACKETS {
+        if got.has(packet) {
+            want.clear(packet);
+        }
+    }
+    want
+}
+
+/// What holds of an asking whatever is called in which order and at which moments: a request names
+/// exactly the packets of the page that did not come in, so that nothing that was accepted is asked
+/// for again, and there are eight requests before it gives up, and no more.
+pub fn asking_ends()
+    ensures accepted { (start word : ℕ) (calls : List Call)
+        → (reception start word calls).got ≡ came calls }
+    ensures missing { (start word : ℕ) (earlier : List Call) (moment : ℕ) (want : Numbers)
+        → ask_of (reception start word earlier) moment ≡ Ask.Request want
+        → want ≡ set.difference (below PACKETS) (came earlier) }
+    ensures never_again { (start word : ℕ) (earlier : List Call) (moment : ℕ) (want : Numbers)
+        → ask_of (reception start word earlier) moment ≡ Ask.Request want
+        → (packet : ℕ) → set.contains (came earlier) packet ≡ true
+        → set.contains want packet ≡ false }
+    ensures requests { (start word : ℕ) (calls : List Call) → requests start word calls ≤ REQUESTS }
+    ensures gives_up { (start word : ℕ) (earlier : List Call) (moment : ℕ)
+        → ask_of (reception start word earlier) moment ≡ Ask.GiveUp
+        → requests start word earlier ≡ REQUESTS }
+{}
+
+#[cfg(test)]
+mod tests {
+    use super::*;
+
+    #[test]
+    fn eight_requests_are_made(rt: HostRuntime) {
+        let all = Ask::Request(PageBits::all());
+        let mut asking = Asking::new(0, 513);
+        assert_eq!(rt; asking.next(1), Ask::Wait);
+        assert_eq!(rt; asking.next(2), all);
+        assert_eq!(rt; asking.next(1025), Ask::Wait);
+        assert_eq!(rt; asking.next(1026), all);
+        for now in [2050, 3074, 4098, 5122, 6146, 7170] {
+            assert_eq!(rt; asking.next(now), all);
+        }
+        assert_eq!(rt; asking.next(8194), Ask::GiveUp);
+    }
+
+    #[test]
+    fn a_packet_is_new_once(rt: HostRuntime) {
+        let mut asking = Asking::new(0, 0);
+        assert_eq!(rt; asking.accept(10, 3), Accept::New);
+        assert_eq!(rt; asking.accept(11, 3), Accept::Known);
+        assert!(rt; asking.got().has(3));
+        assert_eq!(rt; asking.got().count(), 1);
+        assert_eq!(rt; asking.next(1033), Ask::Wait);
+    }
+}

@@ -1,0 +1,62 @@
+-- Whole histories of a serving: any calls, at any moments.
+use Rattle.std.specs.Prelude.{ℕ, ◌+◌, ◌==◌, if◌then◌else◌, List, [], ◌∷◌}
+use Rattle.std.specs.FinSet as set
+use Rattle.dg_bits.specs.Sets.{Numbers}
+use Rattle.dg_send.specs.declared.Serve.{Serve}
+use Rattle.dg_send.specs.declared.Serve.TheVariants.{Send, Done, Wait}
+use Rattle.dg_send.specs.Owed.{Owed}
+use Rattle.dg_send.specs.Steps.{begun, after_merge, serve_of, after_next}
+
+-- a further request comes in, or the clock is looked at
+pub data Call : Type 0 where
+  Asks : (want : Numbers) → Call
+  Next : (moment : ℕ) → Call
+
+abbrev pub after : Owed → Call → Owed
+after o (Asks want) = after_merge o want
+after o (Next moment) = after_next o moment
+
+-- what is owed after a history that began with a request, the newest call first
+abbrev pub owed : ℕ → Numbers → List Call → Owed
+owed start first [] = begun start first
+owed start first (call ∷ earlier) = after (owed start first earlier) call
+
+-- the union of all requests
+abbrev pub asked : Numbers → List Call → Numbers
+asked first [] = first
+asked first (Asks want ∷ earlier) = set.union (asked first earlier) want
+asked first (Next moment ∷ earlier) = asked first earlier
+
+abbrev pub sent_by : Serve → Numbers → Numbers
+sent_by (Send packet) before = set.insert before packet
+sent_by Done before = before
+sent_by Wait before = before
+
+-- the packets that were sent
+abbrev pub sent : ℕ → Numbers → List Call → Numbers
+sent start first [] = set.empty
+sent start first (Asks want ∷ earlier) = sent start first earlier
+sent start first (Next moment ∷ earlier) = sent_by (serve_of (owed start first earlier) moment) (sent start first earlier)
+
+-- 1 where a set names the packet
+abbrev pub names : Numbers → ℕ → ℕ
+names s packet = if set.contains s packet then 1 else 0
+
+-- how many requests asked for a packet
+abbrev pub times_asked : Numbers → List Call → ℕ → ℕ
+times_asked first [] packet = names first packet
+times_asked first (Asks want ∷ earlier) packet = times_asked first earlier packet + names want packet
+times_asked first (Next moment ∷ earlier) packet = times_asked first earlier packet
+
+-- 1 where the packet is sent
+abbrev pub sends : Serve → ℕ → ℕ
+sends (Send q) packet = if packet == q then 1 else 0
+sends Done packet = 0
+sends Wait packet = 0
+
+-- how often a packet was sent
+abbrev pub times_sent : ℕ → Numbers → List Call → ℕ → ℕ
+times_sent start first [] packet = 0
+times_sent start first (Asks want ∷ earlier) packet = times_sent start first earlier packet
+times_sent start first (Next moment ∷ earlier) packet =
+    times_sent start first earlier packet + sends (serve_of (owed start first earlier) moment) packet

@@ -1,0 +1,4 @@
+pub mod Owed
+pub mod Steps
+pub mod Histories
+pub mod HistoryLaws

@@ -1,0 +1,145 @@
+//! Serving the packets of a page: the union of what is asked for, the least packet first.
+//!
+//! A server that hears a further request while it sends adds what that asks for, so that one
+//! transmission serves all who need it (Hui and Culler, SenSys 2004). Moments are milliseconds.
+#![tactic(auto)]
+
+ghost use Rattle.std.specs.Prelude.{◌≡◌, ◌≢◌, ℕ, ◌+◌, ◌≤◌, ◌<◌, ◌^◌, List};
+ghost use Rattle.std.specs.FinSet as set;
+ghost use Rattle.dg_bits.specs.Sets.{Numbers, IsLeast};
+ghost use Rattle.dg_send.specs.Owed.{Owed};
+ghost use Rattle.dg_send.specs.Steps.{begun, after_merge, serve_of, after_next};
+ghost use Rattle.dg_send.specs.Histories.{Call, owed, asked, sent, times_asked, times_sent};
+
+use dg_bits::PageBits;
+use std::marker::Model;
+
+/// The packets of a page.
+pub const PACKETS: u8 = 48;
+
+/// The milliseconds from one packet to the next.
+pub const GAP: u64 = 16;
+
+/// What to do now.
+#[derive(Clone, Copy, Debug, PartialEq, Eq)]
+pub enum Serve {
+    /// Send this packet.
+    Send(u8),
+    /// Nothing is left to send.
+    Done,
+    /// The next packet is not due yet.
+    Wait,
+}
+
+/// The serving of one page.
+#[derive(Clone, Copy, Debug, PartialEq, Eq)]
+pub struct Serving {
+    left: PageBits<48>,
+    due: u64,
+}
+
+impl Model for Serving {
+    ghost use Rattle.dg_send.specs.Owed.{Owed, owed_code};
+
+    ghost Value = { Owed };
+
+    ghost coded = { owed_code };
+
+    ghost view = { λ a. record { left = a.left; due = a.due } };
+
+    ghost inverse = { λ o. record { left = o.left; due = o.due } };
+}
+
+impl Serving {
+    /// Begins with what a request asks for, and is due at once.
+    pub fn new(now: u64, want: PageBits<48>) -> Self
+        requires { want ≢ set.empty }
+        ensures { result ≡ begun now want }
+    {
+        Self {
+            left: want,
+            due: now,
+        }
+    }
+
+    /// Adds what a further request asks for.
+    pub fn merge(&mut self, want: &PageBits<48>)
+        ensures { self.new ≡ after_merge self.old want.now }
+    {
+        self.left.union(want);
+    }
+
+    /// What to do at this moment. A packet that is sent is no longer left.
+    pub fn next(&mut self, now: u64) -> Serve
+        requires { now < 2 ^ 62 }
+        ensures serve { result ≡ serve_of self.old now }
+        ensures after { self.new ≡ after_next self.old now }
+        ensures of_page { (packet : ℕ) → result ≡ Serve.Send packet → packet < PACKETS }
+    {
+        let Some(packet) = self.left.first() else {
+            return Serve::Done;
+        };
+        if now < self.due {
+            return Serve::Wait;
+        }
+        self.left.clear(packet);
+        self.due = now + GAP;
+        Serve::Send(packet)
+    }
+
+    /// How many packets are left to send.
+    pub fn left(&self) -> u8
+        ensures { result ≡ set.len self.now.left }
+    {
+        self.left.count()
+    }
+}
+
+/// What holds of a serving whatever is called in which order and at which moments: what was sent and
+/// what is left make the union of the requests, and where it is done all of that was sent; the least
+/// packet goes first; a packet is sent at most as often as it was asked for; and a gap lies between
+/// two packets.
+pub fn serves_the_union()
+    ensures sent_and_left { (start : ℕ) (first : Numbers) (calls : List Call)
+        → set.union (sent start first calls) (owed start first calls).left ≡ asked first calls }
+    ensures done { (start : ℕ) (first : Numbers) (earlier : List Call) (moment : ℕ)
+        → serve_of (owed start first earlier) moment ≡ Serve.Done
+        → sent start first earlier ≡ asked first earlier }
+    ensures least_first { (start : ℕ) (first : Numbers) (earlier : List Call) (moment packet : ℕ)
+        → serve_of (owed start first earlier) moment ≡ Serve.Send packet
+        → IsLeast (owed start first earlier).left packet }
+    ensures each_once { (start : ℕ) (first : Numbers) (calls : List Call) (packet : ℕ)
+        → times_sent start first calls packet ≤ times_asked first calls packet }
+    ensures gap { (o : Owed) (moment later p q : ℕ)
+        → serve_of o moment ≡ Serve.Send p → serve_of (after_next o moment) later ≡ Serve.Send q
+        → moment + GAP ≤ later }
+{}
+
+#[cfg(test)]
+mod tests {
+    use super::*;
+
+    #[test]
+    fn requests_are_merged(rt: HostRuntime) {
+        let mut want = PageBits::none();
+        want.set(0);
+        want.set(1);
+        want.set(5);
+        let mut serving = Serving::new(0, want);
+        let mut more = PageBits::none();
+        more.set(1);
+        more.set(7);
+        serving.merge(&more);
+        assert_eq!(rt; serving.left(), 4);
+        for (now, serve) in [
+            (0, Serve::Send(0)),
+            (15, Serve::Wait),
+            (16, Serve::Send(1)),
+            (32, Serve::Send(5)),
+            (48, Serve::Send(7)),
+            (64, Serve::Done),
+        ] {
+            assert_eq!(rt; serving.next(now), serve, "at {now}");
+        }
+    }
+}

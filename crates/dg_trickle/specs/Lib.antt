@@ -1,0 +1,4 @@
+pub mod Timer
+pub mod Steps
+pub mod Runs
+pub mod RunLaws

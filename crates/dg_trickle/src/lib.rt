@@ -1,0 +1,196 @@
+//! The Trickle timer of RFC 6206: when to send, when to keep quiet, and when to begin anew.
+//!
+//! Moments are milliseconds, and a word stands for a random draw. Section 4.1 of the RFC leaves
+//! three parameters open: here Imin is 500 ms, Imax is Imin doubled seven times, and k is 1.
+#![tactic(auto)]
+
+ghost use Rattle.std.specs.Prelude.{◌≡◌, ℕ, ◌<◌, ◌≤◌, ◌^◌, List, [], ◌∷◌, Contains};
+ghost use Rattle.dg_trickle.specs.Timer.{Timer};
+ghost use Rattle.dg_trickle.specs.Steps.{begun, started, after_same, after_other, after_tick, act_of, IsRunning};
+ghost use Rattle.dg_trickle.specs.Runs.{Call, after, timer, Heard, current, sends, IsDoubled, DoublesOrFalls};
+
+use std::marker::Model;
+
+/// Imin, the shortest interval, in milliseconds.
+pub const SHORTEST: u32 = 500;
+
+/// Imax, the longest interval, in milliseconds: the shortest, doubled seven times.
+pub const LONGEST: u32 = 64_000;
+
+/// k, the redundancy constant: a timer sends where it heard fewer equal transmissions.
+pub const REDUNDANCY: u16 = 1;
+
+/// What a tick asks of its caller.
+#[derive(Clone, Copy, Debug, PartialEq, Eq)]
+pub enum Act {
+    /// The timer fired: transmit.
+    Send,
+    /// The timer fired, and enough was heard: transmit nothing.
+    Quiet,
+    /// The interval is over, and the next one began.
+    Expired,
+    /// Neither moment is reached.
+    Nothing,
+}
+
+/// A Trickle timer.
+#[derive(Clone, Copy, Debug, PartialEq, Eq)]
+pub struct Trickle {
+    interval: u32,
+    begin: u64,
+    fires_after: u32,
+    heard: u16,
+    fired: bool,
+}
+
+impl Model for Trickle {
+    ghost use Rattle.std.specs.Prelude.{◌<◌, ◌^◌};
+    ghost use Rattle.dg_trickle.specs.Timer.{Timer};
+
+    ghost Value = { Timer };
+
+    ghost use Rattle.dg_trickle.specs.Steps.{IsRunning};
+
+    ghost view = { λ a. record {
+      interval = a.interval;
+      begin = a.begin;
+      t = a.fires_after;
+      count = a.heard;
+      fired = a.fired;
+    } };
+
+    ghost invariant = { λ a. IsRunning (record {
+      interval = a.interval;
+      begin = a.begin;
+      t = a.fires_after;
+      count = a.heard;
+      fired = a.fired;
+    }) × (a.begin < 2 ^ 62) };
+
+    ghost inverse = { λ s. record {
+      interval = s.interval;
+      begin = s.begin;
+      fires_after = s.t;
+      heard = s.count;
+      fired = s.fired;
+    } };
+}
+
+impl Trickle {
+    /// Starts a timer: the shortest interval begins at `now`.
+    pub fn new(now: u64, word: u32) -> Self
+        requires { now < 2 ^ 62 }
+        ensures value { result ≡ started now word }
+        ensures running { IsRunning result }
+    {
+        Self::begin(SHORTEST, now, word)
+    }
+
+    /// Notes that something equal was heard.
+    pub fn heard_same(&mut self)
+        ensures value { self.new ≡ after_same self.old }
+        ensures running { IsRunning self.new }
+    {
+        self.heard = self.heard.saturating_add(1);
+    }
+
+    /// Notes that something other was heard: the shortest interval begins, unless it runs.
+    pub fn heard_other(&mut self, now: u64, word: u32)
+        requires { now < 2 ^ 62 }
+        ensures value { self.new ≡ after_other self.old now word }
+        ensures running { IsRunning self.new }
+    {
+        if self.interval > SHORTEST {
+            *self = Self::begin(SHORTEST, now, word);
+        }
+    }
+
+    /// Looks at the clock.
+    pub fn tick(&mut self, now: u64, word: u32) -> Act
+        requires { now < 2 ^ 62 }
+        ensures act { result ≡ act_of self.old now }
+        ensures value { self.new ≡ after_tick self.old now word }
+        ensures running { IsRunning self.new }
+    {
+        if !self.fired {
+            if now < self.begin + u64::from(self.fires_after) {
+                return Act::Nothing;
+            }
+            self.fired = true;
+            return if self.heard < REDUNDANCY {
+                Act::Send
+            } else {
+                Act::Quiet
+            };
+        }
+        if now < self.begin + u64::from(self.interval) {
+            return Act::Nothing;
+        }
+        let longer = (2 * self.interval).min(LONGEST);
+        *self = Self::begin(longer, now, word);
+        Act::Expired
+    }
+
+    // An interval begins, and fires at a random moment of its second half.
+    fn begin(interval: u32, now: u64, word: u32) -> Self
+        requires shortest { SHORTEST ≤ interval }
+        requires longest { interval ≤ LONGEST }
+        requires moment { now < 2 ^ 62 }
+        ensures value { result ≡ begun interval now word }
+        ensures running { IsRunning result }
+    {
+        let half = interval / 2;
+        Self {
+            interval,
+            begin: now,
+            fires_after: half + word % half,
+            heard: 0,
+            fired: false,
+        }
+    }
+}
+
+/// Bounds that hold in every run, whatever is called in which order and at which moments: the
+/// interval is the shortest one doubled up to seven times, it only doubles or falls back to the
+/// shortest, and t lies in its second half.
+pub fn interval_bounds()
+    ensures running { (start word : ℕ) (calls : List Call) → IsRunning (timer start word calls) }
+    ensures sizes { (start word : ℕ) (calls : List Call) → IsDoubled (timer start word calls) }
+    ensures changes { (start word : ℕ) (earlier : List Call) (call : Call)
+        → DoublesOrFalls (timer start word earlier) (timer start word (call ∷ earlier)) }
+    ensures step { (s : Timer) (call : Call) → IsRunning s → IsRunning (after s call) }
+{}
+
+/// Suppression, in every run: a tick sends only where nothing was heard and nothing was sent since
+/// the interval began, keeps quiet only where something equal was heard, and so sends at most once
+/// an interval.
+pub fn suppression()
+    ensures untouched { (start word : ℕ) (earlier : List Call) (moment : ℕ)
+        → act_of (timer start word earlier) moment ≡ Act.Send → current start word earlier ≡ [] }
+    ensures heard { (start word : ℕ) (earlier : List Call) (moment : ℕ)
+        → act_of (timer start word earlier) moment ≡ Act.Quiet
+        → Contains (current start word earlier) Heard }
+    ensures once { (start word : ℕ) (calls : List Call) → sends (current start word calls) ≤ 1 }
+{}
+
+#[cfg(test)]
+mod tests {
+    use super::*;
+
+    #[test]
+    fn an_equal_transmission_quiets_one_interval(rt: HostRuntime) {
+        let mut timer = Trickle::new(0, 0);
+        timer.heard_same();
+        assert_eq!(rt; timer.tick(250, 0), Act::Quiet);
+        assert_eq!(rt; timer.tick(500, 7), Act::Expired);
+        assert_eq!(rt; timer.interval, 1000);
+        assert_eq!(rt; timer.fires_after, 507);
+
+        timer.heard_other(600, 3);
+        assert_eq!(rt; timer.interval, 500);
+        assert_eq!(rt; timer.begin, 600);
+        assert_eq!(rt; timer.fires_after, 253);
+        assert_eq!(rt; timer.tick(852, 0), Act::Nothing);
+        assert_eq!(rt; timer.tick(853, 0), Act::Send);
+    }
+}
