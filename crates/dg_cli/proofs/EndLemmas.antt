@@ -18,7 +18,7 @@ use Rattle.dg_cli.specs.World.{World, Played, last_lines}
 use Rattle.dg_cli.specs.Boards.{BoardsStand, BoardStopped}
 use Rattle.dg_cli.specs.Player.{Stood}
 use Rattle.dg_cli.specs.Ending.{Ending, Ends, NoBoards, FaultAt, Over, is_motes, by_fault, ending_from, ending_line, status_of, up_to, whole_lines, used, is_over, script_of, ending_of}
-use Rattle.dg_cli.specs.Outcome.{IsFront, line_played, played_text, closing, AllPlayed, IsWholeReport, IsFrontOfReport, Wrote, Boards, IsCaused}
+use Rattle.dg_cli.specs.Outcome.{IsFront, line_played, played_text, closing, AllPlayed, IsWholeReport, IsFrontOfReport, IsFrontOfLines, StopsAt, Wrote, Boards, IsCaused}
 use Rattle.dg_cli.specs.Replaying.{StopEnds, Reached, PlayedFront, PlayedUpTo, LinesAnswer, ReadyToEnd, EndsWith, FinishesWith, ScriptReplayed}
 use Rattle.dg_cli.specs.declared.states.Player.{Player}
 use Rattle.dg_cli.specs.declared.script.Place.{Place}
@@ -91,7 +91,7 @@ ended result script e piece initial now before mid after failed worse spread r (
       front = r.front;
       text = played_text r.played;
       written = subst (λ (o : Option (List ℕ)). Puts before o (played_text r.played)) (sym memory.1) r.told;
-      report = record { more = []; front = inl (append-nil (played_text r.played)) };
+      report = record { more = []; front = append-nil (played_text r.played) };
       boards = r.boards;
       caused = tt;
     } in
@@ -100,7 +100,7 @@ ended result script e piece initial now before mid after failed worse spread r (
 -- a front was played and reported, and more of its report may have been written
 pub front_only : (script : Script) (e : Ending) (initial now : List Device) (before after : Option (List ℕ)) (worse : Type 0) → PlayedFront script initial now before after → ScriptReplayed status.Memory script e initial now before after worse
 front_only script e initial now before after worse f =
-    record { played = f.played; rest = f.rest; last = f.last; front = f.front; text = f.text; written = f.told; report = record { more = f.more; front = inl f.whole }; boards = f.boards; caused = tt }
+    record { played = f.played; rest = f.rest; last = f.last; front = f.front; text = f.text; written = f.told; report = record { more = f.more; front = f.whole }; boards = f.boards; caused = tt }
 
 front_cut : (script : Script) (e : Ending) (initial now : List Device) (before after : Option (List ℕ)) (worse : Type 0) → worse → PlayedFront script initial now before after → ScriptReplayed status.WriteFault script e initial now before after worse
 front_cut script e initial now before after worse rose f =
@@ -150,9 +150,9 @@ stopped_ends FlashFault result script ends over initial now before mid after fai
       front = f.front;
       text = played_text f.played;
       written = subst (λ (o : Option (List ℕ)). Puts before o (played_text f.played)) (sym told) f.told;
-      report = refl;
-      boards = f.there;
-      caused = f.there;
+      report = (refl, subst (λ (ls : List Line). StopsAt (ending_from (length initial) over script) ls) (sym f.there.0.2) f.there.0.3);
+      boards = f.there.1;
+      caused = f.there.1;
     } in
     subst (λ (s : Status). ScriptReplayed s script (ending_from (length initial) over script) initial now before after worse) (sym same) made
 stopped_ends NotAVolume result script ends over initial now before mid after failed later worse spread widen never done = absurd never
@@ -219,7 +219,7 @@ finish_as result script w played initial new before mid after failed worse sprea
       front = front;
       text = played_text played;
       written = subst (λ (o : Option (List ℕ)). Puts before o (played_text played)) (sym kept) told;
-      report = refl;
+      report = (refl, refl);
       boards = stopped;
       caused = stopped;
     } in

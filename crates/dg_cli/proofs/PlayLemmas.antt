@@ -12,7 +12,7 @@ use Rattle.dg_volume.specs.Start.{Start, start_of, start_from, golden_start, gol
 use Rattle.dg_cli.specs.World.{World, Outcome, formatted, started, reset_by_rules, golden_of_world, start_line, length_in, LineStep, GoldenAt, StartsGolden}
 use Rattle.dg_cli.specs.Boards.{FirstUsed, BoardStands, BoardsStand, BoardStopped}
 use Rattle.dg_cli.specs.Player.{KeepsGoldenRow, golden_app, InWorld, Stood, RanOn, CameToStop, ResetTo, RestartTo, PlayedTo, PlayedAs, LacksBoard}
-use Rattle.dg_cli.specs.Script.{AllowedAt}
+use Rattle.dg_cli.specs.Script.{AllowedAt, UsesBoard}
 use Rattle.dg_cli.specs.declared.mote.PlayStop.{PlayStop}
 use Rattle.dg_cli.specs.declared.mote.PlayStop.TheVariants.{NoBoard, FlashFault, NotAVolume, NoImage}
 use Rattle.dg_cli.specs.declared.states.Player.{Player}
@@ -286,6 +286,9 @@ golden_line_played p w line golden name bytes initial now new d e is named same 
     let chip : Stands e.image (fresh golden.name golden.content) = subst (λ (n : List ℕ). Stands e.image (fresh n golden.content)) named (subst (λ (x : List ℕ). Stands e.image (fresh name x)) same stands) in
     subst P (sym is) (λ here. golden_played p w golden initial now new d e here stood row board ran chip) allowed
 
+pub golden_uses : (line : Line) (golden : GoldenImage) → line ≡ Golden golden → UsesBoard line
+golden_uses line golden is = subst (λ (l : Line). UsesBoard l) (sym is) tt
+
 -- what a restart answers, at a mote that is where a reset line finds it
 pub restart_at : (r : Result (Option Report) PlayStop) (p q : Player) (w : Option World) (dt word : ℕ) (initial now new : List Device) (d e : Device) → ((row : Row) → IsRow row → row.image ≡ 0 → row.version ≡ 1 → GoldenLaws row)
     → p.place ≡ Later → Stood p w initial now → First_board now new d e
@@ -297,7 +300,7 @@ restart_at (Ok report) p q (Some w) dt word initial now new d e laws here stood 
     let keeps = stood.world.3 in
     reset_played p q w dt word initial now new d e report (laws (golden_of_world w) keeps.fits keeps.image keeps.version) stood board ran (ok w.store (stands_at w initial now d stood.boards board.before))
 restart_at (Err NoBoard) p q (Some w) dt word initial now new d e laws here stood board ok ran stopped volume image none = absurd (none refl)
-restart_at (Err FlashFault) p q (Some w) dt word initial now new d e laws here stood board ok ran stopped volume image none = board_stopped p (Some w) initial now new d e stood board (stopped refl)
+restart_at (Err FlashFault) p q (Some w) dt word initial now new d e laws here stood board ok ran stopped volume image none = (tt, board_stopped p (Some w) initial now new d e stood board (stopped refl))
 restart_at (Err NotAVolume) p q (Some w) dt word initial now new d e laws here stood board ok ran stopped volume image none = volume refl w.store (stands_at w initial now d stood.boards board.before)
 restart_at (Err NoImage) p q (Some w) dt word initial now new d e laws here stood board ok ran stopped volume image none =
     let keeps = stood.world.3 in

@@ -72,7 +72,7 @@ pub not_played_as : (stop : PlayStop) (text : List ℕ) (place : Place) (number 
     → line_of place text ≡ Some line → PlayedAs (Err stop) q w line initial old new → after ≡ before → TextAnswer (Err (stop_of stop)) text place number q w initial old new before after failed
 not_played_as play.NoBoard text place number q w initial old new before after failed line spelled played same =
     (spelled ∙ ap (λ (l : Line). Some l) played.motes, played.none, record { boards = played.same; told = same })
-not_played_as play.FlashFault text place number q w initial old new before after failed line spelled played same = (line, spelled, played, same)
+not_played_as play.FlashFault text place number q w initial old new before after failed line spelled played same = (line, spelled, played.0, played.1, same)
 not_played_as play.NotAVolume text place number q w initial old new before after failed line spelled played same = played
 not_played_as play.NoImage text place number q w initial old new before after failed line spelled played same = played
 
@@ -233,14 +233,14 @@ stopped_at (BadInput line) ends script texts text n p q initial old now before m
       );
     }
 stopped_at WriteFault ends script texts text n p q initial old now before mid after failed worse spread r (rose, cut) = (spread rose, front_of_report ends script texts text n p q initial old now before mid after r cut)
-stopped_at FlashFault ends script texts text n p q initial old now before mid after failed worse spread r (line, spelled, stopped, told) =
+stopped_at FlashFault ends script texts text n p q initial old now before mid after failed worse spread r (line, spelled, uses, stopped, told) =
     record {
       played = r.played;
       rest = (script_from ends p.place n (text ∷ texts)).lines;
       last = r.last;
       front = front_reached ends script (text ∷ texts) n p initial old before mid r;
       told = subst (λ (o : Option (List ℕ)). Puts before o (played_text r.played)) (sym told) r.told;
-      there = stopped;
+      there = ((line, (script_from ends (place_after p.place line) (n + 1) texts).lines, ap (λ (s : Script). s.lines) (script_line ends p.place n text texts line spelled), uses), stopped);
     }
 stopped_at NotAVolume ends script texts text n p q initial old now before mid after failed worse spread r never = never
 stopped_at NoBoard ends script texts text n p q initial old now before mid after failed worse spread r (spelled, empty, none) =

@@ -22,10 +22,10 @@ use Rattle.dg_cli.specs.declared.script.Line.{Line}
 use Rattle.dg_cli.proofs.ReplayLemmas.{plays_none}
 use Rattle.dg_cli.proofs.EndLemmas.{is_over-true}
 
-enough_for : (s : Status) (input : List ℕ) (at_end : Type 0) → at_end ⊎ (is_over input ≡ true) → ReadEnough s input at_end
-enough_for Memory input at_end e = tt
-enough_for ReadFault input at_end e = tt
-enough_for _ input at_end e = e
+enough_for : (s : Status) (input : List ℕ) (at_end : Type 0) (played : List Played) (text : List ℕ) → at_end ⊎ (is_over input ≡ true) → ReadEnough s input at_end played text
+enough_for Memory input at_end played text e = inl e
+enough_for ReadFault input at_end played text e = tt
+enough_for _ input at_end played text e = e
 
 caused_too : (s : Status) (e : Ending) (r w b : Type 0) → IsCaused s e ⊥ w b → IsCaused s e r w b
 caused_too ReadFault e r w b h = absurd h
@@ -47,7 +47,7 @@ read_replayed s text lb la wb wa r w old new n count taken enough replayed =
     record {
       input = text;
       taken = taken;
-      enough = enough_for s text (AtEnd la) (over_or text (AtEnd la) enough);
+      enough = enough_for s text (AtEnd la) t.played t.text (over_or text (AtEnd la) enough);
       played = t.played;
       rest = t.rest;
       last = t.last;
@@ -65,7 +65,7 @@ front_none script = record { lines = refl; run = plays_none; golden = tt }
 -- memory ran out in reading, and a read failed
 pub memory_unread : (bytes : List ℕ) (lb la wb : Option (List ℕ)) (r w : Type 0) (old : List Device) → Takes lb la bytes → Replayed Memory lb la wb wb r w old old
 memory_unread bytes lb la wb r w old taken =
-    record { input = bytes; taken = taken; enough = tt; played = []; rest = (script_of bytes).lines; last = None; front = front_none (script_of bytes); text = []; written = Puts-nil wb; report = record { more = []; front = inl refl }; boards = refl; caused = tt }
+    record { input = bytes; taken = taken; enough = inr (refl, refl); played = []; rest = (script_of bytes).lines; last = None; front = front_none (script_of bytes); text = []; written = Puts-nil wb; report = record { more = []; front = refl }; boards = refl; caused = tt }
 
 pub read_failed : (bytes : List ℕ) (lb la wb : Option (List ℕ)) (r w : Type 0) (old : List Device) → Takes lb la bytes → r → Replayed ReadFault lb la wb wb r w old old
 read_failed bytes lb la wb r w old taken rose =
@@ -110,22 +110,22 @@ over_never bytes input la n taken over ends =
     let told = Takes-told bytes input la taken in
     over_ending n bytes (longer_over bytes input told.0 told.1 over) ends
 
-by_status : (s : Status) (input : List ℕ) (la : Option (List ℕ)) (r w b : Type 0) (n : ℕ) → ReadEnough s input (AtEnd la) → IsCaused s (ending_of n input) r w b → (r → ⊥) → (w → ⊥) → (b → ⊥)
+by_status : (s : Status) (input : List ℕ) (la : Option (List ℕ)) (played : List Played) (text : List ℕ) (r w b : Type 0) (n : ℕ) → ReadEnough s input (AtEnd la) played text → IsCaused s (ending_of n input) r w b → (r → ⊥) → (w → ⊥) → (b → ⊥)
     → (AtEnd la ⊎ (is_over input ≡ true) → ending_of n input ≡ Ends) → (s ≡ Done) ⊎ (s ≡ Memory)
-by_status Memory input la r w b n enough caused reads writes stops ends = inr refl
-by_status ReadFault input la r w b n enough caused reads writes stops ends = absurd (reads caused)
-by_status WriteFault input la r w b n enough caused reads writes stops ends = absurd (writes caused)
-by_status FlashFault input la r w b n enough caused reads writes stops ends = absurd (stops caused)
-by_status Done input la r w b n enough caused reads writes stops ends = inl refl
-by_status Usage input la r w b n enough caused reads writes stops ends = inl (caused ∙ ap status_of (ends enough))
-by_status BadInput input la r w b n enough caused reads writes stops ends = inl (caused ∙ ap status_of (ends enough))
-by_status NotAVolume input la r w b n enough caused reads writes stops ends = inl (caused ∙ ap status_of (ends enough))
-by_status Refused input la r w b n enough caused reads writes stops ends = inl (caused ∙ ap status_of (ends enough))
-by_status LinkFault input la r w b n enough caused reads writes stops ends = inl (caused ∙ ap status_of (ends enough))
-by_status TooLong input la r w b n enough caused reads writes stops ends = inl (caused ∙ ap status_of (ends enough))
-by_status TooMany input la r w b n enough caused reads writes stops ends = inl (caused ∙ ap status_of (ends enough))
-by_status NoBoard input la r w b n enough caused reads writes stops ends = inl (caused ∙ ap status_of (ends enough))
-by_status NoImage input la r w b n enough caused reads writes stops ends = inl (caused ∙ ap status_of (ends enough))
+by_status Memory input la played text r w b n enough caused reads writes stops ends = inr refl
+by_status ReadFault input la played text r w b n enough caused reads writes stops ends = absurd (reads caused)
+by_status WriteFault input la played text r w b n enough caused reads writes stops ends = absurd (writes caused)
+by_status FlashFault input la played text r w b n enough caused reads writes stops ends = absurd (stops caused)
+by_status Done input la played text r w b n enough caused reads writes stops ends = inl refl
+by_status Usage input la played text r w b n enough caused reads writes stops ends = inl (caused ∙ ap status_of (ends enough))
+by_status BadInput input la played text r w b n enough caused reads writes stops ends = inl (caused ∙ ap status_of (ends enough))
+by_status NotAVolume input la played text r w b n enough caused reads writes stops ends = inl (caused ∙ ap status_of (ends enough))
+by_status Refused input la played text r w b n enough caused reads writes stops ends = inl (caused ∙ ap status_of (ends enough))
+by_status LinkFault input la played text r w b n enough caused reads writes stops ends = inl (caused ∙ ap status_of (ends enough))
+by_status TooLong input la played text r w b n enough caused reads writes stops ends = inl (caused ∙ ap status_of (ends enough))
+by_status TooMany input la played text r w b n enough caused reads writes stops ends = inl (caused ∙ ap status_of (ends enough))
+by_status NoBoard input la played text r w b n enough caused reads writes stops ends = inl (caused ∙ ap status_of (ends enough))
+by_status NoImage input la played text r w b n enough caused reads writes stops ends = inl (caused ∙ ap status_of (ends enough))
 
 -- A script that ends, whose bytes are told, was replayed to its end, unless memory ran out or the outside failed.
 told_end : (bytes input : List ℕ) (la : Option (List ℕ)) (n : ℕ) → Takes (Some bytes) la input → AtEnd la ⊎ (is_over input ≡ true) → ending_of n bytes ≡ Ends → ending_of n input ≡ Ends
@@ -137,7 +137,7 @@ pub completed : (s : Status) (bytes : List ℕ) (lb la wb wa : Option (List ℕ)
 completed s bytes lb la wb wa r w old new n count told ends reads writes stops x =
     let taken : Takes (Some bytes) la x.input = subst (λ (o : Option (List ℕ)). Takes o la x.input) told x.taken in
     let wanted : ending_of (length old) bytes ≡ Ends = subst (λ (k : ℕ). ending_of k bytes ≡ Ends) count ends in
-    by_status s x.input la r w (BoardStopped old new) (length old) x.enough x.caused reads writes stops (λ enough. told_end bytes x.input la (length old) taken enough wanted)
+    by_status s x.input la x.played x.text r w (BoardStopped old new) (length old) x.enough x.caused reads writes stops (λ enough. told_end bytes x.input la (length old) taken enough wanted)
 
 -- the words of the program
 and_true : (a b : Bool) → (a && b) ≡ true → (a ≡ true) × (b ≡ true)

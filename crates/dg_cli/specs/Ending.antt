@@ -64,7 +64,7 @@ status_of NoBoards = NoBoard
 status_of (FaultAt line) = BadInput
 status_of Over = TooLong
 
--- the last line of an ending, None where it has none
+-- the last line of an ending, empty where it has none
 abbrev pub ending_line : Ending → List ℕ
 ending_line Ends = []
 ending_line NoBoards = codes "noboard 1 0" ++ 10 ∷ []

@@ -9,7 +9,7 @@ use Rattle.dg_nor.specs.Device.{Device}
 use Rattle.dg_cli.specs.Boards.{BoardsStand, BoardStopped}
 use Rattle.dg_cli.specs.Report.{report_text}
 use Rattle.dg_cli.specs.World.{World, Played, Plays, RunsGolden, last_lines}
-use Rattle.dg_cli.specs.Script.{Script}
+use Rattle.dg_cli.specs.Script.{Script, UsesBoard}
 use Rattle.dg_cli.specs.Ending.{Ending, Ends, NoBoards, FaultAt, Over, ending_of, ending_line, usage_line, status_of, script_of, is_over}
 use Rattle.dg_cli.specs.declared.script.Line.{Line}
 use Rattle.dg_cli.specs.declared.script.Line.TheVariants.{Motes}
@@ -47,10 +47,20 @@ pub record IsWholeReport (ending : Ending) (played : List Played) (rest : List L
   pub all : AllPlayed ending rest
   pub told : text ≡ played_text played ++ closing ending last
 
+-- a front of the lines that are reported before the end
+pub record IsFrontOfLines (played : List Played) (text : List ℕ) : Type 0 where
+  pub more : List ℕ
+  pub front : text ++ more ≡ played_text played
+
 -- a front of the report, whose end may have begun
 pub record IsFrontOfReport (ending : Ending) (played : List Played) (rest : List Line) (last : Option World) (text : List ℕ) : Type 0 where
   pub more : List ℕ
   pub front : ((text ++ more) ≡ played_text played) ⊎ IsWholeReport ending played rest last (text ++ more)
+
+-- The board is used by the next line, or in reading what the end of the report tells.
+abbrev pub StopsAt : Ending → List Line → Type 0
+StopsAt ending [] = ending ≡ Ends
+StopsAt ending (line ∷ rest) = UsesBoard line
 
 -- what was written, by the status
 abbrev pub Wrote : Status → Ending → List Played → List Line → Option World → List ℕ → Type 0
@@ -58,9 +68,9 @@ Wrote Done = IsWholeReport
 Wrote BadInput = IsWholeReport
 Wrote TooLong = IsWholeReport
 Wrote NoBoard = IsWholeReport
-Wrote Memory = IsFrontOfReport
+Wrote Memory = λ ending played rest last text. IsFrontOfLines played text
 Wrote WriteFault = IsFrontOfReport
-Wrote FlashFault = λ ending played rest last text. text ≡ played_text played
+Wrote FlashFault = λ ending played rest last text. (text ≡ played_text played) × StopsAt ending rest
 Wrote ReadFault = λ ending played rest last text. (played ≡ []) × (text ≡ [])
 Wrote _ = λ ending played rest last text. ⊥
 
@@ -76,18 +86,17 @@ IsCaused WriteFault ending r w b = w
 IsCaused FlashFault ending r w b = b
 IsCaused status ending r w b = status ≡ status_of ending
 
--- the input was read as far as the rules use it, unless reading failed or memory ran out
-abbrev pub ReadEnough : Status → List ℕ → Type 0 → Type 0
-ReadEnough Memory input at_end = Unit {0}
-ReadEnough ReadFault input at_end = Unit {0}
-ReadEnough status input at_end = at_end ⊎ (is_over input ≡ true)
+-- The input was read as far as the rules use it, unless reading failed or memory ran out. Nothing is played of an input that was not.
+abbrev pub ReadEnough : Status → List ℕ → Type 0 → List Played → List ℕ → Type 0
+ReadEnough Memory input at_end played text = (at_end ⊎ (is_over input ≡ true)) ⊎ ((played ≡ []) × (text ≡ []))
+ReadEnough ReadFault input at_end played text = Unit {0}
+ReadEnough status input at_end played text = at_end ⊎ (is_over input ≡ true)
 
 -- What a replay did. Some bytes were taken from the source: the bytes left before it and after it, where they are told, say which. What was written is told in the same way.
 pub record Replayed (status : Status) (left_before left_after written_before written_after : Option (List ℕ)) (reads_failed writes_failed : Type 0) (old new : List Device) : Type 0 where
-  -- the input that was taken, as far as the rules use it
+  -- the input that was taken
   pub input : List ℕ
   pub taken : Takes left_before left_after input
-  pub enough : ReadEnough status input (AtEnd left_after)
   -- the lines of its script that were played, those that were not, and the world then, None before the boards are formatted
   pub played : List Played
   pub rest : List Line
@@ -98,6 +107,7 @@ pub record Replayed (status : Status) (left_before left_after written_before wri
   pub text : List ℕ
   pub written : Puts written_before written_after text
   pub report : Wrote status (ending_of (length old) input) played rest last text
+  pub enough : ReadEnough status input (AtEnd left_after) played text
   -- the first board stands for that world's store, and the others are as before
   pub boards : Boards status last old new
   -- the status is the one that the rules give to the input, but for want of memory and faults of the outside

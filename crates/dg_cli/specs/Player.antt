@@ -5,6 +5,7 @@ use Rattle.dg_nor.specs.Device.{Device}
 use Rattle.dg_object.specs.Object.{Row, IsRow, object}
 use Rattle.dg_volume.specs.Store.{Store, App, held, held_whole, Stands}
 use Rattle.dg_volume.specs.Start.{Start, start_of}
+use Rattle.dg_cli.specs.Script.{UsesBoard}
 use Rattle.dg_cli.specs.World.{World, golden_of_world, start_line, LineStep, GoldenAt}
 use Rattle.dg_cli.specs.Boards.{BoardsStand, BoardStopped}
 use Rattle.dg_cli.specs.declared.states.Player.{Player}
@@ -84,6 +85,6 @@ pub record LacksBoard (line : Line) (initial old new : List Device) : Type 0 whe
 abbrev pub PlayedAs : Result (Option Report) PlayStop → Player → Option World → Line → (initial old new : List Device) → Type 0
 PlayedAs (Ok report) player w line initial old new = PlayedTo player w line (option_to_list report) initial new
 PlayedAs (Err NoBoard) player w line initial old new = LacksBoard line initial old new
-PlayedAs (Err FlashFault) player w line initial old new = BoardStopped initial new
+PlayedAs (Err FlashFault) player w line initial old new = UsesBoard line × BoardStopped initial new
 PlayedAs (Err NotAVolume) player w line initial old new = ⊥
 PlayedAs (Err NoImage) player w line initial old new = ⊥

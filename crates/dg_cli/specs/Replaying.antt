@@ -3,7 +3,7 @@ use Rattle.std.specs.Prelude.{◌≡◌, ◌⊎◌, ℕ, ◌+◌, ◌<◌, ◌�
 use Rattle.std.specs.List.{AllByRecursion, list_any}
 use Rattle.dg_base.specs.Outside.{Puts, PutsFront}
 use Rattle.dg_nor.specs.Device.{Device}
-use Rattle.dg_cli.specs.Script.{Script, script_from, line_of, place_after}
+use Rattle.dg_cli.specs.Script.{Script, script_from, line_of, place_after, UsesBoard}
 use Rattle.dg_volume.specs.Mounted.{kept_at}
 use Rattle.dg_volume.specs.declared.volume.Volume.{Volume}
 use Rattle.dg_volume.specs.declared.kept.Kept.{Kept}
@@ -62,7 +62,7 @@ TextAnswer (Ok u) text place number q w initial old new before after failed = Te
 TextAnswer (Err Memory) text place number q w initial old new before after failed = NothingDone old new before after ⊎ TextCut text place q w initial new before after
 TextAnswer (Err (BadInput line)) text place number q w initial old new before after failed = (line ≡ number) × (line_of place text ≡ None) × NothingDone old new before after
 TextAnswer (Err WriteFault) text place number q w initial old new before after failed = failed × TextCut text place q w initial new before after
-TextAnswer (Err FlashFault) text place number q w initial old new before after failed = (line : Line) × (line_of place text ≡ Some line) × BoardStopped initial new × (after ≡ before)
+TextAnswer (Err FlashFault) text place number q w initial old new before after failed = (line : Line) × (line_of place text ≡ Some line) × UsesBoard line × BoardStopped initial new × (after ≡ before)
 TextAnswer (Err NotAVolume) text place number q w initial old new before after failed = ⊥
 TextAnswer (Err NoBoard) text place number q w initial old new before after failed = (line_of place text ≡ Some Motes) × (initial ≡ []) × NothingDone old new before after
 TextAnswer (Err NoImage) text place number q w initial old new before after failed = ⊥
@@ -107,7 +107,7 @@ LinesAnswer (Ok reached) ends script initial now before after failed = Reached e
 LinesAnswer (Err Memory) ends script initial now before after failed = PlayedFront script initial now before after
 LinesAnswer (Err (BadInput line)) ends script initial now before after failed = PlayedUpTo script before after (λ rest last. (rest ≡ []) × (script.fault ≡ Some line) × BoardsStand last initial now × (length initial ≡ 0 → list_any is_motes script.lines ≡ false))
 LinesAnswer (Err WriteFault) ends script initial now before after failed = failed × PlayedFront script initial now before after
-LinesAnswer (Err FlashFault) ends script initial now before after failed = PlayedUpTo script before after (λ rest last. BoardStopped initial now)
+LinesAnswer (Err FlashFault) ends script initial now before after failed = PlayedUpTo script before after (λ rest last. ((line : Line) × (more : List Line) × (rest ≡ line ∷ more) × UsesBoard line) × BoardStopped initial now)
 LinesAnswer (Err NotAVolume) ends script initial now before after failed = ⊥
 LinesAnswer (Err NoBoard) ends script initial now before after failed = PlayedUpTo script before after (λ rest last. (initial ≡ []) × ((more : List Line) × (rest ≡ Motes ∷ more)) × BoardsStand last initial now)
 LinesAnswer (Err NoImage) ends script initial now before after failed = ⊥

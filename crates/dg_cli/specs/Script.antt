@@ -71,6 +71,13 @@ AllowedAt place Motes = place ≡ First
 AllowedAt place (Golden golden) = place ≡ Second
 AllowedAt place (Reset dt word) = place ≡ Later
 
+-- a line that is played on a board
+abbrev pub UsesBoard : Line → Type 0
+UsesBoard Nothing = ⊥
+UsesBoard Motes = ⊥
+UsesBoard (Golden golden) = Unit {0}
+UsesBoard (Reset dt word) = Unit {0}
+
 -- The one verb that each place takes: the first line that says something is `motes`, the second is `golden`, and the others are events.
 abbrev pub verb_line : Place → List ℕ → List (List ℕ) → Option Line
 verb_line First verb fields = if same verb (codes "motes") then motes_of fields else None

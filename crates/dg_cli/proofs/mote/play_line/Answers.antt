@@ -1,5 +1,5 @@
 use Rattle.std.proofs.Common.{◌<◌, arith, length}
-use Rattle.dg_cli.proofs.PlayLemmas.{first_board, not_empty, golden_line_played, reset_line_played, board_stopped}
+use Rattle.dg_cli.proofs.PlayLemmas.{first_board, not_empty, golden_line_played, reset_line_played, golden_uses, board_stopped}
 use Rattle.dg_cli.proofs.mote.play_line.Goals as goal
 
 pub returns-in-Ok-clause-played : goal.returns-in-Ok-clause-played
@@ -12,7 +12,7 @@ pub returns-in-Err-clause-played : goal.returns-in-Err-clause-played
 returns-in-Err-clause-played g c = λ w initial allowed stood.
     let some : 0 < length c.args.boards.now = not_empty c.args.boards.now _ c.is_empty.ensures c.if-is_empty.false in
     let board = first_board g.N.Nor.device c.args.boards.now c.index-boards-0.result c.format.new.board some in
-    board_stopped _ w initial _ _ _ _ stood board c.in-Err.ensures.stopped
+    (golden_uses _ _ c.in-Golden.is, board_stopped _ w initial _ _ _ _ stood board c.in-Err.ensures.stopped)
 
 pub returns-in-Reset-clause-played : goal.returns-in-Reset-clause-played
 returns-in-Reset-clause-played g c = λ w initial allowed stood.
