@@ -83,8 +83,12 @@ fn data_page_crc(bytes: &[u8], p: u8) -> u16
     ensures { result ≡ crc_of (data_page bytes.now p) }
 {
     let held = held_in(bytes, p);
+    let crc = crc16(held);
+    if held.len() == PAGE {
+        return crc;
+    }
     let filling = blank();
-    crc16_more(crc16(held), &filling[held.len()..])
+    crc16_more(crc, &filling[held.len()..])
 }
 
 /// Writes `piece` behind the `at` bytes that stand at the front of a page that is filled up.
