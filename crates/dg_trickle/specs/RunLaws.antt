@@ -1,15 +1,13 @@
 -- What holds of every run of a Trickle timer: what a step keeps, and so what each history keeps.
-use Rattle.std.specs.Prelude.{◌≡◌, ℕ, zero, suc, not, ◌&&◌, ◌+◌, ◌*◌, ◌/◌, ◌%◌, ◌^◌, ◌≤◌, ◌<◌, min, Bool, true, false, ◌⊎◌, List, [], ◌∷◌, Contains, nat_le, nat_lt, if◌then◌else◌}
-use Rattle.std.proofs.Common.{refl, sym, ap, ◌∙◌, inl, inr, arith}
-use Rattle.std.proofs.lemmas.Bool.{cases_Bool, cond_both, ltb-true, ltb-false, true≢false, false≢true}
-use Rattle.std.proofs.lemmas.Bool.Decides.{nat_tests}
+use Rattle.std.specs.Prelude.{◌≡◌, ℕ, zero, suc, not, ◌&&◌, ◌*◌, ◌/◌, ◌%◌, ◌^◌, ◌≤◌, ◌<◌, min, Bool, true, false, ◌⊎◌, List, [], ◌∷◌, Contains, nat_lt, if◌then◌else◌}
+use Rattle.std.proofs.Common.{refl, sym, ap, inl, inr, arith}
+use Rattle.std.proofs.lemmas.Bool.{cond_both, ltb-true, ltb-false, true≢false}
 use Rattle.std.proofs.lemmas.List.Elements.{Contains-append_right}
-use Rattle.dg_trickle.specs.declared.Act.{Act}
 use Rattle.dg_trickle.specs.declared.Act.TheVariants.{Send, Quiet, Expired, Nothing}
 use Rattle.dg_trickle.specs.declared.TheConstants.{SHORTEST, LONGEST, REDUNDANCY}
 use Rattle.dg_trickle.specs.Timer.{Timer}
-use Rattle.dg_trickle.specs.Steps.{begun, started, after_same, after_other, after_tick, act_of, is_due, is_over, IsRunning}
-use Rattle.dg_trickle.specs.Runs.{Call, Same, Other, Tick, after, timer, Mark, Heard, Sent, Kept, noted_of, noted, current, sends, IsDoubled, DoublesOrFalls}
+use Rattle.dg_trickle.specs.Steps.{begun, after_same, after_other, after_tick, act_of, is_due, is_over, IsRunning}
+use Rattle.dg_trickle.specs.Runs.{Call, Same, Other, Tick, after, timer, Mark, Heard, Kept, noted_of, noted, current, sends, IsDoubled, DoublesOrFalls}
 
 -- ---- the bounds of an interval and of t
 

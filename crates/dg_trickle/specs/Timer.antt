@@ -1,5 +1,5 @@
 -- The state of a Trickle timer, in the words of RFC 6206, section 4.2.
-use Rattle.std.specs.Prelude.{◌≡◌, ℕ, ◌*◌, ◌/◌, ◌^◌, ◌≤◌, ◌<◌, Bool}
+use Rattle.std.specs.Prelude.{ℕ, Bool}
 
 pub record Timer : Type 0 where
   -- the size of the current interval, I
