@@ -9,3 +9,5 @@ pub mod SlotLemmas
 pub mod StoreLemmas
 pub mod MountLemmas
 pub mod GoldenLemmas
+pub mod KeptLemmas
+pub mod FreshLemmas
