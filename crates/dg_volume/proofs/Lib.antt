@@ -11,3 +11,4 @@ pub mod MountLemmas
 pub mod GoldenLemmas
 pub mod KeptLemmas
 pub mod FreshLemmas
+pub mod ContentLemmas
