@@ -12,3 +12,4 @@ pub mod GoldenLemmas
 pub mod KeptLemmas
 pub mod FreshLemmas
 pub mod ContentLemmas
+pub mod StartLemmas
