@@ -13,3 +13,5 @@ pub mod KeptLemmas
 pub mod FreshLemmas
 pub mod WholeLemmas
 pub mod OneStore
+pub mod ContentLemmas
+pub mod StartLemmas

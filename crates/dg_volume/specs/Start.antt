@@ -11,12 +11,13 @@ pages_sound crc [] = false
 pages_sound crc (first ∷ rest) =
     (crc_of first == crc) && list_all (λ p. crc_of (slice_index_or (first ∷ rest) p []) == crc_in first p) (range_with_len 1 (length rest))
 
+abbrev pub held_sound : Option Held → Bool
+held_sound None = false
+held_sound (Some h) = pages_sound h.crc h.complete
+
+-- the pages that are kept of an image are sound
 abbrev pub sound : Store → ℕ → Bool
-sound s i = is_sound (held s i)
-  where
-    is_sound : Option Held → Bool
-    is_sound None = false
-    is_sound (Some h) = pages_sound h.crc h.complete
+sound s i = held_sound (held s i)
 
 -- what a start gives: the image that runs, its pages, and the store after it
 pub record Start : Type 0 where
