@@ -13,3 +13,4 @@ pub mod KeptLemmas
 pub mod FreshLemmas
 pub mod ContentLemmas
 pub mod StartLemmas
+pub mod RunLemmas
