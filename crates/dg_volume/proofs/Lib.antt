@@ -14,3 +14,4 @@ pub mod FreshLemmas
 pub mod ContentLemmas
 pub mod StartLemmas
 pub mod RunLemmas
+pub mod SoundGolden

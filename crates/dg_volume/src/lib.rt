@@ -7,6 +7,7 @@ mod faults;
 mod formatting;
 mod header;
 mod kept;
+mod laws;
 mod layout;
 mod pages;
 mod place;
@@ -18,6 +19,7 @@ mod volume;
 
 pub use faults::{FormatFault, MountFault, StartFault};
 pub use kept::Kept;
+pub use laws::{a_chip_has_one_store, a_formatted_chip_starts_golden};
 pub use snapshot::{Order, Program, SlotState, Snapshot};
 pub use starting::{Started, start};
 pub use volume::Volume;
