@@ -15,3 +15,4 @@ pub mod WholeLemmas
 pub mod OneStore
 pub mod ContentLemmas
 pub mod StartLemmas
+pub mod RunLemmas

@@ -70,6 +70,7 @@ fn install_golden<N: Nor>(nor: &mut N, volume: Volume) -> Result<Volume, StartFa
     ensures told { IfOk result (λ v. (s : Store) → Stands (N.device nor.old).image s → Tells v (golden_start s).after) }
     ensures keeps { Keeps 1 68 (N.device nor.old).image (N.device nor.new).image }
     ensures no_image { IsErrOf result StartFault.NoImage → (s : Store) → Stands (N.device nor.old).image s → sound s 0 ≡ false }
+    ensures a_volume { IsErrOf result StartFault.NotAVolume → ⊥ }
     ensures ends { StartEnds result (N.device nor.old) (N.device nor.new) }
 {
     let golden = volume.kept[0].unwrap();

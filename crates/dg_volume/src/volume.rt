@@ -1,7 +1,6 @@
 //! A mounted volume.
 ghost use Rattle.std.specs.Prelude.{◌≡◌, ◌↔◌, ◌≤◌, ℕ, Option, IfOk, OnOk, IsErrOf, IsTrue, IsSomeAnd};
-ghost use Rattle.dg_nor.specs.Device.{Ran, Halts};
-ghost use Rattle.dg_volume.specs.Acts.{MountEnds};
+ghost use Rattle.dg_volume.specs.Acts.{Looked, Halted, MountEnds};
 ghost use Rattle.dg_volume.specs.Store.{App, AppStands, Stands, IsNoVolume};
 ghost use Rattle.dg_volume.specs.Told.{program_told};
 ghost use Rattle.dg_volume.specs.Mounted.{snapshot_of, kept_at, IsMounted};
@@ -27,9 +26,9 @@ impl Volume {
         ensures not_a_volume { IsErrOf result MountFault.NotAVolume → IsNoVolume (N.device nor.old).image }
 
         ensures same_image { (N.device nor.new).image ≡ (N.device nor.old).image }
-        ensures ran { OnOk result (Ran 0 (N.device nor.old) (N.device nor.new)) }
-        ensures refused { IsErrOf result MountFault.NotAVolume → Ran 0 (N.device nor.old) (N.device nor.new) }
-        ensures stopped { IsErrOf result MountFault.Stopped → Halts 0 0 (N.device nor.old) (N.device nor.new) }
+        ensures looked { OnOk result (Looked (N.device nor.old) (N.device nor.new)) }
+        ensures refused { IsErrOf result MountFault.NotAVolume → Looked (N.device nor.old) (N.device nor.new) }
+        ensures stopped { IsErrOf result MountFault.Stopped → Halted (N.device nor.old) (N.device nor.new) }
     {
         let snapshot = read_snapshot(nor)?;
         let kept = mount_slots(nor, &snapshot.slots)?;
