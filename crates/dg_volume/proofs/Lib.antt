@@ -12,7 +12,6 @@ pub mod GoldenLemmas
 pub mod KeptLemmas
 pub mod FreshLemmas
 pub mod WholeLemmas
-pub mod OneStore
 pub mod ContentLemmas
 pub mod StartLemmas
 pub mod RunLemmas

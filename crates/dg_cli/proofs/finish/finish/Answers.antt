@@ -1,5 +1,5 @@
 use Rattle.std.proofs.Common.{◌≡◌, ◌<◌, length, ap, Err, arith}
-use Rattle.dg_volume.proofs.OneStore.{tells_one}
+use Rattle.dg_volume.proofs.StartLemmas.{tells_store}
 use Rattle.dg_cli.proofs.PlayLemmas.{first_board, not_empty, stands_at}
 use Rattle.dg_cli.proofs.FinishLemmas.{finished_as, finish_stopped, board_there, no_boards}
 use Rattle.dg_cli.proofs.finish.finish.Goals as goal
@@ -11,7 +11,7 @@ pub returns-in-Ok-clause-finishes : goal.returns-in-Ok-clause-finishes
 returns-in-Ok-clause-finishes g c = λ w initial stood.
     let some : 0 < length c.args.boards.now = not_empty c.args.boards.now _ c.is_empty.ensures c.if-is_empty.false in
     let board = first_board g.N.Nor.device c.args.boards.now c.index-boards-0.result c.mount.new.nor some in
-    let tells = tells_one _ _ _ c.in-Ok.ensures.mounted (stands_at w initial _ _ stood.boards board.before) in
+    let tells = tells_store _ _ _ c.in-Ok.ensures.mounted (stands_at w initial _ _ stood.boards board.before) in
     finished_as c.end_with_volume.result w _ c.in-Ok.volume initial _ _ _ _ _ _ _ stood board c.mount.ensures.same_image c.in-Ok.ensures.ran tells c.end_with_volume.ensures.ends
 
 pub returns-in-Err-Stopped-clause-finishes : goal.returns-in-Err-Stopped-clause-finishes
