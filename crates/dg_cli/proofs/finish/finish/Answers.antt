@@ -12,13 +12,13 @@ returns-in-Ok-clause-finishes g c = λ w initial stood.
     let some : 0 < length c.args.boards.now = not_empty c.args.boards.now _ c.is_empty.ensures c.if-is_empty.false in
     let board = first_board g.N.Nor.device c.args.boards.now c.index-boards-0.result c.mount.new.nor some in
     let tells = tells_store _ _ _ c.in-Ok.ensures.mounted (stands_at w initial _ _ stood.boards board.before) in
-    finished_as c.end_with_volume.result w _ c.in-Ok.volume initial _ _ _ _ _ _ _ stood board c.mount.ensures.same_image c.in-Ok.ensures.ran tells c.end_with_volume.ensures.ends
+    finished_as c.end_with_volume.result w _ c.in-Ok.volume initial _ _ _ _ _ _ _ stood board c.mount.ensures.same_image c.in-Ok.ensures.looked.ran tells c.end_with_volume.ensures.ends
 
 pub returns-in-Err-Stopped-clause-finishes : goal.returns-in-Err-Stopped-clause-finishes
 returns-in-Err-Stopped-clause-finishes g c = λ w initial stood.
     let some : 0 < length c.args.boards.now = not_empty c.args.boards.now _ c.is_empty.ensures c.if-is_empty.false in
     let board = first_board g.N.Nor.device c.args.boards.now c.index-boards-0.result c.mount.new.nor some in
-    finish_stopped w _ initial _ _ _ _ _ _ stood board (c.in-Err-Stopped.ensures.stopped (ap (λ e. Err e) c.in-Err-Stopped.field-0-is))
+    finish_stopped w _ initial _ _ _ _ _ _ stood board (c.in-Err-Stopped.ensures.stopped (ap (λ e. Err e) c.in-Err-Stopped.field-0-is)).halts
 
 pub returns-in-Err-NotAVolume-clause-finishes : goal.returns-in-Err-NotAVolume-clause-finishes
 returns-in-Err-NotAVolume-clause-finishes g c = λ w initial stood.
