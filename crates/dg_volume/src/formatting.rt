@@ -12,16 +12,10 @@ ghost use Rattle.dg_volume.specs.Store.{KeepsImage, Stands, fresh, golden_row, h
 
 use crate::control::commit;
 use crate::header::{gates_of, header_bytes};
-use crate::layout::{GATES, header_sector, page_sector};
+use crate::layout::{GATES, GOLDEN, GOLDEN_VERSION, header_sector, page_sector};
 use crate::{FormatFault, Order, Program, SlotState, Snapshot, Volume};
 use dg_nor::{Nor, Stopped, erase_sector, program_in};
 use dg_object::{Profile, SizeFault, check_size, page_of, profile_of};
-
-/// The image number of golden.
-const GOLDEN: u8 = 0;
-
-/// The one version of golden.
-const GOLDEN_VERSION: u32 = 1;
 
 impl Volume {
     /// Makes the chip a volume that keeps golden alone: with this name, of 1 to 70,656 bytes. `used` commits are

@@ -1,6 +1,12 @@
 //! Where a volume keeps what, in sectors of the chip.
 ghost use Rattle.std.specs.Prelude.{◌≡◌, ◌+◌, ◌*◌, ◌≤◌};
 
+/// The image number of golden.
+pub(crate) const GOLDEN: u8 = 0;
+
+/// The one version of golden.
+pub(crate) const GOLDEN_VERSION: u32 = 1;
+
 /// The sector of the snapshot.
 pub(crate) const CONTROL: u32 = 1;
 

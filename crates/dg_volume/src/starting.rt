@@ -13,17 +13,11 @@ ghost use Rattle.dg_volume.specs.Started.{Starts};
 
 use crate::control::commit;
 use crate::descriptor::read_head;
-use crate::layout::{PROGRAM, page_sector};
+use crate::layout::{GOLDEN, GOLDEN_VERSION, PROGRAM, page_sector};
 use crate::pages::{copy_pages, front_crc};
 use crate::sound::is_sound;
 use crate::{Program, Snapshot, StartFault, Volume};
 use dg_nor::{Nor, PAGE, Stopped};
-
-/// The image number of golden.
-const GOLDEN: u8 = 0;
-
-/// The one version of golden.
-const GOLDEN_VERSION: u32 = 1;
 
 /// What was started. `pages` counts the descriptor too, `length` is that of the image's bytes, and `crc` is their
 /// checksum as they stand in program memory.

@@ -7,7 +7,7 @@ ghost use Rattle.dg_volume.specs.Mounted.{snapshot_of, kept_at, IsMounted};
 
 use crate::control::read_snapshot;
 use crate::descriptor::read_descriptor;
-use crate::layout::PROGRAM;
+use crate::layout::{GOLDEN_VERSION, PROGRAM};
 use crate::slots::mount_slots;
 use crate::{Kept, MountFault, Program, Snapshot};
 use dg_nor::Nor;
@@ -61,7 +61,7 @@ fn is_golden(kept: &Option<Kept>) -> bool
 {
     match kept {
         None => false,
-        Some(kept) => kept.version == 1 && kept.done == kept.pages,
+        Some(kept) => kept.version == GOLDEN_VERSION && kept.done == kept.pages,
     }
 }
 
