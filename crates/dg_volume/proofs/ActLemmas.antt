@@ -1,14 +1,12 @@
 -- Acts that follow one another.
-use Rattle.std.proofs.Common.{◌≡◌, ℕ, ◌+◌, ◌-◌, ◌^◌, ◌≤◌, ◌⊎◌, min, true, false, Result, Ok, Err, OnOk, OnErr, Some, refl, sym, ap, subst, ◌∙◌, inl, inr, ⊎_elim, arith}
+use Rattle.std.proofs.Common.{◌≡◌, ℕ, ◌+◌, ◌≤◌, ◌⊎◌, true, false, Result, Ok, Err, OnOk, OnErr, refl, sym, ap, ◌∙◌, inl, inr, ⊎_elim, arith}
 use Rattle.dg_words.specs.Counts.{Rose}
 use Rattle.dg_nor.specs.declared.device.Stopped.{Stopped}
-use Rattle.dg_nor.specs.Device.{Device, Ran, Halts, more, NotFallen}
+use Rattle.dg_nor.specs.Device.{Device, Ran, Halts}
 use Rattle.dg_nor.proofs.DeviceLemmas.{more-zero, NotFallen_then, Ran-none, Ran_then}
-use Rattle.dg_volume.specs.Acts.{Looked, Halted, Worked, Stops, ReadEnds, ActEnds, MountEnds, StartEnds}
+use Rattle.dg_volume.specs.Acts.{Looked, Halted, Worked, Stops, ReadEnds, ActEnds, MountEnds}
 use Rattle.dg_volume.specs.declared.faults.MountFault.{MountFault}
 use Rattle.dg_volume.specs.declared.faults.MountFault.TheVariants as mount
-use Rattle.dg_volume.specs.declared.faults.StartFault.{StartFault}
-use Rattle.dg_volume.specs.declared.faults.StartFault.TheVariants as start
 
 -- a device that was not stopped
 awake : {P : Type 0} (d : Device) → d.stopped ≡ false → d.stopped ≡ true → P

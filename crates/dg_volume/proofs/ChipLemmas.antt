@@ -1,5 +1,5 @@
 -- What stands in a sector after it was erased and programmed.
-use Rattle.std.proofs.Common.{◌≡◌, ◌≢◌, ◌⊎◌, ℕ, ◌+◌, ◌*◌, ◌<◌, ◌≤◌, List, ◌++◌, length, get_or, drop, refl, sym, ap, ◌∙◌, inl, inr, ⊎_elim, arith}
+use Rattle.std.proofs.Common.{◌≡◌, ◌≢◌, ◌⊎◌, ℕ, ◌+◌, ◌*◌, ◌<◌, ◌≤◌, List, ◌++◌, length, get_or, drop, sym, ap, ◌∙◌, inl, inr, ⊎_elim, arith}
 use Rattle.std.proofs.lemmas.Bool.{cases_lt}
 use Rattle.std.proofs.lemmas.List.{get_or_past, length-take}
 use Rattle.dg_words.specs.Cells.{part, overwritten, AreBytes}
@@ -20,9 +20,9 @@ pub AreBytes-part : (xs : List ℕ) (at n : ℕ) → AreBytes xs → AreBytes (p
 unfolding part
 AreBytes-part xs at n h k =
     ⊎_elim
-      (λ lt. rw (get_or-part xs at n k 0 lt) (h (at + k)))
-      (λ ge. let past : get_or (part xs at n) k 0 ≡ 0 = get_or_past (part xs at n) k 0 (omega (arith, length-take n (drop at xs))) in rw past (omega arith))
-      (cases_lt k n)
+    (λ lt. rw (get_or-part xs at n k 0 lt) (h (at + k)))
+    (λ ge. let past : get_or (part xs at n) k 0 ≡ 0 = get_or_past (part xs at n) k 0 (omega (arith, length-take n (drop at xs))) in rw past (omega arith))
+    (cases_lt k n)
 
 pub AreBytes-sector : (image : List ℕ) (k : ℕ) → AreBytes image → AreBytes (sector image k)
 unfolding sector
@@ -40,15 +40,15 @@ copy_none s new e = e
 
 -- the piece behind those that were written
 pub copy_more : (s old new bs : List ℕ) (n m k : ℕ) → length s ≡ 2048 → AreBytes s → old ≡ overwritten (blank 2048) 0 (part s 0 n) → new ≡ programmed old n bs → bs ≡ part s n m → n + m ≡ k → k ≤ 2048
-  → new ≡ overwritten (blank 2048) 0 (part s 0 k)
+    → new ≡ overwritten (blank 2048) 0 (part s 0 k)
 copy_more s old new bs n m k whole small e p same sum fits =
     let l = length-blank 2048 in
     let ln : length (part s 0 n) ≡ n = length-part s 0 n (omega arith) in
     let lm : length (part s n m) ≡ m = length-part s n m (omega arith) in
     let clear : part old n (length (part s n m)) ≡ blank (length (part s n m)) =
-        ap (λ c. part c n (length (part s n m))) e
-        ∙ part-overwritten_apart (blank 2048) 0 (part s 0 n) n (length (part s n m)) (omega arith) (omega arith) (inr (omega arith))
-        ∙ part-blank 2048 n (length (part s n m)) (omega arith) in
+    ap (λ c. part c n (length (part s n m))) e
+    ∙ part-overwritten_apart (blank 2048) 0 (part s 0 n) n (length (part s n m)) (omega arith) (omega arith) (inr (omega arith))
+    ∙ part-blank 2048 n (length (part s n m)) (omega arith) in
     let joined : part s 0 n ++ part s (0 + n) m ≡ part s 0 (n + m) = part-append-part s 0 n m (omega arith) in
     let zero : 0 + n ≡ n = omega arith in
     p ∙ ap (programmed old n) same ∙ programmed_blank old n (part s n m) (AreBytes-part s n m small) clear
@@ -74,11 +74,11 @@ erased_written old new bs e p small fits = p ∙ ap (λ c. programmed c 0 bs) e 
 
 -- a second piece behind what was written in front
 pub second_written : (old new front bs : List ℕ) (at n m : ℕ) → old ≡ overwritten (blank 2048) 0 front → new ≡ programmed old at bs → AreBytes bs → length front ≡ n → length bs ≡ m → n ≤ at → at + m ≤ 2048
-  → new ≡ overwritten (overwritten (blank 2048) 0 front) at bs
+    → new ≡ overwritten (overwritten (blank 2048) 0 front) at bs
 second_written old new front bs at n m e p small ln lm low fits =
     let l = length-blank 2048 in
     let clear : part old at (length bs) ≡ blank (length bs) =
-        ap (λ c. part c at (length bs)) e ∙ part-overwritten_apart (blank 2048) 0 front at (length bs) (omega arith) (omega arith) (inr (omega arith)) ∙ part-blank 2048 at (length bs) (omega arith) in
+    ap (λ c. part c at (length bs)) e ∙ part-overwritten_apart (blank 2048) 0 front at (length bs) (omega arith) (omega arith) (inr (omega arith)) ∙ part-blank 2048 at (length bs) (omega arith) in
     p ∙ programmed_blank old at bs small clear ∙ ap (λ c. overwritten c at bs) e
 
 -- what stands in front, and what stands there

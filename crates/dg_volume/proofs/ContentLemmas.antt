@@ -1,5 +1,5 @@
 -- The checksum of an image's bytes, page by page.
-use Rattle.std.proofs.Common.{◌≡◌, ℕ, suc, ◌+◌, ◌-◌, ◌*◌, ◌/◌, ◌%◌, ◌<◌, ◌≤◌, min, List, [], ◌++◌, map, length, take, drop, refl, sym, ap, ◌∙◌, ⊎_elim, arith}
+use Rattle.std.proofs.Common.{◌≡◌, ℕ, suc, ◌+◌, ◌-◌, ◌/◌, ◌%◌, ◌<◌, ◌≤◌, min, List, [], ◌++◌, map, length, take, drop, sym, ap, ◌∙◌, ⊎_elim, arith}
 use Rattle.std.specs.List.{range_with_len}
 use Rattle.std.proofs.lemmas.Bool.{cases_lt}
 use Rattle.std.proofs.lemmas.List.{take-append-le, take-take, take_all}
@@ -18,23 +18,23 @@ take-part cells n m h = take-take n m (drop 0 cells) h
 
 -- a page more is summed
 pub page_summed : (f : ℕ → List ℕ) (cells : List ℕ) (left count a m crc more total : ℕ) → f a ≡ part cells 0 1104 → 1104 ≤ length cells → count ≡ min left 1104 → more ≡ crc_more crc (part cells 0 count)
-  → crc_more crc (take left (joined (map f (range_with_len a (suc m))))) ≡ total → crc_more more (take (left - 1104) (joined (map f (range_with_len (a + 1) m)))) ≡ total
+    → crc_more crc (take left (joined (map f (range_with_len a (suc m))))) ≡ total → crc_more more (take (left - 1104) (joined (map f (range_with_len (a + 1) m)))) ≡ total
 page_summed f cells left count a m crc more total page whole counted e before =
     let rest = joined (map f (range_with_len (a + 1) m)) in
     let long : length (f a) ≡ 1104 = ap length page ∙ length-part cells 0 1104 (omega arith) in
     ⊎_elim
-      (λ last.
-        let c : count ≡ left = omega arith in
-        let none : left - 1104 ≡ 0 = omega arith in
-        let front : take left (f a ++ rest) ≡ part cells 0 left = take-append-le left (f a) rest (omega arith) ∙ ap (take left) page ∙ take-part cells left 1104 (omega arith) in
-        ap (λ n. crc_more more (take n rest)) none ∙ crc_more-nil more ∙ e ∙ ap (λ n. crc_more crc (part cells 0 n)) c ∙ ap (crc_more crc) (sym front) ∙ before)
-      (λ some.
-        let c : count ≡ 1104 = omega arith in
-        let sum : left ≡ length (f a) + (left - 1104) = omega arith in
-        let front : take left (f a ++ rest) ≡ f a ++ take (left - 1104) rest = ap (λ n. take n (f a ++ rest)) sum ∙ take-append-add (f a) rest (left - 1104) in
-        let here : more ≡ crc_more crc (f a) = e ∙ ap (λ n. crc_more crc (part cells 0 n)) c ∙ ap (crc_more crc) (sym page) in
-        ap (λ n. crc_more n (take (left - 1104) rest)) here ∙ crc_more-append crc (f a) (take (left - 1104) rest) ∙ ap (crc_more crc) (sym front) ∙ before)
-      (cases_lt left 1105)
+    (λ last.
+    let c : count ≡ left = omega arith in
+    let none : left - 1104 ≡ 0 = omega arith in
+    let front : take left (f a ++ rest) ≡ part cells 0 left = take-append-le left (f a) rest (omega arith) ∙ ap (take left) page ∙ take-part cells left 1104 (omega arith) in
+    ap (λ n. crc_more more (take n rest)) none ∙ crc_more-nil more ∙ e ∙ ap (λ n. crc_more crc (part cells 0 n)) c ∙ ap (crc_more crc) (sym front) ∙ before)
+    (λ some.
+    let c : count ≡ 1104 = omega arith in
+    let sum : left ≡ length (f a) + (left - 1104) = omega arith in
+    let front : take left (f a ++ rest) ≡ f a ++ take (left - 1104) rest = ap (λ n. take n (f a ++ rest)) sum ∙ take-append-add (f a) rest (left - 1104) in
+    let here : more ≡ crc_more crc (f a) = e ∙ ap (λ n. crc_more crc (part cells 0 n)) c ∙ ap (crc_more crc) (sym page) in
+    ap (λ n. crc_more n (take (left - 1104) rest)) here ∙ crc_more-append crc (f a) (take (left - 1104) rest) ∙ ap (crc_more crc) (sym front) ∙ before)
+    (cases_lt left 1105)
 
 -- ---- the image's bytes in a table of pages
 

@@ -1,5 +1,5 @@
 -- Descriptors that are read in pieces.
-use Rattle.std.proofs.Common.{◌≡◌, ℕ, ◌+◌, ◌-◌, ◌*◌, ◌<◌, ◌≤◌, List, [], length, get_or, take, drop, refl, sym, ap, ◌∙◌, subst, arith}
+use Rattle.std.proofs.Common.{◌≡◌, ℕ, ◌+◌, ◌-◌, ◌≤◌, List, length, refl, sym, ap, subst, arith}
 use Rattle.dg_words.specs.Cells.{part}
 use Rattle.dg_words.proofs.CellLemmas.{part-part, length-part}
 use Rattle.dg_object.specs.Descriptor.{Details, IsHead, IsDescriptor, RestFits}
@@ -13,7 +13,7 @@ rest_none pages cells k h = absurd (omega (arith, ap length (part_none cells 28)
 
 -- a piece more fits
 pub rest_more : (pages at n m k : ℕ) (cells read : List ℕ) → RestFits pages 28 (part cells 28 (at - 28)) → RestFits pages at (part read at m) → read ≡ cells → m ≡ n → 28 ≤ at → at + n ≤ length cells → k ≡ at + n - 28
-  → RestFits pages 28 (part cells 28 k)
+    → RestFits pages 28 (part cells 28 k)
 rest_more pages at n m k cells read before piece same long low fits sum =
     let e : 28 + (at - 28) ≡ at = omega arith in
     let here : RestFits pages at (part cells at n) = subst (λ (x : ℕ). RestFits pages at (part cells at x)) long (subst (λ (x : List ℕ). RestFits pages at (part x at m)) same piece) in

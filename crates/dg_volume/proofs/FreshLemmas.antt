@@ -1,5 +1,5 @@
 -- A chip that was formatted stands for golden alone.
-use Rattle.std.proofs.Common.{◌≡◌, ℕ, ◌<◌, List, [], ◌∷◌, length, get_or, Option, Some, None, refl, sym, ap, subst, ◌∙◌, arith}
+use Rattle.std.proofs.Common.{◌≡◌, ℕ, List, [], ◌∷◌, get_or, refl, sym, ap, subst, arith}
 use Rattle.dg_words.specs.Cells.{part}
 use Rattle.dg_nor.specs.Chip.{sector, Keeps}
 use Rattle.dg_object.proofs.RowLemmas.{length-object}
@@ -8,7 +8,6 @@ use Rattle.dg_volume.specs.Store.{Stands, KeepsImage, SlotStands, AppStands, hel
 use Rattle.dg_volume.specs.declared.snapshot.SlotState.{SlotState}
 use Rattle.dg_volume.specs.declared.snapshot.SlotState.TheVariants.{Dirty, Live}
 use Rattle.dg_volume.specs.declared.snapshot.Program.{Program}
-use Rattle.dg_volume.specs.declared.snapshot.Program.TheVariants.{Blank}
 use Rattle.dg_volume.specs.declared.snapshot.Snapshot.{Snapshot}
 use Rattle.dg_volume.proofs.SlotLemmas.{four}
 use Rattle.dg_volume.proofs.KeptLemmas.{image_kept, SameSlots-keeps}

@@ -1,12 +1,12 @@
 -- Slots that are kept, while other sectors are written.
-use Rattle.std.proofs.Common.{◌≡◌, ℕ, ◌+◌, ◌*◌, ◌<◌, ◌≤◌, List, length, get_or, Option, Some, None, refl, sym, ap, subst, ◌∙◌, arith}
+use Rattle.std.proofs.Common.{◌≡◌, ℕ, ◌+◌, ◌*◌, ◌<◌, ◌≤◌, List, length, Option, Some, None, sym, ap, subst, ◌∙◌, arith}
 use Rattle.std.proofs.lemmas.List.{same_lists}
 use Rattle.dg_words.specs.Lists.{tabulate}
 use Rattle.dg_words.specs.Cells.{part}
 use Rattle.dg_words.proofs.ListLemmas.{length-tabulate, get_or-tabulate}
 use Rattle.dg_nor.specs.Chip.{sector, Keeps}
 use Rattle.dg_volume.specs.Header.{IsHeader}
-use Rattle.dg_volume.specs.Pages.{page_in, slot_pages}
+use Rattle.dg_volume.specs.Pages.{page_in}
 use Rattle.dg_volume.specs.Store.{Held, HasDescriptor, KeepsImage, SlotStands}
 use Rattle.dg_volume.specs.declared.snapshot.SlotState.{SlotState}
 use Rattle.dg_volume.specs.declared.snapshot.SlotState.TheVariants.{Dirty, Live}
@@ -14,8 +14,8 @@ use Rattle.dg_volume.specs.declared.snapshot.SlotState.TheVariants.{Dirty, Live}
 -- two tables of one length with the same entries
 pub same_tables : {A : Type 0} (n : ℕ) (f g : ℕ → A) → ((k : ℕ) → k < n → f k ≡ g k) → tabulate n f ≡ tabulate n g
 same_tables n f g h = same_lists (tabulate n f) (tabulate n g) (length-tabulate n f ∙ sym (length-tabulate n g)) (λ k d l.
-  let lt : k < n = omega (arith, length-tabulate n f) in
-  get_or-tabulate n k f d lt ∙ h k lt ∙ sym (get_or-tabulate n k g d lt))
+    let lt : k < n = omega (arith, length-tabulate n f) in
+    get_or-tabulate n k f d lt ∙ h k lt ∙ sym (get_or-tabulate n k g d lt))
 
 -- the sectors of the slots are as before
 abbrev pub SameSlots : List ℕ → List ℕ → Type 0

@@ -1,14 +1,13 @@
 -- A chip that was mounted stands for the store of what was read.
-use Rattle.std.proofs.Common.{◌≡◌, ℕ, ◌<◌, List, length, get_or, Option, Some, None, refl, sym, subst, arith, IsSomeAnd}
+use Rattle.std.proofs.Common.{◌≡◌, ℕ, ◌<◌, List, length, get_or, Option, Some, None, refl, subst, arith, IsSomeAnd}
 use Rattle.dg_words.specs.Cells.{part}
 use Rattle.dg_nor.specs.Chip.{sector}
 use Rattle.dg_volume.specs.Snapshot.{place_of}
-use Rattle.dg_volume.specs.Store.{Store, Held, App, held, SlotStands, AppStands, KeepsGolden, Stands}
+use Rattle.dg_volume.specs.Store.{Held, App, SlotStands, AppStands}
 use Rattle.dg_volume.specs.Told.{told, program_told}
-use Rattle.dg_volume.specs.Mounted.{IsMounted, Tells}
+use Rattle.dg_volume.specs.Mounted.{IsMounted}
 use Rattle.dg_volume.specs.declared.kept.Kept.{Kept}
 use Rattle.dg_volume.specs.declared.snapshot.Snapshot.{Snapshot}
-use Rattle.dg_volume.specs.declared.volume.Volume.{Volume}
 use Rattle.dg_volume.proofs.PlaceLemmas.{slot}
 use Rattle.dg_volume.proofs.StoreLemmas.{slot_told_is}
 
@@ -25,8 +24,8 @@ golden_kept h k e g = of_told h (subst (λ (x : Option Kept). IsSomeAnd x (λ k.
     of_told (Some x) h = h
 
 pub mounted : (c : List ℕ) (r : Snapshot) (kept : List (Option Kept)) (hs : List (Option Held)) (a : Option App) → part (sector c 1) 0 64 ≡ place_of r → length hs ≡ 4
-  → ((i : ℕ) → i < 4 → SlotStands c i (slot r i) (get_or hs i None) × (get_or kept i None ≡ told (get_or hs i None)))
-  → IsSomeAnd (get_or kept 0 None) (λ k. (k.version ≡ 1) × (k.done ≡ k.pages)) → AppStands c r.program a → r.program ≡ program_told a → IsMounted c (record { snapshot = r; kept = kept })
+    → ((i : ℕ) → i < 4 → SlotStands c i (slot r i) (get_or hs i None) × (get_or kept i None ≡ told (get_or hs i None)))
+    → IsSomeAnd (get_or kept 0 None) (λ k. (k.version ≡ 1) × (k.done ≡ k.pages)) → AppStands c r.program a → r.program ≡ program_told a → IsMounted c (record { snapshot = r; kept = kept })
 mounted c r kept hs a place four slots golden app program = record {
   store = record { kept = hs; app = a; order = r.order };
   stands = record {

@@ -1,5 +1,5 @@
 -- The parts of a place, and that a place has one reading.
-use Rattle.std.proofs.Common.{◌≡◌, ℕ, zero, suc, ◌+◌, ◌^◌, ◌<◌, ◌≤◌, Bool, true, false, List, [], ◌∷◌, ◌++◌, length, get_or, take, drop, replicate, refl, sym, ap, ◌∙◌, arith, append_assoc, IsTrue}
+use Rattle.std.proofs.Common.{◌≡◌, ℕ, zero, suc, ◌+◌, ◌^◌, ◌<◌, Bool, true, false, List, [], ◌∷◌, ◌++◌, length, get_or, take, drop, replicate, refl, sym, ap, ◌∙◌, arith, append_assoc, IsTrue}
 use Rattle.std.specs.Prelude.{◌&&◌, ◌||◌, not, nat_le, nat_eq, ◌==◌}
 use Rattle.std.specs.List.{list_all}
 use Rattle.std.specs.Cmp.Lexicographic.{pointwise}
@@ -65,7 +65,7 @@ pub record Parts (place a b c d p o rest : List ℕ) : Type 0 where
   pub ending : drop 37 place ≡ rest
 
 parts : (place start a b c d p o rest : List ℕ) → length start ≡ 2 → length a ≡ 5 → length b ≡ 5 → length c ≡ 5 → length d ≡ 5 → length p ≡ 6 → length o ≡ 9
-  → place ≡ start ++ (a ++ (b ++ (c ++ (d ++ (p ++ (o ++ rest)))))) → Parts place a b c d p o rest
+    → place ≡ start ++ (a ++ (b ++ (c ++ (d ++ (p ++ (o ++ rest)))))) → Parts place a b c d p o rest
 parts place start a b c d p o rest ls la lb lc ld lp lo e =
     let f1 = start ++ a in
     let f2 = f1 ++ b in
@@ -114,7 +114,7 @@ place_parts place s e =
 
 -- one more part is written behind a front
 pub put_more : (old new bytes bs front : List ℕ) (at k n : ℕ) → ((m : ℕ) → at + length bytes ≡ m → take m new ≡ take at old ++ bytes) → bytes ≡ bs → length bs ≡ k → at + k ≡ n
-  → take at old ≡ front → take n new ≡ front ++ bs
+    → take at old ≡ front → take n new ≡ front ++ bs
 put_more old new bytes bs front at k n put e l r f =
     let m : at + length bytes ≡ n = omega (arith, ap length e) in
     put n m ∙ ap (λ x. x ++ bytes) f ∙ ap (λ x. front ++ x) e
@@ -124,7 +124,7 @@ regroup z a b c d p o t r = simp append_assoc
 
 -- the parts of a place, written one after the other over 64 bytes of 0xFF
 pub written : (place : List ℕ) (s : Snapshot) → take 39 place ≡ (127 ∷ 1 ∷ []) ++ slot_bytes (slot s 0) ++ slot_bytes (slot s 1) ++ slot_bytes (slot s 2) ++ slot_bytes (slot s 3) ++ program_bytes s.program ++ order_bytes s.order ++ (s.gesture ∷ from_bool s.waived ∷ [])
-  → drop 39 place ≡ replicate 25 255 → place ≡ place_of s
+    → drop 39 place ≡ replicate 25 255 → place ≡ place_of s
 unfolding place_of
 written place s front ending =
     let a = slot_bytes (slot s 0) in
@@ -147,11 +147,11 @@ version_bound o h = grind (arith, nat_tests)
 
 -- the fields that stand where an order is spelled are those of the order
 pub order_read : (place : List ℕ) (at n v : ℕ) (o : Order) → IsTrue (order_fits o) → take 9 (drop at place) ≡ order_bytes o
-  → n ≡ from_be_bytes w32 (take 4 (drop at place)) → v ≡ from_be_bytes w32 (take 4 (drop (at + 5) place)) → record { number = n; image = get_or place (at + 4) 0; version = v } ≡ o
+    → n ≡ from_be_bytes w32 (take 4 (drop at place)) → v ≡ from_be_bytes w32 (take 4 (drop (at + 5) place)) → record { number = n; image = get_or place (at + 4) 0; version = v } ≡ o
 order_read place at n v o fits e en ev =
     let number : take 4 (drop at place) ≡ to_be_bytes w32 o.number = sym (take-take 4 9 (drop at place) (omega arith)) ∙ ap (take 4) e in
     let version : take 4 (drop (at + 5) place) ≡ to_be_bytes w32 o.version =
-        ap (take 4) (sym (drop-drop 5 at place)) ∙ sym (drop-take 5 4 (drop at place)) ∙ ap (drop 5) e in
+    ap (take 4) (sym (drop-drop 5 at place)) ∙ sym (drop-take 5 4 (drop at place)) ∙ ap (drop 5) e in
     let image : get_or place (at + 4) 0 ≡ o.image = sym (get_or-drop at place 4 0) ∙ sym (get_or-take 9 (drop at place) 4 0 (omega arith)) ∙ ap (λ x. get_or x 4 0) e in
     let same_number : n ≡ o.number = en ∙ ap (from_be_bytes w32) number ∙ from_be_bytes-to_be_bytes_4 o.number (number_bound o fits) in
     let same_version : v ≡ o.version = ev ∙ ap (from_be_bytes w32) version ∙ from_be_bytes-to_be_bytes_4 o.version (version_bound o fits) in
@@ -213,7 +213,7 @@ read_in_range s a b c d p o w g r =
     let hc : IsTrue (slot_fits c) = rw r.slot_2 (h.slots 2) in
     let hd : IsTrue (slot_fits d) = rw r.slot_3 (h.slots 3) in
     let hs : IsTrue (list_all slot_fits (a ∷ b ∷ c ∷ d ∷ [])) =
-        joined (slot_fits a) (slot_fits b && (slot_fits c && (slot_fits d && true))) ha (joined (slot_fits b) (slot_fits c && (slot_fits d && true)) hb (joined (slot_fits c) (slot_fits d && true) hc (joined (slot_fits d) true hd refl))) in
+    joined (slot_fits a) (slot_fits b && (slot_fits c && (slot_fits d && true))) ha (joined (slot_fits b) (slot_fits c && (slot_fits d && true)) hb (joined (slot_fits c) (slot_fits d && true) hc (joined (slot_fits d) true hd refl))) in
     let hp : IsTrue (program_fits p) = rw r.same_program h.program in
     let ho : IsTrue (order_fits o) = rw r.same_order h.order in
     let hw : IsTrue (not w || not (o.number == 0)) = rw (r.same_waived, r.same_order) h.waived in
@@ -241,7 +241,7 @@ waived_read place s e = ap (λ n. nat_eq n 1) (sym (get_or-drop 37 place 1 0) �
 
 -- a snapshot that was made of the fields of a place spells the place again
 pub again : (place : List ℕ) (t s : Snapshot) (a b c d : SlotState) (p : Program) (o : Order) (w : Bool) (g : ℕ) → place ≡ place_of s → IsRead s a b c d p o w g
-  → t.slots ≡ a ∷ b ∷ c ∷ d ∷ [] → t.program ≡ p → t.order ≡ o → t.waived ≡ w → t.gesture ≡ g → place_of t ≡ place
+    → t.slots ≡ a ∷ b ∷ c ∷ d ∷ [] → t.program ≡ p → t.order ≡ o → t.waived ≡ w → t.gesture ≡ g → place_of t ≡ place
 again place t s a b c d p o w g e r ts tp to tw tg =
     let q : IsRead s (slot t 0) (slot t 1) (slot t 2) (slot t 3) t.program t.order t.waived t.gesture = record {
       slot_0 = ap (λ x. get_or x 0 Dirty) ts ∙ r.slot_0;

@@ -1,13 +1,13 @@
 -- What runs after a start.
-use Rattle.std.proofs.Common.{◌≡◌, ℕ, ◌+◌, Bool, true, false, cond, List, [], take, length, Option, Some, None, Result, Ok, Err, refl, sym, ap, subst, ◌∙◌}
+use Rattle.std.proofs.Common.{◌≡◌, ℕ, ◌+◌, Bool, true, false, cond, List, take, length, Option, Some, None, Result, Err, refl, sym, ap, subst, ◌∙◌}
 use Rattle.dg_words.proofs.ListLemmas.{length-tabulate}
 use Rattle.dg_base.specs.Crc.{crc_of}
 use Rattle.dg_object.specs.Object.{content}
 use Rattle.dg_object.specs.Descriptor.{Details, IsDescriptor}
 use Rattle.dg_object.proofs.HeadLemmas.{one_head}
 use Rattle.dg_volume.specs.Pages.{page_in, program}
-use Rattle.dg_volume.specs.Store.{Store, App, HoldsApp, AppStands, Stands, held}
-use Rattle.dg_volume.specs.Start.{Start, start_of, start_from, sound, golden_start}
+use Rattle.dg_volume.specs.Store.{Store, App, HoldsApp, AppStands, Stands}
+use Rattle.dg_volume.specs.Start.{start_of, start_from, sound, golden_start}
 use Rattle.dg_volume.specs.Started.{Starts}
 use Rattle.dg_volume.specs.Told.{program_told}
 use Rattle.dg_volume.specs.Mounted.{Tells}
@@ -66,7 +66,7 @@ pub record Said (c : List ℕ) (told : Started) (v : Volume) (image version : �
   pub crc : told.crc ≡ crc_of (content said.length (program c said.pages))
 
 pub runs : (s after : Store) (c new : List ℕ) (told : Started) (v : Volume) (image version : ℕ) (app : App) → start_of s ≡ Some (record { image = app.image; version = app.version; pages = app.pages; after = after })
-  → Stands c after → Tells v after → HoldsApp c image version app → Said c told v image version → new ≡ c → Starts s new told
+    → Stands c after → Tells v after → HoldsApp c image version app → Said c told v image version → new ≡ c → Starts s new told
 runs s after c new told v image version app chosen stands tells holds said moved =
     let d = said.said in
     let e = holds.described in

@@ -1,11 +1,11 @@
 -- What a slot keeps, from what was read of it.
-use Rattle.std.proofs.Common.{◌≡◌, ℕ, zero, suc, ◌+◌, ◌*◌, ◌^◌, ◌<◌, ◌≤◌, List, take, drop, length, get_or, refl, sym, ap, subst, ◌∙◌, arith}
-use Rattle.std.specs.Int.{to_be_bytes, from_be_bytes, w16, w32}
+use Rattle.std.proofs.Common.{◌≡◌, ℕ, zero, suc, ◌+◌, ◌*◌, ◌<◌, List, drop, length, sym, ap, subst, ◌∙◌, arith}
+use Rattle.std.specs.Int.{from_be_bytes, w16}
 use Rattle.std.proofs.lemmas.Nat.{from_be_bytes-to_be_bytes_2}
 use Rattle.dg_words.proofs.ListLemmas.{length-tabulate}
 use Rattle.dg_words.specs.Cells.{part}
 use Rattle.dg_nor.specs.Chip.{sector}
-use Rattle.dg_volume.specs.Header.{Heads, IsHeader, header_bytes, gates_of}
+use Rattle.dg_volume.specs.Header.{Heads, IsHeader}
 use Rattle.dg_volume.specs.Pages.{page_in, slot_pages}
 use Rattle.dg_volume.specs.Store.{Held, HasDescriptor, KeepsImage}
 use Rattle.dg_volume.specs.Told.{told_held}
@@ -37,21 +37,22 @@ abbrev pub held_of : List ℕ → ℕ → Kept → Held
 held_of c i k = record { version = k.version; pages = k.pages; crc = k.crc; complete = slot_pages c i k.done }
 
 pub keeps_read : (c : List ℕ) (i v : ℕ) (k : Kept) → IsHeader (sector c (68 + 66 * i)) i v k.pages k.crc k.done → k.version ≡ v
-  → (0 < k.done → HasDescriptor (page_in c (69 + 66 * i)) i v k.pages k.crc) → (h : Held) × KeepsImage c i v h × (k ≡ told_held h)
+    → (0 < k.done → HasDescriptor (page_in c (69 + 66 * i)) i v k.pages k.crc) → (h : Held) × KeepsImage c i v h × (k ≡ told_held h)
 keeps_read c i v k header same first =
-    let long : length (slot_pages c i k.done) ≡ k.done = length-tabulate k.done (λ p. page_in c (69 + 66 * i + p)) in
-    (held_of c i k,
-    record {
-      same_version = same;
-      header = subst (λ (n : ℕ). IsHeader (sector c (68 + 66 * i)) i v k.pages k.crc n) (sym long) header;
-      stored = ap (slot_pages c i) (sym long);
-      first = λ some. first (omega arith);
-    },
-    ap (λ (n : ℕ). record { version = k.version; pages = k.pages; done = n; crc = k.crc }) (sym long))
+    let long : length (slot_pages c i k.done) ≡ k.done = length-tabulate k.done (λ p. page_in c (69 + 66 * i + p)) in (
+      held_of c i k,
+      record {
+        same_version = same;
+        header = subst (λ (n : ℕ). IsHeader (sector c (68 + 66 * i)) i v k.pages k.crc n) (sym long) header;
+        stored = ap (slot_pages c i) (sym long);
+        first = λ some. first (omega arith);
+      },
+      ap (λ (n : ℕ). record { version = k.version; pages = k.pages; done = n; crc = k.crc }) (sym long),
+    )
 
 -- the parts that were read are those of the header
 pub header_read : (c d : List ℕ) (i v j k p crc done : ℕ) (first gates : List ℕ) → Heads first gates i v p crc done → first ≡ part (sector c j) 0 10 → gates ≡ part (sector d k) 16 9 → d ≡ c → j ≡ 68 + 66 * i → k ≡ 68 + 66 * i
-  → IsHeader (sector c (68 + 66 * i)) i v p crc done
+    → IsHeader (sector c (68 + 66 * i)) i v p crc done
 header_read c d i v j k p crc done first gates h e f same ej ek =
     let ee : first ≡ part (sector c (68 + 66 * i)) 0 10 = e ∙ ap (λ n. part (sector c n) 0 10) ej in
     let ff : gates ≡ part (sector c (68 + 66 * i)) 16 9 = f ∙ ap (λ n. part (sector d n) 16 9) ek ∙ ap (λ x. part (sector x (68 + 66 * i)) 16 9) same in

@@ -1,5 +1,5 @@
 -- The checksums that a descriptor keeps, and what makes pages sound.
-use Rattle.std.proofs.Common.{◌≡◌, ◌≢◌, ℕ, zero, suc, ◌+◌, ◌-◌, ◌*◌, ◌<◌, ◌≤◌, Bool, true, false, List, [], ◌∷◌, map, length, get_or, eqb, refl, sym, ap, ◌∙◌, subst, ⊎_elim, arith}
+use Rattle.std.proofs.Common.{◌≡◌, ◌≢◌, ℕ, zero, suc, ◌+◌, ◌-◌, ◌*◌, ◌<◌, ◌≤◌, Bool, true, false, List, [], map, length, get_or, refl, sym, ap, ◌∙◌, ⊎_elim, arith}
 use Rattle.std.proofs.lemmas.Bool.{cases_lt, eq-eqb, ne_eqb}
 use Rattle.std.specs.Prelude.{◌==◌, ◌&&◌}
 use Rattle.std.specs.List.{list_all, range_with_len}
@@ -69,13 +69,13 @@ all_fails : (p : ℕ → Bool) (a n k : ℕ) → a ≤ k → k < a + n → p k �
 all_fails p a zero k l m e = absurd (omega arith)
 all_fails p a (suc n) k l m e =
     ⊎_elim
-      (λ lt. let rest = all_fails p (a + 1) n k (omega arith) (omega arith) e in ap (λ b. p a && b) rest ∙ and_false (p a))
-      (λ ge. let same : a ≡ k = omega arith in ap (λ x. p x && list_all p (range_with_len (a + 1) n)) same ∙ ap (λ b. b && list_all p (range_with_len (a + 1) n)) e)
-      (cases_lt a k)
+    (λ lt. let rest = all_fails p (a + 1) n k (omega arith) (omega arith) e in ap (λ b. p a && b) rest ∙ and_false (p a))
+    (λ ge. let same : a ≡ k = omega arith in ap (λ x. p x && list_all p (range_with_len (a + 1) n)) same ∙ ap (λ b. b && list_all p (range_with_len (a + 1) n)) e)
+    (cases_lt a k)
 
 -- the pages before page p are sound, and so is page p
 pub sound_more : (f : ℕ → List ℕ) (p : ℕ) (b : Bool) (page first : List ℕ) → 1 ≤ p → list_all (is_sound_at f) (range_with_len 1 (p - 1)) ≡ true
-  → b ≡ (crc_of page == crc_in first p) → b ≡ true → page ≡ f p → first ≡ f 0 → list_all (is_sound_at f) (range_with_len 1 (p + 1 - 1)) ≡ true
+    → b ≡ (crc_of page == crc_in first p) → b ≡ true → page ≡ f p → first ≡ f 0 → list_all (is_sound_at f) (range_with_len 1 (p + 1 - 1)) ≡ true
 sound_more f p b page first low h e t same start =
     let here : is_sound_at f p ≡ true = ap (λ x. crc_of x == crc_in (f 0) p) (sym same) ∙ ap (λ x. crc_of page == crc_in x p) (sym start) ∙ sym e ∙ t in
     let m : p + 1 - 1 ≡ (p - 1) + 1 = omega arith in
@@ -83,7 +83,7 @@ sound_more f p b page first low h e t same start =
 
 -- a page is not sound
 pub sound_fails : (crc n : ℕ) (f : ℕ → List ℕ) (p : ℕ) (b : Bool) (page first : List ℕ) → 1 ≤ p → p < n
-  → b ≡ (crc_of page == crc_in first p) → b ≡ false → page ≡ f p → first ≡ f 0 → false ≡ pages_sound crc (tabulate n f)
+    → b ≡ (crc_of page == crc_in first p) → b ≡ false → page ≡ f p → first ≡ f 0 → false ≡ pages_sound crc (tabulate n f)
 sound_fails crc n f p b page first low high e t same start =
     let here : is_sound_at f p ≡ false = ap (λ x. crc_of x == crc_in (f 0) p) (sym same) ∙ ap (λ x. crc_of page == crc_in x p) (sym start) ∙ sym e ∙ t in
     sym (pages_sound-tabulate crc n f (omega arith) ∙ ap (λ b. (crc_of (f 0) == crc) && b) (all_fails (is_sound_at f) 1 (n - 1) p low (omega arith) here) ∙ and_false (crc_of (f 0) == crc))
@@ -96,7 +96,7 @@ sound_first crc n found f first low e ne same =
 
 -- all are
 pub sound_all : (crc n found p : ℕ) (f : ℕ → List ℕ) (first : List ℕ) → 1 ≤ n → found ≡ crc_of first → found ≡ crc → first ≡ f 0 → p ≡ n
-  → list_all (is_sound_at f) (range_with_len 1 (p - 1)) ≡ true → true ≡ pages_sound crc (tabulate n f)
+    → list_all (is_sound_at f) (range_with_len 1 (p - 1)) ≡ true → true ≡ pages_sound crc (tabulate n f)
 sound_all crc n found p f first low e same start end h =
     let here : (crc_of (f 0) == crc) ≡ true = eq-eqb (crc_of (f 0)) crc (ap crc_of (sym start) ∙ sym e ∙ same) in
     sym (pages_sound-tabulate crc n f low ∙ ap (λ b. b && list_all (is_sound_at f) (range_with_len 1 (n - 1))) here ∙ ap (λ m. list_all (is_sound_at f) (range_with_len 1 (m - 1))) (sym end) ∙ h)

@@ -1,19 +1,19 @@
 -- Golden in its slot, and golden in program memory.
-use Rattle.std.proofs.Common.{◌≡◌, ℕ, ◌+◌, ◌*◌, ◌<◌, ◌≤◌, Bool, true, false, List, length, get_or, Option, Some, None, refl, sym, ap, subst, ◌∙◌, arith, IsSomeAnd}
+use Rattle.std.proofs.Common.{◌≡◌, ℕ, ◌+◌, ◌*◌, ◌<◌, ◌≤◌, Bool, List, length, get_or, Option, Some, None, refl, sym, ap, subst, ◌∙◌, arith, IsSomeAnd}
 use Rattle.dg_words.specs.Cells.{part}
-use Rattle.dg_nor.specs.Chip.{sector, Keeps}
-use Rattle.dg_object.specs.Descriptor.{Details, IsDescriptor}
+use Rattle.dg_nor.specs.Chip.{sector}
+use Rattle.dg_object.specs.Descriptor.{IsDescriptor}
 use Rattle.dg_volume.specs.Snapshot.{place_of}
 use Rattle.dg_volume.specs.Pages.{page_in, program, slot_pages}
-use Rattle.dg_volume.specs.Store.{Store, Held, App, held, HasDescriptor, KeepsImage, SlotStands, HoldsApp, AppStands, Stands}
+use Rattle.dg_volume.specs.Store.{Store, Held, held, HasDescriptor, KeepsImage, SlotStands, HoldsApp, AppStands, Stands}
 use Rattle.dg_volume.specs.Start.{pages_sound, held_sound, sound, golden_pages, golden_start}
-use Rattle.dg_volume.specs.Told.{told, told_held, slot_told}
-use Rattle.dg_volume.specs.Mounted.{Tells, IsMounted, kept_at, snapshot_of}
+use Rattle.dg_volume.specs.Told.{told, told_held}
+use Rattle.dg_volume.specs.Mounted.{Tells, IsMounted, kept_at}
 use Rattle.dg_volume.specs.declared.kept.Kept.{Kept}
 use Rattle.dg_volume.specs.declared.snapshot.SlotState.{SlotState}
 use Rattle.dg_volume.specs.declared.snapshot.SlotState.TheVariants.{Dirty, Live}
 use Rattle.dg_volume.specs.declared.snapshot.Program.{Program}
-use Rattle.dg_volume.specs.declared.snapshot.Program.TheVariants.{Blank, Set}
+use Rattle.dg_volume.specs.declared.snapshot.Program.TheVariants.{Set}
 use Rattle.dg_volume.specs.declared.snapshot.Snapshot.{Snapshot}
 use Rattle.dg_volume.specs.declared.volume.Volume.{Volume}
 use Rattle.dg_volume.proofs.PlaceLemmas.{slot}
@@ -81,7 +81,7 @@ pub record SetToGolden (v : Volume) (r : Snapshot) : Type 0 where
   pub order : r.order ≡ v.snapshot.order
 
 golden_app : (old new : List ℕ) (k : Kept) (h : Held) → 2 ≤ k.pages → h.complete ≡ slot_pages old 0 k.pages → HasDescriptor (page_in old 69) 0 1 k.pages k.crc → Copied old new k.pages
-  → HoldsApp new 0 1 (record { image = 0; version = 1; pages = h.complete })
+    → HoldsApp new 0 1 (record { image = 0; version = 1; pages = h.complete })
 golden_app old new k h some stored first copied =
     let d = first.described in
     let page : page_in new 3 ≡ page_in old 69 = copied.pages 0 (omega arith) in
@@ -93,15 +93,15 @@ golden_app old new k h some stored first copied =
     }
 
 pub golden_stands : (old new : List ℕ) (v : Volume) (s : Store) (k : Kept) (r : Snapshot) → IsMounted old v → Stands old s → GoldenIs old (held s 0) k → Copied old new k.pages → SameSlots old new
-  → part (sector new 1) 0 64 ≡ place_of r → SetToGolden v r → Stands new (golden_start s).after
+    → part (sector new 1) 0 64 ≡ place_of r → SetToGolden v r → Stands new (golden_start s).after
 golden_stands old new v s k r m stands is copied same place set =
     let tells = tells_store old v s m stands in
     let slot_same : (i : ℕ) → i < 4 → slot stands.snapshot i ≡ slot r i = λ i h.
-      slot_told_is old i (slot stands.snapshot i) (held s i) (stands.slots i h) ∙ sym (tells.slots i h) ∙ sym (ap (λ (x : List SlotState). get_or x i Dirty) set.slots) in
+    slot_told_is old i (slot stands.snapshot i) (held s i) (stands.slots i h) ∙ sym (tells.slots i h) ∙ sym (ap (λ (x : List SlotState). get_or x i Dirty) set.slots) in
     let pages : golden_pages (held s 0) ≡ is.image.complete = ap golden_pages is.here in
     let app = golden_app old new k is.image is.some is.stored is.first copied in
     let holds : HoldsApp new 0 1 (record { image = 0; version = 1; pages = golden_pages (held s 0) }) =
-        subst (λ (x : List (List ℕ)). HoldsApp new 0 1 (record { image = 0; version = 1; pages = x })) (sym pages) app in
+    subst (λ (x : List (List ℕ)). HoldsApp new 0 1 (record { image = 0; version = 1; pages = x })) (sym pages) app in
     record {
       snapshot = r;
       fits = r.in_range;

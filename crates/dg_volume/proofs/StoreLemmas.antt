@@ -1,26 +1,25 @@
 -- A chip stands for one store at most.
-use Rattle.std.proofs.Common.{◌≡◌, ℕ, ◌+◌, ◌*◌, ◌^◌, ◌<◌, ◌≤◌, Bool, true, false, List, [], ◌∷◌, ◌++◌, take, drop, length, get_or, Option, Some, None, refl, sym, ap, subst, ◌∙◌, arith, IsTrue, IsSomeAnd}
+use Rattle.std.proofs.Common.{◌≡◌, ℕ, ◌+◌, ◌*◌, ◌^◌, ◌<◌, List, take, drop, length, get_or, Option, Some, None, refl, sym, ap, subst, ◌∙◌, arith, IsTrue}
 use Rattle.std.specs.Int.{to_be_bytes, from_be_bytes, w32}
 use Rattle.std.proofs.lemmas.List.{same_lists, get_or_default}
 use Rattle.std.proofs.lemmas.Nat.{from_be_bytes-to_be_bytes_4}
 use Rattle.std.proofs.lemmas.Bool.Decides.{nat_tests}
 use Rattle.dg_words.specs.Cells.{part}
 use Rattle.dg_nor.specs.Chip.{sector}
-use Rattle.dg_object.specs.Descriptor.{Details, IsDescriptor}
+use Rattle.dg_object.specs.Descriptor.{Details}
 use Rattle.dg_object.proofs.HeadLemmas.{one_head}
 use Rattle.dg_volume.specs.Ranges.{slot_fits, program_fits, order_fits}
 use Rattle.dg_volume.specs.Snapshot.{place_of, slot_bytes, program_bytes, order_bytes}
 use Rattle.dg_volume.specs.Pages.{page_in, program, slot_pages}
-use Rattle.dg_volume.specs.Store.{Store, Held, App, held, KeepsImage, SlotStands, HoldsApp, AppStands, KeepsGolden, Stands}
-use Rattle.dg_volume.specs.Told.{told, told_held, slot_told, program_told}
-use Rattle.dg_volume.specs.declared.kept.Kept.{Kept}
+use Rattle.dg_volume.specs.Store.{Store, Held, App, held, KeepsImage, SlotStands, AppStands, Stands}
+use Rattle.dg_volume.specs.Told.{slot_told}
 use Rattle.dg_volume.specs.declared.snapshot.SlotState.{SlotState}
 use Rattle.dg_volume.specs.declared.snapshot.SlotState.TheVariants.{Dirty, Live}
 use Rattle.dg_volume.specs.declared.snapshot.Program.{Program}
 use Rattle.dg_volume.specs.declared.snapshot.Program.TheVariants.{Blank, Set}
 use Rattle.dg_volume.specs.declared.snapshot.Order.{Order}
 use Rattle.dg_volume.specs.declared.snapshot.Snapshot.{Snapshot}
-use Rattle.dg_volume.proofs.PlaceLemmas.{slot, place_parts, in_range, InRange, order_read}
+use Rattle.dg_volume.proofs.PlaceLemmas.{slot, place_parts, in_range}
 use Rattle.dg_volume.proofs.SlotLemmas.{one_header, four}
 
 -- ---- one snapshot of a place

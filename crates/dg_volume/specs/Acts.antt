@@ -1,5 +1,5 @@
 -- What acts on a device leave of it.
-use Rattle.std.specs.Prelude.{◌≡◌, ◌⊎◌, ℕ, ◌+◌, ◌≤◌, true, Result, Ok, Err}
+use Rattle.std.specs.Prelude.{◌≡◌, ◌⊎◌, ℕ, ◌≤◌, true, Result, Ok, Err}
 use Rattle.dg_words.specs.Counts.{Rose}
 use Rattle.dg_nor.specs.declared.device.Stopped.{Stopped}
 use Rattle.dg_nor.specs.Device.{Device, Ran, Halts}

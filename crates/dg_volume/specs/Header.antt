@@ -1,5 +1,5 @@
 -- The header of a slot: what it holds, and which of its pages are complete.
-use Rattle.std.specs.Prelude.{◌≡◌, ℕ, ◌+◌, ◌-◌, ◌*◌, ◌/◌, ◌^◌, ◌<◌, ◌≤◌, min, List, ◌∷◌, ◌++◌}
+use Rattle.std.specs.Prelude.{◌≡◌, ℕ, ◌-◌, ◌*◌, ◌^◌, ◌<◌, ◌≤◌, min, List, ◌∷◌, ◌++◌}
 use Rattle.std.specs.Int.{to_be_bytes, w16, w32}
 use Rattle.dg_words.specs.Lists.{tabulate}
 use Rattle.dg_words.specs.Cells.{part}

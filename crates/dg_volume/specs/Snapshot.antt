@@ -1,5 +1,5 @@
 -- The 64 bytes of a place in a control sector, in their form number 1.
-use Rattle.std.specs.Prelude.{◌≡◌, ℕ, ◌^◌, ◌<◌, ◌≤◌, List, [], ◌∷◌, ◌++◌, replicate, slice_index_or}
+use Rattle.std.specs.Prelude.{◌≡◌, ℕ, List, [], ◌∷◌, ◌++◌, replicate, slice_index_or}
 use Rattle.std.specs.Int.{to_be_bytes, from_bool, w32}
 use Rattle.dg_volume.specs.declared.snapshot.SlotState.{SlotState}
 use Rattle.dg_volume.specs.declared.snapshot.SlotState.TheVariants.{Dirty, Live}

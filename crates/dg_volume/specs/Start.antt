@@ -1,5 +1,5 @@
 -- A start: which image is chosen, the pages that run, and the store after it.
-use Rattle.std.specs.Prelude.{ℕ, ◌+◌, ◌-◌, ◌==◌, ◌&&◌, Bool, true, false, if◌then◌else◌, List, [], ◌∷◌, length, slice_index_or, Option, Some, None}
+use Rattle.std.specs.Prelude.{ℕ, ◌==◌, ◌&&◌, Bool, false, if◌then◌else◌, List, [], ◌∷◌, length, slice_index_or, Option, Some, None}
 use Rattle.std.specs.List.{list_all, range_with_len}
 use Rattle.dg_base.specs.Crc.{crc_of}
 use Rattle.dg_object.specs.Descriptor.{crc_in}

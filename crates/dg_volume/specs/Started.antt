@@ -1,5 +1,5 @@
 -- What the answer of a start says.
-use Rattle.std.specs.Prelude.{◌≡◌, ℕ, List, length, Option, Some}
+use Rattle.std.specs.Prelude.{◌≡◌, ℕ, List, length, Some}
 use Rattle.dg_base.specs.Crc.{crc_of}
 use Rattle.dg_object.specs.Object.{content}
 use Rattle.dg_object.specs.Descriptor.{Details, IsDescriptor}

@@ -1,9 +1,9 @@
 -- What a chip stands for: the images that it keeps, what is in program memory, and the kept order.
-use Rattle.std.specs.Prelude.{◌≡◌, ◌⊎◌, ℕ, ◌+◌, ◌-◌, ◌*◌, ◌<◌, ◌≤◌, Bool, true, false, IsTrue, List, [], ◌∷◌, length, take, slice_index_or, Option, Some, None, IsSomeAnd}
+use Rattle.std.specs.Prelude.{◌≡◌, ℕ, ◌+◌, ◌*◌, ◌<◌, IsTrue, List, [], ◌∷◌, length, slice_index_or, Option, Some, None, IsSomeAnd}
 use Rattle.dg_words.specs.Cells.{part}
 use Rattle.dg_base.specs.Crc.{crc_of}
 use Rattle.dg_nor.specs.Chip.{sector}
-use Rattle.dg_object.specs.Object.{Row, Outline, object, profile}
+use Rattle.dg_object.specs.Object.{Row, object, profile}
 use Rattle.dg_object.specs.Descriptor.{Details, IsDescriptor}
 use Rattle.dg_volume.specs.Ranges.{snapshot_fits}
 use Rattle.dg_volume.specs.Snapshot.{place_of}

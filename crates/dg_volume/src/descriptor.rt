@@ -48,7 +48,14 @@ pub(crate) fn read_head<N: Nor>(nor: &mut N, index: u32) -> Result<Option<FirstP
 
 /// Reads the bytes of a sector from `at` on into `piece`. Where they may stand there in a descriptor that begins
 /// as this one, it gives their checksum behind `before`.
-fn rest_piece<N: Nor>(nor: &mut N, index: u32, at: u32, piece: &mut [u8], first: &Descriptor, before: u16) -> Result<Option<u16>, Stopped>
+fn rest_piece<N: Nor>(
+    nor: &mut N,
+    index: u32,
+    at: u32,
+    piece: &mut [u8],
+    first: &Descriptor,
+    before: u16,
+) -> Result<Option<u16>, Stopped>
     requires in_chip { index < SECTORS }
     requires in_page { at + length piece.old ≤ 1104 }
     ensures fits { IfOk result (λ found. IfSome found (λ crc.
@@ -68,7 +75,12 @@ fn rest_piece<N: Nor>(nor: &mut N, index: u32, at: u32, piece: &mut [u8], first:
 
 /// Reads the bytes behind the head of a descriptor. Where all of them may stand there, it gives their checksum
 /// behind `before`.
-fn read_rest<N: Nor>(nor: &mut N, index: u32, first: &Descriptor, before: u16) -> Result<Option<u16>, Stopped>
+fn read_rest<N: Nor>(
+    nor: &mut N,
+    index: u32,
+    first: &Descriptor,
+    before: u16,
+) -> Result<Option<u16>, Stopped>
     requires { index < SECTORS }
     ensures fits { IfOk result (λ found. IfSome found (λ crc.
         RestFits first.now.pages 28 (part (sector (N.device nor.old).image index) 28 1076)

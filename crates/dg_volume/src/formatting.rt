@@ -20,7 +20,12 @@ use dg_object::{Profile, SizeFault, check_size, page_of, profile_of};
 impl Volume {
     /// Makes the chip a volume that keeps golden alone: with this name, of 1 to 70,656 bytes. `used` commits are
     /// told as spent, which is 0 for now.
-    pub fn format<N: Nor>(nor: &mut N, golden: &[u8], name: &[u8], used: u32) -> Result<(), FormatFault>
+    pub fn format<N: Nor>(
+        nor: &mut N,
+        golden: &[u8],
+        name: &[u8],
+        used: u32,
+    ) -> Result<(), FormatFault>
         requires named { IsTrue (names name.now) }
         requires unused { used ≡ 0 }
 

@@ -44,7 +44,12 @@ fn cleared(gates: &[u8; 9]) -> u8
 }
 
 /// What a header says of its slot, where it is one of that image and version.
-pub(crate) fn read_header(first: &[u8; 10], gates: &[u8; 9], image: u8, version: u32) -> Option<Kept>
+pub(crate) fn read_header(
+    first: &[u8; 10],
+    gates: &[u8; 9],
+    image: u8,
+    version: u32,
+) -> Option<Kept>
     ensures fits { IfSome result (λ k. Heads first.now gates.now image version k.pages k.crc k.done × (k.version ≡ version)) }
     ensures no_fit { IsNone result → (pages crc done : ℕ) → Heads first.now gates.now image version pages crc done → ⊥ }
 {

@@ -14,7 +14,13 @@ use dg_nor::{Nor, PAGE, SECTORS, Stopped, erase_sector, program_in, read_in};
 const PIECE: u32 = 184;
 
 /// Reads the bytes of a sector from `at` on into `piece`, and gives their checksum behind `before`.
-fn piece_crc<N: Nor>(nor: &mut N, index: u32, at: u32, piece: &mut [u8], before: u16) -> Result<u16, Stopped>
+fn piece_crc<N: Nor>(
+    nor: &mut N,
+    index: u32,
+    at: u32,
+    piece: &mut [u8],
+    before: u16,
+) -> Result<u16, Stopped>
     requires in_chip { index < SECTORS }
     requires in_page { at + length piece.old ≤ 1104 }
     ensures crc { IfOk result (λ crc. crc ≡ crc_more before (part (sector (N.device nor.old).image index) at (length piece.old))) }
@@ -25,7 +31,12 @@ fn piece_crc<N: Nor>(nor: &mut N, index: u32, at: u32, piece: &mut [u8], before:
 }
 
 /// The checksum of the first `count` bytes of a sector behind `before`.
-pub(crate) fn front_crc<N: Nor>(nor: &mut N, index: u32, count: u32, before: u16) -> Result<u16, Stopped>
+pub(crate) fn front_crc<N: Nor>(
+    nor: &mut N,
+    index: u32,
+    count: u32,
+    before: u16,
+) -> Result<u16, Stopped>
     requires in_chip { index < SECTORS }
     requires in_page { count ≤ 1104 }
     ensures crc { IfOk result (λ crc. crc ≡ crc_more before (part (sector (N.device nor.old).image index) 0 count)) }

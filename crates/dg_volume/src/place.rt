@@ -59,7 +59,15 @@ fn order_bytes(order: &Order) -> [u8; 9]
     let number = order.number.to_be_bytes();
     let version = order.version.to_be_bytes();
     [
-        number[0], number[1], number[2], number[3], order.image, version[0], version[1], version[2], version[3],
+        number[0],
+        number[1],
+        number[2],
+        number[3],
+        order.image,
+        version[0],
+        version[1],
+        version[2],
+        version[3],
     ]
 }
 
@@ -75,7 +83,11 @@ pub(crate) fn write_place(snapshot: &Snapshot) -> [u8; 64]
     put(&mut place, 17, &slot_bytes(snapshot.slots[3]));
     put(&mut place, 22, &program_bytes(snapshot.program));
     put(&mut place, 28, &order_bytes(&snapshot.order));
-    put(&mut place, 37, &[snapshot.gesture, u8::from(snapshot.waived)]);
+    put(
+        &mut place,
+        37,
+        &[snapshot.gesture, u8::from(snapshot.waived)],
+    );
     place
 }
 
@@ -156,11 +168,20 @@ fn order_fits(order: &Order) -> bool
 }
 
 /// The snapshot of these fields, where each is in its range.
-fn checked(slots: [SlotState; 4], program: Program, order: Order, waived: bool, gesture: u8) -> Option<Snapshot>
+fn checked(
+    slots: [SlotState; 4],
+    program: Program,
+    order: Order,
+    waived: bool,
+    gesture: u8,
+) -> Option<Snapshot>
     ensures fits { IfSome result (λ s. (s.slots ≡ slots) × (s.program ≡ program) × (s.order ≡ order) × (s.waived ≡ waived) × (s.gesture ≡ gesture)) }
     ensures no_fit { IsNone result → IsTrue (snapshot_fits slots program order waived gesture) → ⊥ }
 {
-    let slots_fit = slot_fits(slots[0]) && slot_fits(slots[1]) && slot_fits(slots[2]) && slot_fits(slots[3]);
+    let slots_fit = slot_fits(slots[0])
+        && slot_fits(slots[1])
+        && slot_fits(slots[2])
+        && slot_fits(slots[3]);
     let waived_fits = !waived || order.number != 0;
     if slots_fit && program_fits(program) && order_fits(&order) && waived_fits && gesture <= 3 {
         Some(Snapshot {
@@ -186,7 +207,13 @@ pub(crate) fn read_place(place: &[u8; 64]) -> Option<Snapshot>
         slot_at(place, 12),
         slot_at(place, 17),
     ];
-    let snapshot = checked(slots, program_at(place, 22), order_at(place, 28), place[38] == 1, place[37])?;
+    let snapshot = checked(
+        slots,
+        program_at(place, 22),
+        order_at(place, 28),
+        place[38] == 1,
+        place[37],
+    )?;
     if write_place(&snapshot) == *place {
         Some(snapshot)
     } else {

@@ -23,7 +23,12 @@ fn first_page_fits<N: Nor>(nor: &mut N, image: u8, kept: &Kept) -> Result<bool, 
         return Ok(false);
     };
     let said = &first.descriptor;
-    Ok(first.crc == kept.crc && said.image == image && said.version == kept.version && said.pages == kept.pages)
+    Ok(
+        first.crc == kept.crc
+            && said.image == image
+            && said.version == kept.version
+            && said.pages == kept.pages,
+    )
 }
 
 /// What a slot keeps that is Live with this version.
@@ -64,7 +69,10 @@ fn mount_slot<N: Nor>(nor: &mut N, image: u8, slot: SlotState) -> Result<Option<
 }
 
 /// What the four slots keep.
-pub(crate) fn mount_slots<N: Nor>(nor: &mut N, slots: &[SlotState; 4]) -> Result<[Option<Kept>; 4], MountFault>
+pub(crate) fn mount_slots<N: Nor>(
+    nor: &mut N,
+    slots: &[SlotState; 4],
+) -> Result<[Option<Kept>; 4], MountFault>
     ensures kept { IfOk result (λ kept. (held : List (Option Held)) × (length held ≡ 4) × ((i : ℕ) → i < 4
         → SlotStands (N.device nor.old).image i (slice_index_or slots.now i slot_states.Dirty) (slice_index_or held i None)
         × (slice_index_or kept i None ≡ told (slice_index_or held i None)))) }

@@ -23,7 +23,12 @@ fn kept_crc<N: Nor>(nor: &mut N, image: u8, page: u8) -> Result<u16, Stopped>
     ensures ends { ReadEnds result (N.device nor.old) (N.device nor.new) }
 {
     let mut crc = [0; 2];
-    read_in(nor, page_sector(image, 0), CRCS + 2 * (u32::from(page) - 1), &mut crc)?;
+    read_in(
+        nor,
+        page_sector(image, 0),
+        CRCS + 2 * (u32::from(page) - 1),
+        &mut crc,
+    )?;
     Ok(u16::from_be_bytes(crc))
 }
 

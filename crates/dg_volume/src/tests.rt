@@ -13,8 +13,9 @@ fn golden_is_formatted_and_started(rt: HostRuntime) -> Result<(), Fail> {
 
     let volume = Volume::mount(&mut board)?;
     let snapshot = volume.snapshot();
-    assert_eq!(rt; snapshot.slots[0], SlotState::Live { version: 1 });
-    assert_eq!(rt; snapshot.slots[3], SlotState::Dirty);
+    let (first, last) = (snapshot.slots[0], snapshot.slots[3]);
+    assert_eq!(rt; first, SlotState::Live { version: 1 });
+    assert_eq!(rt; last, SlotState::Dirty);
     assert_eq!(rt; snapshot.program, Program::Blank);
     assert_eq!(rt; snapshot.order.number, 0);
     let golden = volume.kept(0).ok_or("golden is not kept")?;
@@ -30,7 +31,13 @@ fn golden_is_formatted_and_started(rt: HostRuntime) -> Result<(), Fail> {
         assert_eq!(rt; started.pages, 2);
         assert_eq!(rt; started.length, 1);
         assert_eq!(rt; started.crc, CRC_OF_A);
-        assert_eq!(rt; started.volume.snapshot().program, Program::Set { image: 0, version: 1 });
+        assert_eq!(rt;
+            started.volume.snapshot().program,
+            Program::Set {
+                image: 0,
+                version: 1
+            }
+        );
     }
     Ok(())
 }
@@ -52,7 +59,10 @@ fn what_is_no_volume_or_no_image_is_refused(rt: HostRuntime) -> Result<(), Fail>
     let mut board = Board::memory(rt.alloc())?;
     assert!(rt; matches!(Volume::mount(&mut board), Err(MountFault::NotAVolume)));
     assert!(rt; matches!(start(&mut board), Err(StartFault::NotAVolume)));
-    assert_eq!(rt; Volume::format(&mut board, &[], b"base", 0), Err(FormatFault::Empty));
+    assert_eq!(rt;
+        Volume::format(&mut board, &[], b"base", 0),
+        Err(FormatFault::Empty)
+    );
 
     // A byte of golden's data page is spoilt: the chip is a volume, and golden is not sound.
     Volume::format(&mut board, b"A", b"base", 0)?;

@@ -1,4 +1,4 @@
-use Rattle.std.proofs.Common.{◌≡◌, ◌∙◌, OnOk, length, arith, rules, ◌<◌, ℕ, get_or}
+use Rattle.std.proofs.Common.{◌≡◌, ◌∙◌, length, arith, rules, ◌<◌, ℕ, get_or}
 use Rattle.std.proofs.lemmas.Result.{on_ok_weaker}
 use Rattle.dg_volume.proofs.ActLemmas.{act_after, act_ends, Worked-ran}
 use Rattle.dg_volume.proofs.ChipLemmas.{front_written}

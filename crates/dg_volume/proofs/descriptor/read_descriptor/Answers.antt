@@ -1,4 +1,4 @@
-use Rattle.std.proofs.Common.{◌≡◌, ◌≤◌, List, ℕ, refl, length, ap, subst, ◌∙◌, sym, arith}
+use Rattle.std.proofs.Common.{◌≡◌, ◌≤◌, List, ℕ, refl, length, subst, sym, arith}
 use Rattle.dg_words.specs.Cells.{part}
 use Rattle.dg_base.specs.Crc.{crc_more}
 use Rattle.dg_nor.specs.Chip.{sector}
@@ -28,7 +28,7 @@ returns-in-Some-2-clause-descriptor g c =
     let head = rw c.in-Some.is at c.in_ok-first.ensures.head in
     let read = rw c.in-Some-2.is at c.in_ok-crc.ensures.fits in
     let rest : RestFits d.descriptor.pages 28 (part cells 28 1076) × (c.in-Some-2.crc ≡ crc_more d.crc (part cells 28 1076)) =
-        subst (λ (x : List ℕ). RestFits d.descriptor.pages 28 (part (sector x index) 28 1076) × (c.in-Some-2.crc ≡ crc_more d.crc (part (sector x index) 28 1076))) c.in_ok-first.ensures.ends.same_image read in
+    subst (λ (x : List ℕ). RestFits d.descriptor.pages 28 (part (sector x index) 28 1076) × (c.in-Some-2.crc ≡ crc_more d.crc (part (sector x index) 28 1076))) c.in_ok-first.ensures.ends.same_image read in
     (descriptor_whole cells (details_of d.descriptor) long head.0 rest.0, crc_whole cells d.crc c.in-Some-2.crc long head.1 rest.1)
 
 pub returns-in-None-clause-none : goal.returns-in-None-clause-none

@@ -1,4 +1,4 @@
-use Rattle.std.proofs.Common.{◌≡◌, ◌+◌, ◌-◌, ◌≤◌, List, ℕ, refl, sym, length, take, ap, ◌∙◌, arith, rules}
+use Rattle.std.proofs.Common.{◌≡◌, ◌+◌, ◌-◌, List, ℕ, refl, length, take, ap, arith, rules}
 use Rattle.dg_nor.specs.Chip.{sector}
 use Rattle.dg_nor.proofs.ChipLemmas.{length-sector}
 use Rattle.dg_volume.proofs.ActLemmas.{Looked-none, Looked_then}

@@ -1,10 +1,9 @@
-use Rattle.std.proofs.Common.{◌≡◌, ℕ, ◌+◌, ◌<◌, List, length, get_or, refl, sym, subst, ap, ◌∙◌, arith, rules, below_more}
+use Rattle.std.proofs.Common.{◌≡◌, ℕ, ◌+◌, ◌<◌, length, get_or, refl, subst, ap, ◌∙◌, arith, rules, below_more}
 use Rattle.std.proofs.lemmas.Result.{on_ok_weaker}
 use Rattle.dg_words.specs.Cells.{part}
 use Rattle.dg_nor.specs.Chip.{sector, programmed}
 use Rattle.dg_nor.proofs.ChipLemmas.{Keeps_then, Keeps_wider}
 use Rattle.dg_object.specs.Object.{Outline}
-use Rattle.dg_volume.specs.Header.{header_bytes}
 use Rattle.dg_volume.specs.Store.{golden_row}
 use Rattle.dg_volume.proofs.ActLemmas.{act_after, act_ends, Worked_then}
 use Rattle.dg_volume.proofs.ChipLemmas.{second_written, front_kept, second_kept}
@@ -40,13 +39,13 @@ returns-clause-kept g c =
     let all : c.loop-p.p ≡ profile.pages = omega arith in
     on_ok_weaker c.program_in.result
     (λ e.
-      let there : sector image 68 ≡ programmed (sector old 68) 16 gates = subst (λ (k : ℕ). sector image k ≡ programmed (sector old k) 16 gates) here e in
-      let written = second_written _ (sector image 68) _ gates 16 10 9 c.loop-p.invariant.header there small refl long (omega arith) (omega arith) in
-      golden_keeps image row profile.pages profile.crc gates is pages crc
-      (front_kept (sector image 68) _ gates 16 10 9 written refl long (omega arith) (omega arith))
-      (second_kept (sector image 68) _ gates 16 10 9 written refl long (omega arith) (omega arith))
-      c.gates_of.ensures refl
-      (λ q h. ap (λ s. part s 0 1104) (c.program_in.ensures.keeps.behind (69 + q) (omega arith) (omega arith)) ∙ c.loop-p.invariant.pages q (omega arith)))
+    let there : sector image 68 ≡ programmed (sector old 68) 16 gates = subst (λ (k : ℕ). sector image k ≡ programmed (sector old k) 16 gates) here e in
+    let written = second_written _ (sector image 68) _ gates 16 10 9 c.loop-p.invariant.header there small refl long (omega arith) (omega arith) in
+    golden_keeps image row profile.pages profile.crc gates is pages crc
+    (front_kept (sector image 68) _ gates 16 10 9 written refl long (omega arith) (omega arith))
+    (second_kept (sector image 68) _ gates 16 10 9 written refl long (omega arith) (omega arith))
+    c.gates_of.ensures refl
+    (λ q h. ap (λ s. part s 0 1104) (c.program_in.ensures.keeps.behind (69 + q) (omega arith) (omega arith)) ∙ c.loop-p.invariant.pages q (omega arith)))
     c.program_in.ensures.cells
 
 pub returns-clause-ends : goal.returns-clause-ends

@@ -15,8 +15,8 @@ returns-clause-header g c =
     let here : c.header_sector-2.result ≡ 68 = c.header_sector-2.ensures in
     on_ok_weaker c.program_in.result
     (λ e. ap (sector (g.N.Nor.device c.program_in.new.nor).image) (sym here)
-      ∙ erased_written _ _ bs (ap (sector (g.N.Nor.device c.erase_sector.new.nor).image) (here ∙ sym erased) ∙ c.in_ok-erase_sector.ensures.cells) e small (omega arith)
-      ∙ ap (overwritten (blank 2048) 0) c.header_bytes-header.ensures)
+    ∙ erased_written _ _ bs (ap (sector (g.N.Nor.device c.erase_sector.new.nor).image) (here ∙ sym erased) ∙ c.in_ok-erase_sector.ensures.cells) e small (omega arith)
+    ∙ ap (overwritten (blank 2048) 0) c.header_bytes-header.ensures)
     c.program_in.ensures.cells
 
 pub returns-clause-ends : goal.returns-clause-ends

@@ -18,8 +18,8 @@ returns-clause-page g c =
     let here : c.page_sector-2.result ≡ 69 + c.args.p = omega (arith, c.page_sector-2.ensures) in
     on_ok_weaker c.program_in.result
     (λ e. ap (λ k. part (sector (g.N.Nor.device c.program_in.new.nor).image k) 0 1104) (sym here)
-      ∙ front_written _ _ bs 1104 (ap (sector (g.N.Nor.device c.erase_sector.new.nor).image) (here ∙ sym erased) ∙ c.in_ok-erase_sector.ensures.cells) e small long (omega arith)
-      ∙ c.page_of.ensures)
+    ∙ front_written _ _ bs 1104 (ap (sector (g.N.Nor.device c.erase_sector.new.nor).image) (here ∙ sym erased) ∙ c.in_ok-erase_sector.ensures.cells) e small long (omega arith)
+    ∙ c.page_of.ensures)
     c.program_in.ensures.cells
 
 pub returns-clause-ends : goal.returns-clause-ends

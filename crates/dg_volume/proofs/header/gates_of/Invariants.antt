@@ -1,4 +1,4 @@
-use Rattle.std.proofs.Common.{◌≡◌, ℕ, ◌+◌, ◌-◌, ◌*◌, ◌^◌, ◌<◌, length, get_or, min}
+use Rattle.std.proofs.Common.{◌≡◌, ℕ, ◌-◌, ◌*◌, ◌^◌, ◌<◌, length, get_or, min}
 use Rattle.dg_volume.proofs.header.gates_of.Given as goal
 
 abbrev pub invariant-loop-j : goal.invariant-loop-j

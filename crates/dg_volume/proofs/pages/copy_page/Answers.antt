@@ -1,4 +1,4 @@
-use Rattle.std.proofs.Common.{◌≡◌, ◌+◌, ◌*◌, ap, subst, ◌∙◌, arith}
+use Rattle.std.proofs.Common.{◌≡◌, ◌+◌, ◌*◌, ap, ◌∙◌, arith}
 use Rattle.dg_words.specs.Cells.{part, overwritten}
 use Rattle.dg_nor.specs.Chip.{sector, blank}
 use Rattle.dg_nor.proofs.ChipLemmas.{length-sector, sector_kept, Keeps_then}

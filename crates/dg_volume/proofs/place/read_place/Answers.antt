@@ -1,7 +1,5 @@
-use Rattle.std.proofs.Common.{◌≡◌, ◌∙◌, Bool, refl, get_or}
+use Rattle.std.proofs.Common.{◌∙◌, refl, get_or}
 use Rattle.std.specs.Prelude.{nat_eq}
-use Rattle.dg_volume.specs.declared.snapshot.Snapshot.{Snapshot}
-use Rattle.dg_volume.specs.Snapshot.{place_of}
 use Rattle.dg_volume.proofs.PlaceLemmas.{IsRead, place_parts, read_in_range, again, in_range, slot, gesture_read, waived_read, same_bytes}
 use Rattle.dg_volume.proofs.place.read_place.Goals as goal
 

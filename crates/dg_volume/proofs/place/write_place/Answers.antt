@@ -1,6 +1,6 @@
-use Rattle.std.proofs.Common.{◌≡◌, List, ℕ, ◌++◌, take, drop, replicate, refl, [], ◌∷◌, ◌∙◌, ap, arith}
+use Rattle.std.proofs.Common.{◌≡◌, ℕ, take, drop, replicate, refl, [], ◌∷◌, ◌∙◌, ap, arith}
 use Rattle.std.specs.Int.{from_bool}
-use Rattle.dg_volume.specs.Snapshot.{slot_bytes, program_bytes, order_bytes, place_of}
+use Rattle.dg_volume.specs.Snapshot.{slot_bytes, program_bytes, order_bytes}
 use Rattle.dg_volume.proofs.PlaceLemmas.{put_more, written, length-slot_bytes, length-program_bytes, length-order_bytes, slot}
 use Rattle.dg_volume.proofs.place.write_place.Goals as goal
 
@@ -16,6 +16,6 @@ returns c =
     let f7 = put_more _ c.put-7.new.place _ (order_bytes s.order) _ 28 9 37 c.put-7.ensures.front c.order_bytes.ensures (length-order_bytes s.order) refl f6 in
     let f8 = put_more _ c.put-8.new.place _ (s.gesture ∷ from_bool s.waived ∷ []) _ 37 2 39 c.put-8.ensures.front (ap (λ (b : ℕ). s.gesture ∷ b ∷ []) c.from.ensures) refl refl f7 in
     let r : drop 39 c.put-8.new.place ≡ replicate 25 255 =
-        c.put-8.ensures.rest 39 (omega arith) ∙ c.put-7.ensures.rest 39 (omega arith) ∙ c.put-6.ensures.rest 39 (omega arith) ∙ c.put-5.ensures.rest 39 (omega arith)
-        ∙ c.put-4.ensures.rest 39 (omega arith) ∙ c.put-3.ensures.rest 39 (omega arith) ∙ c.put-2.ensures.rest 39 (omega arith) ∙ c.put.ensures.rest 39 (omega arith) in
+    c.put-8.ensures.rest 39 (omega arith) ∙ c.put-7.ensures.rest 39 (omega arith) ∙ c.put-6.ensures.rest 39 (omega arith) ∙ c.put-5.ensures.rest 39 (omega arith)
+    ∙ c.put-4.ensures.rest 39 (omega arith) ∙ c.put-3.ensures.rest 39 (omega arith) ∙ c.put-2.ensures.rest 39 (omega arith) ∙ c.put.ensures.rest 39 (omega arith) in
     written c.put-8.new.place s f8 r

@@ -1,6 +1,4 @@
-use Rattle.std.proofs.Common.{◌≡◌, ◌+◌, ◌*◌, ℕ, true, false, ◌∙◌, sym, arith}
-use Rattle.dg_nor.specs.Chip.{sector}
-use Rattle.dg_volume.specs.Header.{Heads, IsHeader}
+use Rattle.std.proofs.Common.{◌≡◌, ◌+◌, ◌*◌, true, false, ◌∙◌, sym, arith}
 use Rattle.dg_volume.proofs.SlotLemmas.{keeps_read, header_read, first_unfit, moved}
 use Rattle.dg_volume.proofs.slots.mount_live.Goals as goal
 

@@ -1,8 +1,7 @@
-use Rattle.std.proofs.Common.{◌≡◌, ℕ, List, [], ◌∷◌, Option, None, refl, ap, subst, ◌∙◌, get_or}
+use Rattle.std.proofs.Common.{◌≡◌, ℕ, List, [], ◌∷◌, Option, None, refl, subst, ◌∙◌, get_or}
 use Rattle.dg_volume.specs.Store.{Held, SlotStands}
 use Rattle.dg_volume.specs.Told.{told}
 use Rattle.dg_volume.specs.declared.kept.Kept.{Kept}
-use Rattle.dg_volume.specs.declared.snapshot.SlotState.{SlotState}
 use Rattle.dg_volume.specs.declared.snapshot.SlotState.TheVariants.{Dirty}
 use Rattle.dg_volume.proofs.SlotLemmas.{four}
 use Rattle.dg_volume.proofs.slots.mount_slots.Goals as goal
@@ -20,9 +19,12 @@ returns-clause-kept g c =
     let same1 = c.in_ok-mount_slot.ensures.ends.same_image in
     let same2 = c.in_ok-mount_slot-2.ensures.ends.same_image ∙ same1 in
     let same3 = c.in_ok-mount_slot-3.ensures.ends.same_image ∙ same2 in
-    let slots = c.args.slots.now in
-    (held, refl, four P
-      (a.1, a.2)
-      (subst (λ (x : List ℕ). SlotStands x 1 (get_or slots 1 Dirty) b.0) same1 b.1, b.2)
-      (subst (λ (x : List ℕ). SlotStands x 2 (get_or slots 2 Dirty) d.0) same2 d.1, d.2)
-      (subst (λ (x : List ℕ). SlotStands x 3 (get_or slots 3 Dirty) e.0) same3 e.1, e.2))
+    let slots = c.args.slots.now in (
+      held,
+      refl,
+      four P
+          (a.1, a.2)
+          (subst (λ (x : List ℕ). SlotStands x 1 (get_or slots 1 Dirty) b.0) same1 b.1, b.2)
+          (subst (λ (x : List ℕ). SlotStands x 2 (get_or slots 2 Dirty) d.0) same2 d.1, d.2)
+          (subst (λ (x : List ℕ). SlotStands x 3 (get_or slots 3 Dirty) e.0) same3 e.1, e.2),
+    )

@@ -1,9 +1,7 @@
-use Rattle.std.proofs.Common.{◌≡◌, ◌+◌, ◌*◌, ℕ, List, refl, ap, ◌∙◌, arith}
-use Rattle.dg_words.specs.Cells.{part}
-use Rattle.dg_nor.specs.Chip.{sector}
+use Rattle.std.proofs.Common.{◌≡◌, ◌+◌, ◌*◌, ℕ, List, ap, ◌∙◌, arith}
 use Rattle.dg_volume.specs.Pages.{page_in}
 use Rattle.dg_volume.proofs.ActLemmas.{Looked_then}
-use Rattle.dg_volume.proofs.SoundLemmas.{sound_more, sound_fails, sound_first, sound_all}
+use Rattle.dg_volume.proofs.SoundLemmas.{sound_more, sound_fails, sound_all}
 use Rattle.dg_volume.proofs.sound.is_sound.Goals as goal
 
 pub returns-then-not-branch-clause-sound : goal.returns-then-not-branch-clause-sound

@@ -28,10 +28,10 @@ loop-p-preserved g c =
     let count : all - p ≡ suc (all - (p + 1)) = omega arith in
     let after : left - 1104 ≡ c.args.length - 1104 * (p + 1) = omega arith in
     let now : crc_more c.loop-p.crc (take left (joined (map page (range_with_len (p + 1) (suc (all - (p + 1))))))) ≡ total =
-        ap (λ n. crc_more c.loop-p.crc (take left (joined (map page (range_with_len (p + 1) n))))) (sym count) ∙ before.summed in
+    ap (λ n. crc_more c.loop-p.crc (take left (joined (map page (range_with_len (p + 1) n))))) (sym count) ∙ before.summed in
     let read = c.in_ok-crc.ensures.crc ∙ ap (λ (d : List ℕ). crc_more c.loop-p.crc (part (sector d (4 + p)) 0 c.min-count.result)) before.looked.same_image in
     let next = page_summed page (sector image (4 + p)) left c.min-count.result (p + 1) (all - (p + 1)) c.loop-p.crc c.in_ok-crc.crc total
-        (ap (page_in image) place) (omega arith) c.min-count.ensures read now in
+    (ap (page_in image) place) (omega arith) c.min-count.ensures read now in
     record {
       summed = ap (λ n. crc_more c.in_ok-crc.crc (take n (joined (map page (range_with_len (p + 1 + 1) (all - (p + 1))))))) (sym after) ∙ next;
       looked = Looked_then before.looked c.in_ok-crc.ensures.ends;

@@ -1,4 +1,4 @@
-use Rattle.std.proofs.Common.{◌≡◌, ℕ, ◌+◌, ◌<◌, ◌∙◌, List, ap, sym, arith, false, true}
+use Rattle.std.proofs.Common.{◌≡◌, ℕ, ◌+◌, ◌∙◌, List, ap, arith}
 use Rattle.dg_words.specs.Cells.{part}
 use Rattle.dg_nor.specs.Chip.{sector}
 use Rattle.dg_volume.specs.Pages.{page_in}
@@ -28,10 +28,12 @@ returns-clause-stands g c s stands =
     let is = golden_told_is old c.args.volume s c.unwrap-golden.result c.requires.mounted stands c.unwrap-golden.ensures in
     let set = c.set_to_golden-snapshot.ensures in
     golden_stands old new c.args.volume s c.unwrap-golden.result c.set_to_golden-snapshot.result c.requires.mounted stands is
-    (record { pages = λ p l.
-      let from : c.page_sector.result + p ≡ 69 + p = omega (arith, c.page_sector.ensures) in
-      ap (λ x. part x 0 1104) (done.keeps.behind (3 + p) (omega arith) (omega (arith, is.most))) ∙ copied.pages p l
-      ∙ ap (λ (x : List ℕ). page_in x (c.page_sector.result + p)) looked ∙ ap (page_in old) from })
+    (record {
+      pages = λ p l.
+          let from : c.page_sector.result + p ≡ 69 + p = omega (arith, c.page_sector.ensures) in
+          ap (λ x. part x 0 1104) (done.keeps.behind (3 + p) (omega arith) (omega (arith, is.most))) ∙ copied.pages p l
+          ∙ ap (λ (x : List ℕ). page_in x (c.page_sector.result + p)) looked ∙ ap (page_in old) from;
+    })
     (λ k low high. done.keeps.behind k (omega arith) high ∙ copied.keeps.behind k (omega (arith, is.most)) high ∙ ap (λ (x : List ℕ). sector x k) looked)
     done.spelled
     (record { program = set.program; slots = set.slots; order = set.order })

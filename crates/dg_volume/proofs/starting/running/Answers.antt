@@ -1,4 +1,4 @@
-use Rattle.std.proofs.Common.{◌≡◌, ◌≤◌, ℕ, List, Option, Some, None, length, refl, sym, ap, subst, ◌∙◌, arith}
+use Rattle.std.proofs.Common.{◌≡◌, ℕ, List, Option, Some, None, length, refl, sym, ap, subst, ◌∙◌, arith}
 use Rattle.std.specs.Prelude.{IsSome, IsNone}
 use Rattle.dg_base.specs.Crc.{crc_of}
 use Rattle.dg_nor.specs.Chip.{sector}
@@ -32,6 +32,10 @@ returns-clause-said g c =
     let x = details_of first in
     let head = rw c.unwrap-descriptor.ensures at c.in_ok-read_head.ensures.head in
     let same : d.0 ≡ x = one_descriptor (sector image 3) x d.0 (omega arith) head.0 d.1 in
-    let pages : pages_for x.length ≡ x.pages = sym head.0.range.pages in
-    (x, subst (λ (e : Details). IsDescriptor (page_in image 3) e) same d.1, refl, refl,
-    c.in_ok-crc.ensures.crc ∙ ap (λ (i : List ℕ). crc_of (content x.length (program i (pages_for x.length)))) c.in_ok-read_head.ensures.ends.same_image ∙ ap (λ n. crc_of (content x.length (program image n))) pages)
+    let pages : pages_for x.length ≡ x.pages = sym head.0.range.pages in (
+      x,
+      subst (λ (e : Details). IsDescriptor (page_in image 3) e) same d.1,
+      refl,
+      refl,
+      c.in_ok-crc.ensures.crc ∙ ap (λ (i : List ℕ). crc_of (content x.length (program i (pages_for x.length)))) c.in_ok-read_head.ensures.ends.same_image ∙ ap (λ n. crc_of (content x.length (program image n))) pages,
+    )

@@ -1,17 +1,11 @@
-use Rattle.std.proofs.Common.{◌≡◌, ◌+◌, ℕ, List, Option, Result, Ok, Err, refl, sym, ap, subst, ◌∙◌, arith}
+use Rattle.std.proofs.Common.{◌≡◌, ℕ, List, Err, sym, ap, subst, ◌∙◌}
 use Rattle.std.proofs.lemmas.Result.{err_from_is_err_and}
-use Rattle.dg_volume.specs.Faults.{start_fault_of}
-use Rattle.dg_volume.specs.Store.{Store, App, HoldsApp, Stands}
+use Rattle.dg_volume.specs.Store.{HoldsApp, Stands}
 use Rattle.dg_volume.specs.Start.{golden_start}
-use Rattle.dg_volume.specs.declared.faults.MountFault.{MountFault}
-use Rattle.dg_volume.specs.declared.faults.StartFault.{StartFault}
-use Rattle.dg_volume.specs.declared.faults.MountFault.TheVariants as mount
 use Rattle.dg_volume.specs.declared.faults.StartFault.TheVariants as start
-use Rattle.dg_volume.specs.declared.snapshot.Program.{Program}
-use Rattle.dg_volume.specs.declared.snapshot.Program.TheVariants.{Blank, Set}
-use Rattle.dg_volume.proofs.ActLemmas.{Looked-read, Worked-looked, Worked_then}
+use Rattle.dg_volume.proofs.ActLemmas.{Worked-looked, Worked_then}
 use Rattle.dg_volume.proofs.StartLemmas.{tells_store}
-use Rattle.dg_volume.proofs.RunLemmas.{app_holds, app_none, start_kept, start_golden, start_none, Said, runs, golden_holds, not_a_volume}
+use Rattle.dg_volume.proofs.RunLemmas.{app_holds, app_none, start_kept, start_golden, start_none, runs, golden_holds, not_a_volume}
 use Rattle.dg_volume.proofs.starting.start.Goals as goal
 
 pub returns-in_err-volume-clause-not_a_volume : goal.returns-in_err-volume-clause-not_a_volume

@@ -1,9 +1,6 @@
-use Rattle.std.proofs.Common.{◌≡◌, ◌+◌, ◌<◌, ℕ, true, false, List, Option, IsSomeAnd, Some, None, Result, Ok, Err, length, refl, ap, sym, subst, ◌∙◌, arith, get_or}
+use Rattle.std.proofs.Common.{◌≡◌, ℕ, true, false, List, Option, IsSomeAnd, None, Result, Err, refl, ap, sym, subst, ◌∙◌, arith, get_or}
 use Rattle.std.proofs.lemmas.Result.{err_from_is_err_and}
-use Rattle.dg_words.specs.Cells.{part}
-use Rattle.dg_nor.specs.Chip.{sector}
-use Rattle.dg_volume.specs.Store.{Store, Held, Stands, SlotStands, held, App, AppStands}
-use Rattle.dg_volume.specs.Snapshot.{place_of}
+use Rattle.dg_volume.specs.Store.{SlotStands, held, AppStands}
 use Rattle.dg_volume.specs.declared.kept.Kept.{Kept}
 use Rattle.dg_volume.specs.declared.faults.MountFault.{MountFault}
 use Rattle.dg_volume.specs.declared.faults.MountFault.TheVariants.{NotAVolume}
