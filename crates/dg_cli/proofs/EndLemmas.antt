@@ -1,14 +1,13 @@
 -- How a replay ends, by the ending that the rules give to its script.
-use Rattle.std.proofs.Common.{◌≡◌, ◌≢◌, ◌⊎◌, inl, inr, ℕ, zero, suc, ◌+◌, ◌<◌, ◌≤◌, Bool, true, false, ◌||◌, ◌&&◌, ◌==◌, not, List, [], ◌∷◌, ◌++◌, length, map, take, drop, get_or, ◌-◌, length-take, min, refl, append-nil, append_assoc, ap, sym, ◌∙◌, subst, arith}
-use Rattle.std.specs.Prelude.{Option, Some, None, Result, Ok, Err, nat_lt, if◌then◌else◌}
+use Rattle.std.proofs.Common.{◌≡◌, ◌≢◌, inl, inr, ℕ, zero, suc, ◌+◌, ◌<◌, ◌≤◌, Bool, true, false, ◌||◌, ◌&&◌, ◌==◌, not, List, [], ◌∷◌, ◌++◌, length, map, take, drop, get_or, ◌-◌, length-take, refl, append-nil, append_assoc, ap, sym, ◌∙◌, subst, arith}
+use Rattle.std.specs.Prelude.{Option, Some, None, Err, nat_lt, if◌then◌else◌}
 use Rattle.std.specs.Str.Lines.{lines}
-use Rattle.std.specs.List.{flat_map, list_any, AllByRecursion}
+use Rattle.std.specs.List.{list_any}
 use Rattle.std.proofs.lemmas.List.{take-append-drop, take_more, take-take}
 use Rattle.std.proofs.Math.Seq.{take-length}
 use Rattle.std.proofs.lemmas.Bool.Decides.{nat_tests}
-use Rattle.dg_words.specs.Counts.{Rose}
-use Rattle.dg_base.specs.Outside.{Puts, PutsFront}
-use Rattle.dg_base.proofs.OutsideLemmas.{Puts-join, Puts-nil}
+use Rattle.dg_base.specs.Outside.{Puts}
+use Rattle.dg_base.proofs.OutsideLemmas.{Puts-join}
 use Rattle.dg_base.specs.declared.answers.Status.{Status}
 use Rattle.dg_base.specs.declared.answers.Status.TheVariants as status
 use Rattle.dg_nor.specs.Device.{Device}
@@ -18,8 +17,8 @@ use Rattle.dg_cli.specs.World.{World, Played, last_lines}
 use Rattle.dg_cli.specs.Boards.{BoardsStand, BoardStopped}
 use Rattle.dg_cli.specs.Player.{Stood}
 use Rattle.dg_cli.specs.Ending.{Ending, Ends, NoBoards, FaultAt, Over, is_motes, by_fault, ending_from, ending_line, status_of, up_to, whole_lines, used, is_over, script_of, ending_of}
-use Rattle.dg_cli.specs.Outcome.{IsFront, line_played, played_text, closing, AllPlayed, IsWholeReport, IsFrontOfReport, IsFrontOfLines, StopsAt, Wrote, Boards, IsCaused}
-use Rattle.dg_cli.specs.Replaying.{StopEnds, Reached, PlayedFront, PlayedUpTo, LinesAnswer, ReadyToEnd, EndsWith, FinishesWith, ScriptReplayed}
+use Rattle.dg_cli.specs.Outcome.{IsFront, line_played, played_text, IsWholeReport, StopsAt, Wrote, Boards, IsCaused}
+use Rattle.dg_cli.specs.Replaying.{StopEnds, Reached, PlayedFront, LinesAnswer, ReadyToEnd, EndsWith, FinishesWith, ScriptReplayed}
 use Rattle.dg_cli.specs.declared.states.Player.{Player}
 use Rattle.dg_cli.specs.declared.script.Place.{Place}
 use Rattle.dg_cli.specs.declared.script.Place.TheVariants.{First, Second, Later}

@@ -1,11 +1,8 @@
 -- The end of a report.
-use Rattle.std.proofs.Common.{◌≡◌, ◌⊎◌, inl, inr, ℕ, suc, ◌+◌, ◌<◌, ◌≤◌, Bool, true, false, ◌||◌, ◌&&◌, ◌==◌, not, List, [], ◌∷◌, ◌++◌, length, map, take, drop, set, refl, append-nil, append_assoc, ap, sym, ◌∙◌, subst, arith}
-use Rattle.std.specs.Prelude.{Option, Some, None, Result, Ok, Err, OnOk, OnErr, option_to_list, slice_get, slice_set, if◌then◌else◌}
-use Rattle.std.specs.List.{flat_map, filter_map, cons_option, list_any, AllByRecursion}
+use Rattle.std.proofs.Common.{◌≡◌, inl, inr, ℕ, suc, ◌<◌, Bool, true, ◌==◌, List, [], ◌∷◌, ◌++◌, length, map, refl, append-nil, append_assoc, ap, sym, ◌∙◌, subst, arith}
+use Rattle.std.specs.Prelude.{Option, Some, None, option_to_list, slice_get, slice_set}
+use Rattle.std.specs.List.{filter_map, cons_option}
 use Rattle.std.proofs.lemmas.Bool.Decides.{nat_tests}
-use Rattle.dg_words.specs.Counts.{Rose}
-use Rattle.dg_base.specs.Outside.{Puts, PutsFront}
-use Rattle.dg_base.proofs.OutsideLemmas.{Puts-join, Puts-nil}
 use Rattle.dg_base.specs.declared.answers.Status.{Status}
 use Rattle.dg_base.specs.declared.answers.Status.TheVariants as status
 use Rattle.dg_nor.specs.Device.{Device, Ran, Halts}
@@ -13,19 +10,12 @@ use Rattle.dg_volume.specs.Store.{Held, held, Stands}
 use Rattle.dg_volume.specs.Told.{told}
 use Rattle.dg_volume.specs.Mounted.{kept_at, Tells}
 use Rattle.dg_volume.specs.declared.volume.Volume.{Volume}
-use Rattle.dg_cli.specs.Script.{Script, script_from}
 use Rattle.dg_cli.specs.Report.{report_line, report_text}
-use Rattle.dg_cli.specs.World.{World, Played, Plays, RunsGolden, mote_line, kept_line, last_lines}
-use Rattle.dg_cli.specs.Boards.{BoardStands, BoardsStand, BoardStopped}
-use Rattle.dg_cli.specs.Player.{Stood, RanOn, CameToStop}
-use Rattle.dg_cli.specs.Ending.{Ending, Ends, NoBoards, FaultAt, Over, is_motes, by_fault, ending_from, ending_line, status_of}
-use Rattle.dg_cli.specs.Outcome.{IsFront, line_played, played_text, closing, AllPlayed, IsWholeReport, IsFrontOfReport, Wrote, Boards, IsCaused}
-use Rattle.dg_cli.specs.Replaying.{kept_told, last_told, Reached, PlayedFront, PlayedUpTo, LinesAnswer, ReadyToEnd, EndsWith, FinishesWith, ScriptReplayed}
+use Rattle.dg_cli.specs.World.{World, mote_line, kept_line, last_lines}
+use Rattle.dg_cli.specs.Boards.{BoardStands}
+use Rattle.dg_cli.specs.Player.{Stood}
+use Rattle.dg_cli.specs.Replaying.{kept_told, last_told, EndsWith, FinishesWith}
 use Rattle.dg_cli.specs.declared.states.Player.{Player}
-use Rattle.dg_cli.specs.declared.script.Place.{Place}
-use Rattle.dg_cli.specs.declared.script.Place.TheVariants.{First, Second, Later}
-use Rattle.dg_cli.specs.declared.script.Line.{Line}
-use Rattle.dg_cli.specs.declared.script.Line.TheVariants.{Motes}
 use Rattle.dg_cli.specs.declared.report.Report.{Report}
 use Rattle.dg_cli.specs.declared.report.Report.TheVariants.{End}
 use Rattle.dg_cli.proofs.PlayLemmas.{First_board, standing, stands_at, set_again, board_stopped}

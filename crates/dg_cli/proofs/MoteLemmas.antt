@@ -1,20 +1,19 @@
 -- What formatting and starting a board give to a world.
-use Rattle.std.proofs.Common.{◌≡◌, ℕ, zero, suc, ◌+◌, ◌-◌, ◌<◌, ◌≤◌, ◌^◌, List, [], ◌∷◌, ◌++◌, length, drop, take, refl, ap, sym, ◌∙◌, subst, arith, lit≤, lit<, get_or}
+use Rattle.std.proofs.Common.{◌≡◌, ℕ, zero, suc, ◌+◌, ◌-◌, ◌<◌, ◌≤◌, ◌^◌, List, [], length, drop, take, refl, ap, sym, ◌∙◌, subst, arith, lit≤, lit<, get_or}
 use Rattle.dg_object.specs.Object.{IsRow}
 use Rattle.dg_volume.specs.Store.{golden_row}
 use Rattle.dg_cli.specs.Script.{IsGolden}
-use Rattle.dg_cli.specs.declared.script.Golden.{Golden as GoldenImage}
 use Rattle.std.proofs.lemmas.List.{drop-take, take-take}
 use Rattle.std.proofs.lemmas.Nat.{from_be_bytes-to_be_bytes_4}
 use Rattle.std.specs.Int.{from_be_bytes, to_be_bytes, w32}
-use Rattle.std.specs.Prelude.{slice_index_or, Option, Some, None}
+use Rattle.std.specs.Prelude.{slice_index_or}
 use Rattle.dg_base.specs.Crc.{crc_of}
-use Rattle.dg_object.specs.Object.{content, head_of}
-use Rattle.dg_object.specs.Descriptor.{Details, IsDescriptor, IsHead}
-use Rattle.dg_volume.specs.Store.{Store, Stands, fresh, page_in, program}
+use Rattle.dg_object.specs.Object.{content}
+use Rattle.dg_object.specs.Descriptor.{Details, IsDescriptor}
+use Rattle.dg_volume.specs.Store.{Store, page_in, program}
 use Rattle.dg_volume.specs.Started.{Starts}
 use Rattle.dg_volume.specs.declared.starting.Started.{Started}
-use Rattle.dg_volume.specs.Start.{Start, start_of}
+use Rattle.dg_volume.specs.Start.{Start}
 use Rattle.dg_cli.specs.Player.{ResetTo}
 use Rattle.dg_cli.specs.declared.states.Running.{Running}
 use Rattle.dg_cli.specs.World.{start_line, length_in}

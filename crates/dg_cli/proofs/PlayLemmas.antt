@@ -1,17 +1,17 @@
 -- What playing a line does to a world.
-use Rattle.std.proofs.Common.{◌≡◌, ◌≢◌, ◌⊎◌, inl, inr, ℕ, ◌+◌, ◌-◌, ◌<◌, ◌≤◌, ◌^◌, Bool, true, false, List, [], ◌∷◌, ◌++◌, length, drop, take, get_or, map, set, ◌==◌, refl, ap, sym, ◌∙◌, subst, arith, min}
+use Rattle.std.proofs.Common.{◌≡◌, ◌≢◌, inl, inr, ℕ, ◌+◌, ◌<◌, ◌≤◌, Bool, true, false, List, [], ◌∷◌, length, get_or, map, set, ◌==◌, refl, ap, sym, ◌∙◌, subst, arith}
 use Rattle.std.specs.Prelude.{slice_index_or, slice_get, slice_set, Option, Some, None, Result, Ok, Err, IfOk, OnOk, IsErrOf, option_to_list, if◌then◌else◌}
 use Rattle.dg_words.specs.Counts.{Rose}
 use Rattle.dg_nor.specs.Device.{Device}
 use Rattle.dg_base.specs.Crc.{crc_of}
 use Rattle.dg_object.specs.Object.{Row, IsRow, content, object}
-use Rattle.dg_object.specs.Descriptor.{Details, details, IsDescriptor}
-use Rattle.dg_volume.specs.Store.{Store, App, Held, held, held_whole, golden_row, fresh, Stands}
+use Rattle.dg_object.specs.Descriptor.{details}
+use Rattle.dg_volume.specs.Store.{Store, App, held, golden_row, fresh, Stands}
 use Rattle.dg_volume.specs.GoldenLaws.{GoldenLaws}
 use Rattle.dg_volume.specs.Start.{Start, start_of, start_from, golden_start, golden_pages, sound}
-use Rattle.dg_cli.specs.World.{World, Outcome, formatted, started, reset_by_rules, golden_of_world, start_line, length_in, LineStep, GoldenAt, StartsGolden}
-use Rattle.dg_cli.specs.Boards.{FirstUsed, BoardStands, BoardsStand, BoardStopped}
-use Rattle.dg_cli.specs.Player.{KeepsGoldenRow, golden_app, InWorld, Stood, RanOn, CameToStop, ResetTo, RestartTo, PlayedTo, PlayedAs, LacksBoard}
+use Rattle.dg_cli.specs.World.{World, Outcome, formatted, started, golden_of_world, start_line, length_in}
+use Rattle.dg_cli.specs.Boards.{BoardStands, BoardStopped}
+use Rattle.dg_cli.specs.Player.{KeepsGoldenRow, golden_app, Stood, RanOn, CameToStop, RestartTo, PlayedTo, PlayedAs, LacksBoard}
 use Rattle.dg_cli.specs.Script.{AllowedAt, UsesBoard}
 use Rattle.dg_cli.specs.declared.mote.PlayStop.{PlayStop}
 use Rattle.dg_cli.specs.declared.mote.PlayStop.TheVariants.{NoBoard, FlashFault, NotAVolume, NoImage}

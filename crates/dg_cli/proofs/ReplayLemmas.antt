@@ -1,7 +1,7 @@
 -- What the steps of a replay do, line by line.
 use Rattle.std.proofs.Common.{◌≡◌, ◌⊎◌, inl, inr, ℕ, ◌+◌, ◌<◌, ◌≤◌, Bool, true, false, ◌||◌, List, [], ◌∷◌, ◌++◌, length, map, take, drop, refl, append-nil, append_assoc, ap, sym, ◌∙◌, subst, arith}
 use Rattle.std.specs.Prelude.{Option, Some, None, Result, Ok, Err, OnOk, OnErr, option_to_list}
-use Rattle.std.specs.List.{flat_map, AllByRecursion, list_any}
+use Rattle.std.specs.List.{AllByRecursion, list_any}
 use Rattle.std.proofs.lemmas.List.{take-append-drop}
 use Rattle.std.proofs.lemmas.Grind.{flat_map-append}
 use Rattle.dg_base.proofs.OutsideLemmas.{Puts-join, Puts-nil}
@@ -11,11 +11,11 @@ use Rattle.dg_nor.specs.Device.{Device}
 use Rattle.dg_cli.specs.Script.{Script, script_from, with_line, line_of, place_after}
 use Rattle.dg_cli.specs.Report.{report_line, report_text}
 use Rattle.dg_cli.specs.World.{World, LineStep, Played, Plays, RunsGolden}
-use Rattle.dg_cli.specs.Boards.{BoardsStand, BoardStopped}
+use Rattle.dg_cli.specs.Boards.{BoardsStand}
 use Rattle.dg_cli.specs.Player.{Stood, PlayedTo, PlayedAs}
 use Rattle.dg_cli.specs.Ending.{is_motes}
 use Rattle.dg_cli.specs.Outcome.{IsFront, line_played, played_text}
-use Rattle.dg_cli.specs.Replaying.{stop_of, TextPlayed, TextTold, TextCut, NothingDone, TextAnswer, Reached, PlayedFront, PlayedUpTo, LinesAnswer}
+use Rattle.dg_cli.specs.Replaying.{stop_of, TextPlayed, TextTold, TextCut, NothingDone, TextAnswer, Reached, PlayedFront, LinesAnswer}
 use Rattle.dg_cli.specs.declared.states.Player.{Player}
 use Rattle.dg_cli.specs.declared.script.Place.{Place}
 use Rattle.dg_cli.specs.declared.script.Place.TheVariants.{First, Second, Later}

@@ -1,5 +1,5 @@
 -- What the top call did.
-use Rattle.std.proofs.Common.{◌≡◌, ◌≢◌, ◌⊎◌, inl, inr, ℕ, ◌<◌, ◌≤◌, Bool, true, false, List, [], ◌∷◌, ◌++◌, length, map, get_or, length-append, ◌==◌, ◌&&◌, refl, append-nil, ap, sym, ◌∙◌, subst, arith}
+use Rattle.std.proofs.Common.{◌≡◌, ◌≢◌, ◌⊎◌, inl, inr, ℕ, ◌<◌, Bool, true, false, List, [], ◌∷◌, ◌++◌, length, map, get_or, length-append, ◌==◌, ◌&&◌, refl, ap, sym, ◌∙◌, subst, arith}
 use Rattle.std.specs.Prelude.{Option, Some, None, nat_lt, nat_eq, if◌then◌else◌}
 use Rattle.std.specs.Cmp.Lexicographic.{pointwise}
 use Rattle.std.specs.Bool.{OnTrue, OnFalse}
@@ -7,18 +7,17 @@ use Rattle.std.proofs.lemmas.Bool.{eqb-true, eq-eqb}
 use Rattle.std.proofs.lemmas.List.{length-map}
 use Rattle.std.specs.List.{list_any}
 use Rattle.std.proofs.lemmas.Bool.Decides.{nat_tests}
-use Rattle.dg_base.specs.Outside.{Takes, Puts, PutsFront, AtEnd}
+use Rattle.dg_base.specs.Outside.{Takes, AtEnd}
 use Rattle.dg_base.proofs.OutsideLemmas.{Puts-nil, Takes-told, Takes-all}
 use Rattle.dg_base.specs.declared.answers.Status.{Status}
 use Rattle.dg_base.specs.declared.answers.Status.TheVariants.{Done, Memory, Usage, BadInput, ReadFault, WriteFault, FlashFault, NotAVolume, Refused, LinkFault, TooLong, TooMany, NoBoard, NoImage}
 use Rattle.dg_nor.specs.Device.{Device}
-use Rattle.dg_cli.specs.World.{World, Played}
+use Rattle.dg_cli.specs.World.{Played}
 use Rattle.dg_cli.specs.Boards.{BoardStopped}
 use Rattle.dg_cli.specs.Script.{Script}
 use Rattle.dg_cli.specs.Ending.{Ending, Ends, NoBoards, is_motes, by_fault, ending_from, ending_of, status_of, script_of, is_over}
 use Rattle.dg_cli.specs.Outcome.{IsFront, ReadEnough, IsCaused, Replayed}
 use Rattle.dg_cli.specs.Replaying.{ScriptReplayed}
-use Rattle.dg_cli.specs.declared.script.Line.{Line}
 use Rattle.dg_cli.proofs.ReplayLemmas.{plays_none}
 use Rattle.dg_cli.proofs.EndLemmas.{is_over-true}
 

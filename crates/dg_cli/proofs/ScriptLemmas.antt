@@ -1,10 +1,10 @@
 -- What the lines of a script say, from the answers of their readers.
-use Rattle.std.proofs.Common.{◌≡◌, ℕ, ◌*◌, ◌%◌, ◌<◌, ◌≤◌, ◌⊎◌, ◌&&◌, ◌==◌, nat_le, inl, inr, Bool, true, false, if◌then◌else◌, IsTrue, List, [], ◌∷◌, length, take, drop, codes, Option, Some, None, Result, Ok, Err, IfOk, All, Any, refl, sym, ap, ◌∙◌, subst, arith}
+use Rattle.std.proofs.Common.{◌≡◌, ℕ, ◌%◌, ◌≤◌, ◌⊎◌, ◌&&◌, ◌==◌, nat_le, inl, inr, Bool, true, false, if◌then◌else◌, List, [], ◌∷◌, length, take, drop, codes, Option, Some, None, Result, Ok, Err, IfOk, Any, refl, sym, ap, ◌∙◌, subst, arith}
 use Rattle.std.proofs.lemmas.Bool.Decides.{nat_tests}
 use Rattle.dg_base.specs.Numbers.{number_of}
 use Rattle.dg_base.specs.Texts.{names}
 use Rattle.dg_cli.specs.Words.{words_of, one_of, three_of, same}
-use Rattle.dg_cli.specs.Script.{◌>>=◌, guarded, image_of, digits_of, content_of, motes_of, golden_of, reset_of, IsGolden, FitsLine, AllowedAt, is_comment, verb_line, said, line_of}
+use Rattle.dg_cli.specs.Script.{◌>>=◌, guarded, image_of, digits_of, content_of, motes_of, golden_of, reset_of, FitsLine, AllowedAt, is_comment, verb_line, said, line_of}
 use Rattle.dg_cli.specs.Reading.{Reads}
 use Rattle.dg_cli.specs.declared.script.Line.{Line}
 use Rattle.dg_cli.specs.declared.script.Line.TheVariants.{Nothing, Motes, Golden, Reset}

@@ -1,8 +1,8 @@
 -- How a text splits into words.
-use Rattle.std.proofs.Common.{◌≡◌, ◌≢◌, ℕ, zero, suc, ◌+◌, ◌<◌, ◌≤◌, Bool, true, false, List, [], ◌∷◌, ◌++◌, length, drop, take, get_or, refl, ap, sym, ◌∙◌, arith, add-one, cond, nat_eq, ◌==◌, subst, drop-cons, length-drop}
+use Rattle.std.proofs.Common.{◌≡◌, ◌≢◌, ℕ, zero, suc, ◌+◌, ◌<◌, ◌≤◌, false, List, [], ◌∷◌, length, drop, take, get_or, refl, ap, sym, ◌∙◌, arith, add-one, ◌==◌, subst, drop-cons, length-drop}
 use Rattle.std.proofs.lemmas.List.{get_or-drop}
 use Rattle.std.proofs.lemmas.Bool.Decides.{nat_tests}
-use Rattle.dg_cli.specs.Words.{Split, split_of, words_of, with_word}
+use Rattle.dg_cli.specs.Words.{split_of, words_of, with_word}
 
 -- a space in front changes no word
 words_of-space : (cs : List ℕ) → words_of (32 ∷ cs) ≡ words_of cs

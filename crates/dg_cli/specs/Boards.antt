@@ -1,5 +1,5 @@
 -- What a replay leaves of the boards. It uses the first one alone.
-use Rattle.std.specs.Prelude.{◌≡◌, ◌⊎◌, ℕ, ◌≤◌, true, List, slice_get, slice_set, Option, Some, None}
+use Rattle.std.specs.Prelude.{◌≡◌, ◌⊎◌, ◌≤◌, true, List, slice_get, slice_set, Option, Some, None}
 use Rattle.dg_words.specs.Counts.{Rose}
 use Rattle.dg_nor.specs.Device.{Device}
 use Rattle.dg_volume.specs.Store.{Stands}

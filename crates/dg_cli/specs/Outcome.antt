@@ -1,10 +1,9 @@
 -- What a replay did: the lines that it played, what it wrote, and how it left the boards.
-use Rattle.std.specs.Prelude.{◌≡◌, ◌≢◌, ◌⊎◌, ℕ, ◌+◌, ◌<◌, ◌≤◌, true, false, List, [], ◌∷◌, ◌++◌, length, map, slice_set, slice_get, All, codes, Option, Some, None}
+use Rattle.std.specs.Prelude.{◌≡◌, ◌⊎◌, ℕ, true, List, [], ◌∷◌, ◌++◌, length, map, codes, Option, Some, None}
 use Rattle.std.specs.List.{flat_map, AllByRecursion}
-use Rattle.dg_words.specs.Counts.{Rose}
 use Rattle.dg_base.specs.Outside.{Takes, Puts, PutsFront, AtEnd}
 use Rattle.dg_base.specs.declared.answers.Status.{Status}
-use Rattle.dg_base.specs.declared.answers.Status.TheVariants.{Done, Memory, Usage, BadInput, ReadFault, WriteFault, FlashFault, NotAVolume, Refused, LinkFault, TooLong, TooMany, NoBoard, NoImage}
+use Rattle.dg_base.specs.declared.answers.Status.TheVariants.{Done, Memory, Usage, BadInput, ReadFault, WriteFault, FlashFault, TooLong, NoBoard}
 use Rattle.dg_nor.specs.Device.{Device}
 use Rattle.dg_cli.specs.Boards.{BoardsStand, BoardStopped}
 use Rattle.dg_cli.specs.Report.{report_text}

@@ -10,10 +10,9 @@ use Rattle.dg_cli.specs.World.{World, golden_of_world, start_line, LineStep, Gol
 use Rattle.dg_cli.specs.Boards.{BoardsStand, BoardStopped}
 use Rattle.dg_cli.specs.declared.states.Player.{Player}
 use Rattle.dg_cli.specs.declared.states.Running.{Running}
-use Rattle.dg_cli.specs.declared.script.Place.{Place}
-use Rattle.dg_cli.specs.declared.script.Place.TheVariants.{First, Second, Later}
+use Rattle.dg_cli.specs.declared.script.Place.TheVariants.{First, Later}
 use Rattle.dg_cli.specs.declared.script.Line.{Line}
-use Rattle.dg_cli.specs.declared.script.Line.TheVariants.{Nothing, Motes, Golden, Reset}
+use Rattle.dg_cli.specs.declared.script.Line.TheVariants.{Motes}
 use Rattle.dg_cli.specs.declared.report.Report.{Report}
 use Rattle.dg_cli.specs.declared.mote.PlayStop.{PlayStop}
 use Rattle.dg_cli.specs.declared.mote.PlayStop.TheVariants.{NoBoard, FlashFault, NotAVolume, NoImage}

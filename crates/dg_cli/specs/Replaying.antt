@@ -1,5 +1,5 @@
 -- What the steps of a replay do, line by line.
-use Rattle.std.specs.Prelude.{◌≡◌, ◌⊎◌, ℕ, ◌+◌, ◌<◌, ◌≤◌, Bool, true, false, List, [], ◌∷◌, ◌++◌, length, map, Option, Some, None, Result, Ok, Err, option_to_list}
+use Rattle.std.specs.Prelude.{◌≡◌, ◌⊎◌, ℕ, Bool, false, List, [], ◌∷◌, ◌++◌, length, map, Option, Some, None, Result, Ok, Err, option_to_list}
 use Rattle.std.specs.List.{AllByRecursion, list_any}
 use Rattle.dg_base.specs.Outside.{Puts, PutsFront}
 use Rattle.dg_nor.specs.Device.{Device}
@@ -13,7 +13,7 @@ use Rattle.dg_base.specs.declared.answers.Status.TheVariants as status
 use Rattle.dg_cli.specs.World.{World, Played, Plays, RunsGolden, mote_line, last_lines}
 use Rattle.dg_cli.specs.Boards.{BoardsStand, BoardStopped}
 use Rattle.dg_cli.specs.Player.{Stood, PlayedTo}
-use Rattle.dg_cli.specs.Ending.{Ending, NoBoards, FaultAt, is_motes, ending_line, status_of}
+use Rattle.dg_cli.specs.Ending.{Ending, NoBoards, FaultAt, is_motes, ending_line}
 use Rattle.dg_cli.specs.Outcome.{AllPlayed, closing, Wrote, Boards, IsCaused, IsFront, line_played, played_text}
 use Rattle.dg_cli.specs.declared.states.Player.{Player}
 use Rattle.dg_cli.specs.declared.script.Place.{Place}

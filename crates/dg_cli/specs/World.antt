@@ -1,5 +1,5 @@
 -- A world of one mote, and the runs of its rules.
-use Rattle.std.specs.Prelude.{◌≡◌, ◌⊎◌, ℕ, ◌+◌, List, [], ◌∷◌, ◌++◌, length, take, drop, slice_index_or, Option, Some, None}
+use Rattle.std.specs.Prelude.{◌≡◌, ◌⊎◌, ℕ, ◌+◌, List, [], ◌∷◌, length, take, drop, slice_index_or, Option, Some, None}
 use Rattle.std.specs.List.{filter_map}
 use Rattle.std.specs.Int.{from_be_bytes, w32}
 use Rattle.dg_base.specs.Crc.{crc_of}

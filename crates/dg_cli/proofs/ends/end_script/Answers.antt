@@ -1,5 +1,5 @@
-use Rattle.std.proofs.Common.{◌≡◌, ◌≢◌, ap, subst, Bool, not, true, false, ◌∙◌, sym}
-use Rattle.dg_cli.proofs.EndLemmas.{over_ends, short_ends, script_ends, at_over, at_ended}
+use Rattle.std.proofs.Common.{◌≡◌, ◌≢◌, ◌∙◌, sym}
+use Rattle.dg_cli.proofs.EndLemmas.{short_ends, script_ends, at_over, at_ended}
 use Rattle.dg_cli.proofs.ReplayLemmas.{rose_later}
 use Rattle.dg_cli.specs.declared.script.Place.TheVariants.{First, Second, Later}
 use Rattle.dg_cli.proofs.ends.end_script.Goals as goal

@@ -1,4 +1,4 @@
-use Rattle.std.proofs.Common.{refl, not, length, map}
+use Rattle.std.proofs.Common.{not}
 use Rattle.std.proofs.lemmas.List.{length-map}
 use Rattle.dg_cli.proofs.EndLemmas.{stopped_ends, replayed_as}
 use Rattle.dg_cli.proofs.ReplayLemmas.{rose_later, rose_first}

@@ -1,4 +1,4 @@
-use Rattle.std.proofs.Common.{◌≡◌, ◌<◌, ◌≤◌, length, take, sym, arith}
+use Rattle.std.proofs.Common.{◌≡◌, length, take, arith}
 use Rattle.dg_cli.proofs.EndLemmas.{taken_length, used_all, used_front}
 use Rattle.dg_cli.proofs.ends.used_length.Goals as goal
 

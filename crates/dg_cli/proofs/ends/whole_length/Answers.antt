@@ -1,4 +1,4 @@
-use Rattle.std.proofs.Common.{◌≡◌, ◌<◌, ◌≤◌, length, take, sym, ap, ◌∙◌, arith}
+use Rattle.std.proofs.Common.{◌≡◌, take, sym, ap, ◌∙◌, arith}
 use Rattle.dg_cli.specs.Ending.{whole_lines}
 use Rattle.dg_cli.proofs.EndLemmas.{whole_here, whole_front, whole_none}
 use Rattle.dg_cli.proofs.ends.whole_length.Goals as goal

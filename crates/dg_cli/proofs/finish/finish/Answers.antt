@@ -1,7 +1,7 @@
-use Rattle.std.proofs.Common.{◌≡◌, ◌<◌, length, ap, Err, arith}
+use Rattle.std.proofs.Common.{◌<◌, length, ap, Err}
 use Rattle.dg_volume.proofs.StartLemmas.{tells_store}
 use Rattle.dg_cli.proofs.PlayLemmas.{first_board, not_empty, stands_at}
-use Rattle.dg_cli.proofs.FinishLemmas.{finished_as, finish_stopped, board_there, no_boards}
+use Rattle.dg_cli.proofs.FinishLemmas.{finished_as, finish_stopped, no_boards}
 use Rattle.dg_cli.proofs.finish.finish.Goals as goal
 
 pub returns-then-is_empty-clause-finishes : goal.returns-then-is_empty-clause-finishes

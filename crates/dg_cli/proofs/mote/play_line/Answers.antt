@@ -1,4 +1,4 @@
-use Rattle.std.proofs.Common.{◌<◌, arith, length}
+use Rattle.std.proofs.Common.{◌<◌, length}
 use Rattle.dg_cli.proofs.PlayLemmas.{first_board, not_empty, golden_line_played, reset_line_played, golden_uses, board_stopped}
 use Rattle.dg_cli.proofs.mote.play_line.Goals as goal
 

@@ -1,8 +1,4 @@
-use Rattle.std.proofs.Common.{◌≡◌, ◌<◌, ◌≤◌, ◌+◌, List, ◌∷◌, drop, length, refl, arith, Bool}
-use Rattle.std.specs.Prelude.{slice_range}
-use Rattle.std.specs.Str.Lines.{lines}
-use Rattle.dg_words.specs.Counts.{Rose}
-use Rattle.dg_cli.specs.Replaying.{Reached}
+use Rattle.std.proofs.Common.{◌<◌, length, refl, arith}
 use Rattle.dg_cli.proofs.ReplayLemmas.{reached_first, reached_next, reached_texts, stopped_at, rose_later}
 use Rattle.dg_cli.proofs.replay.play_lines.Goals as goal
 

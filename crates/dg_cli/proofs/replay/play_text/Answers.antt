@@ -1,4 +1,3 @@
-use Rattle.std.proofs.Common.{refl, inl}
 use Rattle.dg_cli.proofs.replay.play_text.Goals as goal
 
 pub returns-in-Ok-clause-played : goal.returns-in-Ok-clause-played

@@ -1,4 +1,4 @@
-use Rattle.std.proofs.Common.{rules, ◌≡◌, ℕ, ◌<◌, ◌≤◌, length, sym, ap, ◌∙◌, arith}
+use Rattle.std.proofs.Common.{rules, ◌≡◌, ◌<◌, length, sym, ap, ◌∙◌}
 use Rattle.dg_cli.specs.Words.{words_of}
 use Rattle.dg_cli.proofs.WordLemmas.{no_word, first_word, word_begins}
 use Rattle.dg_cli.proofs.words.next_word.Goals as goal
