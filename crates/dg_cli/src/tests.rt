@@ -1,7 +1,9 @@
 //! The worked rows, and each status once.
+ghost use Rattle.std.specs.Prelude.{◌≤◌};
+
 use crate::run;
 use dg_base::{MemSink, MemSource, Status};
-use dg_nor::Board;
+use dg_nor::{Board, Fused, Nor};
 use std::alloc::{AllocError, Global};
 use std::test::Fail;
 
@@ -20,13 +22,13 @@ fn command(alloc: Global, word: &str) -> Result<Vec<String>, AllocError> {
 }
 
 /// Runs `word` over a script, with chosen calls that fail and so much room for what is written.
-fn answer(
+fn answer<N: Nor>(
     alloc: Global,
     word: &str,
     script: Vec<u8>,
     failing: (Vec<u32>, Vec<u32>),
     room: usize,
-    boards: &mut Vec<Board>,
+    boards: &mut Vec<N>,
 ) -> Result<Told, AllocError> {
     let words = command(alloc, word)?;
     let mut input = MemSource::new(script, failing.0);
@@ -95,7 +97,7 @@ fn each_status_comes(rt: HostRuntime) -> Result<(), Fail> {
     let alloc = rt.alloc();
     let script: &[u8] = b"motes 1\ngolden base 0 hex:41\nreset 0 0 0\n";
     // The word, the reads and the writes that fail, the room and the boards.
-    let rows: [(&str, u32, u32, usize, usize, Status, &[u8]); 5] = [
+    let rows: [(&str, u32, u32, usize, usize, Status, &[u8]); 8] = [
         ("fly", 0, 0, 99, 1, Status::Usage, b"usage\n"),
         ("replay", 1, 0, 99, 1, Status::ReadFault, b""),
         (
@@ -117,6 +119,18 @@ fn each_status_comes(rt: HostRuntime) -> Result<(), Fail> {
             b"start 0 0 1 1 58e5\n",
         ),
         ("replay", 0, 0, 99, 0, Status::NoBoard, b"noboard 1 0\n"),
+        ("fly", 0, 1, 99, 1, Status::WriteFault, b""),
+        ("replay", 0, 1, 99, 0, Status::WriteFault, b""),
+        // The report of a line is one write, and so are the last lines.
+        (
+            "replay",
+            0,
+            3,
+            99,
+            1,
+            Status::Done,
+            b"start 0 0 1 1 58e5\nend 1\nmote 0 on 0 1\n",
+        ),
     ];
     for (word, read, write, room, count, status, report) in rows {
         let mut boards = Vec::new(alloc);
@@ -129,6 +143,29 @@ fn each_status_comes(rt: HostRuntime) -> Result<(), Fail> {
         assert_eq!(rt; told.status, status);
         assert_eq!(rt; told.written.as_slice(), report);
     }
+    Ok(())
+}
+
+/// Replays a script of one reset over a board that is cut off in its operation with this number.
+fn cut_at(alloc: Global, after: u32) -> Result<Told, AllocError>
+    requires { 1 ≤ after }
+{
+    let mut board = Board::memory(alloc)?;
+    let mut boards = Vec::new(alloc);
+    boards.push(Fused::new(&mut board, Some(after), &[0]))?;
+    let script = with_golden(alloc, 1)?;
+    let none = (Vec::new(alloc), Vec::new(alloc));
+    answer(alloc, "replay", script, none, 99, &mut boards)
+}
+
+#[test]
+fn a_board_that_stops_ends_the_replay(rt: HostRuntime) -> Result<(), Fail> {
+    let told = cut_at(rt.alloc(), 1)?;
+    assert_eq!(rt; told.status, Status::FlashFault);
+    assert_eq!(rt; told.written.as_slice(), b"".as_slice());
+
+    let told = cut_at(rt.alloc(), 1000)?;
+    assert_eq!(rt; told.status, Status::Done);
     Ok(())
 }
 
