@@ -1,12 +1,12 @@
 -- Cleared bits that are counted byte by byte.
-use Rattle.std.proofs.Common.{◌≡◌, ℕ, ◌+◌, ◌-◌, ◌*◌, ◌/◌, ◌^◌, ◌<◌, ◌≤◌, min, List, [], ◌∷◌, ◌++◌, length, get_or, take, drop, refl, sym, ap, ◌∙◌, subst, arith, append_assoc, length-append}
+use Rattle.std.proofs.Common.{◌≡◌, ℕ, ◌+◌, ◌-◌, ◌*◌, ◌/◌, ◌^◌, ◌<◌, ◌≤◌, min, List, [], ◌∷◌, ◌++◌, length, get_or, take, drop, refl, sym, ap, ◌∙◌, arith, append_assoc}
 use Rattle.std.specs.Int.{count_zeros, w8}
 use Rattle.std.proofs.lemmas.List.{take_at, take_more, get_or_push, append-nil, take_all, take-take}
 use Rattle.std.proofs.Math.Seq.{take-append-add}
 use Rattle.dg_words.specs.Bits.{cleared_bits}
 use Rattle.dg_words.specs.Cells.{part}
 use Rattle.dg_words.proofs.BitsLemmas.{shifted_byte, zeros-byte, length-cleared_bits, get_or-cleared_bits, cleared_bits_from, take-cleared_bits, cleared_bits-more, same_count}
-use Rattle.dg_words.proofs.CellLemmas.{length-part, part-append-part}
+use Rattle.dg_words.proofs.CellLemmas.{part-append-part}
 
 -- ---- one byte more
 

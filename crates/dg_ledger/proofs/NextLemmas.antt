@@ -1,15 +1,15 @@
 -- The next bit of a ledger: the program that clears it, and what a stop leaves.
-use Rattle.std.proofs.Common.{◌≡◌, ◌≢◌, ◌⊎◌, ℕ, ◌+◌, ◌-◌, ◌*◌, ◌/◌, ◌%◌, ◌^◌, ◌<◌, ◌≤◌, min, Bool, true, false, List, [], ◌∷◌, length, get_or, bit_and, refl, sym, ap, ◌∙◌, subst, inl, inr, ⊎_elim, arith}
+use Rattle.std.proofs.Common.{◌≡◌, ◌⊎◌, ℕ, ◌+◌, ◌-◌, ◌*◌, ◌/◌, ◌%◌, ◌^◌, ◌<◌, ◌≤◌, min, Bool, true, false, List, [], ◌∷◌, length, get_or, bit_and, refl, sym, ap, ◌∙◌, subst, inl, inr, ⊎_elim, arith}
 use Rattle.std.proofs.lemmas.Bool.{cases_lt, cases_eq, ltb-true}
 use Rattle.std.specs.Prelude.{◌&&◌, nat_lt}
 use Rattle.std.specs.List.{list_all}
 use Rattle.dg_words.specs.Bits.{cleared_bits}
 use Rattle.dg_words.specs.Cells.{part, overwritten, AreBytes}
 use Rattle.dg_words.proofs.ByteLemmas.{AreBytes-nil, AreBytes-cons}
-use Rattle.dg_words.proofs.BitsLemmas.{shifted_next, and_next, byte_next, byte_before, byte_after, other_bytes, length-cleared_bits, get_or-cleared_bits, cleared_bits_from, one_count, AreBytes-cleared_bits}
+use Rattle.dg_words.proofs.BitsLemmas.{shifted_next, and_next, byte_next, byte_before, byte_after, other_bytes, get_or-cleared_bits, cleared_bits_from, one_count}
 use Rattle.dg_words.proofs.CellLemmas.{length-part, get_or-part, part-overwritten_at, part-overwritten_apart}
 use Rattle.dg_nor.specs.Chip.{sector, blank, programmed, CutProgram}
-use Rattle.dg_nor.proofs.ChipLemmas.{length-sector, length-programmed, get_or-programmed, get_or-programmed_outside, part-programmed_apart, programmed-blank, part-blank, get_or-blank, length-blank, cut_one_bit}
+use Rattle.dg_nor.proofs.ChipLemmas.{length-programmed, get_or-programmed, get_or-programmed_outside, part-programmed_apart, programmed-blank, part-blank, get_or-blank, length-blank, cut_one_bit}
 use Rattle.dg_nor.specs.Device.{Device, Ran, Halts, Halted}
 use Rattle.dg_nor.specs.Trail.{operations}
 use Rattle.dg_nor.proofs.DeviceLemmas.{Halted_once}
@@ -123,7 +123,7 @@ front_text front bytes text new small long p =
     let o : new ≡ overwritten (blank (front + bytes)) 0 text = p ∙ programmed-blank (front + bytes) 0 text small (omega arith) in (
       ap (λ c. part c 0 front) o ∙ ap (part (overwritten (blank (front + bytes)) 0 text) 0) (sym long) ∙ part-overwritten_at (blank (front + bytes)) 0 text (omega arith),
       ap (λ c. part c front bytes) o ∙ part-overwritten_apart (blank (front + bytes)) 0 text front bytes (omega arith) (omega arith) (inr (omega arith))
-      ∙ part-blank (front + bytes) front bytes (omega arith) ∙ no_bits bytes,
+          ∙ part-blank (front + bytes) front bytes (omega arith) ∙ no_bits bytes,
     )
 
 both : (a b : Bool) → a && b ≡ true → (a ≡ true) × (b ≡ true)

@@ -1,4 +1,4 @@
-use Rattle.std.proofs.Common.{◌≡◌, ◌∷◌, ◌++◌, [], get_or, refl, ap, ◌∙◌, arith}
+use Rattle.std.proofs.Common.{refl}
 use Rattle.dg_ledger.proofs.CountLemmas.{piece_front}
 use Rattle.dg_ledger.proofs.counting.count_piece.Goals as goal
 
