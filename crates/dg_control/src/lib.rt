@@ -1,8 +1,10 @@
 //! The control sectors: what a volume commits as a whole, and how a place in a control sector spells it.
 #![tactic(auto)]
 
+mod laws;
 mod place;
 mod snapshot;
 
+pub use laws::a_place_spells_one_snapshot;
 pub use place::{PLACE, read_place, write_place};
 pub use snapshot::{Order, Program, SlotState, Snapshot};

@@ -1,5 +1,5 @@
 //! What a volume commits as a whole: its slots, its program memory and the kept order.
-ghost use Rattle.std.specs.Prelude.{IsTrue};
+ghost use Rattle.std.specs.Prelude.{◌≡◌, length, IsTrue};
 ghost use Rattle.dg_control.specs.Ranges.{snapshot_fits};
 
 /// A slot, whose pages count only where it is Live.
@@ -35,5 +35,6 @@ pub struct Snapshot {
     pub waived: bool,
     /// Short starts in a row, 0 to 3.
     pub gesture: u8,
+    ghost four_slots: { length slots ≡ 4 },
     ghost in_range: { IsTrue (snapshot_fits slots program order waived gesture) },
 }
