@@ -1,3 +1,4 @@
+pub mod BitsLemmas
 pub mod ByteLemmas
 pub mod CellLemmas
 pub mod ListLemmas

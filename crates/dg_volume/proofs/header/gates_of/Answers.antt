@@ -1,9 +1,8 @@
 use Rattle.std.proofs.Common.{◌≡◌, ℕ, ◌+◌, ◌-◌, ◌*◌, ◌/◌, ◌^◌, ◌<◌, length, get_or, set, min, ap, ◌∙◌, subst, sym, arith}
 use Rattle.std.proofs.lemmas.List.{length-set}
 use Rattle.std.proofs.lemmas.List.Edits.{fill_by_more}
-use Rattle.std.proofs.lemmas.List.FromFn.{fill_by_all}
 use Rattle.dg_volume.specs.Header.{gates_of}
-use Rattle.dg_volume.proofs.HeaderLemmas.{gate_byte}
+use Rattle.dg_words.proofs.BitsLemmas.{shifted_byte, cleared_bits_from}
 use Rattle.dg_volume.proofs.header.gates_of.Goals as goal
 
 pub loop-j-preserved : goal.loop-j-preserved
@@ -12,7 +11,7 @@ loop-j-preserved c =
     let j = c.loop-j.j in
     let f = λ (k : ℕ). 2 ^ (8 - min 8 (c.args.done - 8 * k)) - 1 in
     let cleared : c.min-cleared.result ≡ min 8 (c.args.done - 8 * j) = omega (arith, c.min-cleared.ensures, c.saturating_sub.ensures) in
-    let byte : 255 / 2 ^ c.min-cleared.result ≡ f j = ap (λ n. 255 / 2 ^ n) cleared ∙ gate_byte (min 8 (c.args.done - 8 * j)) (omega arith) in
+    let byte : 255 / 2 ^ c.min-cleared.result ≡ f j = ap (λ n. 255 / 2 ^ n) cleared ∙ shifted_byte (min 8 (c.args.done - 8 * j)) (omega arith) in
     let long : length (set gates j (255 / 2 ^ c.min-cleared.result)) ≡ 9 = length-set gates j (255 / 2 ^ c.min-cleared.result) ∙ c.loop-j.invariant.long in
     record {
       long = long;
@@ -21,4 +20,4 @@ loop-j-preserved c =
 
 pub returns : goal.returns
 unfolding gates_of
-returns c = fill_by_all (λ k. 2 ^ (8 - min 8 (c.args.done - 8 * k)) - 1) c.loop-j.gates 9 0 c.loop-j.invariant.long (λ k h. c.loop-j.invariant.written k (omega arith))
+returns c = cleared_bits_from c.loop-j.gates 9 c.args.done c.loop-j.invariant.long (λ k h. c.loop-j.invariant.written k (omega arith))
