@@ -1,5 +1,7 @@
 -- A place spells one snapshot.
 use Rattle.std.proofs.Common.{◌≡◌, ℕ, zero, suc, ◌+◌, ◌^◌, ◌<◌, Bool, true, false, List, [], ◌∷◌, length, get_or, take, drop, refl, sym, ap, ◌∙◌, arith, IsTrue}
+use native.Mathlib.Nat.{ℕ_set}
+use Rattle.std.proofs.Math.Bool.{Bool-set}
 use mathlib.Core.HLevel.{is_prop→PathP}
 use Rattle.std.specs.Int.{to_be_bytes, from_be_bytes, from_bool, w32}
 use Rattle.std.proofs.lemmas.List.{same_lists, get_or_default}
@@ -77,8 +79,8 @@ same_snapshot s t a b c d e = λ i. record {
   order = c i;
   waived = d i;
   gesture = e i;
-  four_slots = is_prop→PathP (λ j. length (a j) ≡ 4) (λ j. hlevel ()) s.four_slots t.four_slots i;
-  in_range = is_prop→PathP (λ j. IsTrue (snapshot_fits (a j) (b j) (c j) (d j) (e j))) (λ j. hlevel ()) s.in_range t.in_range i;
+  four_slots = is_prop→PathP (λ j. length (a j) ≡ 4) (λ j. hlevel ℕ_set) s.four_slots t.four_slots i;
+  in_range = is_prop→PathP (λ j. IsTrue (snapshot_fits (a j) (b j) (c j) (d j) (e j))) (λ j. hlevel Bool-set) s.in_range t.in_range i;
 }
 
 pub one_snapshot : (place : List ℕ) (s t : Snapshot) → place ≡ place_of s → place ≡ place_of t → s ≡ t

@@ -14,7 +14,7 @@ use crate::{Order, Program, SlotState, Snapshot};
 pub const PLACE: usize = 64;
 
 /// The commit byte of a place that is committed.
-const COMMITTED: u8 = 0x7F;
+pub(crate) const COMMITTED: u8 = 0x7F;
 
 /// The number of the form in which a snapshot is spelled.
 const FORM: u8 = 1;
