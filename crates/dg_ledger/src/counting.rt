@@ -1,5 +1,5 @@
 //! A ledger read from its chip: the text, and how many bits are cleared behind it.
-ghost use Rattle.std.specs.Prelude.{◌≡◌, ◌↔◌, ℕ, ◌+◌, ◌*◌, ◌<◌, ◌≤◌, [], ◌∷◌, ◌++◌, length, IfOk, IfSome, IsNone, IsTrue};
+ghost use Rattle.std.specs.Prelude.{◌≡◌, ◌↔◌, ℕ, ◌+◌, ◌*◌, ◌<◌, ◌≤◌, [], ◌∷◌, ◌++◌, false, length, IfOk, OnOk, IfSome, IsNone, IsTrue};
 ghost use Rattle.dg_words.specs.Bits.{cleared_bits};
 ghost use Rattle.dg_words.specs.Cells.{part};
 ghost use Rattle.dg_nor.specs.Chip.{sector};
@@ -26,6 +26,7 @@ const PIECE: u16 = 64;
 /// Whether the sector begins with the text of a ledger.
 pub(crate) fn has_text<N: Nor>(nor: &mut N) -> Result<bool, Stopped>
     ensures text { IfOk result (λ b. IsTrue b ↔ (part (sector (N.device nor.old).image 0) 0 16 ≡ ledger_text)) }
+    ensures awake { OnOk result ((N.device nor.old).stopped ≡ false) }
     ensures ends { ReadEnds result (N.device nor.old) (N.device nor.new) }
 {
     let mut text = [0; TEXT.len()];

@@ -105,7 +105,7 @@ impl Ledger {
         ensures stopped { OnErr result (Halted (2 + count) (λ _ _. ⊤) (N.device nor.old) (N.device nor.new)) }
     {
         let mut ledger = begin(nor)?;
-        for _ in 0..count {
+        while ledger.count < count {
             ledger.clear_next(nor)?;
         }
         Ok(ledger)

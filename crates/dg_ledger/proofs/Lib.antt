@@ -1,0 +1,3 @@
+pub mod CountLemmas
+pub mod NextLemmas
+pub mod ReadLemmas
