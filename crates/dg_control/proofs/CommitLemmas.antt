@@ -14,7 +14,10 @@ use Rattle.dg_nor.proofs.TrailLemmas.{operations-stepping, last-stepping, Leaves
 use Rattle.dg_ledger.specs.Ledger.{HasCount, count_of, bump_trail, MayBump}
 use Rattle.dg_control.specs.Places.{place_in, LastSpells, AreFree, ChangesOnly, MayWrite}
 use Rattle.dg_control.specs.Store.{Store, Controls, Stands, IsNear, current, room_for, commit_operations, committed, commit_trail, MayCommit}
+use Rattle.dg_control.specs.Mounted.{store_of, IsMounted}
 use Rattle.dg_control.specs.Snapshot.{place_of}
+use Rattle.dg_ledger.specs.declared.ledger.Ledger.{Ledger}
+use Rattle.dg_control.specs.declared.control.Control.{Control}
 use Rattle.dg_control.specs.declared.snapshot.Snapshot.{Snapshot}
 use Rattle.dg_control.proofs.PlacesLemmas.{one_last, one_free, some_written, told_open, free_open, told_whole, free_whole, told_first, free_first}
 
@@ -168,3 +171,57 @@ may_bump c d g s next k left told are same rest whole within may =
     let made : may.store ≡ g + 1 = (Leaves_last (λ before count. count ≡ before) (bump_trail g) k may.store (omega (arith, operations-stepping g 1 (g + 1)))).0 may.allowed ∙ last-stepping g 1 (g + 1) in
     subst (λ (n : ℕ). MayCommit (store_at s g 0) next n d) e (past_last (store_at s g 0) next 4 d (four_operations g) (stands made)))
     (cases_lt k 1)
+
+-- ---- a mounted value
+
+abbrev pub control_of : (l : Ledger) (s : Snapshot) (free : ℕ) → Control
+control_of l s free = record { ledger = l; snapshot = s; free = free }
+
+-- after a commit in the same sector
+pub mounted_here : (c d : List ℕ) (v : Control) (next : Snapshot) (at : ℕ) → IsMounted c v → at + v.free ≡ 32 → 0 < v.free → sector d 0 ≡ sector c 0
+    → ChangesOnly at (sector c (current (count_of v.ledger))) (sector d (current (count_of v.ledger))) → place_in (sector d (current (count_of v.ledger))) at ≡ place_of next → IsMounted d (control_of v.ledger next (v.free - 1))
+mounted_here c d v next at mounted here some same change whole =
+    let old = sector c (current (count_of v.ledger)) in
+    let new = sector d (current (count_of v.ledger)) in
+    record {
+      counted = count_kept c d (count_of v.ledger) same mounted.counted;
+      told = told_whole at old new change next v.free mounted.are_free here some whole;
+      are_free = free_whole at old new change next v.free mounted.are_free here some whole;
+    }
+
+-- after one in the other sector
+pub mounted_next : (d : List ℕ) (g : ℕ) (l : Ledger) (next : Snapshot) → HasCount d (g + 1) → count_of l ≡ g + 1 → ChangesOnly 0 (blank 2048) (sector d (current (g + 1))) → place_in (sector d (current (g + 1))) 0 ≡ place_of next → IsMounted d (control_of l next 31)
+mounted_next d g l next counted told rest whole = record {
+  counted = subst (HasCount d) (sym told) counted;
+  told = subst (λ (n : ℕ). LastSpells (sector d (current n)) next) (sym told) (told_first (sector d (current (g + 1))) next rest whole);
+  are_free = subst (λ (n : ℕ). AreFree (sector d (current n)) 31) (sym told) (free_first (sector d (current (g + 1))) next rest whole);
+}
+
+-- ---- whole acts
+
+pub free_below : (c : List ℕ) (v : Control) → IsMounted c v → v.free < 32
+free_below c v mounted = some_written (sector c (current (count_of v.ledger))) v.snapshot v.free mounted.told mounted.are_free
+
+-- how many operations a commit has
+pub two_here : (c : List ℕ) (v : Control) (next : Snapshot) → IsMounted c v → 0 < v.free → 2 ≡ operations (commit_trail (store_of v) next)
+two_here c v next mounted some = sym (operations_are (store_of v) next 2 (two_operations (count_of v.ledger) v.free some (free_below c v mounted)))
+
+pub four_next : (v : Control) (next : Snapshot) → v.free ≡ 0 → 4 ≡ operations (commit_trail (store_of v) next)
+four_next v next none =
+    sym (operations_are (store_of v) next 4 (ap (λ (f : ℕ). commit_operations (room_for (count_of v.ledger) f)) none ∙ four_operations (count_of v.ledger)))
+
+-- the sectors behind the ledger's operation
+pub record AreReady (old new : List ℕ) (n : ℕ) (next : Snapshot) : Type 0 where
+  pub same : sector new (current n) ≡ sector old (current n)
+  pub rest : ChangesOnly 0 (blank 2048) (sector new (current (n + 1)))
+  pub whole : place_in (sector new (current (n + 1))) 0 ≡ place_of next
+
+pub are_ready : (old mid new : List ℕ) (n : ℕ) (next : Snapshot) → Keeps (current (n + 1)) (current (n + 1) + 1) old mid → ChangesOnly 0 (blank 2048) (sector mid (current (n + 1))) → place_in (sector mid (current (n + 1))) 0 ≡ place_of next
+    → Keeps 0 1 mid new → AreReady old new n next
+are_ready old mid new n next kept rest whole bumped =
+    let other : sector new (current (n + 1)) ≡ sector mid (current (n + 1)) = bumped.behind (current (n + 1)) (omega arith) (omega (arith, current_in (n + 1))) in
+    record {
+      same = bumped.behind (current n) (omega arith) (omega (arith, current_in n)) ∙ sector_kept (current n) kept (omega (arith, current_in n)) (apart n);
+      rest = subst (ChangesOnly 0 (blank 2048)) (sym other) rest;
+      whole = ap (λ (cells : List ℕ). place_in cells 0) other ∙ whole;
+    }
