@@ -4,3 +4,4 @@ pub mod ReadLemmas
 pub mod PlacesLemmas
 pub mod WriteLemmas
 pub mod CommitLemmas
+pub mod FormatLemmas

@@ -19,7 +19,7 @@ use Rattle.dg_control.proofs.PlacesLemmas.{place_commits}
 length-place : (cells : List ℕ) (i : ℕ) → length cells ≡ 2048 → i < 32 → length (place_in cells i) ≡ 64
 length-place cells i whole h = length-part cells (64 * i) 64 (omega arith)
 
-get_or-place : (cells : List ℕ) (i k : ℕ) → k < 64 → get_or (place_in cells i) k 0 ≡ get_or cells (64 * i + k) 0
+pub get_or-place : (cells : List ℕ) (i k : ℕ) → k < 64 → get_or (place_in cells i) k 0 ≡ get_or cells (64 * i + k) 0
 get_or-place cells i k h = get_or-part cells (64 * i) 64 k 0 h
 
 -- two places do not overlap

@@ -7,6 +7,7 @@
 
 mod control;
 mod faults;
+mod formatting;
 mod laws;
 mod place;
 mod reading;
@@ -18,3 +19,6 @@ pub use faults::{CommitFault, MountFault};
 pub use laws::{a_chip_has_one_control, a_mounted_chip_has_control, a_place_spells_one_snapshot};
 pub use place::{PLACE, read_place, write_place};
 pub use snapshot::{Order, Program, SlotState, Snapshot};
+
+#[cfg(test)]
+mod tests;
