@@ -9,6 +9,7 @@ ghost use Rattle.dg_control.specs.declared.snapshot.Order.{Order};
 ghost use Rattle.dg_control.specs.declared.snapshot.Snapshot.{Snapshot};
 
 use crate::{Order, Program, SlotState, Snapshot};
+use byteorder::{BigEndian, ByteOrder};
 
 /// The length of a place.
 pub const PLACE: usize = 64;
@@ -35,8 +36,9 @@ fn slot_bytes(slot: SlotState) -> [u8; 5]
     match slot {
         SlotState::Dirty => [0; 5],
         SlotState::Live { version } => {
-            let version = version.to_be_bytes();
-            [1, version[0], version[1], version[2], version[3]]
+            let mut bytes = [1, 0, 0, 0, 0];
+            BigEndian::write_u32(&mut bytes[1..], version);
+            bytes
         }
     }
 }
@@ -47,8 +49,9 @@ fn program_bytes(program: Program) -> [u8; 6]
     match program {
         Program::Blank => [0; 6],
         Program::Set { image, version } => {
-            let version = version.to_be_bytes();
-            [1, image, version[0], version[1], version[2], version[3]]
+            let mut bytes = [1, image, 0, 0, 0, 0];
+            BigEndian::write_u32(&mut bytes[2..], version);
+            bytes
         }
     }
 }
@@ -56,19 +59,11 @@ fn program_bytes(program: Program) -> [u8; 6]
 fn order_bytes(order: &Order) -> [u8; 9]
     ensures { result ≡ order_bytes order.now }
 {
-    let number = order.number.to_be_bytes();
-    let version = order.version.to_be_bytes();
-    [
-        number[0],
-        number[1],
-        number[2],
-        number[3],
-        order.image,
-        version[0],
-        version[1],
-        version[2],
-        version[3],
-    ]
+    let mut bytes = [0; 9];
+    BigEndian::write_u32(&mut bytes, order.number);
+    bytes[4] = order.image;
+    BigEndian::write_u32(&mut bytes[5..], order.version);
+    bytes
 }
 
 /// The committed place that spells the snapshot.
@@ -95,7 +90,7 @@ fn u32_at(place: &[u8; 64], at: usize) -> u32
     requires { at + 4 ≤ 64 }
     ensures { result ≡ from_be_bytes w32 (take 4 (drop at place.now)) }
 {
-    u32::from_be_bytes([place[at], place[at + 1], place[at + 2], place[at + 3]])
+    BigEndian::read_u32(&place[at..])
 }
 
 /// The slot that is spelled at `at`, if one is.

@@ -106,11 +106,13 @@ fn commits_go_on_from_sector_to_sector(rt: HostRuntime) -> Result<(), Fail> {
     let mut control = Control::format(&mut board, 62, &short_starts(0))?;
     assert_eq!(rt; control, Control::mount(&mut board)?);
     assert_eq!(rt; control.room(), 520_161);
-    for _ in 0..3 {
-        control.commit(&mut board, short_starts(2))?;
-        assert_eq!(rt; control, Control::mount(&mut board)?);
-    }
-    assert_eq!(rt; control.now(), short_starts(2));
+    control.commit(&mut board, short_starts(1))?;
+    assert_eq!(rt; control, Control::mount(&mut board)?);
+    control.commit(&mut board, short_starts(2))?;
+    assert_eq!(rt; control, Control::mount(&mut board)?);
+    control.commit(&mut board, short_starts(3))?;
+    assert_eq!(rt; control, Control::mount(&mut board)?);
+    assert_eq!(rt; control.now(), short_starts(3));
     assert_eq!(rt; control.room(), 520_158);
     Ok(())
 }
