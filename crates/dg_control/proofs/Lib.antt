@@ -1,0 +1,7 @@
+pub mod PlaceLemmas
+pub mod SnapshotLemmas
+pub mod ReadLemmas
+pub mod PlacesLemmas
+pub mod WriteLemmas
+pub mod CommitLemmas
+pub mod FormatLemmas

@@ -1,0 +1,7 @@
+pub mod Snapshot
+pub mod Ranges
+pub mod Places
+pub mod Store
+pub mod Mounted
+pub mod Reads
+pub mod Faults

@@ -1,0 +1,53 @@
+-- What the ledger and the control sectors of a chip stand for: a snapshot, and the commits that are left.
+use Rattle.std.specs.Prelude.{◌≡◌, ◌⊎◌, ℕ, ◌+◌, ◌-◌, ◌*◌, ◌%◌, ◌==◌, if◌then◌else◌, List}
+use Rattle.dg_nor.specs.Chip.{sector}
+use Rattle.dg_nor.specs.Trail.{Trail, stepping, MayLeave}
+use Rattle.dg_ledger.specs.Ledger.{HasCount}
+use Rattle.dg_control.specs.Places.{LastSpells, AreFree}
+use Rattle.dg_control.specs.declared.snapshot.Snapshot.{Snapshot}
+
+-- the sector whose places count, by the generation, which is the ledger's count
+abbrev pub current : ℕ → ℕ
+current generation = 1 + generation % 2
+
+-- the commits that are left
+abbrev pub room_for : (generation free : ℕ) → ℕ
+room_for generation free = free + 32 * (16256 - generation)
+
+-- the chip's bytes say this snapshot and this room
+pub record Controls (c : List ℕ) (s : Snapshot) (room : ℕ) : Type 0 where
+  pub generation : ℕ
+  pub counted : HasCount c generation
+  pub told : LastSpells (sector c (current generation)) s
+  pub free : ℕ
+  pub are_free : AreFree (sector c (current generation)) free
+  pub left : room ≡ room_for generation free
+
+pub record Store : Type 0 where
+  pub snapshot : Snapshot
+  pub room : ℕ
+
+-- the chip stands for the store
+abbrev pub Stands : List ℕ → Store → Type 0
+Stands c store = Controls c store.snapshot store.room
+
+-- the same snapshot, and the same room or one less
+pub record IsNear (before store : Store) : Type 0 where
+  pub snapshot : store.snapshot ≡ before.snapshot
+  pub room : (store.room ≡ before.room) ⊎ (store.room + 1 ≡ before.room)
+
+-- a commit makes 2 operations where a place is free, and else 4
+abbrev pub commit_operations : ℕ → ℕ
+commit_operations room = if room % 32 == 0 then 4 else 2
+
+-- the store after a commit
+abbrev pub committed : Store → Snapshot → Store
+committed s next = record { snapshot = next; room = s.room - 1 }
+
+-- The operations of a commit, the last of which makes the next store.
+abbrev pub commit_trail : Store → Snapshot → Trail Store
+commit_trail s next = stepping s (commit_operations s.room) (committed s next)
+
+-- what a stop may leave where k operations were done
+abbrev pub MayCommit : Store → Snapshot → ℕ → List ℕ → Type 0
+MayCommit s next = MayLeave Stands IsNear (commit_trail s next)

@@ -1,0 +1,96 @@
+//! The control sectors of a chip as they are formatted.
+ghost use Rattle.std.specs.Prelude.{◌≡◌, ℕ, ◌+◌, ◌-◌, ◌/◌, ◌%◌, ◌<◌, ◌≤◌, ⊤, false, slice_index, IfOk, OnOk, OnErr};
+ghost use Rattle.dg_nor.specs.Chip.{sector, blank, Keeps};
+ghost use Rattle.dg_nor.specs.Device.{Ran, Halts, Halted};
+ghost use Rattle.dg_control.specs.Mounted.{snapshot_of, room_of, IsMounted};
+ghost use Rattle.dg_control.specs.Places.{place_in, AreFree, ChangesOnly, LastSpells};
+ghost use Rattle.dg_control.specs.Store.{current, Controls};
+ghost use Rattle.dg_nor.specs.declared.device.TheConstants.{SECTORS};
+
+use crate::reading::{PLACES, place_offset};
+use crate::writing::commit_at;
+use crate::{Control, Snapshot};
+use dg_ledger::Ledger;
+use dg_nor::{Nor, SECTORS, Stopped, erase_sector, program_in};
+
+impl Control {
+    /// Makes the ledger and the control sector of a chip on which that many commits are spent and then this
+    /// snapshot was committed. At most 520,223 can be spent.
+    pub fn format<N: Nor>(nor: &mut N, used: u32, first: &Snapshot) -> Result<Control, Stopped>
+        requires { used ≤ 520223 }
+
+        ensures mounted { IfOk result (IsMounted (N.device nor.new).image) }
+        ensures controls { OnOk result (Controls (N.device nor.new).image first.now (520223 - used)) }
+        ensures told { IfOk result (λ v. snapshot_of v ≡ first.now) }
+        ensures room { IfOk result (λ v. room_of v ≡ 520223 - used) }
+        ensures spent { OnOk result ((i : ℕ) → i < used % 32
+            → slice_index (place_in (sector (N.device nor.new).image (current (used / 32))) i) 0 ≡ 0) }
+        ensures ran { OnOk result (Ran (5 + used / 32 + used % 32) (N.device nor.old) (N.device nor.new)) }
+        ensures awake { OnOk result ((N.device nor.old).stopped ≡ false) }
+        ensures keeps { Keeps 0 3 (N.device nor.old).image (N.device nor.new).image }
+        ensures stopped { OnErr result (Halted (5 + used / 32 + used % 32) (λ _ _. ⊤) (N.device nor.old) (N.device nor.new)) }
+    {
+        let generation = used / 32;
+        let place = (used % 32) as u8;
+        first_sector(nor, 1 + generation % 2, place, first)?;
+        let ledger = Ledger::format(nor, generation as u16)?;
+        Ok(Control {
+            ledger,
+            snapshot: *first,
+            free: PLACES - 1 - place,
+        })
+    }
+}
+
+/// Makes a sector in which the places before this one are spent, and this one holds the snapshot.
+fn first_sector<N: Nor>(nor: &mut N, index: u32, place: u8, first: &Snapshot) -> Result<(), Stopped>
+    requires in_chip { index < SECTORS }
+    requires in_sector { place < 32 }
+
+    ensures told { OnOk result (LastSpells (sector (N.device nor.new).image index) first.now) }
+    ensures free { OnOk result (AreFree (sector (N.device nor.new).image index) (31 - place)) }
+    ensures spent { OnOk result ((i : ℕ) → i < place
+        → slice_index (place_in (sector (N.device nor.new).image index) i) 0 ≡ 0) }
+    ensures ran { OnOk result (Ran (3 + place) (N.device nor.old) (N.device nor.new)) }
+    ensures awake { OnOk result ((N.device nor.old).stopped ≡ false) }
+    ensures keeps { Keeps index (index + 1) (N.device nor.old).image (N.device nor.new).image }
+    ensures stopped { OnErr result (Halted (3 + place) (λ _ _. ⊤) (N.device nor.old) (N.device nor.new)) }
+{
+    erase_sector(nor, index)?;
+    spend_places(nor, index, place)?;
+    commit_at(nor, index, place, first)
+}
+
+/// Programs the commit byte of the first `count` places of a blank sector to 0.
+fn spend_places<N: Nor>(nor: &mut N, index: u32, count: u8) -> Result<(), Stopped>
+    requires in_chip { index < SECTORS }
+    requires in_sector { count < 32 }
+    requires clear { sector (N.device nor.old).image index ≡ blank 2048 }
+
+    ensures spent { OnOk result ((i : ℕ) → i < count
+        → slice_index (place_in (sector (N.device nor.new).image index) i) 0 ≡ 0) }
+    ensures rest { OnOk result ((i : ℕ) → count ≤ i → i < 32
+        → place_in (sector (N.device nor.new).image index) i ≡ blank 64) }
+    ensures ran { OnOk result (Ran count (N.device nor.old) (N.device nor.new)) }
+    ensures keeps { Keeps index (index + 1) (N.device nor.old).image (N.device nor.new).image }
+    ensures stopped { OnErr result (Halted count (λ _ _. ⊤) (N.device nor.old) (N.device nor.new)) }
+{
+    for place in 0..count {
+        spend_place(nor, index, place)?;
+    }
+    Ok(())
+}
+
+/// Programs the commit byte of a place to 0. 1 operation.
+fn spend_place<N: Nor>(nor: &mut N, index: u32, at: u8) -> Result<(), Stopped>
+    requires in_chip { index < SECTORS }
+    requires in_sector { at < 32 }
+
+    ensures spent { OnOk result (slice_index (place_in (sector (N.device nor.new).image index) at) 0 ≡ 0) }
+    ensures changes { OnOk result (ChangesOnly at (sector (N.device nor.old).image index) (sector (N.device nor.new).image index)) }
+    ensures ran { OnOk result (Ran 1 (N.device nor.old) (N.device nor.new)) }
+    ensures keeps { Keeps index (index + 1) (N.device nor.old).image (N.device nor.new).image }
+    ensures stopped { OnErr result (Halts 1 0 (N.device nor.old) (N.device nor.new)) }
+{
+    program_in(nor, index, place_offset(at), &[0])
+}
