@@ -7,6 +7,7 @@ pub mod Told
 pub mod Mounted
 pub mod Start
 pub mod Started
+pub mod Changes
 pub mod Acts
 pub mod Faults
-pub mod GoldenLaws
+pub mod RowLaws
