@@ -3,12 +3,12 @@ use Rattle.std.proofs.Common.{◌≡◌, ℕ, List, [], ◌∷◌, get_or, refl,
 use Rattle.dg_words.specs.Cells.{part}
 use Rattle.dg_nor.specs.Chip.{sector, Keeps}
 use Rattle.dg_object.proofs.RowLemmas.{length-object}
-use Rattle.dg_volume.specs.Snapshot.{place_of, IsFresh}
+use Rattle.dg_control.specs.Snapshot.{place_of, IsFresh}
 use Rattle.dg_volume.specs.Store.{Stands, KeepsImage, SlotStands, AppStands, held, held_whole, golden_row, fresh}
-use Rattle.dg_volume.specs.declared.snapshot.SlotState.{SlotState}
-use Rattle.dg_volume.specs.declared.snapshot.SlotState.TheVariants.{Dirty, Live}
-use Rattle.dg_volume.specs.declared.snapshot.Program.{Program}
-use Rattle.dg_volume.specs.declared.snapshot.Snapshot.{Snapshot}
+use Rattle.dg_control.specs.declared.snapshot.SlotState.{SlotState}
+use Rattle.dg_control.specs.declared.snapshot.SlotState.TheVariants.{Dirty, Live}
+use Rattle.dg_control.specs.declared.snapshot.Program.{Program}
+use Rattle.dg_control.specs.declared.snapshot.Snapshot.{Snapshot}
 use Rattle.dg_volume.proofs.SlotLemmas.{four}
 use Rattle.dg_volume.proofs.KeptLemmas.{image_kept, SameSlots-keeps}
 

@@ -8,8 +8,8 @@ use Rattle.dg_nor.specs.Chip.{sector, Keeps}
 use Rattle.dg_volume.specs.Header.{IsHeader}
 use Rattle.dg_volume.specs.Pages.{page_in}
 use Rattle.dg_volume.specs.Store.{Held, HasDescriptor, KeepsImage, SlotStands}
-use Rattle.dg_volume.specs.declared.snapshot.SlotState.{SlotState}
-use Rattle.dg_volume.specs.declared.snapshot.SlotState.TheVariants.{Dirty, Live}
+use Rattle.dg_control.specs.declared.snapshot.SlotState.{SlotState}
+use Rattle.dg_control.specs.declared.snapshot.SlotState.TheVariants.{Dirty, Live}
 
 -- two tables of one length with the same entries
 pub same_tables : {A : Type 0} (n : ℕ) (f g : ℕ → A) → ((k : ℕ) → k < n → f k ≡ g k) → tabulate n f ≡ tabulate n g

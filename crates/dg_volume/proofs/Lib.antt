@@ -1,4 +1,3 @@
-pub mod PlaceLemmas
 pub mod HeaderLemmas
 pub mod ActLemmas
 pub mod ChipLemmas

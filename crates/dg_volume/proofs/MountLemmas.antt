@@ -2,13 +2,13 @@
 use Rattle.std.proofs.Common.{◌≡◌, ℕ, ◌<◌, List, length, get_or, Option, Some, None, refl, subst, arith, IsSomeAnd}
 use Rattle.dg_words.specs.Cells.{part}
 use Rattle.dg_nor.specs.Chip.{sector}
-use Rattle.dg_volume.specs.Snapshot.{place_of}
+use Rattle.dg_control.specs.Snapshot.{place_of}
 use Rattle.dg_volume.specs.Store.{Held, App, SlotStands, AppStands}
 use Rattle.dg_volume.specs.Told.{told, program_told}
 use Rattle.dg_volume.specs.Mounted.{IsMounted}
 use Rattle.dg_volume.specs.declared.kept.Kept.{Kept}
-use Rattle.dg_volume.specs.declared.snapshot.Snapshot.{Snapshot}
-use Rattle.dg_volume.proofs.PlaceLemmas.{slot}
+use Rattle.dg_control.specs.declared.snapshot.Snapshot.{Snapshot}
+use Rattle.dg_control.proofs.PlaceLemmas.{slot}
 use Rattle.dg_volume.proofs.StoreLemmas.{slot_told_is}
 
 -- golden, and what is told of it

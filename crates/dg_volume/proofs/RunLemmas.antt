@@ -11,8 +11,8 @@ use Rattle.dg_volume.specs.Start.{start_of, start_from, sound, golden_start}
 use Rattle.dg_volume.specs.Started.{Starts}
 use Rattle.dg_volume.specs.Told.{program_told}
 use Rattle.dg_volume.specs.Mounted.{Tells}
-use Rattle.dg_volume.specs.declared.snapshot.Program.{Program}
-use Rattle.dg_volume.specs.declared.snapshot.Program.TheVariants.{Blank, Set}
+use Rattle.dg_control.specs.declared.snapshot.Program.{Program}
+use Rattle.dg_control.specs.declared.snapshot.Program.TheVariants.{Blank, Set}
 use Rattle.dg_volume.specs.declared.volume.Volume.{Volume}
 use Rattle.dg_volume.specs.declared.starting.Started.{Started}
 use Rattle.dg_volume.specs.Faults.{start_fault_of}

@@ -3,20 +3,20 @@ use Rattle.std.proofs.Common.{◌≡◌, ℕ, ◌+◌, ◌*◌, ◌<◌, ◌≤�
 use Rattle.dg_words.specs.Cells.{part}
 use Rattle.dg_nor.specs.Chip.{sector}
 use Rattle.dg_object.specs.Descriptor.{IsDescriptor}
-use Rattle.dg_volume.specs.Snapshot.{place_of}
+use Rattle.dg_control.specs.Snapshot.{place_of}
 use Rattle.dg_volume.specs.Pages.{page_in, program, slot_pages}
 use Rattle.dg_volume.specs.Store.{Store, Held, held, HasDescriptor, KeepsImage, SlotStands, HoldsApp, AppStands, Stands}
 use Rattle.dg_volume.specs.Start.{pages_sound, held_sound, sound, golden_pages, golden_start}
 use Rattle.dg_volume.specs.Told.{told, told_held}
 use Rattle.dg_volume.specs.Mounted.{Tells, IsMounted, kept_at}
 use Rattle.dg_volume.specs.declared.kept.Kept.{Kept}
-use Rattle.dg_volume.specs.declared.snapshot.SlotState.{SlotState}
-use Rattle.dg_volume.specs.declared.snapshot.SlotState.TheVariants.{Dirty, Live}
-use Rattle.dg_volume.specs.declared.snapshot.Program.{Program}
-use Rattle.dg_volume.specs.declared.snapshot.Program.TheVariants.{Set}
-use Rattle.dg_volume.specs.declared.snapshot.Snapshot.{Snapshot}
+use Rattle.dg_control.specs.declared.snapshot.SlotState.{SlotState}
+use Rattle.dg_control.specs.declared.snapshot.SlotState.TheVariants.{Dirty, Live}
+use Rattle.dg_control.specs.declared.snapshot.Program.{Program}
+use Rattle.dg_control.specs.declared.snapshot.Program.TheVariants.{Set}
+use Rattle.dg_control.specs.declared.snapshot.Snapshot.{Snapshot}
 use Rattle.dg_volume.specs.declared.volume.Volume.{Volume}
-use Rattle.dg_volume.proofs.PlaceLemmas.{slot}
+use Rattle.dg_control.proofs.PlaceLemmas.{slot}
 use Rattle.dg_volume.proofs.StoreLemmas.{one_store, slot_told_is}
 use Rattle.dg_volume.proofs.KeptLemmas.{SameSlots, slot_kept, same_tables}
 

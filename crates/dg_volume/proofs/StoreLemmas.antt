@@ -8,18 +8,18 @@ use Rattle.dg_words.specs.Cells.{part}
 use Rattle.dg_nor.specs.Chip.{sector}
 use Rattle.dg_object.specs.Descriptor.{Details}
 use Rattle.dg_object.proofs.HeadLemmas.{one_head}
-use Rattle.dg_volume.specs.Ranges.{slot_fits, program_fits, order_fits}
-use Rattle.dg_volume.specs.Snapshot.{place_of, slot_bytes, program_bytes, order_bytes}
+use Rattle.dg_control.specs.Ranges.{slot_fits, program_fits, order_fits}
+use Rattle.dg_control.specs.Snapshot.{place_of, slot_bytes, program_bytes, order_bytes}
 use Rattle.dg_volume.specs.Pages.{page_in, program, slot_pages}
 use Rattle.dg_volume.specs.Store.{Store, Held, App, held, KeepsImage, SlotStands, AppStands, Stands}
 use Rattle.dg_volume.specs.Told.{slot_told}
-use Rattle.dg_volume.specs.declared.snapshot.SlotState.{SlotState}
-use Rattle.dg_volume.specs.declared.snapshot.SlotState.TheVariants.{Dirty, Live}
-use Rattle.dg_volume.specs.declared.snapshot.Program.{Program}
-use Rattle.dg_volume.specs.declared.snapshot.Program.TheVariants.{Blank, Set}
-use Rattle.dg_volume.specs.declared.snapshot.Order.{Order}
-use Rattle.dg_volume.specs.declared.snapshot.Snapshot.{Snapshot}
-use Rattle.dg_volume.proofs.PlaceLemmas.{slot, place_parts, in_range}
+use Rattle.dg_control.specs.declared.snapshot.SlotState.{SlotState}
+use Rattle.dg_control.specs.declared.snapshot.SlotState.TheVariants.{Dirty, Live}
+use Rattle.dg_control.specs.declared.snapshot.Program.{Program}
+use Rattle.dg_control.specs.declared.snapshot.Program.TheVariants.{Blank, Set}
+use Rattle.dg_control.specs.declared.snapshot.Order.{Order}
+use Rattle.dg_control.specs.declared.snapshot.Snapshot.{Snapshot}
+use Rattle.dg_control.proofs.PlaceLemmas.{slot, place_parts, in_range}
 use Rattle.dg_volume.proofs.SlotLemmas.{one_header, four}
 
 -- ---- one snapshot of a place

@@ -1,5 +1,3 @@
-pub mod Snapshot
-pub mod Ranges
 pub mod Header
 pub mod Pages
 pub mod Store

@@ -3,8 +3,8 @@ use Rattle.std.specs.Prelude.{◌≡◌, ℕ, ◌<◌, List, slice_index_or, Opt
 use Rattle.dg_volume.specs.Store.{Store, Stands, held}
 use Rattle.dg_volume.specs.Told.{told, slot_told, program_told}
 use Rattle.dg_volume.specs.declared.kept.Kept.{Kept}
-use Rattle.dg_volume.specs.declared.snapshot.SlotState.TheVariants.{Dirty}
-use Rattle.dg_volume.specs.declared.snapshot.Snapshot.{Snapshot}
+use Rattle.dg_control.specs.declared.snapshot.SlotState.TheVariants.{Dirty}
+use Rattle.dg_control.specs.declared.snapshot.Snapshot.{Snapshot}
 use Rattle.dg_volume.specs.declared.volume.Volume.{Volume}
 
 -- what a volume tells of its snapshot

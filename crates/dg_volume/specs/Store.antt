@@ -5,16 +5,16 @@ use Rattle.dg_base.specs.Crc.{crc_of}
 use Rattle.dg_nor.specs.Chip.{sector}
 use Rattle.dg_object.specs.Object.{Row, object, profile}
 use Rattle.dg_object.specs.Descriptor.{Details, IsDescriptor}
-use Rattle.dg_volume.specs.Ranges.{snapshot_fits}
-use Rattle.dg_volume.specs.Snapshot.{place_of}
+use Rattle.dg_control.specs.Ranges.{snapshot_fits}
+use Rattle.dg_control.specs.Snapshot.{place_of}
 use Rattle.dg_volume.specs.Header.{IsHeader}
 pub use Rattle.dg_volume.specs.Pages.{page_in, program, slot_pages}
-use Rattle.dg_volume.specs.declared.snapshot.SlotState.{SlotState}
-use Rattle.dg_volume.specs.declared.snapshot.SlotState.TheVariants.{Dirty, Live}
-use Rattle.dg_volume.specs.declared.snapshot.Program.{Program}
-use Rattle.dg_volume.specs.declared.snapshot.Program.TheVariants.{Blank, Set}
-use Rattle.dg_volume.specs.declared.snapshot.Order.{Order}
-use Rattle.dg_volume.specs.declared.snapshot.Snapshot.{Snapshot}
+use Rattle.dg_control.specs.declared.snapshot.SlotState.{SlotState}
+use Rattle.dg_control.specs.declared.snapshot.SlotState.TheVariants.{Dirty, Live}
+use Rattle.dg_control.specs.declared.snapshot.Program.{Program}
+use Rattle.dg_control.specs.declared.snapshot.Program.TheVariants.{Blank, Set}
+use Rattle.dg_control.specs.declared.snapshot.Order.{Order}
+use Rattle.dg_control.specs.declared.snapshot.Snapshot.{Snapshot}
 
 -- what is kept of an image: a version, its page count, the CRC of page 0, and the pages that are complete, page 0 first
 pub record Held : Type 0 where

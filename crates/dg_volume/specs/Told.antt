@@ -1,10 +1,10 @@
 -- What is told of a store: without the pages.
 use Rattle.std.specs.Prelude.{length, Option, Some, None}
 use Rattle.dg_volume.specs.Store.{Held, App}
-use Rattle.dg_volume.specs.declared.snapshot.Program.{Program}
-use Rattle.dg_volume.specs.declared.snapshot.Program.TheVariants.{Blank, Set}
-use Rattle.dg_volume.specs.declared.snapshot.SlotState.{SlotState}
-use Rattle.dg_volume.specs.declared.snapshot.SlotState.TheVariants.{Dirty, Live}
+use Rattle.dg_control.specs.declared.snapshot.Program.{Program}
+use Rattle.dg_control.specs.declared.snapshot.Program.TheVariants.{Blank, Set}
+use Rattle.dg_control.specs.declared.snapshot.SlotState.{SlotState}
+use Rattle.dg_control.specs.declared.snapshot.SlotState.TheVariants.{Dirty, Live}
 use Rattle.dg_volume.specs.declared.kept.Kept.{Kept}
 
 -- what is told of an image that is kept: version, pages, how many of them are complete, the CRC of page 0

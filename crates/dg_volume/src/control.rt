@@ -3,12 +3,12 @@ ghost use Rattle.std.specs.Prelude.{◌≡◌, ◌+◌, ◌≤◌, IfOk, OnOk, I
 ghost use Rattle.dg_words.specs.Cells.{part};
 ghost use Rattle.dg_nor.specs.Chip.{sector, Keeps};
 ghost use Rattle.dg_volume.specs.Acts.{MountEnds, ActEnds};
-ghost use Rattle.dg_volume.specs.Snapshot.{place_of};
-ghost use Rattle.dg_volume.specs.declared.snapshot.Snapshot.{Snapshot};
+ghost use Rattle.dg_control.specs.Snapshot.{place_of};
+ghost use Rattle.dg_control.specs.declared.snapshot.Snapshot.{Snapshot};
 
 use crate::layout::CONTROL;
-use crate::place::{PLACE, read_place, write_place};
 use crate::{MountFault, Snapshot};
+use dg_control::{PLACE, read_place, write_place};
 use dg_nor::{Nor, Stopped, erase_sector, program_in, read_in};
 
 /// The snapshot that the chip keeps.

@@ -7,7 +7,7 @@ ghost use Rattle.dg_object.specs.Object.{pages_for, page_of_row};
 ghost use Rattle.dg_volume.specs.Acts.{ActEnds, Worked, Stops};
 ghost use Rattle.dg_volume.specs.Header.{header_bytes};
 ghost use Rattle.dg_volume.specs.Pages.{page_in};
-ghost use Rattle.dg_volume.specs.Snapshot.{IsFresh};
+ghost use Rattle.dg_control.specs.Snapshot.{IsFresh};
 ghost use Rattle.dg_volume.specs.Store.{KeepsImage, Stands, fresh, golden_row, held_whole};
 
 use crate::control::commit;

@@ -10,17 +10,15 @@ mod kept;
 mod laws;
 mod layout;
 mod pages;
-mod place;
 mod slots;
-mod snapshot;
 mod sound;
 mod starting;
 mod volume;
 
+pub use dg_control::{Order, Program, SlotState, Snapshot};
 pub use faults::{FormatFault, MountFault, StartFault};
 pub use kept::Kept;
 pub use laws::{a_chip_stands_for_one_store, a_whole_image_is_sound};
-pub use snapshot::{Order, Program, SlotState, Snapshot};
 pub use starting::{Started, start};
 pub use volume::Volume;
 

@@ -4,7 +4,7 @@ ghost use Rattle.dg_volume.specs.Acts.{ReadEnds, MountEnds};
 ghost use Rattle.dg_volume.specs.Pages.{page_in};
 ghost use Rattle.dg_volume.specs.Store.{Held, HasDescriptor, KeepsImage, SlotStands};
 ghost use Rattle.dg_volume.specs.Told.{told, told_held};
-ghost use Rattle.dg_volume.specs.declared.snapshot.SlotState.TheVariants as slot_states;
+ghost use Rattle.dg_control.specs.declared.snapshot.SlotState.TheVariants as slot_states;
 
 use crate::descriptor::read_descriptor;
 use crate::header::read_header;

@@ -1,6 +1,6 @@
 use Rattle.std.proofs.Common.{Some, ap, sym, subst}
 use Rattle.dg_volume.specs.Store.{SlotStands}
-use Rattle.dg_volume.specs.declared.snapshot.SlotState.{SlotState}
+use Rattle.dg_control.specs.declared.snapshot.SlotState.{SlotState}
 use Rattle.dg_volume.proofs.slots.mount_slot.Goals as goal
 
 pub returns-in_ok-mount_live-in-Live-clause-kept : goal.returns-in_ok-mount_live-in-Live-clause-kept

@@ -2,7 +2,7 @@ use Rattle.std.proofs.Common.{◌≡◌, ℕ, List, [], ◌∷◌, Option, None,
 use Rattle.dg_volume.specs.Store.{Held, SlotStands}
 use Rattle.dg_volume.specs.Told.{told}
 use Rattle.dg_volume.specs.declared.kept.Kept.{Kept}
-use Rattle.dg_volume.specs.declared.snapshot.SlotState.TheVariants.{Dirty}
+use Rattle.dg_control.specs.declared.snapshot.SlotState.TheVariants.{Dirty}
 use Rattle.dg_volume.proofs.SlotLemmas.{four}
 use Rattle.dg_volume.proofs.slots.mount_slots.Goals as goal
 

@@ -2,7 +2,7 @@ use Rattle.std.proofs.Common.{Some, refl, sym, subst}
 use Rattle.dg_volume.specs.Pages.{program}
 use Rattle.dg_volume.specs.Store.{AppStands}
 use Rattle.dg_object.specs.Records.{details_of}
-use Rattle.dg_volume.specs.declared.snapshot.Program.{Program}
+use Rattle.dg_control.specs.declared.snapshot.Program.{Program}
 use Rattle.dg_volume.proofs.volume.mount_program.Goals as goal
 
 pub returns-then-first-version-clause-app : goal.returns-then-first-version-clause-app

@@ -4,7 +4,7 @@ use Rattle.dg_volume.specs.Store.{SlotStands, held, AppStands}
 use Rattle.dg_volume.specs.declared.kept.Kept.{Kept}
 use Rattle.dg_volume.specs.declared.faults.MountFault.{MountFault}
 use Rattle.dg_volume.specs.declared.faults.MountFault.TheVariants.{NotAVolume}
-use Rattle.dg_volume.specs.declared.snapshot.SlotState.TheVariants.{Dirty}
+use Rattle.dg_control.specs.declared.snapshot.SlotState.TheVariants.{Dirty}
 use Rattle.dg_volume.proofs.StoreLemmas.{slots_of, app_of, one_held}
 use Rattle.dg_volume.specs.Told.{told}
 use Rattle.dg_volume.proofs.MountLemmas.{golden_told, mounted}

@@ -8,14 +8,14 @@ use Rattle.std.specs.Int.{from_bool, to_be_bytes, from_be_bytes, w32}
 use Rattle.std.proofs.lemmas.List.{take_at, drop_at, length-append, take-append-drop, take-take, drop-drop, drop-take, get_or-drop, get_or-take}
 use Rattle.std.proofs.lemmas.Nat.{from_be_bytes-to_be_bytes_4}
 use Rattle.std.proofs.lemmas.Bool.Decides.{nat_tests}
-use Rattle.dg_volume.specs.Ranges.{slot_fits, order_fits, program_fits, snapshot_fits}
-use Rattle.dg_volume.specs.Snapshot.{place_of, slot_bytes, program_bytes, order_bytes}
-use Rattle.dg_volume.specs.declared.snapshot.SlotState.{SlotState}
-use Rattle.dg_volume.specs.declared.snapshot.SlotState.TheVariants.{Dirty, Live}
-use Rattle.dg_volume.specs.declared.snapshot.Program.{Program}
-use Rattle.dg_volume.specs.declared.snapshot.Program.TheVariants.{Blank, Set}
-use Rattle.dg_volume.specs.declared.snapshot.Order.{Order}
-use Rattle.dg_volume.specs.declared.snapshot.Snapshot.{Snapshot}
+use Rattle.dg_control.specs.Ranges.{slot_fits, order_fits, program_fits, snapshot_fits}
+use Rattle.dg_control.specs.Snapshot.{place_of, slot_bytes, program_bytes, order_bytes}
+use Rattle.dg_control.specs.declared.snapshot.SlotState.{SlotState}
+use Rattle.dg_control.specs.declared.snapshot.SlotState.TheVariants.{Dirty, Live}
+use Rattle.dg_control.specs.declared.snapshot.Program.{Program}
+use Rattle.dg_control.specs.declared.snapshot.Program.TheVariants.{Blank, Set}
+use Rattle.dg_control.specs.declared.snapshot.Order.{Order}
+use Rattle.dg_control.specs.declared.snapshot.Snapshot.{Snapshot}
 
 pub length-slot_bytes : (s : SlotState) → length (slot_bytes s) ≡ 5
 length-slot_bytes Dirty = refl

@@ -1,17 +1,17 @@
 //! The 64 bytes of a place in a control sector: what they spell, and how a snapshot is spelled.
 ghost use Rattle.std.specs.Prelude.{◌≡◌, ℕ, ◌+◌, ◌≤◌, ◌++◌, length, take, drop, IsTrue, IfSome, IsNone};
 ghost use Rattle.std.specs.Int.{from_be_bytes, w32};
-ghost use Rattle.dg_volume.specs.Ranges.{slot_fits, program_fits, order_fits, snapshot_fits};
-ghost use Rattle.dg_volume.specs.Snapshot.{place_of, slot_bytes, program_bytes, order_bytes};
-ghost use Rattle.dg_volume.specs.declared.snapshot.SlotState.{SlotState};
-ghost use Rattle.dg_volume.specs.declared.snapshot.Program.{Program};
-ghost use Rattle.dg_volume.specs.declared.snapshot.Order.{Order};
-ghost use Rattle.dg_volume.specs.declared.snapshot.Snapshot.{Snapshot};
+ghost use Rattle.dg_control.specs.Ranges.{slot_fits, program_fits, order_fits, snapshot_fits};
+ghost use Rattle.dg_control.specs.Snapshot.{place_of, slot_bytes, program_bytes, order_bytes};
+ghost use Rattle.dg_control.specs.declared.snapshot.SlotState.{SlotState};
+ghost use Rattle.dg_control.specs.declared.snapshot.Program.{Program};
+ghost use Rattle.dg_control.specs.declared.snapshot.Order.{Order};
+ghost use Rattle.dg_control.specs.declared.snapshot.Snapshot.{Snapshot};
 
 use crate::{Order, Program, SlotState, Snapshot};
 
 /// The length of a place.
-pub(crate) const PLACE: usize = 64;
+pub const PLACE: usize = 64;
 
 /// The commit byte of a place that is committed.
 const COMMITTED: u8 = 0x7F;
@@ -72,7 +72,7 @@ fn order_bytes(order: &Order) -> [u8; 9]
 }
 
 /// The committed place that spells the snapshot.
-pub(crate) fn write_place(snapshot: &Snapshot) -> [u8; 64]
+pub fn write_place(snapshot: &Snapshot) -> [u8; 64]
     ensures { result ≡ place_of snapshot.now }
 {
     let mut place = [0xFF; PLACE];
@@ -197,7 +197,7 @@ fn checked(
 }
 
 /// The snapshot that a place spells, if it spells one and is committed.
-pub(crate) fn read_place(place: &[u8; 64]) -> Option<Snapshot>
+pub fn read_place(place: &[u8; 64]) -> Option<Snapshot>
     ensures spelled { IfSome result (λ s. place.now ≡ place_of s) }
     ensures none { IsNone result → (s : Snapshot) → place.now ≡ place_of s → ⊥ }
 {

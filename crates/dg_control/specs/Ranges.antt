@@ -1,11 +1,11 @@
 -- The ranges of the fields of a snapshot, as tests.
 use Rattle.std.specs.Prelude.{ℕ, ◌^◌, ◌==◌, nat_le, nat_lt, not, ◌&&◌, ◌||◌, Bool, true, if◌then◌else◌, List}
 use Rattle.std.specs.List.{list_all}
-use Rattle.dg_volume.specs.declared.snapshot.SlotState.{SlotState}
-use Rattle.dg_volume.specs.declared.snapshot.SlotState.TheVariants.{Dirty, Live}
-use Rattle.dg_volume.specs.declared.snapshot.Program.{Program}
-use Rattle.dg_volume.specs.declared.snapshot.Program.TheVariants.{Blank, Set}
-use Rattle.dg_volume.specs.declared.snapshot.Order.{Order}
+use Rattle.dg_control.specs.declared.snapshot.SlotState.{SlotState}
+use Rattle.dg_control.specs.declared.snapshot.SlotState.TheVariants.{Dirty, Live}
+use Rattle.dg_control.specs.declared.snapshot.Program.{Program}
+use Rattle.dg_control.specs.declared.snapshot.Program.TheVariants.{Blank, Set}
+use Rattle.dg_control.specs.declared.snapshot.Order.{Order}
 
 -- a Live slot has a version
 abbrev pub slot_fits : SlotState → Bool

@@ -1,6 +1,6 @@
 //! What a volume commits as a whole: its slots, its program memory and the kept order.
 ghost use Rattle.std.specs.Prelude.{IsTrue};
-ghost use Rattle.dg_volume.specs.Ranges.{snapshot_fits};
+ghost use Rattle.dg_control.specs.Ranges.{snapshot_fits};
 
 /// A slot, whose pages count only where it is Live.
 #[derive(Clone, Copy, Debug, PartialEq, Eq)]
