@@ -1,5 +1,5 @@
 //! Formatting: a chip becomes a volume that keeps golden alone.
-ghost use Rattle.std.specs.Prelude.{◌≡◌, ◌↔◌, ◌⊎◌, ℕ, ◌+◌, ◌<◌, ◌≤◌, IsTrue, OnOk, IsErrOf, length};
+ghost use Rattle.std.specs.Prelude.{◌≡◌, ◌↔◌, ◌⊎◌, ℕ, ◌+◌, ◌<◌, ◌≤◌, false, IsTrue, OnOk, IsErrOf, length};
 ghost use Rattle.dg_words.specs.Cells.{overwritten};
 ghost use Rattle.dg_base.specs.Texts.{names};
 ghost use Rattle.dg_nor.specs.Chip.{sector, blank, Keeps};
@@ -31,6 +31,7 @@ impl Volume {
 
         ensures formatted { OnOk result (Stands (N.device nor.new).image (fresh name.now golden.now)) }
         ensures worked { OnOk result (Worked (N.device nor.old) (N.device nor.new)) }
+        ensures awake { OnOk result ((N.device nor.old).stopped ≡ false) }
 
         ensures empty { (result ≡ Err FormatFault.Empty) ↔ (length golden.now ≡ 0) }
         ensures too_large { (result ≡ Err FormatFault.TooLarge) ↔ (70656 < length golden.now) }

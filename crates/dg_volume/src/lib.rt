@@ -6,9 +6,11 @@ mod descriptor;
 mod faults;
 mod formatting;
 mod header;
+mod injecting;
 mod kept;
 mod laws;
 mod layout;
+mod ordering;
 mod pages;
 mod slots;
 mod sound;
@@ -16,9 +18,12 @@ mod starting;
 mod volume;
 
 pub use dg_control::{Order, Program, SlotState, Snapshot};
-pub use faults::{FormatFault, MountFault, StartFault};
+pub use faults::{FormatFault, InjectFault, MountFault, OrderFault, StartFault};
+pub use injecting::Injected;
 pub use kept::Kept;
-pub use laws::{a_chip_stands_for_one_store, a_whole_image_is_sound};
+pub use laws::{
+    a_chip_stands_for_one_store, a_whole_image_is_sound, program_memory_holds_the_app,
+};
 pub use starting::{Started, start};
 pub use volume::Volume;
 
