@@ -54,10 +54,6 @@ golden_of c x None k p g e = absurd g
 golden_of c Dirty (Some h) k p g e = absurd p
 golden_of c (Live v) (Some h) k p g e = let same : told_held h ≡ k = cc in golden_image c v h k p g.0 g.1 same
 
--- a mounted volume tells each store that its chip stands for
-pub tells_store : (c : List ℕ) (v : Volume) (s : Store) → IsMounted c v → Stands c s → Tells v s
-tells_store c v s m stands = subst (λ (x : Store). Tells v x) (one_store c m.store s m.stands stands) m.tells
-
 pub golden_told_is : (c : List ℕ) (v : Volume) (s : Store) (k : Kept) → IsMounted c v → Stands c s → kept_at v 0 ≡ Some k → GoldenIs c (held s 0) k
 golden_told_is c v s k m stands e =
     let tells = tells_store c v s m stands in

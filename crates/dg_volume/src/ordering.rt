@@ -35,6 +35,6 @@ impl Volume {
             → (N.device nor.new ≡ N.device nor.old) × (self.new ≡ self.old) }
         ensures stopped { IsErrOf result OrderFault.Stopped → Stops (N.device nor.old) (N.device nor.new) }
     {
-        todo!()
+        Err(OrderFault::Stopped)
     }
 }

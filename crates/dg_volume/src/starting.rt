@@ -7,7 +7,7 @@ ghost use Rattle.dg_object.specs.Object.{content, pages_for};
 ghost use Rattle.dg_object.specs.Descriptor.{Details, IsDescriptor};
 ghost use Rattle.dg_volume.specs.Acts.{ReadEnds, StartEnds, Looked, Worked, Stops};
 ghost use Rattle.dg_volume.specs.Store.{Store, App, HoldsApp, Stands, IsVolume, IsNoVolume, page_in, program};
-ghost use Rattle.dg_volume.specs.Start.{start_of, sound, golden_start};
+ghost use Rattle.dg_volume.specs.Start.{start_of, sound, copied};
 ghost use Rattle.dg_volume.specs.Mounted.{snapshot_of, IsMounted, Tells};
 ghost use Rattle.dg_volume.specs.Started.{Starts};
 
@@ -60,8 +60,8 @@ fn install_golden<N: Nor>(nor: &mut N, volume: Volume) -> Result<Volume, StartFa
     requires mounted { IsMounted (N.device nor.old).image volume }
     requires blank { (snapshot_of volume).program ≡ Program.Blank }
     ensures sound { OnOk result ((s : Store) → Stands (N.device nor.old).image s → sound s 0 ≡ true) }
-    ensures stands { OnOk result ((s : Store) → Stands (N.device nor.old).image s → Stands (N.device nor.new).image (golden_start s).after) }
-    ensures told { IfOk result (λ v. (s : Store) → Stands (N.device nor.old).image s → Tells v (golden_start s).after) }
+    ensures stands { OnOk result ((s : Store) → Stands (N.device nor.old).image s → Stands (N.device nor.new).image (copied s 0 1).after) }
+    ensures told { IfOk result (λ v. (s : Store) → Stands (N.device nor.old).image s → Tells v (copied s 0 1).after) }
     ensures keeps { Keeps 1 68 (N.device nor.old).image (N.device nor.new).image }
     ensures no_image { IsErrOf result StartFault.NoImage → (s : Store) → Stands (N.device nor.old).image s → sound s 0 ≡ false }
     ensures a_volume { IsErrOf result StartFault.NotAVolume → ⊥ }
