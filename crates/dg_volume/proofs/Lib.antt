@@ -8,8 +8,10 @@ pub mod SlotLemmas
 pub mod StoreLemmas
 pub mod MountLemmas
 pub mod GoldenLemmas
+pub mod WritingLemmas
 pub mod KeptLemmas
 pub mod FreshLemmas
+pub mod TakingLemmas
 pub mod WholeLemmas
 pub mod ContentLemmas
 pub mod StartLemmas
