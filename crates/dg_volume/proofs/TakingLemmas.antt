@@ -17,7 +17,7 @@ use Rattle.dg_control.proofs.PlaceLemmas.{slot, same_place}
 use Rattle.dg_object.specs.Object.{Row, Outline, profile}
 use Rattle.dg_object.proofs.RowLemmas.{length-object}
 use Rattle.dg_volume.specs.Header.{IsHeader}
-use Rattle.dg_volume.specs.Changes.{inject_refusal, newer, stale}
+use Rattle.dg_volume.specs.Changes.{injected, inject_refusal, newer, stale}
 use Rattle.dg_volume.specs.declared.faults.InjectFault.TheVariants.{Stopped, Empty, TooLarge, Stale, Reserved}
 use Rattle.dg_volume.specs.Store.{Store, Held, App, held, held_whole, KeepsImage, SlotStands, AppStands, Stands}
 use Rattle.dg_volume.specs.Told.{told, told_held, slot_told, program_told}
@@ -323,3 +323,18 @@ not_stopped s row e = by_cause (length row.bytes == 0) (nat_lt 70656 (length row
     by_cause false false true o e = cc
     by_cause false false false None e = cc
     by_cause false false false (Some k) e = cc
+
+-- ---- what may be injected
+
+-- another version is told
+pub other_version : (c : List ℕ) (v : Volume) (i version : ℕ) → i < 4 → IsMounted c v → (IsSomeAnd (kept_at v i) (λ k. k.version ≡ version) → ⊥) → (s : Store) → Stands c s → (h : Held) → held s i ≡ Some h → h.version ≡ version → ⊥
+other_version c v i version known m other s stands h is same =
+    let told_is : kept_at v i ≡ Some (told_held h) = (tells_store c v s m stands).kept i known ∙ ap told is in
+    other (subst (λ (k : Option Kept). IsSomeAnd k (λ k. k.version ≡ version)) (sym told_is) same)
+
+-- once an image was injected, it is kept whole
+pub injected_kept : (a b : List ℕ) (v : Volume) (row : Row) → row.image < 4 → IsMounted a v → ((s : Store) → Stands a s → Stands b (injected s row)) → (s : Store) → Stands b s → (h : Held) → held s row.image ≡ Some h → h ≡ held_whole row
+injected_kept a b v row known m injects s stands h is =
+    let one : s ≡ injected m.store row = one_store b s (injected m.store row) stands (injects m.store m.stands) in
+    let kept : held s row.image ≡ Some (held_whole row) = ap (λ (t : Store). held t row.image) one ∙ held-keeping row.image (Some (held_whole row)) m.store known m.stands.four in
+    cc

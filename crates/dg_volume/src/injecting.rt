@@ -109,7 +109,7 @@ impl Volume {
     }
 
     /// Whether this version is kept.
-    fn keeps(&self, image: u8, version: u32) -> bool
+    pub(crate) fn keeps(&self, image: u8, version: u32) -> bool
         requires { image ≤ 3 }
         ensures { IsTrue result ↔ IsSomeAnd (kept_at self.now image) (λ k. k.version ≡ version) }
     {
