@@ -9,6 +9,7 @@ pub mod StoreLemmas
 pub mod MountLemmas
 pub mod GoldenLemmas
 pub mod KeptLemmas
+pub mod CommitLemmas
 pub mod FreshLemmas
 pub mod WholeLemmas
 pub mod ContentLemmas
