@@ -10,6 +10,7 @@ pub mod MountLemmas
 pub mod GoldenLemmas
 pub mod KeptLemmas
 pub mod CommitLemmas
+pub mod OrderLemmas
 pub mod FreshLemmas
 pub mod WholeLemmas
 pub mod ContentLemmas
