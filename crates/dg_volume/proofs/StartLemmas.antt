@@ -9,7 +9,7 @@ use Rattle.dg_control.specs.Snapshot.{place_of}
 use Rattle.dg_volume.specs.Pages.{page_in, program, slot_pages}
 use Rattle.dg_volume.specs.Store.{Store, Held, App, held, HasDescriptor, KeepsImage, KeepsGolden, SlotStands, HoldsApp, AppStands, Stands}
 use Rattle.dg_volume.specs.Start.{pages_sound, held_sound, sound, complete_pages, is_whole}
-use Rattle.dg_volume.specs.Installs.{app_of}
+use Rattle.dg_volume.specs.Installs.{app_of, blanked}
 use Rattle.dg_volume.specs.Told.{told, told_held, program_told}
 use Rattle.dg_volume.specs.Mounted.{Tells, IsMounted, kept_at}
 use Rattle.dg_volume.specs.declared.kept.Kept.{Kept}
@@ -130,6 +130,10 @@ copied_holds old new s i v k is copied =
 pub app_none : (a : Option App) → Blank ≡ program_told a → a ≡ None
 app_none None e = refl
 app_none (Some app) e = absurd cc
+
+-- a store whose program memory is blank already
+pub blanked_already : (P : Store → Type 0) (s : Store) → s.app ≡ None → P s → P (blanked s)
+blanked_already P s e p = subst (λ (a : Option App). P (record { kept = s.kept; app = a; order = s.order; waived = s.waived; gesture = s.gesture })) e p
 
 blank_app : (old new : List ℕ) (x : Program) (a : Option App) → AppStands old x a → a ≡ None → AppStands new x a
 blank_app old new Blank None p e = tt
