@@ -15,4 +15,5 @@ pub mod FreshLemmas
 pub mod WholeLemmas
 pub mod ContentLemmas
 pub mod StartLemmas
+pub mod ChoiceLemmas
 pub mod RunLemmas
