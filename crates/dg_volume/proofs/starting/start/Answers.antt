@@ -1,0 +1,36 @@
+use Rattle.std.proofs.Common.{◌≡◌, ℕ, true, List, Some, Err, sym, ap, subst, ◌∙◌}
+use Rattle.std.proofs.lemmas.Result.{err_from_is_err_and}
+use Rattle.dg_control.specs.declared.snapshot.Order.{Order}
+use Rattle.dg_volume.specs.Store.{Stands, held}
+use Rattle.dg_volume.specs.Start.{copied, is_whole, start_of}
+use Rattle.dg_volume.proofs.ActLemmas.{Worked-looked, Worked_then}
+use Rattle.dg_volume.proofs.StoreLemmas.{tells_store}
+use Rattle.dg_volume.proofs.ChoiceLemmas.{order_waited, waits_ordered, takes_order}
+use Rattle.dg_volume.proofs.RunLemmas.{not_a_volume}
+use Rattle.dg_volume.proofs.starting.start.Goals as goal
+
+pub returns-in_err-volume-clause-not_a_volume : goal.returns-in_err-volume-clause-not_a_volume
+returns-in_err-volume-clause-not_a_volume g c is s stands =
+    let p = err_from_is_err_and c.from_residual.result c.from_residual.ensures.1 in
+    c.in_err-volume.ensures.not_a_volume (ap Err (not_a_volume c.from_residual.result p.0 c.in_err-volume.field-0.0 is p.1 p.2)) s stands
+
+pub start_copied-requires-clause-whole : goal.start_copied-requires-clause-whole
+start_copied-requires-clause-whole g c s stands =
+    let old = (g.N.Nor.device c.args.nor.now).image in
+    let mounted = subst (λ (x : List ℕ). Stands x s) c.in_ok-takes_order.ensures.ends.same_image stands in
+    let here = subst (λ (x : List ℕ). Stands x s) c.in_ok-volume.ensures.same_image mounted in
+    let tells = tells_store old c.in_ok-volume.volume s c.in_ok-volume.ensures.mounted here in
+    let ordered = waits_ordered old s here (order_waited s (sym c.if-branch.true ∙ c.in_ok-takes_order.ensures.takes s mounted)) in
+    subst (λ (o : Order). is_whole (held s o.image) o.version ≡ true) (sym tells.order) ordered.whole
+
+pub returns-then-branch-clause-started : goal.returns-then-branch-clause-started
+returns-then-branch-clause-started g c s stands =
+    let tells = tells_store (g.N.Nor.device c.args.nor.now).image c.in_ok-volume.volume s c.in_ok-volume.ensures.mounted stands in
+    let mounted = subst (λ (x : List ℕ). Stands x s) (sym c.in_ok-volume.ensures.same_image) stands in
+    let looked = subst (λ (x : List ℕ). Stands x s) (sym c.in_ok-takes_order.ensures.ends.same_image) mounted in
+    let chosen = takes_order s (sym c.if-branch.true ∙ c.in_ok-takes_order.ensures.takes s mounted) in
+    c.in_ok-start_copied.ensures.started s looked (subst (λ (o : Order). start_of s ≡ Some (copied s o.image o.version)) (sym tells.order) chosen)
+
+pub returns-then-branch-clause-worked : goal.returns-then-branch-clause-worked
+returns-then-branch-clause-worked g c =
+    Worked_then (Worked-looked c.in_ok-volume.ensures.looked) (Worked_then (Worked-looked c.in_ok-takes_order.ensures.ends) c.in_ok-start_copied.ensures.ends)
