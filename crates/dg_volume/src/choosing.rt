@@ -1,4 +1,4 @@
-//! Whether a start takes the ordered image.
+//! What a start looks at to choose an image: whether it takes the ordered one, and whether golden is sound.
 ghost use Rattle.std.specs.Prelude.{◌≡◌, ◌≤◌, ◌&&◌, Option, IfOk};
 ghost use Rattle.dg_volume.specs.Acts.{ReadEnds};
 ghost use Rattle.dg_volume.specs.Store.{Store, Held, App, Stands};
@@ -6,6 +6,7 @@ ghost use Rattle.dg_volume.specs.Start.{sound, is_whole, is_set_to, order_waits}
 ghost use Rattle.dg_volume.specs.Told.{told, program_told};
 ghost use Rattle.dg_volume.specs.Mounted.{IsMounted, Tells};
 
+use crate::layout::GOLDEN;
 use crate::sound::is_sound;
 use crate::{Kept, Program, Volume};
 use dg_nor::{Nor, Stopped};
@@ -22,6 +23,16 @@ pub(crate) fn takes_order<N: Nor>(nor: &mut N, volume: &Volume) -> Result<bool, 
     let image = volume.snapshot.order.image;
     let kept = volume.kept(image).unwrap();
     is_sound(nor, image, &kept)
+}
+
+/// Whether golden is sound.
+pub(crate) fn is_golden_sound<N: Nor>(nor: &mut N, volume: &Volume) -> Result<bool, Stopped>
+    requires { IsMounted (N.device nor.old).image volume.now }
+    ensures sound { IfOk result (λ b. (s : Store) → Stands (N.device nor.old).image s → b ≡ sound s 0) }
+    ensures ends { ReadEnds result (N.device nor.old) (N.device nor.new) }
+{
+    let golden = volume.kept(GOLDEN).unwrap();
+    is_sound(nor, GOLDEN, &golden)
 }
 
 /// Whether there is an order that is not waived, its image is kept whole in its version, and program memory is

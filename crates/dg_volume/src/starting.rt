@@ -11,12 +11,11 @@ ghost use Rattle.dg_volume.specs.Start.{start_of, start_from, sound, is_whole, c
 ghost use Rattle.dg_volume.specs.Mounted.{IsMounted};
 ghost use Rattle.dg_volume.specs.Started.{Starts};
 
-use crate::choosing::takes_order;
+use crate::choosing::{is_golden_sound, takes_order};
 use crate::descriptor::read_head;
 use crate::installing::install;
 use crate::layout::{GOLDEN, GOLDEN_VERSION, PROGRAM};
 use crate::pages::front_crc;
-use crate::sound::is_sound;
 use crate::{Program, StartFault, Volume};
 use dg_nor::{Nor, PAGE, Stopped};
 
@@ -81,8 +80,7 @@ fn start_golden<N: Nor>(nor: &mut N, volume: Volume) -> Result<Started, StartFau
     ensures keeps { Keeps 1 68 (N.device nor.old).image (N.device nor.new).image }
     ensures ends { StartEnds result (N.device nor.old) (N.device nor.new) }
 {
-    let golden = volume.kept(GOLDEN).unwrap();
-    if !is_sound(nor, GOLDEN, &golden)? {
+    if !is_golden_sound(nor, &volume)? {
         return Err(StartFault::NoImage);
     }
     Ok(start_copied(nor, volume, GOLDEN, GOLDEN_VERSION)?)
