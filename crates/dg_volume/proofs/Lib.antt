@@ -8,10 +8,12 @@ pub mod SlotLemmas
 pub mod StoreLemmas
 pub mod MountLemmas
 pub mod GoldenLemmas
+pub mod WritingLemmas
 pub mod KeptLemmas
 pub mod CommitLemmas
 pub mod OrderLemmas
 pub mod FreshLemmas
+pub mod TakingLemmas
 pub mod WholeLemmas
 pub mod ContentLemmas
 pub mod StartLemmas

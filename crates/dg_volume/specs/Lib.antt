@@ -10,3 +10,5 @@ pub mod Changes
 pub mod Acts
 pub mod Faults
 pub mod RowLaws
+pub mod Writing
+pub mod Taking

@@ -12,12 +12,14 @@ mod installing;
 mod kept;
 mod laws;
 mod layout;
+mod new_image;
 mod ordering;
 mod pages;
 mod slots;
 mod sound;
 mod starting;
 mod volume;
+mod writing;
 
 pub use dg_control::{Order, Program, SlotState, Snapshot};
 pub use faults::{FormatFault, InjectFault, MountFault, OrderFault, StartFault};
