@@ -5,6 +5,7 @@ use Rattle.std.proofs.lemmas.List.{same_lists, get_or_default}
 use Rattle.std.proofs.lemmas.Nat.{from_be_bytes-to_be_bytes_4}
 use Rattle.std.proofs.lemmas.Bool.Decides.{nat_tests}
 use Rattle.dg_words.specs.Cells.{part}
+use Rattle.dg_words.proofs.ListLemmas.{length-tabulate}
 use Rattle.dg_nor.specs.Chip.{sector}
 use Rattle.dg_object.specs.Descriptor.{Details}
 use Rattle.dg_object.proofs.HeadLemmas.{one_head}
@@ -140,6 +141,13 @@ one_app c (Set i v) (Some a) (Some b) p q =
     let same : d.0 ≡ e.0 = one_head (take 28 (page_in c 3)) d.0 e.0 d.1.head e.1.head in
     ap Some (same_app a b (p.same_image ∙ sym q.same_image) (p.same_version ∙ sym q.same_version) (d.4 ∙ ap (λ (x : Details). program c x.pages) same ∙ sym e.4))
 
+-- program memory holds the pages of the app
+pub app_pages : (c : List ℕ) (x : Program) (app : App) → AppStands c x (Some app) → program c (length app.pages) ≡ app.pages
+app_pages c Blank app p = absurd p
+app_pages c (Set i v) app p =
+    let d = p.described in
+    ap (program c) (ap length d.4 ∙ length-tabulate d.0.pages (λ p. page_in c (3 + p))) ∙ sym d.4
+
 -- ---- one store
 
 same_store : (s t : Store) → s.kept ≡ t.kept → s.app ≡ t.app → s.order ≡ t.order → s.waived ≡ t.waived → s.gesture ≡ t.gesture → s ≡ t
@@ -172,3 +180,6 @@ one_store c s t p q =
 -- a mounted volume tells each store that its chip stands for
 pub tells_store : (c : List ℕ) (v : Volume) (s : Store) → IsMounted c v → Stands c s → Tells v s
 tells_store c v s m stands = subst (λ (x : Store). Tells v x) (one_store c m.store s m.stands stands) m.tells
+
+pub app_stands : (c : List ℕ) (s : Store) (app : App) → Stands c s → s.app ≡ Some app → program c (length app.pages) ≡ app.pages
+app_stands c s app stands e = app_pages c stands.snapshot.program app (subst (λ (x : Option App). AppStands c stands.snapshot.program x) e stands.app)

@@ -1,12 +1,14 @@
 //! A volume on a chip: what it keeps of each image, what is in program memory, and how a mote starts from it.
 #![tactic(auto)]
 
+mod choosing;
 mod control;
 mod descriptor;
 mod faults;
 mod formatting;
 mod header;
 mod injecting;
+mod installing;
 mod kept;
 mod laws;
 mod layout;

@@ -1,11 +1,13 @@
 //! Orders: which image is to be started.
-ghost use Rattle.std.specs.Prelude.{◌≡◌, ◌≢◌, ◌≤◌, Some, None, Err, OnOk, IsErrOf};
+ghost use Rattle.std.specs.Prelude.{◌≡◌, ◌≢◌, ◌≤◌, false, IsTrue, Some, None, Err, OnOk, IsErrOf};
+ghost use Rattle.dg_control.specs.Ranges.{order_fits};
 ghost use Rattle.dg_volume.specs.Acts.{Worked, Stops};
 ghost use Rattle.dg_volume.specs.Store.{Store, Stands};
 ghost use Rattle.dg_volume.specs.Changes.{ordered, order_refusal};
 ghost use Rattle.dg_volume.specs.Mounted.{IsMounted};
 
-use crate::{Order, OrderFault, Volume};
+use crate::control::commit;
+use crate::{Order, OrderFault, Snapshot, Volume};
 use dg_nor::Nor;
 
 impl Volume {
@@ -35,6 +37,38 @@ impl Volume {
             → (N.device nor.new ≡ N.device nor.old) × (self.new ≡ self.old) }
         ensures stopped { IsErrOf result OrderFault.Stopped → Stops (N.device nor.old) (N.device nor.new) }
     {
-        Err(OrderFault::Stopped)
+        let kept = self.snapshot.order.number;
+        if number <= kept {
+            return Err(OrderFault::OldOrder { kept });
+        }
+        let snapshot = with_order(
+            &self.snapshot,
+            Order {
+                number,
+                image,
+                version,
+            },
+        );
+        commit(nor, &snapshot)?;
+        self.snapshot = snapshot;
+        Ok(())
+    }
+}
+
+/// The same snapshot with another order, which is not waived.
+fn with_order(snapshot: &Snapshot, order: Order) -> Snapshot
+    requires { IsTrue (order_fits order) }
+    ensures order { result.order ≡ order }
+    ensures waived { result.waived ≡ false }
+    ensures slots { result.slots ≡ snapshot.now.slots }
+    ensures program { result.program ≡ snapshot.now.program }
+    ensures gesture { result.gesture ≡ snapshot.now.gesture }
+{
+    Snapshot {
+        slots: snapshot.slots,
+        program: snapshot.program,
+        order,
+        waived: false,
+        gesture: snapshot.gesture,
     }
 }
