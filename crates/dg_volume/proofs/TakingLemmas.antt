@@ -12,7 +12,6 @@ use Rattle.dg_control.specs.declared.snapshot.Snapshot.{Snapshot}
 use Rattle.dg_control.specs.declared.snapshot.SlotState.{SlotState}
 use Rattle.dg_control.specs.declared.snapshot.SlotState.TheVariants.{Dirty, Live}
 use Rattle.dg_control.specs.declared.snapshot.Program.{Program}
-use Rattle.dg_control.specs.declared.snapshot.Program.TheVariants.{Blank, Set}
 use Rattle.dg_control.proofs.PlaceLemmas.{slot, same_place}
 use Rattle.dg_object.specs.Object.{Row, Outline, profile}
 use Rattle.dg_object.proofs.RowLemmas.{length-object}
@@ -25,7 +24,8 @@ use Rattle.dg_volume.specs.Mounted.{Tells, IsMounted, kept_at}
 use Rattle.dg_volume.specs.Taking.{keeping, held_begun, Becomes}
 use Rattle.dg_volume.specs.declared.kept.Kept.{Kept}
 use Rattle.dg_volume.specs.declared.volume.Volume.{Volume}
-use Rattle.dg_volume.proofs.KeptLemmas.{SameSlot, SameProgram, slot_stays, app_stays}
+use Rattle.dg_volume.proofs.KeptLemmas.{SameSlot, slot_stays}
+use Rattle.dg_volume.proofs.CommitLemmas.{SameProgram, app_kept, program_told_is}
 use Rattle.dg_volume.proofs.StoreLemmas.{slot_told_is, one_store, tells_store}
 
 -- ---- lists of which one element changes
@@ -112,12 +112,6 @@ Touches-snapshot i old new keeps = record {
   others = λ j l ne k m n. keeps.behind k (omega arith) (omega arith);
 }
 
-program_told_is : (c : List ℕ) (x : Program) (a : Option App) → AppStands c x a → x ≡ program_told a
-program_told_is c Blank None p = refl
-program_told_is c Blank (Some app) p = absurd p
-program_told_is c (Set i v) None p = absurd p
-program_told_is c (Set i v) (Some app) p = let same = p.same_image in let version = p.same_version in rw (same, version) refl
-
 -- the place of the snapshot that a mounted volume tells
 pub place_told : (c : List ℕ) (v : Volume) (s : Store) → Stands c s → Tells v s → part (sector c 1) 0 64 ≡ place_of v.snapshot
 place_told c v s stands tells =
@@ -153,7 +147,7 @@ pub stands_keeping : (old new : List ℕ) (w : Volume) (s : Store) (i : ℕ) (h 
 stands_keeping old new w s i h low known stands touches place tells here =
     let r = stands.snapshot in
     let golden : held (keeping i h s) 0 ≡ held s 0 = get_or-set_other s.kept i 0 h None (omega arith) in
-    let app = app_stays old new r.program s.app touches.program stands.app in
+    let app = app_kept old new r.program s.app touches.program stands.app in
     let program : r.program ≡ w.snapshot.program = program_told_is old r.program s.app stands.app ∙ sym tells.program in
     record {
       snapshot = w.snapshot;
