@@ -39,3 +39,28 @@ three_of (a ∷ []) = None
 three_of (a ∷ b ∷ []) = None
 three_of (a ∷ b ∷ c ∷ []) = Some (a, b, c)
 three_of (a ∷ b ∷ c ∷ d ∷ more) = None
+
+-- exactly four words, five, and six
+abbrev pub four_from : List ℕ → Option (List ℕ × List ℕ × List ℕ) → Option (List ℕ × List ℕ × List ℕ × List ℕ)
+four_from a None = None
+four_from a (Some t) = Some (a, t.0, t.1, t.2)
+
+abbrev pub four_of : List (List ℕ) → Option (List ℕ × List ℕ × List ℕ × List ℕ)
+four_of [] = None
+four_of (a ∷ more) = four_from a (three_of more)
+
+abbrev pub five_from : List ℕ → Option (List ℕ × List ℕ × List ℕ × List ℕ) → Option (List ℕ × List ℕ × List ℕ × List ℕ × List ℕ)
+five_from a None = None
+five_from a (Some t) = Some (a, t.0, t.1, t.2, t.3)
+
+abbrev pub five_of : List (List ℕ) → Option (List ℕ × List ℕ × List ℕ × List ℕ × List ℕ)
+five_of [] = None
+five_of (a ∷ more) = five_from a (four_of more)
+
+abbrev pub six_from : List ℕ → Option (List ℕ × List ℕ × List ℕ × List ℕ × List ℕ) → Option (List ℕ × List ℕ × List ℕ × List ℕ × List ℕ × List ℕ)
+six_from a None = None
+six_from a (Some t) = Some (a, t.0, t.1, t.2, t.3, t.4)
+
+abbrev pub six_of : List (List ℕ) → Option (List ℕ × List ℕ × List ℕ × List ℕ × List ℕ × List ℕ)
+six_of [] = None
+six_of (a ∷ more) = six_from a (five_of more)

@@ -1,9 +1,13 @@
 -- Descriptors that are read in pieces.
-use Rattle.std.proofs.Common.{◌≡◌, ℕ, ◌+◌, ◌-◌, ◌≤◌, List, length, refl, sym, ap, subst, arith}
+use Rattle.std.proofs.Common.{◌≡◌, ℕ, ◌+◌, ◌-◌, ◌^◌, ◌<◌, ◌≤◌, List, length, take, drop, refl, sym, ap, subst, ◌∙◌, arith, lit≤}
+use Rattle.std.specs.Int.{from_be_bytes, to_be_bytes, w32}
+use Rattle.std.proofs.lemmas.List.{drop-take, take-take}
+use Rattle.std.proofs.lemmas.Nat.{from_be_bytes-to_be_bytes_4}
 use Rattle.dg_words.specs.Cells.{part}
 use Rattle.dg_words.proofs.CellLemmas.{part-part, length-part}
 use Rattle.dg_object.specs.Descriptor.{Details, IsHead, IsDescriptor, RestFits}
 use Rattle.dg_object.proofs.RestLemmas.{RestFits-more, RestFits-part, descriptor_from_pieces, pieces_of_descriptor, head_of_descriptor}
+use Rattle.dg_volume.specs.Start.{length_in}
 use Rattle.dg_volume.proofs.PageLemmas.{part_none, crc_piece}
 use Rattle.dg_base.specs.Crc.{crc_of, crc_more}
 use Rattle.dg_object.proofs.HeadLemmas.{one_head}
@@ -58,3 +62,19 @@ one_descriptor cells d e long h k = one_head (part cells 0 28) e d (descriptor_h
 
 pub crc_whole : (cells : List ℕ) (crc more : ℕ) → 1104 ≤ length cells → crc ≡ crc_of (part cells 0 28) → more ≡ crc_more crc (part cells 28 1076) → more ≡ crc_of (part cells 0 1104)
 crc_whole cells crc more long e f = crc_piece cells cells 0 0 crc more 28 1076 1076 28 1104 e f refl refl refl refl (omega arith)
+
+-- ---- the length that a descriptor tells
+
+-- the cells from b to a + b stand within the first c
+take-drop-take : (xs : List ℕ) (a b c : ℕ) → a + b ≤ c → take a (drop b (take c xs)) ≡ take a (drop b xs)
+take-drop-take xs a b c h =
+    let place : b + (c - b) ≡ c = omega (arith, h) in
+    ap (λ n. take a (drop b (take n xs))) (sym place) ∙ ap (take a) (drop-take b (c - b) xs) ∙ take-take a (c - b) (drop b xs) (omega (arith, h))
+
+-- it stands in bytes 8 to 11
+pub length_in-descriptor : (page : List ℕ) (d : Details) → IsDescriptor page d → length_in page ≡ d.length
+unfolding length_in
+length_in-descriptor page d described =
+    let cells : take 4 (drop 8 page) ≡ to_be_bytes w32 d.length = sym (take-drop-take page 4 8 28 (lit≤ tt)) ∙ ap (λ h. take 4 (drop 8 h)) described.head.spelled in
+    let small : d.length < 2 ^ 32 = omega (arith, described.head.range.fits) in
+    ap (from_be_bytes w32) cells ∙ from_be_bytes-to_be_bytes_4 d.length small

@@ -30,4 +30,6 @@ fresh_stands old c name bytes r keeps same place is =
       golden = record { whole = (refl, length-object (golden_row name bytes)) };
       app = subst (λ (p : Program). AppStands c p s.app) (sym is.program) tt;
       order = sym is.order;
+      waived = sym is.waived;
+      gesture = sym is.gesture;
     }

@@ -24,8 +24,15 @@ SameSlots old new = (k : ℕ) → 68 ≤ k → k < 332 → sector new k ≡ sect
 pub SameSlots-keeps : (a b : ℕ) (old new : List ℕ) → b ≤ 68 → Keeps a b old new → SameSlots old new
 SameSlots-keeps a b old new low keeps k h l = keeps.behind k (omega arith) l
 
-pub image_kept : (old new : List ℕ) (i v : ℕ) (h : Held) → i < 4 → SameSlots old new → KeepsImage old i v h → KeepsImage new i v h
-image_kept old new i v h known same keeps =
+-- the sectors of one slot are as before
+abbrev pub SameSlot : ℕ → List ℕ → List ℕ → Type 0
+SameSlot i old new = (k : ℕ) → 68 + 66 * i ≤ k → k < 134 + 66 * i → sector new k ≡ sector old k
+
+pub SameSlot-all : (i : ℕ) (old new : List ℕ) → i < 4 → SameSlots old new → SameSlot i old new
+SameSlot-all i old new known same k low high = same k (omega arith) (omega arith)
+
+pub image_stays : (old new : List ℕ) (i v : ℕ) (h : Held) → SameSlot i old new → KeepsImage old i v h → KeepsImage new i v h
+image_stays old new i v h same keeps =
     let n = length h.complete in
     let most : n ≤ 65 = omega (arith, keeps.header.within, keeps.header.most) in
     let head = same (68 + 66 * i) (omega arith) (omega arith) in
@@ -37,8 +44,14 @@ image_kept old new i v h known same keeps =
       first = λ some. subst (λ (s : List ℕ). HasDescriptor (part s 0 1104) i v h.pages h.crc) (sym page) (keeps.first some);
     }
 
+pub slot_stays : (old new : List ℕ) (i : ℕ) (x : SlotState) (h : Option Held) → SameSlot i old new → SlotStands old i x h → SlotStands new i x h
+slot_stays old new i Dirty None same p = tt
+slot_stays old new i Dirty (Some h) same p = absurd p
+slot_stays old new i (Live v) None same p = absurd p
+slot_stays old new i (Live v) (Some h) same p = image_stays old new i v h same p
+
+pub image_kept : (old new : List ℕ) (i v : ℕ) (h : Held) → i < 4 → SameSlots old new → KeepsImage old i v h → KeepsImage new i v h
+image_kept old new i v h known same keeps = image_stays old new i v h (SameSlot-all i old new known same) keeps
+
 pub slot_kept : (old new : List ℕ) (i : ℕ) (x : SlotState) (h : Option Held) → i < 4 → SameSlots old new → SlotStands old i x h → SlotStands new i x h
-slot_kept old new i Dirty None known same p = tt
-slot_kept old new i Dirty (Some h) known same p = absurd p
-slot_kept old new i (Live v) None known same p = absurd p
-slot_kept old new i (Live v) (Some h) known same p = image_kept old new i v h known same p
+slot_kept old new i x h known same p = slot_stays old new i x h (SameSlot-all i old new known same) p

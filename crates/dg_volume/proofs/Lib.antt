@@ -7,10 +7,14 @@ pub mod DescriptorLemmas
 pub mod SlotLemmas
 pub mod StoreLemmas
 pub mod MountLemmas
-pub mod GoldenLemmas
+pub mod WritingLemmas
 pub mod KeptLemmas
+pub mod CommitLemmas
+pub mod OrderLemmas
 pub mod FreshLemmas
+pub mod TakingLemmas
 pub mod WholeLemmas
 pub mod ContentLemmas
 pub mod StartLemmas
+pub mod ChoiceLemmas
 pub mod RunLemmas

@@ -27,7 +27,7 @@ pub mounted : (c : List ℕ) (r : Snapshot) (kept : List (Option Kept)) (hs : Li
     → ((i : ℕ) → i < 4 → SlotStands c i (slot r i) (get_or hs i None) × (get_or kept i None ≡ told (get_or hs i None)))
     → IsSomeAnd (get_or kept 0 None) (λ k. (k.version ≡ 1) × (k.done ≡ k.pages)) → AppStands c r.program a → r.program ≡ program_told a → IsMounted c (record { snapshot = r; kept = kept })
 mounted c r kept hs a place four slots golden app program = record {
-  store = record { kept = hs; app = a; order = r.order };
+  store = record { kept = hs; app = a; order = r.order; waived = r.waived; gesture = r.gesture };
   stands = record {
     snapshot = r;
     fits = r.in_range;
@@ -37,11 +37,15 @@ mounted c r kept hs a place four slots golden app program = record {
     golden = record { whole = golden_kept (get_or hs 0 None) (get_or kept 0 None) (slots 0 (omega arith)).1 golden };
     app = app;
     order = refl;
+    waived = refl;
+    gesture = refl;
   };
   tells = record {
     kept = λ i h. (slots i h).1;
     slots = λ i h. slot_told_is c i (slot r i) (get_or hs i None) (slots i h).0;
     program = program;
     order = refl;
+    waived = refl;
+    gesture = refl;
   };
 }

@@ -1,5 +1,5 @@
 -- What runs after a start.
-use Rattle.std.proofs.Common.{◌≡◌, ℕ, ◌+◌, Bool, true, false, cond, List, take, length, Option, Some, None, Result, Err, refl, sym, ap, subst, ◌∙◌}
+use Rattle.std.proofs.Common.{◌≡◌, ℕ, zero, suc, ◌+◌, ◌<◌, List, [], take, length, get_or, Option, Some, None, Result, Ok, Err, IfOk, refl, sym, ap, subst, ◌∙◌, arith}
 use Rattle.dg_words.proofs.ListLemmas.{length-tabulate}
 use Rattle.dg_base.specs.Crc.{crc_of}
 use Rattle.dg_object.specs.Object.{content}
@@ -7,7 +7,12 @@ use Rattle.dg_object.specs.Descriptor.{Details, IsDescriptor}
 use Rattle.dg_object.proofs.HeadLemmas.{one_head}
 use Rattle.dg_volume.specs.Pages.{page_in, program}
 use Rattle.dg_volume.specs.Store.{Store, App, HoldsApp, AppStands, Stands}
-use Rattle.dg_volume.specs.Start.{start_of, start_from, sound, golden_start}
+use Rattle.dg_volume.specs.Start.{start_of, copied, length_in}
+use Rattle.dg_volume.specs.Installs.{app_of}
+use Rattle.dg_volume.specs.Acts.{Looked, ReadEnds}
+use Rattle.dg_nor.specs.declared.device.Stopped.{Stopped}
+use Rattle.dg_nor.specs.Device.{Device}
+use Rattle.dg_volume.proofs.DescriptorLemmas.{length_in-descriptor}
 use Rattle.dg_volume.specs.Started.{Starts}
 use Rattle.dg_volume.specs.Told.{program_told}
 use Rattle.dg_volume.specs.Mounted.{Tells}
@@ -36,22 +41,6 @@ app_holds c (Set j w) (Some app) i v p e =
     let version : app.version ≡ v = cc in
     record { app = app; is = refl; holds = record { same_image = image; same_version = version; described = (p.described.0, p.described.1, p.described.2 ∙ sym p.same_image ∙ image, p.described.3 ∙ sym p.same_version ∙ version, p.described.4) } }
 
--- program memory that is told as blank
-pub app_none : (a : Option App) → Blank ≡ program_told a → a ≡ None
-app_none None e = refl
-app_none (Some app) e = absurd cc
-
--- ---- the choice
-
-pub start_kept : (s : Store) (app : App) → s.app ≡ Some app → start_of s ≡ Some (record { image = app.image; version = app.version; pages = app.pages; after = s })
-start_kept s app e = ap (start_from s) e
-
-pub start_golden : (s : Store) → s.app ≡ None → sound s 0 ≡ true → start_of s ≡ Some (golden_start s)
-start_golden s e h = ap (start_from s) e ∙ ap (λ (b : Bool). cond b (Some (golden_start s)) None) h
-
-pub start_none : (s : Store) → s.app ≡ None → sound s 0 ≡ false → start_of s ≡ None
-start_none s e h = ap (start_from s) e ∙ ap (λ (b : Bool). cond b (Some (golden_start s)) None) h
-
 -- ---- what runs
 
 -- what a start tells of the chip that it read
@@ -65,6 +54,11 @@ pub record Said (c : List ℕ) (told : Started) (v : Volume) (image version : �
   pub length : told.length ≡ said.length
   pub crc : told.crc ≡ crc_of (content said.length (program c said.pages))
 
+-- the first of at least one page of program memory
+first_page : (c : List ℕ) (n : ℕ) → 0 < n → get_or (program c n) 0 [] ≡ page_in c 3
+first_page c zero some = absurd (omega (arith, some))
+first_page c (suc n) some = refl
+
 pub runs : (s after : Store) (c new : List ℕ) (told : Started) (v : Volume) (image version : ℕ) (app : App) → start_of s ≡ Some (record { image = app.image; version = app.version; pages = app.pages; after = after })
     → Stands c after → Tells v after → HoldsApp c image version app → Said c told v image version → new ≡ c → Starts s new told
 runs s after c new told v image version app chosen stands tells holds said moved =
@@ -72,6 +66,9 @@ runs s after c new told v image version app chosen stands tells holds said moved
     let e = holds.described in
     let same : e.0 ≡ d = one_head (take 28 (page_in c 3)) e.0 d e.1.head said.described.head in
     let pages : app.pages ≡ program c d.pages = e.4 ∙ ap (λ (x : Details). program c x.pages) same in
+    let some : 0 < d.pages = omega (arith, said.described.head.range.pages) in
+    let told_length : d.length ≡ length_in (get_or app.pages 0 []) =
+    sym (ap (λ (x : List (List ℕ)). length_in (get_or x 0 [])) pages ∙ ap length_in (first_page c d.pages some) ∙ length_in-descriptor (page_in c 3) d said.described) in
     let told_pages : app.pages ≡ program c told.pages = pages ∙ ap (program c) (sym said.pages) in
     let here : Starts s c told = record {
       start = record { image = app.image; version = app.version; pages = app.pages; after = after };
@@ -87,8 +84,8 @@ runs s after c new told v image version app chosen stands tells holds said moved
       same_image = ap (λ (x : Details). x.image) (sym same) ∙ e.2 ∙ sym said.same_image;
       same_version = ap (λ (x : Details). x.version) (sym same) ∙ e.3 ∙ sym said.same_version;
       same_pages = sym said.pages;
-      length = said.length;
-      crc = said.crc ∙ ap (λ (x : List (List ℕ)). crc_of (content d.length x)) (sym pages);
+      length = said.length ∙ told_length;
+      crc = said.crc ∙ ap (λ (x : List (List ℕ)). crc_of (content d.length x)) (sym pages) ∙ ap (λ (n : ℕ). crc_of (content n app.pages)) told_length;
     } in
     subst (λ (x : List ℕ). Starts s x told) (sym moved) here
 
@@ -98,12 +95,18 @@ pub not_a_volume : {T : Type 0} (r : Result T StartFault) (e : StartFault) (f : 
 not_a_volume r e mount.Stopped p q h = let no : start.Stopped ≡ start.NotAVolume = cc in absurd cc
 not_a_volume r e mount.NotAVolume p q h = refl
 
--- ---- golden, once it was copied
+-- ---- an image, once it was copied
 
 app_is : (c : List ℕ) (x : Program) (app : App) (i v : ℕ) → AppStands c x (Some app) → app.image ≡ i → app.version ≡ v → HoldsApp c i v app
 app_is c Blank app i v p e f = absurd p
 app_is c (Set j w) app i v p e f =
     record { same_image = e; same_version = f; described = (p.described.0, p.described.1, p.described.2 ∙ sym p.same_image ∙ e, p.described.3 ∙ sym p.same_version ∙ f, p.described.4) }
 
-pub golden_holds : (c : List ℕ) (s : Store) → Stands c (golden_start s).after → HoldsApp c 0 1 (record { image = 0; version = 1; pages = (golden_start s).pages })
-golden_holds c s stands = app_is c stands.snapshot.program (record { image = 0; version = 1; pages = (golden_start s).pages }) 0 1 stands.app refl refl
+pub installed_holds : (c : List ℕ) (s : Store) (i v : ℕ) → Stands c (copied s i v).after → HoldsApp c i v (app_of s i v)
+installed_holds c s i v stands = app_is c stands.snapshot.program (app_of s i v) i v stands.app refl refl
+
+-- ---- what is told of a call that only reads
+
+pub told_read : {T : Type 0} (r : Result T Stopped) (a b : Device) (P Q R : T → Type 0) → ((x : T) → P x → Q x → Looked a b → R x) → IfOk r P → IfOk r Q → ReadEnds r a b → IfOk r R
+told_read (Ok x) a b P Q R f p q e = f x p q e
+told_read (Err e) a b P Q R f p q ends = tt

@@ -1,10 +1,11 @@
 -- A chip stands for one store at most.
-use Rattle.std.proofs.Common.{◌≡◌, ℕ, ◌+◌, ◌*◌, ◌^◌, ◌<◌, List, take, drop, length, get_or, Option, Some, None, refl, sym, ap, subst, ◌∙◌, arith, IsTrue}
+use Rattle.std.proofs.Common.{◌≡◌, ℕ, ◌+◌, ◌*◌, ◌^◌, ◌<◌, Bool, List, take, drop, length, get_or, Option, Some, None, refl, sym, ap, subst, ◌∙◌, arith, IsTrue}
 use Rattle.std.specs.Int.{to_be_bytes, from_be_bytes, w32}
 use Rattle.std.proofs.lemmas.List.{same_lists, get_or_default}
 use Rattle.std.proofs.lemmas.Nat.{from_be_bytes-to_be_bytes_4}
 use Rattle.std.proofs.lemmas.Bool.Decides.{nat_tests}
 use Rattle.dg_words.specs.Cells.{part}
+use Rattle.dg_words.proofs.ListLemmas.{length-tabulate}
 use Rattle.dg_nor.specs.Chip.{sector}
 use Rattle.dg_object.specs.Descriptor.{Details}
 use Rattle.dg_object.proofs.HeadLemmas.{one_head}
@@ -19,7 +20,9 @@ use Rattle.dg_control.specs.declared.snapshot.Program.{Program}
 use Rattle.dg_control.specs.declared.snapshot.Program.TheVariants.{Blank, Set}
 use Rattle.dg_control.specs.declared.snapshot.Order.{Order}
 use Rattle.dg_control.specs.declared.snapshot.Snapshot.{Snapshot}
-use Rattle.dg_control.proofs.PlaceLemmas.{slot, place_parts, in_range}
+use Rattle.dg_volume.specs.Mounted.{Tells, IsMounted}
+use Rattle.dg_volume.specs.declared.volume.Volume.{Volume}
+use Rattle.dg_control.proofs.PlaceLemmas.{slot, place_parts, in_range, waived_read, gesture_read}
 use Rattle.dg_volume.proofs.SlotLemmas.{one_header, four}
 
 -- ---- one snapshot of a place
@@ -67,6 +70,8 @@ pub record SameSnapshot (s t : Snapshot) : Type 0 where
   pub slots : (i : ℕ) → i < 4 → slot s i ≡ slot t i
   pub program : s.program ≡ t.program
   pub order : s.order ≡ t.order
+  pub waived : s.waived ≡ t.waived
+  pub gesture : s.gesture ≡ t.gesture
 
 pub one_place : (place : List ℕ) (s t : Snapshot) → place ≡ place_of s → place ≡ place_of t → SameSnapshot s t
 one_place place s t e f =
@@ -82,6 +87,8 @@ one_place place s t e f =
           (one_slot (slot s 3) (slot t 3) (h.slots 3) (k.slots 3) (sym p.slot_3 ∙ q.slot_3));
       program = one_program s.program t.program h.program k.program (sym p.program ∙ q.program);
       order = one_order s.order t.order h.order k.order (sym p.order ∙ q.order);
+      waived = sym (waived_read place s e) ∙ waived_read place t f;
+      gesture = sym (gesture_read place s e) ∙ gesture_read place t f;
     }
 
 -- ---- one content of a slot
@@ -134,13 +141,22 @@ one_app c (Set i v) (Some a) (Some b) p q =
     let same : d.0 ≡ e.0 = one_head (take 28 (page_in c 3)) d.0 e.0 d.1.head e.1.head in
     ap Some (same_app a b (p.same_image ∙ sym q.same_image) (p.same_version ∙ sym q.same_version) (d.4 ∙ ap (λ (x : Details). program c x.pages) same ∙ sym e.4))
 
+-- program memory holds the pages of the app
+pub app_pages : (c : List ℕ) (x : Program) (app : App) → AppStands c x (Some app) → program c (length app.pages) ≡ app.pages
+app_pages c Blank app p = absurd p
+app_pages c (Set i v) app p =
+    let d = p.described in
+    ap (program c) (ap length d.4 ∙ length-tabulate d.0.pages (λ p. page_in c (3 + p))) ∙ sym d.4
+
 -- ---- one store
 
-same_store : (s t : Store) → s.kept ≡ t.kept → s.app ≡ t.app → s.order ≡ t.order → s ≡ t
-same_store s t p q r =
-    ap (λ (x : List (Option Held)). record { kept = x; app = s.app; order = s.order }) p
-    ∙ ap (λ (x : Option App). record { kept = t.kept; app = x; order = s.order }) q
-    ∙ ap (λ (x : Order). record { kept = t.kept; app = t.app; order = x }) r
+same_store : (s t : Store) → s.kept ≡ t.kept → s.app ≡ t.app → s.order ≡ t.order → s.waived ≡ t.waived → s.gesture ≡ t.gesture → s ≡ t
+same_store s t p q r w g =
+    ap (λ (x : List (Option Held)). record { kept = x; app = s.app; order = s.order; waived = s.waived; gesture = s.gesture }) p
+    ∙ ap (λ (x : Option App). record { kept = t.kept; app = x; order = s.order; waived = s.waived; gesture = s.gesture }) q
+    ∙ ap (λ (x : Order). record { kept = t.kept; app = t.app; order = x; waived = s.waived; gesture = s.gesture }) r
+    ∙ ap (λ (x : Bool). record { kept = t.kept; app = t.app; order = t.order; waived = x; gesture = s.gesture }) w
+    ∙ ap (λ (x : ℕ). record { kept = t.kept; app = t.app; order = t.order; waived = t.waived; gesture = x }) g
 
 -- the slots of a store, seen from another snapshot of the same place
 pub slots_of : (c : List ℕ) (s : Store) (stands : Stands c s) (r : Snapshot) → part (sector c 1) 0 64 ≡ place_of r → (i : ℕ) → i < 4 → SlotStands c i (slot r i) (held s i)
@@ -159,3 +175,11 @@ one_store c s t p q =
     let kept : (i : ℕ) → i < 4 → held s i ≡ held t i = λ i h. one_held c i (slot p.snapshot i) (held s i) (held t i) (p.slots i h) (slots_of c t q p.snapshot p.place i h) in
     let app : s.app ≡ t.app = one_app c p.snapshot.program s.app t.app p.app (app_of c t q p.snapshot p.place) in
     same_store s t (same_lists s.kept t.kept (p.four ∙ sym q.four) (λ i d h. get_or_default s.kept i d None h ∙ kept i (omega (arith, p.four)) ∙ sym (get_or_default t.kept i d None (omega (arith, p.four, q.four))))) app (p.order ∙ sym same.order ∙ sym q.order)
+    (p.waived ∙ sym same.waived ∙ sym q.waived) (p.gesture ∙ sym same.gesture ∙ sym q.gesture)
+
+-- a mounted volume tells each store that its chip stands for
+pub tells_store : (c : List ℕ) (v : Volume) (s : Store) → IsMounted c v → Stands c s → Tells v s
+tells_store c v s m stands = subst (λ (x : Store). Tells v x) (one_store c m.store s m.stands stands) m.tells
+
+pub app_stands : (c : List ℕ) (s : Store) (app : App) → Stands c s → s.app ≡ Some app → program c (length app.pages) ≡ app.pages
+app_stands c s app stands e = app_pages c stands.snapshot.program app (subst (λ (x : Option App). AppStands c stands.snapshot.program x) e stands.app)

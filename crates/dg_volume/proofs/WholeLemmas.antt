@@ -9,7 +9,8 @@ use Rattle.dg_object.proofs.PageLemmas.{page_of_row-first, page_of_row-data}
 use Rattle.dg_object.proofs.RowLemmas.{descriptor_of_row, crc_in-descriptor_page, content-object, length-object, get_or-object}
 use Rattle.dg_volume.specs.Store.{Store, Held, held, held_whole}
 use Rattle.dg_volume.specs.Start.{pages_sound, sound}
-use Rattle.dg_volume.specs.GoldenLaws.{GoldenLaws}
+use Rattle.dg_volume.specs.RowLaws.{RowLaws}
+use Rattle.dg_volume.proofs.DescriptorLemmas.{length_in-descriptor}
 
 -- ---- tests of each page
 
@@ -52,12 +53,15 @@ kept_is_sound : (s : Store) (i : ℕ) (h : Held) → held s i ≡ Some h → pag
 kept_is_sound s i h e is = rw e is
 
 -- an image that is kept whole is sound
-pub whole_is_sound : (row : Row) → IsRow row → (s : Store) (i : ℕ) → held s i ≡ Some (held_whole row) → sound s i ≡ true
+whole_is_sound : (row : Row) → IsRow row → (s : Store) (i : ℕ) → held s i ≡ Some (held_whole row) → sound s i ≡ true
 whole_is_sound row is s i e = kept_is_sound s i (held_whole row) e (object_is_sound row is)
 
-pub golden_laws : (row : Row) → IsRow row → row.image ≡ 0 → row.version ≡ 1 → GoldenLaws row
-golden_laws row is _ _ = record {
-  is_sound = λ s e. whole_is_sound row is s 0 e;
-  described = subst (λ page. IsDescriptor page (details row)) (sym (first_page row)) (descriptor_of_row row is);
-  bytes = content-object row;
-}
+pub row_laws : (row : Row) → IsRow row → RowLaws row
+row_laws row is =
+    let described : IsDescriptor (get_or (object row) 0 []) (details row) = subst (λ page. IsDescriptor page (details row)) (sym (first_page row)) (descriptor_of_row row is) in
+    record {
+      is_sound = whole_is_sound row is;
+      described = described;
+      length_told = length_in-descriptor (get_or (object row) 0 []) (details row) described;
+      bytes = content-object row;
+    }

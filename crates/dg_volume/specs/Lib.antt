@@ -5,6 +5,10 @@ pub mod Told
 pub mod Mounted
 pub mod Start
 pub mod Started
+pub mod Installs
+pub mod Changes
 pub mod Acts
 pub mod Faults
-pub mod GoldenLaws
+pub mod RowLaws
+pub mod Writing
+pub mod Taking

@@ -21,6 +21,8 @@ pub record Tells (v : Volume) (s : Store) : Type 0 where
   pub slots : (i : ℕ) → i < 4 → slice_index_or (snapshot_of v).slots i Dirty ≡ slot_told (held s i)
   pub program : (snapshot_of v).program ≡ program_told s.app
   pub order : (snapshot_of v).order ≡ s.order
+  pub waived : (snapshot_of v).waived ≡ s.waived
+  pub gesture : (snapshot_of v).gesture ≡ s.gesture
 
 -- the chip stands for a store, and the volume tells it
 pub record IsMounted (c : List ℕ) (v : Volume) : Type 0 where

@@ -1,10 +1,8 @@
 -- What the answer of a start says.
 use Rattle.std.specs.Prelude.{◌≡◌, ℕ, List, length, Some}
-use Rattle.dg_base.specs.Crc.{crc_of}
-use Rattle.dg_object.specs.Object.{content}
 use Rattle.dg_object.specs.Descriptor.{Details, IsDescriptor}
 use Rattle.dg_volume.specs.Store.{Store, Stands, page_in, program}
-use Rattle.dg_volume.specs.Start.{Start, start_of}
+use Rattle.dg_volume.specs.Start.{Start, start_of, started_length, started_crc}
 use Rattle.dg_volume.specs.Mounted.{Tells}
 use Rattle.dg_volume.specs.declared.starting.Started.{Started}
 
@@ -19,11 +17,12 @@ pub record Starts (s : Store) (new : List ℕ) (told : Started) : Type 0 where
   pub after : Stands new start.after
   pub runs : program new told.pages ≡ start.pages
   pub tells : Tells told.volume start.after
-  -- the first page that runs is their descriptor, and the CRC is that of the image's bytes
+  -- the first page that runs is the descriptor of the image that is told
   pub said : Details
   pub described : IsDescriptor (page_in new 3) said
   pub same_image : said.image ≡ told.image
   pub same_version : said.version ≡ told.version
   pub same_pages : said.pages ≡ told.pages
-  pub length : told.length ≡ said.length
-  pub crc : told.crc ≡ crc_of (content said.length start.pages)
+  -- the length and the CRC are those of the image that runs
+  pub length : told.length ≡ started_length start
+  pub crc : told.crc ≡ started_crc start

@@ -1,5 +1,5 @@
 -- What a chip stands for: the images that it keeps, what is in program memory, and the kept order.
-use Rattle.std.specs.Prelude.{◌≡◌, ℕ, ◌+◌, ◌*◌, ◌<◌, IsTrue, List, [], ◌∷◌, length, slice_index_or, Option, Some, None, IsSomeAnd}
+use Rattle.std.specs.Prelude.{◌≡◌, ℕ, ◌+◌, ◌*◌, ◌<◌, Bool, false, IsTrue, List, [], ◌∷◌, length, slice_index_or, Option, Some, None, IsSomeAnd}
 use Rattle.dg_words.specs.Cells.{part}
 use Rattle.dg_base.specs.Crc.{crc_of}
 use Rattle.dg_nor.specs.Chip.{sector}
@@ -29,11 +29,13 @@ pub record App : Type 0 where
   pub version : ℕ
   pub pages : List (List ℕ)
 
--- for each image from 0 to 3 what is kept of it; program memory, None where it is blank; the order, with number 0 where there is none
+-- for each image from 0 to 3 what is kept of it; program memory, None where it is blank; the order, with number 0 where there is none, and whether it is waived; short starts in a row
 pub record Store : Type 0 where
   pub kept : List (Option Held)
   pub app : Option App
   pub order : Order
+  pub waived : Bool
+  pub gesture : ℕ
 
 -- what is kept of an image
 abbrev pub held : Store → ℕ → Option Held
@@ -83,6 +85,8 @@ pub record Stands (c : List ℕ) (s : Store) : Type 0 where
   pub golden : KeepsGolden s
   pub app : AppStands c snapshot.program s.app
   pub order : s.order ≡ snapshot.order
+  pub waived : s.waived ≡ snapshot.waived
+  pub gesture : s.gesture ≡ snapshot.gesture
 
 -- an image that is kept whole
 abbrev pub held_whole : Row → Held
@@ -99,6 +103,8 @@ fresh name bytes =
       kept = Some (held_whole (golden_row name bytes)) ∷ None ∷ None ∷ None ∷ [];
       app = None;
       order = record { number = 0; image = 0; version = 0 };
+      waived = false;
+      gesture = 0;
     }
 
 -- the chip is a volume

@@ -1,5 +1,5 @@
 //! The snapshot where it stands on a chip.
-ghost use Rattle.std.specs.Prelude.{◌≡◌, ◌+◌, ◌≤◌, IfOk, OnOk, IsErrOf};
+ghost use Rattle.std.specs.Prelude.{◌≡◌, ◌+◌, ◌≤◌, false, IfOk, OnOk, IsErrOf};
 ghost use Rattle.dg_words.specs.Cells.{part};
 ghost use Rattle.dg_nor.specs.Chip.{sector, Keeps};
 ghost use Rattle.dg_volume.specs.Acts.{MountEnds, ActEnds};
@@ -30,6 +30,7 @@ pub(crate) fn read_snapshot<N: Nor>(nor: &mut N) -> Result<Snapshot, MountFault>
 pub(crate) fn commit<N: Nor>(nor: &mut N, snapshot: &Snapshot) -> Result<(), Stopped>
     ensures spelled { OnOk result (part (sector (N.device nor.new).image 1) 0 64 ≡ place_of snapshot.now) }
     ensures keeps { Keeps 1 2 (N.device nor.old).image (N.device nor.new).image }
+    ensures awake { OnOk result ((N.device nor.old).stopped ≡ false) }
     ensures ends { ActEnds result (N.device nor.old) (N.device nor.new) }
 {
     let place = write_place(snapshot);

@@ -3,6 +3,8 @@ ghost use Rattle.std.specs.Prelude.{◌≡◌};
 ghost use Rattle.dg_volume.specs.declared.faults.FormatFault.TheVariants as format_faults;
 ghost use Rattle.dg_volume.specs.declared.faults.MountFault.TheVariants as mount_faults;
 ghost use Rattle.dg_volume.specs.declared.faults.StartFault.TheVariants as start_faults;
+ghost use Rattle.dg_volume.specs.declared.faults.InjectFault.TheVariants as inject_faults;
+ghost use Rattle.dg_volume.specs.declared.faults.OrderFault.TheVariants as order_faults;
 
 use dg_nor::Stopped;
 use std::error::Error;
@@ -39,6 +41,30 @@ pub enum StartFault {
     NoImage,
 }
 
+/// Why an image was not injected.
+#[derive(Clone, Copy, Debug, PartialEq, Eq)]
+pub enum InjectFault {
+    /// The chip is stopped.
+    Stopped,
+    /// The image has no byte.
+    Empty,
+    /// The image has more than 70,656 bytes.
+    TooLarge,
+    /// A larger version is kept.
+    Stale { kept: u32 },
+    /// Image 0 is golden, which is written by formatting alone.
+    Reserved,
+}
+
+/// Why an order was not kept.
+#[derive(Clone, Copy, Debug, PartialEq, Eq)]
+pub enum OrderFault {
+    /// The chip is stopped.
+    Stopped,
+    /// The kept order's number is not smaller.
+    OldOrder { kept: u32 },
+}
+
 impl fmt::Display for FormatFault {
     fn fmt<W: fmt::Write>(&self, f: &mut fmt::Formatter<W>) -> fmt::Result {
         match self {
@@ -68,11 +94,36 @@ impl fmt::Display for StartFault {
     }
 }
 
+impl fmt::Display for InjectFault {
+    fn fmt<W: fmt::Write>(&self, f: &mut fmt::Formatter<W>) -> fmt::Result {
+        match self {
+            InjectFault::Stopped => f.write_str("the flash chip is stopped"),
+            InjectFault::Empty => f.write_str("the image is empty"),
+            InjectFault::TooLarge => f.write_str("the image is too large"),
+            InjectFault::Stale { kept } => write!(f, "version {kept} is kept, which is larger"),
+            InjectFault::Reserved => f.write_str("image 0 is golden"),
+        }
+    }
+}
+
+impl fmt::Display for OrderFault {
+    fn fmt<W: fmt::Write>(&self, f: &mut fmt::Formatter<W>) -> fmt::Result {
+        match self {
+            OrderFault::Stopped => f.write_str("the flash chip is stopped"),
+            OrderFault::OldOrder { kept } => write!(f, "an order with number {kept} is kept"),
+        }
+    }
+}
+
 impl Error for FormatFault {}
 
 impl Error for MountFault {}
 
 impl Error for StartFault {}
+
+impl Error for InjectFault {}
+
+impl Error for OrderFault {}
 
 impl From<Stopped> for FormatFault {
     ghost from_gives = { λ _ e. e ≡ format_faults.Stopped };
@@ -108,5 +159,21 @@ impl From<Stopped> for StartFault {
 
     fn from(_stopped: Stopped) -> StartFault {
         StartFault::Stopped
+    }
+}
+
+impl From<Stopped> for InjectFault {
+    ghost from_gives = { λ _ e. e ≡ inject_faults.Stopped };
+
+    fn from(_stopped: Stopped) -> InjectFault {
+        InjectFault::Stopped
+    }
+}
+
+impl From<Stopped> for OrderFault {
+    ghost from_gives = { λ _ e. e ≡ order_faults.Stopped };
+
+    fn from(_stopped: Stopped) -> OrderFault {
+        OrderFault::Stopped
     }
 }

@@ -1,21 +1,18 @@
 //! Formatting: a chip becomes a volume that keeps golden alone.
-ghost use Rattle.std.specs.Prelude.{◌≡◌, ◌↔◌, ◌⊎◌, ℕ, ◌+◌, ◌<◌, ◌≤◌, IsTrue, OnOk, IsErrOf, length};
-ghost use Rattle.dg_words.specs.Cells.{overwritten};
+ghost use Rattle.std.specs.Prelude.{◌≡◌, ◌↔◌, ◌⊎◌, ℕ, ◌<◌, ◌≤◌, false, IsTrue, OnOk, IsErrOf, length};
 ghost use Rattle.dg_base.specs.Texts.{names};
-ghost use Rattle.dg_nor.specs.Chip.{sector, blank, Keeps};
-ghost use Rattle.dg_object.specs.Object.{pages_for, page_of_row};
+ghost use Rattle.dg_nor.specs.Chip.{Keeps};
 ghost use Rattle.dg_volume.specs.Acts.{ActEnds, Worked, Stops};
-ghost use Rattle.dg_volume.specs.Header.{header_bytes};
-ghost use Rattle.dg_volume.specs.Pages.{page_in};
 ghost use Rattle.dg_control.specs.Snapshot.{IsFresh};
 ghost use Rattle.dg_volume.specs.Store.{KeepsImage, Stands, fresh, golden_row, held_whole};
 
 use crate::control::commit;
-use crate::header::{gates_of, header_bytes};
-use crate::layout::{GATES, GOLDEN, GOLDEN_VERSION, header_sector, page_sector};
+use crate::layout::{GOLDEN, GOLDEN_VERSION};
+use crate::new_image::NewImage;
+use crate::writing::{fill, write_header};
 use crate::{FormatFault, Order, Program, SlotState, Snapshot, Volume};
-use dg_nor::{Nor, Stopped, erase_sector, program_in};
-use dg_object::{Profile, SizeFault, check_size, page_of, profile_of};
+use dg_nor::{Nor, Stopped};
+use dg_object::{SizeFault, check_size};
 
 impl Volume {
     /// Makes the chip a volume that keeps golden alone: with this name, of 1 to 70,656 bytes. `used` commits are
@@ -31,6 +28,7 @@ impl Volume {
 
         ensures formatted { OnOk result (Stands (N.device nor.new).image (fresh name.now golden.now)) }
         ensures worked { OnOk result (Worked (N.device nor.old) (N.device nor.new)) }
+        ensures awake { OnOk result ((N.device nor.old).stopped ≡ false) }
 
         ensures empty { (result ≡ Err FormatFault.Empty) ↔ (length golden.now ≡ 0) }
         ensures too_large { (result ≡ Err FormatFault.TooLarge) ↔ (70656 < length golden.now) }
@@ -82,38 +80,14 @@ fn write_golden<N: Nor>(nor: &mut N, golden: &[u8], name: &[u8]) -> Result<(), S
     ensures keeps { Keeps 68 134 (N.device nor.old).image (N.device nor.new).image }
     ensures ends { ActEnds result (N.device nor.old) (N.device nor.new) }
 {
-    let profile = profile_of(golden, GOLDEN, GOLDEN_VERSION, name);
-    write_header(nor, &profile)?;
-    for p in 0..profile.pages {
-        write_page(nor, golden, name, p)?;
-    }
-    program_in(nor, header_sector(GOLDEN), GATES, &gates_of(profile.pages))
-}
-
-/// Writes the header of golden's slot, without a complete page.
-fn write_header<N: Nor>(nor: &mut N, profile: &Profile) -> Result<(), Stopped>
-    ensures header { OnOk result (sector (N.device nor.new).image 68
-        ≡ overwritten (blank 2048) 0 (header_bytes 0 1 profile.now.pages profile.now.crc)) }
-    ensures keeps { Keeps 68 69 (N.device nor.old).image (N.device nor.new).image }
-    ensures ends { ActEnds result (N.device nor.old) (N.device nor.new) }
-{
-    let header = header_bytes(GOLDEN, GOLDEN_VERSION, profile.pages, profile.crc);
-    erase_sector(nor, header_sector(GOLDEN))?;
-    program_in(nor, header_sector(GOLDEN), 0, &header)
-}
-
-/// Writes a page of golden.
-fn write_page<N: Nor>(nor: &mut N, golden: &[u8], name: &[u8], p: u8) -> Result<(), Stopped>
-    requires some { 1 ≤ length golden.now }
-    requires fits { length golden.now ≤ 70656 }
-    requires named { IsTrue (names name.now) }
-    requires page { p < pages_for (length golden.now) }
-    ensures page { OnOk result (page_in (N.device nor.new).image (69 + p) ≡ page_of_row (golden_row name.now golden.now) p) }
-    ensures keeps { Keeps (69 + p) (70 + p) (N.device nor.old).image (N.device nor.new).image }
-    ensures ends { ActEnds result (N.device nor.old) (N.device nor.new) }
-{
-    let mut page = [0; 1104];
-    page_of(golden, GOLDEN, GOLDEN_VERSION, name, p, &mut page);
-    erase_sector(nor, page_sector(GOLDEN, p))?;
-    program_in(nor, page_sector(GOLDEN, p), 0, &page)
+    let image = NewImage {
+        number: GOLDEN,
+        version: GOLDEN_VERSION,
+        name,
+        bytes: golden,
+    };
+    let mut first = [0; 1104];
+    image.page(0, &mut first);
+    write_header(nor, &image.profile(&first))?;
+    fill(nor, &image, &first)
 }

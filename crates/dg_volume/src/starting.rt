@@ -1,22 +1,22 @@
 //! The start of a mote: what runs, and that it stands in program memory.
-ghost use Rattle.std.specs.Prelude.{◌≡◌, ◌⊎◌, ℕ, ◌+◌, ◌≤◌, ◌<◌, true, false, None, IfOk, OnOk, IsErrOf, IsSomeAnd};
+ghost use Rattle.std.specs.Prelude.{◌≡◌, ◌⊎◌, ℕ, ◌+◌, ◌≤◌, ◌<◌, true, false, Some, None, IfOk, OnOk, IsErrOf, IsSomeAnd};
 ghost use Rattle.dg_words.specs.Cells.{part};
 ghost use Rattle.dg_base.specs.Crc.{crc_of};
 ghost use Rattle.dg_nor.specs.Chip.{Keeps};
 ghost use Rattle.dg_object.specs.Object.{content, pages_for};
 ghost use Rattle.dg_object.specs.Descriptor.{Details, IsDescriptor};
-ghost use Rattle.dg_volume.specs.Acts.{ReadEnds, StartEnds, Looked, Worked, Stops};
-ghost use Rattle.dg_volume.specs.Store.{Store, App, HoldsApp, Stands, IsVolume, IsNoVolume, page_in, program};
-ghost use Rattle.dg_volume.specs.Start.{start_of, sound, golden_start};
-ghost use Rattle.dg_volume.specs.Mounted.{snapshot_of, IsMounted, Tells};
+ghost use Rattle.dg_volume.specs.Acts.{ReadEnds, ActEnds, StartEnds, Looked, Worked, Stops};
+ghost use Rattle.dg_volume.specs.Store.{Store, App, HoldsApp, Stands, held, IsVolume, IsNoVolume, page_in, program};
+ghost use Rattle.dg_volume.specs.Start.{start_of, start_from, sound, is_whole, copied};
+ghost use Rattle.dg_volume.specs.Mounted.{IsMounted};
 ghost use Rattle.dg_volume.specs.Started.{Starts};
 
-use crate::control::commit;
+use crate::choosing::{is_golden_sound, takes_order};
 use crate::descriptor::read_head;
-use crate::layout::{GOLDEN, GOLDEN_VERSION, PROGRAM, page_sector};
-use crate::pages::{copy_pages, front_crc};
-use crate::sound::is_sound;
-use crate::{Program, Snapshot, StartFault, Volume};
+use crate::installing::install;
+use crate::layout::{GOLDEN, GOLDEN_VERSION, PROGRAM};
+use crate::pages::front_crc;
+use crate::{Program, StartFault, Volume};
 use dg_nor::{Nor, PAGE, Stopped};
 
 /// What was started. `pages` counts the descriptor too, `length` is that of the image's bytes, and `crc` is their
@@ -31,7 +31,8 @@ pub struct Started {
     pub crc: u16,
 }
 
-/// Starts the image of a chip: what program memory is Set to, else golden, which is copied there first.
+/// Starts the image of a chip: the ordered one, where the order waits and its image is sound, else what program
+/// memory is Set to, else golden. The ordered image and golden are copied into program memory first.
 pub fn start<N: Nor>(nor: &mut N) -> Result<Started, StartFault>
     ensures started { IfOk result (λ told. (s : Store) → Stands (N.device nor.old).image s → Starts s (N.device nor.new).image told) }
     ensures volume { OnOk result (IsVolume (N.device nor.old).image) }
@@ -46,56 +47,58 @@ pub fn start<N: Nor>(nor: &mut N) -> Result<Started, StartFault>
     ensures stopped { IsErrOf result StartFault.Stopped → Stops (N.device nor.old) (N.device nor.new) }
 {
     let volume = Volume::mount(nor)?;
-    match volume.snapshot.program {
-        Program::Set { image, version } => Ok(running(nor, volume, image, version)?),
-        Program::Blank => {
-            let volume = install_golden(nor, volume)?;
-            Ok(running(nor, volume, GOLDEN, GOLDEN_VERSION)?)
-        }
+    if takes_order(nor, &volume)? {
+        let order = volume.snapshot.order;
+        return Ok(start_copied(nor, volume, order.image, order.version)?);
     }
+    start_program(nor, volume)
 }
 
-/// Copies golden into program memory, where it is sound, and keeps that program memory is Set to it.
-fn install_golden<N: Nor>(nor: &mut N, volume: Volume) -> Result<Volume, StartFault>
-    requires mounted { IsMounted (N.device nor.old).image volume }
-    requires blank { (snapshot_of volume).program ≡ Program.Blank }
-    ensures sound { OnOk result ((s : Store) → Stands (N.device nor.old).image s → sound s 0 ≡ true) }
-    ensures stands { OnOk result ((s : Store) → Stands (N.device nor.old).image s → Stands (N.device nor.new).image (golden_start s).after) }
-    ensures told { IfOk result (λ v. (s : Store) → Stands (N.device nor.old).image s → Tells v (golden_start s).after) }
-    ensures keeps { Keeps 1 68 (N.device nor.old).image (N.device nor.new).image }
-    ensures no_image { IsErrOf result StartFault.NoImage → (s : Store) → Stands (N.device nor.old).image s → sound s 0 ≡ false }
+/// Starts what program memory is Set to, else golden.
+fn start_program<N: Nor>(nor: &mut N, volume: Volume) -> Result<Started, StartFault>
+    requires { IsMounted (N.device nor.old).image volume }
+    ensures started { IfOk result (λ told. (s : Store) → Stands (N.device nor.old).image s → start_of s ≡ start_from s s.app
+        → Starts s (N.device nor.new).image told) }
+    ensures no_image { IsErrOf result StartFault.NoImage → (s : Store) → Stands (N.device nor.old).image s → start_from s s.app ≡ None }
     ensures a_volume { IsErrOf result StartFault.NotAVolume → ⊥ }
+    ensures keeps { Keeps 1 68 (N.device nor.old).image (N.device nor.new).image }
     ensures ends { StartEnds result (N.device nor.old) (N.device nor.new) }
 {
-    let golden = volume.kept[0].unwrap();
-    if !is_sound(nor, GOLDEN, &golden)? {
-        return Err(StartFault::NoImage);
+    match volume.snapshot.program {
+        Program::Set { image, version } => Ok(running(nor, volume, image, version)?),
+        Program::Blank => start_golden(nor, volume),
     }
-    copy_pages(nor, page_sector(GOLDEN, 0), PROGRAM, golden.pages)?;
-    let snapshot = set_to_golden(&volume.snapshot);
-    commit(nor, &snapshot)?;
-    Ok(Volume {
-        snapshot,
-        kept: volume.kept,
-    })
 }
 
-/// The same snapshot, with program memory Set to golden.
-fn set_to_golden(snapshot: &Snapshot) -> Snapshot
-    ensures program { result.program ≡ Program.Set GOLDEN GOLDEN_VERSION }
-    ensures slots { result.slots ≡ snapshot.now.slots }
-    ensures order { result.order ≡ snapshot.now.order }
+/// Starts golden, where it is sound.
+fn start_golden<N: Nor>(nor: &mut N, volume: Volume) -> Result<Started, StartFault>
+    requires { IsMounted (N.device nor.old).image volume }
+    ensures started { IfOk result (λ told. (s : Store) → Stands (N.device nor.old).image s → start_of s ≡ start_from s None
+        → Starts s (N.device nor.new).image told) }
+    ensures no_image { IsErrOf result StartFault.NoImage → (s : Store) → Stands (N.device nor.old).image s → sound s 0 ≡ false }
+    ensures a_volume { IsErrOf result StartFault.NotAVolume → ⊥ }
+    ensures keeps { Keeps 1 68 (N.device nor.old).image (N.device nor.new).image }
+    ensures ends { StartEnds result (N.device nor.old) (N.device nor.new) }
 {
-    Snapshot {
-        slots: snapshot.slots,
-        program: Program::Set {
-            image: GOLDEN,
-            version: GOLDEN_VERSION,
-        },
-        order: snapshot.order,
-        waived: snapshot.waived,
-        gesture: snapshot.gesture,
+    if !is_golden_sound(nor, &volume)? {
+        return Err(StartFault::NoImage);
     }
+    Ok(start_copied(nor, volume, GOLDEN, GOLDEN_VERSION)?)
+}
+
+/// Copies an image that is kept whole into program memory, and starts it.
+fn start_copied<N: Nor>(nor: &mut N, volume: Volume, image: u8, version: u32) -> Result<Started, Stopped>
+    requires mounted { IsMounted (N.device nor.old).image volume }
+    requires known_image { image ≤ 3 }
+    requires some_version { 1 ≤ version }
+    requires whole { (s : Store) → Stands (N.device nor.old).image s → is_whole (held s image) version ≡ true }
+    ensures started { IfOk result (λ told. (s : Store) → Stands (N.device nor.old).image s → start_of s ≡ Some (copied s image version)
+        → Starts s (N.device nor.new).image told) }
+    ensures keeps { Keeps 1 68 (N.device nor.old).image (N.device nor.new).image }
+    ensures ends { ActEnds result (N.device nor.old) (N.device nor.new) }
+{
+    let volume = install(nor, volume, image, version)?;
+    running(nor, volume, image, version)
 }
 
 /// What is told of the image in program memory once it runs.

@@ -1,5 +1,5 @@
 //! A chip in memory, from its formatting to its second start.
-use crate::{FormatFault, MountFault, Program, SlotState, StartFault, Volume, start};
+use crate::{FormatFault, MountFault, OrderFault, Program, SlotState, StartFault, Volume, start};
 use dg_nor::{Board, Nor, program_in};
 use std::test::Fail;
 
@@ -70,5 +70,24 @@ fn what_is_no_volume_or_no_image_is_refused(rt: HostRuntime) -> Result<(), Fail>
     let volume = Volume::mount(&mut board)?;
     assert!(rt; volume.kept(0).is_some());
     assert!(rt; matches!(start(&mut board), Err(StartFault::NoImage)));
+    Ok(())
+}
+
+#[test]
+fn an_order_with_an_equal_number_is_refused(rt: HostRuntime) -> Result<(), Fail> {
+    let mut board = Board::memory(rt.alloc())?;
+    Volume::format(&mut board, b"A", b"base", 0)?;
+    let mut volume = Volume::mount(&mut board)?;
+    volume.order(&mut board, 2, 1, 5)?;
+    assert_eq!(rt;
+        volume.order(&mut board, 2, 1, 6),
+        Err(OrderFault::OldOrder { kept: 2 })
+    );
+    assert_eq!(rt; volume.snapshot().order.version, 5);
+
+    // The ordered image is not kept, so golden is started.
+    let started = start(&mut board)?;
+    assert_eq!(rt; started.image, 0);
+    assert_eq!(rt; started.volume.snapshot().order.number, 2);
     Ok(())
 }

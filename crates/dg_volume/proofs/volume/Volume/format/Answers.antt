@@ -1,3 +1,4 @@
+use Rattle.std.proofs.Common.{sym, ◌∙◌}
 use Rattle.dg_volume.proofs.ActLemmas.{Worked_then}
 use Rattle.dg_volume.proofs.FreshLemmas.{fresh_stands}
 use Rattle.dg_volume.proofs.volume.Volume.format.Goals as goal
@@ -8,3 +9,6 @@ returns-clause-formatted g c =
 
 pub returns-clause-worked : goal.returns-clause-worked
 returns-clause-worked g c = Worked_then c.in_ok-write_golden.ensures.ends c.in_ok-commit.ensures.ends
+
+pub returns-clause-awake : goal.returns-clause-awake
+returns-clause-awake g c = sym c.in_ok-write_golden.ensures.ends.ran.stopped ∙ c.in_ok-commit.ensures.awake
