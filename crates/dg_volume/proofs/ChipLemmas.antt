@@ -71,26 +71,3 @@ apart j k ne = ⊎_elim (λ lt. inl lt) (λ ge. inr (omega arith)) (cases_lt j k
 
 pub erased_written : (old new bs : List ℕ) → old ≡ blank 2048 → new ≡ programmed old 0 bs → AreBytes bs → length bs ≤ 2048 → new ≡ overwritten (blank 2048) 0 bs
 erased_written old new bs e p small fits = p ∙ ap (λ c. programmed c 0 bs) e ∙ programmed-blank 2048 0 bs small (omega arith)
-
--- a second piece behind what was written in front
-pub second_written : (old new front bs : List ℕ) (at n m : ℕ) → old ≡ overwritten (blank 2048) 0 front → new ≡ programmed old at bs → AreBytes bs → length front ≡ n → length bs ≡ m → n ≤ at → at + m ≤ 2048
-    → new ≡ overwritten (overwritten (blank 2048) 0 front) at bs
-second_written old new front bs at n m e p small ln lm low fits =
-    let l = length-blank 2048 in
-    let clear : part old at (length bs) ≡ blank (length bs) =
-    ap (λ c. part c at (length bs)) e ∙ part-overwritten_apart (blank 2048) 0 front at (length bs) (omega arith) (omega arith) (inr (omega arith)) ∙ part-blank 2048 at (length bs) (omega arith) in
-    p ∙ programmed_blank old at bs small clear ∙ ap (λ c. overwritten c at bs) e
-
--- what stands in front, and what stands there
-pub front_kept : (new front bs : List ℕ) (at n m : ℕ) → new ≡ overwritten (overwritten (blank 2048) 0 front) at bs → length front ≡ n → length bs ≡ m → n ≤ at → at + m ≤ 2048 → part new 0 n ≡ front
-front_kept new front bs at n m e ln lm low fits =
-    let l = length-blank 2048 in
-    let o = length-overwritten (blank 2048) 0 front (omega arith) in
-    ap (λ c. part c 0 n) e ∙ part-overwritten_apart (overwritten (blank 2048) 0 front) at bs 0 n (omega arith) (omega arith) (inl (omega arith))
-    ∙ ap (part (overwritten (blank 2048) 0 front) 0) (sym ln) ∙ part-overwritten_at (blank 2048) 0 front (omega arith)
-
-pub second_kept : (new front bs : List ℕ) (at n m : ℕ) → new ≡ overwritten (overwritten (blank 2048) 0 front) at bs → length front ≡ n → length bs ≡ m → n ≤ at → at + m ≤ 2048 → part new at m ≡ bs
-second_kept new front bs at n m e ln lm low fits =
-    let l = length-blank 2048 in
-    let o = length-overwritten (blank 2048) 0 front (omega arith) in
-    ap (λ c. part c at m) e ∙ ap (part (overwritten (overwritten (blank 2048) 0 front) at bs) at) (sym lm) ∙ part-overwritten_at (overwritten (blank 2048) 0 front) at bs (omega arith)

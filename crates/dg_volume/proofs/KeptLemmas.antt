@@ -1,4 +1,4 @@
--- Slots and program memory that are kept, while other sectors are written.
+-- Slots that are kept, while other sectors are written.
 use Rattle.std.proofs.Common.{◌≡◌, ℕ, ◌+◌, ◌*◌, ◌<◌, ◌≤◌, List, length, Option, Some, None, sym, ap, subst, ◌∙◌, arith}
 use Rattle.std.proofs.lemmas.List.{same_lists}
 use Rattle.dg_words.specs.Lists.{tabulate}
@@ -7,12 +7,7 @@ use Rattle.dg_words.proofs.ListLemmas.{length-tabulate, get_or-tabulate}
 use Rattle.dg_nor.specs.Chip.{sector, Keeps}
 use Rattle.dg_volume.specs.Header.{IsHeader}
 use Rattle.dg_volume.specs.Pages.{page_in}
-use Rattle.dg_volume.specs.Store.{Held, App, HasDescriptor, KeepsImage, SlotStands, HoldsApp, AppStands}
-use Rattle.dg_object.specs.Object.{pages_for}
-use Rattle.dg_object.specs.Descriptor.{IsDescriptor}
-use Rattle.dg_object.proofs.RowLemmas.{pages_for-most}
-use Rattle.dg_control.specs.declared.snapshot.Program.{Program}
-use Rattle.dg_control.specs.declared.snapshot.Program.TheVariants.{Blank, Set}
+use Rattle.dg_volume.specs.Store.{Held, HasDescriptor, KeepsImage, SlotStands}
 use Rattle.dg_control.specs.declared.snapshot.SlotState.{SlotState}
 use Rattle.dg_control.specs.declared.snapshot.SlotState.TheVariants.{Dirty, Live}
 
@@ -60,29 +55,3 @@ image_kept old new i v h known same keeps = image_stays old new i v h (SameSlot-
 
 pub slot_kept : (old new : List ℕ) (i : ℕ) (x : SlotState) (h : Option Held) → i < 4 → SameSlots old new → SlotStands old i x h → SlotStands new i x h
 slot_kept old new i x h known same p = slot_stays old new i x h (SameSlot-all i old new known same) p
-
--- ---- program memory
-
--- its sectors are as before
-abbrev pub SameProgram : List ℕ → List ℕ → Type 0
-SameProgram old new = (k : ℕ) → 3 ≤ k → k < 68 → sector new k ≡ sector old k
-
-app_kept : (old new : List ℕ) (i v : ℕ) (app : App) → SameProgram old new → HoldsApp old i v app → HoldsApp new i v app
-app_kept old new i v app same holds =
-    let d = holds.described in
-    let n = d.0.pages in
-    let most : pages_for d.0.length ≤ 65 = pages_for-most d.0.length d.1.head.range.fits in
-    let within : n ≤ 65 = omega (arith, d.1.head.range.pages) in
-    let page = same 3 (omega arith) (omega arith) in
-    record {
-      same_image = holds.same_image;
-      same_version = holds.same_version;
-      described = (d.0, subst (λ (s : List ℕ). IsDescriptor (part s 0 1104) d.0) (sym page) d.1, d.2, d.3,
-          d.4 ∙ same_tables n (λ p. page_in old (3 + p)) (λ p. page_in new (3 + p)) (λ p l. ap (λ s. part s 0 1104) (sym (same (3 + p) (omega arith) (omega arith)))));
-    }
-
-pub app_stays : (old new : List ℕ) (x : Program) (a : Option App) → SameProgram old new → AppStands old x a → AppStands new x a
-app_stays old new Blank None same p = tt
-app_stays old new Blank (Some app) same p = absurd p
-app_stays old new (Set i v) None same p = absurd p
-app_stays old new (Set i v) (Some app) same p = app_kept old new i v app same p

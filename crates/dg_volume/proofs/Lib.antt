@@ -7,7 +7,6 @@ pub mod DescriptorLemmas
 pub mod SlotLemmas
 pub mod StoreLemmas
 pub mod MountLemmas
-pub mod GoldenLemmas
 pub mod WritingLemmas
 pub mod KeptLemmas
 pub mod CommitLemmas

@@ -12,12 +12,11 @@ use Rattle.dg_control.specs.declared.snapshot.Snapshot.{Snapshot}
 use Rattle.dg_control.specs.declared.snapshot.SlotState.{SlotState}
 use Rattle.dg_control.specs.declared.snapshot.SlotState.TheVariants.{Dirty, Live}
 use Rattle.dg_control.specs.declared.snapshot.Program.{Program}
-use Rattle.dg_control.specs.declared.snapshot.Program.TheVariants.{Blank, Set}
 use Rattle.dg_control.proofs.PlaceLemmas.{slot, same_place}
 use Rattle.dg_object.specs.Object.{Row, Outline, profile}
 use Rattle.dg_object.proofs.RowLemmas.{length-object}
 use Rattle.dg_volume.specs.Header.{IsHeader}
-use Rattle.dg_volume.specs.Changes.{inject_refusal, newer, stale}
+use Rattle.dg_volume.specs.Changes.{injected, inject_refusal, newer, stale}
 use Rattle.dg_volume.specs.declared.faults.InjectFault.TheVariants.{Stopped, Empty, TooLarge, Stale, Reserved}
 use Rattle.dg_volume.specs.Store.{Store, Held, App, held, held_whole, KeepsImage, SlotStands, AppStands, Stands}
 use Rattle.dg_volume.specs.Told.{told, told_held, slot_told, program_told}
@@ -25,7 +24,8 @@ use Rattle.dg_volume.specs.Mounted.{Tells, IsMounted, kept_at}
 use Rattle.dg_volume.specs.Taking.{keeping, held_begun, Becomes}
 use Rattle.dg_volume.specs.declared.kept.Kept.{Kept}
 use Rattle.dg_volume.specs.declared.volume.Volume.{Volume}
-use Rattle.dg_volume.proofs.KeptLemmas.{SameSlot, SameProgram, slot_stays, app_stays}
+use Rattle.dg_volume.proofs.KeptLemmas.{SameSlot, slot_stays}
+use Rattle.dg_volume.proofs.CommitLemmas.{SameProgram, app_kept, program_told_is}
 use Rattle.dg_volume.proofs.StoreLemmas.{slot_told_is, one_store, tells_store}
 
 -- ---- lists of which one element changes
@@ -112,12 +112,6 @@ Touches-snapshot i old new keeps = record {
   others = λ j l ne k m n. keeps.behind k (omega arith) (omega arith);
 }
 
-program_told_is : (c : List ℕ) (x : Program) (a : Option App) → AppStands c x a → x ≡ program_told a
-program_told_is c Blank None p = refl
-program_told_is c Blank (Some app) p = absurd p
-program_told_is c (Set i v) None p = absurd p
-program_told_is c (Set i v) (Some app) p = let same = p.same_image in let version = p.same_version in rw (same, version) refl
-
 -- the place of the snapshot that a mounted volume tells
 pub place_told : (c : List ℕ) (v : Volume) (s : Store) → Stands c s → Tells v s → part (sector c 1) 0 64 ≡ place_of v.snapshot
 place_told c v s stands tells =
@@ -153,7 +147,7 @@ pub stands_keeping : (old new : List ℕ) (w : Volume) (s : Store) (i : ℕ) (h 
 stands_keeping old new w s i h low known stands touches place tells here =
     let r = stands.snapshot in
     let golden : held (keeping i h s) 0 ≡ held s 0 = get_or-set_other s.kept i 0 h None (omega arith) in
-    let app = app_stays old new r.program s.app touches.program stands.app in
+    let app = app_kept old new r.program s.app touches.program stands.app in
     let program : r.program ≡ w.snapshot.program = program_told_is old r.program s.app stands.app ∙ sym tells.program in
     record {
       snapshot = w.snapshot;
@@ -323,3 +317,18 @@ not_stopped s row e = by_cause (length row.bytes == 0) (nat_lt 70656 (length row
     by_cause false false true o e = cc
     by_cause false false false None e = cc
     by_cause false false false (Some k) e = cc
+
+-- ---- what may be injected
+
+-- another version is told
+pub other_version : (c : List ℕ) (v : Volume) (i version : ℕ) → i < 4 → IsMounted c v → (IsSomeAnd (kept_at v i) (λ k. k.version ≡ version) → ⊥) → (s : Store) → Stands c s → (h : Held) → held s i ≡ Some h → h.version ≡ version → ⊥
+other_version c v i version known m other s stands h is same =
+    let told_is : kept_at v i ≡ Some (told_held h) = (tells_store c v s m stands).kept i known ∙ ap told is in
+    other (subst (λ (k : Option Kept). IsSomeAnd k (λ k. k.version ≡ version)) (sym told_is) same)
+
+-- once an image was injected, it is kept whole
+pub injected_kept : (a b : List ℕ) (v : Volume) (row : Row) → row.image < 4 → IsMounted a v → ((s : Store) → Stands a s → Stands b (injected s row)) → (s : Store) → Stands b s → (h : Held) → held s row.image ≡ Some h → h ≡ held_whole row
+injected_kept a b v row known m injects s stands h is =
+    let one : s ≡ injected m.store row = one_store b s (injected m.store row) stands (injects m.store m.stands) in
+    let kept : held s row.image ≡ Some (held_whole row) = ap (λ (t : Store). held t row.image) one ∙ held-keeping row.image (Some (held_whole row)) m.store known m.stands.four in
+    cc

@@ -1,5 +1,5 @@
 -- An image in its slot: the header, the pages, and the gates that are cleared once they stand.
-use Rattle.std.proofs.Common.{◌≡◌, ℕ, ◌+◌, ◌*◌, ◌^◌, ◌<◌, ◌≤◌, List, length, refl, sym, ap, subst, ◌∙◌, inl, inr, arith}
+use Rattle.std.proofs.Common.{◌≡◌, ℕ, zero, suc, ◌+◌, ◌*◌, ◌^◌, ◌<◌, ◌≤◌, List, length, refl, sym, ap, subst, ◌∙◌, inl, inr, arith}
 use Rattle.std.proofs.lemmas.List.{same_lists}
 use Rattle.dg_words.specs.Cells.{part, overwritten, AreBytes}
 use Rattle.dg_words.proofs.CellLemmas.{part-overwritten_at, part-overwritten_apart}
@@ -77,3 +77,8 @@ whole_keeps c row is header holds =
         described = (details row, subst (λ (x : List ℕ). IsDescriptor x (details row)) (sym first) (descriptor_of_row row is), refl, refl, refl);
       };
     }
+
+-- page 0 alone
+pub first_written : (c : List ℕ) (row : Row) (page : List ℕ) → page_in c (69 + 66 * row.image + 0) ≡ page → page ≡ page_of_row row 0 → (q : ℕ) → q < 1 → page_in c (69 + 66 * row.image + q) ≡ page_of_row row q
+first_written c row page here is zero h = here ∙ is
+first_written c row page here is (suc q) h = absurd (omega arith)

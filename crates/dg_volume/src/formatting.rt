@@ -86,6 +86,8 @@ fn write_golden<N: Nor>(nor: &mut N, golden: &[u8], name: &[u8]) -> Result<(), S
         name,
         bytes: golden,
     };
-    write_header(nor, &image.profile())?;
-    fill(nor, &image)
+    let mut first = [0; 1104];
+    image.page(0, &mut first);
+    write_header(nor, &image.profile(&first))?;
+    fill(nor, &image, &first)
 }

@@ -1,7 +1,7 @@
 //! Injection: an image is written into its slot, whole.
 ghost use Rattle.std.specs.Prelude.{◌≡◌, ◌≢◌, ◌↔◌, ℕ, ◌≤◌, ◌<◌, List, length, Option, Some, None, Err, IsTrue, IsNone, IfOk, IfNone, IfSome, IsSomeAnd, OnOk, IsErrOf, slice_set, nat_lt, if◌then◌else◌};
 ghost use Rattle.dg_base.specs.Texts.{names};
-ghost use Rattle.dg_object.specs.Object.{Row, row_of, pages_for, profile};
+ghost use Rattle.dg_object.specs.Object.{Row, row_of, pages_for, page_of_row, profile};
 ghost use Rattle.dg_object.specs.Records.{outline_of};
 ghost use Rattle.dg_volume.specs.Acts.{ActEnds, Worked, Stops};
 ghost use Rattle.dg_volume.specs.Store.{Store, Held, Stands, SlotStands, held, held_whole};
@@ -109,7 +109,7 @@ impl Volume {
     }
 
     /// Whether this version is kept.
-    fn keeps(&self, image: u8, version: u32) -> bool
+    pub(crate) fn keeps(&self, image: u8, version: u32) -> bool
         requires { image ≤ 3 }
         ensures { IsTrue result ↔ IsSomeAnd (kept_at self.now image) (λ k. k.version ≡ version) }
     {
@@ -126,9 +126,11 @@ impl Volume {
         ensures injected { OnOk result (Becomes (N.device nor.old).image (N.device nor.new).image self.new (λ s. injected s (new_row new.now))) }
         ensures ends { ActEnds result (N.device nor.old) (N.device nor.new) }
     {
-        let profile = new.profile();
+        let mut first = [0; 1104];
+        new.page(0, &mut first);
+        let profile = new.profile(&first);
         self.take(nor, &profile)?;
-        self.complete(nor, new, &profile)
+        self.complete(nor, new, &first, &profile)
     }
 
     /// Takes the slot of an image for another version, of which no page is complete.
@@ -176,17 +178,18 @@ impl Volume {
         Ok(())
     }
 
-    /// Writes all pages of an image that is begun, and clears their gates.
-    fn complete<N: Nor>(&mut self, nor: &mut N, new: &NewImage<'_>, outline: &Profile) -> Result<(), Stopped>
+    /// Writes all pages of an image that is begun, and clears their gates. `first` is its page 0.
+    fn complete<N: Nor>(&mut self, nor: &mut N, new: &NewImage<'_>, first: &[u8; 1104], outline: &Profile) -> Result<(), Stopped>
         requires mounted { IsMounted (N.device nor.old).image self.old }
         requires not_golden { 1 ≤ new.now.number }
+        requires first { first.now ≡ page_of_row (new_row new.now) 0 }
         requires outlined { outline_of outline.now ≡ profile (new_row new.now) }
         requires begun { (s : Store) → Stands (N.device nor.old).image s → held s new.now.number ≡ Some (held_begun (outline_of outline.now)) }
         ensures whole { OnOk result (Becomes (N.device nor.old).image (N.device nor.new).image self.new
             (keeping new.now.number (Some (held_whole (new_row new.now))))) }
         ensures ends { ActEnds result (N.device nor.old) (N.device nor.new) }
     {
-        fill(nor, new)?;
+        fill(nor, new, first)?;
         self.kept[usize::from(new.number)] = Some(Kept {
             done: outline.pages,
             ..begun(outline)

@@ -32,4 +32,6 @@ pub use starting::{Started, start};
 pub use volume::Volume;
 
 #[cfg(test)]
+mod inject_tests;
+#[cfg(test)]
 mod tests;

@@ -1,9 +1,10 @@
 //! An image that is to be kept.
-ghost use Rattle.std.specs.Prelude.{◌≡◌, length};
-ghost use Rattle.dg_object.specs.Object.{IsRow, row_of, pages_for, profile};
+ghost use Rattle.std.specs.Prelude.{◌≡◌, ◌<◌, length};
+ghost use Rattle.dg_object.specs.Object.{IsRow, row_of, pages_for, page_of_row, profile};
 ghost use Rattle.dg_object.specs.Records.{outline_of};
 
-use dg_object::{Profile, pages_of, profile_of};
+use dg_base::crc16;
+use dg_object::{Profile, page_of, pages_of};
 
 /// A version of an image, with its name and its bytes.
 #[derive(Drop)]
@@ -23,10 +24,24 @@ impl NewImage<'_> {
         pages_of(self.bytes.len() as u32)
     }
 
-    /// What is told of it before any page, from one pass over its bytes.
-    pub(crate) fn profile(&self) -> Profile
+    /// Writes page `p` of it into `into`.
+    pub(crate) fn page(&self, p: u8, into: &mut [u8; 1104])
+        requires { p < pages_for (length self.now.bytes.now) }
+        ensures { into.new ≡ page_of_row (row_of self.now.number self.now.version self.now.name.now self.now.bytes.now) p }
+    {
+        page_of(self.bytes, self.number, self.version, self.name, p, into);
+    }
+
+    /// What is told of it before any page. `first` is its page 0.
+    pub(crate) fn profile(&self, first: &[u8; 1104]) -> Profile
+        requires { first.now ≡ page_of_row (row_of self.now.number self.now.version self.now.name.now self.now.bytes.now) 0 }
         ensures { outline_of result ≡ profile (row_of self.now.number self.now.version self.now.name.now self.now.bytes.now) }
     {
-        profile_of(self.bytes, self.number, self.version, self.name)
+        Profile {
+            image: self.number,
+            version: self.version,
+            pages: self.pages(),
+            crc: crc16(first),
+        }
     }
 }

@@ -12,7 +12,7 @@ use crate::header::{gates_of, header_bytes};
 use crate::layout::{GATES, header_sector, page_sector};
 use crate::new_image::NewImage;
 use dg_nor::{Nor, Stopped, erase_sector, program_in};
-use dg_object::{Profile, page_of};
+use dg_object::Profile;
 
 /// Writes the header of a slot, with no page complete.
 pub(crate) fn write_header<N: Nor>(nor: &mut N, profile: &Profile) -> Result<(), Stopped>
@@ -27,27 +27,40 @@ pub(crate) fn write_header<N: Nor>(nor: &mut N, profile: &Profile) -> Result<(),
     program_in(nor, header_sector(profile.image), 0, &header)
 }
 
+/// Writes a page into its sector.
+fn write_page<N: Nor>(nor: &mut N, image: u8, p: u8, page: &[u8; 1104]) -> Result<(), Stopped>
+    requires known_image { image ≤ 3 }
+    requires known_page { p ≤ 64 }
+    ensures page { OnOk result (page_in (N.device nor.new).image (69 + 66 * image + p) ≡ page.now) }
+    ensures keeps { Keeps (69 + 66 * image + p) (70 + 66 * image + p) (N.device nor.old).image (N.device nor.new).image }
+    ensures ends { ActEnds result (N.device nor.old) (N.device nor.new) }
+{
+    erase_sector(nor, page_sector(image, p))?;
+    program_in(nor, page_sector(image, p), 0, page)
+}
+
 /// Writes a page of an image.
-fn write_page<N: Nor>(nor: &mut N, image: &NewImage<'_>, p: u8) -> Result<(), Stopped>
+fn write_page_of<N: Nor>(nor: &mut N, image: &NewImage<'_>, p: u8) -> Result<(), Stopped>
     requires { p < pages_for (length image.now.bytes.now) }
     ensures page { OnOk result (page_in (N.device nor.new).image (69 + 66 * image.now.number + p) ≡ page_of_row (new_row image.now) p) }
     ensures keeps { Keeps (69 + 66 * image.now.number + p) (70 + 66 * image.now.number + p) (N.device nor.old).image (N.device nor.new).image }
     ensures ends { ActEnds result (N.device nor.old) (N.device nor.new) }
 {
     let mut page = [0; 1104];
-    page_of(image.bytes, image.number, image.version, image.name, p, &mut page);
-    erase_sector(nor, page_sector(image.number, p))?;
-    program_in(nor, page_sector(image.number, p), 0, &page)
+    image.page(p, &mut page);
+    write_page(nor, image.number, p, &page)
 }
 
-/// Writes all pages of an image.
-fn write_pages<N: Nor>(nor: &mut N, image: &NewImage<'_>) -> Result<(), Stopped>
+/// Writes all pages of an image. `first` is its page 0.
+fn write_pages<N: Nor>(nor: &mut N, image: &NewImage<'_>, first: &[u8; 1104]) -> Result<(), Stopped>
+    requires { first.now ≡ page_of_row (new_row image.now) 0 }
     ensures pages { OnOk result (HoldsPages (N.device nor.new).image (new_row image.now)) }
     ensures keeps { Keeps (69 + 66 * image.now.number) (134 + 66 * image.now.number) (N.device nor.old).image (N.device nor.new).image }
     ensures ends { ActEnds result (N.device nor.old) (N.device nor.new) }
 {
-    for p in 0..image.pages() {
-        write_page(nor, image, p)?;
+    write_page(nor, image.number, 0, first)?;
+    for p in 1..image.pages() {
+        write_page_of(nor, image, p)?;
     }
     Ok(())
 }
@@ -63,13 +76,14 @@ fn clear_gates<N: Nor>(nor: &mut N, image: &NewImage<'_>) -> Result<(), Stopped>
     program_in(nor, header_sector(image.number), GATES, &gates_of(image.pages()))
 }
 
-/// Writes all pages of an image whose header stands, and then clears their gates.
-pub(crate) fn fill<N: Nor>(nor: &mut N, image: &NewImage<'_>) -> Result<(), Stopped>
-    requires { IsOpened (N.device nor.old).image (new_row image.now) }
+/// Writes all pages of an image whose header stands, and then clears their gates. `first` is its page 0.
+pub(crate) fn fill<N: Nor>(nor: &mut N, image: &NewImage<'_>, first: &[u8; 1104]) -> Result<(), Stopped>
+    requires opened { IsOpened (N.device nor.old).image (new_row image.now) }
+    requires first { first.now ≡ page_of_row (new_row image.now) 0 }
     ensures whole { OnOk result (KeepsImage (N.device nor.new).image image.now.number image.now.version (held_whole (new_row image.now))) }
     ensures keeps { Keeps (68 + 66 * image.now.number) (134 + 66 * image.now.number) (N.device nor.old).image (N.device nor.new).image }
     ensures ends { ActEnds result (N.device nor.old) (N.device nor.new) }
 {
-    write_pages(nor, image)?;
+    write_pages(nor, image, first)?;
     clear_gates(nor, image)
 }

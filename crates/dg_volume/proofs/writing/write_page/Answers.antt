@@ -1,26 +1,23 @@
-use Rattle.std.proofs.Common.{◌≡◌, ℕ, ◌+◌, ◌*◌, ◌∙◌, length, sym, ap, arith, rules}
+use Rattle.std.proofs.Common.{◌≡◌, ℕ, ◌+◌, ◌*◌, ◌<◌, ◌∙◌, length, get_or, sym, ap, arith, rules}
 use Rattle.std.proofs.lemmas.Result.{on_ok_weaker}
 use Rattle.dg_words.specs.Cells.{part}
 use Rattle.dg_nor.specs.Chip.{sector}
-use Rattle.dg_volume.specs.Writing.{new_row}
 use Rattle.dg_volume.proofs.ActLemmas.{act_after, act_ends, Worked-ran}
 use Rattle.dg_volume.proofs.ChipLemmas.{front_written}
-use Rattle.dg_volume.proofs.WritingLemmas.{page_bytes}
 use Rattle.dg_volume.proofs.writing.write_page.Goals as goal
 
 pub returns-clause-page : goal.returns-clause-page
 returns-clause-page g c =
-    let image = c.args.image.now in
+    let image = c.args.image in
     let p = c.args.p in
-    let bs = c.page_of.new.into in
+    let bs = c.args.page.now in
     let long : length bs ≡ 1104 = search rules in
-    let small = page_bytes (new_row image) p bs image.is_row c.page_of.ensures in
-    let erased : c.page_sector.result ≡ 69 + 66 * image.number + p = c.page_sector.ensures in
-    let here : c.page_sector-2.result ≡ 69 + 66 * image.number + p = c.page_sector-2.ensures in
+    let small : (k : ℕ) → get_or bs k 0 < 256 = search rules in
+    let erased : c.page_sector.result ≡ 69 + 66 * image + p = c.page_sector.ensures in
+    let here : c.page_sector-2.result ≡ 69 + 66 * image + p = c.page_sector-2.ensures in
     on_ok_weaker c.program_in.result
     (λ e. ap (λ k. part (sector (g.N.Nor.device c.program_in.new.nor).image k) 0 1104) (sym here)
-    ∙ front_written _ _ bs 1104 (ap (sector (g.N.Nor.device c.erase_sector.new.nor).image) (here ∙ sym erased) ∙ c.in_ok-erase_sector.ensures.cells) e small long (omega arith)
-    ∙ c.page_of.ensures)
+    ∙ front_written _ _ bs 1104 (ap (sector (g.N.Nor.device c.erase_sector.new.nor).image) (here ∙ sym erased) ∙ c.in_ok-erase_sector.ensures.cells) e small long (omega arith))
     c.program_in.ensures.cells
 
 pub returns-clause-ends : goal.returns-clause-ends

@@ -3,8 +3,21 @@ use Rattle.dg_words.specs.Cells.{part}
 use Rattle.dg_nor.proofs.ChipLemmas.{Keeps_then, Keeps_wider}
 use Rattle.dg_object.specs.Object.{pages_for}
 use Rattle.dg_object.proofs.RowLemmas.{pages_for-most}
+use Rattle.dg_volume.specs.Writing.{new_row}
 use Rattle.dg_volume.proofs.ActLemmas.{Worked_then}
+use Rattle.dg_volume.proofs.WritingLemmas.{first_written}
 use Rattle.dg_volume.proofs.writing.write_pages.Goals as goal
+
+pub loop-p-init : goal.loop-p-init
+loop-p-init g c =
+    let image = c.args.image.now in
+    let first = 69 + 66 * image.number in
+    let done = c.in_ok-write_page.ensures in
+    record {
+      pages = first_written _ (new_row image) c.args.first.now done.page c.requires;
+      keeps = Keeps_wider (first + 0) (70 + 66 * image.number + 0) first (134 + 66 * image.number) done.keeps (omega arith) (omega arith);
+      worked = done.ends;
+    }
 
 pub loop-p-preserved : goal.loop-p-preserved
 loop-p-preserved g c =
@@ -15,7 +28,7 @@ loop-p-preserved g c =
     let known = image.is_row.image in
     let within : p ≤ 64 = omega (arith, most, c.pages-p-end.ensures) in
     let before = c.loop-p.invariant in
-    let done = c.in_ok-write_page.ensures in
+    let done = c.in_ok-write_page_of.ensures in
     record {
       pages = below_more _ _ (λ q h. ap (λ s. part s 0 1104) (done.keeps.before (first + q) (omega arith) (omega arith)) ∙ before.pages q h) done.page;
       keeps = Keeps_then before.keeps (Keeps_wider (first + p) (70 + 66 * image.number + p) first (134 + 66 * image.number) done.keeps (omega arith) (omega arith));
