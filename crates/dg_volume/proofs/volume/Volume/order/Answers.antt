@@ -6,7 +6,7 @@ use Rattle.dg_volume.proofs.volume.Volume.order.Goals as goal
 pub returns-then-number-kept-clause-refused : goal.returns-then-number-kept-clause-refused
 returns-then-number-kept-clause-refused g c e is _ s stands =
     let tells = tells_store (g.N.Nor.device c.args.nor.now).image c.args.self.now s c.requires.mounted stands in
-    order_refused s (record { number = c.args.number; image = c.args.image; version = c.args.version }) c.args.self.now.snapshot.order.number e (ap (λ o. o.number) tells.order) c.if-number-kept.true cc
+    order_refused s (record { number = c.args.number; image = c.args.image; version = c.args.version }) c.args.self.now.snapshot.order.number e (ap (λ o. o.number) tells.order) (omega (arith, c.if-number-kept.true)) cc
 
 pub returns-clause-ordered : goal.returns-clause-ordered
 returns-clause-ordered g c s stands =
@@ -23,4 +23,4 @@ returns-clause-mounted g c =
 pub returns-clause-allowed : goal.returns-clause-allowed
 returns-clause-allowed g c s stands =
     let tells = tells_store (g.N.Nor.device c.args.nor.now).image c.args.self.now s c.requires.mounted stands in
-    order_allowed s (record { number = c.args.number; image = c.args.image; version = c.args.version }) c.args.self.now.snapshot.order.number (ap (λ o. o.number) tells.order) c.if-number-kept.false
+    order_allowed s (record { number = c.args.number; image = c.args.image; version = c.args.version }) c.args.self.now.snapshot.order.number (ap (λ o. o.number) tells.order) (omega (arith, c.if-number-kept.false))
