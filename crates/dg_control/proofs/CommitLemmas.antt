@@ -44,6 +44,29 @@ one_control c s t m n p q =
     let free : p.free ≡ q.free = one_free (sector c (current p.generation)) p.free q.free p.are_free are in
     (one_last (sector c (current p.generation)) s t p.told told, p.left ∙ ap (room_for p.generation) free ∙ ap (λ (g : ℕ). room_for g q.free) (sym same) ∙ sym q.left)
 
+-- ---- the sectors that count
+
+pub controls_kept : (c d : List ℕ) (s : Snapshot) (room : ℕ) → ((k : ℕ) → k < 3 → sector d k ≡ sector c k) → Controls c s room → Controls d s room
+controls_kept c d s room same p =
+    let here = sym (same (current p.generation) (omega arith)) in
+    record {
+      generation = p.generation;
+      counted = count_kept c d p.generation (same 0 (omega arith)) p.counted;
+      told = subst (λ (cells : List ℕ). LastSpells cells s) here p.told;
+      free = p.free;
+      are_free = subst (λ (cells : List ℕ). AreFree cells p.free) here p.are_free;
+      left = p.left;
+    }
+
+pub mounted_kept : (c d : List ℕ) (v : Control) → ((k : ℕ) → k < 3 → sector d k ≡ sector c k) → IsMounted c v → IsMounted d v
+mounted_kept c d v same p =
+    let here = sym (same (current (count_of v.ledger)) (omega arith)) in
+    record {
+      counted = count_kept c d (count_of v.ledger) (same 0 (omega arith)) p.counted;
+      told = subst (λ (cells : List ℕ). LastSpells cells v.snapshot) here p.told;
+      are_free = subst (λ (cells : List ℕ). AreFree cells v.free) here p.are_free;
+    }
+
 -- ---- operations
 
 -- room is the free places of the current sector, and 32 for each generation to come
