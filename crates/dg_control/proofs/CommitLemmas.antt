@@ -1,15 +1,12 @@
 -- A commit, from what its parts leave.
-use Rattle.std.proofs.Common.{◌≡◌, ◌≢◌, ◌⊎◌, ◌==◌, ℕ, zero, suc, ◌+◌, ◌-◌, ◌*◌, ◌%◌, ◌<◌, ◌≤◌, List, [], ◌∷◌, length, get_or, if◌then◌else◌, refl, sym, ap, subst, ◌∙◌, arith, inl, inr, ⊎_elim}
-use Rattle.std.specs.Prelude.{⊤}
+use Rattle.std.proofs.Common.{◌≡◌, ◌⊎◌, ◌==◌, ℕ, ◌+◌, ◌-◌, ◌*◌, ◌%◌, ◌<◌, ◌≤◌, List, if◌then◌else◌, refl, sym, ap, subst, ◌∙◌, arith, inl, inr, ⊎_elim}
 use Rattle.std.proofs.lemmas.Bool.{cases_lt}
 use Rattle.std.proofs.lemmas.Bool.Decides.{nat_tests}
 use Rattle.dg_words.specs.Cells.{part}
 use Rattle.dg_words.proofs.BitsLemmas.{one_count}
 use Rattle.dg_nor.specs.Chip.{sector, Keeps, blank}
-use Rattle.dg_nor.specs.Device.{Device, Ran, Halts, Halted}
-use Rattle.dg_nor.specs.Trail.{Trail, operations, last_of, stepping, MayLeave}
+use Rattle.dg_nor.specs.Trail.{operations, last_of}
 use Rattle.dg_nor.proofs.ChipLemmas.{sector_kept}
-use Rattle.dg_nor.proofs.DeviceLemmas.{Ran_then, Halted-weaker, Halted_first, Halted_second}
 use Rattle.dg_nor.proofs.TrailLemmas.{operations-stepping, last-stepping, Leaves-stepping, Leaves_last}
 use Rattle.dg_ledger.specs.Ledger.{HasCount, count_of, bump_trail, MayBump}
 use Rattle.dg_control.specs.Places.{place_in, LastSpells, AreFree, ChangesOnly, MayWrite}
