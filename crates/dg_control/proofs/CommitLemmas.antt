@@ -1,15 +1,12 @@
 -- A commit, from what its parts leave.
-use Rattle.std.proofs.Common.{◌≡◌, ◌≢◌, ◌⊎◌, ◌==◌, ℕ, zero, suc, ◌+◌, ◌-◌, ◌*◌, ◌%◌, ◌<◌, ◌≤◌, List, [], ◌∷◌, length, get_or, if◌then◌else◌, refl, sym, ap, subst, ◌∙◌, arith, inl, inr, ⊎_elim}
-use Rattle.std.specs.Prelude.{⊤}
+use Rattle.std.proofs.Common.{◌≡◌, ◌⊎◌, ◌==◌, ℕ, ◌+◌, ◌-◌, ◌*◌, ◌%◌, ◌<◌, ◌≤◌, List, if◌then◌else◌, refl, sym, ap, subst, ◌∙◌, arith, inl, inr, ⊎_elim}
 use Rattle.std.proofs.lemmas.Bool.{cases_lt}
 use Rattle.std.proofs.lemmas.Bool.Decides.{nat_tests}
 use Rattle.dg_words.specs.Cells.{part}
 use Rattle.dg_words.proofs.BitsLemmas.{one_count}
 use Rattle.dg_nor.specs.Chip.{sector, Keeps, blank}
-use Rattle.dg_nor.specs.Device.{Device, Ran, Halts, Halted}
-use Rattle.dg_nor.specs.Trail.{Trail, operations, last_of, stepping, MayLeave}
+use Rattle.dg_nor.specs.Trail.{operations, last_of}
 use Rattle.dg_nor.proofs.ChipLemmas.{sector_kept}
-use Rattle.dg_nor.proofs.DeviceLemmas.{Ran_then, Halted-weaker, Halted_first, Halted_second}
 use Rattle.dg_nor.proofs.TrailLemmas.{operations-stepping, last-stepping, Leaves-stepping, Leaves_last}
 use Rattle.dg_ledger.specs.Ledger.{HasCount, count_of, bump_trail, MayBump}
 use Rattle.dg_control.specs.Places.{place_in, LastSpells, AreFree, ChangesOnly, MayWrite}
@@ -43,6 +40,29 @@ one_control c s t m n p q =
     let are : AreFree (sector c (current p.generation)) q.free = subst (λ (g : ℕ). AreFree (sector c (current g)) q.free) same q.are_free in
     let free : p.free ≡ q.free = one_free (sector c (current p.generation)) p.free q.free p.are_free are in
     (one_last (sector c (current p.generation)) s t p.told told, p.left ∙ ap (room_for p.generation) free ∙ ap (λ (g : ℕ). room_for g q.free) (sym same) ∙ sym q.left)
+
+-- ---- the sectors that count
+
+pub controls_kept : (c d : List ℕ) (s : Snapshot) (room : ℕ) → ((k : ℕ) → k < 3 → sector d k ≡ sector c k) → Controls c s room → Controls d s room
+controls_kept c d s room same p =
+    let here = sym (same (current p.generation) (omega arith)) in
+    record {
+      generation = p.generation;
+      counted = count_kept c d p.generation (same 0 (omega arith)) p.counted;
+      told = subst (λ (cells : List ℕ). LastSpells cells s) here p.told;
+      free = p.free;
+      are_free = subst (λ (cells : List ℕ). AreFree cells p.free) here p.are_free;
+      left = p.left;
+    }
+
+pub mounted_kept : (c d : List ℕ) (v : Control) → ((k : ℕ) → k < 3 → sector d k ≡ sector c k) → IsMounted c v → IsMounted d v
+mounted_kept c d v same p =
+    let here = sym (same (current (count_of v.ledger)) (omega arith)) in
+    record {
+      counted = count_kept c d (count_of v.ledger) (same 0 (omega arith)) p.counted;
+      told = subst (λ (cells : List ℕ). LastSpells cells v.snapshot) here p.told;
+      are_free = subst (λ (cells : List ℕ). AreFree cells v.free) here p.are_free;
+    }
 
 -- ---- operations
 

@@ -1,15 +1,13 @@
 -- Control sectors after one of their places was written.
-use Rattle.std.proofs.Common.{◌≡◌, ◌≢◌, ◌⊎◌, ℕ, ◌+◌, ◌-◌, ◌*◌, ◌<◌, ◌≤◌, Bool, true, false, List, [], ◌∷◌, length, get_or, take, drop, replicate, refl, sym, ap, subst, ◌∙◌, arith, inl, inr, ⊎_elim, IsTrue}
+use Rattle.std.proofs.Common.{◌≡◌, ◌⊎◌, ℕ, ◌+◌, ◌-◌, ◌*◌, ◌<◌, Bool, true, false, List, ◌∷◌, get_or, drop, replicate, refl, sym, ap, subst, ◌∙◌, arith, inl, inr, ⊎_elim, IsTrue}
 use Rattle.std.specs.Prelude.{nat_eq}
 use Rattle.std.specs.Cmp.Lexicographic.{pointwise}
 use lib.Pointwise.{bytes_decides}
 use Rattle.std.proofs.lemmas.Bool.{cases_lt, cases_eq}
-use Rattle.dg_words.specs.Cells.{part}
-use Rattle.dg_words.proofs.CellLemmas.{length-part}
 use Rattle.dg_nor.specs.Chip.{blank}
 use Rattle.dg_nor.proofs.ChipLemmas.{get_or-blank, part-blank}
 use Rattle.dg_control.specs.Snapshot.{place_of}
-use Rattle.dg_control.specs.Places.{place_in, IsCommitted, LastSpells, AreFree, ChangesOnly, MayWrite}
+use Rattle.dg_control.specs.Places.{place_in, IsCommitted, LastSpells, AreFree, ChangesOnly}
 use Rattle.dg_control.specs.declared.snapshot.Snapshot.{Snapshot}
 use Rattle.dg_control.proofs.SnapshotLemmas.{one_snapshot}
 

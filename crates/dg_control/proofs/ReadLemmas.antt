@@ -1,9 +1,8 @@
 -- Reads that follow one another.
-use Rattle.std.proofs.Common.{◌≡◌, Result, Ok, Err, refl, ap, ◌∙◌, subst}
-use Rattle.dg_nor.specs.declared.device.Stopped.{Stopped}
-use Rattle.dg_nor.specs.Device.{Device, Ran, Halts}
+use Rattle.std.proofs.Common.{refl, ◌∙◌}
+use Rattle.dg_nor.specs.Device.{Device}
 use Rattle.dg_nor.proofs.DeviceLemmas.{Ran-none, Ran_then, Halts_second}
-use Rattle.dg_control.specs.Reads.{Looked, Stops, ReadEnds}
+use Rattle.dg_control.specs.Reads.{Looked, Stops}
 
 pub Looked-none : (d : Device) → Looked d d
 Looked-none d = record { same_image = refl; ran = Ran-none d }

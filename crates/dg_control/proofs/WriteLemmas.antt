@@ -1,16 +1,16 @@
 -- What the two programs that write a place leave of its sector.
-use Rattle.std.proofs.Common.{◌≡◌, ◌≢◌, ◌⊎◌, ℕ, zero, suc, ◌+◌, ◌*◌, ◌<◌, ◌≤◌, List, [], ◌∷◌, length, get_or, drop, bit_and, refl, sym, ap, subst, ◌∙◌, arith, inl, inr, ⊎_elim}
+use Rattle.std.proofs.Common.{◌≡◌, ◌≢◌, ◌⊎◌, ℕ, zero, suc, ◌+◌, ◌*◌, ◌<◌, ◌≤◌, List, [], ◌∷◌, length, get_or, drop, bit_and, sym, ap, subst, ◌∙◌, arith, inl, inr, ⊎_elim}
 use Rattle.std.proofs.lemmas.List.{get_or-drop, length-drop, take_all}
 use borrow.Rule.Slice.PartMut.{mid_of}
 use Rattle.std.proofs.lemmas.Grind.{same_number_lists}
 use Rattle.std.proofs.lemmas.Bool.{cases_lt}
-use Rattle.dg_words.specs.Cells.{part, AreBytes}
+use Rattle.dg_words.specs.Cells.{AreBytes}
 use Rattle.dg_words.proofs.CellLemmas.{length-part, get_or-part}
 use Rattle.dg_words.proofs.ByteLemmas.{AreBytes-drop}
 use Rattle.dg_nor.specs.Chip.{blank, programmed, CutProgram}
-use Rattle.dg_nor.proofs.ChipLemmas.{and_255, get_or-blank, length-programmed, length-cut_program, get_or-programmed, get_or-programmed_outside, get_or-cut_program_outside, part-programmed_apart, part-cut_program_apart, cut_one_bit}
+use Rattle.dg_nor.proofs.ChipLemmas.{and_255, get_or-blank, length-programmed, get_or-programmed, get_or-programmed_outside, get_or-cut_program_outside, part-programmed_apart, part-cut_program_apart, cut_one_bit}
 use Rattle.dg_control.specs.Snapshot.{place_of}
-use Rattle.dg_control.specs.Places.{place_in, ChangesOnly, MayWrite}
+use Rattle.dg_control.specs.Places.{place_in, ChangesOnly}
 use Rattle.dg_control.specs.declared.snapshot.Snapshot.{Snapshot}
 use Rattle.dg_control.proofs.PlacesLemmas.{place_commits}
 

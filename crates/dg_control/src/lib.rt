@@ -16,7 +16,10 @@ mod writing;
 
 pub use control::Control;
 pub use faults::{CommitFault, MountFault};
-pub use laws::{a_chip_has_one_control, a_mounted_chip_has_control, a_place_spells_one_snapshot};
+pub use laws::{
+    a_chip_has_one_control, a_mounted_chip_has_control, a_place_spells_one_snapshot,
+    other_sectors_do_not_count,
+};
 pub use place::{PLACE, read_place, write_place};
 pub use snapshot::{Order, Program, SlotState, Snapshot};
 

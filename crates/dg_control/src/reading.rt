@@ -75,7 +75,11 @@ fn last_committed<N: Nor>(nor: &mut N, index: u32, count: u8) -> Result<Option<[
 }
 
 /// The snapshot of a sector with that many free places, if its last committed place spells one.
-pub(crate) fn read_snapshot<N: Nor>(nor: &mut N, index: u32, free: u8) -> Result<Option<Snapshot>, Stopped>
+pub(crate) fn read_snapshot<N: Nor>(
+    nor: &mut N,
+    index: u32,
+    free: u8,
+) -> Result<Option<Snapshot>, Stopped>
     requires in_chip { index < SECTORS }
     requires free { AreFree (sector (N.device nor.old).image index) free }
     ensures told { IfOk result (λ found. IfSome found (LastSpells (sector (N.device nor.old).image index))) }

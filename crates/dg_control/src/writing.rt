@@ -50,7 +50,12 @@ fn write_commit_byte<N: Nor>(nor: &mut N, index: u32, at: u8) -> Result<(), Stop
 }
 
 /// Commits the snapshot in a blank place. 2 operations.
-pub(crate) fn commit_at<N: Nor>(nor: &mut N, index: u32, at: u8, next: &Snapshot) -> Result<(), Stopped>
+pub(crate) fn commit_at<N: Nor>(
+    nor: &mut N,
+    index: u32,
+    at: u8,
+    next: &Snapshot,
+) -> Result<(), Stopped>
     requires in_chip { index < SECTORS }
     requires in_sector { at < 32 }
     requires clear { place_in (sector (N.device nor.old).image index) at ≡ blank 64 }

@@ -1,4 +1,4 @@
-use Rattle.std.proofs.Common.{ℕ, ◌+◌, arith}
+use Rattle.std.proofs.Common.{◌+◌, arith}
 use Rattle.std.proofs.lemmas.Result.{on_err_weaker}
 use Rattle.dg_nor.specs.Chip.{sector}
 use Rattle.dg_nor.proofs.DeviceLemmas.{OnErr_from, Ran_then}

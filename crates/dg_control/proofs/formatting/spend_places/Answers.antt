@@ -1,4 +1,4 @@
-use Rattle.std.proofs.Common.{◌≡◌, ◌+◌, refl, ap, ◌∙◌, arith}
+use Rattle.std.proofs.Common.{refl, ap, ◌∙◌, arith}
 use Rattle.dg_nor.proofs.ChipLemmas.{Keeps-same}
 use Rattle.dg_nor.proofs.DeviceLemmas.{Ran-none}
 use Rattle.dg_control.specs.Places.{place_in}

@@ -1,6 +1,5 @@
-use Rattle.std.proofs.Common.{◌≡◌, ℕ, ◌+◌, ◌-◌, List, Option, Some, None, IfSome, IsNone, arith, refl}
+use Rattle.std.proofs.Common.{◌≡◌, ◌+◌, ◌-◌, Option, Some, None, IfSome, arith, refl}
 use Rattle.dg_nor.specs.Chip.{sector}
-use Rattle.dg_control.specs.Snapshot.{place_of}
 use Rattle.dg_control.specs.declared.snapshot.Snapshot.{Snapshot}
 use Rattle.dg_control.proofs.PlacesLemmas.{last_found, found_spells, none_told}
 use Rattle.dg_control.proofs.reading.read_snapshot.Goals as goal

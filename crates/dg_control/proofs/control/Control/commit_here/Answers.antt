@@ -1,12 +1,12 @@
-use Rattle.std.proofs.Common.{◌≡◌, ℕ, ◌+◌, ◌-◌, ◌<◌, ap, sym, ◌∙◌, subst, inl, arith}
-use Rattle.dg_nor.specs.Chip.{sector, Keeps}
+use Rattle.std.proofs.Common.{◌≡◌, ℕ, ◌+◌, ◌-◌, subst, arith}
+use Rattle.dg_nor.specs.Chip.{sector}
 use Rattle.dg_nor.specs.Device.{Ran, Halted}
 use Rattle.dg_nor.proofs.DeviceLemmas.{OnErr_from, Halted-weaker}
 use Rattle.dg_ledger.specs.Ledger.{count_of}
 use Rattle.dg_control.specs.Mounted.{store_of}
 use Rattle.dg_control.specs.Places.{MayWrite}
 use Rattle.dg_control.specs.Store.{current, MayCommit}
-use Rattle.dg_control.proofs.CommitLemmas.{may_here, mounted_here, two_here, current_in}
+use Rattle.dg_control.proofs.CommitLemmas.{may_here, mounted_here, two_here}
 use Rattle.dg_control.proofs.control.Control.commit_here.Goals as goal
 
 pub returns-in_err-commit_at-clause-stopped : goal.returns-in_err-commit_at-clause-stopped

@@ -1,4 +1,4 @@
-use Rattle.std.proofs.Common.{ℕ, ◌+◌, ◌/◌, ◌%◌, arith}
+use Rattle.std.proofs.Common.{◌+◌, ◌/◌, ◌%◌, arith}
 use Rattle.dg_nor.proofs.DeviceLemmas.{OnErr_from}
 use Rattle.dg_control.proofs.FormatLemmas.{halted_in}
 use Rattle.dg_control.proofs.control.Control.format.Goals as goal

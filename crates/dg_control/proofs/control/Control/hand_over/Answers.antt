@@ -1,5 +1,5 @@
-use Rattle.std.proofs.Common.{◌≡◌, ℕ, ◌+◌, ◌<◌, List, ap, sym, ◌∙◌, subst, inr, arith}
-use Rattle.dg_nor.specs.Chip.{sector, blank}
+use Rattle.std.proofs.Common.{◌≡◌, ℕ, ◌+◌, ap, sym, ◌∙◌, subst, arith}
+use Rattle.dg_nor.specs.Chip.{sector}
 use Rattle.dg_nor.specs.Device.{Ran, Halted}
 use Rattle.dg_nor.specs.Trail.{operations}
 use Rattle.dg_nor.proofs.ChipLemmas.{sector_kept}

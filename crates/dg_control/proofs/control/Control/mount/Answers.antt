@@ -1,4 +1,4 @@
-use Rattle.std.proofs.Common.{◌≡◌, ℕ, List, refl, sym, ap, ◌∙◌, subst}
+use Rattle.std.proofs.Common.{◌≡◌, ℕ, List, refl, sym, ◌∙◌, subst}
 use Rattle.dg_nor.specs.Chip.{sector}
 use Rattle.dg_ledger.specs.Ledger.{count_of}
 use Rattle.dg_control.specs.Places.{LastSpells}
