@@ -3,7 +3,7 @@ use Rattle.std.proofs.Common.{◌≡◌, ◌≢◌, ◌⊎◌, ℕ, ◌+◌, ◌
 use Rattle.std.proofs.lemmas.Bool.{cases_lt}
 use Rattle.std.proofs.lemmas.List.{get_or_past, length-take}
 use Rattle.dg_words.specs.Cells.{part, overwritten, AreBytes}
-use Rattle.dg_words.proofs.CellLemmas.{length-part, length-overwritten, get_or-part, part-append-part, part-overwritten_at, part-overwritten_apart, overwritten_next}
+use Rattle.dg_words.proofs.CellLemmas.{length-part, get_or-part, part-append-part, part-overwritten_at, part-overwritten_apart, overwritten_next}
 use Rattle.dg_nor.specs.Chip.{blank, sector, programmed}
 use Rattle.dg_nor.proofs.ChipLemmas.{length-blank, part-blank, programmed-blank, programmed_blank}
 

@@ -1,5 +1,5 @@
 -- What a start chooses.
-use Rattle.std.proofs.Common.{◌≡◌, ℕ, ◌+◌, ◌*◌, ◌^◌, ◌<◌, ◌≤◌, Bool, true, false, cond, List, Option, Some, None, refl, sym, ap, subst, ◌∙◌, arith, IsTrue}
+use Rattle.std.proofs.Common.{◌≡◌, ℕ, ◌≤◌, Bool, true, false, cond, List, Some, None, refl, sym, ap, subst, ◌∙◌, arith, IsTrue}
 use Rattle.std.specs.Prelude.{◌==◌, ◌&&◌, not}
 use Rattle.std.proofs.lemmas.Bool.Decides.{nat_tests}
 use Rattle.dg_control.specs.Ranges.{order_fits}
@@ -7,8 +7,8 @@ use Rattle.dg_control.specs.declared.snapshot.Order.{Order}
 use Rattle.dg_control.proofs.PlaceLemmas.{in_range}
 use Rattle.dg_volume.specs.Pages.{slot_pages}
 use Rattle.dg_volume.specs.Store.{Store, App, held, Stands}
-use Rattle.dg_volume.specs.Start.{Start, pages_sound, sound, copied, is_whole, is_set_to, order_waits, start_from, start_of}
-use Rattle.dg_volume.specs.Mounted.{Tells, IsMounted, kept_at}
+use Rattle.dg_volume.specs.Start.{pages_sound, sound, copied, is_whole, is_set_to, order_waits, start_from, start_of}
+use Rattle.dg_volume.specs.Mounted.{IsMounted, kept_at}
 use Rattle.dg_volume.specs.declared.kept.Kept.{Kept}
 use Rattle.dg_volume.specs.declared.volume.Volume.{Volume}
 use Rattle.dg_volume.proofs.StoreLemmas.{tells_store}

@@ -1,7 +1,7 @@
 -- A chip after a commit that leaves the slots as they are.
-use Rattle.std.proofs.Common.{◌≡◌, ℕ, ◌+◌, ◌<◌, ◌≤◌, Bool, List, length, get_or, Option, Some, None, refl, sym, ap, subst, ◌∙◌, arith}
+use Rattle.std.proofs.Common.{◌≡◌, ℕ, ◌+◌, ◌<◌, ◌≤◌, Bool, List, get_or, Option, Some, None, refl, sym, ap, subst, ◌∙◌, arith}
 use Rattle.dg_words.specs.Cells.{part}
-use Rattle.dg_nor.specs.Chip.{sector, Keeps}
+use Rattle.dg_nor.specs.Chip.{sector}
 use Rattle.dg_object.specs.Descriptor.{Details, IsDescriptor}
 use Rattle.dg_object.proofs.RowLemmas.{pages_for-most}
 use Rattle.dg_control.specs.Snapshot.{place_of}

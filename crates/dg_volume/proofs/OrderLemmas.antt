@@ -1,5 +1,5 @@
 -- Orders that are kept, and orders that are refused.
-use Rattle.std.proofs.Common.{◌≡◌, ℕ, ◌+◌, ◌<◌, ◌≤◌, Bool, true, false, cond, List, Option, Some, None, Result, Err, refl, sym, ap, subst, ◌∙◌, arith}
+use Rattle.std.proofs.Common.{◌≡◌, ℕ, ◌<◌, ◌≤◌, Bool, true, false, cond, List, Some, None, sym, ap, subst, ◌∙◌, arith}
 use Rattle.std.specs.Prelude.{nat_le}
 use Rattle.std.proofs.lemmas.Bool.{le-leb, lt-leb}
 use Rattle.dg_words.specs.Cells.{part}
@@ -7,14 +7,13 @@ use Rattle.dg_nor.specs.Chip.{sector, Keeps}
 use Rattle.dg_control.specs.Snapshot.{place_of}
 use Rattle.dg_control.specs.declared.snapshot.Order.{Order}
 use Rattle.dg_control.specs.declared.snapshot.Snapshot.{Snapshot}
-use Rattle.dg_volume.specs.Store.{Store, App, Stands, AppStands}
+use Rattle.dg_volume.specs.Store.{Store, Stands, AppStands}
 use Rattle.dg_volume.specs.Changes.{ordered, order_refusal}
-use Rattle.dg_volume.specs.Told.{program_told}
 use Rattle.dg_volume.specs.Mounted.{Tells, IsMounted}
 use Rattle.dg_volume.specs.declared.volume.Volume.{Volume}
 use Rattle.dg_volume.specs.declared.faults.OrderFault.{OrderFault}
 use Rattle.dg_volume.specs.declared.faults.OrderFault.TheVariants.{OldOrder}
-use Rattle.dg_volume.proofs.StoreLemmas.{tells_store, app_of}
+use Rattle.dg_volume.proofs.StoreLemmas.{tells_store}
 use Rattle.dg_volume.proofs.KeptLemmas.{SameSlots-keeps}
 use Rattle.dg_volume.proofs.CommitLemmas.{Says, app_kept, program_told_is, committed, committed_tells}
 

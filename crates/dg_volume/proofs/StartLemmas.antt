@@ -1,5 +1,5 @@
 -- An image that is kept whole, and an image in program memory.
-use Rattle.std.proofs.Common.{◌≡◌, ℕ, ◌+◌, ◌*◌, ◌<◌, ◌≤◌, Bool, true, false, List, length, get_or, Option, Some, None, refl, sym, ap, subst, ◌∙◌, eq-eqb, arith, IsSomeAnd}
+use Rattle.std.proofs.Common.{◌≡◌, ℕ, ◌+◌, ◌*◌, ◌<◌, ◌≤◌, Bool, true, false, List, length, Option, Some, None, refl, sym, ap, subst, ◌∙◌, eq-eqb, arith, IsSomeAnd}
 use Rattle.std.specs.Prelude.{◌==◌, ◌&&◌, IsSome}
 use Rattle.std.proofs.lemmas.Bool.{eqb-true}
 use Rattle.dg_words.specs.Cells.{part}
@@ -7,7 +7,7 @@ use Rattle.dg_nor.specs.Chip.{sector, Keeps}
 use Rattle.dg_object.specs.Descriptor.{IsDescriptor}
 use Rattle.dg_control.specs.Snapshot.{place_of}
 use Rattle.dg_volume.specs.Pages.{page_in, program, slot_pages}
-use Rattle.dg_volume.specs.Store.{Store, Held, App, held, HasDescriptor, KeepsImage, KeepsGolden, SlotStands, HoldsApp, AppStands, Stands}
+use Rattle.dg_volume.specs.Store.{Store, Held, App, held, HasDescriptor, KeepsImage, SlotStands, HoldsApp, AppStands, Stands}
 use Rattle.dg_volume.specs.Start.{pages_sound, held_sound, sound, complete_pages, is_whole}
 use Rattle.dg_volume.specs.Installs.{app_of, blanked}
 use Rattle.dg_volume.specs.Told.{told, told_held, program_told}
@@ -21,7 +21,7 @@ use Rattle.dg_control.specs.declared.snapshot.Snapshot.{Snapshot}
 use Rattle.dg_volume.specs.declared.volume.Volume.{Volume}
 use Rattle.dg_control.proofs.PlaceLemmas.{slot}
 use Rattle.dg_volume.proofs.StoreLemmas.{tells_store}
-use Rattle.dg_volume.proofs.KeptLemmas.{SameSlots, SameSlots-keeps, slot_kept, same_tables}
+use Rattle.dg_volume.proofs.KeptLemmas.{SameSlots-keeps, slot_kept, same_tables}
 use Rattle.dg_volume.proofs.CommitLemmas.{Says, app_kept, program_told_is, committed, committed_tells}
 
 -- ---- an image that is kept whole

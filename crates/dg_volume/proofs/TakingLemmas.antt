@@ -17,9 +17,9 @@ use Rattle.dg_object.specs.Object.{Row, Outline, profile}
 use Rattle.dg_object.proofs.RowLemmas.{length-object}
 use Rattle.dg_volume.specs.Header.{IsHeader}
 use Rattle.dg_volume.specs.Changes.{injected, inject_refusal, newer, stale}
-use Rattle.dg_volume.specs.declared.faults.InjectFault.TheVariants.{Stopped, Empty, TooLarge, Stale, Reserved}
-use Rattle.dg_volume.specs.Store.{Store, Held, App, held, held_whole, KeepsImage, SlotStands, AppStands, Stands}
-use Rattle.dg_volume.specs.Told.{told, told_held, slot_told, program_told}
+use Rattle.dg_volume.specs.declared.faults.InjectFault.TheVariants.{Stopped, Empty, TooLarge, Reserved}
+use Rattle.dg_volume.specs.Store.{Store, Held, held, held_whole, KeepsImage, SlotStands, AppStands, Stands}
+use Rattle.dg_volume.specs.Told.{told, told_held, slot_told}
 use Rattle.dg_volume.specs.Mounted.{Tells, IsMounted, kept_at}
 use Rattle.dg_volume.specs.Taking.{keeping, held_begun, Becomes}
 use Rattle.dg_volume.specs.declared.kept.Kept.{Kept}

@@ -10,7 +10,7 @@ use Rattle.dg_nor.proofs.ChipLemmas.{length-blank, part-blank, part-programmed_a
 use Rattle.dg_object.specs.Object.{Row, IsRow, object, profile, pages_for, page_of_row, descriptor_page}
 use Rattle.dg_object.specs.Descriptor.{IsDescriptor, details}
 use Rattle.dg_object.proofs.PageLemmas.{page_of_row-first}
-use Rattle.dg_object.proofs.RowLemmas.{AreBytes-page_of_row, pages_for-some, length-object, get_or-object, descriptor_of_row}
+use Rattle.dg_object.proofs.RowLemmas.{AreBytes-page_of_row, length-object, get_or-object, descriptor_of_row}
 use Rattle.dg_volume.specs.Header.{IsHeader, header_bytes, gates_of}
 use Rattle.dg_volume.specs.Pages.{page_in, slot_pages}
 use Rattle.dg_volume.specs.Store.{KeepsImage, held_whole}

@@ -1,5 +1,5 @@
 -- What the steps of an injection make of a store.
-use Rattle.std.specs.Prelude.{ℕ, List, [], slice_set, Option, Some, None}
+use Rattle.std.specs.Prelude.{ℕ, List, [], slice_set, Option}
 use Rattle.dg_object.specs.Object.{Outline}
 use Rattle.dg_volume.specs.Store.{Store, Held, Stands}
 use Rattle.dg_volume.specs.Mounted.{Tells}

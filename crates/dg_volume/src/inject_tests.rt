@@ -76,7 +76,10 @@ fn injections_are_refused(rt: HostRuntime) -> Result<(), Fail> {
     ] {
         let length: usize = length;
         let bytes = &bytes[..length.min(70_657)];
-        assert_eq!(rt; inject_other(&rt, &mut board, image, version, bytes)?, Err(fault));
+        assert_eq!(rt;
+            inject_other(&rt, &mut board, image, version, bytes)?,
+            Err(fault)
+        );
     }
     Ok(())
 }

@@ -162,7 +162,12 @@ impl Volume {
     }
 
     /// Commits that this is kept of an image, as it stands in its slot.
-    fn commit_kept<N: Nor>(&mut self, nor: &mut N, image: u8, kept: Option<Kept>) -> Result<(), Stopped>
+    fn commit_kept<N: Nor>(
+        &mut self,
+        nor: &mut N,
+        image: u8,
+        kept: Option<Kept>,
+    ) -> Result<(), Stopped>
         requires mounted { IsMounted (N.device nor.old).image self.old }
         requires not_golden { 1 ≤ image }
         requires known_image { image ≤ 3 }
@@ -179,7 +184,13 @@ impl Volume {
     }
 
     /// Writes all pages of an image that is begun, and clears their gates. `first` is its page 0.
-    fn complete<N: Nor>(&mut self, nor: &mut N, new: &NewImage<'_>, first: &[u8; 1104], outline: &Profile) -> Result<(), Stopped>
+    fn complete<N: Nor>(
+        &mut self,
+        nor: &mut N,
+        new: &NewImage<'_>,
+        first: &[u8; 1104],
+        outline: &Profile,
+    ) -> Result<(), Stopped>
         requires mounted { IsMounted (N.device nor.old).image self.old }
         requires not_golden { 1 ≤ new.now.number }
         requires first { first.now ≡ page_of_row (new_row new.now) 0 }

@@ -15,7 +15,12 @@ use crate::{Program, Snapshot, Volume};
 use dg_nor::{Nor, Stopped};
 
 /// Copies an image that is kept whole into program memory, and keeps that program memory is Set to it.
-pub(crate) fn install<N: Nor>(nor: &mut N, volume: Volume, image: u8, version: u32) -> Result<Volume, Stopped>
+pub(crate) fn install<N: Nor>(
+    nor: &mut N,
+    volume: Volume,
+    image: u8,
+    version: u32,
+) -> Result<Volume, Stopped>
     requires mounted { IsMounted (N.device nor.old).image volume }
     requires known_image { image ≤ 3 }
     requires some_version { 1 ≤ version }

@@ -25,9 +25,7 @@ pub use dg_control::{Order, Program, SlotState, Snapshot};
 pub use faults::{FormatFault, InjectFault, MountFault, OrderFault, StartFault};
 pub use injecting::Injected;
 pub use kept::Kept;
-pub use laws::{
-    a_chip_stands_for_one_store, a_whole_image_is_sound, program_memory_holds_the_app,
-};
+pub use laws::{a_chip_stands_for_one_store, a_whole_image_is_sound, program_memory_holds_the_app};
 pub use starting::{Started, start};
 pub use volume::Volume;
 

@@ -87,7 +87,12 @@ fn start_golden<N: Nor>(nor: &mut N, volume: Volume) -> Result<Started, StartFau
 }
 
 /// Copies an image that is kept whole into program memory, and starts it.
-fn start_copied<N: Nor>(nor: &mut N, volume: Volume, image: u8, version: u32) -> Result<Started, Stopped>
+fn start_copied<N: Nor>(
+    nor: &mut N,
+    volume: Volume,
+    image: u8,
+    version: u32,
+) -> Result<Started, Stopped>
     requires mounted { IsMounted (N.device nor.old).image volume }
     requires known_image { image ≤ 3 }
     requires some_version { 1 ≤ version }

@@ -6,6 +6,9 @@ use std::test::Fail;
 /// The checksum of the one byte `A`.
 const CRC_OF_A: u16 = 0x58E5;
 
+/// The checksum of the bytes `123456789`.
+const CRC_OF_DIGITS: u16 = 0x31C3;
+
 #[test]
 fn golden_is_formatted_and_started(rt: HostRuntime) -> Result<(), Fail> {
     let mut board = Board::memory(rt.alloc())?;
@@ -89,5 +92,34 @@ fn an_order_with_an_equal_number_is_refused(rt: HostRuntime) -> Result<(), Fail>
     let started = start(&mut board)?;
     assert_eq!(rt; started.image, 0);
     assert_eq!(rt; started.volume.snapshot().order.number, 2);
+    Ok(())
+}
+
+#[test]
+fn an_ordered_image_is_started(rt: HostRuntime) -> Result<(), Fail> {
+    let mut board = Board::memory(rt.alloc())?;
+    Volume::format(&mut board, b"A", b"base", 0)?;
+    start(&mut board)?;
+
+    let mut volume = Volume::mount(&mut board)?;
+    assert!(rt; !volume.keeps(1, 1));
+    volume.inject(&mut board, 1, 1, b"blink", b"123456789")?;
+    volume.order(&mut board, 1, 1, 1)?;
+
+    for _ in 0..2 {
+        let started = start(&mut board)?;
+        assert_eq!(rt; started.image, 1);
+        assert_eq!(rt; started.version, 1);
+        assert_eq!(rt; started.pages, 2);
+        assert_eq!(rt; started.length, 9);
+        assert_eq!(rt; started.crc, CRC_OF_DIGITS);
+        assert_eq!(rt;
+            started.volume.snapshot().program,
+            Program::Set {
+                image: 1,
+                version: 1
+            }
+        );
+    }
     Ok(())
 }

@@ -73,11 +73,20 @@ fn clear_gates<N: Nor>(nor: &mut N, image: &NewImage<'_>) -> Result<(), Stopped>
     ensures keeps { Keeps (68 + 66 * image.now.number) (69 + 66 * image.now.number) (N.device nor.old).image (N.device nor.new).image }
     ensures ends { ActEnds result (N.device nor.old) (N.device nor.new) }
 {
-    program_in(nor, header_sector(image.number), GATES, &gates_of(image.pages()))
+    program_in(
+        nor,
+        header_sector(image.number),
+        GATES,
+        &gates_of(image.pages()),
+    )
 }
 
 /// Writes all pages of an image whose header stands, and then clears their gates. `first` is its page 0.
-pub(crate) fn fill<N: Nor>(nor: &mut N, image: &NewImage<'_>, first: &[u8; 1104]) -> Result<(), Stopped>
+pub(crate) fn fill<N: Nor>(
+    nor: &mut N,
+    image: &NewImage<'_>,
+    first: &[u8; 1104],
+) -> Result<(), Stopped>
     requires opened { IsOpened (N.device nor.old).image (new_row image.now) }
     requires first { first.now ≡ page_of_row (new_row image.now) 0 }
     ensures whole { OnOk result (KeepsImage (N.device nor.new).image image.now.number image.now.version (held_whole (new_row image.now))) }

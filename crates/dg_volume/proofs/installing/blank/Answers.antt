@@ -1,4 +1,4 @@
-use Rattle.std.proofs.Common.{None, sym, subst, ◌∙◌, List}
+use Rattle.std.proofs.Common.{None, sym, ◌∙◌}
 use Rattle.std.proofs.lemmas.Result.{on_ok_weaker, IfOk-weaker}
 use Rattle.dg_volume.specs.Store.{Store, Stands}
 use Rattle.dg_volume.specs.Mounted.{Tells}

@@ -1,4 +1,4 @@
-use Rattle.std.proofs.Common.{◌≡◌, ◌≤◌, ◌<◌, ◌+◌, ◌*◌, length, ap, ◌∙◌, arith, below_more}
+use Rattle.std.proofs.Common.{◌≤◌, ◌+◌, ◌*◌, length, ap, ◌∙◌, arith, below_more}
 use Rattle.dg_words.specs.Cells.{part}
 use Rattle.dg_nor.proofs.ChipLemmas.{Keeps_then, Keeps_wider}
 use Rattle.dg_object.specs.Object.{pages_for}

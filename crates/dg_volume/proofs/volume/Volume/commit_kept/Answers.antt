@@ -1,5 +1,5 @@
-use Rattle.std.proofs.Common.{◌≡◌, ◌<◌, length, set, sym, ap, ◌∙◌, arith, rules}
-use Rattle.dg_volume.proofs.TakingLemmas.{Sets, HasFour, committed, state_told}
+use Rattle.std.proofs.Common.{◌≡◌, length, set, sym, ap, ◌∙◌, arith, rules}
+use Rattle.dg_volume.proofs.TakingLemmas.{committed, state_told}
 use Rattle.dg_volume.proofs.volume.Volume.commit_kept.Goals as goal
 
 pub returns-clause-committed : goal.returns-clause-committed

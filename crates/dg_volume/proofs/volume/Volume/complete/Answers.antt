@@ -3,7 +3,7 @@ use Rattle.dg_object.specs.Records.{outline_of}
 use Rattle.dg_volume.specs.Store.{held_whole}
 use Rattle.dg_volume.specs.Writing.{new_row}
 use Rattle.dg_volume.specs.declared.kept.Kept.{Kept}
-use Rattle.dg_volume.proofs.TakingLemmas.{rewritten, begun_opened, whole_told, state_stays}
+use Rattle.dg_volume.proofs.TakingLemmas.{rewritten, whole_told, state_stays}
 use Rattle.dg_volume.proofs.volume.Volume.complete.Goals as goal
 
 pub returns-clause-whole : goal.returns-clause-whole

@@ -1,4 +1,4 @@
-use Rattle.std.proofs.Common.{◌≡◌, ◌∙◌, ℕ, List, Some, None, sym, ap, subst, arith}
+use Rattle.std.proofs.Common.{◌≡◌, ◌∙◌, Some, sym, ap, subst, arith}
 use Rattle.dg_object.specs.Object.{row_of}
 use Rattle.dg_volume.specs.Store.{Store, Stands, held, held_whole}
 use Rattle.dg_volume.specs.declared.faults.InjectFault.TheVariants.{Stopped}

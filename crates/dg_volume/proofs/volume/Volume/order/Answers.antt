@@ -1,4 +1,4 @@
-use Rattle.std.proofs.Common.{◌≡◌, List, ap}
+use Rattle.std.proofs.Common.{ap, arith}
 use Rattle.dg_volume.proofs.StoreLemmas.{tells_store}
 use Rattle.dg_volume.proofs.OrderLemmas.{order_refused, order_allowed, order_stands, order_mounted}
 use Rattle.dg_volume.proofs.volume.Volume.order.Goals as goal
