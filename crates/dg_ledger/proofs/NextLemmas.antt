@@ -104,11 +104,13 @@ bump_ran n {a} {b} r = subst (λ k. Ran k a b) (sym (operations-stepping n 1 (n 
 pub bump_stopped : (n : ℕ) {a b : Device} → Halts 1 0 a b → HasCount b.image n ⊎ HasCount b.image (n + 1) → Halted (operations (bump_trail n)) (MayBump n) a b
 bump_stopped n {a} {b} h either =
     subst (λ k. Halted k (MayBump n) a b) (sym (operations-stepping n 1 (n + 1)))
-    (Halted_once (MayBump n) h
-    (⊎_elim
-    (λ old. record { store = n; stands_for = old; allowed = (Leaves-stepping Same n 1 (n + 1) 0 n (omega arith)).1 (inl refl) })
-    (λ next. record { store = n + 1; stands_for = next; allowed = (Leaves-stepping Same n 1 (n + 1) 0 (n + 1) (omega arith)).1 (inr (refl, refl)) })
-    either))
+    (Halted_once (MayBump n) h (record {
+      within = omega arith;
+      leaves = ⊎_elim
+          (λ old. record { store = n; stands_for = old; allowed = (Leaves-stepping Same n 1 (n + 1) 0 n (omega arith)).1 (inl refl) })
+          (λ next. record { store = n + 1; stands_for = next; allowed = (Leaves-stepping Same n 1 (n + 1) 0 (n + 1) (omega arith)).1 (inr (refl, refl)) })
+          either;
+    }))
 
 -- ---- a ledger with no cleared bit
 

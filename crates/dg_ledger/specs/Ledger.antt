@@ -1,5 +1,5 @@
 -- The ledger: sector 0 counts generations by bits that are only ever cleared.
-use Rattle.std.specs.Prelude.{◌≡◌, ℕ, ◌+◌, ◌≤◌, List, codes}
+use Rattle.std.specs.Prelude.{◌≡◌, ℕ, ◌+◌, ◌<◌, ◌≤◌, List, codes}
 use Rattle.dg_words.specs.Bits.{cleared_bits}
 use Rattle.dg_words.specs.Cells.{part}
 use Rattle.dg_nor.specs.Chip.{sector}
@@ -24,6 +24,7 @@ count_of l = l.count
 abbrev pub bump_trail : ℕ → Trail ℕ
 bump_trail n = stepping n 1 (n + 1)
 
--- what a stop may leave where k operations were done
-abbrev pub MayBump : ℕ → ℕ → List ℕ → Type 0
-MayBump n = MayLeave HasCount (λ before count. count ≡ before) (bump_trail n)
+-- what a stop may leave where k operations were done: the one operation was not
+pub record MayBump (n k : ℕ) (image : List ℕ) : Type 0 where
+  pub within : k < 1
+  pub leaves : MayLeave HasCount (λ before count. count ≡ before) (bump_trail n) k image

@@ -18,11 +18,6 @@ pub enum LedgerFault {
 }
 
 impl fmt::Display for LedgerFault {
-    ghost use Rattle.std.specs.Prelude.{Some};
-    ghost use Rattle.dg_ledger.specs.Faults.{fault_text};
-
-    ghost output = { λ fault. Some (fault_text fault) };
-
     fn fmt<W: fmt::Write>(&self, f: &mut fmt::Formatter<W>) -> fmt::Result {
         match self {
             LedgerFault::Stopped => f.write_str("the flash chip is stopped"),
