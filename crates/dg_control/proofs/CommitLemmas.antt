@@ -10,8 +10,8 @@ use Rattle.dg_nor.proofs.ChipLemmas.{sector_kept}
 use Rattle.dg_nor.proofs.TrailLemmas.{operations-stepping, last-stepping, Leaves-stepping, Leaves_last}
 use Rattle.dg_ledger.specs.Ledger.{HasCount, count_of, bump_trail, MayBump}
 use Rattle.dg_control.specs.Places.{place_in, LastSpells, AreFree, ChangesOnly, MayWrite}
-use Rattle.dg_control.specs.Store.{Store, Controls, Stands, IsNear, current, room_for, commit_operations, committed, commit_trail, MayCommit}
-use Rattle.dg_control.specs.Mounted.{store_of, IsMounted}
+use Rattle.dg_control.specs.Store.{ControlStore, Controls, ControlStands, IsNear, current, room_for, commit_operations, committed, commit_trail, MayCommit}
+use Rattle.dg_control.specs.Mounted.{control_store, IsControlOf}
 use Rattle.dg_control.specs.Snapshot.{place_of}
 use Rattle.dg_ledger.specs.declared.ledger.Ledger.{Ledger}
 use Rattle.dg_control.specs.declared.control.Control.{Control}
@@ -55,7 +55,7 @@ controls_kept c d s room same p =
       left = p.left;
     }
 
-pub mounted_kept : (c d : List ℕ) (v : Control) → ((k : ℕ) → k < 3 → sector d k ≡ sector c k) → IsMounted c v → IsMounted d v
+pub mounted_kept : (c d : List ℕ) (v : Control) → ((k : ℕ) → k < 3 → sector d k ≡ sector c k) → IsControlOf c v → IsControlOf d v
 mounted_kept c d v same p =
     let here = sym (same (current (count_of v.ledger)) (omega arith)) in
     record {
@@ -87,35 +87,32 @@ four_operations g = ap operations_at (free_of_room g 0 (omega arith))
 
 -- ---- stores
 
-abbrev pub store_at : Snapshot → ℕ → ℕ → Store
+abbrev pub store_at : Snapshot → ℕ → ℕ → ControlStore
 store_at s g f = record { snapshot = s; room = room_for g f }
 
-pub operations_are : (s : Store) (next : Snapshot) (n : ℕ) → commit_operations s.room ≡ n → operations (commit_trail s next) ≡ n
+pub operations_are : (s : ControlStore) (next : Snapshot) (n : ℕ) → commit_operations s.room ≡ n → operations (commit_trail s next) ≡ n
 operations_are s next n e = operations-stepping s (commit_operations s.room) (committed s next) ∙ e
 
 -- before the last operation the store is near the old one
-before_last : (s : Store) (next : Snapshot) (n k : ℕ) (t : Store) (c : List ℕ) → commit_operations s.room ≡ n → k < n → Stands c t → IsNear s t → MayCommit s next k c
+before_last : (s : ControlStore) (next : Snapshot) (n k : ℕ) (t : ControlStore) (c : List ℕ) → commit_operations s.room ≡ n → k < n → ControlStands c t → IsNear s t → MayCommit s next k c
 before_last s next n k t c e h stands near = record {
-  store = t;
-  stands_for = stands;
-  allowed = (Leaves-stepping IsNear s (commit_operations s.room) (committed s next) k t (omega arith)).1 (inl near);
+  within = omega (arith, operations_are s next n e);
+  leaves = record {
+    store = t;
+    stands_for = stands;
+    allowed = (Leaves-stepping IsNear s (commit_operations s.room) (committed s next) k t (omega arith)).1 (inl near);
+  };
 }
 
 -- the last operation may have made the next one
-at_last : (s : Store) (next : Snapshot) (n k : ℕ) (c : List ℕ) → commit_operations s.room ≡ n → k + 1 ≡ n → Stands c (committed s next) → MayCommit s next k c
+at_last : (s : ControlStore) (next : Snapshot) (n k : ℕ) (c : List ℕ) → commit_operations s.room ≡ n → k + 1 ≡ n → ControlStands c (committed s next) → MayCommit s next k c
 at_last s next n k c e h stands = record {
-  store = committed s next;
-  stands_for = stands;
-  allowed = (Leaves-stepping IsNear s (commit_operations s.room) (committed s next) k (committed s next) (omega arith)).1 (inr (omega arith, refl));
-}
-
--- and with all operations done it stands
-past_last : (s : Store) (next : Snapshot) (n : ℕ) (c : List ℕ) → commit_operations s.room ≡ n → Stands c (committed s next) → MayCommit s next n c
-unfolding last_of
-past_last s next n c e stands = record {
-  store = committed s next;
-  stands_for = stands;
-  allowed = (Leaves_last IsNear (commit_trail s next) n (committed s next) (omega (arith, operations_are s next n e))).1 (record { snapshot = refl; room = inl refl });
+  within = omega (arith, operations_are s next n e);
+  leaves = record {
+    store = committed s next;
+    stands_for = stands;
+    allowed = (Leaves-stepping IsNear s (commit_operations s.room) (committed s next) k (committed s next) (omega arith)).1 (inr (omega arith, refl));
+  };
 }
 
 -- ---- a commit in the same sector
@@ -123,7 +120,7 @@ past_last s next n c e stands = record {
 controls : (d : List ℕ) (g f : ℕ) (s : Snapshot) → HasCount d g → LastSpells (sector d (current g)) s → AreFree (sector d (current g)) f → Controls d s (room_for g f)
 controls d g f s counted told are = record { generation = g; counted = counted; told = told; free = f; are_free = are; left = refl }
 
-near_same : (s : Store) → IsNear s s
+near_same : (s : ControlStore) → IsNear s s
 near_same s = record { snapshot = refl; room = inl refl }
 
 near_less : (s : Snapshot) (g f : ℕ) → 0 < f → IsNear (store_at s g f) (store_at s g (f - 1))
@@ -172,25 +169,20 @@ last_left : (g : ℕ) → g < 16256 → room_for g 0 - 1 ≡ room_for (g + 1) 31
 last_left g left = omega arith
 
 -- then it counts
-pub next_stands : (d : List ℕ) (g : ℕ) (s next : Snapshot) → g < 16256 → HasCount d (g + 1) → ChangesOnly 0 (blank 2048) (sector d (current (g + 1))) → place_in (sector d (current (g + 1))) 0 ≡ place_of next → Stands d (committed (store_at s g 0) next)
+pub next_stands : (d : List ℕ) (g : ℕ) (s next : Snapshot) → g < 16256 → HasCount d (g + 1) → ChangesOnly 0 (blank 2048) (sector d (current (g + 1))) → place_in (sector d (current (g + 1))) 0 ≡ place_of next → ControlStands d (committed (store_at s g 0) next)
 next_stands d g s next left counted rest whole =
     subst (λ (n : ℕ). Controls d next n) (sym (last_left g left))
     (controls d (g + 1) 31 next counted (told_first (sector d (current (g + 1))) next rest whole) (free_first (sector d (current (g + 1))) next rest whole))
 
 pub may_bump : (c d : List ℕ) (g : ℕ) (s next : Snapshot) (k : ℕ) → g < 16256 → LastSpells (sector c (current g)) s → AreFree (sector c (current g)) 0 → sector d (current g) ≡ sector c (current g)
-    → ChangesOnly 0 (blank 2048) (sector d (current (g + 1))) → place_in (sector d (current (g + 1))) 0 ≡ place_of next → k ≤ 1 → MayBump g k d → MayCommit (store_at s g 0) next (3 + k) d
-may_bump c d g s next k left told are same rest whole within may =
-    let stands : may.store ≡ g + 1 → Stands d (committed (store_at s g 0) next) = λ e. next_stands d g s next left (subst (HasCount d) e may.stands_for) rest whole in
+    → ChangesOnly 0 (blank 2048) (sector d (current (g + 1))) → place_in (sector d (current (g + 1))) 0 ≡ place_of next → MayBump g k d → MayCommit (store_at s g 0) next (3 + k) d
+may_bump c d g s next k left told are same rest whole may =
+    let within = may.within in
+    let left_by = may.leaves in
     ⊎_elim
-    (λ first. ⊎_elim
-    (λ stays. may_before c d g s next (3 + k) (subst (HasCount d) stays may.stands_for) told are same (omega arith))
-    (λ done. at_last (store_at s g 0) next 4 (3 + k) d (four_operations g) (omega arith) (stands done.1))
-    ((Leaves-stepping (λ before count. count ≡ before) g 1 (g + 1) k may.store first).0 may.allowed))
-    (λ last.
-    let e : 4 ≡ 3 + k = omega arith in
-    let made : may.store ≡ g + 1 = (Leaves_last (λ before count. count ≡ before) (bump_trail g) k may.store (omega (arith, operations-stepping g 1 (g + 1)))).0 may.allowed ∙ last-stepping g 1 (g + 1) in
-    subst (λ (n : ℕ). MayCommit (store_at s g 0) next n d) e (past_last (store_at s g 0) next 4 d (four_operations g) (stands made)))
-    (cases_lt k 1)
+    (λ stays. may_before c d g s next (3 + k) (subst (HasCount d) stays left_by.stands_for) told are same (omega arith))
+    (λ done. at_last (store_at s g 0) next 4 (3 + k) d (four_operations g) (omega arith) (next_stands d g s next left (subst (HasCount d) done.1 left_by.stands_for) rest whole))
+    ((Leaves-stepping (λ before count. count ≡ before) g 1 (g + 1) k left_by.store within).0 left_by.allowed)
 
 -- ---- a mounted value
 
@@ -198,8 +190,8 @@ abbrev pub control_of : (l : Ledger) (s : Snapshot) (free : ℕ) → Control
 control_of l s free = record { ledger = l; snapshot = s; free = free }
 
 -- after a commit in the same sector
-pub mounted_here : (c d : List ℕ) (v : Control) (next : Snapshot) (at : ℕ) → IsMounted c v → at + v.free ≡ 32 → 0 < v.free → sector d 0 ≡ sector c 0
-    → ChangesOnly at (sector c (current (count_of v.ledger))) (sector d (current (count_of v.ledger))) → place_in (sector d (current (count_of v.ledger))) at ≡ place_of next → IsMounted d (control_of v.ledger next (v.free - 1))
+pub mounted_here : (c d : List ℕ) (v : Control) (next : Snapshot) (at : ℕ) → IsControlOf c v → at + v.free ≡ 32 → 0 < v.free → sector d 0 ≡ sector c 0
+    → ChangesOnly at (sector c (current (count_of v.ledger))) (sector d (current (count_of v.ledger))) → place_in (sector d (current (count_of v.ledger))) at ≡ place_of next → IsControlOf d (control_of v.ledger next (v.free - 1))
 mounted_here c d v next at mounted here some same change whole =
     let old = sector c (current (count_of v.ledger)) in
     let new = sector d (current (count_of v.ledger)) in
@@ -210,7 +202,7 @@ mounted_here c d v next at mounted here some same change whole =
     }
 
 -- after one in the other sector
-pub mounted_next : (d : List ℕ) (g : ℕ) (l : Ledger) (next : Snapshot) → HasCount d (g + 1) → count_of l ≡ g + 1 → ChangesOnly 0 (blank 2048) (sector d (current (g + 1))) → place_in (sector d (current (g + 1))) 0 ≡ place_of next → IsMounted d (control_of l next 31)
+pub mounted_next : (d : List ℕ) (g : ℕ) (l : Ledger) (next : Snapshot) → HasCount d (g + 1) → count_of l ≡ g + 1 → ChangesOnly 0 (blank 2048) (sector d (current (g + 1))) → place_in (sector d (current (g + 1))) 0 ≡ place_of next → IsControlOf d (control_of l next 31)
 mounted_next d g l next counted told rest whole = record {
   counted = subst (HasCount d) (sym told) counted;
   told = subst (λ (n : ℕ). LastSpells (sector d (current n)) next) (sym told) (told_first (sector d (current (g + 1))) next rest whole);
@@ -219,16 +211,16 @@ mounted_next d g l next counted told rest whole = record {
 
 -- ---- whole acts
 
-pub free_below : (c : List ℕ) (v : Control) → IsMounted c v → v.free < 32
+pub free_below : (c : List ℕ) (v : Control) → IsControlOf c v → v.free < 32
 free_below c v mounted = some_written (sector c (current (count_of v.ledger))) v.snapshot v.free mounted.told mounted.are_free
 
 -- how many operations a commit has
-pub two_here : (c : List ℕ) (v : Control) (next : Snapshot) → IsMounted c v → 0 < v.free → 2 ≡ operations (commit_trail (store_of v) next)
-two_here c v next mounted some = sym (operations_are (store_of v) next 2 (two_operations (count_of v.ledger) v.free some (free_below c v mounted)))
+pub two_here : (c : List ℕ) (v : Control) (next : Snapshot) → IsControlOf c v → 0 < v.free → 2 ≡ operations (commit_trail (control_store v) next)
+two_here c v next mounted some = sym (operations_are (control_store v) next 2 (two_operations (count_of v.ledger) v.free some (free_below c v mounted)))
 
-pub four_next : (v : Control) (next : Snapshot) → v.free ≡ 0 → 4 ≡ operations (commit_trail (store_of v) next)
+pub four_next : (v : Control) (next : Snapshot) → v.free ≡ 0 → 4 ≡ operations (commit_trail (control_store v) next)
 four_next v next none =
-    sym (operations_are (store_of v) next 4 (ap (λ (f : ℕ). commit_operations (room_for (count_of v.ledger) f)) none ∙ four_operations (count_of v.ledger)))
+    sym (operations_are (control_store v) next 4 (ap (λ (f : ℕ). commit_operations (room_for (count_of v.ledger) f)) none ∙ four_operations (count_of v.ledger)))
 
 -- the sectors behind the ledger's operation
 pub record AreReady (old new : List ℕ) (n : ℕ) (next : Snapshot) : Type 0 where

@@ -3,5 +3,4 @@ pub mod Ranges
 pub mod Places
 pub mod Store
 pub mod Mounted
-pub mod Reads
 pub mod Faults

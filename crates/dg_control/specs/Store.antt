@@ -1,7 +1,7 @@
 -- What the ledger and the control sectors of a chip stand for: a snapshot, and the commits that are left.
-use Rattle.std.specs.Prelude.{◌≡◌, ◌⊎◌, ℕ, ◌+◌, ◌-◌, ◌*◌, ◌%◌, ◌==◌, if◌then◌else◌, List}
+use Rattle.std.specs.Prelude.{◌≡◌, ◌⊎◌, ℕ, ◌+◌, ◌-◌, ◌*◌, ◌%◌, ◌<◌, ◌==◌, if◌then◌else◌, List}
 use Rattle.dg_nor.specs.Chip.{sector}
-use Rattle.dg_nor.specs.Trail.{Trail, stepping, MayLeave}
+use Rattle.dg_nor.specs.Trail.{Trail, operations, stepping, MayLeave}
 use Rattle.dg_ledger.specs.Ledger.{HasCount}
 use Rattle.dg_control.specs.Places.{LastSpells, AreFree}
 use Rattle.dg_control.specs.declared.snapshot.Snapshot.{Snapshot}
@@ -23,16 +23,17 @@ pub record Controls (c : List ℕ) (s : Snapshot) (room : ℕ) : Type 0 where
   pub are_free : AreFree (sector c (current generation)) free
   pub left : room ≡ room_for generation free
 
-pub record Store : Type 0 where
+-- what the control of a chip is to a trail
+pub record ControlStore : Type 0 where
   pub snapshot : Snapshot
   pub room : ℕ
 
--- the chip stands for the store
-abbrev pub Stands : List ℕ → Store → Type 0
-Stands c store = Controls c store.snapshot store.room
+-- `Controls` of the two as one store, the form that trails take
+abbrev pub ControlStands : List ℕ → ControlStore → Type 0
+ControlStands c store = Controls c store.snapshot store.room
 
 -- the same snapshot, and the same room or one less
-pub record IsNear (before store : Store) : Type 0 where
+pub record IsNear (before store : ControlStore) : Type 0 where
   pub snapshot : store.snapshot ≡ before.snapshot
   pub room : (store.room ≡ before.room) ⊎ (store.room + 1 ≡ before.room)
 
@@ -41,13 +42,14 @@ abbrev pub commit_operations : ℕ → ℕ
 commit_operations room = if room % 32 == 0 then 4 else 2
 
 -- the store after a commit
-abbrev pub committed : Store → Snapshot → Store
+abbrev pub committed : ControlStore → Snapshot → ControlStore
 committed s next = record { snapshot = next; room = s.room - 1 }
 
 -- The operations of a commit, the last of which makes the next store.
-abbrev pub commit_trail : Store → Snapshot → Trail Store
+abbrev pub commit_trail : ControlStore → Snapshot → Trail ControlStore
 commit_trail s next = stepping s (commit_operations s.room) (committed s next)
 
--- what a stop may leave where k operations were done
-abbrev pub MayCommit : Store → Snapshot → ℕ → List ℕ → Type 0
-MayCommit s next = MayLeave Stands IsNear (commit_trail s next)
+-- what a stop may leave where k operations were done: it is in one of the commit's operations
+pub record MayCommit (s : ControlStore) (next : Snapshot) (k : ℕ) (image : List ℕ) : Type 0 where
+  pub within : k < operations (commit_trail s next)
+  pub leaves : MayLeave ControlStands IsNear (commit_trail s next) k image

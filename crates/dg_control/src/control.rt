@@ -4,7 +4,7 @@ ghost use Rattle.dg_nor.specs.Chip.{Keeps};
 ghost use Rattle.dg_nor.specs.Device.{Ran, Halts, Halted};
 ghost use Rattle.dg_nor.specs.Trail.{operations};
 ghost use Rattle.dg_ledger.specs.Ledger.{HasCount, count_of, bump_trail, MayBump};
-ghost use Rattle.dg_control.specs.Mounted.{snapshot_of, room_of, store_of, IsMounted};
+ghost use Rattle.dg_control.specs.Mounted.{control_snapshot, control_room, control_store, IsControlOf};
 ghost use Rattle.dg_control.specs.Store.{current, Controls, commit_trail, MayCommit};
 ghost use Rattle.dg_control.specs.declared.snapshot.Snapshot.{Snapshot};
 
@@ -14,8 +14,8 @@ use crate::{CommitFault, MountFault, Snapshot};
 use dg_ledger::{Ledger, LedgerFault};
 use dg_nor::{Nor, Stopped};
 
-/// The most generations that a chip goes through.
-const GENERATIONS: u32 = 16_256;
+/// The greatest generation of a chip.
+const LAST_GENERATION: u32 = 16_256;
 
 /// The snapshot of a chip and where the next one goes. It stands for the chip that it was mounted from, until a
 /// commit on it is stopped.
@@ -30,9 +30,10 @@ pub struct Control {
 impl Control {
     /// Mounts the control sectors of a chip, whatever its bytes are.
     pub fn mount<N: Nor>(nor: &mut N) -> Result<Control, MountFault>
-        ensures mounted { IfOk result (IsMounted (N.device nor.old).image) }
-        ensures controls { IfOk result (λ v. Controls (N.device nor.old).image (snapshot_of v) (room_of v)) }
+        ensures mounted { IfOk result (IsControlOf (N.device nor.old).image) }
+        ensures controls { IfOk result (λ v. Controls (N.device nor.old).image (control_snapshot v) (control_room v)) }
         ensures ran { OnOk result (Ran 0 (N.device nor.old) (N.device nor.new)) }
+        ensures awake { OnOk result ((N.device nor.old).stopped ≡ false) }
         ensures same_image { (N.device nor.new).image ≡ (N.device nor.old).image }
 
         ensures not_a_volume { IsErrOf result MountFault.NotAVolume
@@ -55,35 +56,36 @@ impl Control {
 
     /// The snapshot that the chip keeps.
     pub fn now(&self) -> Snapshot
-        ensures { result ≡ snapshot_of self.now }
+        ensures { result ≡ control_snapshot self.now }
     {
         self.snapshot
     }
 
     /// How many commits are left, 0 to 520,223.
     pub fn room(&self) -> u32
-        ensures { result ≡ room_of self.now }
+        ensures { result ≡ control_room self.now }
     {
-        let generations = GENERATIONS.saturating_sub(u32::from(self.ledger.count()));
-        u32::from(self.free) + u32::from(PLACES) * generations
+        let left = LAST_GENERATION.saturating_sub(u32::from(self.ledger.count()));
+        u32::from(self.free) + u32::from(PLACES) * left
     }
 
     /// Keeps the next snapshot in place of this one: 2 operations where a place is free, and else 4. A stop leaves
     /// this one or the next.
     pub fn commit<N: Nor>(&mut self, nor: &mut N, next: Snapshot) -> Result<(), CommitFault>
-        requires mounted { IsMounted (N.device nor.old).image self.old }
+        requires mounted { IsControlOf (N.device nor.old).image self.old }
 
-        ensures ok { OnOk result (IsMounted (N.device nor.new).image self.new) }
-        ensures now { OnOk result (snapshot_of self.new ≡ next) }
-        ensures room { OnOk result (room_of self.new + 1 ≡ room_of self.old) }
-        ensures ran { OnOk result (Ran (operations (commit_trail (store_of self.old) next)) (N.device nor.old) (N.device nor.new)) }
+        ensures ok { OnOk result (IsControlOf (N.device nor.new).image self.new) }
+        ensures now { OnOk result (control_snapshot self.new ≡ next) }
+        ensures room { OnOk result (control_room self.new + 1 ≡ control_room self.old) }
+        ensures ran { OnOk result (Ran (operations (commit_trail (control_store self.old) next))
+            (N.device nor.old) (N.device nor.new)) }
         ensures awake { OnOk result ((N.device nor.old).stopped ≡ false) }
         ensures keeps { Keeps 0 3 (N.device nor.old).image (N.device nor.new).image }
 
         ensures stopped { IsErrOf result CommitFault.Stopped
-            → Halted (operations (commit_trail (store_of self.old) next)) (MayCommit (store_of self.old) next)
+            → Halted (operations (commit_trail (control_store self.old) next)) (MayCommit (control_store self.old) next)
             (N.device nor.old) (N.device nor.new) }
-        ensures worn { IsErrOf result CommitFault.Worn ↔ (room_of self.old ≡ 0) }
+        ensures worn { IsErrOf result CommitFault.Worn ↔ (control_room self.old ≡ 0) }
         ensures unchanged { IsErrOf result CommitFault.Worn → N.device nor.new ≡ N.device nor.old }
         ensures same_value { IsErrOf result CommitFault.Worn → self.new ≡ self.old }
     {
@@ -98,17 +100,18 @@ impl Control {
 
     /// Commits in the next free place. 2 operations.
     fn commit_here<N: Nor>(&mut self, nor: &mut N, next: &Snapshot) -> Result<(), Stopped>
-        requires mounted { IsMounted (N.device nor.old).image self.old }
+        requires mounted { IsControlOf (N.device nor.old).image self.old }
         requires some { 0 < self.old.free }
 
-        ensures ok { OnOk result (IsMounted (N.device nor.new).image self.new) }
-        ensures now { OnOk result (snapshot_of self.new ≡ next.now) }
-        ensures room { OnOk result (room_of self.new + 1 ≡ room_of self.old) }
-        ensures ran { OnOk result (Ran (operations (commit_trail (store_of self.old) next.now)) (N.device nor.old) (N.device nor.new)) }
+        ensures ok { OnOk result (IsControlOf (N.device nor.new).image self.new) }
+        ensures now { OnOk result (control_snapshot self.new ≡ next.now) }
+        ensures room { OnOk result (control_room self.new + 1 ≡ control_room self.old) }
+        ensures ran { OnOk result (Ran (operations (commit_trail (control_store self.old) next.now))
+            (N.device nor.old) (N.device nor.new)) }
         ensures awake { OnOk result ((N.device nor.old).stopped ≡ false) }
         ensures keeps { Keeps 0 3 (N.device nor.old).image (N.device nor.new).image }
-        ensures stopped { OnErr result (Halted (operations (commit_trail (store_of self.old) next.now))
-            (MayCommit (store_of self.old) next.now) (N.device nor.old) (N.device nor.new)) }
+        ensures stopped { OnErr result (Halted (operations (commit_trail (control_store self.old) next.now))
+            (MayCommit (control_store self.old) next.now) (N.device nor.old) (N.device nor.new)) }
     {
         commit_at(nor, current_sector(&self.ledger), PLACES - self.free, next)?;
         self.snapshot = *next;
@@ -118,18 +121,19 @@ impl Control {
 
     /// Commits in the first place of the other sector, which counts from then on. 4 operations.
     fn hand_over<N: Nor>(&mut self, nor: &mut N, next: &Snapshot) -> Result<(), Stopped>
-        requires mounted { IsMounted (N.device nor.old).image self.old }
+        requires mounted { IsControlOf (N.device nor.old).image self.old }
         requires none { self.old.free ≡ 0 }
         requires left { count_of self.old.ledger < 16256 }
 
-        ensures ok { OnOk result (IsMounted (N.device nor.new).image self.new) }
-        ensures now { OnOk result (snapshot_of self.new ≡ next.now) }
-        ensures room { OnOk result (room_of self.new + 1 ≡ room_of self.old) }
-        ensures ran { OnOk result (Ran (operations (commit_trail (store_of self.old) next.now)) (N.device nor.old) (N.device nor.new)) }
+        ensures ok { OnOk result (IsControlOf (N.device nor.new).image self.new) }
+        ensures now { OnOk result (control_snapshot self.new ≡ next.now) }
+        ensures room { OnOk result (control_room self.new + 1 ≡ control_room self.old) }
+        ensures ran { OnOk result (Ran (operations (commit_trail (control_store self.old) next.now))
+            (N.device nor.old) (N.device nor.new)) }
         ensures awake { OnOk result ((N.device nor.old).stopped ≡ false) }
         ensures keeps { Keeps 0 3 (N.device nor.old).image (N.device nor.new).image }
-        ensures stopped { OnErr result (Halted (operations (commit_trail (store_of self.old) next.now))
-            (MayCommit (store_of self.old) next.now) (N.device nor.old) (N.device nor.new)) }
+        ensures stopped { OnErr result (Halted (operations (commit_trail (control_store self.old) next.now))
+            (MayCommit (control_store self.old) next.now) (N.device nor.old) (N.device nor.new)) }
     {
         begin_sector(nor, other_sector(&self.ledger), next)?;
         bump(&mut self.ledger, nor)?;

@@ -2,7 +2,7 @@
 ghost use Rattle.std.specs.Prelude.{◌≡◌, ℕ, ◌+◌, ◌-◌, ◌/◌, ◌%◌, ◌<◌, ◌≤◌, ⊤, false, slice_index, IfOk, OnOk, OnErr};
 ghost use Rattle.dg_nor.specs.Chip.{sector, blank, Keeps};
 ghost use Rattle.dg_nor.specs.Device.{Ran, Halts, Halted};
-ghost use Rattle.dg_control.specs.Mounted.{snapshot_of, room_of, IsMounted};
+ghost use Rattle.dg_control.specs.Mounted.{control_snapshot, control_room, IsControlOf};
 ghost use Rattle.dg_control.specs.Places.{place_in, AreFree, ChangesOnly, LastSpells};
 ghost use Rattle.dg_control.specs.Store.{current, Controls};
 ghost use Rattle.dg_nor.specs.declared.device.TheConstants.{SECTORS};
@@ -19,10 +19,10 @@ impl Control {
     pub fn format<N: Nor>(nor: &mut N, used: u32, first: &Snapshot) -> Result<Control, Stopped>
         requires { used ≤ 520223 }
 
-        ensures mounted { IfOk result (IsMounted (N.device nor.new).image) }
+        ensures mounted { IfOk result (IsControlOf (N.device nor.new).image) }
         ensures controls { OnOk result (Controls (N.device nor.new).image first.now (520223 - used)) }
-        ensures told { IfOk result (λ v. snapshot_of v ≡ first.now) }
-        ensures room { IfOk result (λ v. room_of v ≡ 520223 - used) }
+        ensures told { IfOk result (λ v. control_snapshot v ≡ first.now) }
+        ensures room { IfOk result (λ v. control_room v ≡ 520223 - used) }
         ensures spent { OnOk result ((i : ℕ) → i < used % 32
             → slice_index (place_in (sector (N.device nor.new).image (current (used / 32))) i) 0 ≡ 0) }
         ensures ran { OnOk result (Ran (5 + used / 32 + used % 32) (N.device nor.old) (N.device nor.new)) }

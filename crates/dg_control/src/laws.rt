@@ -1,7 +1,7 @@
 //! What holds of control sectors. These functions do nothing: their contracts are the laws.
 ghost use Rattle.std.specs.Prelude.{◌≡◌, ◌<◌, ℕ, List};
 ghost use Rattle.dg_nor.specs.Chip.{sector};
-ghost use Rattle.dg_control.specs.Mounted.{snapshot_of, room_of, IsMounted};
+ghost use Rattle.dg_control.specs.Mounted.{control_snapshot, control_room, IsControlOf};
 ghost use Rattle.dg_control.specs.Snapshot.{place_of};
 ghost use Rattle.dg_control.specs.Store.{Controls};
 ghost use Rattle.dg_control.specs.declared.control.Control.{Control};
@@ -19,7 +19,7 @@ pub fn a_chip_has_one_control()
 
 /// A mounted value tells the snapshot and the room of its chip.
 pub fn a_mounted_chip_has_control()
-    ensures { (c : List ℕ) (v : Control) → IsMounted c v → Controls c (snapshot_of v) (room_of v) }
+    ensures { (c : List ℕ) (v : Control) → IsControlOf c v → Controls c (control_snapshot v) (control_room v) }
 {}
 
 /// The ledger and the control sectors alone say what the control of a chip is.
@@ -27,5 +27,5 @@ pub fn other_sectors_do_not_count()
     ensures controls { (c d : List ℕ) (s : Snapshot) (room : ℕ)
         → ((k : ℕ) → k < 3 → sector d k ≡ sector c k) → Controls c s room → Controls d s room }
     ensures mounted { (c d : List ℕ) (v : Control)
-        → ((k : ℕ) → k < 3 → sector d k ≡ sector c k) → IsMounted c v → IsMounted d v }
+        → ((k : ℕ) → k < 3 → sector d k ≡ sector c k) → IsControlOf c v → IsControlOf d v }
 {}

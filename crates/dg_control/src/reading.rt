@@ -2,7 +2,7 @@
 ghost use Rattle.std.specs.Prelude.{◌≡◌, ◌↔◌, ℕ, ◌<◌, ◌≤◌, ◌-◌, ◌*◌, IfOk, IfSome, IsNone, IsTrue};
 ghost use Rattle.dg_nor.specs.Chip.{sector, blank};
 ghost use Rattle.dg_control.specs.Places.{place_in, IsCommitted, AreFree, LastSpells};
-ghost use Rattle.dg_control.specs.Reads.{ReadEnds};
+ghost use Rattle.dg_ledger.specs.Reads.{ReadEnds};
 ghost use Rattle.dg_control.specs.declared.snapshot.Snapshot.{Snapshot};
 ghost use Rattle.dg_nor.specs.declared.device.TheConstants.{SECTORS};
 

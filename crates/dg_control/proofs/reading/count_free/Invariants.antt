@@ -1,7 +1,7 @@
 use Rattle.std.proofs.Common.{◌≡◌, ℕ, ◌+◌, ◌<◌, ◌≤◌}
 use Rattle.dg_nor.specs.Chip.{sector, blank}
 use Rattle.dg_control.specs.Places.{place_in}
-use Rattle.dg_control.specs.Reads.{Looked}
+use Rattle.dg_ledger.specs.Reads.{Looked}
 use Rattle.dg_control.proofs.reading.count_free.Given as goal
 
 abbrev pub invariant-loop-free : goal.invariant-loop-free

@@ -3,7 +3,7 @@ use Rattle.dg_nor.specs.Chip.{sector}
 use Rattle.dg_nor.specs.Device.{Ran, Halted}
 use Rattle.dg_nor.proofs.DeviceLemmas.{OnErr_from, Halted-weaker}
 use Rattle.dg_ledger.specs.Ledger.{count_of}
-use Rattle.dg_control.specs.Mounted.{store_of}
+use Rattle.dg_control.specs.Mounted.{control_store}
 use Rattle.dg_control.specs.Places.{MayWrite}
 use Rattle.dg_control.specs.Store.{current, MayCommit}
 use Rattle.dg_control.proofs.CommitLemmas.{may_here, mounted_here, two_here}
@@ -21,8 +21,8 @@ returns-in_err-commit_at-clause-stopped g c =
     let here : (32 - v.free) + v.free ≡ 32 = omega (arith, m.are_free.within) in
     let same : sector new.image 0 ≡ sector old.image 0 = c.commit_at.ensures.keeps.before 0 (omega (arith, index)) (omega arith) in
     OnErr_from c.from_residual.result
-    (subst (λ (k : ℕ). Halted k (MayCommit (store_of v) next) old new) (two_here old.image v next m c.requires.some)
-    (Halted-weaker {may = λ k image. MayWrite (32 - v.free) next (sector old.image c.current_sector.result) k (sector image c.current_sector.result)} {may' = MayCommit (store_of v) next}
+    (subst (λ (k : ℕ). Halted k (MayCommit (control_store v) next) old new) (two_here old.image v next m c.requires.some)
+    (Halted-weaker {may = λ k image. MayWrite (32 - v.free) next (sector old.image c.current_sector.result) k (sector image c.current_sector.result)} {may' = MayCommit (control_store v) next}
     (λ k within may.
     may_here old.image new.image n v.free v.snapshot next (32 - v.free) k m.counted m.told m.are_free here c.requires.some same
     (subst (λ (i : ℕ). MayWrite (32 - v.free) next (sector old.image i) k (sector new.image i)) index may))
