@@ -2,7 +2,7 @@
 ghost use Rattle.std.specs.Prelude.{◌≡◌, ◌↔◌, ◌⊎◌, ℕ, ◌<◌, ◌≤◌, false, IsTrue, OnOk, IsErrOf, length};
 ghost use Rattle.dg_base.specs.Texts.{names};
 ghost use Rattle.dg_nor.specs.Chip.{Keeps};
-ghost use Rattle.dg_volume.specs.Acts.{ActEnds, Worked, Stops};
+ghost use Rattle.dg_volume.specs.Acts.{ActEnds, Worked, ActStopped};
 ghost use Rattle.dg_control.specs.Snapshot.{IsFresh};
 ghost use Rattle.dg_volume.specs.Store.{KeepsImage, Stands, fresh, golden_row, held_whole};
 
@@ -34,7 +34,7 @@ impl Volume {
         ensures too_large { (result ≡ Err FormatFault.TooLarge) ↔ (70656 < length golden.now) }
         ensures refused { IsErrOf result FormatFault.Empty ⊎ IsErrOf result FormatFault.TooLarge
             → N.device nor.new ≡ N.device nor.old }
-        ensures stopped { IsErrOf result FormatFault.Stopped → Stops (N.device nor.old) (N.device nor.new) }
+        ensures stopped { IsErrOf result FormatFault.Stopped → ActStopped (N.device nor.old) (N.device nor.new) }
     {
         prove!(used == 0);
         match check_size(golden.len()) {

@@ -3,7 +3,7 @@ ghost use Rattle.std.specs.Prelude.{◌≡◌, ◌≢◌, ◌↔◌, ℕ, ◌≤
 ghost use Rattle.dg_base.specs.Texts.{names};
 ghost use Rattle.dg_object.specs.Object.{Row, row_of, pages_for, page_of_row, profile};
 ghost use Rattle.dg_object.specs.Records.{outline_of};
-ghost use Rattle.dg_volume.specs.Acts.{ActEnds, Worked, Stops};
+ghost use Rattle.dg_volume.specs.Acts.{ActEnds, Worked, ActStopped};
 ghost use Rattle.dg_volume.specs.Store.{Store, Held, Stands, SlotStands, held, held_whole};
 ghost use Rattle.dg_volume.specs.Told.{told, told_held, slot_told};
 ghost use Rattle.dg_volume.specs.Changes.{injected, inject_refusal, newer, stale};
@@ -60,7 +60,7 @@ impl Volume {
             → inject_refusal s (row_of image version name.now bytes.now) ≡ Some e }
         ensures unchanged { (e : InjectFault) → result ≡ Err e → e ≢ InjectFault.Stopped
             → (N.device nor.new ≡ N.device nor.old) × (self.new ≡ self.old) }
-        ensures stopped { IsErrOf result InjectFault.Stopped → Stops (N.device nor.old) (N.device nor.new) }
+        ensures stopped { IsErrOf result InjectFault.Stopped → ActStopped (N.device nor.old) (N.device nor.new) }
     {
         if let Some(fault) = self.refusal(image, version, bytes) {
             return Err(fault);

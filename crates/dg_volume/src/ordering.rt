@@ -1,7 +1,7 @@
 //! Orders: which image is to be started.
 ghost use Rattle.std.specs.Prelude.{◌≡◌, ◌≢◌, ◌≤◌, false, IsTrue, Some, None, Err, OnOk, IsErrOf};
 ghost use Rattle.dg_control.specs.Ranges.{order_fits};
-ghost use Rattle.dg_volume.specs.Acts.{Worked, Stops};
+ghost use Rattle.dg_volume.specs.Acts.{Worked, ActStopped};
 ghost use Rattle.dg_volume.specs.Store.{Store, Stands};
 ghost use Rattle.dg_volume.specs.Changes.{ordered, order_refusal};
 ghost use Rattle.dg_volume.specs.Mounted.{IsMounted};
@@ -35,7 +35,7 @@ impl Volume {
             → order_refusal s (record { number = number; image = image; version = version }) ≡ Some e }
         ensures unchanged { (e : OrderFault) → result ≡ Err e → e ≢ OrderFault.Stopped
             → (N.device nor.new ≡ N.device nor.old) × (self.new ≡ self.old) }
-        ensures stopped { IsErrOf result OrderFault.Stopped → Stops (N.device nor.old) (N.device nor.new) }
+        ensures stopped { IsErrOf result OrderFault.Stopped → ActStopped (N.device nor.old) (N.device nor.new) }
     {
         let kept = self.snapshot.order.number;
         if number <= kept {

@@ -5,7 +5,7 @@ ghost use Rattle.dg_base.specs.Crc.{crc_of};
 ghost use Rattle.dg_nor.specs.Chip.{Keeps};
 ghost use Rattle.dg_object.specs.Object.{content, pages_for};
 ghost use Rattle.dg_object.specs.Descriptor.{Details, IsDescriptor};
-ghost use Rattle.dg_volume.specs.Acts.{ReadEnds, ActEnds, StartEnds, Looked, Worked, Stops};
+ghost use Rattle.dg_volume.specs.Acts.{ReadEnds, ActEnds, StartEnds, Looked, Worked, ActStopped};
 ghost use Rattle.dg_volume.specs.Store.{Store, App, HoldsApp, Stands, held, IsVolume, IsNoVolume, page_in, program};
 ghost use Rattle.dg_volume.specs.Start.{start_of, start_from, sound, is_whole, copied};
 ghost use Rattle.dg_volume.specs.Mounted.{IsMounted};
@@ -44,7 +44,7 @@ pub fn start<N: Nor>(nor: &mut N) -> Result<Started, StartFault>
     ensures not_a_volume { IsErrOf result StartFault.NotAVolume → IsNoVolume (N.device nor.old).image }
     ensures refused { IsErrOf result StartFault.NoImage ⊎ IsErrOf result StartFault.NotAVolume
         → Looked (N.device nor.old) (N.device nor.new) }
-    ensures stopped { IsErrOf result StartFault.Stopped → Stops (N.device nor.old) (N.device nor.new) }
+    ensures stopped { IsErrOf result StartFault.Stopped → ActStopped (N.device nor.old) (N.device nor.new) }
 {
     let volume = Volume::mount(nor)?;
     if takes_order(nor, &volume)? {

@@ -1,6 +1,6 @@
 //! A mounted volume.
 ghost use Rattle.std.specs.Prelude.{◌≡◌, ◌↔◌, ◌≤◌, ℕ, Option, IfOk, OnOk, IsErrOf, IsTrue, IsSomeAnd};
-ghost use Rattle.dg_volume.specs.Acts.{Looked, Halted, MountEnds};
+ghost use Rattle.dg_volume.specs.Acts.{Looked, ReadStopped, MountEnds};
 ghost use Rattle.dg_volume.specs.Store.{App, AppStands, Stands, IsNoVolume};
 ghost use Rattle.dg_volume.specs.Told.{program_told};
 ghost use Rattle.dg_volume.specs.Mounted.{snapshot_of, kept_at, IsMounted};
@@ -28,7 +28,7 @@ impl Volume {
         ensures same_image { (N.device nor.new).image ≡ (N.device nor.old).image }
         ensures looked { OnOk result (Looked (N.device nor.old) (N.device nor.new)) }
         ensures refused { IsErrOf result MountFault.NotAVolume → Looked (N.device nor.old) (N.device nor.new) }
-        ensures stopped { IsErrOf result MountFault.Stopped → Halted (N.device nor.old) (N.device nor.new) }
+        ensures stopped { IsErrOf result MountFault.Stopped → ReadStopped (N.device nor.old) (N.device nor.new) }
     {
         let snapshot = read_snapshot(nor)?;
         let kept = mount_slots(nor, &snapshot.slots)?;
