@@ -3,6 +3,7 @@ ghost use Rattle.std.specs.Prelude.{◌≡◌, ◌↔◌, ◌⊎◌, ℕ, ◌<�
 ghost use Rattle.dg_base.specs.Texts.{names};
 ghost use Rattle.dg_nor.specs.Chip.{Keeps};
 ghost use Rattle.dg_volume.specs.Acts.{ActEnds, Worked, ActStopped};
+ghost use Rattle.dg_volume.specs.Frames.{KeepsBut};
 ghost use Rattle.dg_control.specs.Snapshot.{IsFresh};
 ghost use Rattle.dg_volume.specs.Store.{KeepsImage, Stands, fresh, golden_row, held_whole};
 
@@ -29,6 +30,8 @@ impl Volume {
         ensures formatted { OnOk result (Stands (N.device nor.new).image (fresh name.now golden.now)) }
         ensures worked { OnOk result (Worked (N.device nor.old) (N.device nor.new)) }
         ensures awake { OnOk result ((N.device nor.old).stopped ≡ false) }
+        // Golden's slot has the sectors 68 to 133.
+        ensures keeps { KeepsBut 68 134 (N.device nor.old).image (N.device nor.new).image }
 
         ensures empty { (result ≡ Err FormatFault.Empty) ↔ (length golden.now ≡ 0) }
         ensures too_large { (result ≡ Err FormatFault.TooLarge) ↔ (70656 < length golden.now) }
