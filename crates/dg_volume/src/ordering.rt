@@ -4,7 +4,7 @@ ghost use Rattle.dg_nor.specs.Chip.{Keeps};
 ghost use Rattle.dg_control.specs.Ranges.{order_fits};
 ghost use Rattle.dg_volume.specs.Acts.{Worked, ActStopped};
 ghost use Rattle.dg_volume.specs.Store.{Store, Stands};
-ghost use Rattle.dg_volume.specs.Changes.{ordered, order_refusal};
+ghost use Rattle.dg_volume.specs.Changes.{ordered, order_refusal, UnlessOrderRefused};
 ghost use Rattle.dg_volume.specs.Mounted.{IsMounted};
 
 use crate::control::commit;
@@ -34,7 +34,7 @@ impl Volume {
         ensures awake { OnOk result ((N.device nor.old).stopped ≡ false) }
         ensures keeps { Keeps 1 2 (N.device nor.old).image (N.device nor.new).image }
 
-        ensures allowed { OnOk result ((s : Store) → Stands (N.device nor.old).image s
+        ensures allowed { UnlessOrderRefused result ((s : Store) → Stands (N.device nor.old).image s
             → order_refusal s (record { number = number; image = image; version = version }) ≡ None) }
         ensures refused { (e : OrderFault) → result ≡ Err e → e ≢ OrderFault.Stopped → (s : Store) → Stands (N.device nor.old).image s
             → order_refusal s (record { number = number; image = image; version = version }) ≡ Some e }
