@@ -4,9 +4,11 @@ use Rattle.dg_words.specs.Counts.{Rose}
 use Rattle.dg_nor.specs.declared.device.Stopped.{Stopped}
 use Rattle.dg_nor.specs.Device.{Device, Ran, Halts}
 use Rattle.dg_nor.proofs.DeviceLemmas.{more-zero, NotFallen_then, Ran-none, Ran_then}
-use Rattle.dg_volume.specs.Acts.{Looked, ReadStopped, Worked, ActStopped, ReadEnds, ActEnds, MountEnds}
+use Rattle.dg_volume.specs.Acts.{Looked, ReadStopped, Worked, ActStopped, ReadEnds, ActEnds, MountEnds, StartReadEnds}
 use Rattle.dg_volume.specs.declared.faults.MountFault.{MountFault}
 use Rattle.dg_volume.specs.declared.faults.MountFault.TheVariants as mount
+use Rattle.dg_volume.specs.declared.faults.StartFault.{StartFault}
+use Rattle.dg_volume.specs.declared.faults.StartFault.TheVariants as start
 
 -- a device that was not stopped
 awake : {P : Type 0} (d : Device) → d.stopped ≡ false → d.stopped ≡ true → P
@@ -103,6 +105,12 @@ pub mount_after : {T : Type 0} (r : Result T MountFault) (a b c : Device) → Lo
 mount_after (Ok x) a b c p q = Looked_then p q
 mount_after (Err mount.NotAVolume) a b c p q = Looked_then p q
 mount_after (Err mount.Stopped) a b c p q = ReadStopped_after p q
+
+pub start_read_after : {T : Type 0} (r : Result T StartFault) (a b c : Device) → Looked a b → StartReadEnds r b c → StartReadEnds r a c
+start_read_after (Ok x) a b c p q = Looked_then p q
+start_read_after (Err start.NoImage) a b c p q = Looked_then p q
+start_read_after (Err start.NotAVolume) a b c p q = Looked_then p q
+start_read_after (Err start.Stopped) a b c p q = ReadStopped_after p q
 
 -- a call that reads is an act
 pub act_of_read : {T : Type 0} (r : Result T Stopped) (a b : Device) → ReadEnds r a b → ActEnds r a b

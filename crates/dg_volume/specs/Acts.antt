@@ -55,3 +55,10 @@ StartEnds (Ok x) old new = Worked old new
 StartEnds (Err start.NoImage) old new = Looked old new
 StartEnds (Err start.NotAVolume) old new = Looked old new
 StartEnds (Err start.Stopped) old new = ActStopped old new
+
+-- how a start ends that only reads
+abbrev pub StartReadEnds : {T : Type 0} → Result T StartFault → Device → Device → Type 0
+StartReadEnds (Ok x) old new = Looked old new
+StartReadEnds (Err start.NoImage) old new = Looked old new
+StartReadEnds (Err start.NotAVolume) old new = Looked old new
+StartReadEnds (Err start.Stopped) old new = ReadStopped old new

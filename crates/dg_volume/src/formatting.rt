@@ -30,7 +30,7 @@ impl Volume {
         ensures formatted { OnOk result (Stands (N.device nor.new).image (fresh name.now golden.now)) }
         ensures worked { OnOk result (Worked (N.device nor.old) (N.device nor.new)) }
         ensures awake { OnOk result ((N.device nor.old).stopped ≡ false) }
-        // Golden's slot has the sectors 68 to 133.
+        // golden's slot has the sectors 68 to 133
         ensures keeps { KeepsBut 68 134 (N.device nor.old).image (N.device nor.new).image }
 
         ensures empty { (result ≡ Err FormatFault.Empty) ↔ (length golden.now ≡ 0) }

@@ -58,7 +58,7 @@ impl Volume {
         ensures worked { OnOk result (Worked (N.device nor.old) (N.device nor.new)) }
         ensures again { IsSomeAnd (kept_at self.old image) (λ k. k.version ≡ version)
             → (N.device nor.new ≡ N.device nor.old) × (self.new ≡ self.old) }
-        // The image's slot has the sectors 68 + 66 * image to 133 + 66 * image.
+        // the image's slot has the sectors 68 + 66 * image to 133 + 66 * image
         ensures keeps { KeepsBut (68 + 66 * image) (134 + 66 * image) (N.device nor.old).image (N.device nor.new).image }
 
         ensures allowed { UnlessInjectRefused result ((s : Store) → Stands (N.device nor.old).image s
