@@ -4,9 +4,11 @@ use Rattle.dg_words.specs.Counts.{Rose}
 use Rattle.dg_nor.specs.declared.device.Stopped.{Stopped}
 use Rattle.dg_nor.specs.Device.{Device, Ran, Halts}
 use Rattle.dg_nor.proofs.DeviceLemmas.{more-zero, NotFallen_then, Ran-none, Ran_then}
-use Rattle.dg_volume.specs.Acts.{Looked, Halted, Worked, Stops, ReadEnds, ActEnds, MountEnds}
+use Rattle.dg_volume.specs.Acts.{Looked, ReadStopped, Worked, ActStopped, ReadEnds, ActEnds, MountEnds, StartReadEnds}
 use Rattle.dg_volume.specs.declared.faults.MountFault.{MountFault}
 use Rattle.dg_volume.specs.declared.faults.MountFault.TheVariants as mount
+use Rattle.dg_volume.specs.declared.faults.StartFault.{StartFault}
+use Rattle.dg_volume.specs.declared.faults.StartFault.TheVariants as start
 
 -- a device that was not stopped
 awake : {P : Type 0} (d : Device) → d.stopped ≡ false → d.stopped ≡ true → P
@@ -20,22 +22,22 @@ Looked-read {a} same ran e = record { same_image = same; ran = ran; still = awak
 pub Worked-ran : {n : ℕ} {a b : Device} → Ran n a b → a.stopped ≡ false → Worked a b
 Worked-ran {n} {a} ran e = record { operations = n; ran = ran; still = awake a e }
 
-pub Halted-read : {a b : Device} → b.image ≡ a.image → Halts 0 0 a b → Halted a b
-Halted-read same h = record { same_image = same; halts = h }
+pub ReadStopped-read : {a b : Device} → b.image ≡ a.image → Halts 0 0 a b → ReadStopped a b
+ReadStopped-read same h = record { same_image = same; halts = h }
 
-pub Stops-halts : {n d : ℕ} {a b : Device} → Halts n d a b → Stops a b
-Stops-halts h = record { stopped = h.stopped; cause = h.cause; unchanged = h.unchanged; faults = h.faults; names = h.names }
+pub ActStopped-halts : {n d : ℕ} {a b : Device} → Halts n d a b → ActStopped a b
+ActStopped-halts h = record { stopped = h.stopped; cause = h.cause; unchanged = h.unchanged; faults = h.faults; names = h.names }
 
 -- how a program or an erase ends
 pub act_ends : {T : Type 0} (n : ℕ) (r : Result T Stopped) (a b : Device) → OnOk r (Ran n a b) → OnOk r (a.stopped ≡ false) → OnErr r (Halts n 0 a b) → ActEnds r a b
 act_ends n (Ok x) a b ran e h = Worked-ran ran e
-act_ends n (Err x) a b ran e h = Stops-halts h
+act_ends n (Err x) a b ran e h = ActStopped-halts h
 
 pub Worked-looked : {a b : Device} → Looked a b → Worked a b
 Worked-looked l = record { operations = 0; ran = l.ran; still = l.still }
 
-pub Stops-halted : {a b : Device} → Halted a b → Stops a b
-Stops-halted h = Stops-halts h.halts
+pub ActStopped-read : {a b : Device} → ReadStopped a b → ActStopped a b
+ActStopped-read h = ActStopped-halts h.halts
 
 -- ---- no call
 
@@ -63,8 +65,8 @@ cause_after : (a b c : Device) → b.stopped ≡ a.stopped → a.faults ≤ b.fa
 cause_after a b c e h l (inl s) = inl (sym e ∙ s)
 cause_after a b c e h l (inr r) = inr (rose_after a.faults b.faults c.faults h l r)
 
-pub Stops_after : {a b c : Device} → Worked a b → Stops b c → Stops a c
-Stops_after {a} {b} {c} p q = record {
+pub ActStopped_after : {a b c : Device} → Worked a b → ActStopped b c → ActStopped a c
+ActStopped_after {a} {b} {c} p q = record {
   stopped = q.stopped;
   cause = cause_after a b c p.ran.stopped p.ran.faults q.faults q.cause;
   unchanged = still_then a b c p.still q.unchanged;
@@ -72,8 +74,8 @@ Stops_after {a} {b} {c} p q = record {
   names = q.names ∙ p.ran.names;
 }
 
-pub Halted_after : {a b c : Device} → Looked a b → Halted b c → Halted a c
-Halted_after {a} {b} {c} p q = record {
+pub ReadStopped_after : {a b c : Device} → Looked a b → ReadStopped b c → ReadStopped a c
+ReadStopped_after {a} {b} {c} p q = record {
   same_image = q.same_image ∙ p.same_image;
   halts = record {
     within = q.halts.within;
@@ -93,18 +95,24 @@ Halted_after {a} {b} {c} p q = record {
 
 pub read_after : {T : Type 0} (r : Result T Stopped) (a b c : Device) → Looked a b → ReadEnds r b c → ReadEnds r a c
 read_after (Ok x) a b c p q = Looked_then p q
-read_after (Err e) a b c p q = Halted_after p q
+read_after (Err e) a b c p q = ReadStopped_after p q
 
 pub act_after : {T : Type 0} (r : Result T Stopped) (a b c : Device) → Worked a b → ActEnds r b c → ActEnds r a c
 act_after (Ok x) a b c p q = Worked_then p q
-act_after (Err e) a b c p q = Stops_after p q
+act_after (Err e) a b c p q = ActStopped_after p q
 
 pub mount_after : {T : Type 0} (r : Result T MountFault) (a b c : Device) → Looked a b → MountEnds r b c → MountEnds r a c
 mount_after (Ok x) a b c p q = Looked_then p q
 mount_after (Err mount.NotAVolume) a b c p q = Looked_then p q
-mount_after (Err mount.Stopped) a b c p q = Halted_after p q
+mount_after (Err mount.Stopped) a b c p q = ReadStopped_after p q
+
+pub start_read_after : {T : Type 0} (r : Result T StartFault) (a b c : Device) → Looked a b → StartReadEnds r b c → StartReadEnds r a c
+start_read_after (Ok x) a b c p q = Looked_then p q
+start_read_after (Err start.NoImage) a b c p q = Looked_then p q
+start_read_after (Err start.NotAVolume) a b c p q = Looked_then p q
+start_read_after (Err start.Stopped) a b c p q = ReadStopped_after p q
 
 -- a call that reads is an act
 pub act_of_read : {T : Type 0} (r : Result T Stopped) (a b : Device) → ReadEnds r a b → ActEnds r a b
 act_of_read (Ok x) a b h = Worked-looked h
-act_of_read (Err e) a b h = Stops-halted h
+act_of_read (Err e) a b h = ActStopped-read h

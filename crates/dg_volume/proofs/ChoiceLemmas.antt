@@ -1,13 +1,13 @@
 -- What a start chooses.
 use Rattle.std.proofs.Common.{◌≡◌, ℕ, ◌≤◌, Bool, true, false, cond, List, Some, None, refl, sym, ap, subst, ◌∙◌, arith, IsTrue}
-use Rattle.std.specs.Prelude.{◌==◌, ◌&&◌, not}
+use Rattle.std.specs.Prelude.{◌==◌, ◌&&◌, not, is_some, IsSome}
 use Rattle.std.proofs.lemmas.Bool.Decides.{nat_tests}
 use Rattle.dg_control.specs.Ranges.{order_fits}
 use Rattle.dg_control.specs.declared.snapshot.Order.{Order}
 use Rattle.dg_control.proofs.PlaceLemmas.{in_range}
 use Rattle.dg_volume.specs.Pages.{slot_pages}
 use Rattle.dg_volume.specs.Store.{Store, App, held, Stands}
-use Rattle.dg_volume.specs.Start.{pages_sound, sound, copied, is_whole, is_set_to, order_waits, start_from, start_of}
+use Rattle.dg_volume.specs.Start.{pages_sound, sound, copied, is_whole, is_set_to, order_waits, start_from, start_of, runs_on}
 use Rattle.dg_volume.specs.Mounted.{IsMounted, kept_at}
 use Rattle.dg_volume.specs.declared.kept.Kept.{Kept}
 use Rattle.dg_volume.specs.declared.volume.Volume.{Volume}
@@ -78,3 +78,7 @@ start_golden s h = ap (λ (b : Bool). cond b (Some (copied s 0 1)) None) h
 
 pub start_none : (s : Store) → s.app ≡ None → sound s 0 ≡ false → start_from s s.app ≡ None
 start_none s e h = ap (start_from s) e ∙ ap (λ (b : Bool). cond b (Some (copied s 0 1)) None) h
+
+-- what runs on is in program memory
+pub runs_on_app : (s : Store) → IsTrue (runs_on s) → IsSome s.app
+runs_on_app s on = (both (is_some s.app) (not (order_waits s && sound s s.order.image)) on).0

@@ -18,3 +18,4 @@ pub mod ContentLemmas
 pub mod StartLemmas
 pub mod ChoiceLemmas
 pub mod RunLemmas
+pub mod FrameLemmas

@@ -1,5 +1,5 @@
 -- Orders that are kept, and orders that are refused.
-use Rattle.std.proofs.Common.{◌≡◌, ℕ, ◌<◌, ◌≤◌, Bool, true, false, cond, List, Some, None, sym, ap, subst, ◌∙◌, arith}
+use Rattle.std.proofs.Common.{◌≡◌, ℕ, ◌<◌, ◌≤◌, Bool, true, false, cond, List, Some, None, Result, Ok, Err, sym, ap, subst, ◌∙◌, arith}
 use Rattle.std.specs.Prelude.{nat_le}
 use Rattle.std.proofs.lemmas.Bool.{le-leb, lt-leb}
 use Rattle.dg_words.specs.Cells.{part}
@@ -8,11 +8,11 @@ use Rattle.dg_control.specs.Snapshot.{place_of}
 use Rattle.dg_control.specs.declared.snapshot.Order.{Order}
 use Rattle.dg_control.specs.declared.snapshot.Snapshot.{Snapshot}
 use Rattle.dg_volume.specs.Store.{Store, Stands, AppStands}
-use Rattle.dg_volume.specs.Changes.{ordered, order_refusal}
+use Rattle.dg_volume.specs.Changes.{ordered, order_refusal, UnlessOrderRefused}
 use Rattle.dg_volume.specs.Mounted.{Tells, IsMounted}
 use Rattle.dg_volume.specs.declared.volume.Volume.{Volume}
 use Rattle.dg_volume.specs.declared.faults.OrderFault.{OrderFault}
-use Rattle.dg_volume.specs.declared.faults.OrderFault.TheVariants.{OldOrder}
+use Rattle.dg_volume.specs.declared.faults.OrderFault.TheVariants.{Stopped, OldOrder}
 use Rattle.dg_volume.proofs.StoreLemmas.{tells_store}
 use Rattle.dg_volume.proofs.KeptLemmas.{SameSlots-keeps}
 use Rattle.dg_volume.proofs.CommitLemmas.{Says, app_kept, program_told_is, committed, committed_tells}
@@ -29,6 +29,12 @@ order_refused s o kept e same low is =
 
 pub order_allowed : (s : Store) (o : Order) (kept : ℕ) → kept ≡ s.order.number → kept < o.number → order_refusal s o ≡ None
 order_allowed s o kept same high = passed (nat_le o.number s.order.number) (Some (OldOrder s.order.number)) None (lt-leb o.number s.order.number (omega (arith, same, high)))
+
+-- what holds where an order is not refused
+pub unless_order_refused : {T : Type 0} (r : Result T OrderFault) (P : Type 0) → P → UnlessOrderRefused r P
+unless_order_refused (Ok x) P p = p
+unless_order_refused (Err Stopped) P p = p
+unless_order_refused (Err (OldOrder kept)) P p = tt
 
 -- the snapshot says the order, and all else as before
 pub record SaysOrder (r : Snapshot) (v : Volume) (o : Order) : Type 0 where

@@ -1,5 +1,5 @@
 -- What is kept of one image changes, on the chip and in the volume that tells it.
-use Rattle.std.proofs.Common.{◌≡◌, ◌≢◌, ◌⊎◌, ℕ, zero, suc, ◌+◌, ◌*◌, ◌<◌, ◌≤◌, Bool, true, false, List, [], ◌∷◌, length, get_or, set, Option, Some, None, IsTrue, IsSomeAnd, IfNone, IfSome, refl, sym, ap, subst, ◌∙◌, inl, inr, ⊎_elim, arith}
+use Rattle.std.proofs.Common.{◌≡◌, ◌≢◌, ◌⊎◌, ℕ, zero, suc, ◌+◌, ◌*◌, ◌<◌, ◌≤◌, Bool, true, false, List, [], ◌∷◌, length, get_or, set, Option, Some, None, Result, Ok, Err, IsTrue, IsSomeAnd, IfNone, IfSome, refl, sym, ap, subst, ◌∙◌, inl, inr, ⊎_elim, arith}
 use Rattle.std.specs.Prelude.{◌&&◌, ◌==◌, not, is_some, nat_lt, if◌then◌else◌}
 use Rattle.std.specs.List.{list_all}
 use Rattle.std.proofs.lemmas.Bool.{cases_eq, cases_lt}
@@ -16,8 +16,9 @@ use Rattle.dg_control.proofs.PlaceLemmas.{slot, same_place}
 use Rattle.dg_object.specs.Object.{Row, Outline, profile}
 use Rattle.dg_object.proofs.RowLemmas.{length-object}
 use Rattle.dg_volume.specs.Header.{IsHeader}
-use Rattle.dg_volume.specs.Changes.{injected, inject_refusal, newer, stale}
-use Rattle.dg_volume.specs.declared.faults.InjectFault.TheVariants.{Stopped, Empty, TooLarge, Reserved}
+use Rattle.dg_volume.specs.Changes.{injected, inject_refusal, newer, stale, UnlessInjectRefused}
+use Rattle.dg_volume.specs.declared.faults.InjectFault.{InjectFault}
+use Rattle.dg_volume.specs.declared.faults.InjectFault.TheVariants.{Stopped, Empty, TooLarge, Stale, Reserved}
 use Rattle.dg_volume.specs.Store.{Store, Held, held, held_whole, KeepsImage, SlotStands, AppStands, Stands}
 use Rattle.dg_volume.specs.Told.{told, told_held, slot_told}
 use Rattle.dg_volume.specs.Mounted.{Tells, IsMounted, kept_at}
@@ -302,6 +303,10 @@ first_of_five a b c d e f g h =
     let h0 = both a c h1.0 in
     joined (b && c && d && e) f (joined (b && c && d) e (joined (b && c) d (joined b c (g h0.0) h0.1) h1.1) h2.1) h3.1
 
+-- a snapshot has four slots, also where one of them changes
+pub slots_four : (s : Snapshot) (i : ℕ) (x : SlotState) → length (set s.slots i x) ≡ 4
+slots_four s i x = length-set s.slots i x ∙ s.four_slots
+
 pub slot_set_fits : (s : Snapshot) (i : ℕ) (x : SlotState) → IsTrue (slot_fits x) → IsTrue (snapshot_fits (set s.slots i x) s.program s.order s.waived s.gesture)
 slot_set_fits s i x h = first_of_five (list_all slot_fits s.slots) _ _ _ _ _ (λ all. all_set s.slots i x all h) s.in_range
 
@@ -317,6 +322,23 @@ not_stopped s row e = by_cause (length row.bytes == 0) (nat_lt 70656 (length row
     by_cause false false true o e = cc
     by_cause false false false None e = cc
     by_cause false false false (Some k) e = cc
+
+-- what holds where an injection is not refused
+pub unless_inject_refused : {T : Type 0} (r : Result T InjectFault) (P : Type 0) → P → UnlessInjectRefused r P
+unless_inject_refused (Ok x) P p = p
+unless_inject_refused (Err Stopped) P p = p
+unless_inject_refused (Err Empty) P p = tt
+unless_inject_refused (Err TooLarge) P p = tt
+unless_inject_refused (Err (Stale kept)) P p = tt
+unless_inject_refused (Err Reserved) P p = tt
+
+-- nothing is to be shown of one that is
+pub where_inject_refused : (T : Type 0) (e : InjectFault) (P : Type 0) → (e ≡ Stopped → ⊥) → UnlessInjectRefused {T = T} (Err e) P
+where_inject_refused T Stopped P other = absurd (other refl)
+where_inject_refused T Empty P other = tt
+where_inject_refused T TooLarge P other = tt
+where_inject_refused T (Stale kept) P other = tt
+where_inject_refused T Reserved P other = tt
 
 -- ---- what may be injected
 

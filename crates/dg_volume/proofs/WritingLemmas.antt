@@ -1,6 +1,7 @@
 -- An image in its slot: the header, the pages, and the gates that are cleared once they stand.
 use Rattle.std.proofs.Common.{◌≡◌, ℕ, zero, suc, ◌+◌, ◌*◌, ◌^◌, ◌<◌, ◌≤◌, List, length, refl, sym, ap, subst, ◌∙◌, inl, inr, arith}
 use Rattle.std.proofs.lemmas.List.{same_lists}
+use Rattle.dg_words.specs.Bits.{cleared_bits}
 use Rattle.dg_words.specs.Cells.{part, overwritten, AreBytes}
 use Rattle.dg_words.proofs.CellLemmas.{part-overwritten_at, part-overwritten_apart}
 use Rattle.dg_words.proofs.ListLemmas.{length-tabulate, get_or-tabulate}
@@ -20,7 +21,7 @@ use Rattle.dg_volume.specs.Writing.{HoldsPages}
 
 -- no gate is cleared
 gates_none : gates_of 0 ≡ blank 9
-unfolding gates_of blank
+unfolding gates_of blank cleared_bits
 gates_none = refl
 
 -- a header in an erased sector

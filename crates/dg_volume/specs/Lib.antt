@@ -12,3 +12,4 @@ pub mod Faults
 pub mod RowLaws
 pub mod Writing
 pub mod Taking
+pub mod Frames

@@ -1,5 +1,5 @@
 -- A start: which image is chosen, the pages that run, and the store after it.
-use Rattle.std.specs.Prelude.{ℕ, ◌==◌, ◌&&◌, Bool, false, not, if◌then◌else◌, List, [], ◌∷◌, length, take, drop, slice_index_or, Option, Some, None}
+use Rattle.std.specs.Prelude.{ℕ, ◌==◌, ◌&&◌, Bool, false, not, if◌then◌else◌, List, [], ◌∷◌, length, take, drop, slice_index_or, Option, Some, None, is_some}
 use Rattle.std.specs.List.{list_all, range_with_len}
 use Rattle.std.specs.Int.{from_be_bytes, w32}
 use Rattle.dg_base.specs.Crc.{crc_of}
@@ -69,6 +69,10 @@ order_waits s =
 abbrev pub start_from : Store → Option App → Option Start
 start_from s (Some app) = Some (record { image = app.image; version = app.version; pages = app.pages; after = s })
 start_from s None = if sound s 0 then Some (copied s 0 1) else None
+
+-- Program memory is Set, and no order that waits has a sound image: what program memory holds runs on.
+abbrev pub runs_on : Store → Bool
+runs_on s = is_some s.app && not (order_waits s && sound s s.order.image)
 
 -- The image of an order that waits is copied, where it is sound.
 abbrev pub start_of : Store → Option Start

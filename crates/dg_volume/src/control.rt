@@ -16,6 +16,7 @@ pub(crate) fn read_snapshot<N: Nor>(nor: &mut N) -> Result<Snapshot, MountFault>
     ensures spelled { IfOk result (λ s. part (sector (N.device nor.old).image 1) 0 64 ≡ place_of s) }
     ensures none { IsErrOf result MountFault.NotAVolume
         → (s : Snapshot) → part (sector (N.device nor.old).image 1) 0 64 ≡ place_of s → ⊥ }
+    ensures awake { OnOk result ((N.device nor.old).stopped ≡ false) }
     ensures ends { MountEnds result (N.device nor.old) (N.device nor.new) }
 {
     let mut place = [0; PLACE];

@@ -13,7 +13,7 @@ use std::fmt;
 /// Why a chip was not formatted.
 #[derive(Clone, Copy, Debug, PartialEq, Eq)]
 pub enum FormatFault {
-    /// The chip is stopped. Nothing is said of its bytes.
+    /// The chip is stopped. The sectors of the snapshot and of golden's slot may hold any bytes.
     Stopped,
     /// The golden image has no byte.
     Empty,

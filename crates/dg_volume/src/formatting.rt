@@ -2,7 +2,8 @@
 ghost use Rattle.std.specs.Prelude.{◌≡◌, ◌↔◌, ◌⊎◌, ℕ, ◌<◌, ◌≤◌, false, IsTrue, OnOk, IsErrOf, length};
 ghost use Rattle.dg_base.specs.Texts.{names};
 ghost use Rattle.dg_nor.specs.Chip.{Keeps};
-ghost use Rattle.dg_volume.specs.Acts.{ActEnds, Worked, Stops};
+ghost use Rattle.dg_volume.specs.Acts.{ActEnds, Worked, ActStopped};
+ghost use Rattle.dg_volume.specs.Frames.{KeepsBut};
 ghost use Rattle.dg_control.specs.Snapshot.{IsFresh};
 ghost use Rattle.dg_volume.specs.Store.{KeepsImage, Stands, fresh, golden_row, held_whole};
 
@@ -29,12 +30,14 @@ impl Volume {
         ensures formatted { OnOk result (Stands (N.device nor.new).image (fresh name.now golden.now)) }
         ensures worked { OnOk result (Worked (N.device nor.old) (N.device nor.new)) }
         ensures awake { OnOk result ((N.device nor.old).stopped ≡ false) }
+        // golden's slot has the sectors 68 to 133
+        ensures keeps { KeepsBut 68 134 (N.device nor.old).image (N.device nor.new).image }
 
         ensures empty { (result ≡ Err FormatFault.Empty) ↔ (length golden.now ≡ 0) }
         ensures too_large { (result ≡ Err FormatFault.TooLarge) ↔ (70656 < length golden.now) }
         ensures refused { IsErrOf result FormatFault.Empty ⊎ IsErrOf result FormatFault.TooLarge
             → N.device nor.new ≡ N.device nor.old }
-        ensures stopped { IsErrOf result FormatFault.Stopped → Stops (N.device nor.old) (N.device nor.new) }
+        ensures stopped { IsErrOf result FormatFault.Stopped → ActStopped (N.device nor.old) (N.device nor.new) }
     {
         prove!(used == 0);
         match check_size(golden.len()) {

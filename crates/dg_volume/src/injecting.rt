@@ -1,12 +1,14 @@
 //! Injection: an image is written into its slot, whole.
-ghost use Rattle.std.specs.Prelude.{◌≡◌, ◌≢◌, ◌↔◌, ℕ, ◌≤◌, ◌<◌, List, length, Option, Some, None, Err, IsTrue, IsNone, IfOk, IfNone, IfSome, IsSomeAnd, OnOk, IsErrOf, slice_set, nat_lt, if◌then◌else◌};
+ghost use Rattle.std.specs.Prelude.{◌≡◌, ◌≢◌, ◌↔◌, ℕ, ◌+◌, ◌*◌, ◌≤◌, ◌<◌, List, length, Option, Some, None, Err, IsTrue, IsNone, IfOk, IfNone, IfSome, IsSomeAnd, OnOk, IsErrOf, slice_set, nat_lt, if◌then◌else◌};
 ghost use Rattle.dg_base.specs.Texts.{names};
 ghost use Rattle.dg_object.specs.Object.{Row, row_of, pages_for, page_of_row, profile};
 ghost use Rattle.dg_object.specs.Records.{outline_of};
-ghost use Rattle.dg_volume.specs.Acts.{ActEnds, Worked, Stops};
+ghost use Rattle.dg_nor.specs.Chip.{Keeps};
+ghost use Rattle.dg_volume.specs.Acts.{ActEnds, Worked, ActStopped};
+ghost use Rattle.dg_volume.specs.Frames.{KeepsBut};
 ghost use Rattle.dg_volume.specs.Store.{Store, Held, Stands, SlotStands, held, held_whole};
 ghost use Rattle.dg_volume.specs.Told.{told, told_held, slot_told};
-ghost use Rattle.dg_volume.specs.Changes.{injected, inject_refusal, newer, stale};
+ghost use Rattle.dg_volume.specs.Changes.{injected, inject_refusal, newer, stale, UnlessInjectRefused};
 ghost use Rattle.dg_volume.specs.Mounted.{IsMounted, Tells, kept_at};
 ghost use Rattle.dg_volume.specs.Taking.{keeping, held_begun, Becomes};
 ghost use Rattle.dg_volume.specs.Writing.{new_row};
@@ -30,8 +32,9 @@ pub struct Injected {
 impl Volume {
     /// Keeps an image whole, in place of an older version of it. Where this version is kept, nothing changes.
     ///
-    /// The image has 1 to 70,656 bytes and number 1 to 3. The refusals come in the order of their variants, but for
-    /// `Reserved`, which comes before `Stale`; they change nothing.
+    /// The image has 1 to 70,656 bytes and number 1 to 3. What refuses it is looked for in this order: `Empty`,
+    /// `TooLarge`, `Reserved`, `Stale`. These change nothing. `Stopped` comes last, where none of them does, and the
+    /// sectors of the snapshot and of the image's slot may have changed then.
     pub fn inject<N: Nor>(
         &mut self,
         nor: &mut N,
@@ -53,14 +56,18 @@ impl Volume {
         ensures mounted { OnOk result (IsMounted (N.device nor.new).image self.new) }
         ensures pages { IfOk result (λ i. i.pages ≡ pages_for (length bytes.now)) }
         ensures worked { OnOk result (Worked (N.device nor.old) (N.device nor.new)) }
+        ensures again { IsSomeAnd (kept_at self.old image) (λ k. k.version ≡ version)
+            → (N.device nor.new ≡ N.device nor.old) × (self.new ≡ self.old) }
+        // the image's slot has the sectors 68 + 66 * image to 133 + 66 * image
+        ensures keeps { KeepsBut (68 + 66 * image) (134 + 66 * image) (N.device nor.old).image (N.device nor.new).image }
 
-        ensures allowed { OnOk result ((s : Store) → Stands (N.device nor.old).image s
+        ensures allowed { UnlessInjectRefused result ((s : Store) → Stands (N.device nor.old).image s
             → inject_refusal s (row_of image version name.now bytes.now) ≡ None) }
         ensures refused { (e : InjectFault) → result ≡ Err e → e ≢ InjectFault.Stopped → (s : Store) → Stands (N.device nor.old).image s
             → inject_refusal s (row_of image version name.now bytes.now) ≡ Some e }
         ensures unchanged { (e : InjectFault) → result ≡ Err e → e ≢ InjectFault.Stopped
             → (N.device nor.new ≡ N.device nor.old) × (self.new ≡ self.old) }
-        ensures stopped { IsErrOf result InjectFault.Stopped → Stops (N.device nor.old) (N.device nor.new) }
+        ensures stopped { IsErrOf result InjectFault.Stopped → ActStopped (N.device nor.old) (N.device nor.new) }
     {
         if let Some(fault) = self.refusal(image, version, bytes) {
             return Err(fault);
@@ -124,6 +131,7 @@ impl Volume {
         requires mounted { IsMounted (N.device nor.old).image self.old }
         requires not_golden { 1 ≤ new.now.number }
         ensures injected { OnOk result (Becomes (N.device nor.old).image (N.device nor.new).image self.new (λ s. injected s (new_row new.now))) }
+        ensures keeps { KeepsBut (68 + 66 * new.now.number) (134 + 66 * new.now.number) (N.device nor.old).image (N.device nor.new).image }
         ensures ends { ActEnds result (N.device nor.old) (N.device nor.new) }
     {
         let mut first = [0; 1104];
@@ -140,6 +148,7 @@ impl Volume {
         requires known_image { profile.now.image ≤ 3 }
         ensures taken { OnOk result (Becomes (N.device nor.old).image (N.device nor.new).image self.new
             (keeping profile.now.image (Some (held_begun (outline_of profile.now))))) }
+        ensures keeps { KeepsBut (68 + 66 * profile.now.image) (134 + 66 * profile.now.image) (N.device nor.old).image (N.device nor.new).image }
         ensures ends { ActEnds result (N.device nor.old) (N.device nor.new) }
     {
         self.clear(nor, profile.image)?;
@@ -153,6 +162,7 @@ impl Volume {
         requires not_golden { 1 ≤ image }
         requires known_image { image ≤ 3 }
         ensures cleared { OnOk result (Becomes (N.device nor.old).image (N.device nor.new).image self.new (keeping image None)) }
+        ensures keeps { Keeps 1 2 (N.device nor.old).image (N.device nor.new).image }
         ensures ends { ActEnds result (N.device nor.old) (N.device nor.new) }
     {
         if self.kept(image).is_none() {
@@ -174,6 +184,7 @@ impl Volume {
         requires some_version { IfSome kept (λ k. 1 ≤ k.version) }
         ensures committed { OnOk result ((h : Option Held) → told h ≡ kept → SlotStands (N.device nor.old).image image (slot_told h) h
             → Becomes (N.device nor.old).image (N.device nor.new).image self.new (keeping image h)) }
+        ensures keeps { Keeps 1 2 (N.device nor.old).image (N.device nor.new).image }
         ensures ends { ActEnds result (N.device nor.old) (N.device nor.new) }
     {
         let snapshot = with_slot(&self.snapshot, image, slot_state(&kept));
@@ -198,6 +209,7 @@ impl Volume {
         requires begun { (s : Store) → Stands (N.device nor.old).image s → held s new.now.number ≡ Some (held_begun (outline_of outline.now)) }
         ensures whole { OnOk result (Becomes (N.device nor.old).image (N.device nor.new).image self.new
             (keeping new.now.number (Some (held_whole (new_row new.now))))) }
+        ensures keeps { Keeps (68 + 66 * new.now.number) (134 + 66 * new.now.number) (N.device nor.old).image (N.device nor.new).image }
         ensures ends { ActEnds result (N.device nor.old) (N.device nor.new) }
     {
         fill(nor, new, first)?;

@@ -3,6 +3,7 @@ ghost use Rattle.std.specs.Prelude.{◌≡◌, ◌≤◌, true, IsTrue, Option, 
 ghost use Rattle.dg_nor.specs.Chip.{Keeps};
 ghost use Rattle.dg_control.specs.Ranges.{program_fits};
 ghost use Rattle.dg_volume.specs.Acts.{ActEnds};
+ghost use Rattle.dg_volume.specs.Frames.{KeepsBut};
 ghost use Rattle.dg_volume.specs.Store.{Store, App, AppStands, HoldsApp, Stands, held};
 ghost use Rattle.dg_volume.specs.Start.{copied, is_whole};
 ghost use Rattle.dg_volume.specs.Installs.{blanked, app_of};
@@ -27,7 +28,7 @@ pub(crate) fn install<N: Nor>(
     requires whole { (s : Store) → Stands (N.device nor.old).image s → is_whole (held s image) version ≡ true }
     ensures stands { OnOk result ((s : Store) → Stands (N.device nor.old).image s → Stands (N.device nor.new).image (copied s image version).after) }
     ensures told { IfOk result (λ v. (s : Store) → Stands (N.device nor.old).image s → Tells v (copied s image version).after) }
-    ensures keeps { Keeps 1 68 (N.device nor.old).image (N.device nor.new).image }
+    ensures keeps { KeepsBut 3 68 (N.device nor.old).image (N.device nor.new).image }
     ensures ends { ActEnds result (N.device nor.old) (N.device nor.new) }
 {
     let volume = blank(nor, volume)?;

@@ -1,9 +1,10 @@
 //! Orders: which image is to be started.
 ghost use Rattle.std.specs.Prelude.{◌≡◌, ◌≢◌, ◌≤◌, false, IsTrue, Some, None, Err, OnOk, IsErrOf};
+ghost use Rattle.dg_nor.specs.Chip.{Keeps};
 ghost use Rattle.dg_control.specs.Ranges.{order_fits};
-ghost use Rattle.dg_volume.specs.Acts.{Worked, Stops};
+ghost use Rattle.dg_volume.specs.Acts.{Worked, ActStopped};
 ghost use Rattle.dg_volume.specs.Store.{Store, Stands};
-ghost use Rattle.dg_volume.specs.Changes.{ordered, order_refusal};
+ghost use Rattle.dg_volume.specs.Changes.{ordered, order_refusal, UnlessOrderRefused};
 ghost use Rattle.dg_volume.specs.Mounted.{IsMounted};
 
 use crate::control::commit;
@@ -12,6 +13,8 @@ use dg_nor::Nor;
 
 impl Volume {
     /// Keeps an order to start an image, not waived, in place of the one before, whose number is smaller.
+    ///
+    /// `OldOrder` changes nothing. `Stopped` comes only where the order is not an old one.
     pub fn order<N: Nor>(
         &mut self,
         nor: &mut N,
@@ -28,14 +31,16 @@ impl Volume {
             → Stands (N.device nor.new).image (ordered s (record { number = number; image = image; version = version }))) }
         ensures mounted { OnOk result (IsMounted (N.device nor.new).image self.new) }
         ensures worked { OnOk result (Worked (N.device nor.old) (N.device nor.new)) }
+        ensures awake { OnOk result ((N.device nor.old).stopped ≡ false) }
+        ensures keeps { Keeps 1 2 (N.device nor.old).image (N.device nor.new).image }
 
-        ensures allowed { OnOk result ((s : Store) → Stands (N.device nor.old).image s
+        ensures allowed { UnlessOrderRefused result ((s : Store) → Stands (N.device nor.old).image s
             → order_refusal s (record { number = number; image = image; version = version }) ≡ None) }
         ensures refused { (e : OrderFault) → result ≡ Err e → e ≢ OrderFault.Stopped → (s : Store) → Stands (N.device nor.old).image s
             → order_refusal s (record { number = number; image = image; version = version }) ≡ Some e }
         ensures unchanged { (e : OrderFault) → result ≡ Err e → e ≢ OrderFault.Stopped
             → (N.device nor.new ≡ N.device nor.old) × (self.new ≡ self.old) }
-        ensures stopped { IsErrOf result OrderFault.Stopped → Stops (N.device nor.old) (N.device nor.new) }
+        ensures stopped { IsErrOf result OrderFault.Stopped → ActStopped (N.device nor.old) (N.device nor.new) }
     {
         let kept = self.snapshot.order.number;
         if number <= kept {

@@ -1,13 +1,13 @@
 //! The start of a mote: what runs, and that it stands in program memory.
-ghost use Rattle.std.specs.Prelude.{◌≡◌, ◌⊎◌, ℕ, ◌+◌, ◌≤◌, ◌<◌, true, false, Some, None, IfOk, OnOk, IsErrOf, IsSomeAnd};
+ghost use Rattle.std.specs.Prelude.{◌≡◌, ◌⊎◌, ℕ, ◌+◌, ◌≤◌, ◌<◌, true, false, Some, None, IfOk, OnOk, IsErrOf, IsSome, IsSomeAnd, IsTrue};
 ghost use Rattle.dg_words.specs.Cells.{part};
 ghost use Rattle.dg_base.specs.Crc.{crc_of};
-ghost use Rattle.dg_nor.specs.Chip.{Keeps};
+ghost use Rattle.dg_volume.specs.Frames.{KeepsBut};
 ghost use Rattle.dg_object.specs.Object.{content, pages_for};
 ghost use Rattle.dg_object.specs.Descriptor.{Details, IsDescriptor};
-ghost use Rattle.dg_volume.specs.Acts.{ReadEnds, ActEnds, StartEnds, Looked, Worked, Stops};
+ghost use Rattle.dg_volume.specs.Acts.{ReadEnds, ActEnds, StartEnds, StartReadEnds, Looked, Worked, ActStopped};
 ghost use Rattle.dg_volume.specs.Store.{Store, App, HoldsApp, Stands, held, IsVolume, IsNoVolume, page_in, program};
-ghost use Rattle.dg_volume.specs.Start.{start_of, start_from, sound, is_whole, copied};
+ghost use Rattle.dg_volume.specs.Start.{start_of, start_from, runs_on, sound, is_whole, copied};
 ghost use Rattle.dg_volume.specs.Mounted.{IsMounted};
 ghost use Rattle.dg_volume.specs.Started.{Starts};
 
@@ -32,19 +32,23 @@ pub struct Started {
 }
 
 /// Starts the image of a chip: the ordered one, where the order waits and its image is sound, else what program
-/// memory is Set to, else golden. The ordered image and golden are copied into program memory first.
+/// memory is Set to, else golden. The ordered image and golden are copied into program memory first; what program
+/// memory is Set to runs on, and nothing is written.
 pub fn start<N: Nor>(nor: &mut N) -> Result<Started, StartFault>
     ensures started { IfOk result (λ told. (s : Store) → Stands (N.device nor.old).image s → Starts s (N.device nor.new).image told) }
     ensures volume { OnOk result (IsVolume (N.device nor.old).image) }
     ensures worked { OnOk result (Worked (N.device nor.old) (N.device nor.new)) }
-    ensures keeps { Keeps 1 68 (N.device nor.old).image (N.device nor.new).image }
+    ensures awake { OnOk result ((N.device nor.old).stopped ≡ false) }
+    ensures keeps { KeepsBut 3 68 (N.device nor.old).image (N.device nor.new).image }
+    ensures runs_on { (s : Store) → Stands (N.device nor.old).image s → IsTrue (runs_on s)
+        → StartReadEnds result (N.device nor.old) (N.device nor.new) }
 
     ensures no_image { IsErrOf result StartFault.NoImage → (s : Store) → Stands (N.device nor.old).image s → start_of s ≡ None }
     ensures of_a_volume { IsErrOf result StartFault.NoImage → IsVolume (N.device nor.old).image }
     ensures not_a_volume { IsErrOf result StartFault.NotAVolume → IsNoVolume (N.device nor.old).image }
     ensures refused { IsErrOf result StartFault.NoImage ⊎ IsErrOf result StartFault.NotAVolume
         → Looked (N.device nor.old) (N.device nor.new) }
-    ensures stopped { IsErrOf result StartFault.Stopped → Stops (N.device nor.old) (N.device nor.new) }
+    ensures stopped { IsErrOf result StartFault.Stopped → ActStopped (N.device nor.old) (N.device nor.new) }
 {
     let volume = Volume::mount(nor)?;
     if takes_order(nor, &volume)? {
@@ -59,9 +63,10 @@ fn start_program<N: Nor>(nor: &mut N, volume: Volume) -> Result<Started, StartFa
     requires { IsMounted (N.device nor.old).image volume }
     ensures started { IfOk result (λ told. (s : Store) → Stands (N.device nor.old).image s → start_of s ≡ start_from s s.app
         → Starts s (N.device nor.new).image told) }
+    ensures runs_on { (s : Store) → Stands (N.device nor.old).image s → IsSome s.app → StartReadEnds result (N.device nor.old) (N.device nor.new) }
     ensures no_image { IsErrOf result StartFault.NoImage → (s : Store) → Stands (N.device nor.old).image s → start_from s s.app ≡ None }
     ensures a_volume { IsErrOf result StartFault.NotAVolume → ⊥ }
-    ensures keeps { Keeps 1 68 (N.device nor.old).image (N.device nor.new).image }
+    ensures keeps { KeepsBut 3 68 (N.device nor.old).image (N.device nor.new).image }
     ensures ends { StartEnds result (N.device nor.old) (N.device nor.new) }
 {
     match volume.snapshot.program {
@@ -77,7 +82,7 @@ fn start_golden<N: Nor>(nor: &mut N, volume: Volume) -> Result<Started, StartFau
         → Starts s (N.device nor.new).image told) }
     ensures no_image { IsErrOf result StartFault.NoImage → (s : Store) → Stands (N.device nor.old).image s → sound s 0 ≡ false }
     ensures a_volume { IsErrOf result StartFault.NotAVolume → ⊥ }
-    ensures keeps { Keeps 1 68 (N.device nor.old).image (N.device nor.new).image }
+    ensures keeps { KeepsBut 3 68 (N.device nor.old).image (N.device nor.new).image }
     ensures ends { StartEnds result (N.device nor.old) (N.device nor.new) }
 {
     if !is_golden_sound(nor, &volume)? {
@@ -99,7 +104,7 @@ fn start_copied<N: Nor>(
     requires whole { (s : Store) → Stands (N.device nor.old).image s → is_whole (held s image) version ≡ true }
     ensures started { IfOk result (λ told. (s : Store) → Stands (N.device nor.old).image s → start_of s ≡ Some (copied s image version)
         → Starts s (N.device nor.new).image told) }
-    ensures keeps { Keeps 1 68 (N.device nor.old).image (N.device nor.new).image }
+    ensures keeps { KeepsBut 3 68 (N.device nor.old).image (N.device nor.new).image }
     ensures ends { ActEnds result (N.device nor.old) (N.device nor.new) }
 {
     let volume = install(nor, volume, image, version)?;

@@ -1,6 +1,6 @@
 //! A mounted volume.
-ghost use Rattle.std.specs.Prelude.{◌≡◌, ◌↔◌, ◌≤◌, ℕ, Option, IfOk, OnOk, IsErrOf, IsTrue, IsSomeAnd};
-ghost use Rattle.dg_volume.specs.Acts.{Looked, Halted, MountEnds};
+ghost use Rattle.std.specs.Prelude.{◌≡◌, ◌↔◌, ◌≤◌, ℕ, false, Option, IfOk, OnOk, IsErrOf, IsTrue, IsSomeAnd};
+ghost use Rattle.dg_volume.specs.Acts.{Looked, ReadStopped, MountEnds};
 ghost use Rattle.dg_volume.specs.Store.{App, AppStands, Stands, IsNoVolume};
 ghost use Rattle.dg_volume.specs.Told.{program_told};
 ghost use Rattle.dg_volume.specs.Mounted.{snapshot_of, kept_at, IsMounted};
@@ -12,7 +12,8 @@ use crate::slots::mount_slots;
 use crate::{Kept, MountFault, Program, Snapshot};
 use dg_nor::Nor;
 
-/// A volume as it was mounted. It stands for the chip that it was mounted from.
+/// What a chip keeps, as the last call on both of them left it: its mounting, or an injection or an order since,
+/// done or refused. After `Stopped` it stands for nothing: the chip is mounted again.
 #[derive(Drop)]
 pub struct Volume {
     pub(crate) snapshot: Snapshot,
@@ -27,8 +28,9 @@ impl Volume {
 
         ensures same_image { (N.device nor.new).image ≡ (N.device nor.old).image }
         ensures looked { OnOk result (Looked (N.device nor.old) (N.device nor.new)) }
+        ensures awake { OnOk result ((N.device nor.old).stopped ≡ false) }
         ensures refused { IsErrOf result MountFault.NotAVolume → Looked (N.device nor.old) (N.device nor.new) }
-        ensures stopped { IsErrOf result MountFault.Stopped → Halted (N.device nor.old) (N.device nor.new) }
+        ensures stopped { IsErrOf result MountFault.Stopped → ReadStopped (N.device nor.old) (N.device nor.new) }
     {
         let snapshot = read_snapshot(nor)?;
         let kept = mount_slots(nor, &snapshot.slots)?;

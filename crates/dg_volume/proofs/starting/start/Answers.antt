@@ -3,9 +3,9 @@ use Rattle.std.proofs.lemmas.Result.{err_from_is_err_and}
 use Rattle.dg_control.specs.declared.snapshot.Order.{Order}
 use Rattle.dg_volume.specs.Store.{Stands, held}
 use Rattle.dg_volume.specs.Start.{copied, is_whole, start_of}
-use Rattle.dg_volume.proofs.ActLemmas.{Worked-looked, Worked_then}
+use Rattle.dg_volume.proofs.ActLemmas.{Looked_then, Worked-looked, Worked_then, start_read_after}
 use Rattle.dg_volume.proofs.StoreLemmas.{tells_store}
-use Rattle.dg_volume.proofs.ChoiceLemmas.{order_waited, waits_ordered, takes_order}
+use Rattle.dg_volume.proofs.ChoiceLemmas.{order_waited, waits_ordered, takes_order, runs_on_app}
 use Rattle.dg_volume.proofs.RunLemmas.{not_a_volume}
 use Rattle.dg_volume.proofs.starting.start.Goals as goal
 
@@ -34,3 +34,9 @@ returns-then-branch-clause-started g c s stands =
 pub returns-then-branch-clause-worked : goal.returns-then-branch-clause-worked
 returns-then-branch-clause-worked g c =
     Worked_then (Worked-looked c.in_ok-volume.ensures.looked) (Worked_then (Worked-looked c.in_ok-takes_order.ensures.ends) c.in_ok-start_copied.ensures.ends)
+
+pub returns-clause-runs_on : goal.returns-clause-runs_on
+returns-clause-runs_on g c s stands on =
+    let mounted = subst (λ (x : List ℕ). Stands x s) (sym c.in_ok-volume.ensures.same_image) stands in
+    let looked = subst (λ (x : List ℕ). Stands x s) (sym c.in_ok-takes_order.ensures.ends.same_image) mounted in
+    start_read_after c.start_program.result _ _ _ (Looked_then c.in_ok-volume.ensures.looked c.in_ok-takes_order.ensures.ends) (c.start_program.ensures.runs_on s looked (runs_on_app s on))

@@ -1,4 +1,5 @@
-use Rattle.std.proofs.Common.{sym, ap, ◌∙◌}
+use Rattle.std.proofs.Common.{◌≡◌, true, false, sym, ap, ◌∙◌}
+use Rattle.std.specs.Prelude.{is_some}
 use Rattle.std.proofs.lemmas.Result.{IfOk-weaker}
 use Rattle.dg_volume.specs.Start.{start_from}
 use Rattle.dg_volume.proofs.StoreLemmas.{tells_store}
@@ -29,3 +30,9 @@ pub returns-in-Blank-clause-no_image : goal.returns-in-Blank-clause-no_image
 returns-in-Blank-clause-no_image g c is s stands =
     let tells = tells_store (g.N.Nor.device c.args.nor.now).image c.args.volume s c.requires stands in
     start_none s (app_none s.app (sym c.in-Blank.is ∙ tells.program)) (c.start_golden.ensures.no_image is s stands)
+
+pub returns-in-Blank-clause-runs_on : goal.returns-in-Blank-clause-runs_on
+returns-in-Blank-clause-runs_on g c s stands some =
+    let tells = tells_store (g.N.Nor.device c.args.nor.now).image c.args.volume s c.requires stands in
+    let no : false ≡ true = sym (ap is_some (app_none s.app (sym c.in-Blank.is ∙ tells.program))) ∙ some in
+    absurd cc

@@ -2,8 +2,9 @@ use Rattle.std.proofs.Common.{◌≡◌, ◌∙◌, Some, sym, ap, subst, arith}
 use Rattle.dg_object.specs.Object.{row_of}
 use Rattle.dg_volume.specs.Store.{Store, Stands, held, held_whole}
 use Rattle.dg_volume.specs.declared.faults.InjectFault.TheVariants.{Stopped}
+use Rattle.dg_volume.specs.declared.injecting.Injected.{Injected}
 use Rattle.dg_volume.proofs.StoreLemmas.{tells_store}
-use Rattle.dg_volume.proofs.TakingLemmas.{mounted_then, keeping_same, kept_same, not_stopped}
+use Rattle.dg_volume.proofs.TakingLemmas.{mounted_then, keeping_same, kept_same, not_stopped, unless_inject_refused, where_inject_refused}
 use Rattle.dg_volume.proofs.volume.Volume.inject.Goals as goal
 
 pub returns-in-Some-clause-refused : goal.returns-in-Some-clause-refused
@@ -38,3 +39,14 @@ returns-clause-mounted g c = mounted_then c.requires.mounted c.in_ok-replace.ens
 pub returns-clause-allowed : goal.returns-clause-allowed
 returns-clause-allowed g c s stands =
     sym (c.refusal.ensures.refusal s c.args.name.now (tells_store _ c.args.self.now s c.requires.mounted stands)) ∙ c.in_default.is
+
+pub returns-in_err-replace-clause-allowed : goal.returns-in_err-replace-clause-allowed
+returns-in_err-replace-clause-allowed g c =
+    unless_inject_refused c.from_residual.result _ (λ s stands. sym (c.refusal.ensures.refusal s c.args.name.now (tells_store _ c.args.self.now s c.requires.mounted stands)) ∙ c.in_default.is)
+
+pub returns-in-Some-clause-allowed : goal.returns-in-Some-clause-allowed
+returns-in-Some-clause-allowed g c =
+    where_inject_refused Injected c.in-Some.fault _ (λ same.
+    let m = c.requires.mounted in
+    let row = row_of c.args.image c.args.version c.args.name.now c.args.bytes.now in
+    not_stopped m.store row (sym (c.refusal.ensures.refusal m.store c.args.name.now m.tells) ∙ c.in-Some.is ∙ ap Some same))

@@ -1,6 +1,6 @@
 use Rattle.std.proofs.Common.{ap, arith}
 use Rattle.dg_volume.proofs.StoreLemmas.{tells_store}
-use Rattle.dg_volume.proofs.OrderLemmas.{order_refused, order_allowed, order_stands, order_mounted}
+use Rattle.dg_volume.proofs.OrderLemmas.{order_refused, order_allowed, unless_order_refused, order_stands, order_mounted}
 use Rattle.dg_volume.proofs.volume.Volume.order.Goals as goal
 
 pub returns-then-number-kept-clause-refused : goal.returns-then-number-kept-clause-refused
@@ -24,3 +24,9 @@ pub returns-clause-allowed : goal.returns-clause-allowed
 returns-clause-allowed g c s stands =
     let tells = tells_store (g.N.Nor.device c.args.nor.now).image c.args.self.now s c.requires.mounted stands in
     order_allowed s (record { number = c.args.number; image = c.args.image; version = c.args.version }) c.args.self.now.snapshot.order.number (ap (λ o. o.number) tells.order) (omega (arith, c.if-number-kept.false))
+
+pub returns-in_err-commit-clause-allowed : goal.returns-in_err-commit-clause-allowed
+returns-in_err-commit-clause-allowed g c =
+    unless_order_refused c.from_residual.result _ (λ s stands.
+    let tells = tells_store (g.N.Nor.device c.args.nor.now).image c.args.self.now s c.requires.mounted stands in
+    order_allowed s (record { number = c.args.number; image = c.args.image; version = c.args.version }) c.args.self.now.snapshot.order.number (ap (λ o. o.number) tells.order) (omega (arith, c.if-number-kept.false)))
