@@ -1,8 +1,9 @@
 -- How a replay ends, by the ending that the rules give to its script.
-use Rattle.std.proofs.Common.{◌≡◌, ◌≢◌, inl, inr, ℕ, zero, suc, ◌+◌, ◌<◌, ◌≤◌, Bool, true, false, ◌||◌, ◌&&◌, ◌==◌, not, List, [], ◌∷◌, ◌++◌, length, map, take, drop, get_or, ◌-◌, length-take, refl, append-nil, append_assoc, ap, sym, ◌∙◌, subst, arith}
+use Rattle.std.proofs.Common.{◌≡◌, ◌≢◌, inl, inr, ℕ, zero, suc, ◌+◌, ◌<◌, ◌≤◌, Bool, true, false, cond, ◌||◌, ◌&&◌, ◌==◌, not, List, [], ◌∷◌, ◌++◌, length, map, take, drop, get_or, ◌-◌, length-take, refl, append-nil, append_assoc, ap, sym, ◌∙◌, subst, arith}
 use Rattle.std.specs.Prelude.{Option, Some, None, Err, nat_lt, if◌then◌else◌}
 use Rattle.std.specs.Str.Lines.{lines}
 use Rattle.std.specs.List.{list_any}
+use Rattle.std.proofs.lemmas.List.Sums.{sum_by-append, sum_by-cons}
 use Rattle.std.proofs.lemmas.List.{take-append-drop, take_more, take-take}
 use Rattle.std.proofs.Math.Seq.{take-length}
 use Rattle.std.proofs.lemmas.Bool.Decides.{nat_tests}
@@ -11,37 +12,45 @@ use Rattle.dg_base.proofs.OutsideLemmas.{Puts-join}
 use Rattle.dg_base.specs.declared.answers.Status.{Status}
 use Rattle.dg_base.specs.declared.answers.Status.TheVariants as status
 use Rattle.dg_nor.specs.Device.{Device}
-use Rattle.dg_cli.specs.Script.{Script, script_from, end_fault}
+use Rattle.dg_cli.specs.Script.{Script, script_from, end_fault, is_event}
 use Rattle.dg_cli.specs.Report.{report_text}
-use Rattle.dg_cli.specs.World.{World, Played, last_lines}
+use Rattle.dg_cli.specs.World.{World, last_lines}
+use Rattle.dg_cli.specs.Played.{Played}
 use Rattle.dg_cli.specs.Boards.{BoardsStand, BoardStopped}
 use Rattle.dg_cli.specs.Player.{Stood}
-use Rattle.dg_cli.specs.Ending.{Ending, Ends, NoBoards, FaultAt, Over, is_motes, by_fault, ending_from, ending_line, status_of, up_to, whole_lines, used, is_over, script_of, ending_of}
+use Rattle.dg_cli.specs.Ending.{Ending, Ends, NoBoards, TooManyEvents, FaultAt, Over, is_motes, events_in, by_fault, ending_from, ending_line, status_of, up_to, whole_lines, used, is_over, script_of, ending_of, InLimits}
 use Rattle.dg_cli.specs.Outcome.{IsFront, line_played, played_text, IsWholeReport, StopsAt, Wrote, Boards, IsCaused}
-use Rattle.dg_cli.specs.Replaying.{StopEnds, Reached, PlayedFront, LinesAnswer, ReadyToEnd, EndsWith, FinishesWith, ScriptReplayed}
+use Rattle.dg_cli.specs.Replaying.{StopEnds, Reached, PlayedFront, HasFew, LinesAnswer, ReadyToEnd, EndsWith, FinishesWith, ScriptReplayed}
+use Rattle.dg_cli.specs.declared.images.Images.{Images}
+use Rattle.dg_cli.specs.declared.script.Event.{Event}
 use Rattle.dg_cli.specs.declared.states.Player.{Player}
 use Rattle.dg_cli.specs.declared.script.Place.{Place}
 use Rattle.dg_cli.specs.declared.script.Place.TheVariants.{First, Second, Later}
 use Rattle.dg_cli.specs.declared.script.Line.{Line}
-use Rattle.dg_cli.specs.declared.script.Line.TheVariants.{Motes}
+use Rattle.dg_cli.specs.declared.script.Line.TheVariants.{Motes, Happens}
 use Rattle.dg_cli.specs.declared.stop.Stop.{Stop}
-use Rattle.dg_cli.specs.declared.stop.Stop.TheVariants.{Memory, BadInput, WriteFault, FlashFault, NotAVolume, NoBoard, NoImage}
+use Rattle.dg_cli.specs.declared.stop.Stop.TheVariants.{Memory, BadInput, WriteFault, FlashFault, TooMany, NotAVolume, NoBoard, NoImage}
+use Rattle.dg_cli.proofs.ReplayLemmas.{few_of}
+use Rattle.dg_cli.proofs.KeepLemmas.{keeps_all}
 
 wrote_whole : (e : Ending) (played : List Played) (rest : List Line) (last : Option World) (text : List ℕ) → IsWholeReport e played rest last text → Wrote (status_of e) e played rest last text
 wrote_whole Ends played rest last text whole = whole
 wrote_whole NoBoards played rest last text whole = whole
+wrote_whole TooManyEvents played rest last text whole = whole
 wrote_whole (FaultAt line) played rest last text whole = whole
 wrote_whole Over played rest last text whole = whole
 
 boards_of : (e : Ending) (last : Option World) (initial now : List Device) → BoardsStand last initial now → Boards (status_of e) last initial now
 boards_of Ends last initial now stand = stand
 boards_of NoBoards last initial now stand = stand
+boards_of TooManyEvents last initial now stand = stand
 boards_of (FaultAt line) last initial now stand = stand
 boards_of Over last initial now stand = stand
 
 caused_by : (e : Ending) (r w b : Type 0) → IsCaused (status_of e) e r w b
 caused_by Ends r w b = refl
 caused_by NoBoards r w b = refl
+caused_by TooManyEvents r w b = refl
 caused_by (FaultAt line) r w b = refl
 caused_by Over r w b = refl
 
@@ -105,15 +114,34 @@ front_cut : (script : Script) (e : Ending) (initial now : List Device) (before a
 front_cut script e initial now before after worse rose f =
     record { played = f.played; rest = f.rest; last = f.last; front = f.front; text = f.text; written = f.told; report = record { more = f.more; front = inl f.whole }; boards = f.boards; caused = rose }
 
-no_motes : (n : ℕ) (over : Bool) (script : Script) → (n ≡ 0 → list_any is_motes script.lines ≡ false) → ending_from n over script ≡ by_fault over script.fault
-no_motes zero over script none = ap (λ (b : Bool). if b then NoBoards else by_fault over script.fault) (none refl)
+-- ---- the ending of a script
+
+below_is_false : (n m : ℕ) → m ≤ n → nat_lt n m ≡ false
+below_is_false n m h = grind (arith, nat_tests)
+
+over_is : (n m : ℕ) → n < m → nat_lt n m ≡ true
+over_is n m h = grind (arith, nat_tests)
+
+abbrev behind_boards : Bool → Script → Ending
+behind_boards over script = if nat_lt 1000000 (events_in script.lines) then TooManyEvents else by_fault over script.fault
+
+no_motes : (n : ℕ) (over : Bool) (script : Script) → (n ≡ 0 → list_any is_motes script.lines ≡ false) → ending_from n over script ≡ behind_boards over script
+no_motes zero over script none = ap (λ (b : Bool). if b then NoBoards else behind_boards over script) (none refl)
 no_motes (suc n) over script none =
     let some : (suc n == 0) ≡ false = grind (arith, nat_tests) in
-    ap (λ (b : Bool). if b && list_any is_motes script.lines then NoBoards else by_fault over script.fault) some
+    ap (λ (b : Bool). if b && list_any is_motes script.lines then NoBoards else behind_boards over script) some
+
+few_events : (n : ℕ) (over : Bool) (script : Script) → (n ≡ 0 → list_any is_motes script.lines ≡ false) → events_in script.lines ≤ 1000000 → ending_from n over script ≡ by_fault over script.fault
+few_events n over script boardless few =
+    no_motes n over script boardless ∙ ap (λ (b : Bool). if b then TooManyEvents else by_fault over script.fault) (below_is_false _ (events_in script.lines) few)
+
+-- a script with few events, and with a board where it needs one, ends by its fault or its length
+few_ending : (over : Bool) (script : Script) (initial : List Device) → HasFew script initial → ending_from (length initial) over script ≡ by_fault over script.fault
+few_ending over script initial few = few_events (length initial) over script few.boardless few.events
 
 -- a line outside the grammar ends the script
-fault_ending : (n : ℕ) (over : Bool) (script : Script) (line : ℕ) → (n ≡ 0 → list_any is_motes script.lines ≡ false) → script.fault ≡ Some line → ending_from n over script ≡ FaultAt line
-fault_ending n over script line none fault = no_motes n over script none ∙ ap (λ (f : Option ℕ). by_fault over f) fault
+fault_ending : (over : Bool) (script : Script) (initial : List Device) (line : ℕ) → HasFew script initial → script.fault ≡ Some line → ending_from (length initial) over script ≡ FaultAt line
+fault_ending over script initial line few fault = few_ending over script initial few ∙ ap (λ (f : Option ℕ). by_fault over f) fault
 
 or_true : (b : Bool) → (b || true) ≡ true
 or_true true = refl
@@ -126,7 +154,26 @@ any_behind (x ∷ xs) more = ap (λ (b : Bool). is_motes x || b) (any_behind xs 
 board_ending : (over : Bool) (script : Script) (initial : List Device) (played : List Line) (more : List Line) → initial ≡ [] → played ++ Motes ∷ more ≡ script.lines → ending_from (length initial) over script ≡ NoBoards
 board_ending over script initial played more empty lines =
     let motes : list_any is_motes script.lines ≡ true = ap (λ (ls : List Line). list_any is_motes ls) (sym lines) ∙ any_behind played more in
-    ap (λ (ds : List Device). ending_from (length ds) over script) empty ∙ ap (λ (b : Bool). if b then NoBoards else by_fault over script.fault) motes
+    ap (λ (ds : List Device). ending_from (length ds) over script) empty ∙ ap (λ (b : Bool). if b then NoBoards else behind_boards over script) motes
+
+-- an event behind some others is one more
+one_more : (xs more : List Line) (event : Event) (n : ℕ) → events_in xs ≡ n → n < events_in (xs ++ Happens event ∷ more)
+one_more xs more event n counted =
+    let one : Line → ℕ = λ line. cond (is_event line) 1 0 in
+    let parts : events_in (xs ++ Happens event ∷ more) ≡ events_in xs + events_in (Happens event ∷ more) = sum_by-append one xs (Happens event ∷ more) in
+    let last : events_in (Happens event ∷ more) ≡ 1 + events_in more = sum_by-cons one (Happens event) more in
+    omega (arith, parts, last, counted)
+
+no_zero : (n : ℕ) → 0 < n → n ≡ 0 → ⊥
+no_zero n some none = omega arith
+
+-- a million events, and one more behind them
+many_ending : (over : Bool) (script : Script) (initial : List Device) (played more : List Line) (event : Event) → 0 < length initial → events_in played ≡ 1000000 → played ++ Happens event ∷ more ≡ script.lines
+    → ending_from (length initial) over script ≡ TooManyEvents
+many_ending over script initial played more event some full lines =
+    let many : 1000000 < events_in (played ++ Happens event ∷ more) = one_more played more event _ full in
+    let test : nat_lt 1000000 (events_in script.lines) ≡ true = ap (λ (ls : List Line). nat_lt 1000000 (events_in ls)) (sym lines) ∙ over_is _ _ many in
+    no_motes (length initial) over script (λ none. absurd (no_zero (length initial) some none)) ∙ ap (λ (b : Bool). if b then TooManyEvents else by_fault over script.fault) test
 
 -- the end of a replay that stopped
 pub stopped_ends : (stop : Stop) (result : Status) (script : Script) (ends over : Bool) (initial now : List Device) (before mid after : Option (List ℕ)) (failed later worse : Type 0) → (failed → worse) → (later → worse)
@@ -135,7 +182,7 @@ stopped_ends Memory result script ends over initial now before mid after failed 
     subst (λ (s : Status). ScriptReplayed s script (ending_from (length initial) over script) initial now before after worse) (sym same)
     (front_only script (ending_from (length initial) over script) initial now before after worse (subst (λ (o : Option (List ℕ)). PlayedFront script initial now before o) (sym told) f))
 stopped_ends (BadInput line) result script ends over initial now before mid after failed later worse spread widen f done =
-    let e = fault_ending (length initial) over script line f.there.3 f.there.1 in
+    let e = fault_ending over script initial line f.there.3 f.there.1 in
     let ready : ReadyToEnd script (FaultAt line) (ending_line (FaultAt line)) initial now before mid = record { played = f.played; rest = f.rest; last = f.last; front = f.front; told = f.told; boards = f.there.2; all = f.there.0; line = refl } in
     subst (λ (x : Ending). ScriptReplayed result script x initial now before after worse) (sym e) (ended result script (FaultAt line) _ initial now before mid after later worse widen ready done)
 stopped_ends WriteFault result script ends over initial now before mid after failed later worse spread widen (rose, f) (same, told) =
@@ -151,9 +198,15 @@ stopped_ends FlashFault result script ends over initial now before mid after fai
       written = subst (λ (o : Option (List ℕ)). Puts before o (played_text f.played)) (sym told) f.told;
       report = (refl, subst (λ (ls : List Line). StopsAt (ending_from (length initial) over script) ls) (sym f.there.0.2) f.there.0.3);
       boards = f.there.1;
-      caused = f.there.1;
+      caused = f.there.1.stopped;
     } in
     subst (λ (s : Status). ScriptReplayed s script (ending_from (length initial) over script) initial now before after worse) (sym same) made
+stopped_ends TooMany result script ends over initial now before mid after failed later worse spread widen f done =
+    let at = f.there.0 in
+    let lines = ap (λ (ls : List Line). map line_played f.played ++ ls) (sym at.next) ∙ f.front.lines in
+    let e = many_ending over script initial (map line_played f.played) at.more at.event f.there.2 at.events lines in
+    let ready : ReadyToEnd script TooManyEvents (ending_line TooManyEvents) initial now before mid = record { played = f.played; rest = f.rest; last = f.last; front = f.front; told = f.told; boards = f.there.1; all = at; line = refl } in
+    subst (λ (x : Ending). ScriptReplayed result script x initial now before after worse) (sym e) (ended result script TooManyEvents _ initial now before mid after later worse widen ready done)
 stopped_ends NotAVolume result script ends over initial now before mid after failed later worse spread widen never done = absurd never
 stopped_ends NoBoard result script ends over initial now before mid after failed later worse spread widen f done =
     let e = board_ending over script initial (map line_played f.played) f.there.1.0 f.there.0 (ap (λ (ls : List Line). map line_played f.played ++ ls) (sym f.there.1.1) ∙ f.front.lines) in
@@ -162,29 +215,33 @@ stopped_ends NoBoard result script ends over initial now before mid after failed
 stopped_ends NoImage result script ends over initial now before mid after failed later worse spread widen never done = absurd never
 
 -- a script all of whose lines were played
-lines_done : (ends : Bool) (script : Script) (n : ℕ) (p : Player) (initial now : List Device) (before mid : Option (List ℕ)) → (r : Reached ends script [] n p initial now before mid) → map line_played r.played ++ [] ≡ script.lines
+lines_done : (ends : Bool) (script : Script) (n : ℕ) (p : Player) (images : Images) (initial now : List Device) (before mid : Option (List ℕ)) → (r : Reached ends script [] n p images initial now before mid) → map line_played r.played ++ [] ≡ script.lines
 unfolding script_from
-lines_done ends script n p initial now before mid r = r.lines
+lines_done ends script n p images initial now before mid r = r.lines
 
-fault_done : (ends : Bool) (script : Script) (n : ℕ) (p : Player) (initial now : List Device) (before mid : Option (List ℕ)) → (r : Reached ends script [] n p initial now before mid) → end_fault ends p.place n ≡ script.fault
+fault_done : (ends : Bool) (script : Script) (n : ℕ) (p : Player) (images : Images) (initial now : List Device) (before mid : Option (List ℕ)) → (r : Reached ends script [] n p images initial now before mid) → end_fault ends p.place n ≡ script.fault
 unfolding script_from
-fault_done ends script n p initial now before mid r = r.fault
+fault_done ends script n p images initial now before mid r = r.fault
 
-boardless_done : (ends : Bool) (script : Script) (n : ℕ) (p : Player) (initial now : List Device) (before mid : Option (List ℕ)) → (r : Reached ends script [] n p initial now before mid) → length initial ≡ 0 → list_any is_motes script.lines ≡ false
-boardless_done ends script n p initial now before mid r none =
-    ap (λ (ls : List Line). list_any is_motes ls) (sym (sym (append-nil (map line_played r.played)) ∙ lines_done ends script n p initial now before mid r)) ∙ r.boardless none
+few_done : (ends : Bool) (script : Script) (n : ℕ) (p : Player) (images : Images) (initial now : List Device) (before mid : Option (List ℕ)) → (r : Reached ends script [] n p images initial now before mid) → HasFew script initial
+few_done ends script n p images initial now before mid r =
+    let all : map line_played r.played ≡ script.lines = sym (append-nil (map line_played r.played)) ∙ lines_done ends script n p images initial now before mid r in
+    record {
+      events = few_of p.events _ (map line_played r.played) script.lines r.stood.few r.events all;
+      boardless = λ none. ap (λ (ls : List Line). list_any is_motes ls) (sym all) ∙ r.boardless none;
+    }
 
 -- the front of all lines
-front_done : (ends : Bool) (script : Script) (n : ℕ) (p : Player) (initial now : List Device) (before mid : Option (List ℕ)) → (r : Reached ends script [] n p initial now before mid) → IsFront script r.played [] r.last
-front_done ends script n p initial now before mid r = record { lines = lines_done ends script n p initial now before mid r; run = r.run; golden = r.golden }
+front_done : (ends : Bool) (script : Script) (n : ℕ) (p : Player) (images : Images) (initial now : List Device) (before mid : Option (List ℕ)) → (r : Reached ends script [] n p images initial now before mid) → IsFront script r.played [] r.last
+front_done ends script n p images initial now before mid r = record { lines = lines_done ends script n p images initial now before mid r; run = r.run; legal = r.legal; keeps = keeps_all None r.played r.last r.run r.legal; starts = r.starts; agrees = r.agrees }
 
 -- an input that is too long
-pub over_ends : (result : Status) (script : Script) (n : ℕ) (p : Player) (initial now : List Device) (before mid after : Option (List ℕ)) (failed worse : Type 0) → (failed → worse)
-    → Reached false script [] n p initial now before mid → EndsWith result status.TooLong (ending_line Over) mid after failed → ScriptReplayed result script (ending_from (length initial) true script) initial now before after worse
-over_ends result script n p initial now before mid after failed worse spread r done =
+pub over_ends : (result : Status) (script : Script) (n : ℕ) (p : Player) (images : Images) (initial now : List Device) (before mid after : Option (List ℕ)) (failed worse : Type 0) → (failed → worse)
+    → Reached false script [] n p images initial now before mid → EndsWith result status.TooLong (ending_line Over) mid after failed → ScriptReplayed result script (ending_from (length initial) true script) initial now before after worse
+over_ends result script n p images initial now before mid after failed worse spread r done =
     let e : ending_from (length initial) true script ≡ Over =
-    no_motes (length initial) true script (boardless_done false script n p initial now before mid r) ∙ ap (λ (f : Option ℕ). by_fault true f) (sym (fault_done false script n p initial now before mid r)) in
-    let ready : ReadyToEnd script Over (ending_line Over) initial now before mid = record { played = r.played; rest = []; last = r.last; front = front_done false script n p initial now before mid r; told = r.told; boards = r.stood.boards; all = refl; line = refl } in
+    few_ending true script initial (few_done false script n p images initial now before mid r) ∙ ap (λ (f : Option ℕ). by_fault true f) (sym (fault_done false script n p images initial now before mid r)) in
+    let ready : ReadyToEnd script Over (ending_line Over) initial now before mid = record { played = r.played; rest = []; last = r.last; front = front_done false script n p images initial now before mid r; told = r.told; boards = r.stood.boards; all = refl; line = refl } in
     subst (λ (x : Ending). ScriptReplayed result script x initial now before after worse) (sym e) (ended result script Over _ initial now before mid after failed worse spread ready done)
 
 end_fault_at : (place : Place) (n : ℕ) → place ≢ Later → end_fault true place n ≡ Some n
@@ -193,18 +250,18 @@ end_fault_at Second n other = refl
 end_fault_at Later n other = absurd (other refl)
 
 -- a script that ends before its second line
-pub short_ends : (result : Status) (script : Script) (n : ℕ) (p : Player) (initial now : List Device) (before mid after : Option (List ℕ)) (failed worse : Type 0) → (failed → worse) → p.place ≢ Later
-    → Reached true script [] n p initial now before mid → EndsWith result status.BadInput (ending_line (FaultAt n)) mid after failed → ScriptReplayed result script (ending_from (length initial) false script) initial now before after worse
-short_ends result script n p initial now before mid after failed worse spread early r done =
-    let fault : script.fault ≡ Some n = sym (fault_done true script n p initial now before mid r) ∙ end_fault_at p.place n early in
-    let e = fault_ending (length initial) false script n (boardless_done true script n p initial now before mid r) fault in
-    let ready : ReadyToEnd script (FaultAt n) (ending_line (FaultAt n)) initial now before mid = record { played = r.played; rest = []; last = r.last; front = front_done true script n p initial now before mid r; told = r.told; boards = r.stood.boards; all = refl; line = refl } in
+pub short_ends : (result : Status) (script : Script) (n : ℕ) (p : Player) (images : Images) (initial now : List Device) (before mid after : Option (List ℕ)) (failed worse : Type 0) → (failed → worse) → p.place ≢ Later
+    → Reached true script [] n p images initial now before mid → EndsWith result status.BadInput (ending_line (FaultAt n)) mid after failed → ScriptReplayed result script (ending_from (length initial) false script) initial now before after worse
+short_ends result script n p images initial now before mid after failed worse spread early r done =
+    let fault : script.fault ≡ Some n = sym (fault_done true script n p images initial now before mid r) ∙ end_fault_at p.place n early in
+    let e = fault_ending false script initial n (few_done true script n p images initial now before mid r) fault in
+    let ready : ReadyToEnd script (FaultAt n) (ending_line (FaultAt n)) initial now before mid = record { played = r.played; rest = []; last = r.last; front = front_done true script n p images initial now before mid r; told = r.told; boards = r.stood.boards; all = refl; line = refl } in
     subst (λ (x : Ending). ScriptReplayed result script x initial now before after worse) (sym e) (ended result script (FaultAt n) _ initial now before mid after failed worse spread ready done)
 
 -- a player that is behind the second line has a world
-world_of : (p : Player) (last : Option World) (initial now : List Device) → p.place ≡ Later → Stood p last initial now → (w : World) × (last ≡ Some w)
-world_of p None initial now later stood = absurd (stood.world.0 later)
-world_of p (Some w) initial now later stood = (w, refl)
+world_of : (p : Player) (images : Images) (last : Option World) (initial now : List Device) → p.place ≡ Later → Stood p images last initial now → (w : World) × (last ≡ Some w)
+world_of p images None initial now later stood = absurd (stood.world.0 later)
+world_of p images (Some w) initial now later stood = (w, refl)
 
 finish_as : (result : Status) (script : Script) (w : World) (played : List Played) (initial new : List Device) (before mid after : Option (List ℕ)) (failed worse : Type 0) → (failed → worse)
     → IsFront script played [] (Some w) → Puts before mid (played_text played) → FinishesWith result w initial new mid after failed → ScriptReplayed result script Ends initial new before after worse
@@ -220,22 +277,22 @@ finish_as result script w played initial new before mid after failed worse sprea
       written = subst (λ (o : Option (List ℕ)). Puts before o (played_text played)) (sym kept) told;
       report = (refl, refl);
       boards = stopped;
-      caused = stopped;
+      caused = stopped.stopped;
     } in
     subst (λ (s : Status). ScriptReplayed s script Ends initial new before after worse) (sym same) made
 
 -- a script that ended
-pub script_ends : (result : Status) (script : Script) (n : ℕ) (p : Player) (initial now new : List Device) (before mid after : Option (List ℕ)) (failed worse : Type 0) → (failed → worse) → p.place ≡ Later
-    → (r : Reached true script [] n p initial now before mid) → ((w : World) → r.last ≡ Some w → Stood p (Some w) initial now → FinishesWith result w initial new mid after failed)
+pub script_ends : (result : Status) (script : Script) (n : ℕ) (p : Player) (images : Images) (initial now new : List Device) (before mid after : Option (List ℕ)) (failed worse : Type 0) → (failed → worse) → p.place ≡ Later
+    → (r : Reached true script [] n p images initial now before mid) → ((w : World) → r.last ≡ Some w → Stood p images (Some w) initial now → FinishesWith result w initial new mid after failed)
     → ScriptReplayed result script (ending_from (length initial) false script) initial new before after worse
-script_ends result script n p initial now new before mid after failed worse spread later r finishes =
-    let world = world_of p r.last initial now later r.stood in
+script_ends result script n p images initial now new before mid after failed worse spread later r finishes =
+    let world = world_of p images r.last initial now later r.stood in
     let w = world.0 in
-    let stood = subst (λ (o : Option World). Stood p o initial now) world.1 r.stood in
-    let fault : script.fault ≡ None = sym (fault_done true script n p initial now before mid r) ∙ ap (λ (at : Place). end_fault true at n) later in
+    let stood = subst (λ (o : Option World). Stood p images o initial now) world.1 r.stood in
+    let fault : script.fault ≡ None = sym (fault_done true script n p images initial now before mid r) ∙ ap (λ (at : Place). end_fault true at n) later in
     let e : ending_from (length initial) false script ≡ Ends =
-    no_motes (length initial) false script (boardless_done true script n p initial now before mid r) ∙ ap (λ (f : Option ℕ). by_fault false f) fault in
-    let front = subst (λ (o : Option World). IsFront script r.played [] o) world.1 (front_done true script n p initial now before mid r) in
+    few_ending false script initial (few_done true script n p images initial now before mid r) ∙ ap (λ (f : Option ℕ). by_fault false f) fault in
+    let front = subst (λ (o : Option World). IsFront script r.played [] o) world.1 (front_done true script n p images initial now before mid r) in
     subst (λ (x : Ending). ScriptReplayed result script x initial new before after worse) (sym e)
     (finish_as result script w r.played initial new before mid after failed worse spread front r.told (finishes w world.1 stood))
 
@@ -275,9 +332,6 @@ pub whole_none : whole_lines [] ≡ []
 unfolding whole_lines
 whole_none = refl
 
-below_is_false : (n m : ℕ) → m ≤ n → nat_lt n m ≡ false
-below_is_false n m h = grind (arith, nat_tests)
-
 over_not : (text : List ℕ) → length text ≤ 16777216 → is_over text ≡ false
 over_not text h = below_is_false 16777216 (length text) h
 
@@ -291,9 +345,6 @@ taken_length n xs h = omega (arith, length-take n xs, h)
 used_front_of : (k : ℕ) (text : List ℕ) (n : ℕ) → k < length text → n ≤ length (take k text) → take n (take k text) ≡ whole_lines (take k text) → take n text ≡ whole_lines (take k text)
 used_front_of k text n more within whole = sym (take-take n k text (omega (arith, length-take k text, within))) ∙ whole
 
-over_is : (n m : ℕ) → n < m → nat_lt n m ≡ true
-over_is n m h = grind (arith, nat_tests)
-
 pub used_front : (text : List ℕ) (n : ℕ) → 16777216 < length text → n ≤ length (take 16777216 text) → take n (take 16777216 text) ≡ whole_lines (take 16777216 text) → take n text ≡ used text
 used_front text n more within whole = used_front_of 16777216 text n more within whole ∙ ap (λ (b : Bool). if b then whole_lines (take 16777216 text) else text) (sym (over_is 16777216 (length text) more))
 
@@ -304,26 +355,26 @@ pub is_over-false : (text : List ℕ) → length text ≤ 16777216 → is_over t
 is_over-false text h = below_is_false 16777216 (length text) h
 
 -- an input that is known to be too long, and one that is known not to be
-pub at_over : (result : Status) (script : Script) (over : Bool) (n : ℕ) (p : Player) (initial now : List Device) (before mid after : Option (List ℕ)) (failed worse : Type 0) → over ≡ true → (failed → worse)
-    → Reached (not over) script [] n p initial now before mid → EndsWith result status.TooLong (ending_line Over) mid after failed → ScriptReplayed result script (ending_from (length initial) over script) initial now before after worse
-at_over result script over n p initial now before mid after failed worse is spread r done =
-    let P : Bool → Type 0 = λ b. Reached (not b) script [] n p initial now before mid → ScriptReplayed result script (ending_from (length initial) b script) initial now before after worse in
-    subst P (sym is) (λ s. over_ends result script n p initial now before mid after failed worse spread s done) r
+pub at_over : (result : Status) (script : Script) (over : Bool) (n : ℕ) (p : Player) (images : Images) (initial now : List Device) (before mid after : Option (List ℕ)) (failed worse : Type 0) → over ≡ true → (failed → worse)
+    → Reached (not over) script [] n p images initial now before mid → EndsWith result status.TooLong (ending_line Over) mid after failed → ScriptReplayed result script (ending_from (length initial) over script) initial now before after worse
+at_over result script over n p images initial now before mid after failed worse is spread r done =
+    let P : Bool → Type 0 = λ b. Reached (not b) script [] n p images initial now before mid → ScriptReplayed result script (ending_from (length initial) b script) initial now before after worse in
+    subst P (sym is) (λ s. over_ends result script n p images initial now before mid after failed worse spread s done) r
 
-pub at_ended : (result : Status) (script : Script) (over : Bool) (n : ℕ) (p : Player) (initial now new : List Device) (before mid after : Option (List ℕ)) (worse : Type 0) → over ≡ false
-    → Reached (not over) script [] n p initial now before mid → (Reached true script [] n p initial now before mid → ScriptReplayed result script (ending_from (length initial) false script) initial new before after worse)
+pub at_ended : (result : Status) (script : Script) (over : Bool) (n : ℕ) (p : Player) (images : Images) (initial now new : List Device) (before mid after : Option (List ℕ)) (worse : Type 0) → over ≡ false
+    → Reached (not over) script [] n p images initial now before mid → (Reached true script [] n p images initial now before mid → ScriptReplayed result script (ending_from (length initial) false script) initial new before after worse)
     → ScriptReplayed result script (ending_from (length initial) over script) initial new before after worse
-at_ended result script over n p initial now new before mid after worse is r ends =
-    let P : Bool → Type 0 = λ b. Reached (not b) script [] n p initial now before mid → ScriptReplayed result script (ending_from (length initial) b script) initial new before after worse in
+at_ended result script over n p images initial now new before mid after worse is r ends =
+    let P : Bool → Type 0 = λ b. Reached (not b) script [] n p images initial now before mid → ScriptReplayed result script (ending_from (length initial) b script) initial new before after worse in
     subst P (sym is) ends r
 
-script_used : (text cells : List ℕ) (over : Bool) → over ≡ is_over text → cells ≡ used text → script_from (not over) First 1 (lines cells) ≡ script_of text
+script_used : (text cells : List ℕ) (over : Bool) → over ≡ is_over text → cells ≡ used text → script_from (not over) First [] 1 (lines cells) ≡ script_of text
 unfolding script_of
-script_used text cells over is same = ap (λ (b : Bool). script_from (not b) First 1 (lines cells)) is ∙ ap (λ (xs : List ℕ). script_from (not (is_over text)) First 1 (lines xs)) same
+script_used text cells over is same = ap (λ (b : Bool). script_from (not b) First [] 1 (lines cells)) is ∙ ap (λ (xs : List ℕ). script_from (not (is_over text)) First [] 1 (lines xs)) same
 
 -- what was played of the bytes that are used is what was played of the input
 pub replayed_as : (result : Status) (text cells : List ℕ) (over : Bool) (n m : ℕ) (initial now : List Device) (before after : Option (List ℕ)) (worse : Type 0) → over ≡ is_over text → cells ≡ used text → n ≡ m
-    → ScriptReplayed result (script_from (not over) First 1 (lines cells)) (ending_from n over (script_from (not over) First 1 (lines cells))) initial now before after worse
+    → ScriptReplayed result (script_from (not over) First [] 1 (lines cells)) (ending_from n over (script_from (not over) First [] 1 (lines cells))) initial now before after worse
     → ScriptReplayed result (script_of text) (ending_of m text) initial now before after worse
 replayed_as result text cells over n m initial now before after worse is same count r =
     let script = script_used text cells over is same in
@@ -331,3 +382,13 @@ replayed_as result text cells over n m initial now before after worse is same co
     let by_over : Bool → Type 0 = λ b. ScriptReplayed result (script_of text) (ending_from n b (script_of text)) initial now before after worse in
     let by_count : ℕ → Type 0 = λ k. ScriptReplayed result (script_of text) (ending_from k (is_over text) (script_of text)) initial now before after worse in
     subst by_count count (subst by_over is (subst by_script script r))
+
+some_board : (n : ℕ) → 1 ≤ n → n ≡ 0 → ⊥
+some_board n some none = omega arith
+
+-- an input in its grammar and limits is played to its end
+pub in_limits : (n : ℕ) (input : List ℕ) → InLimits n input → ending_of n input ≡ Ends
+in_limits n input limits =
+    few_events n (is_over input) (script_of input) (λ none. absurd (some_board n limits.board none)) limits.events
+    ∙ ap (λ (b : Bool). by_fault b (script_of input).fault) (over_not input limits.bytes)
+    ∙ ap (λ (f : Option ℕ). by_fault false f) limits.grammar

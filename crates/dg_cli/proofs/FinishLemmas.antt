@@ -12,13 +12,14 @@ use Rattle.dg_volume.specs.Mounted.{kept_at, Tells}
 use Rattle.dg_volume.specs.declared.volume.Volume.{Volume}
 use Rattle.dg_cli.specs.Report.{report_line, report_text}
 use Rattle.dg_cli.specs.World.{World, mote_line, kept_line, last_lines}
-use Rattle.dg_cli.specs.Boards.{BoardStands}
+use Rattle.dg_cli.specs.Boards.{BoardStands, MemoryHolds}
 use Rattle.dg_cli.specs.Player.{Stood}
 use Rattle.dg_cli.specs.Replaying.{kept_told, last_told, EndsWith, FinishesWith}
+use Rattle.dg_cli.specs.declared.images.Images.{Images}
 use Rattle.dg_cli.specs.declared.states.Player.{Player}
 use Rattle.dg_cli.specs.declared.report.Report.{Report}
 use Rattle.dg_cli.specs.declared.report.Report.TheVariants.{End}
-use Rattle.dg_cli.proofs.PlayLemmas.{First_board, standing, stands_at, set_again, board_stopped}
+use Rattle.dg_cli.proofs.PlayLemmas.{First_board, standing, stands_at, board_stopped}
 
 lines_more : (o : Option Report) (rest : List Report) → report_text (cons_option o rest) ≡ report_text (option_to_list o) ++ report_text rest
 lines_more None rest = refl
@@ -56,6 +57,10 @@ last_told_is player volume w events runs tells =
     ∙ regroup (report_line (End w.events)) (report_line (mote_line w.runs)) (line 1) (line 2) (line 3)
     ∙ ap (λ (xs : List ℕ). report_line (End w.events) ++ (report_line (mote_line w.runs) ++ xs)) (sym (kept_lines f))
 
+set_again : (initial : List Device) (a e : Device) → slice_set (slice_set initial 0 a) 0 e ≡ slice_set initial 0 e
+set_again [] a e = refl
+set_again (x ∷ xs) a e = refl
+
 -- the board was read, and its chip is as before
 board_read : (w : World) (initial old new : List Device) (d e : Device) → BoardStands w initial old → First_board old new d e → e.image ≡ d.image → Ran 0 d e → BoardStands w initial new
 board_read w initial old new d e b board same ran =
@@ -70,32 +75,34 @@ board_read w initial old new d e b board same ran =
         faults = omega (arith, b.used.faults, ran.faults, risen);
       };
       stands = subst (λ (c : List ℕ). Stands c w.store) (sym same) (stands_at w initial old d b board.before);
-      stopped = ran.stopped ∙ ap (λ (x : Device). x.stopped) at ∙ b.stopped;
+      memory = subst (λ (c : List ℕ). MemoryHolds c w.store.app) (sym same) (subst (λ (x : Device). MemoryHolds x.image w.store.app) (sym at) b.memory);
+      came = b.came;
+      awake = ran.stopped ∙ ap (λ (x : Device). x.stopped) at ∙ b.awake;
     }
 
-pub finished_as : (result : Status) (w : World) (player : Player) (volume : Volume) (initial old new : List Device) (d e : Device) (before after : Option (List ℕ)) (failed : Type 0)
-    → Stood player (Some w) initial old → First_board old new d e → e.image ≡ d.image → Ran 0 d e → Tells volume w.store
+pub finished_as : (result : Status) (w : World) (player : Player) (images : Images) (volume : Volume) (initial old new : List Device) (d e : Device) (before after : Option (List ℕ)) (failed : Type 0)
+    → Stood player images (Some w) initial old → First_board old new d e → e.image ≡ d.image → Ran 0 d e → Tells volume w.store
     → EndsWith result status.Done (last_told player volume) before after failed → FinishesWith result w initial new before after failed
-finished_as result w player volume initial old new d e before after failed stood board same ran tells ends =
+finished_as result w player images volume initial old new d e before after failed stood board same ran tells ends =
     let text = last_told_is player volume w stood.world.1 stood.world.2 tells in
     inl (subst (λ (xs : List ℕ). EndsWith result status.Done xs before after failed) text ends, board_read w initial old new d e stood.boards board same ran)
 
-pub finish_stopped : (w : World) (player : Player) (initial old new : List Device) (d e : Device) (before : Option (List ℕ)) (failed : Type 0)
-    → Stood player (Some w) initial old → First_board old new d e → Halts 0 0 d e → FinishesWith status.FlashFault w initial new before before failed
-finish_stopped w player initial old new d e before failed stood board halts =
-    inr (refl, board_stopped player (Some w) initial old new d e stood board (record { faults = halts.faults; stopped = halts.stopped; cause = halts.cause }), refl)
+pub finish_stopped : (w : World) (player : Player) (images : Images) (initial old new : List Device) (d e : Device) (before : Option (List ℕ)) (failed : Type 0)
+    → Stood player images (Some w) initial old → First_board old new d e → Halts 0 0 d e → FinishesWith status.FlashFault w initial new before before failed
+finish_stopped w player images initial old new d e before failed stood board halts =
+    inr (refl, board_stopped player images (Some w) initial old new d e stood board (record { faults = halts.faults; stopped = halts.stopped; cause = halts.cause }), refl)
 
 there : (initial now : List Device) (before after : Device) → slice_get initial 0 ≡ Some before → now ≡ slice_set initial 0 after → 0 < length now
 there [] now before after first others = absurd (let e : None ≡ Some before = first in cc)
 there (x ∷ xs) now before after first others = omega (arith, ap length others)
 
 -- a world's board is there
-pub board_there : (w : World) (player : Player) (initial now : List Device) → Stood player (Some w) initial now → 0 < length now
-board_there w player initial now stood = there initial now stood.boards.used.before stood.boards.used.after stood.boards.used.first stood.boards.used.others
+pub board_there : (w : World) (player : Player) (images : Images) (initial now : List Device) → Stood player images (Some w) initial now → 0 < length now
+board_there w player images initial now stood = there initial now stood.boards.used.before stood.boards.used.after stood.boards.used.first stood.boards.used.others
 
 not_zero : (n : ℕ) → (suc n == 0) ≡ true → ⊥
 not_zero n e = grind (arith, nat_tests)
 
-pub no_boards : {N : Type 0} (items : List N) (f : N → Device) (player : Player) (w : World) (initial : List Device) (b : Bool) {P : Type 0} → b ≡ (length items == 0) → b ≡ true → Stood player (Some w) initial (map f items) → P
-no_boards [] f player w initial b is holds stood = absurd (omega (arith, board_there w player initial [] stood))
-no_boards (x ∷ xs) f player w initial b is holds stood = absurd (not_zero (length xs) (sym is ∙ holds))
+pub no_boards : {N : Type 0} (items : List N) (f : N → Device) (player : Player) (images : Images) (w : World) (initial : List Device) (b : Bool) {P : Type 0} → b ≡ (length items == 0) → b ≡ true → Stood player images (Some w) initial (map f items) → P
+no_boards [] f player images w initial b is holds stood = absurd (omega (arith, board_there w player images initial [] stood))
+no_boards (x ∷ xs) f player images w initial b is holds stood = absurd (not_zero (length xs) (sym is ∙ holds))

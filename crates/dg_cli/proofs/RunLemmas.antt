@@ -1,25 +1,26 @@
 -- What the top call did.
-use Rattle.std.proofs.Common.{◌≡◌, ◌≢◌, ◌⊎◌, inl, inr, ℕ, ◌<◌, Bool, true, false, List, [], ◌∷◌, ◌++◌, length, map, get_or, length-append, ◌==◌, ◌&&◌, refl, ap, sym, ◌∙◌, subst, arith}
-use Rattle.std.specs.Prelude.{Option, Some, None, nat_lt, nat_eq, if◌then◌else◌}
+use Rattle.std.proofs.Common.{◌≡◌, ◌≢◌, ◌⊎◌, inl, inr, ℕ, ◌<◌, ◌≤◌, Bool, true, false, List, [], ◌∷◌, ◌++◌, length, map, get_or, length-append, ◌&&◌, refl, ap, sym, ◌∙◌, subst, arith}
+use Rattle.std.specs.Prelude.{Option, Some, None, nat_lt, nat_eq}
 use Rattle.std.specs.Cmp.Lexicographic.{pointwise}
 use Rattle.std.specs.Bool.{OnTrue, OnFalse}
 use Rattle.std.proofs.lemmas.Bool.{eqb-true, eq-eqb}
 use Rattle.std.proofs.lemmas.List.{length-map}
-use Rattle.std.specs.List.{list_any}
 use Rattle.std.proofs.lemmas.Bool.Decides.{nat_tests}
 use Rattle.dg_base.specs.Outside.{Takes, AtEnd}
 use Rattle.dg_base.proofs.OutsideLemmas.{Puts-nil, Takes-told, Takes-all}
 use Rattle.dg_base.specs.declared.answers.Status.{Status}
 use Rattle.dg_base.specs.declared.answers.Status.TheVariants.{Done, Memory, Usage, BadInput, ReadFault, WriteFault, FlashFault, NotAVolume, Refused, LinkFault, TooLong, TooMany, NoBoard, NoImage}
 use Rattle.dg_nor.specs.Device.{Device}
-use Rattle.dg_cli.specs.World.{Played}
+use Rattle.dg_cli.specs.Played.{Played}
 use Rattle.dg_cli.specs.Boards.{BoardStopped}
 use Rattle.dg_cli.specs.Script.{Script}
-use Rattle.dg_cli.specs.Ending.{Ending, Ends, NoBoards, is_motes, by_fault, ending_from, ending_of, status_of, script_of, is_over}
-use Rattle.dg_cli.specs.Outcome.{IsFront, ReadEnough, IsCaused, Replayed}
+use Rattle.dg_cli.specs.World.{World}
+use Rattle.dg_cli.specs.Ending.{Ending, Ends, ending_of, status_of, script_of, is_over, InLimits}
+use Rattle.dg_cli.specs.declared.script.Line.{Line}
+use Rattle.dg_cli.specs.Outcome.{IsFront, Wrote, ReadEnough, IsCaused, Replayed}
 use Rattle.dg_cli.specs.Replaying.{ScriptReplayed}
 use Rattle.dg_cli.proofs.ReplayLemmas.{plays_none}
-use Rattle.dg_cli.proofs.EndLemmas.{is_over-true}
+use Rattle.dg_cli.proofs.EndLemmas.{is_over-true, in_limits}
 
 enough_for : (s : Status) (input : List ℕ) (at_end : Type 0) (played : List Played) (text : List ℕ) → at_end ⊎ (is_over input ≡ true) → ReadEnough s input at_end played text
 enough_for Memory input at_end played text e = inl e
@@ -59,7 +60,7 @@ read_replayed s text lb la wb wa r w old new n count taken enough replayed =
     }
 
 front_none : (script : Script) → IsFront script [] script.lines None
-front_none script = record { lines = refl; run = plays_none; golden = tt }
+front_none script = record { lines = refl; run = plays_none; legal = tt; keeps = tt; starts = tt; agrees = tt }
 
 -- memory ran out in reading, and a read failed
 pub memory_unread : (bytes : List ℕ) (lb la wb : Option (List ℕ)) (r w : Type 0) (old : List Device) → Takes lb la bytes → Replayed Memory lb la wb wb r w old old
@@ -78,36 +79,19 @@ vector_replayed s text items bytes lb la wb wa r w old new n same read count tak
     let E : List ℕ → Type 0 = λ xs. AtEnd la ⊎ (16777216 < length xs) in
     read_replayed s text lb la wb wa r w old new n count (subst T (sym (same ∙ read)) taken) (subst E (sym same) enough) replayed
 
-never_fault : (f : Option ℕ) → by_fault true f ≡ Ends → ⊥
-never_fault None e = cc
-never_fault (Some line) e = cc
-
-never_test : (b : Bool) (f : Option ℕ) → (if b then NoBoards else by_fault true f) ≡ Ends → ⊥
-never_test true f e = cc
-never_test false f e = never_fault f e
-
-never_ends : (n : ℕ) (script : Script) → ending_from n true script ≡ Ends → ⊥
-never_ends n script e = never_test ((n == 0) && list_any is_motes script.lines) script.fault e
-
--- an input that is too long does not end
-over_ending : (n : ℕ) (text : List ℕ) → is_over text ≡ true → ending_of n text ≡ Ends → ⊥
-over_ending n text over ends = never_ends n (script_of text) (subst (λ (b : Bool). ending_from n b (script_of text) ≡ Ends) over ends)
-
 below_true : (n m : ℕ) → nat_lt n m ≡ true → n < m
 below_true n m e = grind (arith, nat_tests)
 
 over_more : (input : List ℕ) → is_over input ≡ true → 16777216 < length input
 over_more input over = below_true 16777216 (length input) over
 
-longer_over : (bytes input rest : List ℕ) → bytes ≡ input ++ rest → is_over input ≡ true → is_over bytes ≡ true
-longer_over bytes input rest parts over =
-    let more : 16777216 < length input = over_more input over in
-    is_over-true bytes (omega (arith, ap length parts, length-append input rest, more))
+too_long : (bytes input rest : List ℕ) (m : ℕ) → bytes ≡ input ++ rest → m < length input → length bytes ≤ m → ⊥
+too_long bytes input rest m parts over short = absurd (omega (arith, ap length parts, length-append input rest, over, short))
 
-over_never : (bytes input : List ℕ) (la : Option (List ℕ)) (n : ℕ) → Takes (Some bytes) la input → is_over input ≡ true → ending_of n bytes ≡ Ends → ⊥
-over_never bytes input la n taken over ends =
+over_never : (bytes input : List ℕ) (la : Option (List ℕ)) → Takes (Some bytes) la input → is_over input ≡ true → length bytes ≤ 16777216 → ⊥
+over_never bytes input la taken over short =
     let told = Takes-told bytes input la taken in
-    over_ending n bytes (longer_over bytes input told.0 told.1 over) ends
+    too_long bytes input told.0 _ told.1 (over_more input over) short
 
 by_status : (s : Status) (input : List ℕ) (la : Option (List ℕ)) (played : List Played) (text : List ℕ) (r w b : Type 0) (n : ℕ) → ReadEnough s input (AtEnd la) played text → IsCaused s (ending_of n input) r w b → (r → ⊥) → (w → ⊥) → (b → ⊥)
     → (AtEnd la ⊎ (is_over input ≡ true) → ending_of n input ≡ Ends) → (s ≡ Done) ⊎ (s ≡ Memory)
@@ -126,17 +110,33 @@ by_status TooMany input la played text r w b n enough caused reads writes stops 
 by_status NoBoard input la played text r w b n enough caused reads writes stops ends = inl (caused ∙ ap status_of (ends enough))
 by_status NoImage input la played text r w b n enough caused reads writes stops ends = inl (caused ∙ ap status_of (ends enough))
 
--- A script that ends, whose bytes are told, was replayed to its end, unless memory ran out or the outside failed.
-told_end : (bytes input : List ℕ) (la : Option (List ℕ)) (n : ℕ) → Takes (Some bytes) la input → AtEnd la ⊎ (is_over input ≡ true) → ending_of n bytes ≡ Ends → ending_of n input ≡ Ends
-told_end bytes input la n taken (inl at_end) ends = subst (λ (xs : List ℕ). ending_of n xs ≡ Ends) (Takes-all bytes input la taken at_end) ends
-told_end bytes input la n taken (inr over) ends = absurd (over_never bytes input la n taken over ends)
+-- A script in its limits, whose bytes are told, was replayed to its end, unless memory ran out or the outside failed.
+told_end : (bytes input : List ℕ) (la : Option (List ℕ)) (n : ℕ) → Takes (Some bytes) la input → InLimits n bytes → AtEnd la ⊎ (is_over input ≡ true) → ending_of n input ≡ Ends
+told_end bytes input la n taken limits (inl at_end) = subst (λ (xs : List ℕ). ending_of n xs ≡ Ends) (Takes-all bytes input la taken at_end) (in_limits n bytes limits)
+told_end bytes input la n taken limits (inr over) = absurd (over_never bytes input la taken over limits.bytes)
 
-pub completed : (s : Status) (bytes : List ℕ) (lb la wb wa : Option (List ℕ)) (r w : Type 0) (old new : List Device) (n : ℕ) → n ≡ length old → lb ≡ Some bytes → ending_of n bytes ≡ Ends → (r → ⊥) → (w → ⊥) → (BoardStopped old new → ⊥)
+pub completed : (s : Status) (bytes : List ℕ) (lb la wb wa : Option (List ℕ)) (r w : Type 0) (old new : List Device) (n : ℕ) → n ≡ length old → lb ≡ Some bytes → InLimits n bytes → (r → ⊥) → (w → ⊥) → (BoardStopped old new → ⊥)
     → Replayed s lb la wb wa r w old new → (s ≡ Done) ⊎ (s ≡ Memory)
-completed s bytes lb la wb wa r w old new n count told ends reads writes stops x =
+completed s bytes lb la wb wa r w old new n count told limits reads writes stops x =
     let taken : Takes (Some bytes) la x.input = subst (λ (o : Option (List ℕ)). Takes o la x.input) told x.taken in
-    let wanted : ending_of (length old) bytes ≡ Ends = subst (λ (k : ℕ). ending_of k bytes ≡ Ends) count ends in
-    by_status s x.input la x.played x.text r w (BoardStopped old new) (length old) x.enough x.caused reads writes stops (λ enough. told_end bytes x.input la (length old) taken enough wanted)
+    let wanted : InLimits (length old) bytes = subst (λ (k : ℕ). InLimits k bytes) count limits in
+    by_status s x.input la x.played x.text r w (BoardStopped old new) (length old) x.enough x.caused reads writes stops (λ enough. told_end bytes x.input la (length old) taken wanted enough)
+
+-- what a replay comes to
+abbrev pub IsNever : Status → Type 0
+IsNever s = (s ≢ NotAVolume) × (s ≢ Refused) × (s ≢ LinkFault) × (s ≢ NoImage)
+
+wrote_never : (s : Status) (e : Ending) (played : List Played) (rest : List Line) (last : Option World) (text : List ℕ) → Wrote s e played rest last text → IsNever s
+wrote_never s e played rest last text wrote =
+    let P : Status → Type 0 = λ x. Wrote x e played rest last text in
+    (λ is. subst P is wrote, λ is. subst P is wrote, λ is. subst P is wrote, λ is. subst P is wrote)
+
+pub replayed_never : (s : Status) (lb la wb wa : Option (List ℕ)) (r w : Type 0) (old new : List Device) → Replayed s lb la wb wa r w old new → IsNever s
+replayed_never s lb la wb wa r w old new x = wrote_never s (ending_of (length old) x.input) x.played x.rest x.last x.text x.report
+
+pub unknown_never : (s : Status) (P Q R : Type 0) → ((s ≡ Usage) × P) ⊎ ((s ≡ WriteFault) × Q × R) → IsNever s
+unknown_never s P Q R (inl (is, p)) = (λ e. cc, λ e. cc, λ e. cc, λ e. cc)
+unknown_never s P Q R (inr (is, q, r)) = (λ e. cc, λ e. cc, λ e. cc, λ e. cc)
 
 -- the words of the program
 and_true : (a b : Bool) → (a && b) ≡ true → (a ≡ true) × (b ≡ true)

@@ -3,11 +3,12 @@ use Rattle.std.proofs.Common.{◌≡◌, ℕ, ◌%◌, ◌≤◌, ◌⊎◌, ◌
 use Rattle.std.proofs.lemmas.Bool.Decides.{nat_tests}
 use Rattle.dg_base.specs.Numbers.{number_of}
 use Rattle.dg_base.specs.Texts.{names}
-use Rattle.dg_cli.specs.Words.{words_of, one_of, three_of, same}
-use Rattle.dg_cli.specs.Script.{◌>>=◌, guarded, image_of, digits_of, content_of, motes_of, golden_of, reset_of, FitsLine, AllowedAt, is_comment, verb_line, said, line_of}
+use Rattle.dg_cli.specs.Words.{words_of, one_of, three_of, four_of, five_of, six_of, same}
+use Rattle.dg_cli.specs.Script.{◌>>=◌, guarded, image_of, digits_of, content_of, mote_of, image_number_of, any_image_of, positive_of, name_of, motes_of, golden_of, image_line_of, reset_of, inject_of, order_of, FitsLine, AllowedAt, is_comment, later_line, verb_line, said, line_of}
 use Rattle.dg_cli.specs.Reading.{Reads}
 use Rattle.dg_cli.specs.declared.script.Line.{Line}
-use Rattle.dg_cli.specs.declared.script.Line.TheVariants.{Nothing, Motes, Golden, Reset}
+use Rattle.dg_cli.specs.declared.script.Line.TheVariants.{Nothing, Motes, Golden, Image, Happens}
+use Rattle.dg_cli.specs.declared.script.Event.TheVariants.{Reset, Inject, Order}
 use Rattle.dg_cli.specs.declared.script.LineFault.{LineFault}
 use Rattle.dg_cli.specs.declared.script.Place.{Place}
 use Rattle.dg_cli.specs.declared.script.Place.TheVariants.{First, Second, Later}
@@ -66,6 +67,43 @@ content_size word bytes h =
     let read = bound (hex_bytes digits.0) image_of bytes digits.2 in
     image_size read.0 bytes read.2
 
+-- A name is a name.
+name_is : (word name : List ℕ) → name_of word ≡ Some name → names name ≡ true
+unfolding name_of
+name_is word name h =
+    let named = guarded_some (names word) word name h in
+    ap names (sym named.1) ∙ named.0
+
+-- The numbers of lines are in their ranges.
+number_within : (o : Option ℕ) (most n : ℕ) → (o >>= λ m. guarded (nat_le 1 m && nat_le m most) m) ≡ Some n → (1 ≤ n) × (n ≤ most)
+number_within o most n h =
+    let read = bound o (λ m. guarded (nat_le 1 m && nat_le m most) m) n h in
+    let here = guarded_some (nat_le 1 read.0 && nat_le read.0 most) read.0 n read.2 in
+    let P : ℕ → Type 0 = λ m. (1 ≤ m) × (m ≤ most) in
+    subst P here.1 (within read.0 most here.0)
+
+image_number_within : (word : List ℕ) (n : ℕ) → image_number_of word ≡ Some n → (1 ≤ n) × (n ≤ 3)
+unfolding image_number_of
+image_number_within word n h = number_within (number_of word) 3 n h
+
+any_image_within : (word : List ℕ) (n : ℕ) → any_image_of word ≡ Some n → n ≤ 3
+unfolding any_image_of
+any_image_within word n h =
+    let read = bound (number_of word) (λ m. guarded (nat_le m 3) m) n h in
+    let here = guarded_some (nat_le read.0 3) read.0 n read.2 in
+    let P : ℕ → Type 0 = λ m. m ≤ 3 in
+    let fits : read.0 ≤ 3 = grind (arith, nat_tests) in
+    subst P here.1 fits
+
+positive_some : (word : List ℕ) (n : ℕ) → positive_of word ≡ Some n → 1 ≤ n
+unfolding positive_of
+positive_some word n h =
+    let read = bound (number_of word) (λ m. guarded (nat_le 1 m) m) n h in
+    let here = guarded_some (nat_le 1 read.0) read.0 n read.2 in
+    let P : ℕ → Type 0 = λ m. 1 ≤ m in
+    let some : 1 ≤ read.0 = grind (arith, nat_tests) in
+    subst P here.1 some
+
 -- what a line is where its place allows it, and its content fits
 abbrev Allowed : Place → Line → Type 0
 Allowed place line = AllowedAt place line × FitsLine line
@@ -89,33 +127,104 @@ golden_allowed : (fields : List (List ℕ)) (line : Line) → golden_of fields �
 unfolding golden_of
 golden_allowed fields line h =
     let t = bound (three_of fields) _ line h in
-    let name = bound (guarded (names t.0.0) t.0.0) _ line t.2 in
-    let named = guarded_some (names t.0.0) t.0.0 name.0 name.1 in
-    let is_name : names name.0 ≡ true = ap names (sym named.1) ∙ named.0 in
+    let name = bound (name_of t.0.0) _ line t.2 in
     let used = bound (number_of t.0.1) _ line name.2 in
     let zero = bound (guarded (used.0 == 0) used.0) _ line used.2 in
     let content = bound (content_of t.0.2) _ line zero.2 in
     let size = content_size t.0.2 content.0 content.1 in
     let here : Golden (record { name = name.0; content = content.0 }) ≡ line = cc in
     let P : Line → Type 0 = λ l. Allowed Second l in
-    subst P here (refl, record { name = is_name; some = size.0; fits = size.1 })
+    subst P here (refl, record { name = name_is t.0.0 name.0 name.1; some = size.0; fits = size.1 })
+
+image_allowed : (fields : List (List ℕ)) (line : Line) → image_line_of fields ≡ Some line → Allowed Later line
+unfolding image_line_of
+image_allowed fields line h =
+    let t = bound (four_of fields) _ line h in
+    let image = bound (image_number_of t.0.0) _ line t.2 in
+    let version = bound (positive_of t.0.1) _ line image.2 in
+    let name = bound (name_of t.0.2) _ line version.2 in
+    let content = bound (content_of t.0.3) _ line name.2 in
+    let number = image_number_within t.0.0 image.0 image.1 in
+    let size = content_size t.0.3 content.0 content.1 in
+    let here : Image (record { image = image.0; version = version.0; name = name.0; content = content.0 }) ≡ line = cc in
+    let P : Line → Type 0 = λ l. Allowed Later l in
+    subst P here (
+      refl,
+      record {
+        image = number.0;
+        image_fits = number.1;
+        version = positive_some t.0.1 version.0 version.1;
+        name = name_is t.0.2 name.0 name.1;
+        some = size.0;
+        fits = size.1;
+      },
+    )
 
 reset_allowed : (fields : List (List ℕ)) (line : Line) → reset_of fields ≡ Some line → Allowed Later line
 unfolding reset_of
 reset_allowed fields line h =
     let t = bound (three_of fields) _ line h in
-    let mote = bound (number_of t.0.0) _ line t.2 in
-    let zero = bound (guarded (mote.0 == 0) mote.0) _ line mote.2 in
-    let dt = bound (number_of t.0.1) _ line zero.2 in
+    let mote = bound (mote_of t.0.0) _ line t.2 in
+    let dt = bound (number_of t.0.1) _ line mote.2 in
     let word = bound (number_of t.0.2) _ line dt.2 in
-    let here : Reset dt.0 word.0 ≡ line = cc in
+    let here : Happens (Reset dt.0 word.0) ≡ line = cc in
     let P : Line → Type 0 = λ l. Allowed Later l in
     subst P here (refl, tt)
+
+inject_allowed : (fields : List (List ℕ)) (line : Line) → inject_of fields ≡ Some line → Allowed Later line
+unfolding inject_of
+inject_allowed fields line h =
+    let t = bound (five_of fields) _ line h in
+    let mote = bound (mote_of t.0.0) _ line t.2 in
+    let image = bound (image_number_of t.0.1) _ line mote.2 in
+    let version = bound (positive_of t.0.2) _ line image.2 in
+    let dt = bound (number_of t.0.3) _ line version.2 in
+    let word = bound (number_of t.0.4) _ line dt.2 in
+    let number = image_number_within t.0.1 image.0 image.1 in
+    let here : Happens (Inject image.0 version.0 dt.0 word.0) ≡ line = cc in
+    let P : Line → Type 0 = λ l. Allowed Later l in
+    subst P here (refl, (number.0, number.1, positive_some t.0.2 version.0 version.1))
+
+order_allowed : (fields : List (List ℕ)) (line : Line) → order_of fields ≡ Some line → Allowed Later line
+unfolding order_of
+order_allowed fields line h =
+    let t = bound (six_of fields) _ line h in
+    let mote = bound (mote_of t.0.0) _ line t.2 in
+    let number = bound (positive_of t.0.1) _ line mote.2 in
+    let image = bound (any_image_of t.0.2) _ line number.2 in
+    let version = bound (positive_of t.0.3) _ line image.2 in
+    let dt = bound (number_of t.0.4) _ line version.2 in
+    let word = bound (number_of t.0.5) _ line dt.2 in
+    let here : Happens (Order number.0 image.0 version.0 dt.0 word.0) ≡ line = cc in
+    let P : Line → Type 0 = λ l. Allowed Later l in
+    subst P here (refl, (positive_some t.0.1 number.0 number.1, any_image_within t.0.2 image.0 image.1, positive_some t.0.3 version.0 version.1))
+
+-- One of two readers behind a test.
+one_of_two : (test : Bool) (a b : Option Line) (line : Line) → (if test then a else b) ≡ Some line → (a ≡ Some line) ⊎ (b ≡ Some line)
+one_of_two true a b line h = inl h
+one_of_two false a b line h = inr h
+
+order_verb : (verb : List ℕ) (fields : List (List ℕ)) (line : Line)
+    → (if same verb (codes "order") then order_of fields else None) ≡ Some line → Allowed Later line
+order_verb verb fields line h = order_allowed fields line (behind_test (same verb (codes "order")) (order_of fields) line h)
+
+later_allowed : (verb : List ℕ) (fields : List (List ℕ)) (line : Line) → later_line verb fields ≡ Some line → Allowed Later line
+later_allowed verb fields line h =
+    elim (one_of_two (same verb (codes "image")) (image_line_of fields) _ line h) [
+      | inl image ↦ image_allowed fields line image
+      | inr h2 ↦ elim (one_of_two (same verb (codes "reset")) (reset_of fields) _ line h2) [
+        | inl reset ↦ reset_allowed fields line reset
+        | inr h3 ↦ elim (one_of_two (same verb (codes "inject")) (inject_of fields) _ line h3) [
+          | inl inject ↦ inject_allowed fields line inject
+          | inr h4 ↦ order_verb verb fields line h4
+        ]
+      ]
+    ]
 
 verb_allowed : (place : Place) (verb : List ℕ) (fields : List (List ℕ)) (line : Line) → verb_line place verb fields ≡ Some line → Allowed place line
 verb_allowed First verb fields line h = motes_allowed fields line (behind_test (same verb (codes "motes")) (motes_of fields) line h)
 verb_allowed Second verb fields line h = golden_allowed fields line (behind_test (same verb (codes "golden")) (golden_of fields) line h)
-verb_allowed Later verb fields line h = reset_allowed fields line (behind_test (same verb (codes "reset")) (reset_of fields) line h)
+verb_allowed Later verb fields line h = later_allowed verb fields line h
 
 either : (comment : Bool) (place : Place) (verb : List ℕ) (fields : List (List ℕ)) (line : Line)
     → (if comment then Some Nothing else verb_line place verb fields) ≡ Some line → Allowed place line
@@ -131,7 +240,7 @@ unfolding line_of
 line_allowed place text line h =
     said_allowed place (words_of text) line (behind_test (nat_le (length text) 300000) (said place (words_of text)) line h)
 
--- A line that is read stands at its place, and a golden line has a name and a content that fits.
+-- A line that is read stands at its place, and its names, numbers and contents fit.
 pub allowed : (place : Place) (text : List ℕ) (line : Line) → line_of place text ≡ Some line → AllowedAt place line
 allowed place text line h = (line_allowed place text line h).0
 

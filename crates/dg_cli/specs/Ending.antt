@@ -1,13 +1,13 @@
 -- How the rules say that a script ends, by its bytes and the number of boards alone.
-use Rattle.std.specs.Prelude.{ℕ, ◌==◌, nat_lt, ◌&&◌, Bool, true, false, not, if◌then◌else◌, List, [], ◌∷◌, ◌++◌, length, take, codes, Option, Some, None}
-use Rattle.std.specs.List.{list_any}
+use Rattle.std.specs.Prelude.{◌≡◌, ℕ, ◌≤◌, ◌==◌, nat_lt, ◌&&◌, Bool, true, false, not, if◌then◌else◌, List, [], ◌∷◌, ◌++◌, length, take, codes, Option, Some, None}
+use Rattle.std.specs.List.{list_any, count_by}
 use Rattle.std.specs.Fmt.{decimal}
 use Rattle.std.specs.Str.Lines.{lines}
 use Rattle.dg_base.specs.declared.answers.Status.{Status}
-use Rattle.dg_base.specs.declared.answers.Status.TheVariants.{Done, BadInput, TooLong, NoBoard}
-use Rattle.dg_cli.specs.Script.{Script, script_from}
+use Rattle.dg_base.specs.declared.answers.Status.TheVariants.{Done, BadInput, TooLong, TooMany, NoBoard}
+use Rattle.dg_cli.specs.Script.{Script, script_from, is_event}
 use Rattle.dg_cli.specs.declared.script.Line.{Line}
-use Rattle.dg_cli.specs.declared.script.Line.TheVariants.{Nothing, Motes, Golden, Reset}
+use Rattle.dg_cli.specs.declared.script.Line.TheVariants.{Nothing, Motes, Golden, Image, Happens}
 use Rattle.dg_cli.specs.declared.script.Place.TheVariants.{First}
 
 -- the byte, and the bytes up to the last LF behind it
@@ -30,12 +30,13 @@ used input = if is_over input then whole_lines (take 16777216 input) else input
 
 -- the script that an input spells
 unfoldable pub script_of : List ℕ → Script
-script_of input = script_from (not (is_over input)) First 1 (lines (used input))
+script_of input = script_from (not (is_over input)) First [] 1 (lines (used input))
 
 -- how a script ends
 pub data Ending : Type 0 where
   Ends : Ending
   NoBoards : Ending
+  TooManyEvents : Ending
   FaultAt : (line : ℕ) → Ending
   Over : Ending
 
@@ -43,24 +44,40 @@ abbrev pub is_motes : Line → Bool
 is_motes Motes = true
 is_motes Nothing = false
 is_motes (Golden golden) = false
-is_motes (Reset dt word) = false
+is_motes (Image image) = false
+is_motes (Happens event) = false
+
+-- how many events there are among lines
+abbrev pub events_in : List Line → ℕ
+events_in lines = count_by is_event lines
 
 abbrev pub by_fault : Bool → Option ℕ → Ending
 by_fault over (Some line) = FaultAt line
 by_fault true None = Over
 by_fault false None = Ends
 
--- A script needs a board where it says how many motes there are. Else its first fault ends it, and else its length does where its input is too long.
+-- A script needs a board where it says how many motes there are. Else it ends at the event after 1,000,000, else at its first fault, and else its length ends it where its input is too long.
 abbrev pub ending_from : ℕ → Bool → Script → Ending
-ending_from boards over script = if (boards == 0) && list_any is_motes script.lines then NoBoards else by_fault over script.fault
+ending_from boards over script =
+    if (boards == 0) && list_any is_motes script.lines then NoBoards
+    else if nat_lt 1000000 (events_in script.lines) then TooManyEvents
+    else by_fault over script.fault
 
 abbrev pub ending_of : ℕ → List ℕ → Ending
 ending_of boards input = ending_from boards (is_over input) (script_of input)
+
+-- An input is in its grammar and limits, and there is a board for it.
+pub record InLimits (boards : ℕ) (input : List ℕ) : Type 0 where
+  pub bytes : length input ≤ 16777216
+  pub grammar : (script_of input).fault ≡ None
+  pub events : events_in (script_of input).lines ≤ 1000000
+  pub board : 1 ≤ boards
 
 -- the status of an ending
 abbrev pub status_of : Ending → Status
 status_of Ends = Done
 status_of NoBoards = NoBoard
+status_of TooManyEvents = TooMany
 status_of (FaultAt line) = BadInput
 status_of Over = TooLong
 
@@ -68,6 +85,7 @@ status_of Over = TooLong
 abbrev pub ending_line : Ending → List ℕ
 ending_line Ends = []
 ending_line NoBoards = codes "noboard 1 0" ++ 10 ∷ []
+ending_line TooManyEvents = codes "toomany" ++ 10 ∷ []
 ending_line (FaultAt line) = codes "line " ++ decimal line ++ codes " verb" ++ 10 ∷ []
 ending_line Over = codes "toolong" ++ 10 ∷ []
 

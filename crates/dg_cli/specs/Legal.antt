@@ -1,8 +1,8 @@
 -- What the steps of a run may change, told of a small state: the table of images and page counts, without pages or flash.
-use Rattle.std.specs.Prelude.{◌≡◌, ◌≢◌, ◌⊎◌, ℕ, ◌<◌, ◌≤◌, List, [], length, map, slice_index_or, slice_set, Option, Some, None, option_map}
+use Rattle.std.specs.Prelude.{◌≡◌, ◌≢◌, ◌⊎◌, ℕ, ◌<◌, ◌≤◌, List, length, map, slice_index_or, slice_set, Option, Some, None, option_map}
 use Rattle.dg_object.specs.Object.{Row, pages_for}
 use Rattle.dg_control.specs.declared.snapshot.Order.{Order}
-use Rattle.dg_volume.specs.Store.{Store, Held, App}
+use Rattle.dg_volume.specs.Store.{Held, App}
 use Rattle.dg_cli.specs.Table.{row_at, with_row}
 use Rattle.dg_cli.specs.World.{World}
 use Rattle.dg_cli.specs.declared.states.Key.{Key}
@@ -15,7 +15,7 @@ pub record Holding : Type 0 where
   pub version : ℕ
   pub pages : ℕ
 
--- The table, and of the mote: what it keeps of each image from 0 to 3, what program memory is Set to, the kept order, and what runs.
+-- The table, and of the mote: what it keeps of each image from 0 to 3, what program memory is Set to, the kept order, and what runs. Golden, which is image 0, is among the holdings and never changes.
 pub record Small : Type 0 where
   pub table : List Row
   pub holdings : List (Option Holding)
@@ -45,9 +45,12 @@ abbrev pub MayTake : Option Holding → Row → Type 0
 MayTake None row = Unit {0}
 MayTake (Some h) row = (h.version < row.version) ⊎ ((h.version ≡ row.version) × (h.pages ≤ pages_for (length row.bytes)))
 
--- An injection: the table gets the row if it lacks it, and the mote keeps all its pages. Nothing else changes.
-pub record LegalInject (old : Small) (image version : ℕ) (new : Small) : Type 0 where
+-- An injection of an image from 1 to 3: the table gets the row that was declared if it lacks it, and the mote keeps all its pages. Nothing else changes.
+pub record LegalInject (declared : List Row) (old : Small) (image version : ℕ) (new : Small) : Type 0 where
+  pub known : 1 ≤ image
+  pub most : image ≤ 3
   pub row : Row
+  pub is_declared : row_at declared image version ≡ Some row
   pub in_table : row_at new.table image version ≡ Some row
   pub before : MayTake (holds old image) row
   pub after : new ≡ record old { table = with_row old.table row; holdings = slice_set old.holdings image (Some (whole row)) }
@@ -81,12 +84,23 @@ pub record LegalStart (old new : Small) : Type 0 where
   pub memory : (app ≡ Some key) ⊎ ((app ≡ None) × IsGoldenKey key)
   pub after : new ≡ record old { app = app; runs = Some key }
 
-abbrev pub LegalDone : Small → Event → Small → Type 0
-LegalDone old (Reset dt word) new = LegalStart old new
-LegalDone old (Inject image version dt word) new = LegalInject old image version new
-LegalDone old (OrderEvent number image version dt word) new = LegalOrder old (record { number = number; image = image; version = version }) new
+abbrev pub LegalDone : List Row → Small → Event → Small → Type 0
+LegalDone declared old (Reset dt word) new = LegalStart old new
+LegalDone declared old (Inject image version dt word) new = LegalInject declared old image version new
+LegalDone declared old (OrderEvent number image version dt word) new = LegalOrder old (record { number = number; image = image; version = version }) new
 
--- A step is legal where a refused event changes nothing, and one that is not refused only what its kind allows.
-abbrev pub Legal : Option Cause → Small → Event → Small → Type 0
-Legal (Some cause) old event new = new ≡ old
-Legal None old event new = LegalDone old event new
+-- A step behind lines that declared these rows is legal where a refused event changes nothing, and one that is not refused only what its kind allows.
+abbrev pub Legal : List Row → Option Cause → Small → Event → Small → Type 0
+Legal declared (Some cause) old event new = new ≡ old
+Legal declared None old event new = LegalDone declared old event new
+
+-- ---- what legal steps keep
+
+-- this version with as many complete pages or more, or a newer version
+abbrev pub IsKeptIn : Option Holding → Holding → Type 0
+IsKeptIn None h = ⊥
+IsKeptIn (Some k) h = (h.version < k.version) ⊎ ((h.version ≡ k.version) × (h.pages ≤ k.pages))
+
+-- No version falls, and a complete page stays unless a newer version of its image replaces it.
+abbrev pub KeepsVersions : Small → Small → Type 0
+KeepsVersions old new = (i : ℕ) (h : Holding) → holds old i ≡ Some h → IsKeptIn (holds new i) h

@@ -6,7 +6,7 @@ use Rattle.dg_volume.specs.Start.{Start, start_of}
 use Rattle.dg_cli.specs.Script.{declared_row}
 use Rattle.dg_cli.specs.Table.{row_at, IsTable, Agrees, AllWhole}
 use Rattle.dg_cli.specs.World.{World, formatted, declare, cause_of, EventStep}
-use Rattle.dg_cli.specs.Legal.{small, Legal}
+use Rattle.dg_cli.specs.Legal.{small, Legal, KeepsVersions}
 use Rattle.dg_cli.specs.declared.script.Event.{Event}
 use Rattle.dg_cli.specs.declared.script.Event.TheVariants.{Reset, Inject, Order}
 use Rattle.dg_cli.specs.declared.script.Line.{Line}
@@ -14,13 +14,13 @@ use Rattle.dg_cli.specs.declared.script.Line.TheVariants.{Nothing, Motes, Golden
 use Rattle.dg_cli.specs.declared.report.Report.{Report}
 use Rattle.dg_cli.specs.declared.report.Report.TheVariants.{Start as StartLine}
 
--- A line is played: golden formats the boards, which begins the world; an `image` line declares its row; an event is a step. Other lines do nothing.
+-- A line is played: golden formats the boards, which begins the world; an `image` line declares its row, which was not declared before; an event is a step. Other lines do nothing.
 abbrev pub LineStep : Line → Option World → Option World → List Report → Type 0
 LineStep Nothing w v reports = (v ≡ w) × (reports ≡ [])
 LineStep Motes w v reports = (v ≡ w) × (reports ≡ [])
 LineStep (Golden golden) w v reports = (w ≡ None) × (v ≡ Some (formatted golden.name golden.content)) × (reports ≡ [])
 LineStep (Image image) None v reports = ⊥
-LineStep (Image image) (Some w) v reports = (v ≡ Some (declare w (declared_row image))) × (reports ≡ [])
+LineStep (Image image) (Some w) v reports = (v ≡ Some (declare w (declared_row image))) × (reports ≡ []) × (row_at w.declared image.image image.version ≡ None)
 LineStep (Happens event) None v reports = ⊥
 LineStep (Happens event) (Some w) None reports = ⊥
 LineStep (Happens event) (Some w) (Some v) reports = EventStep w event v reports
@@ -40,7 +40,7 @@ Plays w (p ∷ ps) v = (p.before ≡ w) × LineStep p.line p.before p.after p.re
 -- ---- every step is legal
 
 abbrev pub LegalLine : Line → Option World → Option World → Type 0
-LegalLine (Happens event) (Some w) (Some v) = Legal (cause_of w event) (small w) event (small v)
+LegalLine (Happens event) (Some w) (Some v) = Legal w.declared (cause_of w event) (small w) event (small v)
 LegalLine (Happens event) (Some w) None = ⊥
 LegalLine (Happens event) None v = ⊥
 LegalLine Nothing w v = Unit {0}
@@ -50,6 +50,17 @@ LegalLine (Image image) w v = Unit {0}
 
 abbrev pub IsLegal : Played → Type 0
 IsLegal p = LegalLine p.line p.before p.after
+
+-- ---- what is kept stays
+
+-- Across a line no version that is kept falls, and a complete page stays unless a newer version of its image replaces it. Before the boards are formatted nothing is kept.
+abbrev pub KeepsAcross : Option World → Option World → Type 0
+KeepsAcross None v = Unit {0}
+KeepsAcross (Some w) None = Unit {0}
+KeepsAcross (Some w) (Some v) = KeepsVersions (small w) (small v)
+
+abbrev pub KeepsAll : Played → Type 0
+KeepsAll p = KeepsAcross p.before p.after
 
 -- ---- what starts is one row of the table, byte for byte
 

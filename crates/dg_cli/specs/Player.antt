@@ -1,44 +1,50 @@
 -- How the code's state stands for a world, and what playing a line does to it.
-use Rattle.std.specs.Prelude.{◌≡◌, ◌≢◌, ◌⊎◌, ℕ, ◌+◌, ◌<◌, ◌≤◌, true, List, [], length, Option, Some, None, Result, Ok, Err, option_to_list}
+use Rattle.std.specs.Prelude.{◌≡◌, ◌≢◌, ◌⊎◌, ℕ, ◌<◌, ◌≤◌, ◌==◌, Bool, true, false, List, [], length, Option, Some, None, Result, Ok, Err, option_to_list}
+use Rattle.std.specs.List.{AllByRecursion}
 use Rattle.dg_words.specs.Counts.{Rose}
 use Rattle.dg_nor.specs.Device.{Device}
-use Rattle.dg_object.specs.Object.{Row, IsRow, object}
-use Rattle.dg_volume.specs.Store.{Store, App, held, held_whole, Stands}
-use Rattle.dg_volume.specs.Start.{Start, start_of}
+use Rattle.dg_object.specs.Object.{Row, IsRow}
+use Rattle.dg_volume.specs.Store.{Stands}
+use Rattle.dg_volume.specs.declared.kept.Kept.{Kept}
 use Rattle.dg_cli.specs.Script.{UsesBoard}
-use Rattle.dg_cli.specs.World.{World, golden_of_world, start_line, LineStep, GoldenAt}
-use Rattle.dg_cli.specs.Boards.{BoardsStand, BoardStopped}
+use Rattle.dg_cli.specs.Table.{row_at}
+use Rattle.dg_cli.specs.World.{World, by_rules}
+use Rattle.dg_cli.specs.Played.{LineStep, LegalLine, StartsLine, WorldAgrees, AgreesAt}
+use Rattle.dg_cli.specs.Images.{Declares, NothingDeclared}
+use Rattle.dg_cli.specs.Boards.{BoardsStand, StoppedIn}
+use Rattle.dg_cli.specs.declared.images.Images.{Images}
+use Rattle.dg_cli.specs.declared.states.Key.{Key}
 use Rattle.dg_cli.specs.declared.states.Player.{Player}
-use Rattle.dg_cli.specs.declared.states.Running.{Running}
+use Rattle.dg_cli.specs.declared.script.Event.{Event}
 use Rattle.dg_cli.specs.declared.script.Place.TheVariants.{First, Later}
 use Rattle.dg_cli.specs.declared.script.Line.{Line}
-use Rattle.dg_cli.specs.declared.script.Line.TheVariants.{Motes}
+use Rattle.dg_cli.specs.declared.script.Line.TheVariants.{Motes, Happens}
 use Rattle.dg_cli.specs.declared.report.Report.{Report}
 use Rattle.dg_cli.specs.declared.mote.PlayStop.{PlayStop}
-use Rattle.dg_cli.specs.declared.mote.PlayStop.TheVariants.{NoBoard, FlashFault, NotAVolume, NoImage}
+use Rattle.dg_cli.specs.declared.mote.PlayStop.TheVariants.{Memory, NoBoard, FlashFault, TooMany, NotAVolume, NoImage}
 
--- golden in program memory
-abbrev pub golden_app : Row → App
-golden_app row = record { image = 0; version = 1; pages = object row }
+-- a row that an `image` line may declare
+pub record MayBeDeclared (row : Row) : Type 0 where
+  pub is_row : IsRow row
+  pub image : 1 ≤ row.image
 
--- Golden is whole in its slot, and program memory is blank or holds golden.
-pub record KeepsGoldenRow (row : Row) (s : Store) : Type 0 where
-  pub fits : IsRow row
-  pub image : row.image ≡ 0
-  pub version : row.version ≡ 1
-  pub slot : held s 0 ≡ Some (held_whole row)
-  pub app : (s.app ≡ None) ⊎ (s.app ≡ Some (golden_app row))
+-- What a replay keeps true of its world: its store agrees with its table, each row that is declared may be, and each row of the table but golden was declared.
+pub record IsReached (w : World) : Type 0 where
+  pub agrees : WorldAgrees w
+  pub declared : AllByRecursion MayBeDeclared w.declared
+  pub injected : (image version : ℕ) (row : Row) → 1 ≤ image → row_at w.table image version ≡ Some row → row_at w.declared image version ≡ Some row
 
--- the player is where this world is, None before the boards are formatted
-abbrev pub InWorld : Player → Option World → Type 0
-InWorld player None = (player.place ≢ Later) × (player.events ≡ 0) × (player.runs ≡ None)
-InWorld player (Some w) = (player.place ≡ Later) × (player.events ≡ w.events) × (player.runs ≡ w.runs) × KeepsGoldenRow (golden_of_world w) w.store
+-- the player and the images are where this world is, None before the boards are formatted
+abbrev pub InWorld : Player → Images → Option World → Type 0
+InWorld player images None = (player.place ≢ Later) × (player.events ≡ 0) × (player.runs ≡ None) × NothingDeclared images
+InWorld player images (Some w) = (player.place ≡ Later) × (player.events ≡ w.events) × (player.runs ≡ w.runs) × Declares images w.declared × IsReached w
 
--- the player and the boards, which were `initial` when the replay began, stand for this world
-pub record Stood (player : Player) (w : Option World) (initial now : List Device) : Type 0 where
-  pub world : InWorld player w
+-- the player, the images and the boards, which were `initial` when the replay began, stand for this world
+pub record Stood (player : Player) (images : Images) (w : Option World) (initial now : List Device) : Type 0 where
+  pub world : InWorld player images w
   pub boards : BoardsStand w initial now
   pub some : player.place ≢ First → 0 < length initial
+  pub few : player.events ≤ 1000000
 
 -- the device ran on
 pub record RanOn (old new : Device) : Type 0 where
@@ -51,28 +57,35 @@ pub record CameToStop (old new : Device) : Type 0 where
   pub stopped : new.stopped ≡ true
   pub cause : (old.stopped ≡ true) ⊎ Rose old.faults new.faults
 
--- a board whose chip stands for a store was started, by the rules
-pub record ResetTo (s : Store) (image : List ℕ) (runs : Running) (report : Report) : Type 0 where
-  pub start : Start
-  pub chosen : start_of s ≡ Some start
-  pub key : runs ≡ record { image = start.image; version = start.version }
-  pub line : report ≡ start_line start
-  pub stands : Stands image start.after
+-- whether this version is what is told of an image
+abbrev pub tells_version : Option Kept → ℕ → Bool
+tells_version None version = false
+tells_version (Some kept) version = kept.version == version
 
--- the player behind a reset
-pub record RestartTo (old new : Player) (s : Store) (image : List ℕ) (report : Option Report) : Type 0 where
-  pub runs : Running
-  pub told : Report
-  pub some : report ≡ Some told
-  pub player : new ≡ record { place = Later; events = old.events + 1; runs = Some runs }
-  pub reset : ResetTo s image runs told
+-- An event happened to world w, on a board that stood for its store: what the rules give, and the board is there. What the mote runs is told.
+pub record Happened (w : World) (event : Event) (image : List ℕ) (runs : Option Key) (reports : List Report) : Type 0 where
+  pub world : World
+  pub rules : by_rules w event ≡ Some (record { world = world; reports = reports })
+  pub runs_then : runs ≡ world.runs
+  pub stands : Stands image world.store
+
+-- An event was played from world w, on a board that stood for its store: what the rules give, and the player and the board are there.
+pub record EventPlayed (w : World) (event : Event) (new : Player) (image : List ℕ) (reports : List Report) : Type 0 where
+  pub world : World
+  pub rules : by_rules w event ≡ Some (record { world = world; reports = reports })
+  pub place : new.place ≡ Later
+  pub events : new.events ≡ world.events
+  pub runs : new.runs ≡ world.runs
+  pub stands : Stands image world.store
 
 -- a line was played, and told what it reports
-pub record PlayedTo (player : Player) (w : Option World) (line : Line) (reports : List Report) (initial now : List Device) : Type 0 where
+pub record PlayedLine (player : Player) (images : Images) (w : Option World) (line : Line) (reports : List Report) (initial now : List Device) : Type 0 where
   pub world : Option World
   pub step : LineStep line w world reports
-  pub golden : GoldenAt line w reports
-  pub stood : Stood player world initial now
+  pub legal : LegalLine line w world
+  pub starts : StartsLine line w reports
+  pub agrees : AgreesAt world
+  pub stood : Stood player images world initial now
 
 -- the line that says how many motes there are was not played, since there is no board
 pub record LacksBoard (line : Line) (initial old new : List Device) : Type 0 where
@@ -80,10 +93,19 @@ pub record LacksBoard (line : Line) (initial old new : List Device) : Type 0 whe
   pub none : initial ≡ []
   pub same : new ≡ old
 
+-- an event was not played, since there were a million before it
+pub record IsOneTooMany (player : Player) (line : Line) (old new : List Device) : Type 0 where
+  pub event : Event
+  pub happens : line ≡ Happens event
+  pub full : player.events ≡ 1000000
+  pub same : new ≡ old
+
 -- what playing a line answers, from a player and boards that stand for world w
-abbrev pub PlayedAs : Result (Option Report) PlayStop → Player → Option World → Line → (initial old new : List Device) → Type 0
-PlayedAs (Ok report) player w line initial old new = PlayedTo player w line (option_to_list report) initial new
-PlayedAs (Err NoBoard) player w line initial old new = LacksBoard line initial old new
-PlayedAs (Err FlashFault) player w line initial old new = UsesBoard line × BoardStopped initial new
-PlayedAs (Err NotAVolume) player w line initial old new = ⊥
-PlayedAs (Err NoImage) player w line initial old new = ⊥
+abbrev pub PlayedAs : Result (Option Report) PlayStop → (old new : Player) → Images → Option World → Line → (initial before now : List Device) → Type 0
+PlayedAs (Ok report) p q images w line initial before now = PlayedLine q images w line (option_to_list report) initial now
+PlayedAs (Err Memory) p q images w line initial before now = now ≡ before
+PlayedAs (Err NoBoard) p q images w line initial before now = LacksBoard line initial before now
+PlayedAs (Err FlashFault) p q images w line initial before now = UsesBoard line × StoppedIn w initial now
+PlayedAs (Err TooMany) p q images w line initial before now = IsOneTooMany p line before now
+PlayedAs (Err NotAVolume) p q images w line initial before now = ⊥
+PlayedAs (Err NoImage) p q images w line initial before now = ⊥

@@ -1,54 +1,69 @@
 -- What the steps of a replay do, line by line.
-use Rattle.std.specs.Prelude.{◌≡◌, ◌⊎◌, ℕ, Bool, false, List, [], ◌∷◌, ◌++◌, length, map, Option, Some, None, Result, Ok, Err, option_to_list}
+use Rattle.std.specs.Prelude.{◌≡◌, ◌⊎◌, ℕ, ◌<◌, ◌≤◌, Bool, false, List, [], ◌∷◌, ◌++◌, length, map, Option, Some, None, Result, Ok, Err, option_to_list}
 use Rattle.std.specs.List.{AllByRecursion, list_any}
 use Rattle.dg_base.specs.Outside.{Puts, PutsFront}
 use Rattle.dg_nor.specs.Device.{Device}
-use Rattle.dg_cli.specs.Script.{Script, script_from, line_of, place_after, UsesBoard}
+use Rattle.dg_object.specs.Object.{Row}
+use Rattle.dg_cli.specs.Script.{Script, script_from, spelled, place_after, keys_after, UsesBoard}
 use Rattle.dg_volume.specs.Mounted.{kept_at}
 use Rattle.dg_volume.specs.declared.volume.Volume.{Volume}
 use Rattle.dg_volume.specs.declared.kept.Kept.{Kept}
 use Rattle.dg_cli.specs.Report.{report_line, report_text}
 use Rattle.dg_base.specs.declared.answers.Status.{Status}
 use Rattle.dg_base.specs.declared.answers.Status.TheVariants as status
-use Rattle.dg_cli.specs.World.{World, Played, Plays, RunsGolden, mote_line, last_lines}
-use Rattle.dg_cli.specs.Boards.{BoardsStand, BoardStopped}
-use Rattle.dg_cli.specs.Player.{Stood, PlayedTo}
-use Rattle.dg_cli.specs.Ending.{Ending, NoBoards, FaultAt, is_motes, ending_line}
-use Rattle.dg_cli.specs.Outcome.{AllPlayed, closing, Wrote, Boards, IsCaused, IsFront, line_played, played_text}
+use Rattle.dg_cli.specs.World.{World, mote_line, last_lines}
+use Rattle.dg_cli.specs.Played.{Played, Plays, IsLegal, RunsRow, LeavesAgreement}
+use Rattle.dg_cli.specs.Boards.{BoardsStand, BoardStopped, StoppedIn}
+use Rattle.dg_cli.specs.Player.{Stood, PlayedLine}
+use Rattle.dg_cli.specs.Ending.{Ending, NoBoards, TooManyEvents, FaultAt, is_motes, events_in, ending_line}
+use Rattle.dg_cli.specs.Outcome.{CameTo, AtTooMany, closing, Wrote, Boards, IsCaused, IsFront, line_played, played_text}
+use Rattle.dg_cli.specs.declared.images.Images.{Images}
+use Rattle.dg_cli.specs.declared.states.Key.{Key}
 use Rattle.dg_cli.specs.declared.states.Player.{Player}
+use Rattle.dg_cli.specs.declared.script.Event.{Event}
 use Rattle.dg_cli.specs.declared.script.Place.{Place}
 use Rattle.dg_cli.specs.declared.script.Line.{Line}
-use Rattle.dg_cli.specs.declared.script.Line.TheVariants.{Motes}
+use Rattle.dg_cli.specs.declared.script.Line.TheVariants.{Motes, Happens}
 use Rattle.dg_cli.specs.declared.report.Report.{Report}
 use Rattle.dg_cli.specs.declared.report.Report.TheVariants.{End, Kept as KeptLine}
 use Rattle.dg_cli.specs.declared.mote.PlayStop.{PlayStop}
 use Rattle.dg_cli.specs.declared.mote.PlayStop.TheVariants as play
 use Rattle.dg_cli.specs.declared.stop.Stop.{Stop}
-use Rattle.dg_cli.specs.declared.stop.Stop.TheVariants.{Memory, BadInput, WriteFault, FlashFault, NotAVolume, NoBoard, NoImage}
+use Rattle.dg_cli.specs.declared.stop.Stop.TheVariants.{Memory, BadInput, WriteFault, FlashFault, TooMany, NotAVolume, NoBoard, NoImage}
 
 -- a line that is not played ends the replay
 abbrev pub stop_of : PlayStop → Stop
+stop_of play.Memory = Memory
 stop_of play.NoBoard = NoBoard
+stop_of play.TooMany = TooMany
 stop_of play.FlashFault = FlashFault
 stop_of play.NotAVolume = NotAVolume
 stop_of play.NoImage = NoImage
 
+-- the keys of the rows that a world declared, the last one first
+abbrev pub row_key : Row → Key
+row_key row = record { image = row.image; version = row.version }
+
+abbrev pub keys_of : Option World → List Key
+keys_of None = []
+keys_of (Some w) = map row_key w.declared
+
 -- The line that a text spells was played, from a player and boards that stand for world w.
-pub record TextPlayed (text : List ℕ) (place : Place) (q : Player) (w : Option World) (initial now : List Device) : Type 0 where
+pub record TextPlayed (text : List ℕ) (place : Place) (q : Player) (images : Images) (w : Option World) (initial now : List Device) : Type 0 where
   pub line : Line
-  pub spelled : line_of place text ≡ Some line
+  pub spelled : spelled place (keys_of w) text ≡ Some line
   pub reports : List Report
-  pub to : PlayedTo q w line reports initial now
+  pub to : PlayedLine q images w line reports initial now
   pub behind : q.place ≡ place_after place line
 
 -- and what it reports was written
-pub record TextTold (text : List ℕ) (place : Place) (q : Player) (w : Option World) (initial now : List Device) (before after : Option (List ℕ)) : Type 0 where
-  pub played : TextPlayed text place q w initial now
+pub record TextTold (text : List ℕ) (place : Place) (q : Player) (images : Images) (w : Option World) (initial now : List Device) (before after : Option (List ℕ)) : Type 0 where
+  pub played : TextPlayed text place q images w initial now
   pub told : Puts before after (report_text played.reports)
 
 -- or a front of it
-pub record TextCut (text : List ℕ) (place : Place) (q : Player) (w : Option World) (initial now : List Device) (before after : Option (List ℕ)) : Type 0 where
-  pub played : TextPlayed text place q w initial now
+pub record TextCut (text : List ℕ) (place : Place) (q : Player) (images : Images) (w : Option World) (initial now : List Device) (before after : Option (List ℕ)) : Type 0 where
+  pub played : TextPlayed text place q images w initial now
   pub told : PutsFront before after (report_text played.reports)
 
 -- nothing was done
@@ -56,27 +71,37 @@ pub record NothingDone (old new : List Device) (before after : Option (List ℕ)
   pub boards : new ≡ old
   pub told : after ≡ before
 
--- what playing a text answers
-abbrev pub TextAnswer : Result (Unit {0}) Stop → (text : List ℕ) → Place → ℕ → Player → Option World → (initial old new : List Device) → (before after : Option (List ℕ)) → (write_failed : Type 0) → Type 0
-TextAnswer (Ok u) text place number q w initial old new before after failed = TextTold text place q w initial new before after
-TextAnswer (Err Memory) text place number q w initial old new before after failed = NothingDone old new before after ⊎ TextCut text place q w initial new before after
-TextAnswer (Err (BadInput line)) text place number q w initial old new before after failed = (line ≡ number) × (line_of place text ≡ None) × NothingDone old new before after
-TextAnswer (Err WriteFault) text place number q w initial old new before after failed = failed × TextCut text place q w initial new before after
-TextAnswer (Err FlashFault) text place number q w initial old new before after failed = (line : Line) × (line_of place text ≡ Some line) × UsesBoard line × BoardStopped initial new × (after ≡ before)
-TextAnswer (Err NotAVolume) text place number q w initial old new before after failed = ⊥
-TextAnswer (Err NoBoard) text place number q w initial old new before after failed = (line_of place text ≡ Some Motes) × (initial ≡ []) × NothingDone old new before after
-TextAnswer (Err NoImage) text place number q w initial old new before after failed = ⊥
+-- the text spells an event, and a million were played before it
+pub record TextTooMany (text : List ℕ) (p : Player) (w : Option World) : Type 0 where
+  pub event : Event
+  pub spelled : spelled p.place (keys_of w) text ≡ Some (Happens event)
+  pub full : p.events ≡ 1000000
+
+-- what playing a text answers, from player p and world w
+abbrev pub TextAnswer : Result (Unit {0}) Stop → (text : List ℕ) → ℕ → (p q : Player) → Images → Option World → (initial old new : List Device) → (before after : Option (List ℕ)) → (write_failed : Type 0) → Type 0
+TextAnswer (Ok u) text number p q images w initial old new before after failed = TextTold text p.place q images w initial new before after
+TextAnswer (Err Memory) text number p q images w initial old new before after failed = NothingDone old new before after ⊎ TextCut text p.place q images w initial new before after
+TextAnswer (Err (BadInput line)) text number p q images w initial old new before after failed = (line ≡ number) × (spelled p.place (keys_of w) text ≡ None) × NothingDone old new before after
+TextAnswer (Err WriteFault) text number p q images w initial old new before after failed = failed × TextCut text p.place q images w initial new before after
+TextAnswer (Err FlashFault) text number p q images w initial old new before after failed = (line : Line) × (spelled p.place (keys_of w) text ≡ Some line) × UsesBoard line × StoppedIn w initial new × (after ≡ before)
+TextAnswer (Err TooMany) text number p q images w initial old new before after failed = TextTooMany text p w × NothingDone old new before after
+TextAnswer (Err NotAVolume) text number p q images w initial old new before after failed = ⊥
+TextAnswer (Err NoBoard) text number p q images w initial old new before after failed = (spelled p.place (keys_of w) text ≡ Some Motes) × (initial ≡ []) × NothingDone old new before after
+TextAnswer (Err NoImage) text number p q images w initial old new before after failed = ⊥
 
 -- These texts are left of a script, and what comes before them was played.
-pub record Reached (ends : Bool) (script : Script) (texts : List (List ℕ)) (number : ℕ) (player : Player) (initial now : List Device) (before after : Option (List ℕ)) : Type 0 where
+pub record Reached (ends : Bool) (script : Script) (texts : List (List ℕ)) (number : ℕ) (player : Player) (images : Images) (initial now : List Device) (before after : Option (List ℕ)) : Type 0 where
   pub played : List Played
   pub last : Option World
   pub run : Plays None played last
-  pub golden : AllByRecursion RunsGolden played
-  pub lines : map line_played played ++ (script_from ends player.place number texts).lines ≡ script.lines
-  pub fault : (script_from ends player.place number texts).fault ≡ script.fault
+  pub legal : AllByRecursion IsLegal played
+  pub starts : AllByRecursion RunsRow played
+  pub agrees : AllByRecursion LeavesAgreement played
+  pub lines : map line_played played ++ (script_from ends player.place (keys_of last) number texts).lines ≡ script.lines
+  pub fault : (script_from ends player.place (keys_of last) number texts).fault ≡ script.fault
   pub told : Puts before after (played_text played)
-  pub stood : Stood player last initial now
+  pub stood : Stood player images last initial now
+  pub events : player.events ≡ events_in (map line_played played)
   -- where there is no board, no line that needs one was played
   pub boardless : length initial ≡ 0 → list_any is_motes (map line_played played) ≡ false
 
@@ -93,23 +118,29 @@ pub record PlayedFront (script : Script) (initial now : List Device) (before aft
   pub boards : BoardsStand last initial now
 
 -- A front of the script was played and reported, and then a line P came.
-pub record PlayedUpTo (script : Script) (before after : Option (List ℕ)) (P : List Line → Option World → Type 0) : Type 0 where
+pub record PlayedUpTo (script : Script) (before after : Option (List ℕ)) (P : List Played → List Line → Option World → Type 0) : Type 0 where
   pub played : List Played
   pub rest : List Line
   pub last : Option World
   pub front : IsFront script played rest last
   pub told : Puts before after (played_text played)
-  pub there : P rest last
+  pub there : P played rest last
+
+-- a script that was played to its first fault, or to its end
+pub record HasFew (script : Script) (initial : List Device) : Type 0 where
+  pub events : events_in script.lines ≤ 1000000
+  pub boardless : length initial ≡ 0 → list_any is_motes script.lines ≡ false
 
 -- what playing all texts of a script answers
 abbrev pub LinesAnswer : Result (Player × ℕ) Stop → Bool → Script → (initial now : List Device) → (before after : Option (List ℕ)) → (write_failed : Type 0) → Type 0
-LinesAnswer (Ok reached) ends script initial now before after failed = Reached ends script [] reached.1 reached.0 initial now before after
+LinesAnswer (Ok reached) ends script initial now before after failed = (images : Images) × Reached ends script [] reached.1 reached.0 images initial now before after
 LinesAnswer (Err Memory) ends script initial now before after failed = PlayedFront script initial now before after
-LinesAnswer (Err (BadInput line)) ends script initial now before after failed = PlayedUpTo script before after (λ rest last. (rest ≡ []) × (script.fault ≡ Some line) × BoardsStand last initial now × (length initial ≡ 0 → list_any is_motes script.lines ≡ false))
+LinesAnswer (Err (BadInput line)) ends script initial now before after failed = PlayedUpTo script before after (λ played rest last. (rest ≡ []) × (script.fault ≡ Some line) × BoardsStand last initial now × HasFew script initial)
 LinesAnswer (Err WriteFault) ends script initial now before after failed = failed × PlayedFront script initial now before after
-LinesAnswer (Err FlashFault) ends script initial now before after failed = PlayedUpTo script before after (λ rest last. ((line : Line) × (more : List Line) × (rest ≡ line ∷ more) × UsesBoard line) × BoardStopped initial now)
+LinesAnswer (Err FlashFault) ends script initial now before after failed = PlayedUpTo script before after (λ played rest last. ((line : Line) × (more : List Line) × (rest ≡ line ∷ more) × UsesBoard line) × StoppedIn last initial now)
+LinesAnswer (Err TooMany) ends script initial now before after failed = PlayedUpTo script before after (λ played rest last. AtTooMany played rest × BoardsStand last initial now × (0 < length initial))
 LinesAnswer (Err NotAVolume) ends script initial now before after failed = ⊥
-LinesAnswer (Err NoBoard) ends script initial now before after failed = PlayedUpTo script before after (λ rest last. (initial ≡ []) × ((more : List Line) × (rest ≡ Motes ∷ more)) × BoardsStand last initial now)
+LinesAnswer (Err NoBoard) ends script initial now before after failed = PlayedUpTo script before after (λ played rest last. (initial ≡ []) × ((more : List Line) × (rest ≡ Motes ∷ more)) × BoardsStand last initial now)
 LinesAnswer (Err NoImage) ends script initial now before after failed = ⊥
 
 -- the line on an image, by what a volume tells of it
@@ -132,7 +163,7 @@ pub record ReadyToEnd (script : Script) (ending : Ending) (piece : List ℕ) (in
   pub front : IsFront script played rest last
   pub told : Puts before after (played_text played)
   pub boards : BoardsStand last initial now
-  pub all : AllPlayed ending rest
+  pub all : CameTo ending played rest
   pub line : closing ending last ≡ piece
 
 -- how writing the end of a report ends
@@ -148,6 +179,7 @@ StopEnds Memory result before after failed = (result ≡ status.Memory) × (afte
 StopEnds (BadInput line) result before after failed = EndsWith result status.BadInput (ending_line (FaultAt line)) before after failed
 StopEnds WriteFault result before after failed = (result ≡ status.WriteFault) × (after ≡ before)
 StopEnds FlashFault result before after failed = (result ≡ status.FlashFault) × (after ≡ before)
+StopEnds TooMany result before after failed = EndsWith result status.TooMany (ending_line TooManyEvents) before after failed
 StopEnds NotAVolume result before after failed = Unit {0}
 StopEnds NoBoard result before after failed = EndsWith result status.NoBoard (ending_line NoBoards) before after failed
 StopEnds NoImage result before after failed = Unit {0}
@@ -156,7 +188,7 @@ StopEnds NoImage result before after failed = Unit {0}
 abbrev pub FinishesWith : Status → World → (initial now : List Device) → (before after : Option (List ℕ)) → (write_failed : Type 0) → Type 0
 FinishesWith result w initial now before after failed =
     (EndsWith result status.Done (report_text (last_lines w)) before after failed × BoardsStand (Some w) initial now)
-    ⊎ ((result ≡ status.FlashFault) × BoardStopped initial now × (after ≡ before))
+    ⊎ ((result ≡ status.FlashFault) × StoppedIn (Some w) initial now × (after ≡ before))
 
 -- A script was replayed, as its ending and the status say.
 pub record ScriptReplayed (status : Status) (script : Script) (ending : Ending) (initial now : List Device) (before after : Option (List ℕ)) (write_failed : Type 0) : Type 0 where

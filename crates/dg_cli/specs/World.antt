@@ -1,5 +1,5 @@
 -- A world of one mote, and what its events do by the rules.
-use Rattle.std.specs.Prelude.{◌≡◌, ℕ, ◌+◌, ◌==◌, ◌&&◌, Bool, if◌then◌else◌, List, [], ◌∷◌, ◌++◌, length, Option, Some, None}
+use Rattle.std.specs.Prelude.{◌≡◌, ◌⊎◌, ℕ, ◌+◌, ◌==◌, nat_le, ◌&&◌, Bool, false, if◌then◌else◌, List, [], ◌∷◌, ◌++◌, length, Option, Some, None}
 use Rattle.std.specs.List.{filter_map}
 use Rattle.dg_object.specs.Object.{Row}
 use Rattle.dg_control.specs.declared.snapshot.Order.{Order}
@@ -49,6 +49,7 @@ abbrev pub same_held : Option Held → Held → Bool
 same_held None new = false
 same_held (Some old) new = (old.version == new.version) && (length old.complete == length new.complete)
 
+-- What changed of an image that is kept. No line tells that an image is lost, since none ever is at this stage.
 abbrev pub have_change : ℕ → Option Held → Option Held → Option Report
 have_change i old None = None
 have_change i old (Some new) = if same_held old new then None else Some (Have 0 i new.version (length new.complete))
@@ -72,11 +73,12 @@ pub record Outcome : Type 0 where
 abbrev pub refused : World → ℕ → Cause → Outcome
 refused w dt cause = record { world = counted w dt; reports = Refused 0 cause ∷ [] }
 
--- Why an injection is refused: its image is not declared, or a larger version is kept.
+-- this larger version is kept
 abbrev pub stale_cause : Option ℕ → Option Cause
 stale_cause None = None
 stale_cause (Some kept) = Some (Stale kept)
 
+-- Why an injection is refused: its image is not declared, or a larger version is kept.
 abbrev pub inject_cause : World → Option Row → Option Cause
 inject_cause w None = Some Image
 inject_cause w (Some row) = stale_cause (newer w.store row.image row.version)

@@ -1,8 +1,8 @@
 //! The top call.
-ghost use Rattle.std.specs.Prelude.{◌≡◌, ◌⊎◌, ◌≤◌, ℕ, List, Some, map, length, string_bytes};
+ghost use Rattle.std.specs.Prelude.{◌≡◌, ◌≢◌, ◌⊎◌, ◌≤◌, ℕ, List, Some, map, length, string_bytes};
 ghost use Rattle.std.specs.Bool.{OnTrue, OnFalse};
 ghost use Rattle.dg_words.specs.Counts.{Rose};
-ghost use Rattle.dg_cli.specs.Ending.{Ends, ending_of};
+ghost use Rattle.dg_cli.specs.Ending.{InLimits};
 ghost use Rattle.dg_cli.specs.Outcome.{Replayed, IsReplay, Unknown};
 ghost use Rattle.dg_cli.specs.Boards.{BoardStopped};
 
@@ -61,8 +61,8 @@ fn is_replay(words: &[String]) -> bool
 /// Does all that the program does with the words after its name, and answers how it ended.
 ///
 /// The one command is the word `replay`: it replays the script that `input` spells over the first board, and writes the
-/// report to `out`, a line of the script at a time. All other words are [`Status::Usage`]. A status other than Ok writes its
-/// line last, where it has one.
+/// report to `out`. All other words are [`Status::Usage`]. A status other than [`Status::Done`] writes its line last,
+/// where it has one.
 pub fn run<S: Source, K: Sink, N: Nor>(
     alloc: Global,
     words: &Vec<String>,
@@ -70,17 +70,22 @@ pub fn run<S: Source, K: Sink, N: Nor>(
     out: &mut K,
     boards: &mut Vec<N>,
 ) -> Status
-    // The report is true, what starts is golden, and each status comes where the rules say.
+    // The report is true, each step is legal, what is kept stays, what starts is one row of the table of images byte for byte, and each status comes where the rules say.
     ensures replayed { IsReplay (map string_bytes words.now.items) → Replayed result (S.left input.old) (S.left input.new) (K.written out.old) (K.written out.new)
         (Rose (S.faults input.old) (S.faults input.new)) (Rose (K.faults out.old) (K.faults out.new)) (map N.device boards.old.items) (map N.device boards.new.items) }
     ensures usage { (IsReplay (map string_bytes words.now.items) → ⊥) → Unknown result (S.left input.old) (S.left input.new) (K.written out.old) (K.written out.new)
         (Rose (K.faults out.old) (K.faults out.new)) (map N.device boards.old.items) (map N.device boards.new.items) }
+    ensures untouched { (IsReplay (map string_bytes words.now.items) → ⊥) → input.new ≡ input.old }
 
     // A script in its grammar and limits, with a board, is replayed to its end, unless memory runs out or the outside fails.
-    ensures complete { (bytes : List ℕ) → IsReplay (map string_bytes words.now.items) → S.left input.old ≡ Some bytes → ending_of (length boards.old.items) bytes ≡ Ends
+    ensures complete { (bytes : List ℕ) → IsReplay (map string_bytes words.now.items) → S.left input.old ≡ Some bytes → InLimits (length boards.old.items) bytes
         → (Rose (S.faults input.old) (S.faults input.new) → ⊥) → (Rose (K.faults out.old) (K.faults out.new) → ⊥)
         → (BoardStopped (map N.device boards.old.items) (map N.device boards.new.items) → ⊥)
         → (result ≡ Status.Done) ⊎ (result ≡ Status.Memory) }
+
+    // A replay formats its board itself, so that it is a volume; no rule of `replay` refuses anything but its script; there
+    // is one mote, and no link; and golden starts where nothing else does.
+    ensures never { (result ≢ Status.NotAVolume) × (result ≢ Status.Refused) × (result ≢ Status.LinkFault) × (result ≢ Status.NoImage) }
 
     ensures reads { S.faults input.old ≤ S.faults input.new }
     ensures writes { K.faults out.old ≤ K.faults out.new }

@@ -5,6 +5,7 @@ ghost use Rattle.dg_nor.specs.Device.{Device};
 ghost use Rattle.dg_cli.specs.Script.{Script};
 ghost use Rattle.dg_cli.specs.Ending.{ending_from, ending_of, script_of, is_over, used, whole_lines};
 ghost use Rattle.dg_cli.specs.Replaying.{StopEnds, Reached, ScriptReplayed};
+ghost use Rattle.dg_cli.specs.declared.images.Images.{Images};
 
 use crate::finish::{end_at_line, end_with, finish};
 use crate::input::USED;
@@ -26,6 +27,7 @@ fn end_at_stop<K: Sink>(alloc: Global, out: &mut K, stop: Stop) -> Status
         Stop::BadInput { line } => end_at_line(alloc, out, line),
         Stop::WriteFault => Status::WriteFault,
         Stop::FlashFault => Status::FlashFault,
+        Stop::TooMany => end_with(out, b"toomany\n", Status::TooMany),
         Stop::NotAVolume => Status::NotAVolume,
         Stop::NoBoard => end_with(out, b"noboard 1 0\n", Status::NoBoard),
         Stop::NoImage => Status::NoImage,
@@ -74,8 +76,8 @@ fn end_script<K: Sink, N: Nor>(
     boards: &mut [N],
     out: &mut K,
 ) -> Status
-    ensures ends { (script : Script) (initial : List Device) (before : Option (List ℕ)) (faults : ℕ) → faults ≤ K.faults out.old
-        → Reached (not over) script [] number player.now initial (map N.device boards.old) before (K.written out.old)
+    ensures ends { (script : Script) (images : Images) (initial : List Device) (before : Option (List ℕ)) (faults : ℕ) → faults ≤ K.faults out.old
+        → Reached (not over) script [] number player.now images initial (map N.device boards.old) before (K.written out.old)
         → ScriptReplayed result script (ending_from (length initial) over script) initial (map N.device boards.new) before (K.written out.new) (Rose faults (K.faults out.new)) }
     ensures counts { K.faults out.old ≤ K.faults out.new }
 {

@@ -9,10 +9,11 @@ ghost use Rattle.dg_cli.specs.World.{World, mote_line};
 ghost use Rattle.dg_cli.specs.Player.{Stood};
 ghost use Rattle.dg_cli.specs.Ending.{ending_line, FaultAt, NoBoards};
 ghost use Rattle.dg_cli.specs.Replaying.{kept_told, last_told, EndsWith, FinishesWith};
+ghost use Rattle.dg_cli.specs.declared.images.Images.{Images};
 ghost use Rattle.dg_cli.specs.declared.report.Report.TheVariants.{End};
 
 use crate::report::{Report, push_report};
-use crate::states::{Player, Running};
+use crate::states::{Key, Player};
 use dg_base::{Sink, Status, WriteFailed, push_u32};
 use dg_nor::Nor;
 use dg_volume::{MountFault, Volume};
@@ -71,15 +72,15 @@ fn push_kept(piece: &mut Vec<u8>, volume: &Volume, image: u8) -> Result<(), Allo
 }
 
 /// What the mote runs.
-fn mote_report(runs: Option<Running>) -> Report
+fn mote_report(runs: Option<Key>) -> Report
     ensures { result ≡ mote_line runs }
 {
     match runs {
         None => Report::MoteOff { mote: 0 },
-        Some(running) => Report::MoteOn {
+        Some(key) => Report::MoteOn {
             mote: 0,
-            image: running.image,
-            version: running.version,
+            image: key.image,
+            version: key.version,
         },
     }
 }
@@ -107,7 +108,7 @@ pub fn finish<K: Sink, N: Nor>(
     boards: &mut [N],
     out: &mut K,
 ) -> Status
-    ensures finishes { (w : World) (initial : List Device) → Stood player.now (Some w) initial (map N.device boards.old)
+    ensures finishes { (w : World) (images : Images) (initial : List Device) → Stood player.now images (Some w) initial (map N.device boards.old)
         → FinishesWith result w initial (map N.device boards.new) (K.written out.old) (K.written out.new) (Rose (K.faults out.old) (K.faults out.new)) }
     ensures counts { K.faults out.old ≤ K.faults out.new }
 {

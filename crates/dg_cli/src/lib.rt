@@ -6,7 +6,9 @@
 mod command;
 mod ends;
 mod finish;
+mod images;
 mod input;
+mod laws;
 mod mote;
 mod replay;
 mod report;
@@ -16,6 +18,7 @@ mod stop;
 mod words;
 
 pub use command::run;
+pub use laws::{legal_steps_keep_versions, steps_are_legal};
 
 #[cfg(test)]
 mod tests;

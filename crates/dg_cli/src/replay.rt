@@ -1,20 +1,22 @@
 //! Replays a script over a board.
-ghost use Rattle.std.specs.Prelude.{◌≡◌, ◌⊎◌, ◌^◌, ◌<◌, ◌≤◌, ◌+◌, ◌-◌, ◌*◌, ℕ, Bool, List, [], Option, None, Some, map, length, IfOk, OnOk, OnErr, Err, IsErrOf, option_to_list};
+ghost use Rattle.std.specs.Prelude.{◌≡◌, ◌⊎◌, ◌^◌, ◌<◌, ◌≤◌, ◌+◌, ◌-◌, ◌*◌, ℕ, Bool, List, [], Option, None, Some, map, length, IfOk, OnOk, OnErr, Err, IsErrOf, IsTrue, option_to_list};
 ghost use Rattle.std.specs.Str.Lines.{lines};
 ghost use Rattle.dg_words.specs.Counts.{Rose};
 ghost use Rattle.dg_base.specs.Outside.{Puts, PutsFront};
 ghost use Rattle.dg_nor.specs.Device.{Device};
-ghost use Rattle.dg_cli.specs.Script.{script_from, line_of, FitsLine};
+ghost use Rattle.dg_cli.specs.Script.{script_from, spelled, is_new, AllowedAt, FitsLine};
+ghost use Rattle.dg_cli.specs.Images.{IsNewIn};
 ghost use Rattle.dg_cli.specs.Report.{report_text};
 ghost use Rattle.dg_cli.specs.World.{World};
-ghost use Rattle.dg_cli.specs.Player.{Stood};
-ghost use Rattle.dg_cli.specs.Replaying.{stop_of, TextAnswer, LinesAnswer};
+ghost use Rattle.dg_cli.specs.Player.{Stood, InWorld};
+ghost use Rattle.dg_cli.specs.Replaying.{stop_of, keys_of, TextAnswer, LinesAnswer};
 ghost use Rattle.dg_cli.specs.declared.script.Place.TheVariants.{First};
 
-use crate::mote::{PlayStop, play_line};
+use crate::images::Images;
+use crate::mote::{MOST_EVENTS, PlayStop, play_line};
 use crate::report::{Report, push_report};
 use crate::script::{Line, LineFault, Place, read_line};
-use crate::states::Player;
+use crate::states::{Key, Player};
 use crate::stop::Stop;
 use dg_base::{Sink, WriteFailed, next_line};
 use dg_nor::Nor;
@@ -56,7 +58,9 @@ fn stop_of(stop: PlayStop) -> Stop
     ensures { result ≡ stop_of stop }
 {
     match stop {
+        PlayStop::Memory => Stop::Memory,
         PlayStop::NoBoard => Stop::NoBoard,
+        PlayStop::TooMany => Stop::TooMany,
         PlayStop::FlashFault => Stop::FlashFault,
         PlayStop::NotAVolume => Stop::NotAVolume,
         PlayStop::NoImage => Stop::NoImage,
@@ -65,24 +69,40 @@ fn stop_of(stop: PlayStop) -> Stop
 
 /// Plays a line that was read, and writes what it reports.
 fn play_read<K: Sink, N: Nor>(
-    line: &Line,
+    line: Line,
     player: &mut Player,
+    images: &mut Images,
     boards: &mut [N],
     out: &mut K,
     piece: &mut Vec<u8>,
 ) -> Result<(), Stop>
-    requires fits { FitsLine line.now }
-    requires events { player.old.events < 2 ^ 32 - 1 }
-    ensures played { (w : Option World) (initial : List Device) (text : List ℕ) (number : ℕ) → line_of player.old.place text ≡ Some line.now
-        → Stood player.old w initial (map N.device boards.old)
-        → TextAnswer result text player.old.place number player.new w initial (map N.device boards.old) (map N.device boards.new)
+    requires fits { FitsLine line }
+    requires new_key { IsNewIn images.old line }
+    requires few { player.old.events ≤ MOST_EVENTS }
+    ensures played { (w : Option World) (initial : List Device) (text : List ℕ) (number : ℕ) → spelled player.old.place (keys_of w) text ≡ Some line
+        → AllowedAt player.old.place line → Stood player.old images.old w initial (map N.device boards.old)
+        → TextAnswer result text number player.old player.new images.new w initial (map N.device boards.old) (map N.device boards.new)
         (K.written out.old) (K.written out.new) (Rose (K.faults out.old) (K.faults out.new)) }
-    ensures events { player.new.events ≤ player.old.events + 1 }
+    ensures few { player.new.events ≤ MOST_EVENTS }
     ensures counts { K.faults out.old ≤ K.faults out.new }
 {
-    match play_line(player, line, boards) {
+    match play_line(player, images, line, boards) {
         Ok(report) => tell(out, piece, report),
         Err(stop) => Err(stop_of(stop)),
+    }
+}
+
+/// Whether a line declares no key that is declared already.
+fn is_new(images: &Images, line: &Line) -> bool
+    ensures new_key { IsTrue result → IsNewIn images.now line.now }
+    ensures by_keys { (player : Player) (w : Option World) → InWorld player images.now w → result ≡ is_new (keys_of w) line.now }
+{
+    match line {
+        Line::Image(image) => !images.has(Key {
+            image: image.image,
+            version: image.version,
+        }),
+        _ => true,
     }
 }
 
@@ -92,19 +112,25 @@ fn play_text<K: Sink, N: Nor>(
     text: &[u8],
     number: u32,
     player: &mut Player,
+    images: &mut Images,
     boards: &mut [N],
     out: &mut K,
     piece: &mut Vec<u8>,
 ) -> Result<(), Stop>
-    requires events { player.old.events < 2 ^ 32 - 1 }
-    ensures played { (w : Option World) (initial : List Device) → Stood player.old w initial (map N.device boards.old)
-        → TextAnswer result text.now player.old.place number player.new w initial (map N.device boards.old) (map N.device boards.new)
+    requires few { player.old.events ≤ MOST_EVENTS }
+    ensures played { (w : Option World) (initial : List Device) → Stood player.old images.old w initial (map N.device boards.old)
+        → TextAnswer result text.now number player.old player.new images.new w initial (map N.device boards.old) (map N.device boards.new)
         (K.written out.old) (K.written out.new) (Rose (K.faults out.old) (K.faults out.new)) }
-    ensures events { player.new.events ≤ player.old.events + 1 }
+    ensures few { player.new.events ≤ MOST_EVENTS }
     ensures counts { K.faults out.old ≤ K.faults out.new }
 {
     match read_line(alloc, text, player.place) {
-        Ok(line) => play_read(&line, player, boards, out, piece),
+        Ok(line) => {
+            if !is_new(images, &line) {
+                return Err(Stop::BadInput { line: number });
+            }
+            play_read(line, player, images, boards, out, piece)
+        }
         Err(LineFault::Memory) => Err(Stop::Memory),
         Err(LineFault::Verb) => Err(Stop::BadInput { line: number }),
     }
@@ -119,9 +145,8 @@ pub fn play_lines<K: Sink, N: Nor>(
     out: &mut K,
 ) -> Result<(Player, u32), Stop>
     requires { length text.now ≤ 16777217 }
-    ensures answer { (ends : Bool) → LinesAnswer result ends (script_from ends First 1 (lines text.now)) (map N.device boards.old) (map N.device boards.new)
+    ensures answer { (ends : Bool) → LinesAnswer result ends (script_from ends First [] 1 (lines text.now)) (map N.device boards.old) (map N.device boards.new)
         (K.written out.old) (K.written out.new) (Rose (K.faults out.old) (K.faults out.new)) }
-    ensures events { IfOk result (λ r. r.0.events ≤ length text.now) }
     ensures counts { K.faults out.old ≤ K.faults out.new }
 {
     let mut player = Player {
@@ -129,6 +154,7 @@ pub fn play_lines<K: Sink, N: Nor>(
         events: 0,
         runs: None,
     };
+    let mut images = Images::new(alloc);
     let mut piece = Vec::new(alloc);
     let mut number = 1;
     let mut from = 0;
@@ -139,6 +165,7 @@ pub fn play_lines<K: Sink, N: Nor>(
             &text[from..end],
             number,
             &mut player,
+            &mut images,
             boards,
             out,
             &mut piece,

@@ -1,13 +1,38 @@
 //! The lines of a report.
-ghost use Rattle.std.specs.Prelude.{◌≡◌, ◌++◌, OnOk, OnErr};
-ghost use Rattle.dg_cli.specs.Report.{numbers, said_of, report_line};
+ghost use Rattle.std.specs.Prelude.{◌≡◌, ◌++◌, OnOk};
+ghost use Rattle.dg_cli.specs.Report.{numbers, cause_text, said_of, report_line};
 
 use dg_base::{push_hex, push_u32};
 use std::alloc::AllocError;
 
+/// Why an event was refused.
+#[derive(Clone, Copy, Debug, PartialEq, Eq)]
+pub enum Cause {
+    /// The image is not declared.
+    Image,
+    /// A larger version is kept.
+    Stale { version: u32 },
+    /// The number of the kept order is not smaller.
+    OldOrder { number: u32 },
+}
+
 /// A line of a report.
 #[derive(Clone, Copy, Debug, PartialEq, Eq)]
 pub enum Report {
+    /// The order that a mote keeps has changed.
+    Order {
+        mote: u8,
+        number: u32,
+        image: u8,
+        version: u32,
+    },
+    /// A mote now keeps this version of an image, with so many complete pages.
+    Have {
+        mote: u8,
+        image: u8,
+        version: u32,
+        pages: u8,
+    },
     /// A start succeeded: what runs, the length of its image in bytes, and their CRC.
     Start {
         mote: u8,
@@ -15,6 +40,11 @@ pub enum Report {
         version: u32,
         length: u32,
         crc: u16,
+    },
+    /// An event at a mote was refused.
+    Refused {
+        mote: u8,
+        cause: Cause,
     },
     /// The script ended, after so many events.
     End {
@@ -49,11 +79,54 @@ fn push_numbers(out: &mut Vec<u8>, ns: &[u32]) -> Result<(), AllocError>
     Ok(())
 }
 
+// Appends why an event was refused.
+fn push_cause(out: &mut Vec<u8>, cause: Cause) -> Result<(), AllocError>
+    ensures { OnOk result (out.new.items ≡ out.old.items ++ cause_text cause) }
+{
+    match cause {
+        Cause::Image => out.extend_from_slice(b" image"),
+        Cause::Stale { version } => {
+            out.extend_from_slice(b" stale")?;
+            push_numbers(out, &[version])
+        }
+        Cause::OldOrder { number } => {
+            out.extend_from_slice(b" oldorder")?;
+            push_numbers(out, &[number])
+        }
+    }
+}
+
 // Appends the text of a line, without its line end.
 fn push_said(out: &mut Vec<u8>, report: &Report) -> Result<(), AllocError>
     ensures { OnOk result (out.new.items ≡ out.old.items ++ said_of report.now) }
 {
     match *report {
+        Report::Order {
+            mote,
+            number,
+            image,
+            version,
+        } => {
+            out.extend_from_slice(b"order")?;
+            push_numbers(out, &[u32::from(mote), number, u32::from(image), version])
+        }
+        Report::Have {
+            mote,
+            image,
+            version,
+            pages,
+        } => {
+            out.extend_from_slice(b"have")?;
+            push_numbers(
+                out,
+                &[u32::from(mote), u32::from(image), version, u32::from(pages)],
+            )
+        }
+        Report::Refused { mote, cause } => {
+            out.extend_from_slice(b"no")?;
+            push_numbers(out, &[u32::from(mote)])?;
+            push_cause(out, cause)
+        }
         Report::Start {
             mote,
             image,
@@ -121,6 +194,32 @@ mod tests {
             (start(0, 1, 1, 0x58e5), "start 0 0 1 1 58e5\n"),
             (start(1, 1, 9, 0x31c3), "start 0 1 1 9 31c3\n"),
             (start(0, 1, 0, 0), "start 0 0 1 0 0000\n"),
+            (
+                Report::Have {
+                    mote: 0,
+                    image: 1,
+                    version: 1,
+                    pages: 2,
+                },
+                "have 0 1 1 2\n",
+            ),
+            (
+                Report::Order {
+                    mote: 0,
+                    number: 1,
+                    image: 1,
+                    version: 1,
+                },
+                "order 0 1 1 1\n",
+            ),
+            (refused(Cause::Image), "no 0 image\n"),
+            (
+                refused(Cause::Stale {
+                    version: 4_294_967_295,
+                }),
+                "no 0 stale 4294967295\n",
+            ),
+            (refused(Cause::OldOrder { number: 1 }), "no 0 oldorder 1\n"),
             (Report::End { events: 4 }, "end 4\n"),
             (
                 Report::MoteOn {
@@ -157,5 +256,9 @@ mod tests {
             length,
             crc,
         }
+    }
+
+    fn refused(cause: Cause) -> Report {
+        Report::Refused { mote: 0, cause }
     }
 }

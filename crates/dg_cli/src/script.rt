@@ -1,10 +1,10 @@
 //! The lines of a script.
-ghost use Rattle.std.specs.Prelude.{◌≡◌, ◌≤◌, length, IfOk, IsTrue};
+ghost use Rattle.std.specs.Prelude.{◌≡◌, IfOk};
 ghost use Rattle.dg_cli.specs.Words.{words_of, same};
-ghost use Rattle.dg_cli.specs.Script.{content_of, digits_of, image_of, motes_of, golden_of, reset_of, verb_line, line_of, place_after, AllowedAt, FitsLine};
+ghost use Rattle.dg_cli.specs.Script.{content_of, digits_of, image_of, mote_of, any_image_of, image_number_of, positive_of, name_of, motes_of, golden_of, image_line_of, reset_of, inject_of, order_of, later_line, verb_line, line_of, place_after, AllowedAt, FitsLine};
 ghost use Rattle.dg_cli.specs.Reading.{Reads};
 
-use crate::words::{next_word, one_word, three_words};
+use crate::words::{five_words, four_words, next_word, one_word, six_words, three_words};
 use dg_base::{Bytes, HexFault, is_name, parse_hex, parse_u32};
 use std::alloc::{AllocError, Global};
 
@@ -26,6 +26,40 @@ pub struct Golden {
     pub content: Bytes,
 }
 
+/// An image that can be injected: its number from 1 to 3, its version, its name and its bytes.
+#[derive(Drop)]
+pub struct Image {
+    pub image: u8,
+    pub version: u32,
+    pub name: Bytes,
+    pub content: Bytes,
+}
+
+/// What happens at the mote, `dt` milliseconds after the event before, with a random word.
+#[derive(Clone, Copy, Debug, PartialEq, Eq)]
+pub enum Event {
+    /// The mote is reset, and starts.
+    Reset {
+        dt: u32,
+        word: u32,
+    },
+    /// An image that was declared is injected.
+    Inject {
+        image: u8,
+        version: u32,
+        dt: u32,
+        word: u32,
+    },
+    /// The mote is ordered to start an image.
+    Order {
+        number: u32,
+        image: u8,
+        version: u32,
+        dt: u32,
+        word: u32,
+    },
+}
+
 /// What a line says.
 #[derive(Drop)]
 pub enum Line {
@@ -34,8 +68,9 @@ pub enum Line {
     Motes,
     /// The boards are formatted with golden.
     Golden(Golden),
-    /// The mote is reset, so many milliseconds after the event before, with a random word.
-    Reset { dt: u32, word: u32 },
+    /// An image is declared.
+    Image(Image),
+    Happens(Event),
 }
 
 /// Why a line is not read.
@@ -53,6 +88,9 @@ const LONGEST: usize = 300_000;
 /// The most bytes of an image.
 const LARGEST: usize = 70_656;
 
+/// The largest number of an image.
+const LAST_IMAGE: u32 = 3;
+
 /// The place behind a line that stands at `place`.
 pub fn place_behind(place: Place, line: &Line) -> Place
     ensures { result ≡ place_after place line.now }
@@ -61,7 +99,8 @@ pub fn place_behind(place: Place, line: &Line) -> Place
         Line::Nothing => place,
         Line::Motes => Place::Second,
         Line::Golden(_) => Place::Later,
-        Line::Reset { .. } => Place::Later,
+        Line::Image(_) => Place::Later,
+        Line::Happens(_) => Place::Later,
     }
 }
 
@@ -79,17 +118,103 @@ fn motes_line(fields: &[u8]) -> Option<Line>
     if count == 1 { Some(Line::Motes) } else { None }
 }
 
+// The number of the one mote.
+#[tactic(auto, unfolding(crate::specs::Script::mote_of))]
+fn mote(word: &[u8]) -> Option<u8>
+    ensures { result ≡ mote_of word.now }
+{
+    match parse_u32(word)? {
+        0 => Some(0),
+        _ => None,
+    }
+}
+
+// The number of an image, up to 3.
+#[tactic(auto, unfolding(crate::specs::Script::any_image_of))]
+fn any_image_number(word: &[u8]) -> Option<u8>
+    ensures { result ≡ any_image_of word.now }
+{
+    let number = parse_u32(word)?;
+    if number > LAST_IMAGE {
+        return None;
+    }
+    Some(number as u8)
+}
+
+// The number of an image, from 1 to 3.
+#[tactic(auto, unfolding(crate::specs::Script::image_number_of))]
+fn image_number(word: &[u8]) -> Option<u8>
+    ensures { result ≡ image_number_of word.now }
+{
+    let number = parse_u32(word)?;
+    if number < 1 {
+        return None;
+    }
+    if number > LAST_IMAGE {
+        return None;
+    }
+    Some(number as u8)
+}
+
+// A number from 1 on.
+#[tactic(auto, unfolding(crate::specs::Script::positive_of))]
+fn positive(word: &[u8]) -> Option<u32>
+    ensures { result ≡ positive_of word.now }
+{
+    let number = parse_u32(word)?;
+    if number < 1 {
+        return None;
+    }
+    Some(number)
+}
+
 #[tactic(auto, unfolding(crate::specs::Script::reset_of))]
 fn reset_line(fields: &[u8]) -> Option<Line>
     ensures { result ≡ reset_of (words_of fields.now) }
 {
-    let (mote, dt, word) = three_words(fields)?;
-    if parse_u32(mote)? != 0 {
-        return None;
-    }
+    let (at, dt, word) = three_words(fields)?;
+    mote(at)?;
     let dt = parse_u32(dt)?;
     let word = parse_u32(word)?;
-    Some(Line::Reset { dt, word })
+    Some(Line::Happens(Event::Reset { dt, word }))
+}
+
+#[tactic(auto, unfolding(crate::specs::Script::inject_of))]
+fn inject_line(fields: &[u8]) -> Option<Line>
+    ensures { result ≡ inject_of (words_of fields.now) }
+{
+    let (at, image, version, dt, word) = five_words(fields)?;
+    mote(at)?;
+    let image = image_number(image)?;
+    let version = positive(version)?;
+    let dt = parse_u32(dt)?;
+    let word = parse_u32(word)?;
+    Some(Line::Happens(Event::Inject {
+        image,
+        version,
+        dt,
+        word,
+    }))
+}
+
+#[tactic(auto, unfolding(crate::specs::Script::order_of))]
+fn order_line(fields: &[u8]) -> Option<Line>
+    ensures { result ≡ order_of (words_of fields.now) }
+{
+    let (at, number, image, version, dt, word) = six_words(fields)?;
+    mote(at)?;
+    let number = positive(number)?;
+    let image = any_image_number(image)?;
+    let version = positive(version)?;
+    let dt = parse_u32(dt)?;
+    let word = parse_u32(word)?;
+    Some(Line::Happens(Event::Order {
+        number,
+        image,
+        version,
+        dt,
+        word,
+    }))
 }
 
 // The bytes of an image, where they are not too few or too many.
@@ -107,7 +232,7 @@ fn sized(bytes: Vec<u8>) -> Result<Bytes, LineFault>
 
 // The bytes of an image that digits write.
 #[tactic(auto, using(crate::proofs::ScriptLemmas::refusals), unfolding(crate::specs::Script::digits_of))]
-fn image(alloc: Global, digits: &[u8]) -> Result<Bytes, LineFault>
+fn image_bytes(alloc: Global, digits: &[u8]) -> Result<Bytes, LineFault>
     ensures { Reads result (digits_of digits.now) }
 {
     match parse_hex(alloc, digits) {
@@ -124,8 +249,22 @@ fn content(alloc: Global, word: &[u8]) -> Result<Bytes, LineFault>
     ensures { Reads result (content_of word.now) }
 {
     match word.strip_prefix(b"hex:") {
-        Some(digits) => image(alloc, digits),
+        Some(digits) => image_bytes(alloc, digits),
         None => Err(LineFault::Verb),
+    }
+}
+
+// The bytes of a name.
+#[tactic(auto, unfolding(crate::specs::Script::name_of))]
+fn name(alloc: Global, word: &[u8]) -> Result<Bytes, LineFault>
+    ensures { Reads result (name_of word.now) }
+{
+    if !is_name(word) {
+        return Err(LineFault::Verb);
+    }
+    match Vec::from_slice(alloc, word) {
+        Ok(name) => Ok(Bytes::new(name)),
+        Err(AllocError) => Err(LineFault::Memory),
     }
 }
 
@@ -133,23 +272,57 @@ fn content(alloc: Global, word: &[u8]) -> Result<Bytes, LineFault>
 fn golden_line(alloc: Global, fields: &[u8]) -> Result<Line, LineFault>
     ensures { Reads result (golden_of (words_of fields.now)) }
 {
-    let Some((name, used, word)) = three_words(fields) else {
+    let Some((called, used, word)) = three_words(fields) else {
         return Err(LineFault::Verb);
     };
-    if !is_name(name) {
-        return Err(LineFault::Verb);
-    }
+    let name = name(alloc, called)?;
     if parse_u32(used) != Some(0) {
         return Err(LineFault::Verb);
     }
     let content = content(alloc, word)?;
-    match Vec::from_slice(alloc, name) {
-        Ok(name) => Ok(Line::Golden(Golden {
-            name: Bytes::new(name),
-            content,
-        })),
-        Err(AllocError) => Err(LineFault::Memory),
+    Ok(Line::Golden(Golden { name, content }))
+}
+
+#[tactic(auto, unfolding(crate::specs::Script::image_line_of))]
+fn image_line(alloc: Global, fields: &[u8]) -> Result<Line, LineFault>
+    ensures { Reads result (image_line_of (words_of fields.now)) }
+{
+    let Some((image, version, called, word)) = four_words(fields) else {
+        return Err(LineFault::Verb);
+    };
+    let Some(image) = image_number(image) else {
+        return Err(LineFault::Verb);
+    };
+    let Some(version) = positive(version) else {
+        return Err(LineFault::Verb);
+    };
+    let name = name(alloc, called)?;
+    let content = content(alloc, word)?;
+    Ok(Line::Image(Image {
+        image,
+        version,
+        name,
+        content,
+    }))
+}
+
+// What may follow the first two lines.
+fn later_line(alloc: Global, verb: &[u8], fields: &[u8]) -> Result<Line, LineFault>
+    ensures { Reads result (later_line verb.now (words_of fields.now)) }
+{
+    if is_same(verb, b"image") {
+        return image_line(alloc, fields);
     }
+    if is_same(verb, b"reset") {
+        return reset_line(fields).ok_or(LineFault::Verb);
+    }
+    if is_same(verb, b"inject") {
+        return inject_line(fields).ok_or(LineFault::Verb);
+    }
+    if is_same(verb, b"order") {
+        return order_line(fields).ok_or(LineFault::Verb);
+    }
+    Err(LineFault::Verb)
 }
 
 // The line of a verb and the text behind it.
@@ -159,7 +332,7 @@ fn verb_line(alloc: Global, place: Place, verb: &[u8], fields: &[u8]) -> Result<
     match place {
         Place::First if is_same(verb, b"motes") => motes_line(fields).ok_or(LineFault::Verb),
         Place::Second if is_same(verb, b"golden") => golden_line(alloc, fields),
-        Place::Later if is_same(verb, b"reset") => reset_line(fields).ok_or(LineFault::Verb),
+        Place::Later => later_line(alloc, verb, fields),
         _ => Err(LineFault::Verb),
     }
 }
@@ -190,7 +363,7 @@ mod tests {
     use super::*;
     use std::test::Fail;
 
-    const LINES: [(Place, &str, &str); 29] = [
+    const LINES: [(Place, &str, &str); 57] = [
         (Place::First, "motes 1", "motes"),
         (Place::First, "  motes   1  ", "motes"),
         (Place::First, "motes 2", "fault"),
@@ -221,16 +394,72 @@ mod tests {
         ),
         (Place::Second, "golden abcdefghijklmnopq 0 hex:41", "fault"),
         (Place::Second, "motes 1", "fault"),
-        (Place::Later, "reset 0 0 0", "reset 0 0"),
-        (Place::Later, "reset 0 4294967295 7", "reset 4294967295 7"),
+        (Place::Later, "reset 0 0 0", "Reset { dt: 0, word: 0 }"),
+        (
+            Place::Later,
+            "reset 0 4294967295 7",
+            "Reset { dt: 4294967295, word: 7 }",
+        ),
         (Place::Later, "reset 0 4294967296 0", "fault"),
         (Place::Later, "reset 1 0 0", "fault"),
         (Place::Later, "reset 0 0", "fault"),
         (Place::Later, "rese", "fault"),
         (Place::Later, "golden base 0 hex:41", "fault"),
+        (
+            Place::Later,
+            "image 1 1 blink hex:313233343536373839",
+            "image 1 1 blink 9",
+        ),
+        (
+            Place::Later,
+            " image  3 4294967295  a  hex:00",
+            "image 3 4294967295 a 1",
+        ),
+        (Place::Second, "image 1 1 blink hex:41", "fault"),
+        (Place::Later, "image 0 1 blink hex:41", "fault"),
+        (Place::Later, "image 4 1 blink hex:41", "fault"),
+        (Place::Later, "image 1 0 blink hex:41", "fault"),
+        (Place::Later, "image 1 1 b/nk hex:41", "fault"),
+        (Place::Later, "image 1 1 blink hex:", "fault"),
+        (Place::Later, "image 1 1 blink", "fault"),
+        (Place::Later, "image 1 1 blink hex:41 0", "fault"),
+        (
+            Place::Later,
+            "inject 0 1 1 0 0",
+            "Inject { image: 1, version: 1, dt: 0, word: 0 }",
+        ),
+        (
+            Place::Later,
+            "inject 0 3 2 5 7",
+            "Inject { image: 3, version: 2, dt: 5, word: 7 }",
+        ),
+        (Place::Second, "inject 0 1 1 0 0", "fault"),
+        (Place::Later, "inject 1 1 1 0 0", "fault"),
+        (Place::Later, "inject 0 0 1 0 0", "fault"),
+        (Place::Later, "inject 0 4 1 0 0", "fault"),
+        (Place::Later, "inject 0 1 0 0 0", "fault"),
+        (Place::Later, "inject 0 1 1 0", "fault"),
+        (Place::Later, "inject 0 1 1 0 0 0", "fault"),
+        (
+            Place::Later,
+            "order 0 1 0 1 0 0",
+            "Order { number: 1, image: 0, version: 1, dt: 0, word: 0 }",
+        ),
+        (
+            Place::Later,
+            "order 0 9 3 2 5 7",
+            "Order { number: 9, image: 3, version: 2, dt: 5, word: 7 }",
+        ),
+        (Place::Second, "order 0 1 0 1 0 0", "fault"),
+        (Place::Later, "order 1 1 0 1 0 0", "fault"),
+        (Place::Later, "order 0 0 0 1 0 0", "fault"),
+        (Place::Later, "order 0 1 4 1 0 0", "fault"),
+        (Place::Later, "order 0 1 0 0 0 0", "fault"),
+        (Place::Later, "order 0 1 0 1 0", "fault"),
+        (Place::Later, "order 0 1 0 1 0 0 0", "fault"),
     ];
 
-    // What a line says: a golden image by its name and length.
+    // What a line says: an image by its name and length.
     fn told(alloc: Global, line: Result<Line, LineFault>) -> Result<String, Fail> {
         match line {
             Ok(Line::Nothing) => Ok(String::from_str(alloc, "nothing")?),
@@ -240,7 +469,12 @@ mod tests {
                 let length = golden.content.as_slice().len();
                 Ok(format!(in alloc; "golden {name} {length}")?)
             }
-            Ok(Line::Reset { dt, word }) => Ok(format!(in alloc; "reset {dt} {word}")?),
+            Ok(Line::Image(image)) => {
+                let name = String::from_utf8_lossy(alloc, image.name.as_slice())?;
+                let length = image.content.as_slice().len();
+                Ok(format!(in alloc; "image {} {} {name} {length}", image.image, image.version)?)
+            }
+            Ok(Line::Happens(event)) => Ok(format!(in alloc; "{event:?}")?),
             Err(LineFault::Verb) => Ok(String::from_str(alloc, "fault")?),
             Err(LineFault::Memory) => Ok(String::from_str(alloc, "memory")?),
         }

@@ -1,9 +1,9 @@
 //! Where a replay stands.
 use crate::script::Place;
 
-/// An image that a mote runs.
-#[derive(Clone, Copy, Debug, PartialEq, Eq)]
-pub struct Running {
+/// A version of an image.
+#[derive(Clone, Copy, Debug, PartialEq, Eq, PartialOrd, Ord)]
+pub struct Key {
     pub image: u8,
     pub version: u32,
 }
@@ -13,5 +13,5 @@ pub struct Running {
 pub struct Player {
     pub place: Place,
     pub events: u32,
-    pub runs: Option<Running>,
+    pub runs: Option<Key>,
 }

@@ -7,6 +7,8 @@ pub enum Stop {
     BadInput { line: u32 },
     WriteFault,
     FlashFault,
+    /// A million events were played, and the line is one more.
+    TooMany,
     NotAVolume,
     NoBoard,
     NoImage,

@@ -93,6 +93,111 @@ fn scripts_are_replayed(rt: HostRuntime) -> Result<(), Fail> {
 }
 
 #[test]
+fn images_are_injected_ordered_and_started(rt: HostRuntime) -> Result<(), Fail> {
+    let rows: [(&[u8], Status, &[u8]); 6] = [
+        (
+            b"motes 1\ngolden base 0 hex:41\nimage 1 1 blink hex:313233343536373839\nreset 0 0 0\ninject 0 1 1 0 0\nreset 0 0 0\n",
+            Status::Done,
+            b"start 0 0 1 1 58e5\nhave 0 1 1 2\nstart 0 0 1 1 58e5\nend 3\nmote 0 on 0 1\nkept 0 1 1 2\n",
+        ),
+        (
+            b"motes 1\ngolden base 0 hex:41\nimage 1 1 blink hex:313233343536373839\nreset 0 0 0\ninject 0 1 1 0 0\norder 0 1 1 1 0 0\nreset 0 0 0\n",
+            Status::Done,
+            b"start 0 0 1 1 58e5\nhave 0 1 1 2\norder 0 1 1 1\nstart 0 1 1 9 31c3\nend 4\nmote 0 on 1 1\nkept 0 1 1 2\n",
+        ),
+        (
+            b"motes 1\ngolden base 0 hex:41\nimage 1 1 blink hex:313233343536373839\ninject 0 2 7 0 0\norder 0 1 1 1 0 0\norder 0 1 1 1 0 0\n",
+            Status::Done,
+            b"no 0 image\norder 0 1 1 1\nno 0 oldorder 1\nend 3\nmote 0 off\n",
+        ),
+        // A lower version is stale, and one that is whole is not told again.
+        (
+            b"motes 1\ngolden base 0 hex:41\nimage 3 1 a hex:41\nimage 3 2 b hex:42\ninject 0 3 2 0 0\ninject 0 3 1 0 0\ninject 0 3 2 0 0\n",
+            Status::Done,
+            b"have 0 3 2 2\nno 0 stale 2\nend 3\nmote 0 off\nkept 0 3 2 2\n",
+        ),
+        // A key is declared once.
+        (
+            b"motes 1\ngolden base 0 hex:41\nimage 1 1 a hex:41\nreset 0 0 0\nimage 1 1 a hex:41\n",
+            Status::BadInput,
+            b"start 0 0 1 1 58e5\nline 5 verb\n",
+        ),
+        (
+            b"motes 1\nimage 1 1 a hex:41\ngolden base 0 hex:41\n",
+            Status::BadInput,
+            b"line 2 verb\n",
+        ),
+    ];
+    for (script, status, report) in rows {
+        let told = replayed(rt.alloc(), script)?;
+        assert_eq!(rt; told.status, status);
+        assert_eq!(rt; told.written.as_slice(), report);
+    }
+    Ok(())
+}
+
+/// A script that injects, orders and starts an image of so many bytes 0x42.
+fn with_image(alloc: Global, length: usize) -> Result<Vec<u8>, AllocError> {
+    let mut script = Vec::from_slice(alloc, b"motes 1\ngolden base 0 hex:41\nimage 1 1 big hex:")?;
+    for _ in 0..length {
+        script.extend_from_slice(b"42")?;
+    }
+    script.extend_from_slice(b"\ninject 0 1 1 0 0\norder 0 1 1 1 0 0\nreset 0 0 0\n")?;
+    Ok(script)
+}
+
+#[test]
+fn images_have_a_page_for_each_1104_bytes_and_one_more(rt: HostRuntime) -> Result<(), Fail> {
+    let alloc = rt.alloc();
+    // The length, the pages and the CRC.
+    let rows: [(usize, u8, &str); 4] = [
+        (1, 2, "6886"),
+        (1_104, 2, "fc9f"),
+        (1_105, 3, "d915"),
+        (70_656, 65, "5d2f"),
+    ];
+    for (length, pages, crc) in rows {
+        let told = replayed(alloc, &with_image(alloc, length)?)?;
+        let report = format!(in alloc;
+            "have 0 1 1 {pages}\norder 0 1 1 1\nstart 0 1 1 {length} {crc}\nend 3\nmote 0 on 1 1\nkept 0 1 1 {pages}\n"
+        )?;
+        assert_eq!(rt; told.status, Status::Done);
+        assert_eq!(rt; told.written.as_slice(), report.as_bytes());
+    }
+    Ok(())
+}
+
+/// A script with so many resets.
+fn with_resets(alloc: Global, count: usize) -> Result<Vec<u8>, AllocError> {
+    let mut script = Vec::from_slice(alloc, b"motes 1\ngolden base 0 hex:41\n")?;
+    for _ in 0..count {
+        script.extend_from_slice(b"reset 0 0 0\n")?;
+    }
+    Ok(script)
+}
+
+#[test]
+fn a_million_events_are_played(rt: HostRuntime) -> Result<(), Fail> {
+    let alloc = rt.alloc();
+    let rows: [(usize, Status, &[u8]); 2] = [
+        (1_000_000, Status::Done, b"end 1000000\nmote 0 on 0 1\n"),
+        (1_000_001, Status::TooMany, b"toomany\n"),
+    ];
+    for (count, status, end) in rows {
+        let mut boards = Vec::new(alloc);
+        boards.push(Board::memory(alloc)?)?;
+        let none = (Vec::new(alloc), Vec::new(alloc));
+        let script = with_resets(alloc, count)?;
+        let told = answer(alloc, "replay", script, none, 20_000_000, &mut boards)?;
+        assert_eq!(rt; told.status, status);
+        assert!(rt; told.written.as_slice().ends_with(end));
+        // Each start is told in 19 bytes.
+        assert_eq!(rt; told.written.len(), 19_000_000 + end.len());
+    }
+    Ok(())
+}
+
+#[test]
 fn each_status_comes(rt: HostRuntime) -> Result<(), Fail> {
     let alloc = rt.alloc();
     let script: &[u8] = b"motes 1\ngolden base 0 hex:41\nreset 0 0 0\n";
@@ -174,7 +279,10 @@ fn lengths_end_where_they_are_said_to(rt: HostRuntime) -> Result<(), Fail> {
     let alloc = rt.alloc();
     let told = replayed(alloc, &with_golden(alloc, 70_656)?)?;
     assert_eq!(rt; told.status, Status::Done);
-    assert!(rt; told.written.as_slice().starts_with(b"start 0 0 1 70656 "));
+    assert_eq!(rt;
+        told.written.as_slice(),
+        b"start 0 0 1 70656 b39b\nend 1\nmote 0 on 0 1\n".as_slice()
+    );
 
     let told = replayed(alloc, &with_golden(alloc, 70_657)?)?;
     assert_eq!(rt; told.status, Status::BadInput);

@@ -1,7 +1,6 @@
 //! The words of a line.
-ghost use Rattle.std.specs.Prelude.{◌≡◌, ◌≢◌, ℕ, ◌+◌, ◌<◌, ◌≤◌, ◌∷◌, [], length, drop, take, slice_index, IfNone, IfSome, option_map};
-ghost use Rattle.dg_cli.specs.Words.{words_of};
-ghost use Rattle.dg_cli.specs.Words.{one_of, three_of};
+ghost use Rattle.std.specs.Prelude.{◌≡◌, ◌≢◌, ℕ, ◌<◌, ◌≤◌, ◌∷◌, [], length, drop, slice_index, IfNone, IfSome, option_map};
+ghost use Rattle.dg_cli.specs.Words.{words_of, one_of, three_of, four_of, five_of, six_of};
 
 // How many spaces the text begins with.
 #[tactic(auto, using(crate::proofs::WordLemmas::words_after_space))]
@@ -67,4 +66,31 @@ pub fn three_words(text: &[u8]) -> Option<(&[u8], &[u8], &[u8])>
         return None;
     }
     Some((first, second, third))
+}
+
+/// The words of a text that has four.
+pub fn four_words(text: &[u8]) -> Option<(&[u8], &[u8], &[u8], &[u8])>
+    ensures { option_map (λ t. (t.0.now, t.1.now, t.2.now, t.3.now)) result ≡ four_of (words_of text.now) }
+{
+    let (first, rest) = next_word(text)?;
+    let (second, third, fourth) = three_words(rest)?;
+    Some((first, second, third, fourth))
+}
+
+/// The words of a text that has five.
+pub fn five_words(text: &[u8]) -> Option<(&[u8], &[u8], &[u8], &[u8], &[u8])>
+    ensures { option_map (λ t. (t.0.now, t.1.now, t.2.now, t.3.now, t.4.now)) result ≡ five_of (words_of text.now) }
+{
+    let (first, rest) = next_word(text)?;
+    let (second, third, fourth, fifth) = four_words(rest)?;
+    Some((first, second, third, fourth, fifth))
+}
+
+/// The words of a text that has six.
+pub fn six_words(text: &[u8]) -> Option<(&[u8], &[u8], &[u8], &[u8], &[u8], &[u8])>
+    ensures { option_map (λ t. (t.0.now, t.1.now, t.2.now, t.3.now, t.4.now, t.5.now)) result ≡ six_of (words_of text.now) }
+{
+    let (first, rest) = next_word(text)?;
+    let (second, third, fourth, fifth, sixth) = five_words(rest)?;
+    Some((first, second, third, fourth, fifth, sixth))
 }

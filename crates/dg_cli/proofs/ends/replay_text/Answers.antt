@@ -7,7 +7,7 @@ use Rattle.dg_cli.proofs.ends.replay_text.Goals as goal
 pub returns-in-Ok-clause-replayed : goal.returns-in-Ok-clause-replayed
 returns-in-Ok-clause-replayed g c =
     let r = c.in-Ok.ensures.answer (not c.is_over-over.result) in
-    let done = c.end_script.ensures.ends _ _ _ (g.K.Sink.faults c.args.out.now) c.in-Ok.ensures.counts r in
+    let done = c.end_script.ensures.ends _ r.0 _ _ (g.K.Sink.faults c.args.out.now) c.in-Ok.ensures.counts r.1 in
     replayed_as c.end_script.result c.args.text.now _ c.is_over-over.result _ _ _ _ _ _ _ c.is_over-over.ensures c.used_length.ensures.used (length-map c.args.boards.now g.N.Nor.device) done
 
 pub returns-in-Err-clause-replayed : goal.returns-in-Err-clause-replayed

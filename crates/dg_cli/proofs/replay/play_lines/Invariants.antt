@@ -1,19 +1,20 @@
-use Rattle.std.proofs.Common.{◌≤◌, ◌+◌, ◌-◌, length, drop, map, Bool}
+use Rattle.std.proofs.Common.{◌≤◌, ◌+◌, ◌-◌, length, drop, map, Bool, []}
 use Rattle.std.specs.Str.Lines.{lines}
 use Rattle.dg_cli.specs.Script.{script_from}
 use Rattle.dg_cli.specs.Replaying.{Reached}
 use Rattle.dg_cli.specs.declared.script.Place.TheVariants.{First}
+use Rattle.dg_cli.specs.declared.mote.TheConstants.{MOST_EVENTS}
 use Rattle.dg_cli.proofs.replay.play_lines.Given as goal
 
 -- the lines before `from` were played and reported
 abbrev pub invariant-loop-from : goal.invariant-loop-from
 invariant-loop-from g l =
     record {
-      reached : (ends : Bool) → Reached ends (script_from ends First 1 (lines l.fn.text)) (lines (drop l.from l.text)) l.number l.player
+      reached : (ends : Bool) → Reached ends (script_from ends First [] 1 (lines l.fn.text)) (lines (drop l.from l.text)) l.number l.player l.images
           (map g.N.Nor.device l.fn.boards) (map g.N.Nor.device l.boards) (g.K.Sink.written l.fn.out) (g.K.Sink.written l.out);
       within : l.from ≤ length l.text;
       numbered : l.number ≤ l.from + 1;
-      events : l.player.events ≤ l.from;
+      few : l.player.events ≤ MOST_EVENTS;
       counts : g.K.Sink.faults l.fn.out ≤ g.K.Sink.faults l.out;
     }
 
