@@ -5,10 +5,10 @@ use Rattle.std.proofs.lemmas.Bool.Decides.{nat_tests}
 use Rattle.dg_words.specs.Cells.{part}
 use Rattle.dg_words.proofs.BitsLemmas.{one_count}
 use Rattle.dg_nor.specs.Chip.{sector, Keeps, blank}
-use Rattle.dg_nor.specs.Trail.{operations, last_of}
+use Rattle.dg_nor.specs.Trail.{operations}
 use Rattle.dg_nor.proofs.ChipLemmas.{sector_kept}
-use Rattle.dg_nor.proofs.TrailLemmas.{operations-stepping, last-stepping, Leaves-stepping, Leaves_last}
-use Rattle.dg_ledger.specs.Ledger.{HasCount, count_of, bump_trail, MayBump}
+use Rattle.dg_nor.proofs.TrailLemmas.{operations-stepping, Leaves-stepping}
+use Rattle.dg_ledger.specs.Ledger.{HasCount, count_of, MayBump}
 use Rattle.dg_control.specs.Places.{place_in, LastSpells, AreFree, ChangesOnly, MayWrite}
 use Rattle.dg_control.specs.Store.{ControlStore, Controls, ControlStands, IsNear, current, room_for, commit_operations, committed, commit_trail, MayCommit}
 use Rattle.dg_control.specs.Mounted.{control_store, IsControlOf}

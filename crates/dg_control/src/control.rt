@@ -135,7 +135,8 @@ impl Control {
         ensures stopped { OnErr result (Halted (operations (commit_trail (control_store self.old) next.now))
             (MayCommit (control_store self.old) next.now) (N.device nor.old) (N.device nor.new)) }
     {
-        begin_sector(nor, other_sector(&self.ledger), next)?;
+        let index = other_sector(&self.ledger);
+        begin_sector(nor, index, next)?;
         bump(&mut self.ledger, nor)?;
         self.snapshot = *next;
         self.free = PLACES - 1;
