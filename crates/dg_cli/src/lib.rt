@@ -1,6 +1,7 @@
 //! The commands of the program: `run` does all that it does.
 //!
-//! Today the one command is `replay`, over scripts of one mote that format a chip and start it.
+//! Today the one command is `replay`, over scripts of one mote: its chip is formatted, images are injected, ordered and
+//! started.
 #![tactic(auto)]
 
 mod command;
