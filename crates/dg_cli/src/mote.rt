@@ -184,7 +184,7 @@ fn inject<N: Nor>(board: &mut N, images: &Images, key: Key) -> Result<Option<Rep
     }
 }
 
-// Keeps an order.
+// Touches an order.
 fn order<N: Nor>(
     board: &mut N,
     number: u32,

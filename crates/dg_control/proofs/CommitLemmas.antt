@@ -4,7 +4,7 @@ use Rattle.std.proofs.lemmas.Bool.{cases_lt}
 use Rattle.std.proofs.lemmas.Bool.Decides.{nat_tests}
 use Rattle.dg_words.specs.Cells.{part}
 use Rattle.dg_words.proofs.BitsLemmas.{one_count}
-use Rattle.dg_nor.specs.Chip.{sector, Keeps, blank}
+use Rattle.dg_nor.specs.Chip.{sector, Touches, blank}
 use Rattle.dg_nor.specs.Trail.{operations}
 use Rattle.dg_nor.proofs.ChipLemmas.{sector_kept}
 use Rattle.dg_nor.proofs.TrailLemmas.{operations-stepping, Leaves-stepping}
@@ -228,8 +228,8 @@ pub record AreReady (old new : List ℕ) (n : ℕ) (next : Snapshot) : Type 0 wh
   pub rest : ChangesOnly 0 (blank 2048) (sector new (current (n + 1)))
   pub whole : place_in (sector new (current (n + 1))) 0 ≡ place_of next
 
-pub are_ready : (old mid new : List ℕ) (n : ℕ) (next : Snapshot) → Keeps (current (n + 1)) (current (n + 1) + 1) old mid → ChangesOnly 0 (blank 2048) (sector mid (current (n + 1))) → place_in (sector mid (current (n + 1))) 0 ≡ place_of next
-    → Keeps 0 1 mid new → AreReady old new n next
+pub are_ready : (old mid new : List ℕ) (n : ℕ) (next : Snapshot) → Touches (current (n + 1)) (current (n + 1) + 1) old mid → ChangesOnly 0 (blank 2048) (sector mid (current (n + 1))) → place_in (sector mid (current (n + 1))) 0 ≡ place_of next
+    → Touches 0 1 mid new → AreReady old new n next
 are_ready old mid new n next kept rest whole bumped =
     let other : sector new (current (n + 1)) ≡ sector mid (current (n + 1)) = bumped.behind (current (n + 1)) (omega arith) (omega (arith, current_in (n + 1))) in
     record {

@@ -1,6 +1,6 @@
 //! The control of a chip as it was mounted.
 ghost use Rattle.std.specs.Prelude.{◌≡◌, ◌↔◌, ℕ, ◌+◌, ◌-◌, ◌<◌, ◌≤◌, false, IfOk, OnOk, OnErr, IsErrOf};
-ghost use Rattle.dg_nor.specs.Chip.{Keeps};
+ghost use Rattle.dg_nor.specs.Chip.{Touches};
 ghost use Rattle.dg_nor.specs.Device.{Ran, Halts, Halted};
 ghost use Rattle.dg_nor.specs.Trail.{operations};
 ghost use Rattle.dg_ledger.specs.Ledger.{HasCount, count_of, bump_trail, MayBump};
@@ -69,7 +69,7 @@ impl Control {
         u32::from(self.free) + u32::from(PLACES) * left
     }
 
-    /// Keeps the next snapshot in place of this one: 2 operations where a place is free, and else 4. A stop leaves
+    /// Touches the next snapshot in place of this one: 2 operations where a place is free, and else 4. A stop leaves
     /// this one or the next.
     pub fn commit<N: Nor>(&mut self, nor: &mut N, next: Snapshot) -> Result<(), CommitFault>
         requires mounted { IsControlOf (N.device nor.old).image self.old }
@@ -80,7 +80,7 @@ impl Control {
         ensures ran { OnOk result (Ran (operations (commit_trail (control_store self.old) next))
             (N.device nor.old) (N.device nor.new)) }
         ensures awake { OnOk result ((N.device nor.old).stopped ≡ false) }
-        ensures keeps { Keeps 0 3 (N.device nor.old).image (N.device nor.new).image }
+        ensures touches { Touches 0 3 (N.device nor.old).image (N.device nor.new).image }
 
         ensures stopped { IsErrOf result CommitFault.Stopped
             → Halted (operations (commit_trail (control_store self.old) next)) (MayCommit (control_store self.old) next)
@@ -109,7 +109,7 @@ impl Control {
         ensures ran { OnOk result (Ran (operations (commit_trail (control_store self.old) next.now))
             (N.device nor.old) (N.device nor.new)) }
         ensures awake { OnOk result ((N.device nor.old).stopped ≡ false) }
-        ensures keeps { Keeps 0 3 (N.device nor.old).image (N.device nor.new).image }
+        ensures touches { Touches 0 3 (N.device nor.old).image (N.device nor.new).image }
         ensures stopped { OnErr result (Halted (operations (commit_trail (control_store self.old) next.now))
             (MayCommit (control_store self.old) next.now) (N.device nor.old) (N.device nor.new)) }
     {
@@ -131,7 +131,7 @@ impl Control {
         ensures ran { OnOk result (Ran (operations (commit_trail (control_store self.old) next.now))
             (N.device nor.old) (N.device nor.new)) }
         ensures awake { OnOk result ((N.device nor.old).stopped ≡ false) }
-        ensures keeps { Keeps 0 3 (N.device nor.old).image (N.device nor.new).image }
+        ensures touches { Touches 0 3 (N.device nor.old).image (N.device nor.new).image }
         ensures stopped { OnErr result (Halted (operations (commit_trail (control_store self.old) next.now))
             (MayCommit (control_store self.old) next.now) (N.device nor.old) (N.device nor.new)) }
     {
@@ -166,7 +166,7 @@ fn bump<N: Nor>(ledger: &mut Ledger, nor: &mut N) -> Result<(), Stopped>
     ensures ok { OnOk result (HasCount (N.device nor.new).image (count_of ledger.old + 1)) }
     ensures told { OnOk result (count_of ledger.new ≡ count_of ledger.old + 1) }
     ensures ran { OnOk result (Ran (operations (bump_trail (count_of ledger.old))) (N.device nor.old) (N.device nor.new)) }
-    ensures keeps { Keeps 0 1 (N.device nor.old).image (N.device nor.new).image }
+    ensures touches { Touches 0 1 (N.device nor.old).image (N.device nor.new).image }
     ensures stopped { OnErr result (Halted (operations (bump_trail (count_of ledger.old))) (MayBump (count_of ledger.old))
         (N.device nor.old) (N.device nor.new)) }
 {

@@ -1,6 +1,6 @@
 //! The control sectors of a chip as they are formatted.
 ghost use Rattle.std.specs.Prelude.{◌≡◌, ℕ, ◌+◌, ◌-◌, ◌/◌, ◌%◌, ◌<◌, ◌≤◌, ⊤, false, slice_index, IfOk, OnOk, OnErr};
-ghost use Rattle.dg_nor.specs.Chip.{sector, blank, Keeps};
+ghost use Rattle.dg_nor.specs.Chip.{sector, blank, Touches};
 ghost use Rattle.dg_nor.specs.Device.{Ran, Halts, Halted};
 ghost use Rattle.dg_control.specs.Mounted.{control_snapshot, control_room, IsControlOf};
 ghost use Rattle.dg_control.specs.Places.{place_in, AreFree, ChangesOnly, LastSpells};
@@ -27,7 +27,7 @@ impl Control {
             → slice_index (place_in (sector (N.device nor.new).image (current (used / 32))) i) 0 ≡ 0) }
         ensures ran { OnOk result (Ran (5 + used / 32 + used % 32) (N.device nor.old) (N.device nor.new)) }
         ensures awake { OnOk result ((N.device nor.old).stopped ≡ false) }
-        ensures keeps { Keeps 0 3 (N.device nor.old).image (N.device nor.new).image }
+        ensures touches { Touches 0 3 (N.device nor.old).image (N.device nor.new).image }
         ensures stopped { OnErr result (Halted (5 + used / 32 + used % 32) (λ _ _. ⊤) (N.device nor.old) (N.device nor.new)) }
     {
         let generation = used / 32;
@@ -53,7 +53,7 @@ fn first_sector<N: Nor>(nor: &mut N, index: u32, place: u8, first: &Snapshot) ->
         → slice_index (place_in (sector (N.device nor.new).image index) i) 0 ≡ 0) }
     ensures ran { OnOk result (Ran (3 + place) (N.device nor.old) (N.device nor.new)) }
     ensures awake { OnOk result ((N.device nor.old).stopped ≡ false) }
-    ensures keeps { Keeps index (index + 1) (N.device nor.old).image (N.device nor.new).image }
+    ensures touches { Touches index (index + 1) (N.device nor.old).image (N.device nor.new).image }
     ensures stopped { OnErr result (Halted (3 + place) (λ _ _. ⊤) (N.device nor.old) (N.device nor.new)) }
 {
     erase_sector(nor, index)?;
@@ -72,7 +72,7 @@ fn spend_places<N: Nor>(nor: &mut N, index: u32, count: u8) -> Result<(), Stoppe
     ensures rest { OnOk result ((i : ℕ) → count ≤ i → i < 32
         → place_in (sector (N.device nor.new).image index) i ≡ blank 64) }
     ensures ran { OnOk result (Ran count (N.device nor.old) (N.device nor.new)) }
-    ensures keeps { Keeps index (index + 1) (N.device nor.old).image (N.device nor.new).image }
+    ensures touches { Touches index (index + 1) (N.device nor.old).image (N.device nor.new).image }
     ensures stopped { OnErr result (Halted count (λ _ _. ⊤) (N.device nor.old) (N.device nor.new)) }
 {
     for place in 0..count {
@@ -89,7 +89,7 @@ fn spend_place<N: Nor>(nor: &mut N, index: u32, at: u8) -> Result<(), Stopped>
     ensures spent { OnOk result (slice_index (place_in (sector (N.device nor.new).image index) at) 0 ≡ 0) }
     ensures changes { OnOk result (ChangesOnly at (sector (N.device nor.old).image index) (sector (N.device nor.new).image index)) }
     ensures ran { OnOk result (Ran 1 (N.device nor.old) (N.device nor.new)) }
-    ensures keeps { Keeps index (index + 1) (N.device nor.old).image (N.device nor.new).image }
+    ensures touches { Touches index (index + 1) (N.device nor.old).image (N.device nor.new).image }
     ensures stopped { OnErr result (Halts 1 0 (N.device nor.old) (N.device nor.new)) }
 {
     program_in(nor, index, place_offset(at), &[0])

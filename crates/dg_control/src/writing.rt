@@ -1,7 +1,7 @@
 //! A place as it is written: first all bytes but one, then the commit byte, so that a power cut leaves no
 //! half-written place that counts.
 ghost use Rattle.std.specs.Prelude.{◌≡◌, ◌⊎◌, ◌+◌, ◌∷◌, ◌<◌, ⊤, false, drop, slice_index, OnOk, OnErr};
-ghost use Rattle.dg_nor.specs.Chip.{sector, blank, Keeps};
+ghost use Rattle.dg_nor.specs.Chip.{sector, blank, Touches};
 ghost use Rattle.dg_nor.specs.Device.{Ran, Halts, Halted};
 ghost use Rattle.dg_control.specs.Places.{place_in, ChangesOnly, MayWrite};
 ghost use Rattle.dg_control.specs.Snapshot.{place_of};
@@ -23,7 +23,7 @@ fn write_body<N: Nor>(nor: &mut N, index: u32, at: u8, place: &[u8; 64]) -> Resu
     ensures awake { OnOk result ((N.device nor.old).stopped ≡ false) }
     ensures uncommitted { slice_index (place_in (sector (N.device nor.new).image index) at) 0 ≡ 255 }
     ensures changes { ChangesOnly at (sector (N.device nor.old).image index) (sector (N.device nor.new).image index) }
-    ensures keeps { Keeps index (index + 1) (N.device nor.old).image (N.device nor.new).image }
+    ensures touches { Touches index (index + 1) (N.device nor.old).image (N.device nor.new).image }
     ensures stopped { OnErr result (Halts 1 0 (N.device nor.old) (N.device nor.new)) }
 {
     program_in(nor, index, place_offset(at) + 1, &place[1..])
@@ -39,7 +39,7 @@ fn write_commit_byte<N: Nor>(nor: &mut N, index: u32, at: u8) -> Result<(), Stop
         ≡ 127 ∷ drop 1 (place_in (sector (N.device nor.old).image index) at)) }
     ensures ran { OnOk result (Ran 1 (N.device nor.old) (N.device nor.new)) }
     ensures changes { ChangesOnly at (sector (N.device nor.old).image index) (sector (N.device nor.new).image index) }
-    ensures keeps { Keeps index (index + 1) (N.device nor.old).image (N.device nor.new).image }
+    ensures touches { Touches index (index + 1) (N.device nor.old).image (N.device nor.new).image }
     ensures stopped { OnErr result (Halts 1 0 (N.device nor.old) (N.device nor.new)) }
     ensures cut { OnErr result (
         (place_in (sector (N.device nor.new).image index) at ≡ place_in (sector (N.device nor.old).image index) at)
@@ -65,7 +65,7 @@ pub(crate) fn commit_at<N: Nor>(
     ensures awake { OnOk result ((N.device nor.old).stopped ≡ false) }
     ensures changes { OnOk result (ChangesOnly at (sector (N.device nor.old).image index)
         (sector (N.device nor.new).image index)) }
-    ensures keeps { Keeps index (index + 1) (N.device nor.old).image (N.device nor.new).image }
+    ensures touches { Touches index (index + 1) (N.device nor.old).image (N.device nor.new).image }
     ensures stopped { OnErr result (Halted 2
         (λ k image. MayWrite at next.now (sector (N.device nor.old).image index) k (sector image index))
         (N.device nor.old) (N.device nor.new)) }
@@ -83,7 +83,7 @@ pub(crate) fn begin_sector<N: Nor>(nor: &mut N, index: u32, next: &Snapshot) -> 
     ensures ran { OnOk result (Ran 3 (N.device nor.old) (N.device nor.new)) }
     ensures awake { OnOk result ((N.device nor.old).stopped ≡ false) }
     ensures rest { OnOk result (ChangesOnly 0 (blank 2048) (sector (N.device nor.new).image index)) }
-    ensures keeps { Keeps index (index + 1) (N.device nor.old).image (N.device nor.new).image }
+    ensures touches { Touches index (index + 1) (N.device nor.old).image (N.device nor.new).image }
     ensures stopped { OnErr result (Halted 3 (λ _ _. ⊤) (N.device nor.old) (N.device nor.new)) }
 {
     erase_sector(nor, index)?;

@@ -1,6 +1,6 @@
 //! A mounted ledger.
 ghost use Rattle.std.specs.Prelude.{◌≡◌, ◌↔◌, ◌⊎◌, ⊤, ℕ, ◌+◌, ◌<◌, ◌≤◌, false, IfOk, OnOk, OnErr, IsErrOf};
-ghost use Rattle.dg_nor.specs.Chip.{Keeps};
+ghost use Rattle.dg_nor.specs.Chip.{Touches};
 ghost use Rattle.dg_nor.specs.Device.{Ran, Halts, Halted};
 ghost use Rattle.dg_nor.specs.Trail.{operations};
 ghost use Rattle.dg_ledger.specs.Ledger.{HasCount, count_of, bump_trail, MayBump};
@@ -55,7 +55,7 @@ impl Ledger {
         ensures told { OnOk result (count_of self.new ≡ count_of self.old + 1) }
         ensures ran { OnOk result (Ran (operations (bump_trail (count_of self.old))) (N.device nor.old) (N.device nor.new)) }
         ensures awake { OnOk result ((N.device nor.old).stopped ≡ false) }
-        ensures keeps { Keeps 0 1 (N.device nor.old).image (N.device nor.new).image }
+        ensures touches { Touches 0 1 (N.device nor.old).image (N.device nor.new).image }
 
         ensures stopped { IsErrOf result LedgerFault.Stopped
             → Halted (operations (bump_trail (count_of self.old))) (MayBump (count_of self.old))
@@ -80,7 +80,7 @@ impl Ledger {
         ensures told { OnOk result (count_of self.new ≡ count_of self.old + 1) }
         ensures ran { OnOk result (Ran 1 (N.device nor.old) (N.device nor.new)) }
         ensures awake { OnOk result ((N.device nor.old).stopped ≡ false) }
-        ensures keeps { Keeps 0 1 (N.device nor.old).image (N.device nor.new).image }
+        ensures touches { Touches 0 1 (N.device nor.old).image (N.device nor.new).image }
 
         ensures stopped { OnErr result (Halts 1 0 (N.device nor.old) (N.device nor.new)) }
         ensures cut { OnErr result (HasCount (N.device nor.new).image (count_of self.old)
@@ -101,7 +101,7 @@ impl Ledger {
         ensures told { IfOk result (λ l. count_of l ≡ count) }
         ensures ran { OnOk result (Ran (2 + count) (N.device nor.old) (N.device nor.new)) }
         ensures awake { OnOk result ((N.device nor.old).stopped ≡ false) }
-        ensures keeps { Keeps 0 1 (N.device nor.old).image (N.device nor.new).image }
+        ensures touches { Touches 0 1 (N.device nor.old).image (N.device nor.new).image }
         ensures stopped { OnErr result (Halted (2 + count) (λ _ _. ⊤) (N.device nor.old) (N.device nor.new)) }
     {
         let mut ledger = begin(nor)?;
@@ -118,7 +118,7 @@ fn begin<N: Nor>(nor: &mut N) -> Result<Ledger, Stopped>
     ensures told { IfOk result (λ l. count_of l ≡ 0) }
     ensures ran { OnOk result (Ran 2 (N.device nor.old) (N.device nor.new)) }
     ensures awake { OnOk result ((N.device nor.old).stopped ≡ false) }
-    ensures keeps { Keeps 0 1 (N.device nor.old).image (N.device nor.new).image }
+    ensures touches { Touches 0 1 (N.device nor.old).image (N.device nor.new).image }
     ensures stopped { OnErr result (Halted 2 (λ _ _. ⊤) (N.device nor.old) (N.device nor.new)) }
 {
     erase_sector(nor, LEDGER)?;

@@ -1,3 +1,4 @@
+pub mod Sizes
 pub mod Board
 pub mod Chip
 pub mod Device
@@ -5,3 +6,5 @@ pub mod Fuse
 pub mod Masks
 pub mod Publish
 pub mod Trail
+pub mod Reads
+pub mod Through

@@ -1,7 +1,7 @@
 -- A chip that was formatted stands for golden alone.
 use Rattle.std.proofs.Common.{◌≡◌, ℕ, List, [], ◌∷◌, get_or, refl, sym, ap, subst, arith}
 use Rattle.dg_words.specs.Cells.{part}
-use Rattle.dg_nor.specs.Chip.{sector, Keeps}
+use Rattle.dg_nor.specs.Chip.{sector, Touches}
 use Rattle.dg_object.proofs.RowLemmas.{length-object}
 use Rattle.dg_control.specs.Snapshot.{place_of, IsFresh}
 use Rattle.dg_volume.specs.Store.{Stands, KeepsImage, SlotStands, AppStands, held, held_whole, golden_row, fresh}
@@ -12,7 +12,7 @@ use Rattle.dg_control.specs.declared.snapshot.Snapshot.{Snapshot}
 use Rattle.dg_volume.proofs.SlotLemmas.{four}
 use Rattle.dg_volume.proofs.KeptLemmas.{image_kept, SameSlots-keeps}
 
-pub fresh_stands : (old c name bytes : List ℕ) (r : Snapshot) → KeepsImage old 0 1 (held_whole (golden_row name bytes)) → Keeps 1 2 old c → part (sector c 1) 0 64 ≡ place_of r → IsFresh r → Stands c (fresh name bytes)
+pub fresh_stands : (old c name bytes : List ℕ) (r : Snapshot) → KeepsImage old 0 1 (held_whole (golden_row name bytes)) → Touches 1 2 old c → part (sector c 1) 0 64 ≡ place_of r → IsFresh r → Stands c (fresh name bytes)
 fresh_stands old c name bytes r keeps same place is =
     let s = fresh name bytes in
     let slot_is : (i : ℕ) → get_or r.slots i Dirty ≡ get_or (Live 1 ∷ Dirty ∷ Dirty ∷ Dirty ∷ []) i Dirty = λ i. ap (λ (x : List SlotState). get_or x i Dirty) is.slots in

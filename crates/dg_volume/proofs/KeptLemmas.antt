@@ -4,7 +4,7 @@ use Rattle.std.proofs.lemmas.List.{same_lists}
 use Rattle.dg_words.specs.Lists.{tabulate}
 use Rattle.dg_words.specs.Cells.{part}
 use Rattle.dg_words.proofs.ListLemmas.{length-tabulate, get_or-tabulate}
-use Rattle.dg_nor.specs.Chip.{sector, Keeps}
+use Rattle.dg_nor.specs.Chip.{sector, Touches}
 use Rattle.dg_volume.specs.Header.{IsHeader}
 use Rattle.dg_volume.specs.Pages.{page_in}
 use Rattle.dg_volume.specs.Store.{Held, HasDescriptor, KeepsImage, SlotStands}
@@ -21,7 +21,7 @@ same_tables n f g h = same_lists (tabulate n f) (tabulate n g) (length-tabulate 
 abbrev pub SameSlots : List ℕ → List ℕ → Type 0
 SameSlots old new = (k : ℕ) → 68 ≤ k → k < 332 → sector new k ≡ sector old k
 
-pub SameSlots-keeps : (a b : ℕ) (old new : List ℕ) → b ≤ 68 → Keeps a b old new → SameSlots old new
+pub SameSlots-keeps : (a b : ℕ) (old new : List ℕ) → b ≤ 68 → Touches a b old new → SameSlots old new
 SameSlots-keeps a b old new low keeps k h l = keeps.behind k (omega arith) l
 
 -- the sectors of one slot are as before

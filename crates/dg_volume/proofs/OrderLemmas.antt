@@ -3,7 +3,7 @@ use Rattle.std.proofs.Common.{◌≡◌, ℕ, ◌<◌, ◌≤◌, Bool, true, fa
 use Rattle.std.specs.Prelude.{nat_le}
 use Rattle.std.proofs.lemmas.Bool.{le-leb, lt-leb}
 use Rattle.dg_words.specs.Cells.{part}
-use Rattle.dg_nor.specs.Chip.{sector, Keeps}
+use Rattle.dg_nor.specs.Chip.{sector, Touches}
 use Rattle.dg_control.specs.Snapshot.{place_of}
 use Rattle.dg_control.specs.declared.snapshot.Order.{Order}
 use Rattle.dg_control.specs.declared.snapshot.Snapshot.{Snapshot}
@@ -47,14 +47,14 @@ pub record SaysOrder (r : Snapshot) (v : Volume) (o : Order) : Type 0 where
 says_order : (s : Store) (r : Snapshot) (v : Volume) (o : Order) → Tells v s → SaysOrder r v o → Says r v o false s.gesture
 says_order s r v o tells says = record { slots = says.slots; order = says.order; waived = says.waived; gesture = says.gesture ∙ tells.gesture }
 
-pub order_stands : (old new : List ℕ) (v : Volume) (s : Store) (r : Snapshot) (o : Order) → IsMounted old v → Stands old s → SaysOrder r v o → Keeps 1 2 old new → part (sector new 1) 0 64 ≡ place_of r → Stands new (ordered s o)
+pub order_stands : (old new : List ℕ) (v : Volume) (s : Store) (r : Snapshot) (o : Order) → IsMounted old v → Stands old s → SaysOrder r v o → Touches 1 2 old new → part (sector new 1) 0 64 ≡ place_of r → Stands new (ordered s o)
 order_stands old new v s r o m stands says keeps place =
     let tells = tells_store old v s m stands in
     let program = program_told_is old stands.snapshot.program s.app stands.app ∙ sym tells.program ∙ sym says.program in
     committed old new v s r s.app o false s.gesture m stands (says_order s r v o tells says) (SameSlots-keeps 1 2 old new (omega arith) keeps) place
     (app_kept old new r.program s.app (λ k low high. keeps.behind k (omega arith) (omega arith)) (subst (λ x. AppStands old x s.app) program stands.app))
 
-pub order_mounted : (old new : List ℕ) (v : Volume) (r : Snapshot) (o : Order) → IsMounted old v → SaysOrder r v o → Keeps 1 2 old new → part (sector new 1) 0 64 ≡ place_of r → IsMounted new (record { snapshot = r; kept = v.kept })
+pub order_mounted : (old new : List ℕ) (v : Volume) (r : Snapshot) (o : Order) → IsMounted old v → SaysOrder r v o → Touches 1 2 old new → part (sector new 1) 0 64 ≡ place_of r → IsMounted new (record { snapshot = r; kept = v.kept })
 order_mounted old new v r o m says keeps place = record {
   store = ordered m.store o;
   stands = order_stands old new v m.store r o m m.stands says keeps place;

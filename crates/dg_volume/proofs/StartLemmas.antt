@@ -3,7 +3,7 @@ use Rattle.std.proofs.Common.{◌≡◌, ℕ, ◌+◌, ◌*◌, ◌<◌, ◌≤�
 use Rattle.std.specs.Prelude.{◌==◌, ◌&&◌, IsSome}
 use Rattle.std.proofs.lemmas.Bool.{eqb-true}
 use Rattle.dg_words.specs.Cells.{part}
-use Rattle.dg_nor.specs.Chip.{sector, Keeps}
+use Rattle.dg_nor.specs.Chip.{sector, Touches}
 use Rattle.dg_object.specs.Descriptor.{IsDescriptor}
 use Rattle.dg_control.specs.Snapshot.{place_of}
 use Rattle.dg_volume.specs.Pages.{page_in, program, slot_pages}
@@ -141,7 +141,7 @@ blank_app old new (Set i v) None p e = absurd p
 blank_app old new x (Some app) p e = absurd cc
 
 -- while program memory is blank its sectors may hold anything
-pub blank_stands : (old new : List ℕ) (v : Volume) (s : Store) → IsMounted old v → Stands old s → v.snapshot.program ≡ Blank → Keeps 3 68 old new → Stands new s
+pub blank_stands : (old new : List ℕ) (v : Volume) (s : Store) → IsMounted old v → Stands old s → v.snapshot.program ≡ Blank → Touches 3 68 old new → Stands new s
 blank_stands old new v s m stands blank keeps =
     let tells = tells_store old v s m stands in
     record {
@@ -170,7 +170,7 @@ pub record SaysProgram (r : Snapshot) (v : Volume) (p : Program) : Type 0 where
 says_program : (s : Store) (r : Snapshot) (v : Volume) (p : Program) → Tells v s → SaysProgram r v p → Says r v s.order s.waived s.gesture
 says_program s r v p tells says = record { slots = says.slots; order = says.order ∙ tells.order; waived = says.waived ∙ tells.waived; gesture = says.gesture ∙ tells.gesture }
 
-pub program_stands : (old new : List ℕ) (v : Volume) (s : Store) (r : Snapshot) (p : Program) (a : Option App) → IsMounted old v → Stands old s → SaysProgram r v p → Keeps 1 2 old new → part (sector new 1) 0 64 ≡ place_of r → AppStands old p a
+pub program_stands : (old new : List ℕ) (v : Volume) (s : Store) (r : Snapshot) (p : Program) (a : Option App) → IsMounted old v → Stands old s → SaysProgram r v p → Touches 1 2 old new → part (sector new 1) 0 64 ≡ place_of r → AppStands old p a
     → Stands new (record s { app = a })
 program_stands old new v s r p a m stands says keeps place app =
     let tells = tells_store old v s m stands in

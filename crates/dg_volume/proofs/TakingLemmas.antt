@@ -5,7 +5,7 @@ use Rattle.std.specs.List.{list_all}
 use Rattle.std.proofs.lemmas.Bool.{cases_eq, cases_lt}
 use Rattle.std.proofs.lemmas.List.{length-set, get_or-set_same, get_or-set_other, set-get_or}
 use Rattle.dg_words.specs.Cells.{part}
-use Rattle.dg_nor.specs.Chip.{sector, Keeps}
+use Rattle.dg_nor.specs.Chip.{sector, Touches}
 use Rattle.dg_control.specs.Ranges.{slot_fits, snapshot_fits}
 use Rattle.dg_control.specs.Snapshot.{place_of}
 use Rattle.dg_control.specs.declared.snapshot.Snapshot.{Snapshot}
@@ -95,7 +95,7 @@ pub record Touches (i : ℕ) (old new : List ℕ) : Type 0 where
   pub program : SameProgram old new
   pub others : (j : ℕ) → j < 4 → j ≢ i → SameSlot j old new
 
-pub Touches-slot : (i a b : ℕ) (old new : List ℕ) → i < 4 → 68 + 66 * i ≤ a → b ≤ 134 + 66 * i → Keeps a b old new → Touches i old new
+pub Touches-slot : (i a b : ℕ) (old new : List ℕ) → i < 4 → 68 + 66 * i ≤ a → b ≤ 134 + 66 * i → Touches a b old new → Touches i old new
 Touches-slot i a b old new known low high keeps = record {
   program = λ k l m. keeps.before k (omega arith) (omega arith);
   others = λ j l ne k m n. ⊎_elim
@@ -107,7 +107,7 @@ Touches-slot i a b old new known low high keeps = record {
     side : (i j : ℕ) → j ≢ i → (j < i) ⊎ (i < j)
     side i j ne = ⊎_elim (λ lt. inl lt) (λ ge. inr (omega arith)) (cases_lt j i)
 
-pub Touches-snapshot : (i : ℕ) (old new : List ℕ) → Keeps 1 2 old new → Touches i old new
+pub Touches-snapshot : (i : ℕ) (old new : List ℕ) → Touches 1 2 old new → Touches i old new
 Touches-snapshot i old new keeps = record {
   program = λ k l m. keeps.behind k (omega arith) (omega arith);
   others = λ j l ne k m n. keeps.behind k (omega arith) (omega arith);
@@ -178,7 +178,7 @@ pub mounted_then : {a b : List ℕ} {u v : Volume} {f : Store → Store} → IsM
 mounted_then {a} {b} {u} {v} {f} m p = record { store = f m.store; stands = p.stands m.store m.stands; tells = p.tells m.store m.stands }
 
 -- what an image keeps is committed, as it stands in its slot
-pub committed : (old new : List ℕ) (v w : Volume) (i : ℕ) (h : Option Held) → 1 ≤ i → i < 4 → HasFour v → IsMounted old v → Sets v w i h → Keeps 1 2 old new → part (sector new 1) 0 64 ≡ place_of w.snapshot → SlotStands old i (slot_told h) h
+pub committed : (old new : List ℕ) (v w : Volume) (i : ℕ) (h : Option Held) → 1 ≤ i → i < 4 → HasFour v → IsMounted old v → Sets v w i h → Touches 1 2 old new → part (sector new 1) 0 64 ≡ place_of w.snapshot → SlotStands old i (slot_told h) h
     → Becomes old new w (keeping i h)
 committed old new v w i h low known has m sets keeps place here =
     let there = slot_stays old new i (slot_told h) h (λ k l n. keeps.behind k (omega arith) (omega arith)) here in
@@ -186,7 +186,7 @@ committed old new v w i h low known has m sets keeps place here =
     record { stands = λ s stands. stands_keeping old new w s i h low known stands (Touches-snapshot i old new keeps) place (told_now s stands) there; tells = told_now }
 
 -- what an image keeps changes in its slot, and its state stays
-pub rewritten : (old new : List ℕ) (v w : Volume) (i : ℕ) (h : Option Held) → 1 ≤ i → i < 4 → HasFour v → IsMounted old v → Sets v w i h → Keeps (68 + 66 * i) (134 + 66 * i) old new → w.snapshot ≡ v.snapshot → SlotStands new i (slot_told h) h
+pub rewritten : (old new : List ℕ) (v w : Volume) (i : ℕ) (h : Option Held) → 1 ≤ i → i < 4 → HasFour v → IsMounted old v → Sets v w i h → Touches (68 + 66 * i) (134 + 66 * i) old new → w.snapshot ≡ v.snapshot → SlotStands new i (slot_told h) h
     → Becomes old new w (keeping i h)
 rewritten old new v w i h low known has m sets keeps same here =
     let told_now : (s : Store) → Stands old s → Tells w (keeping i h s) = λ s stands. tells_keeping v w s i h known stands.four has (tells_store old v s m stands) sets in
@@ -218,7 +218,7 @@ none_kept c v i known m e =
     }
 
 -- the header of a slot is written while nothing is kept there
-pub header_written : (a b c : List ℕ) (v : Volume) (i : ℕ) → 1 ≤ i → i < 4 → Becomes a b v (keeping i None) → Keeps (68 + 66 * i) (69 + 66 * i) b c → Becomes a c v (keeping i None)
+pub header_written : (a b c : List ℕ) (v : Volume) (i : ℕ) → 1 ≤ i → i < 4 → Becomes a b v (keeping i None) → Touches (68 + 66 * i) (69 + 66 * i) b c → Becomes a c v (keeping i None)
 header_written a b c v i low known p keeps = record {
   stands = λ s h.
       let t = keeping i None s in

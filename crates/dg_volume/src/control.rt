@@ -1,7 +1,7 @@
 //! The snapshot where it stands on a chip.
 ghost use Rattle.std.specs.Prelude.{◌≡◌, ◌+◌, ◌≤◌, false, IfOk, OnOk, IsErrOf};
 ghost use Rattle.dg_words.specs.Cells.{part};
-ghost use Rattle.dg_nor.specs.Chip.{sector, Keeps};
+ghost use Rattle.dg_nor.specs.Chip.{sector, Touches};
 ghost use Rattle.dg_volume.specs.Acts.{MountEnds, ActEnds};
 ghost use Rattle.dg_control.specs.Snapshot.{place_of};
 ghost use Rattle.dg_control.specs.declared.snapshot.Snapshot.{Snapshot};
@@ -27,10 +27,10 @@ pub(crate) fn read_snapshot<N: Nor>(nor: &mut N) -> Result<Snapshot, MountFault>
     }
 }
 
-/// Keeps this snapshot in place of the one before.
+/// Touches this snapshot in place of the one before.
 pub(crate) fn commit<N: Nor>(nor: &mut N, snapshot: &Snapshot) -> Result<(), Stopped>
     ensures spelled { OnOk result (part (sector (N.device nor.new).image 1) 0 64 ≡ place_of snapshot.now) }
-    ensures keeps { Keeps 1 2 (N.device nor.old).image (N.device nor.new).image }
+    ensures touches { Touches 1 2 (N.device nor.old).image (N.device nor.new).image }
     ensures awake { OnOk result ((N.device nor.old).stopped ≡ false) }
     ensures ends { ActEnds result (N.device nor.old) (N.device nor.new) }
 {

@@ -1,9 +1,9 @@
 //! Formatting: a chip becomes a volume that keeps golden alone.
 ghost use Rattle.std.specs.Prelude.{◌≡◌, ◌↔◌, ◌⊎◌, ℕ, ◌<◌, ◌≤◌, false, IsTrue, OnOk, IsErrOf, length};
 ghost use Rattle.dg_base.specs.Texts.{names};
-ghost use Rattle.dg_nor.specs.Chip.{Keeps};
+ghost use Rattle.dg_nor.specs.Chip.{Touches};
 ghost use Rattle.dg_volume.specs.Acts.{ActEnds, Worked, ActStopped};
-ghost use Rattle.dg_volume.specs.Frames.{KeepsBut};
+ghost use Rattle.dg_volume.specs.Frames.{TouchesBut};
 ghost use Rattle.dg_control.specs.Snapshot.{IsFresh};
 ghost use Rattle.dg_volume.specs.Store.{KeepsImage, Stands, fresh, golden_row, held_whole};
 
@@ -31,7 +31,7 @@ impl Volume {
         ensures worked { OnOk result (Worked (N.device nor.old) (N.device nor.new)) }
         ensures awake { OnOk result ((N.device nor.old).stopped ≡ false) }
         // golden's slot has the sectors 68 to 133
-        ensures keeps { KeepsBut 68 134 (N.device nor.old).image (N.device nor.new).image }
+        ensures touches { TouchesBut 68 134 (N.device nor.old).image (N.device nor.new).image }
 
         ensures empty { (result ≡ Err FormatFault.Empty) ↔ (length golden.now ≡ 0) }
         ensures too_large { (result ≡ Err FormatFault.TooLarge) ↔ (70656 < length golden.now) }
@@ -80,7 +80,7 @@ fn write_golden<N: Nor>(nor: &mut N, golden: &[u8], name: &[u8]) -> Result<(), S
     requires fits { length golden.now ≤ 70656 }
     requires named { IsTrue (names name.now) }
     ensures kept { OnOk result (KeepsImage (N.device nor.new).image 0 1 (held_whole (golden_row name.now golden.now))) }
-    ensures keeps { Keeps 68 134 (N.device nor.old).image (N.device nor.new).image }
+    ensures touches { Touches 68 134 (N.device nor.old).image (N.device nor.new).image }
     ensures ends { ActEnds result (N.device nor.old) (N.device nor.new) }
 {
     let image = NewImage {

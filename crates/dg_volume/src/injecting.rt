@@ -3,9 +3,9 @@ ghost use Rattle.std.specs.Prelude.{◌≡◌, ◌≢◌, ◌↔◌, ℕ, ◌+�
 ghost use Rattle.dg_base.specs.Texts.{names};
 ghost use Rattle.dg_object.specs.Object.{Row, row_of, pages_for, page_of_row, profile};
 ghost use Rattle.dg_object.specs.Records.{outline_of};
-ghost use Rattle.dg_nor.specs.Chip.{Keeps};
+ghost use Rattle.dg_nor.specs.Chip.{Touches};
 ghost use Rattle.dg_volume.specs.Acts.{ActEnds, Worked, ActStopped};
-ghost use Rattle.dg_volume.specs.Frames.{KeepsBut};
+ghost use Rattle.dg_volume.specs.Frames.{TouchesBut};
 ghost use Rattle.dg_volume.specs.Store.{Store, Held, Stands, SlotStands, held, held_whole};
 ghost use Rattle.dg_volume.specs.Told.{told, told_held, slot_told};
 ghost use Rattle.dg_volume.specs.Changes.{injected, inject_refusal, newer, stale, UnlessInjectRefused};
@@ -30,7 +30,7 @@ pub struct Injected {
 }
 
 impl Volume {
-    /// Keeps an image whole, in place of an older version of it. Where this version is kept, nothing changes.
+    /// Touches an image whole, in place of an older version of it. Where this version is kept, nothing changes.
     ///
     /// The image has 1 to 70,656 bytes and number 1 to 3. What refuses it is looked for in this order: `Empty`,
     /// `TooLarge`, `Reserved`, `Stale`. These change nothing. `Stopped` comes last, where none of them does, and the
@@ -59,7 +59,7 @@ impl Volume {
         ensures again { IsSomeAnd (kept_at self.old image) (λ k. k.version ≡ version)
             → (N.device nor.new ≡ N.device nor.old) × (self.new ≡ self.old) }
         // the image's slot has the sectors 68 + 66 * image to 133 + 66 * image
-        ensures keeps { KeepsBut (68 + 66 * image) (134 + 66 * image) (N.device nor.old).image (N.device nor.new).image }
+        ensures touches { TouchesBut (68 + 66 * image) (134 + 66 * image) (N.device nor.old).image (N.device nor.new).image }
 
         ensures allowed { UnlessInjectRefused result ((s : Store) → Stands (N.device nor.old).image s
             → inject_refusal s (row_of image version name.now bytes.now) ≡ None) }
@@ -126,12 +126,12 @@ impl Volume {
         }
     }
 
-    /// Keeps an image whole, in place of an older version of it.
+    /// Touches an image whole, in place of an older version of it.
     fn replace<N: Nor>(&mut self, nor: &mut N, new: &NewImage<'_>) -> Result<(), Stopped>
         requires mounted { IsMounted (N.device nor.old).image self.old }
         requires not_golden { 1 ≤ new.now.number }
         ensures injected { OnOk result (Becomes (N.device nor.old).image (N.device nor.new).image self.new (λ s. injected s (new_row new.now))) }
-        ensures keeps { KeepsBut (68 + 66 * new.now.number) (134 + 66 * new.now.number) (N.device nor.old).image (N.device nor.new).image }
+        ensures touches { TouchesBut (68 + 66 * new.now.number) (134 + 66 * new.now.number) (N.device nor.old).image (N.device nor.new).image }
         ensures ends { ActEnds result (N.device nor.old) (N.device nor.new) }
     {
         let mut first = [0; 1104];
@@ -148,7 +148,7 @@ impl Volume {
         requires known_image { profile.now.image ≤ 3 }
         ensures taken { OnOk result (Becomes (N.device nor.old).image (N.device nor.new).image self.new
             (keeping profile.now.image (Some (held_begun (outline_of profile.now))))) }
-        ensures keeps { KeepsBut (68 + 66 * profile.now.image) (134 + 66 * profile.now.image) (N.device nor.old).image (N.device nor.new).image }
+        ensures touches { TouchesBut (68 + 66 * profile.now.image) (134 + 66 * profile.now.image) (N.device nor.old).image (N.device nor.new).image }
         ensures ends { ActEnds result (N.device nor.old) (N.device nor.new) }
     {
         self.clear(nor, profile.image)?;
@@ -162,7 +162,7 @@ impl Volume {
         requires not_golden { 1 ≤ image }
         requires known_image { image ≤ 3 }
         ensures cleared { OnOk result (Becomes (N.device nor.old).image (N.device nor.new).image self.new (keeping image None)) }
-        ensures keeps { Keeps 1 2 (N.device nor.old).image (N.device nor.new).image }
+        ensures touches { Touches 1 2 (N.device nor.old).image (N.device nor.new).image }
         ensures ends { ActEnds result (N.device nor.old) (N.device nor.new) }
     {
         if self.kept(image).is_none() {
@@ -184,7 +184,7 @@ impl Volume {
         requires some_version { IfSome kept (λ k. 1 ≤ k.version) }
         ensures committed { OnOk result ((h : Option Held) → told h ≡ kept → SlotStands (N.device nor.old).image image (slot_told h) h
             → Becomes (N.device nor.old).image (N.device nor.new).image self.new (keeping image h)) }
-        ensures keeps { Keeps 1 2 (N.device nor.old).image (N.device nor.new).image }
+        ensures touches { Touches 1 2 (N.device nor.old).image (N.device nor.new).image }
         ensures ends { ActEnds result (N.device nor.old) (N.device nor.new) }
     {
         let snapshot = with_slot(&self.snapshot, image, slot_state(&kept));
@@ -209,7 +209,7 @@ impl Volume {
         requires begun { (s : Store) → Stands (N.device nor.old).image s → held s new.now.number ≡ Some (held_begun (outline_of outline.now)) }
         ensures whole { OnOk result (Becomes (N.device nor.old).image (N.device nor.new).image self.new
             (keeping new.now.number (Some (held_whole (new_row new.now))))) }
-        ensures keeps { Keeps (68 + 66 * new.now.number) (134 + 66 * new.now.number) (N.device nor.old).image (N.device nor.new).image }
+        ensures touches { Touches (68 + 66 * new.now.number) (134 + 66 * new.now.number) (N.device nor.old).image (N.device nor.new).image }
         ensures ends { ActEnds result (N.device nor.old) (N.device nor.new) }
     {
         fill(nor, new, first)?;

@@ -1,9 +1,9 @@
 //! An image is put into program memory: Blank is committed first, then its pages are copied, then Set is committed.
 ghost use Rattle.std.specs.Prelude.{◌≡◌, ◌≤◌, true, IsTrue, Option, IfOk, OnOk};
-ghost use Rattle.dg_nor.specs.Chip.{Keeps};
+ghost use Rattle.dg_nor.specs.Chip.{Touches};
 ghost use Rattle.dg_control.specs.Ranges.{program_fits};
 ghost use Rattle.dg_volume.specs.Acts.{ActEnds};
-ghost use Rattle.dg_volume.specs.Frames.{KeepsBut};
+ghost use Rattle.dg_volume.specs.Frames.{TouchesBut};
 ghost use Rattle.dg_volume.specs.Store.{Store, App, AppStands, HoldsApp, Stands, held};
 ghost use Rattle.dg_volume.specs.Start.{copied, is_whole};
 ghost use Rattle.dg_volume.specs.Installs.{blanked, app_of};
@@ -28,7 +28,7 @@ pub(crate) fn install<N: Nor>(
     requires whole { (s : Store) → Stands (N.device nor.old).image s → is_whole (held s image) version ≡ true }
     ensures stands { OnOk result ((s : Store) → Stands (N.device nor.old).image s → Stands (N.device nor.new).image (copied s image version).after) }
     ensures told { IfOk result (λ v. (s : Store) → Stands (N.device nor.old).image s → Tells v (copied s image version).after) }
-    ensures keeps { KeepsBut 3 68 (N.device nor.old).image (N.device nor.new).image }
+    ensures touches { TouchesBut 3 68 (N.device nor.old).image (N.device nor.new).image }
     ensures ends { ActEnds result (N.device nor.old) (N.device nor.new) }
 {
     let volume = blank(nor, volume)?;
@@ -36,12 +36,12 @@ pub(crate) fn install<N: Nor>(
     set(nor, volume, image, version)
 }
 
-/// Keeps that program memory is blank, where it is not.
+/// Touches that program memory is blank, where it is not.
 fn blank<N: Nor>(nor: &mut N, volume: Volume) -> Result<Volume, Stopped>
     requires { IsMounted (N.device nor.old).image volume }
     ensures stands { OnOk result ((s : Store) → Stands (N.device nor.old).image s → Stands (N.device nor.new).image (blanked s)) }
     ensures told { IfOk result (λ v. (s : Store) → Stands (N.device nor.old).image s → Tells v (blanked s)) }
-    ensures keeps { Keeps 1 2 (N.device nor.old).image (N.device nor.new).image }
+    ensures touches { Touches 1 2 (N.device nor.old).image (N.device nor.new).image }
     ensures ends { ActEnds result (N.device nor.old) (N.device nor.new) }
 {
     match volume.snapshot.program {
@@ -50,7 +50,7 @@ fn blank<N: Nor>(nor: &mut N, volume: Volume) -> Result<Volume, Stopped>
     }
 }
 
-/// Keeps what program memory is Set to. It holds the pages of that image already.
+/// Touches what program memory is Set to. It holds the pages of that image already.
 fn commit_program<N: Nor>(nor: &mut N, volume: Volume, program: Program) -> Result<Volume, Stopped>
     requires mounted { IsMounted (N.device nor.old).image volume }
     requires in_range { IsTrue (program_fits program) }
@@ -58,7 +58,7 @@ fn commit_program<N: Nor>(nor: &mut N, volume: Volume, program: Program) -> Resu
         → AppStands (N.device nor.old).image program app → Stands (N.device nor.new).image (record s { app = app })) }
     ensures told { IfOk result (λ v. (s : Store) (app : Option App) → Stands (N.device nor.old).image s
         → AppStands (N.device nor.old).image program app → Tells v (record s { app = app })) }
-    ensures keeps { Keeps 1 2 (N.device nor.old).image (N.device nor.new).image }
+    ensures touches { Touches 1 2 (N.device nor.old).image (N.device nor.new).image }
     ensures ends { ActEnds result (N.device nor.old) (N.device nor.new) }
 {
     let snapshot = with_program(&volume.snapshot, program);
@@ -96,14 +96,14 @@ fn copy_image<N: Nor>(nor: &mut N, volume: &Volume, image: u8, version: u32) -> 
     ensures stands { OnOk result ((s : Store) → Stands (N.device nor.old).image s → Stands (N.device nor.new).image s) }
     ensures holds { OnOk result ((s : Store) → Stands (N.device nor.old).image s
         → HoldsApp (N.device nor.new).image image version (app_of s image version)) }
-    ensures keeps { Keeps 3 68 (N.device nor.old).image (N.device nor.new).image }
+    ensures touches { Touches 3 68 (N.device nor.old).image (N.device nor.new).image }
     ensures ends { ActEnds result (N.device nor.old) (N.device nor.new) }
 {
     let kept = volume.kept(image).unwrap();
     copy_pages(nor, page_sector(image, 0), PROGRAM, kept.pages)
 }
 
-/// Keeps that program memory is Set to an image whose pages stand there.
+/// Touches that program memory is Set to an image whose pages stand there.
 fn set<N: Nor>(nor: &mut N, volume: Volume, image: u8, version: u32) -> Result<Volume, Stopped>
     requires mounted { IsMounted (N.device nor.old).image volume }
     requires known_image { image ≤ 3 }
@@ -112,7 +112,7 @@ fn set<N: Nor>(nor: &mut N, volume: Volume, image: u8, version: u32) -> Result<V
         → HoldsApp (N.device nor.old).image image version (app_of s image version) }
     ensures stands { OnOk result ((s : Store) → Stands (N.device nor.old).image s → Stands (N.device nor.new).image (copied s image version).after) }
     ensures told { IfOk result (λ v. (s : Store) → Stands (N.device nor.old).image s → Tells v (copied s image version).after) }
-    ensures keeps { Keeps 1 2 (N.device nor.old).image (N.device nor.new).image }
+    ensures touches { Touches 1 2 (N.device nor.old).image (N.device nor.new).image }
     ensures ends { ActEnds result (N.device nor.old) (N.device nor.new) }
 {
     commit_program(nor, volume, Program::Set { image, version })

@@ -1,6 +1,6 @@
 //! Orders: which image is to be started.
 ghost use Rattle.std.specs.Prelude.{◌≡◌, ◌≢◌, ◌≤◌, false, IsTrue, Some, None, Err, OnOk, IsErrOf};
-ghost use Rattle.dg_nor.specs.Chip.{Keeps};
+ghost use Rattle.dg_nor.specs.Chip.{Touches};
 ghost use Rattle.dg_control.specs.Ranges.{order_fits};
 ghost use Rattle.dg_volume.specs.Acts.{Worked, ActStopped};
 ghost use Rattle.dg_volume.specs.Store.{Store, Stands};
@@ -12,7 +12,7 @@ use crate::{Order, OrderFault, Snapshot, Volume};
 use dg_nor::Nor;
 
 impl Volume {
-    /// Keeps an order to start an image, not waived, in place of the one before, whose number is smaller.
+    /// Touches an order to start an image, not waived, in place of the one before, whose number is smaller.
     ///
     /// `OldOrder` changes nothing. `Stopped` comes only where the order is not an old one.
     pub fn order<N: Nor>(
@@ -32,7 +32,7 @@ impl Volume {
         ensures mounted { OnOk result (IsMounted (N.device nor.new).image self.new) }
         ensures worked { OnOk result (Worked (N.device nor.old) (N.device nor.new)) }
         ensures awake { OnOk result ((N.device nor.old).stopped ≡ false) }
-        ensures keeps { Keeps 1 2 (N.device nor.old).image (N.device nor.new).image }
+        ensures touches { Touches 1 2 (N.device nor.old).image (N.device nor.new).image }
 
         ensures allowed { UnlessOrderRefused result ((s : Store) → Stands (N.device nor.old).image s
             → order_refusal s (record { number = number; image = image; version = version }) ≡ None) }

@@ -2,7 +2,7 @@
 ghost use Rattle.std.specs.Prelude.{◌≡◌, ◌≢◌, ℕ, ◌+◌, ◌*◌, ◌<◌, ◌≤◌, length, IfOk, OnOk};
 ghost use Rattle.dg_words.specs.Cells.{part};
 ghost use Rattle.dg_base.specs.Crc.{crc_of, crc_more};
-ghost use Rattle.dg_nor.specs.Chip.{sector, programmed, Keeps};
+ghost use Rattle.dg_nor.specs.Chip.{sector, programmed, Touches};
 ghost use Rattle.dg_volume.specs.Acts.{ReadEnds, ActEnds};
 ghost use Rattle.dg_volume.specs.Pages.{page_in};
 ghost use Rattle.dg_nor.specs.declared.device.TheConstants.{SECTORS};
@@ -70,7 +70,7 @@ fn copy_piece<N: Nor>(nor: &mut N, from: u32, to: u32, at: u32) -> Result<(), St
     requires in_page { at + 184 ≤ 1104 }
     ensures cells { OnOk result (sector (N.device nor.new).image to
         ≡ programmed (sector (N.device nor.old).image to) at (part (sector (N.device nor.old).image from) at 184)) }
-    ensures keeps { Keeps to (to + 1) (N.device nor.old).image (N.device nor.new).image }
+    ensures touches { Touches to (to + 1) (N.device nor.old).image (N.device nor.new).image }
     ensures ends { ActEnds result (N.device nor.old) (N.device nor.new) }
 {
     let mut piece = [0; PIECE as usize];
@@ -84,7 +84,7 @@ fn copy_page<N: Nor>(nor: &mut N, from: u32, to: u32) -> Result<(), Stopped>
     requires to_in { to < SECTORS }
     requires apart { from ≢ to }
     ensures page { OnOk result (page_in (N.device nor.new).image to ≡ page_in (N.device nor.old).image from) }
-    ensures keeps { Keeps to (to + 1) (N.device nor.old).image (N.device nor.new).image }
+    ensures touches { Touches to (to + 1) (N.device nor.old).image (N.device nor.new).image }
     ensures ends { ActEnds result (N.device nor.old) (N.device nor.new) }
 {
     erase_sector(nor, to)?;
@@ -100,7 +100,7 @@ pub(crate) fn copy_pages<N: Nor>(nor: &mut N, from: u32, to: u32, count: u8) -> 
     requires from_in { from + count ≤ SECTORS }
     ensures pages { OnOk result ((p : ℕ) → p < count
         → page_in (N.device nor.new).image (to + p) ≡ page_in (N.device nor.old).image (from + p)) }
-    ensures keeps { Keeps to (to + count) (N.device nor.old).image (N.device nor.new).image }
+    ensures touches { Touches to (to + count) (N.device nor.old).image (N.device nor.new).image }
     ensures ends { ActEnds result (N.device nor.old) (N.device nor.new) }
 {
     for p in 0..u32::from(count) {

@@ -2,7 +2,7 @@
 ghost use Rattle.std.specs.Prelude.{◌≡◌, ◌⊎◌, ℕ, ◌+◌, ◌≤◌, ◌<◌, true, false, Some, None, IfOk, OnOk, IsErrOf, IsSome, IsSomeAnd, IsTrue};
 ghost use Rattle.dg_words.specs.Cells.{part};
 ghost use Rattle.dg_base.specs.Crc.{crc_of};
-ghost use Rattle.dg_volume.specs.Frames.{KeepsBut};
+ghost use Rattle.dg_volume.specs.Frames.{TouchesBut};
 ghost use Rattle.dg_object.specs.Object.{content, pages_for};
 ghost use Rattle.dg_object.specs.Descriptor.{Details, IsDescriptor};
 ghost use Rattle.dg_volume.specs.Acts.{ReadEnds, ActEnds, StartEnds, StartReadEnds, Looked, Worked, ActStopped};
@@ -39,7 +39,7 @@ pub fn start<N: Nor>(nor: &mut N) -> Result<Started, StartFault>
     ensures volume { OnOk result (IsVolume (N.device nor.old).image) }
     ensures worked { OnOk result (Worked (N.device nor.old) (N.device nor.new)) }
     ensures awake { OnOk result ((N.device nor.old).stopped ≡ false) }
-    ensures keeps { KeepsBut 3 68 (N.device nor.old).image (N.device nor.new).image }
+    ensures touches { TouchesBut 3 68 (N.device nor.old).image (N.device nor.new).image }
     ensures runs_on { (s : Store) → Stands (N.device nor.old).image s → IsTrue (runs_on s)
         → StartReadEnds result (N.device nor.old) (N.device nor.new) }
 
@@ -66,7 +66,7 @@ fn start_program<N: Nor>(nor: &mut N, volume: Volume) -> Result<Started, StartFa
     ensures runs_on { (s : Store) → Stands (N.device nor.old).image s → IsSome s.app → StartReadEnds result (N.device nor.old) (N.device nor.new) }
     ensures no_image { IsErrOf result StartFault.NoImage → (s : Store) → Stands (N.device nor.old).image s → start_from s s.app ≡ None }
     ensures a_volume { IsErrOf result StartFault.NotAVolume → ⊥ }
-    ensures keeps { KeepsBut 3 68 (N.device nor.old).image (N.device nor.new).image }
+    ensures touches { TouchesBut 3 68 (N.device nor.old).image (N.device nor.new).image }
     ensures ends { StartEnds result (N.device nor.old) (N.device nor.new) }
 {
     match volume.snapshot.program {
@@ -82,7 +82,7 @@ fn start_golden<N: Nor>(nor: &mut N, volume: Volume) -> Result<Started, StartFau
         → Starts s (N.device nor.new).image told) }
     ensures no_image { IsErrOf result StartFault.NoImage → (s : Store) → Stands (N.device nor.old).image s → sound s 0 ≡ false }
     ensures a_volume { IsErrOf result StartFault.NotAVolume → ⊥ }
-    ensures keeps { KeepsBut 3 68 (N.device nor.old).image (N.device nor.new).image }
+    ensures touches { TouchesBut 3 68 (N.device nor.old).image (N.device nor.new).image }
     ensures ends { StartEnds result (N.device nor.old) (N.device nor.new) }
 {
     if !is_golden_sound(nor, &volume)? {
@@ -104,7 +104,7 @@ fn start_copied<N: Nor>(
     requires whole { (s : Store) → Stands (N.device nor.old).image s → is_whole (held s image) version ≡ true }
     ensures started { IfOk result (λ told. (s : Store) → Stands (N.device nor.old).image s → start_of s ≡ Some (copied s image version)
         → Starts s (N.device nor.new).image told) }
-    ensures keeps { KeepsBut 3 68 (N.device nor.old).image (N.device nor.new).image }
+    ensures touches { TouchesBut 3 68 (N.device nor.old).image (N.device nor.new).image }
     ensures ends { ActEnds result (N.device nor.old) (N.device nor.new) }
 {
     let volume = install(nor, volume, image, version)?;

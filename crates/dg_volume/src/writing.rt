@@ -1,6 +1,6 @@
 //! Images as they are written into their slots: the header, each page, and then the gates.
 ghost use Rattle.std.specs.Prelude.{◌≡◌, ℕ, ◌+◌, ◌*◌, ◌<◌, ◌≤◌, length, OnOk};
-ghost use Rattle.dg_nor.specs.Chip.{sector, Keeps};
+ghost use Rattle.dg_nor.specs.Chip.{sector, Touches};
 ghost use Rattle.dg_object.specs.Object.{pages_for, page_of_row};
 ghost use Rattle.dg_volume.specs.Acts.{ActEnds};
 ghost use Rattle.dg_volume.specs.Header.{IsHeader};
@@ -19,7 +19,7 @@ pub(crate) fn write_header<N: Nor>(nor: &mut N, profile: &Profile) -> Result<(),
     requires { profile.now.image ≤ 3 }
     ensures header { OnOk result (IsHeader (sector (N.device nor.new).image (68 + 66 * profile.now.image))
         profile.now.image profile.now.version profile.now.pages profile.now.crc 0) }
-    ensures keeps { Keeps (68 + 66 * profile.now.image) (69 + 66 * profile.now.image) (N.device nor.old).image (N.device nor.new).image }
+    ensures touches { Touches (68 + 66 * profile.now.image) (69 + 66 * profile.now.image) (N.device nor.old).image (N.device nor.new).image }
     ensures ends { ActEnds result (N.device nor.old) (N.device nor.new) }
 {
     let header = header_bytes(profile.image, profile.version, profile.pages, profile.crc);
@@ -32,7 +32,7 @@ fn write_page<N: Nor>(nor: &mut N, image: u8, p: u8, page: &[u8; 1104]) -> Resul
     requires known_image { image ≤ 3 }
     requires known_page { p ≤ 64 }
     ensures page { OnOk result (page_in (N.device nor.new).image (69 + 66 * image + p) ≡ page.now) }
-    ensures keeps { Keeps (69 + 66 * image + p) (70 + 66 * image + p) (N.device nor.old).image (N.device nor.new).image }
+    ensures touches { Touches (69 + 66 * image + p) (70 + 66 * image + p) (N.device nor.old).image (N.device nor.new).image }
     ensures ends { ActEnds result (N.device nor.old) (N.device nor.new) }
 {
     erase_sector(nor, page_sector(image, p))?;
@@ -43,7 +43,7 @@ fn write_page<N: Nor>(nor: &mut N, image: u8, p: u8, page: &[u8; 1104]) -> Resul
 fn write_page_of<N: Nor>(nor: &mut N, image: &NewImage<'_>, p: u8) -> Result<(), Stopped>
     requires { p < pages_for (length image.now.bytes.now) }
     ensures page { OnOk result (page_in (N.device nor.new).image (69 + 66 * image.now.number + p) ≡ page_of_row (new_row image.now) p) }
-    ensures keeps { Keeps (69 + 66 * image.now.number + p) (70 + 66 * image.now.number + p) (N.device nor.old).image (N.device nor.new).image }
+    ensures touches { Touches (69 + 66 * image.now.number + p) (70 + 66 * image.now.number + p) (N.device nor.old).image (N.device nor.new).image }
     ensures ends { ActEnds result (N.device nor.old) (N.device nor.new) }
 {
     let mut page = [0; 1104];
@@ -55,7 +55,7 @@ fn write_page_of<N: Nor>(nor: &mut N, image: &NewImage<'_>, p: u8) -> Result<(),
 fn write_pages<N: Nor>(nor: &mut N, image: &NewImage<'_>, first: &[u8; 1104]) -> Result<(), Stopped>
     requires { first.now ≡ page_of_row (new_row image.now) 0 }
     ensures pages { OnOk result (HoldsPages (N.device nor.new).image (new_row image.now)) }
-    ensures keeps { Keeps (69 + 66 * image.now.number) (134 + 66 * image.now.number) (N.device nor.old).image (N.device nor.new).image }
+    ensures touches { Touches (69 + 66 * image.now.number) (134 + 66 * image.now.number) (N.device nor.old).image (N.device nor.new).image }
     ensures ends { ActEnds result (N.device nor.old) (N.device nor.new) }
 {
     write_page(nor, image.number, 0, first)?;
@@ -70,7 +70,7 @@ fn clear_gates<N: Nor>(nor: &mut N, image: &NewImage<'_>) -> Result<(), Stopped>
     requires opened { IsOpened (N.device nor.old).image (new_row image.now) }
     requires pages { HoldsPages (N.device nor.old).image (new_row image.now) }
     ensures whole { OnOk result (KeepsImage (N.device nor.new).image image.now.number image.now.version (held_whole (new_row image.now))) }
-    ensures keeps { Keeps (68 + 66 * image.now.number) (69 + 66 * image.now.number) (N.device nor.old).image (N.device nor.new).image }
+    ensures touches { Touches (68 + 66 * image.now.number) (69 + 66 * image.now.number) (N.device nor.old).image (N.device nor.new).image }
     ensures ends { ActEnds result (N.device nor.old) (N.device nor.new) }
 {
     program_in(
@@ -90,7 +90,7 @@ pub(crate) fn fill<N: Nor>(
     requires opened { IsOpened (N.device nor.old).image (new_row image.now) }
     requires first { first.now ≡ page_of_row (new_row image.now) 0 }
     ensures whole { OnOk result (KeepsImage (N.device nor.new).image image.now.number image.now.version (held_whole (new_row image.now))) }
-    ensures keeps { Keeps (68 + 66 * image.now.number) (134 + 66 * image.now.number) (N.device nor.old).image (N.device nor.new).image }
+    ensures touches { Touches (68 + 66 * image.now.number) (134 + 66 * image.now.number) (N.device nor.old).image (N.device nor.new).image }
     ensures ends { ActEnds result (N.device nor.old) (N.device nor.new) }
 {
     write_pages(nor, image, first)?;

@@ -1,5 +1,5 @@
 use Rattle.std.proofs.Common.{◌≡◌, ℕ, ◌+◌, ◌<◌, ◌≤◌, get_or}
-use Rattle.dg_nor.specs.Chip.{sector, blank, Keeps}
+use Rattle.dg_nor.specs.Chip.{sector, blank, Touches}
 use Rattle.dg_nor.specs.Device.{Ran}
 use Rattle.dg_control.specs.Places.{place_in}
 use Rattle.dg_control.proofs.formatting.spend_places.Given as goal
@@ -12,5 +12,5 @@ invariant-loop-place g l =
       spent : (i : ℕ) → i < l.place → get_or (place_in (sector now.image l.index) i) 0 0 ≡ 0;
       rest : (i : ℕ) → l.place ≤ i → i < 32 → place_in (sector now.image l.index) i ≡ blank 64;
       ran : Ran l.place old now;
-      keeps : Keeps l.index (l.index + 1) old.image now.image;
+      touches : Touches l.index (l.index + 1) old.image now.image;
     }

@@ -1,7 +1,7 @@
 use Rattle.std.proofs.Common.{◌≡◌, ◌+◌, ◌*◌, ap, ◌∙◌, arith}
 use Rattle.dg_words.specs.Cells.{part, overwritten}
 use Rattle.dg_nor.specs.Chip.{sector, blank}
-use Rattle.dg_nor.proofs.ChipLemmas.{length-sector, sector_kept, Keeps_then}
+use Rattle.dg_nor.proofs.ChipLemmas.{length-sector, sector_kept, Touches_then}
 use Rattle.dg_volume.proofs.ActLemmas.{Worked-ran, Worked_then}
 use Rattle.dg_volume.proofs.ChipLemmas.{copy_none, copy_more, copy_all, apart, AreBytes-sector}
 use Rattle.dg_volume.proofs.pages.copy_page.Goals as goal
@@ -27,7 +27,7 @@ loop-k-preserved g c =
     record {
       copied = copy_more (sector image from) _ _ _ (184 * k) 184 (184 * (k + 1)) (length-sector image from chip.cells c.requires.from_in) (AreBytes-sector image from chip.bytes)
           before.copied done.cells (ap (λ s. part s (184 * k) 184) same) (omega arith) (omega arith);
-      keeps = Keeps_then before.keeps done.keeps;
+      touches = Touches_then before.keeps done.keeps;
       worked = Worked_then before.worked done.ends;
     }
 

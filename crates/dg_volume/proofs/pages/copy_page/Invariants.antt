@@ -1,6 +1,6 @@
 use Rattle.std.proofs.Common.{◌≡◌, ◌+◌, ◌*◌}
 use Rattle.dg_words.specs.Cells.{part, overwritten}
-use Rattle.dg_nor.specs.Chip.{sector, blank, Keeps}
+use Rattle.dg_nor.specs.Chip.{sector, blank, Touches}
 use Rattle.dg_volume.specs.Acts.{Worked}
 use Rattle.dg_volume.proofs.pages.copy_page.Given as goal
 
@@ -10,6 +10,6 @@ invariant-loop-k g l =
     let now = g.N.Nor.device l.nor in
     record {
       copied : sector now.image l.to ≡ overwritten (blank 2048) 0 (part (sector old.image l.from) 0 (184 * l.k));
-      keeps : Keeps l.to (l.to + 1) old.image now.image;
+      touches : Touches l.to (l.to + 1) old.image now.image;
       worked : Worked old now;
     }

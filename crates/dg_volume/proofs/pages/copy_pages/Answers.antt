@@ -1,6 +1,6 @@
 use Rattle.std.proofs.Common.{◌+◌, ap, ◌∙◌, arith, below_more}
 use Rattle.dg_words.specs.Cells.{part}
-use Rattle.dg_nor.proofs.ChipLemmas.{Keeps_then, Keeps_wider}
+use Rattle.dg_nor.proofs.ChipLemmas.{Touches_then, Touches_wider}
 use Rattle.dg_volume.proofs.ActLemmas.{Worked_then}
 use Rattle.dg_volume.proofs.pages.copy_pages.Goals as goal
 
@@ -15,6 +15,6 @@ loop-p-preserved g c =
       copied = below_more _ _
           (λ q h. ap (λ s. part s 0 1104) (done.keeps.before (to + q) (omega arith) (omega arith)) ∙ before.copied q h)
           (done.page ∙ ap (λ s. part s 0 1104) (before.keeps.behind (from + p) (omega arith) (omega arith)));
-      keeps = Keeps_then before.keeps (Keeps_wider (to + p) (to + p + 1) to (to + c.args.count) done.keeps (omega arith) (omega arith));
+      touches = Touches_then before.keeps (Touches_wider (to + p) (to + p + 1) to (to + c.args.count) done.keeps (omega arith) (omega arith));
       worked = Worked_then before.worked done.ends;
     }

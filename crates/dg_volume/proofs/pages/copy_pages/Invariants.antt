@@ -1,5 +1,5 @@
 use Rattle.std.proofs.Common.{◌≡◌, ℕ, ◌+◌, ◌<◌}
-use Rattle.dg_nor.specs.Chip.{Keeps}
+use Rattle.dg_nor.specs.Chip.{Touches}
 use Rattle.dg_volume.specs.Acts.{Worked}
 use Rattle.dg_volume.specs.Pages.{page_in}
 use Rattle.dg_volume.proofs.pages.copy_pages.Given as goal
@@ -10,6 +10,6 @@ invariant-loop-p g l =
     let now = g.N.Nor.device l.nor in
     record {
       copied : (p : ℕ) → p < l.p → page_in now.image (l.to + p) ≡ page_in old.image (l.from + p);
-      keeps : Keeps l.to (l.to + l.count) old.image now.image;
+      touches : Touches l.to (l.to + l.count) old.image now.image;
       worked : Worked old now;
     }

@@ -29,5 +29,5 @@ returns-clause-whole g c =
     (λ e.
     let there : sector new k ≡ programmed (sector old k) 16 gates = subst (λ (j : ℕ). sector new j ≡ programmed (sector old j) 16 gates) c.header_sector.ensures e in
     let header = gates_cleared (sector old k) (sector new k) gates image.number image.version n _ n c.requires.opened (length-sector old k chip.cells in_chip) there (c.gates_of.ensures ∙ ap gates_of c.pages.ensures) small long (omega arith) in
-    whole_keeps new row image.is_row header (λ p h. ap (λ s. part s 0 1104) (c.program_in.ensures.keeps.behind (69 + 66 * image.number + p) (omega (arith, c.header_sector.ensures)) (omega arith)) ∙ c.requires.pages p h))
+    whole_keeps new row image.is_row header (λ p h. ap (λ s. part s 0 1104) (c.program_in.ensures.touches.behind (69 + 66 * image.number + p) (omega (arith, c.header_sector.ensures)) (omega arith)) ∙ c.requires.pages p h))
     c.program_in.ensures.cells

@@ -1,6 +1,6 @@
 use Rattle.std.proofs.Common.{◌≤◌, ◌+◌, ◌*◌, length, ap, ◌∙◌, arith, below_more}
 use Rattle.dg_words.specs.Cells.{part}
-use Rattle.dg_nor.proofs.ChipLemmas.{Keeps_then, Keeps_wider}
+use Rattle.dg_nor.proofs.ChipLemmas.{Touches_then, Touches_wider}
 use Rattle.dg_object.specs.Object.{pages_for}
 use Rattle.dg_object.proofs.RowLemmas.{pages_for-most}
 use Rattle.dg_volume.specs.Writing.{new_row}
@@ -15,7 +15,7 @@ loop-p-init g c =
     let done = c.in_ok-write_page.ensures in
     record {
       pages = first_written _ (new_row image) c.args.first.now done.page c.requires;
-      keeps = Keeps_wider (first + 0) (70 + 66 * image.number + 0) first (134 + 66 * image.number) done.keeps (omega arith) (omega arith);
+      touches = Touches_wider (first + 0) (70 + 66 * image.number + 0) first (134 + 66 * image.number) done.keeps (omega arith) (omega arith);
       worked = done.ends;
     }
 
@@ -31,6 +31,6 @@ loop-p-preserved g c =
     let done = c.in_ok-write_page_of.ensures in
     record {
       pages = below_more _ _ (λ q h. ap (λ s. part s 0 1104) (done.keeps.before (first + q) (omega arith) (omega arith)) ∙ before.pages q h) done.page;
-      keeps = Keeps_then before.keeps (Keeps_wider (first + p) (70 + 66 * image.number + p) first (134 + 66 * image.number) done.keeps (omega arith) (omega arith));
+      touches = Touches_then before.keeps (Touches_wider (first + p) (70 + 66 * image.number + p) first (134 + 66 * image.number) done.keeps (omega arith) (omega arith));
       worked = Worked_then before.worked done.ends;
     }

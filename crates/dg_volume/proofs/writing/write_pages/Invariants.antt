@@ -1,5 +1,5 @@
 use Rattle.std.proofs.Common.{◌≡◌, ℕ, ◌+◌, ◌*◌, ◌<◌}
-use Rattle.dg_nor.specs.Chip.{Keeps}
+use Rattle.dg_nor.specs.Chip.{Touches}
 use Rattle.dg_object.specs.Object.{page_of_row}
 use Rattle.dg_volume.specs.Acts.{Worked}
 use Rattle.dg_volume.specs.Pages.{page_in}
@@ -12,6 +12,6 @@ invariant-loop-p g l =
     let now = g.N.Nor.device l.nor in
     record {
       pages : (q : ℕ) → q < l.p → page_in now.image (69 + 66 * l.image.number + q) ≡ page_of_row (new_row l.image) q;
-      keeps : Keeps (69 + 66 * l.image.number) (134 + 66 * l.image.number) old.image now.image;
+      touches : Touches (69 + 66 * l.image.number) (134 + 66 * l.image.number) old.image now.image;
       worked : Worked old now;
     }

@@ -19,7 +19,7 @@ returns-in_err-commit_at-clause-stopped g c =
     let m = c.requires.mounted in
     let index : c.current_sector.result ≡ current n = c.current_sector.ensures in
     let here : (32 - v.free) + v.free ≡ 32 = omega (arith, m.are_free.within) in
-    let same : sector new.image 0 ≡ sector old.image 0 = c.commit_at.ensures.keeps.before 0 (omega (arith, index)) (omega arith) in
+    let same : sector new.image 0 ≡ sector old.image 0 = c.commit_at.ensures.touches.before 0 (omega (arith, index)) (omega arith) in
     OnErr_from c.from_residual.result
     (subst (λ (k : ℕ). Halted k (MayCommit (control_store v) next) old new) (two_here old.image v next m c.requires.some)
     (Halted-weaker {may = λ k image. MayWrite (32 - v.free) next (sector old.image c.current_sector.result) k (sector image c.current_sector.result)} {may' = MayCommit (control_store v) next}
@@ -36,7 +36,7 @@ returns-clause-ok g c =
     let m = c.requires.mounted in
     let index : c.current_sector.result ≡ current (count_of v.ledger) = c.current_sector.ensures in
     let here : (32 - v.free) + v.free ≡ 32 = omega (arith, m.are_free.within) in
-    let same : sector new.image 0 ≡ sector old.image 0 = c.commit_at.ensures.keeps.before 0 (omega (arith, index)) (omega arith) in
+    let same : sector new.image 0 ≡ sector old.image 0 = c.commit_at.ensures.touches.before 0 (omega (arith, index)) (omega arith) in
     mounted_here old.image new.image v c.args.next.now (32 - v.free) m here c.requires.some same
     (rw index at c.in_ok-commit_at.ensures.changes) (rw index at c.in_ok-commit_at.ensures.whole)
 

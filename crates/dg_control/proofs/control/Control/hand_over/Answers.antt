@@ -21,7 +21,7 @@ returns-in_err-begin_sector-clause-stopped g c =
     let new = g.N.Nor.device c.begin_sector.new.nor in
     let m = c.requires.mounted in
     let index : c.other_sector-index.result ≡ current (n + 1) = c.other_sector-index.ensures in
-    let keeps = rw index at c.begin_sector.ensures.keeps in
+    let keeps = rw index at c.begin_sector.ensures.touches in
     let free : AreFree (sector old.image (current n)) 0 = subst (AreFree (sector old.image (current n))) c.requires.none m.are_free in
     let counted = count_kept old.image new.image n (keeps.before 0 (omega arith) (omega arith)) m.counted in
     let same : sector new.image (current n) ≡ sector old.image (current n) = sector_kept (current n) keeps (omega (arith, current_in n)) (apart n) in
@@ -44,7 +44,7 @@ returns-in_err-bump-clause-stopped g c =
     let m = c.requires.mounted in
     let index : c.other_sector-index.result ≡ current (n + 1) = c.other_sector-index.ensures in
     let begun = c.in_ok-begin_sector.ensures in
-    let ready = are_ready old.image mid.image new.image n next (rw index at begun.keeps) (rw index at begun.rest) (rw index at begun.whole) c.bump.ensures.keeps in
+    let ready = are_ready old.image mid.image new.image n next (rw index at begun.touches) (rw index at begun.rest) (rw index at begun.whole) c.bump.ensures.touches in
     let free : AreFree (sector old.image (current n)) 0 = subst (AreFree (sector old.image (current n))) c.requires.none m.are_free in
     let sum : 3 + operations (bump_trail n) ≡ operations (commit_trail (control_store v) next) = ap (λ (k : ℕ). 3 + k) (operations-stepping n 1 (n + 1)) ∙ four_next v next c.requires.none in
     OnErr_from c.from_residual-in_err-bump.result
@@ -65,7 +65,7 @@ returns-clause-ok g c =
     let new = g.N.Nor.device c.bump.new.nor in
     let index : c.other_sector-index.result ≡ current (n + 1) = c.other_sector-index.ensures in
     let begun = c.in_ok-begin_sector.ensures in
-    let ready = are_ready old.image mid.image new.image n next (rw index at begun.keeps) (rw index at begun.rest) (rw index at begun.whole) c.bump.ensures.keeps in
+    let ready = are_ready old.image mid.image new.image n next (rw index at begun.touches) (rw index at begun.rest) (rw index at begun.whole) c.bump.ensures.touches in
     mounted_next new.image n c.bump.new.ledger next c.in_ok-bump.ensures.ok c.in_ok-bump.ensures.told ready.rest ready.whole
 
 pub returns-clause-ran : goal.returns-clause-ran

@@ -1,5 +1,5 @@
 use Rattle.std.proofs.Common.{◌+◌, ◌-◌, ◌≤◌}
-use Rattle.dg_nor.specs.Chip.{Keeps}
+use Rattle.dg_nor.specs.Chip.{Touches}
 use Rattle.dg_nor.specs.Device.{Ran}
 use Rattle.dg_ledger.specs.Ledger.{HasCount}
 use Rattle.dg_ledger.proofs.ledger.Ledger.format.Given as goal
@@ -12,7 +12,7 @@ invariant-loop-ledger g l =
       within : l.ledger.count ≤ l.count;
       counted : HasCount new.image l.ledger.count;
       ran : Ran (2 + l.ledger.count) old new;
-      keeps : Keeps 0 1 old.image new.image;
+      touches : Touches 0 1 old.image new.image;
     }
 
 abbrev pub decreases-loop-ledger : goal.decreases-loop-ledger

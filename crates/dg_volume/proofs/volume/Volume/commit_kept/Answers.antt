@@ -19,4 +19,4 @@ returns-clause-committed g c h e here =
       waived = set_is.waived;
       gesture = set_is.gesture;
     })
-    c.in_ok-commit.ensures.keeps c.in_ok-commit.ensures.spelled here
+    c.in_ok-commit.ensures.touches c.in_ok-commit.ensures.spelled here

@@ -28,4 +28,4 @@ returns-clause-whole g c =
       waived = refl;
       gesture = refl;
     })
-    c.in_ok-fill.ensures.keeps refl c.in_ok-fill.ensures.whole
+    c.in_ok-fill.ensures.touches refl c.in_ok-fill.ensures.whole

@@ -5,7 +5,7 @@ use Rattle.dg_volume.proofs.volume.Volume.format.Goals as goal
 
 pub returns-clause-formatted : goal.returns-clause-formatted
 returns-clause-formatted g c =
-    fresh_stands _ _ c.args.name.now c.args.golden.now c.fresh_snapshot.result c.in_ok-write_golden.ensures.kept c.in_ok-commit.ensures.keeps c.in_ok-commit.ensures.spelled c.fresh_snapshot.ensures
+    fresh_stands _ _ c.args.name.now c.args.golden.now c.fresh_snapshot.result c.in_ok-write_golden.ensures.kept c.in_ok-commit.ensures.touches c.in_ok-commit.ensures.spelled c.fresh_snapshot.ensures
 
 pub returns-clause-worked : goal.returns-clause-worked
 returns-clause-worked g c = Worked_then c.in_ok-write_golden.ensures.ends c.in_ok-commit.ensures.ends

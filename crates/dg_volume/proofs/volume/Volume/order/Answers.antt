@@ -12,13 +12,13 @@ pub returns-clause-ordered : goal.returns-clause-ordered
 returns-clause-ordered g c s stands =
     let set = c.with_order-snapshot.ensures in
     order_stands (g.N.Nor.device c.args.nor.now).image _ c.args.self.now s c.with_order-snapshot.result _ c.requires.mounted stands
-    (record { order = set.order; waived = set.waived; slots = set.slots; program = set.program; gesture = set.gesture }) c.in_ok-commit.ensures.keeps c.in_ok-commit.ensures.spelled
+    (record { order = set.order; waived = set.waived; slots = set.slots; program = set.program; gesture = set.gesture }) c.in_ok-commit.ensures.touches c.in_ok-commit.ensures.spelled
 
 pub returns-clause-mounted : goal.returns-clause-mounted
 returns-clause-mounted g c =
     let set = c.with_order-snapshot.ensures in
     order_mounted (g.N.Nor.device c.args.nor.now).image _ c.args.self.now c.with_order-snapshot.result _ c.requires.mounted
-    (record { order = set.order; waived = set.waived; slots = set.slots; program = set.program; gesture = set.gesture }) c.in_ok-commit.ensures.keeps c.in_ok-commit.ensures.spelled
+    (record { order = set.order; waived = set.waived; slots = set.slots; program = set.program; gesture = set.gesture }) c.in_ok-commit.ensures.touches c.in_ok-commit.ensures.spelled
 
 pub returns-clause-allowed : goal.returns-clause-allowed
 returns-clause-allowed g c s stands =

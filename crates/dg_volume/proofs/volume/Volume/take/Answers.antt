@@ -8,13 +8,13 @@ use Rattle.dg_volume.proofs.volume.Volume.take.Goals as goal
 
 pub commit_kept-requires-clause-mounted : goal.commit_kept-requires-clause-mounted
 commit_kept-requires-clause-mounted g c =
-    mounted_then c.requires.mounted (header_written _ _ _ _ c.args.profile.now.image c.requires.not_golden (omega arith) c.in_ok-clear.ensures.cleared c.in_ok-write_header.ensures.keeps)
+    mounted_then c.requires.mounted (header_written _ _ _ _ c.args.profile.now.image c.requires.not_golden (omega arith) c.in_ok-clear.ensures.cleared c.in_ok-write_header.ensures.touches)
 
 pub returns-clause-taken : goal.returns-clause-taken
 returns-clause-taken g c =
     let told = outline_of c.args.profile.now in
     let i = c.args.profile.now.image in
-    let cleared = header_written _ _ _ _ i c.requires.not_golden (omega arith) c.in_ok-clear.ensures.cleared c.in_ok-write_header.ensures.keeps in
+    let cleared = header_written _ _ _ _ i c.requires.not_golden (omega arith) c.in_ok-clear.ensures.cleared c.in_ok-write_header.ensures.touches in
     on_ok_weaker c.commit_kept.result
     (λ e. Becomes-same _ (keeping i (Some (held_begun told))) (keeping_twice i _ (Some (held_begun told)))
     (Becomes_then cleared (e (Some (held_begun told)) (ap Some (sym c.begun.ensures)) (begun_stands _ told c.in_ok-write_header.ensures.header))))
