@@ -12,5 +12,5 @@ abbrev pub is_name_byte : ℕ → Bool
 is_name_byte c = is_ascii_alphanumeric c || c == 95 || c == 45 || c == 46
 
 -- 1 to 16 such bytes
-abbrev pub names : List ℕ → Bool
-names bytes = nat_le 1 (length bytes) && nat_le (length bytes) 16 && list_all is_name_byte bytes
+abbrev pub spells_name : List ℕ → Bool
+spells_name bytes = nat_le 1 (length bytes) && nat_le (length bytes) 16 && list_all is_name_byte bytes

@@ -2,7 +2,7 @@
 ghost use Rattle.std.specs.Prelude.{◌≡◌, ◌≢◌, ℕ, ◌+◌, ◌<◌, ◌≤◌, List, ◌∷◌, length, drop, slice_range, slice_index, All};
 ghost use Rattle.std.specs.List.{list_all};
 ghost use Rattle.std.specs.Str.Lines.{lines, strip_carriage_return};
-ghost use Rattle.dg_base.specs.Texts.{IsEnded, is_name_byte, names};
+ghost use Rattle.dg_base.specs.Texts.{IsEnded, is_name_byte, spells_name};
 
 use memchr::memchr;
 use std::marker::Model;
@@ -50,7 +50,7 @@ fn text_end(bytes: &[u8], from: usize, to: usize) -> usize
 
 /// Whether `bytes` are a name: 1 to 16 letters, digits, `_`, `-` and `.`.
 pub fn is_name(bytes: &[u8]) -> bool
-    ensures { result ≡ names bytes.now }
+    ensures { result ≡ spells_name bytes.now }
 {
     (1..=16).contains(&bytes.len()) && has_name_bytes(bytes)
 }

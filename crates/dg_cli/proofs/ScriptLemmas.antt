@@ -2,7 +2,7 @@
 use Rattle.std.proofs.Common.{◌≡◌, ℕ, ◌%◌, ◌≤◌, ◌⊎◌, ◌&&◌, ◌==◌, nat_le, inl, inr, Bool, true, false, if◌then◌else◌, List, [], ◌∷◌, length, take, drop, codes, Option, Some, None, Result, Ok, Err, IfOk, Any, refl, sym, ap, ◌∙◌, subst, arith}
 use Rattle.std.proofs.lemmas.Bool.Decides.{nat_tests}
 use Rattle.dg_base.specs.Numbers.{number_of}
-use Rattle.dg_base.specs.Texts.{names}
+use Rattle.dg_base.specs.Texts.{spells_name}
 use Rattle.dg_cli.specs.Words.{words_of, one_of, three_of, four_of, five_of, six_of, same}
 use Rattle.dg_cli.specs.Script.{◌>>=◌, guarded, image_of, digits_of, content_of, mote_of, image_number_of, any_image_of, positive_of, name_of, motes_of, golden_of, image_line_of, reset_of, inject_of, order_of, FitsLine, AllowedAt, is_comment, later_line, verb_line, said, line_of}
 use Rattle.dg_cli.specs.Reading.{Reads}
@@ -71,8 +71,8 @@ content_size word bytes h =
 name_is : (word name : List ℕ) → name_of word ≡ Some name → names name ≡ true
 unfolding name_of
 name_is word name h =
-    let named = guarded_some (names word) word name h in
-    ap names (sym named.1) ∙ named.0
+    let named = guarded_some (spells_name word) word name h in
+    ap spells_name (sym named.1) ∙ named.0
 
 -- The numbers of lines are in their ranges.
 number_within : (o : Option ℕ) (most n : ℕ) → (o >>= λ m. guarded (nat_le 1 m && nat_le m most) m) ≡ Some n → (1 ≤ n) × (n ≤ most)

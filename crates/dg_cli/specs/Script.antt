@@ -3,7 +3,7 @@ use Rattle.std.specs.Prelude.{◌≡◌, ℕ, ◌≤◌, IsTrue, ◌+◌, ◌==�
 use Rattle.std.specs.List.{list_any}
 use Rattle.dg_base.specs.Numbers.{number_of}
 use Rattle.dg_base.specs.Hexadecimal.{hex_bytes}
-use Rattle.dg_base.specs.Texts.{names}
+use Rattle.dg_base.specs.Texts.{spells_name}
 use Rattle.dg_object.specs.Object.{Row, row_of}
 use Rattle.dg_cli.specs.Words.{words_of, one_of, three_of, four_of, five_of, six_of, same}
 use Rattle.dg_cli.specs.declared.states.Key.{Key}
@@ -61,7 +61,7 @@ unfoldable pub positive_of : List ℕ → Option ℕ
 positive_of word = number_of word >>= λ n. guarded (nat_le 1 n) n
 
 unfoldable pub name_of : List ℕ → Option (List ℕ)
-name_of word = guarded (names word) word
+name_of word = guarded (spells_name word) word
 
 -- ---- the lines
 
@@ -102,7 +102,7 @@ order_of fields =
 
 -- a golden image has a name, and 1 to 70,656 bytes
 pub record IsGolden (golden : GoldenImage) : Type 0 where
-  pub name : IsTrue (names golden.name)
+  pub name : IsTrue (spells_name golden.name)
   pub some : 1 ≤ length golden.content
   pub fits : length golden.content ≤ 70656
 
@@ -111,7 +111,7 @@ pub record IsDeclared (line : DeclaredImage) : Type 0 where
   pub image : 1 ≤ line.image
   pub image_fits : line.image ≤ 3
   pub version : 1 ≤ line.version
-  pub name : IsTrue (names line.name)
+  pub name : IsTrue (spells_name line.name)
   pub some : 1 ≤ length line.content
   pub fits : length line.content ≤ 70656
 

@@ -7,29 +7,29 @@ use Rattle.std.proofs.lemmas.List.{get_or_past, get_or-replicate, length-replica
 use Rattle.std.proofs.lemmas.List.Folds.{list_all_at}
 use Rattle.dg_words.specs.Lists.{padded}
 use Rattle.dg_words.proofs.ListLemmas.{take-padded, get_or-padded_front, get_or-padded_behind, length-padded}
-use Rattle.dg_base.specs.Texts.{names, is_name_byte}
+use Rattle.dg_base.specs.Texts.{spells_name, is_name_byte}
 
-pub names-some : (n : List ℕ) → IsTrue (names n) → 1 ≤ length n
+pub names-some : (n : List ℕ) → IsTrue (spells_name n) → 1 ≤ length n
 names-some n h = grind (arith, nat_tests)
 
-pub names-fits : (n : List ℕ) → IsTrue (names n) → length n ≤ 16
+pub names-fits : (n : List ℕ) → IsTrue (spells_name n) → length n ≤ 16
 names-fits n h = grind (arith, common_steps)
 
 -- a byte of a name is no 0
 is_name_byte-true : (c : ℕ) → is_name_byte c ≡ true → (1 ≤ c) × (c < 256)
 is_name_byte-true c h = grind (arith, nat_tests)
 
-names-byte : (n : List ℕ) (k : ℕ) → IsTrue (names n) → k < length n → is_name_byte (get_or n k 0) ≡ true
+names-byte : (n : List ℕ) (k : ℕ) → IsTrue (spells_name n) → k < length n → is_name_byte (get_or n k 0) ≡ true
 names-byte n k h low = grind (arith, list_all_at, common_steps)
 
-pub names-nonzero : (n : List ℕ) (k : ℕ) → IsTrue (names n) → k < length n → get_or n k 0 ≢ 0
+pub names-nonzero : (n : List ℕ) (k : ℕ) → IsTrue (spells_name n) → k < length n → get_or n k 0 ≢ 0
 names-nonzero n k h low e = let byte = is_name_byte-true (get_or n k 0) (names-byte n k h low) in omega arith
 
-pub names-bytes : (n : List ℕ) (k : ℕ) → IsTrue (names n) → get_or n k 0 < 256
+pub names-bytes : (n : List ℕ) (k : ℕ) → IsTrue (spells_name n) → get_or n k 0 < 256
 names-bytes n k h = elim (cases_lt k (length n)) [ inl low ↦ (is_name_byte-true (get_or n k 0) (names-byte n k h low)).1 | inr past ↦ rw (get_or_past n k 0 past) (omega arith) ]
 
 -- The first 0 of the field ends the name.
-pub length_of_name : (field n : List ℕ) (k : ℕ) → IsTrue (names n) → field ≡ padded 16 0 n → length field ≡ 16 → k ≤ length field
+pub length_of_name : (field n : List ℕ) (k : ℕ) → IsTrue (spells_name n) → field ≡ padded 16 0 n → length field ≡ 16 → k ≤ length field
     → ((j : ℕ) → j < k → get_or field j 0 ≢ 0) → (k < length field → get_or field k 0 ≡ 0) → length n ≡ k
 length_of_name field n k h is len within before ended =
     elim (cases_lt k (length n)) [
@@ -44,7 +44,7 @@ length_of_name field n k h is len within before ended =
     at_end low = ap (λ (xs : List ℕ). get_or xs (length n) 0) is ∙ get_or-padded_behind 16 0 (length n) 0 n (omega arith) low
 
 -- So the field in front of that 0 is the name.
-pub name_is_front : (field n : List ℕ) (k : ℕ) → IsTrue (names n) → field ≡ padded 16 0 n → length field ≡ 16 → k ≤ length field
+pub name_is_front : (field n : List ℕ) (k : ℕ) → IsTrue (spells_name n) → field ≡ padded 16 0 n → length field ≡ 16 → k ≤ length field
     → ((j : ℕ) → j < k → get_or field j 0 ≢ 0) → (k < length field → get_or field k 0 ≡ 0) → take k field ≡ n
 name_is_front field n k h is len within before ended =
     ap (take k) is ∙ take-padded 16 0 k n (length_of_name field n k h is len within before ended)
@@ -69,7 +69,7 @@ padded-from_parts n x k field len low filled =
     rest = ext_get_or 0 (drop k field) (replicate (n - length (take k field)) x) (counted ∙ sym (length-replicate _ x)) (λ j h. filled j h ∙ sym (get_or-replicate (n - length (take k field)) j x 0 (omega (arith, counted))))
 
 -- Two names that fill a field alike are one.
-pub same_names : (n m : List ℕ) → IsTrue (names n) → IsTrue (names m) → padded 16 0 n ≡ padded 16 0 m → n ≡ m
+pub same_names : (n m : List ℕ) → IsTrue (spells_name n) → IsTrue (spells_name m) → padded 16 0 n ≡ padded 16 0 m → n ≡ m
 same_names n m hn hm same =
     sym (take-padded 16 0 (length n) n refl)
     ∙ name_is_front (padded 16 0 n) m (length n) hm same (length-padded 16 0 n (names-fits n hn)) (omega (arith, length-padded 16 0 n (names-fits n hn), names-fits n hn))

@@ -1,6 +1,6 @@
 -- What a page says as a descriptor.
 use Rattle.std.specs.Prelude.{◌≡◌, ℕ, ◌+◌, ◌-◌, ◌*◌, ◌^◌, ◌<◌, ◌≤◌, IsTrue, List, length, take, slice_index}
-use Rattle.dg_base.specs.Texts.{names}
+use Rattle.dg_base.specs.Texts.{spells_name}
 use Rattle.dg_object.specs.Object.{Row, head_of, pages_for}
 
 -- the fields of a descriptor
@@ -24,7 +24,7 @@ pub record IsInRange (d : Details) : Type 0 where
   pub some : 1 ≤ d.length
   pub fits : d.length ≤ 70656
   pub pages : d.pages ≡ pages_for d.length
-  pub name : IsTrue (names d.name)
+  pub name : IsTrue (spells_name d.name)
 
 -- 28 bytes spell these fields, which are in their ranges
 pub record IsHead (head : List ℕ) (d : Details) : Type 0 where

@@ -5,7 +5,7 @@ use Rattle.std.specs.Int.{to_be_bytes, w16, w32}
 use Rattle.dg_words.specs.Cells.{AreBytes}
 use Rattle.dg_words.specs.Lists.{tabulate, padded, joined}
 use Rattle.dg_base.specs.Crc.{crc_of}
-use Rattle.dg_base.specs.Texts.{names}
+use Rattle.dg_base.specs.Texts.{spells_name}
 
 -- one version of one image: what an operator injects
 pub record Row : Type 0 where
@@ -22,7 +22,7 @@ pub record IsRow (row : Row) : Type 0 where
   pub image : row.image ≤ 3
   pub version : 1 ≤ row.version
   pub version_fits : row.version < 2 ^ 32
-  pub name : IsTrue (names row.name)
+  pub name : IsTrue (spells_name row.name)
   pub some : 1 ≤ length row.bytes
   pub fits : length row.bytes ≤ 70656
   pub bytes : AreBytes row.bytes

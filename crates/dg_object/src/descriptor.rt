@@ -2,7 +2,7 @@
 ghost use Rattle.std.specs.Prelude.{◌≡◌, ℕ, ◌+◌, ◌-◌, ◌*◌, ◌^◌, ◌<◌, ◌≤◌, ◌≢◌, ◌↔◌, List, ◌∷◌, [], IsTrue, IfOk, IsOkAnd, IfSome, IfNone, EachIndex, length, take, drop, slice_index};
 ghost use Rattle.std.specs.Int.{from_be_bytes, w32};
 ghost use Rattle.dg_words.specs.Lists.{padded};
-ghost use Rattle.dg_base.specs.Texts.{names};
+ghost use Rattle.dg_base.specs.Texts.{spells_name};
 ghost use Rattle.dg_object.specs.Object.{pages_for};
 ghost use Rattle.dg_object.specs.Descriptor.{Details, HasTag, IsHead, RestFits, IsDescriptor};
 ghost use Rattle.dg_object.specs.Records.{details_of};
@@ -125,8 +125,8 @@ fn word_at(bytes: &[u8], at: usize) -> u32
 /// The name in its field of 16 bytes, where it is filled with 0.
 fn name_in(field: &[u8]) -> Option<Name>
     requires { length field.now ≡ 16 }
-    ensures some { IfSome result (λ n. IsTrue (names n) × (field.now ≡ padded 16 0 n)) }
-    ensures none { IfNone result ((n : List ℕ) → IsTrue (names n) → field.now ≡ padded 16 0 n → ⊥) }
+    ensures some { IfSome result (λ n. IsTrue (spells_name n) × (field.now ≡ padded 16 0 n)) }
+    ensures none { IfNone result ((n : List ℕ) → IsTrue (spells_name n) → field.now ≡ padded 16 0 n → ⊥) }
 {
     let (name, filling) = field.split_at(name_len(field));
     if !is_name(name) {

@@ -3,7 +3,7 @@ ghost use Rattle.std.specs.Prelude.{◌≡◌, ℕ, ◌+◌, ◌-◌, ◌*◌, �
 ghost use Rattle.std.specs.Int.{to_be_bytes, w16};
 ghost use Rattle.dg_words.specs.Lists.{padded};
 ghost use Rattle.dg_base.specs.Crc.{crc_of};
-ghost use Rattle.dg_base.specs.Texts.{names};
+ghost use Rattle.dg_base.specs.Texts.{spells_name};
 ghost use Rattle.dg_object.specs.Records.{outline_of};
 ghost use Rattle.dg_object.specs.Object.{row_of, profile, pages_for, data_page, head_of, descriptor_page, page_of_row};
 
@@ -21,7 +21,7 @@ pub fn page_of(bytes: &[u8], image: u8, version: u32, name: &[u8], p: u8, into: 
     requires fits { length bytes.now ≤ 70656 }
     requires known_image { image ≤ 3 }
     requires real_version { 1 ≤ version }
-    requires named { IsTrue (names name.now) }
+    requires named { IsTrue (spells_name name.now) }
     requires page { p < pages_for (length bytes.now) }
     ensures { into.new ≡ page_of_row (row_of image version name.now bytes.now) p }
 {
@@ -38,7 +38,7 @@ pub fn profile_of(bytes: &[u8], image: u8, version: u32, name: &[u8]) -> Profile
     requires fits { length bytes.now ≤ 70656 }
     requires known_image { image ≤ 3 }
     requires real_version { 1 ≤ version }
-    requires named { IsTrue (names name.now) }
+    requires named { IsTrue (spells_name name.now) }
     ensures { outline_of result ≡ profile (row_of image version name.now bytes.now) }
 {
     let mut descriptor = [0; PAGE];

@@ -26,7 +26,7 @@ pub ReadStopped-read : {a b : Device} → b.image ≡ a.image → Halts 0 0 a b 
 ReadStopped-read same h = record { same_image = same; halts = h }
 
 pub ActStopped-halts : {n d : ℕ} {a b : Device} → Halts n d a b → ActStopped a b
-ActStopped-halts h = record { stopped = h.stopped; cause = h.cause; unchanged = h.unchanged; faults = h.faults; names = h.names }
+ActStopped-halts h = record { stopped = h.stopped; cause = h.cause; unchanged = h.unchanged; faults = h.faults; references = h.references }
 
 -- how a program or an erase ends
 pub act_ends : {T : Type 0} (n : ℕ) (r : Result T Stopped) (a b : Device) → OnOk r (Ran n a b) → OnOk r (a.stopped ≡ false) → OnErr r (Halts n 0 a b) → ActEnds r a b
@@ -71,7 +71,7 @@ ActStopped_after {a} {b} {c} p q = record {
   cause = cause_after a b c p.ran.stopped p.ran.faults q.faults q.cause;
   unchanged = still_then a b c p.still q.unchanged;
   faults = omega (arith, p.ran.faults, q.faults);
-  names = q.names ∙ p.ran.names;
+  references = q.references ∙ p.ran.references;
 }
 
 pub ReadStopped_after : {a b c : Device} → Looked a b → ReadStopped b c → ReadStopped a c
@@ -87,7 +87,7 @@ ReadStopped_after {a} {b} {c} p q = record {
     blown = λ h. q.halts.blown (p.ran.blown ∙ h);
     faults = omega (arith, p.ran.faults, q.halts.faults);
     taken = NotFallen_then a.taken b.taken c.taken p.ran.taken q.halts.taken;
-    names = q.halts.names ∙ p.ran.names;
+    references = q.halts.references ∙ p.ran.references;
   };
 }
 

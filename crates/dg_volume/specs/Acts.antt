@@ -31,7 +31,7 @@ pub record ActStopped (old new : Device) : Type 0 where
   pub cause : (old.stopped ≡ true) ⊎ Rose old.faults new.faults
   pub unchanged : old.stopped ≡ true → new ≡ old
   pub faults : old.faults ≤ new.faults
-  pub names : new.names ≡ old.names
+  pub references : new.references ≡ old.references
 
 -- how a call that only reads ends
 abbrev pub ReadEnds : {T : Type 0} → Result T Stopped → Device → Device → Type 0

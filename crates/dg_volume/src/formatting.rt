@@ -1,6 +1,6 @@
 //! Formatting: a chip becomes a volume that keeps golden alone.
 ghost use Rattle.std.specs.Prelude.{◌≡◌, ◌↔◌, ◌⊎◌, ℕ, ◌<◌, ◌≤◌, false, IsTrue, OnOk, IsErrOf, length};
-ghost use Rattle.dg_base.specs.Texts.{names};
+ghost use Rattle.dg_base.specs.Texts.{spells_name};
 ghost use Rattle.dg_nor.specs.Chip.{Touches};
 ghost use Rattle.dg_volume.specs.Acts.{ActEnds, Worked, ActStopped};
 ghost use Rattle.dg_volume.specs.Frames.{TouchesBut};
@@ -24,7 +24,7 @@ impl Volume {
         name: &[u8],
         used: u32,
     ) -> Result<(), FormatFault>
-        requires named { IsTrue (names name.now) }
+        requires named { IsTrue (spells_name name.now) }
         requires unused { used ≡ 0 }
 
         ensures formatted { OnOk result (Stands (N.device nor.new).image (fresh name.now golden.now)) }
@@ -78,7 +78,7 @@ fn fresh_snapshot() -> Snapshot
 fn write_golden<N: Nor>(nor: &mut N, golden: &[u8], name: &[u8]) -> Result<(), Stopped>
     requires some { 1 ≤ length golden.now }
     requires fits { length golden.now ≤ 70656 }
-    requires named { IsTrue (names name.now) }
+    requires named { IsTrue (spells_name name.now) }
     ensures kept { OnOk result (KeepsImage (N.device nor.new).image 0 1 (held_whole (golden_row name.now golden.now))) }
     ensures touches { Touches 68 134 (N.device nor.old).image (N.device nor.new).image }
     ensures ends { ActEnds result (N.device nor.old) (N.device nor.new) }

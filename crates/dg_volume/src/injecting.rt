@@ -1,6 +1,6 @@
 //! Injection: an image is written into its slot, whole.
 ghost use Rattle.std.specs.Prelude.{◌≡◌, ◌≢◌, ◌↔◌, ℕ, ◌+◌, ◌*◌, ◌≤◌, ◌<◌, List, length, Option, Some, None, Err, IsTrue, IsNone, IfOk, IfNone, IfSome, IsSomeAnd, OnOk, IsErrOf, slice_set, nat_lt, if◌then◌else◌};
-ghost use Rattle.dg_base.specs.Texts.{names};
+ghost use Rattle.dg_base.specs.Texts.{spells_name};
 ghost use Rattle.dg_object.specs.Object.{Row, row_of, pages_for, page_of_row, profile};
 ghost use Rattle.dg_object.specs.Records.{outline_of};
 ghost use Rattle.dg_nor.specs.Chip.{Touches};
@@ -46,7 +46,7 @@ impl Volume {
         requires mounted { IsMounted (N.device nor.old).image self.old }
         requires known_image { image ≤ 3 }
         requires some_version { 1 ≤ version }
-        requires named { IsTrue (names name.now) }
+        requires named { IsTrue (spells_name name.now) }
         // where this version is kept, it is this image, and whole
         requires same { (s : Store) → Stands (N.device nor.old).image s → (h : Held) → held s image ≡ Some h → h.version ≡ version
             → h ≡ held_whole (row_of image version name.now bytes.now) }

@@ -1,6 +1,6 @@
 use Rattle.std.proofs.Common.{◌≡◌, take, sym, ap, ◌∙◌}
 use Rattle.std.proofs.lemmas.Bool.{false≢true}
-use Rattle.dg_base.specs.Texts.{names}
+use Rattle.dg_base.specs.Texts.{spells_name}
 use Rattle.dg_object.proofs.NameLemmas.{name_is_front, length_of_name, behind_is_filling, padded-from_parts}
 use Rattle.dg_object.proofs.descriptor.name_in.Goals as goal
 
@@ -9,7 +9,7 @@ returns-then-not-is_name-clause-none c = λ n h is.
     let len = c.name_len.ensures in
     let same : c.split_at.result.0.now ≡ n =
     c.split_at.ensures.front ∙ name_is_front c.args.field.now n c.name_len.result h is c.requires len.within len.before len.ended in
-    false≢true (sym c.if-not-is_name.true ∙ c.is_name.ensures ∙ ap names same ∙ h)
+    false≢true (sym c.if-not-is_name.true ∙ c.is_name.ensures ∙ ap spells_name same ∙ h)
 
 pub returns-then-not-is_filled-clause-none : goal.returns-then-not-is_filled-clause-none
 returns-then-not-is_filled-clause-none c = λ n h is.
@@ -22,6 +22,6 @@ pub returns-clause-some : goal.returns-clause-some
 returns-clause-some c =
     let front : c.new.result ≡ take c.name_len.result c.args.field.now = c.new.ensures ∙ c.split_at.ensures.front in
     let filled = rw c.split_at.ensures.back at (c.is_filled.ensures.0 c.if-not-is_filled.false) in (
-      ap names c.new.ensures ∙ sym c.is_name.ensures ∙ c.if-not-is_name.false,
+      ap spells_name c.new.ensures ∙ sym c.is_name.ensures ∙ c.if-not-is_name.false,
       rw front (padded-from_parts 16 0 c.name_len.result c.args.field.now c.requires (rw c.requires at c.name_len.ensures.within) filled),
     )
