@@ -4,3 +4,4 @@ pub mod PlacesLemmas
 pub mod WriteLemmas
 pub mod CommitLemmas
 pub mod FormatLemmas
+pub mod SettingLemmas

@@ -11,6 +11,7 @@ mod formatting;
 mod laws;
 mod place;
 mod reading;
+mod setting;
 mod snapshot;
 mod writing;
 
@@ -21,7 +22,7 @@ pub use laws::{
     other_sectors_do_not_count,
 };
 pub use place::{PLACE, read_place, write_place};
-pub use snapshot::{Order, Program, SlotState, Snapshot};
+pub use snapshot::{GOLDEN_VERSION, IMAGES, Order, Program, SHORT_STARTS, SlotState, Snapshot};
 
 #[cfg(test)]
 mod tests;

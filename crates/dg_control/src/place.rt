@@ -8,7 +8,7 @@ ghost use Rattle.dg_control.specs.declared.snapshot.Program.{Program};
 ghost use Rattle.dg_control.specs.declared.snapshot.Order.{Order};
 ghost use Rattle.dg_control.specs.declared.snapshot.Snapshot.{Snapshot};
 
-use crate::{Order, Program, SlotState, Snapshot};
+use crate::{IMAGES, Order, Program, SHORT_STARTS, SlotState, Snapshot};
 use byteorder::{BigEndian, ByteOrder};
 
 /// The length of a place.
@@ -148,7 +148,7 @@ fn program_fits(program: Program) -> bool
 {
     match program {
         Program::Blank => true,
-        Program::Set { image, version } => image <= 3 && version >= 1,
+        Program::Set { image, version } => usize::from(image) < IMAGES && version >= 1,
     }
 }
 
@@ -158,13 +158,13 @@ fn order_fits(order: &Order) -> bool
     if order.number == 0 {
         order.image == 0 && order.version == 0
     } else {
-        order.image <= 3 && order.version >= 1
+        usize::from(order.image) < IMAGES && order.version >= 1
     }
 }
 
 /// The snapshot of these fields, where each is in its range.
 fn checked(
-    slots: [SlotState; 4],
+    slots: [SlotState; IMAGES],
     program: Program,
     order: Order,
     waived: bool,
@@ -178,7 +178,12 @@ fn checked(
         && slot_fits(slots[2])
         && slot_fits(slots[3]);
     let waived_fits = !waived || order.number != 0;
-    if slots_fit && program_fits(program) && order_fits(&order) && waived_fits && gesture <= 3 {
+    if slots_fit
+        && program_fits(program)
+        && order_fits(&order)
+        && waived_fits
+        && gesture <= SHORT_STARTS
+    {
         Some(Snapshot {
             slots,
             program,

@@ -1,6 +1,16 @@
 //! What a volume commits as a whole: its slots, its program memory and the kept order.
 ghost use Rattle.std.specs.Prelude.{◌≡◌, length, IsTrue};
 ghost use Rattle.dg_control.specs.Ranges.{snapshot_fits};
+ghost use Rattle.dg_control.specs.Sizes.{images};
+
+/// The images of a volume: golden, which is image 0, and those that can be injected.
+pub const IMAGES: usize = 4;
+
+/// The version of golden.
+pub const GOLDEN_VERSION: u32 = 1;
+
+/// Short starts in a row are counted up to this number.
+pub const SHORT_STARTS: u8 = 3;
 
 /// A slot, whose pages count only where it is Live.
 #[derive(Clone, Copy, Debug, PartialEq, Eq)]
@@ -27,14 +37,14 @@ pub struct Order {
 /// All that one commit changes.
 #[derive(Clone, Copy, Debug, PartialEq, Eq)]
 pub struct Snapshot {
-    /// The slots of the images 0 to 3.
-    pub slots: [SlotState; 4],
+    /// The slot of each image.
+    pub slots: [SlotState; IMAGES],
     pub program: Program,
     pub order: Order,
     /// The order is no longer tried.
     pub waived: bool,
-    /// Short starts in a row, 0 to 3.
+    /// Short starts in a row, 0 to `SHORT_STARTS`.
     pub gesture: u8,
-    ghost four_slots: { length slots ≡ 4 },
+    ghost slot_count: { length slots ≡ images },
     ghost in_range: { IsTrue (snapshot_fits slots program order waived gesture) },
 }

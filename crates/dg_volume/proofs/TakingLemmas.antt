@@ -305,7 +305,7 @@ first_of_five a b c d e f g h =
 
 -- a snapshot has four slots, also where one of them changes
 pub slots_four : (s : Snapshot) (i : ℕ) (x : SlotState) → length (set s.slots i x) ≡ 4
-slots_four s i x = length-set s.slots i x ∙ s.four_slots
+slots_four s i x = length-set s.slots i x ∙ s.slot_count
 
 pub slot_set_fits : (s : Snapshot) (i : ℕ) (x : SlotState) → IsTrue (slot_fits x) → IsTrue (snapshot_fits (set s.slots i x) s.program s.order s.waived s.gesture)
 slot_set_fits s i x h = first_of_five (list_all slot_fits s.slots) _ _ _ _ _ (λ all. all_set s.slots i x all h) s.in_range
