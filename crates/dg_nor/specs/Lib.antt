@@ -4,7 +4,6 @@ pub mod Chip
 pub mod Device
 pub mod Fuse
 pub mod Masks
-pub mod Publish
 pub mod Trail
 pub mod Reads
 pub mod Through
