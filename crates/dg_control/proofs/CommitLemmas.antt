@@ -2,12 +2,13 @@
 use Rattle.std.proofs.Common.{◌≡◌, ◌⊎◌, ◌==◌, ℕ, ◌+◌, ◌-◌, ◌*◌, ◌%◌, ◌<◌, ◌≤◌, List, if◌then◌else◌, refl, sym, ap, subst, ◌∙◌, arith, inl, inr, ⊎_elim}
 use Rattle.std.proofs.lemmas.Bool.{cases_lt}
 use Rattle.std.proofs.lemmas.Bool.Decides.{nat_tests}
-use Rattle.dg_words.specs.Cells.{part}
-use Rattle.dg_words.proofs.BitsLemmas.{one_count}
+use Rattle.dg_nor.specs.Sizes.{sector_size}
+use Rattle.dg_control.specs.Sizes.{control_end, places, last_generation}
 use Rattle.dg_nor.specs.Chip.{sector, Touches, blank}
 use Rattle.dg_nor.specs.Trail.{operations}
 use Rattle.dg_nor.proofs.ChipLemmas.{sector_kept}
 use Rattle.dg_nor.proofs.TrailLemmas.{operations-stepping, Leaves-stepping}
+use Rattle.dg_ledger.proofs.NextLemmas.{HasCount-same, one_HasCount}
 use Rattle.dg_ledger.specs.Ledger.{HasCount, count_of, MayBump}
 use Rattle.dg_control.specs.Places.{place_in, LastSpells, AreFree, ChangesOnly, MayWrite}
 use Rattle.dg_control.specs.Store.{ControlStore, Controls, ControlStands, IsNear, current, room_for, commit_operations, committed, commit_trail, MayCommit}
@@ -18,24 +19,11 @@ use Rattle.dg_control.specs.declared.control.Control.{Control}
 use Rattle.dg_control.specs.declared.snapshot.Snapshot.{Snapshot}
 use Rattle.dg_control.proofs.PlacesLemmas.{one_last, one_free, some_written, told_open, free_open, told_whole, free_whole, told_first, free_first}
 
--- ---- the ledger's sector alone
-
--- the ledger is in sector 0
-pub count_kept : (c d : List ℕ) (n : ℕ) → sector d 0 ≡ sector c 0 → HasCount c n → HasCount d n
-count_kept c d n same h = record {
-  text = ap (λ (cells : List ℕ). part cells 0 16) same ∙ h.text;
-  bits = ap (λ (cells : List ℕ). part cells 16 2032) same ∙ h.bits;
-  most = h.most;
-}
-
-pub one_generation : (c : List ℕ) (m n : ℕ) → HasCount c m → HasCount c n → m ≡ n
-one_generation c m n p q = one_count 2032 m n (omega (arith, p.most)) (omega (arith, q.most)) (sym p.bits ∙ q.bits)
-
 -- ---- one snapshot and one room
 
 pub one_control : (c : List ℕ) (s t : Snapshot) (m n : ℕ) → Controls c s m → Controls c t n → (s ≡ t) × (m ≡ n)
 one_control c s t m n p q =
-    let same : q.generation ≡ p.generation = one_generation c q.generation p.generation q.counted p.counted in
+    let same : q.generation ≡ p.generation = one_HasCount c q.generation p.generation q.counted p.counted in
     let told : LastSpells (sector c (current p.generation)) t = subst (λ (g : ℕ). LastSpells (sector c (current g)) t) same q.told in
     let are : AreFree (sector c (current p.generation)) q.free = subst (λ (g : ℕ). AreFree (sector c (current g)) q.free) same q.are_free in
     let free : p.free ≡ q.free = one_free (sector c (current p.generation)) p.free q.free p.are_free are in
@@ -43,23 +31,23 @@ one_control c s t m n p q =
 
 -- ---- the sectors that count
 
-pub controls_kept : (c d : List ℕ) (s : Snapshot) (room : ℕ) → ((k : ℕ) → k < 3 → sector d k ≡ sector c k) → Controls c s room → Controls d s room
+pub controls_kept : (c d : List ℕ) (s : Snapshot) (room : ℕ) → ((k : ℕ) → k < control_end → sector d k ≡ sector c k) → Controls c s room → Controls d s room
 controls_kept c d s room same p =
     let here = sym (same (current p.generation) (omega arith)) in
     record {
       generation = p.generation;
-      counted = count_kept c d p.generation (same 0 (omega arith)) p.counted;
+      counted = HasCount-same c d p.generation p.counted (same 0 (omega arith));
       told = subst (λ (cells : List ℕ). LastSpells cells s) here p.told;
       free = p.free;
       are_free = subst (λ (cells : List ℕ). AreFree cells p.free) here p.are_free;
       left = p.left;
     }
 
-pub mounted_kept : (c d : List ℕ) (v : Control) → ((k : ℕ) → k < 3 → sector d k ≡ sector c k) → IsControlOf c v → IsControlOf d v
+pub mounted_kept : (c d : List ℕ) (v : Control) → ((k : ℕ) → k < control_end → sector d k ≡ sector c k) → IsControlOf c v → IsControlOf d v
 mounted_kept c d v same p =
     let here = sym (same (current (count_of v.ledger)) (omega arith)) in
     record {
-      counted = count_kept c d (count_of v.ledger) (same 0 (omega arith)) p.counted;
+      counted = HasCount-same c d (count_of v.ledger) p.counted (same 0 (omega arith));
       told = subst (λ (cells : List ℕ). LastSpells cells v.snapshot) here p.told;
       are_free = subst (λ (cells : List ℕ). AreFree cells v.free) here p.are_free;
     }
@@ -67,10 +55,10 @@ mounted_kept c d v same p =
 -- ---- operations
 
 -- room is the free places of the current sector, and 32 for each generation to come
-free_of_room : (g f : ℕ) → f < 32 → room_for g f % 32 ≡ f
-free_of_room g f h = free_mod f (16256 - g) h
+free_of_room : (g f : ℕ) → f < places → room_for g f % places ≡ f
+free_of_room g f h = free_mod f (last_generation - g) h
   where
-    free_mod : (f k : ℕ) → f < 32 → (f + 32 * k) % 32 ≡ f
+    free_mod : (f k : ℕ) → f < places → (f + places * k) % places ≡ f
     free_mod f k h = omega arith
 
 abbrev operations_at : ℕ → ℕ
@@ -79,7 +67,7 @@ operations_at m = if m == 0 then 4 else 2
 two_of : (m : ℕ) → 0 < m → operations_at m ≡ 2
 two_of m h = grind (arith, nat_tests)
 
-pub two_operations : (g f : ℕ) → 0 < f → f < 32 → commit_operations (room_for g f) ≡ 2
+pub two_operations : (g f : ℕ) → 0 < f → f < places → commit_operations (room_for g f) ≡ 2
 two_operations g f some h = ap operations_at (free_of_room g f h) ∙ two_of f some
 
 pub four_operations : (g : ℕ) → commit_operations (room_for g 0) ≡ 4
@@ -130,13 +118,13 @@ one_less : (g f : ℕ) → 0 < f → room_for g f - 1 ≡ room_for g (f - 1)
 one_less g f some = omega arith
 
 -- what a stop leaves
-pub may_here : (c d : List ℕ) (g f : ℕ) (s next : Snapshot) (at k : ℕ) → HasCount c g → LastSpells (sector c (current g)) s → AreFree (sector c (current g)) f → at + f ≡ 32 → 0 < f → sector d 0 ≡ sector c 0
+pub may_here : (c d : List ℕ) (g f : ℕ) (s next : Snapshot) (at k : ℕ) → HasCount c g → LastSpells (sector c (current g)) s → AreFree (sector c (current g)) f → at + f ≡ places → 0 < f → sector d 0 ≡ sector c 0
     → MayWrite at next (sector c (current g)) k (sector d (current g)) → MayCommit (store_at s g f) next k d
 may_here c d g f s next at k counted told are here some same may =
     let old = sector c (current g) in
     let new = sector d (current g) in
     let two : commit_operations (room_for g f) ≡ 2 = two_operations g f some (some_written old s f told are) in
-    let count = count_kept c d g same counted in
+    let count = HasCount-same c d g counted same in
     ⊎_elim
     (λ uncommitted.
     let stays = told_open at old new may.changes s f are here uncommitted told in
@@ -165,17 +153,17 @@ may_before c d g s next k counted told are same h =
     (controls d g 0 s counted (subst (λ (x : List ℕ). LastSpells x s) (sym same) told) (subst (λ (x : List ℕ). AreFree x 0) (sym same) are))
     (near_same (store_at s g 0))
 
-last_left : (g : ℕ) → g < 16256 → room_for g 0 - 1 ≡ room_for (g + 1) 31
+last_left : (g : ℕ) → g < last_generation → room_for g 0 - 1 ≡ room_for (g + 1) (places - 1)
 last_left g left = omega arith
 
 -- then it counts
-pub next_stands : (d : List ℕ) (g : ℕ) (s next : Snapshot) → g < 16256 → HasCount d (g + 1) → ChangesOnly 0 (blank 2048) (sector d (current (g + 1))) → place_in (sector d (current (g + 1))) 0 ≡ place_of next → ControlStands d (committed (store_at s g 0) next)
+pub next_stands : (d : List ℕ) (g : ℕ) (s next : Snapshot) → g < last_generation → HasCount d (g + 1) → ChangesOnly 0 (blank sector_size) (sector d (current (g + 1))) → place_in (sector d (current (g + 1))) 0 ≡ place_of next → ControlStands d (committed (store_at s g 0) next)
 next_stands d g s next left counted rest whole =
     subst (λ (n : ℕ). Controls d next n) (sym (last_left g left))
-    (controls d (g + 1) 31 next counted (told_first (sector d (current (g + 1))) next rest whole) (free_first (sector d (current (g + 1))) next rest whole))
+    (controls d (g + 1) (places - 1) next counted (told_first (sector d (current (g + 1))) next rest whole) (free_first (sector d (current (g + 1))) next rest whole))
 
-pub may_bump : (c d : List ℕ) (g : ℕ) (s next : Snapshot) (k : ℕ) → g < 16256 → LastSpells (sector c (current g)) s → AreFree (sector c (current g)) 0 → sector d (current g) ≡ sector c (current g)
-    → ChangesOnly 0 (blank 2048) (sector d (current (g + 1))) → place_in (sector d (current (g + 1))) 0 ≡ place_of next → MayBump g k d → MayCommit (store_at s g 0) next (3 + k) d
+pub may_bump : (c d : List ℕ) (g : ℕ) (s next : Snapshot) (k : ℕ) → g < last_generation → LastSpells (sector c (current g)) s → AreFree (sector c (current g)) 0 → sector d (current g) ≡ sector c (current g)
+    → ChangesOnly 0 (blank sector_size) (sector d (current (g + 1))) → place_in (sector d (current (g + 1))) 0 ≡ place_of next → MayBump g k d → MayCommit (store_at s g 0) next (3 + k) d
 may_bump c d g s next k left told are same rest whole may =
     let within = may.within in
     let left_by = may.leaves in
@@ -190,28 +178,28 @@ abbrev pub control_of : (l : Ledger) (s : Snapshot) (free : ℕ) → Control
 control_of l s free = record { ledger = l; snapshot = s; free = free }
 
 -- after a commit in the same sector
-pub mounted_here : (c d : List ℕ) (v : Control) (next : Snapshot) (at : ℕ) → IsControlOf c v → at + v.free ≡ 32 → 0 < v.free → sector d 0 ≡ sector c 0
+pub mounted_here : (c d : List ℕ) (v : Control) (next : Snapshot) (at : ℕ) → IsControlOf c v → at + v.free ≡ places → 0 < v.free → sector d 0 ≡ sector c 0
     → ChangesOnly at (sector c (current (count_of v.ledger))) (sector d (current (count_of v.ledger))) → place_in (sector d (current (count_of v.ledger))) at ≡ place_of next → IsControlOf d (control_of v.ledger next (v.free - 1))
 mounted_here c d v next at mounted here some same change whole =
     let old = sector c (current (count_of v.ledger)) in
     let new = sector d (current (count_of v.ledger)) in
     record {
-      counted = count_kept c d (count_of v.ledger) same mounted.counted;
+      counted = HasCount-same c d (count_of v.ledger) mounted.counted same;
       told = told_whole at old new change next v.free mounted.are_free here some whole;
       are_free = free_whole at old new change next v.free mounted.are_free here some whole;
     }
 
 -- after one in the other sector
-pub mounted_next : (d : List ℕ) (g : ℕ) (l : Ledger) (next : Snapshot) → HasCount d (g + 1) → count_of l ≡ g + 1 → ChangesOnly 0 (blank 2048) (sector d (current (g + 1))) → place_in (sector d (current (g + 1))) 0 ≡ place_of next → IsControlOf d (control_of l next 31)
+pub mounted_next : (d : List ℕ) (g : ℕ) (l : Ledger) (next : Snapshot) → HasCount d (g + 1) → count_of l ≡ g + 1 → ChangesOnly 0 (blank sector_size) (sector d (current (g + 1))) → place_in (sector d (current (g + 1))) 0 ≡ place_of next → IsControlOf d (control_of l next (places - 1))
 mounted_next d g l next counted told rest whole = record {
   counted = subst (HasCount d) (sym told) counted;
   told = subst (λ (n : ℕ). LastSpells (sector d (current n)) next) (sym told) (told_first (sector d (current (g + 1))) next rest whole);
-  are_free = subst (λ (n : ℕ). AreFree (sector d (current n)) 31) (sym told) (free_first (sector d (current (g + 1))) next rest whole);
+  are_free = subst (λ (n : ℕ). AreFree (sector d (current n)) (places - 1)) (sym told) (free_first (sector d (current (g + 1))) next rest whole);
 }
 
 -- ---- whole acts
 
-pub free_below : (c : List ℕ) (v : Control) → IsControlOf c v → v.free < 32
+pub free_below : (c : List ℕ) (v : Control) → IsControlOf c v → v.free < places
 free_below c v mounted = some_written (sector c (current (count_of v.ledger))) v.snapshot v.free mounted.told mounted.are_free
 
 -- how many operations a commit has
@@ -225,15 +213,15 @@ four_next v next none =
 -- the sectors behind the ledger's operation
 pub record AreReady (old new : List ℕ) (n : ℕ) (next : Snapshot) : Type 0 where
   pub same : sector new (current n) ≡ sector old (current n)
-  pub rest : ChangesOnly 0 (blank 2048) (sector new (current (n + 1)))
+  pub rest : ChangesOnly 0 (blank sector_size) (sector new (current (n + 1)))
   pub whole : place_in (sector new (current (n + 1))) 0 ≡ place_of next
 
-pub are_ready : (old mid new : List ℕ) (n : ℕ) (next : Snapshot) → Touches (current (n + 1)) (current (n + 1) + 1) old mid → ChangesOnly 0 (blank 2048) (sector mid (current (n + 1))) → place_in (sector mid (current (n + 1))) 0 ≡ place_of next
+pub are_ready : (old mid new : List ℕ) (n : ℕ) (next : Snapshot) → Touches (current (n + 1)) (current (n + 1) + 1) old mid → ChangesOnly 0 (blank sector_size) (sector mid (current (n + 1))) → place_in (sector mid (current (n + 1))) 0 ≡ place_of next
     → Touches 0 1 mid new → AreReady old new n next
 are_ready old mid new n next kept rest whole bumped =
     let other : sector new (current (n + 1)) ≡ sector mid (current (n + 1)) = bumped.behind (current (n + 1)) (omega arith) (omega (arith, current_in (n + 1))) in
     record {
       same = bumped.behind (current n) (omega arith) (omega (arith, current_in n)) ∙ sector_kept (current n) kept (omega (arith, current_in n)) (apart n);
-      rest = subst (ChangesOnly 0 (blank 2048)) (sym other) rest;
+      rest = subst (ChangesOnly 0 (blank sector_size)) (sym other) rest;
       whole = ap (λ (cells : List ℕ). place_in cells 0) other ∙ whole;
     }

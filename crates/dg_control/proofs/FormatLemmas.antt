@@ -2,6 +2,8 @@
 use Rattle.std.proofs.Common.{◌≡◌, ℕ, ◌+◌, ◌-◌, ◌*◌, ◌<◌, ◌≤◌, List, [], ◌∷◌, length, get_or, Result, Ok, Err, OnOk, ap, subst, ◌∙◌, arith}
 use Rattle.std.specs.Prelude.{⊤}
 use Rattle.std.specs.Int.Bits.{and_zero_r}
+use Rattle.dg_nor.specs.Sizes.{sector_size}
+use Rattle.dg_control.specs.Sizes.{places, place_size}
 use Rattle.dg_nor.specs.Chip.{blank, programmed}
 use Rattle.dg_nor.specs.Device.{Device, Ran, Halts, Halted}
 use Rattle.dg_nor.proofs.ChipLemmas.{get_or-programmed}
@@ -29,14 +31,14 @@ halted_in {m} {may} {a} {b} {c} k n ran h within =
 
 -- ---- spent places
 
-pub spent_programmed : (cells new : List ℕ) (i at : ℕ) → length cells ≡ 2048 → i < 32 → at ≡ 64 * i → new ≡ programmed cells at (0 ∷ []) → get_or (place_in new i) 0 0 ≡ 0
+pub spent_programmed : (cells new : List ℕ) (i at : ℕ) → length cells ≡ sector_size → i < places → at ≡ place_size * i → new ≡ programmed cells at (0 ∷ []) → get_or (place_in new i) 0 0 ≡ 0
 spent_programmed cells new i at whole below here e =
-    let place : 64 * i + 0 ≡ at + 0 = omega arith in
-    get_or-place new i 0 (omega arith) ∙ ap (λ (c : List ℕ). get_or c (64 * i + 0) 0) e ∙ ap (λ (n : ℕ). get_or (programmed cells at (0 ∷ [])) n 0) place
+    let place : place_size * i + 0 ≡ at + 0 = omega arith in
+    get_or-place new i 0 (omega arith) ∙ ap (λ (c : List ℕ). get_or c (place_size * i + 0) 0) e ∙ ap (λ (n : ℕ). get_or (programmed cells at (0 ∷ [])) n 0) place
     ∙ get_or-programmed cells at (0 ∷ []) 0 (omega arith) (omega arith) ∙ and_zero_r (get_or cells (at + 0) 0)
 
 -- the places behind the spent ones are free
-spent_free : (cells : List ℕ) (count : ℕ) → count < 32 → ((i : ℕ) → i < count → get_or (place_in cells i) 0 0 ≡ 0) → ((i : ℕ) → count ≤ i → i < 32 → place_in cells i ≡ blank 64) → AreFree cells (32 - count)
+spent_free : (cells : List ℕ) (count : ℕ) → count < places → ((i : ℕ) → i < count → get_or (place_in cells i) 0 0 ≡ 0) → ((i : ℕ) → count ≤ i → i < places → place_in cells i ≡ blank place_size) → AreFree cells (places - count)
 spent_free cells count below spent rest = record {
   within = omega arith;
   clear = λ i from h. rest i (omega arith) h;
@@ -44,13 +46,13 @@ spent_free cells count below spent rest = record {
 }
 
 -- and the first of them holds the snapshot
-pub told_behind : (cells new : List ℕ) (first : Snapshot) (count : ℕ) → count < 32 → ((i : ℕ) → i < count → get_or (place_in cells i) 0 0 ≡ 0) → ((i : ℕ) → count ≤ i → i < 32 → place_in cells i ≡ blank 64)
+pub told_behind : (cells new : List ℕ) (first : Snapshot) (count : ℕ) → count < places → ((i : ℕ) → i < count → get_or (place_in cells i) 0 0 ≡ 0) → ((i : ℕ) → count ≤ i → i < places → place_in cells i ≡ blank place_size)
     → ChangesOnly count cells new → place_in new count ≡ place_of first → LastSpells new first
 told_behind cells new first count below spent rest change whole =
-    told_whole count cells new change first (32 - count) (spent_free cells count below spent rest) (omega arith) (omega arith) whole
+    told_whole count cells new change first (places - count) (spent_free cells count below spent rest) (omega arith) (omega arith) whole
 
-pub free_behind : (cells new : List ℕ) (first : Snapshot) (count : ℕ) → count < 32 → ((i : ℕ) → i < count → get_or (place_in cells i) 0 0 ≡ 0) → ((i : ℕ) → count ≤ i → i < 32 → place_in cells i ≡ blank 64)
-    → ChangesOnly count cells new → place_in new count ≡ place_of first → AreFree new (31 - count)
+pub free_behind : (cells new : List ℕ) (first : Snapshot) (count : ℕ) → count < places → ((i : ℕ) → i < count → get_or (place_in cells i) 0 0 ≡ 0) → ((i : ℕ) → count ≤ i → i < places → place_in cells i ≡ blank place_size)
+    → ChangesOnly count cells new → place_in new count ≡ place_of first → AreFree new (places - 1 - count)
 free_behind cells new first count below spent rest change whole =
-    let e : (32 - count) - 1 ≡ 31 - count = omega arith in
-    subst (AreFree new) e (free_whole count cells new change first (32 - count) (spent_free cells count below spent rest) (omega arith) (omega arith) whole)
+    let e : (places - count) - 1 ≡ (places - 1) - count = omega arith in
+    subst (AreFree new) e (free_whole count cells new change first (places - count) (spent_free cells count below spent rest) (omega arith) (omega arith) whole)

@@ -1,5 +1,6 @@
--- The 32 places of a control sector, each of 64 cells, and what the sector tells by them.
+-- The places of a control sector, and what the sector tells by them.
 use Rattle.std.specs.Prelude.{◌≡◌, ◌≢◌, ◌⊎◌, ℕ, ◌+◌, ◌*◌, ◌<◌, ◌≤◌, List, slice_index}
+use Rattle.dg_control.specs.Sizes.{places, place_size}
 use Rattle.dg_words.specs.Cells.{part}
 use Rattle.dg_nor.specs.Chip.{blank}
 use Rattle.dg_control.specs.Snapshot.{place_of}
@@ -7,7 +8,7 @@ use Rattle.dg_control.specs.declared.snapshot.Snapshot.{Snapshot}
 
 -- the cells of a place
 abbrev pub place_in : List ℕ → ℕ → List ℕ
-place_in cells i = part cells (64 * i) 64
+place_in cells i = part cells (place_size * i) place_size
 
 -- the commit byte of a place says that it is committed
 abbrev pub IsCommitted : List ℕ → Type 0
@@ -16,19 +17,19 @@ IsCommitted place = slice_index place 0 ≡ 127
 -- the last committed place of the sector spells the snapshot
 pub record LastSpells (cells : List ℕ) (s : Snapshot) : Type 0 where
   pub place : ℕ
-  pub in_sector : place < 32
+  pub in_sector : place < places
   pub spelled : place_in cells place ≡ place_of s
-  pub last : (i : ℕ) → place < i → i < 32 → IsCommitted (place_in cells i) → ⊥
+  pub last : (i : ℕ) → place < i → i < places → IsCommitted (place_in cells i) → ⊥
 
 -- that many places are free, which are the blank ones behind the last place that is not blank
 pub record AreFree (cells : List ℕ) (free : ℕ) : Type 0 where
-  pub within : free ≤ 32
-  pub clear : (i : ℕ) → 32 ≤ i + free → i < 32 → place_in cells i ≡ blank 64
-  pub written : (i : ℕ) → i + free + 1 ≡ 32 → place_in cells i ≡ blank 64 → ⊥
+  pub within : free ≤ places
+  pub clear : (i : ℕ) → places ≤ i + free → i < places → place_in cells i ≡ blank place_size
+  pub written : (i : ℕ) → i + free + 1 ≡ places → place_in cells i ≡ blank place_size → ⊥
 
 -- All other places are as they were.
 pub record ChangesOnly (at : ℕ) (old new : List ℕ) : Type 0 where
-  pub others : (i : ℕ) → i < 32 → i ≢ at → place_in new i ≡ place_in old i
+  pub others : (i : ℕ) → i < places → i ≢ at → place_in new i ≡ place_in old i
 
 -- What a stop may leave of the two programs that write a place, where k of them were done: the place is not
 -- committed, or the second program was reached and has made it whole.

@@ -1,5 +1,6 @@
 -- What the ledger and the control sectors of a chip stand for: a snapshot, and the commits that are left.
 use Rattle.std.specs.Prelude.{◌≡◌, ◌⊎◌, ℕ, ◌+◌, ◌-◌, ◌*◌, ◌%◌, ◌<◌, ◌==◌, if◌then◌else◌, List}
+use Rattle.dg_control.specs.Sizes.{control_sector, places, last_generation}
 use Rattle.dg_nor.specs.Chip.{sector}
 use Rattle.dg_nor.specs.Trail.{Trail, operations, stepping, MayLeave}
 use Rattle.dg_ledger.specs.Ledger.{HasCount}
@@ -8,11 +9,11 @@ use Rattle.dg_control.specs.declared.snapshot.Snapshot.{Snapshot}
 
 -- the sector whose places count, by the generation, which is the ledger's count
 abbrev pub current : ℕ → ℕ
-current generation = 1 + generation % 2
+current generation = control_sector + generation % 2
 
 -- the commits that are left
 abbrev pub room_for : (generation free : ℕ) → ℕ
-room_for generation free = free + 32 * (16256 - generation)
+room_for generation free = free + places * (last_generation - generation)
 
 -- the chip's bytes say this snapshot and this room
 pub record Controls (c : List ℕ) (s : Snapshot) (room : ℕ) : Type 0 where
@@ -39,7 +40,7 @@ pub record IsNear (before store : ControlStore) : Type 0 where
 
 -- a commit makes 2 operations where a place is free, and else 4
 abbrev pub commit_operations : ℕ → ℕ
-commit_operations room = if room % 32 == 0 then 4 else 2
+commit_operations room = if room % places == 0 then 4 else 2
 
 -- the store after a commit
 abbrev pub committed : ControlStore → Snapshot → ControlStore

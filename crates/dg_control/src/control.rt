@@ -1,5 +1,7 @@
 //! The control of a chip as it was mounted.
 ghost use Rattle.std.specs.Prelude.{◌≡◌, ◌↔◌, ℕ, ◌+◌, ◌-◌, ◌<◌, ◌≤◌, false, IfOk, OnOk, OnErr, IsErrOf};
+ghost use Rattle.dg_nor.specs.Sizes.{sectors};
+ghost use Rattle.dg_control.specs.Sizes.{control_end, places, last_generation};
 ghost use Rattle.dg_nor.specs.Chip.{Touches};
 ghost use Rattle.dg_nor.specs.Device.{Ran, Halts, Halted};
 ghost use Rattle.dg_nor.specs.Trail.{operations};
@@ -8,14 +10,11 @@ ghost use Rattle.dg_control.specs.Mounted.{control_snapshot, control_room, contr
 ghost use Rattle.dg_control.specs.Store.{current, Controls, commit_trail, MayCommit};
 ghost use Rattle.dg_control.specs.declared.snapshot.Snapshot.{Snapshot};
 
-use crate::reading::{PLACES, count_free, read_snapshot};
+use crate::reading::{count_free, read_snapshot};
 use crate::writing::{begin_sector, commit_at};
-use crate::{CommitFault, MountFault, Snapshot};
+use crate::{CONTROL_SECTOR, CommitFault, LAST_GENERATION, MountFault, PLACES, Snapshot};
 use dg_ledger::{Ledger, LedgerFault};
 use dg_nor::{Nor, Stopped};
-
-/// The greatest generation of a chip.
-const LAST_GENERATION: u32 = 16_256;
 
 /// The snapshot of a chip and where the next one goes. It stands for the chip that it was mounted from, until a
 /// commit on it is stopped.
@@ -61,15 +60,15 @@ impl Control {
         self.snapshot
     }
 
-    /// How many commits are left, 0 to 520,223.
+    /// How many commits are left, 0 to `MOST_ROOM`.
     pub fn room(&self) -> u32
         ensures { result ≡ control_room self.now }
     {
-        let left = LAST_GENERATION.saturating_sub(u32::from(self.ledger.count()));
+        let left = u32::from(LAST_GENERATION.saturating_sub(self.ledger.count()));
         u32::from(self.free) + u32::from(PLACES) * left
     }
 
-    /// Touches the next snapshot in place of this one: 2 operations where a place is free, and else 4. A stop leaves
+    /// Keeps the next snapshot in place of this one: 2 operations where a place is free, and else 4. A stop leaves
     /// this one or the next.
     pub fn commit<N: Nor>(&mut self, nor: &mut N, next: Snapshot) -> Result<(), CommitFault>
         requires mounted { IsControlOf (N.device nor.old).image self.old }
@@ -80,7 +79,7 @@ impl Control {
         ensures ran { OnOk result (Ran (operations (commit_trail (control_store self.old) next))
             (N.device nor.old) (N.device nor.new)) }
         ensures awake { OnOk result ((N.device nor.old).stopped ≡ false) }
-        ensures touches { Touches 0 3 (N.device nor.old).image (N.device nor.new).image }
+        ensures touches { Touches 0 control_end (N.device nor.old).image (N.device nor.new).image }
 
         ensures stopped { IsErrOf result CommitFault.Stopped
             → Halted (operations (commit_trail (control_store self.old) next)) (MayCommit (control_store self.old) next)
@@ -109,7 +108,7 @@ impl Control {
         ensures ran { OnOk result (Ran (operations (commit_trail (control_store self.old) next.now))
             (N.device nor.old) (N.device nor.new)) }
         ensures awake { OnOk result ((N.device nor.old).stopped ≡ false) }
-        ensures touches { Touches 0 3 (N.device nor.old).image (N.device nor.new).image }
+        ensures touches { Touches 0 control_end (N.device nor.old).image (N.device nor.new).image }
         ensures stopped { OnErr result (Halted (operations (commit_trail (control_store self.old) next.now))
             (MayCommit (control_store self.old) next.now) (N.device nor.old) (N.device nor.new)) }
     {
@@ -123,7 +122,7 @@ impl Control {
     fn hand_over<N: Nor>(&mut self, nor: &mut N, next: &Snapshot) -> Result<(), Stopped>
         requires mounted { IsControlOf (N.device nor.old).image self.old }
         requires none { self.old.free ≡ 0 }
-        requires left { count_of self.old.ledger < 16256 }
+        requires left { count_of self.old.ledger < last_generation }
 
         ensures ok { OnOk result (IsControlOf (N.device nor.new).image self.new) }
         ensures now { OnOk result (control_snapshot self.new ≡ next.now) }
@@ -131,7 +130,7 @@ impl Control {
         ensures ran { OnOk result (Ran (operations (commit_trail (control_store self.old) next.now))
             (N.device nor.old) (N.device nor.new)) }
         ensures awake { OnOk result ((N.device nor.old).stopped ≡ false) }
-        ensures touches { Touches 0 3 (N.device nor.old).image (N.device nor.new).image }
+        ensures touches { Touches 0 control_end (N.device nor.old).image (N.device nor.new).image }
         ensures stopped { OnErr result (Halted (operations (commit_trail (control_store self.old) next.now))
             (MayCommit (control_store self.old) next.now) (N.device nor.old) (N.device nor.new)) }
     {
@@ -148,20 +147,20 @@ impl Control {
 fn current_sector(ledger: &Ledger) -> u32
     ensures { result ≡ current (count_of ledger.now) }
 {
-    1 + u32::from(ledger.count() % 2)
+    CONTROL_SECTOR + u32::from(ledger.count() % 2)
 }
 
 /// The sector whose places count in the next generation.
 fn other_sector(ledger: &Ledger) -> u32
     ensures { result ≡ current (count_of ledger.now + 1) }
 {
-    2 - u32::from(ledger.count() % 2)
+    CONTROL_SECTOR + 1 - u32::from(ledger.count() % 2)
 }
 
 /// Counts one generation more. 1 operation.
 fn bump<N: Nor>(ledger: &mut Ledger, nor: &mut N) -> Result<(), Stopped>
     requires counted { HasCount (N.device nor.old).image (count_of ledger.old) }
-    requires left { count_of ledger.old < 16256 }
+    requires left { count_of ledger.old < last_generation }
 
     ensures ok { OnOk result (HasCount (N.device nor.new).image (count_of ledger.old + 1)) }
     ensures told { OnOk result (count_of ledger.new ≡ count_of ledger.old + 1) }

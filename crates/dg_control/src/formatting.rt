@@ -1,38 +1,42 @@
 //! The control sectors of a chip as they are formatted.
 ghost use Rattle.std.specs.Prelude.{◌≡◌, ℕ, ◌+◌, ◌-◌, ◌/◌, ◌%◌, ◌<◌, ◌≤◌, ⊤, false, slice_index, IfOk, OnOk, OnErr};
+ghost use Rattle.dg_nor.specs.Sizes.{sectors, sector_size};
+ghost use Rattle.dg_control.specs.Sizes.{control_end, places, place_size, most_room};
 ghost use Rattle.dg_nor.specs.Chip.{sector, blank, Touches};
 ghost use Rattle.dg_nor.specs.Device.{Ran, Halts, Halted};
 ghost use Rattle.dg_control.specs.Mounted.{control_snapshot, control_room, IsControlOf};
 ghost use Rattle.dg_control.specs.Places.{place_in, AreFree, ChangesOnly, LastSpells};
 ghost use Rattle.dg_control.specs.Store.{current, Controls};
-ghost use Rattle.dg_nor.specs.declared.device.TheConstants.{SECTORS};
 
-use crate::reading::{PLACES, place_offset};
+use crate::reading::place_offset;
 use crate::writing::commit_at;
-use crate::{Control, Snapshot};
+use crate::{CONTROL_SECTOR, Control, PLACES, Snapshot};
 use dg_ledger::Ledger;
-use dg_nor::{Nor, SECTORS, Stopped, erase_sector, program_in};
+use dg_nor::{Nor, Stopped, erase_sector, program_in};
+
+/// The commits of a generation.
+const COMMITS: u32 = PLACES as u32;
 
 impl Control {
     /// Makes the ledger and the control sector of a chip on which that many commits are spent and then this
-    /// snapshot was committed. At most 520,223 can be spent.
+    /// snapshot was committed. At most `MOST_ROOM` can be spent.
     pub fn format<N: Nor>(nor: &mut N, used: u32, first: &Snapshot) -> Result<Control, Stopped>
-        requires { used ≤ 520223 }
+        requires { used ≤ most_room }
 
         ensures mounted { IfOk result (IsControlOf (N.device nor.new).image) }
-        ensures controls { OnOk result (Controls (N.device nor.new).image first.now (520223 - used)) }
+        ensures controls { OnOk result (Controls (N.device nor.new).image first.now (most_room - used)) }
         ensures told { IfOk result (λ v. control_snapshot v ≡ first.now) }
-        ensures room { IfOk result (λ v. control_room v ≡ 520223 - used) }
-        ensures spent { OnOk result ((i : ℕ) → i < used % 32
-            → slice_index (place_in (sector (N.device nor.new).image (current (used / 32))) i) 0 ≡ 0) }
-        ensures ran { OnOk result (Ran (5 + used / 32 + used % 32) (N.device nor.old) (N.device nor.new)) }
+        ensures room { IfOk result (λ v. control_room v ≡ most_room - used) }
+        ensures spent { OnOk result ((i : ℕ) → i < used % places
+            → slice_index (place_in (sector (N.device nor.new).image (current (used / places))) i) 0 ≡ 0) }
+        ensures ran { OnOk result (Ran (5 + used / places + used % places) (N.device nor.old) (N.device nor.new)) }
         ensures awake { OnOk result ((N.device nor.old).stopped ≡ false) }
-        ensures touches { Touches 0 3 (N.device nor.old).image (N.device nor.new).image }
-        ensures stopped { OnErr result (Halted (5 + used / 32 + used % 32) (λ _ _. ⊤) (N.device nor.old) (N.device nor.new)) }
+        ensures touches { Touches 0 control_end (N.device nor.old).image (N.device nor.new).image }
+        ensures stopped { OnErr result (Halted (5 + used / places + used % places) (λ _ _. ⊤) (N.device nor.old) (N.device nor.new)) }
     {
-        let generation = used / 32;
-        let place = (used % 32) as u8;
-        first_sector(nor, 1 + generation % 2, place, first)?;
+        let generation = used / COMMITS;
+        let place = (used % COMMITS) as u8;
+        first_sector(nor, CONTROL_SECTOR + generation % 2, place, first)?;
         let ledger = Ledger::format(nor, generation as u16)?;
         Ok(Control {
             ledger,
@@ -44,11 +48,11 @@ impl Control {
 
 /// Makes a sector in which the places before this one are spent, and this one holds the snapshot.
 fn first_sector<N: Nor>(nor: &mut N, index: u32, place: u8, first: &Snapshot) -> Result<(), Stopped>
-    requires in_chip { index < SECTORS }
-    requires in_sector { place < 32 }
+    requires in_chip { index < sectors }
+    requires in_sector { place < places }
 
     ensures told { OnOk result (LastSpells (sector (N.device nor.new).image index) first.now) }
-    ensures free { OnOk result (AreFree (sector (N.device nor.new).image index) (31 - place)) }
+    ensures free { OnOk result (AreFree (sector (N.device nor.new).image index) (places - 1 - place)) }
     ensures spent { OnOk result ((i : ℕ) → i < place
         → slice_index (place_in (sector (N.device nor.new).image index) i) 0 ≡ 0) }
     ensures ran { OnOk result (Ran (3 + place) (N.device nor.old) (N.device nor.new)) }
@@ -63,14 +67,14 @@ fn first_sector<N: Nor>(nor: &mut N, index: u32, place: u8, first: &Snapshot) ->
 
 /// Programs the commit byte of the first `count` places of a blank sector to 0.
 fn spend_places<N: Nor>(nor: &mut N, index: u32, count: u8) -> Result<(), Stopped>
-    requires in_chip { index < SECTORS }
-    requires in_sector { count < 32 }
-    requires clear { sector (N.device nor.old).image index ≡ blank 2048 }
+    requires in_chip { index < sectors }
+    requires in_sector { count < places }
+    requires clear { sector (N.device nor.old).image index ≡ blank sector_size }
 
     ensures spent { OnOk result ((i : ℕ) → i < count
         → slice_index (place_in (sector (N.device nor.new).image index) i) 0 ≡ 0) }
-    ensures rest { OnOk result ((i : ℕ) → count ≤ i → i < 32
-        → place_in (sector (N.device nor.new).image index) i ≡ blank 64) }
+    ensures rest { OnOk result ((i : ℕ) → count ≤ i → i < places
+        → place_in (sector (N.device nor.new).image index) i ≡ blank place_size) }
     ensures ran { OnOk result (Ran count (N.device nor.old) (N.device nor.new)) }
     ensures touches { Touches index (index + 1) (N.device nor.old).image (N.device nor.new).image }
     ensures stopped { OnErr result (Halted count (λ _ _. ⊤) (N.device nor.old) (N.device nor.new)) }
@@ -83,8 +87,8 @@ fn spend_places<N: Nor>(nor: &mut N, index: u32, count: u8) -> Result<(), Stoppe
 
 /// Programs the commit byte of a place to 0. 1 operation.
 fn spend_place<N: Nor>(nor: &mut N, index: u32, at: u8) -> Result<(), Stopped>
-    requires in_chip { index < SECTORS }
-    requires in_sector { at < 32 }
+    requires in_chip { index < sectors }
+    requires in_sector { at < places }
 
     ensures spent { OnOk result (slice_index (place_in (sector (N.device nor.new).image index) at) 0 ≡ 0) }
     ensures changes { OnOk result (ChangesOnly at (sector (N.device nor.old).image index) (sector (N.device nor.new).image index)) }

@@ -1,7 +1,7 @@
 //! The control sectors of a chip: what a volume commits as a whole, and how one commit follows another so
 //! that a power cut leaves the old snapshot or the next.
 //!
-//! Two sectors of 32 places take turns by the ledger's count. The last committed place of the current one
+//! Two sectors of places take turns by the ledger's count. The last committed place of the current one
 //! counts. `Control` is what was read of them.
 #![tactic(auto)]
 
@@ -12,6 +12,7 @@ mod laws;
 mod place;
 mod reading;
 mod setting;
+mod sizes;
 mod snapshot;
 mod writing;
 
@@ -21,8 +22,12 @@ pub use laws::{
     a_chip_has_one_control, a_mounted_chip_has_control, a_place_spells_one_snapshot,
     other_sectors_do_not_count,
 };
-pub use place::{PLACE, read_place, write_place};
-pub use snapshot::{GOLDEN_VERSION, IMAGES, Order, Program, SHORT_STARTS, SlotState, Snapshot};
+pub use place::{read_place, write_place};
+pub use sizes::{
+    CONTROL_END, CONTROL_SECTOR, GOLDEN_VERSION, IMAGES, LAST_GENERATION, MOST_ROOM, PLACE_SIZE,
+    PLACES, SHORT_STARTS,
+};
+pub use snapshot::{Order, Program, SlotState, Snapshot};
 
 #[cfg(test)]
 mod tests;

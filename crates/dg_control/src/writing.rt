@@ -1,22 +1,28 @@
 //! A place as it is written: first all bytes but one, then the commit byte, so that a power cut leaves no
 //! half-written place that counts.
 ghost use Rattle.std.specs.Prelude.{◌≡◌, ◌⊎◌, ◌+◌, ◌∷◌, ◌<◌, ⊤, false, drop, slice_index, OnOk, OnErr};
+ghost use Rattle.dg_nor.specs.Sizes.{sectors, sector_size};
+ghost use Rattle.dg_control.specs.Sizes.{places, place_size};
 ghost use Rattle.dg_nor.specs.Chip.{sector, blank, Touches};
 ghost use Rattle.dg_nor.specs.Device.{Ran, Halts, Halted};
 ghost use Rattle.dg_control.specs.Places.{place_in, ChangesOnly, MayWrite};
 ghost use Rattle.dg_control.specs.Snapshot.{place_of};
-ghost use Rattle.dg_nor.specs.declared.device.TheConstants.{SECTORS};
 
 use crate::place::COMMITTED;
 use crate::reading::place_offset;
-use crate::{Snapshot, write_place};
-use dg_nor::{Nor, SECTORS, Stopped, erase_sector, program_in};
+use crate::{PLACE_SIZE, Snapshot, write_place};
+use dg_nor::{Nor, Stopped, erase_sector, program_in};
 
 /// Writes all bytes of a blank place but its commit byte. 1 operation.
-fn write_body<N: Nor>(nor: &mut N, index: u32, at: u8, place: &[u8; 64]) -> Result<(), Stopped>
-    requires in_chip { index < SECTORS }
-    requires in_sector { at < 32 }
-    requires clear { place_in (sector (N.device nor.old).image index) at ≡ blank 64 }
+fn write_body<N: Nor>(
+    nor: &mut N,
+    index: u32,
+    at: u8,
+    place: &[u8; PLACE_SIZE],
+) -> Result<(), Stopped>
+    requires in_chip { index < sectors }
+    requires in_sector { at < places }
+    requires clear { place_in (sector (N.device nor.old).image index) at ≡ blank place_size }
 
     ensures body { OnOk result (place_in (sector (N.device nor.new).image index) at ≡ 255 ∷ drop 1 place.now) }
     ensures ran { OnOk result (Ran 1 (N.device nor.old) (N.device nor.new)) }
@@ -31,8 +37,8 @@ fn write_body<N: Nor>(nor: &mut N, index: u32, at: u8, place: &[u8; 64]) -> Resu
 
 /// Commits a place. 1 operation, which is done or not where it is interrupted.
 fn write_commit_byte<N: Nor>(nor: &mut N, index: u32, at: u8) -> Result<(), Stopped>
-    requires in_chip { index < SECTORS }
-    requires in_sector { at < 32 }
+    requires in_chip { index < sectors }
+    requires in_sector { at < places }
     requires uncommitted { slice_index (place_in (sector (N.device nor.old).image index) at) 0 ≡ 255 }
 
     ensures committed { OnOk result (place_in (sector (N.device nor.new).image index) at
@@ -56,9 +62,9 @@ pub(crate) fn commit_at<N: Nor>(
     at: u8,
     next: &Snapshot,
 ) -> Result<(), Stopped>
-    requires in_chip { index < SECTORS }
-    requires in_sector { at < 32 }
-    requires clear { place_in (sector (N.device nor.old).image index) at ≡ blank 64 }
+    requires in_chip { index < sectors }
+    requires in_sector { at < places }
+    requires clear { place_in (sector (N.device nor.old).image index) at ≡ blank place_size }
 
     ensures whole { OnOk result (place_in (sector (N.device nor.new).image index) at ≡ place_of next.now) }
     ensures ran { OnOk result (Ran 2 (N.device nor.old) (N.device nor.new)) }
@@ -77,12 +83,12 @@ pub(crate) fn commit_at<N: Nor>(
 
 /// Makes a sector hold the snapshot in its first place alone. 3 operations.
 pub(crate) fn begin_sector<N: Nor>(nor: &mut N, index: u32, next: &Snapshot) -> Result<(), Stopped>
-    requires { index < SECTORS }
+    requires { index < sectors }
 
     ensures whole { OnOk result (place_in (sector (N.device nor.new).image index) 0 ≡ place_of next.now) }
     ensures ran { OnOk result (Ran 3 (N.device nor.old) (N.device nor.new)) }
     ensures awake { OnOk result ((N.device nor.old).stopped ≡ false) }
-    ensures rest { OnOk result (ChangesOnly 0 (blank 2048) (sector (N.device nor.new).image index)) }
+    ensures rest { OnOk result (ChangesOnly 0 (blank sector_size) (sector (N.device nor.new).image index)) }
     ensures touches { Touches index (index + 1) (N.device nor.old).image (N.device nor.new).image }
     ensures stopped { OnErr result (Halted 3 (λ _ _. ⊤) (N.device nor.old) (N.device nor.new)) }
 {

@@ -1,36 +1,29 @@
 //! A ledger read from its chip: the text, and how many bits are cleared behind it.
 ghost use Rattle.std.specs.Prelude.{◌≡◌, ◌↔◌, ℕ, ◌+◌, ◌*◌, ◌<◌, ◌≤◌, [], ◌∷◌, ◌++◌, false, length, IfOk, OnOk, IfSome, IsNone, IsTrue};
+ghost use Rattle.dg_ledger.specs.Sizes.{ledger_sector, text_size, bits_size, most_count};
 ghost use Rattle.dg_words.specs.Bits.{cleared_bits};
 ghost use Rattle.dg_words.specs.Cells.{part};
 ghost use Rattle.dg_nor.specs.Chip.{sector};
 ghost use Rattle.dg_ledger.specs.Ledger.{ledger_text};
-ghost use Rattle.dg_ledger.specs.Reads.{ReadEnds};
+ghost use Rattle.dg_nor.specs.Reads.{ReadEnds};
 
+use crate::{BITS_SIZE, LEDGER_SECTOR, TEXT_SIZE};
 use dg_nor::{Nor, Stopped, read_in};
 
-/// The sector of the ledger.
-pub(crate) const LEDGER: u32 = 0;
-
 /// What a ledger begins with.
-pub(crate) const TEXT: [u8; 16] = *b"DELUGE-NOR-PROF1";
+pub(crate) const TEXT: [u8; TEXT_SIZE as usize] = *b"DELUGE-NOR-PROF1";
 
-/// Where the bits begin in the sector.
-pub(crate) const BITS: u32 = 16;
-
-/// The bytes of bits.
-const BYTES: u16 = 2_032;
-
-/// They are read in pieces of at most this many.
+/// The bytes of bits are read in pieces of at most this many.
 const PIECE: u16 = 64;
 
 /// Whether the sector begins with the text of a ledger.
 pub(crate) fn has_text<N: Nor>(nor: &mut N) -> Result<bool, Stopped>
-    ensures text { IfOk result (λ b. IsTrue b ↔ (part (sector (N.device nor.old).image 0) 0 16 ≡ ledger_text)) }
+    ensures text { IfOk result (λ b. IsTrue b ↔ (part (sector (N.device nor.old).image ledger_sector) 0 text_size ≡ ledger_text)) }
     ensures awake { OnOk result ((N.device nor.old).stopped ≡ false) }
     ensures ends { ReadEnds result (N.device nor.old) (N.device nor.new) }
 {
     let mut text = [0; TEXT.len()];
-    read_in(nor, LEDGER, 0, &mut text)?;
+    read_in(nor, LEDGER_SECTOR, 0, &mut text)?;
     Ok(text == TEXT)
 }
 
@@ -38,7 +31,7 @@ pub(crate) fn has_text<N: Nor>(nor: &mut N) -> Result<bool, Stopped>
 /// come first.
 fn count_byte(byte: u8, at: u16, count: u16) -> Option<u16>
     requires within { count ≤ 8 * at }
-    requires in_ledger { at < 2032 }
+    requires in_ledger { at < bits_size }
     ensures fits { IfSome result (λ n. n ≤ 8 * (at + 1) × (cleared_bits at count ++ byte ∷ [] ≡ cleared_bits (at + 1) n)) }
     ensures no_fit { IsNone result → (n : ℕ) → cleared_bits at count ++ byte ∷ [] ≡ cleared_bits (at + 1) n → ⊥ }
 {
@@ -59,7 +52,7 @@ fn count_byte(byte: u8, at: u16, count: u16) -> Option<u16>
 /// come first.
 fn count_piece(piece: &[u8], at: u16, count: u16) -> Option<u16>
     requires within { count ≤ 8 * at }
-    requires in_ledger { at + length piece.now ≤ 2032 }
+    requires in_ledger { at + length piece.now ≤ bits_size }
     ensures fits { IfSome result (λ n. n ≤ 8 * (at + length piece.now)
         × (cleared_bits at count ++ piece.now ≡ cleared_bits (at + length piece.now) n)) }
     ensures no_fit { IsNone result
@@ -83,32 +76,32 @@ fn read_piece<N: Nor>(
     count: u16,
 ) -> Result<Option<u16>, Stopped>
     requires within { count ≤ 8 * at }
-    requires in_ledger { at + length piece.old ≤ 2032 }
+    requires in_ledger { at + length piece.old ≤ bits_size }
     ensures fits { IfOk result (λ found. IfSome found (λ n. n ≤ 8 * (at + length piece.old)
-        × (cleared_bits at count ++ part (sector (N.device nor.old).image 0) (16 + at) (length piece.old)
+        × (cleared_bits at count ++ part (sector (N.device nor.old).image ledger_sector) (text_size + at) (length piece.old)
         ≡ cleared_bits (at + length piece.old) n))) }
     ensures no_fit { IfOk result (λ found. IsNone found → (n : ℕ)
-        → cleared_bits at count ++ part (sector (N.device nor.old).image 0) (16 + at) (length piece.old)
+        → cleared_bits at count ++ part (sector (N.device nor.old).image ledger_sector) (text_size + at) (length piece.old)
         ≡ cleared_bits (at + length piece.old) n → ⊥) }
     ensures ends { ReadEnds result (N.device nor.old) (N.device nor.new) }
 {
-    read_in(nor, LEDGER, BITS + u32::from(at), piece)?;
+    read_in(nor, LEDGER_SECTOR, TEXT_SIZE + u32::from(at), piece)?;
     Ok(count_piece(piece, at, count))
 }
 
 /// How many bits are cleared, if all of them come first.
 pub(crate) fn count_bits<N: Nor>(nor: &mut N) -> Result<Option<u16>, Stopped>
-    ensures fits { IfOk result (λ found. IfSome found (λ n. n ≤ 16256
-        × (part (sector (N.device nor.old).image 0) 16 2032 ≡ cleared_bits 2032 n))) }
+    ensures fits { IfOk result (λ found. IfSome found (λ n. n ≤ most_count
+        × (part (sector (N.device nor.old).image ledger_sector) text_size bits_size ≡ cleared_bits bits_size n))) }
     ensures no_fit { IfOk result (λ found. IsNone found
-        → (n : ℕ) → part (sector (N.device nor.old).image 0) 16 2032 ≡ cleared_bits 2032 n → ⊥) }
+        → (n : ℕ) → part (sector (N.device nor.old).image ledger_sector) text_size bits_size ≡ cleared_bits bits_size n → ⊥) }
     ensures ends { ReadEnds result (N.device nor.old) (N.device nor.new) }
 {
     let mut piece = [0; PIECE as usize];
     let mut count = 0;
     let mut at = 0;
-    while at < BYTES {
-        let len = (BYTES - at).min(PIECE);
+    while at < BITS_SIZE {
+        let len = (BITS_SIZE - at).min(PIECE);
         match read_piece(nor, at, &mut piece[..len as usize], count)? {
             Some(more) => count = more,
             None => return Ok(None),

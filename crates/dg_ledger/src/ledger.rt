@@ -1,16 +1,14 @@
 //! A mounted ledger.
 ghost use Rattle.std.specs.Prelude.{◌≡◌, ◌↔◌, ◌⊎◌, ⊤, ℕ, ◌+◌, ◌<◌, ◌≤◌, false, IfOk, OnOk, OnErr, IsErrOf};
+ghost use Rattle.dg_ledger.specs.Sizes.{ledger_sector, most_count};
 ghost use Rattle.dg_nor.specs.Chip.{Touches};
 ghost use Rattle.dg_nor.specs.Device.{Ran, Halts, Halted};
 ghost use Rattle.dg_nor.specs.Trail.{operations};
 ghost use Rattle.dg_ledger.specs.Ledger.{HasCount, count_of, bump_trail, MayBump};
 
-use crate::LedgerFault;
-use crate::counting::{BITS, LEDGER, TEXT, count_bits, has_text};
+use crate::counting::{TEXT, count_bits, has_text};
+use crate::{LEDGER_SECTOR, LedgerFault, MOST_COUNT, TEXT_SIZE};
 use dg_nor::{Nor, Stopped, erase_sector, program_in};
-
-/// The bits of a ledger.
-const MOST: u16 = 16_256;
 
 /// The ledger of a chip as it was mounted: how many of its bits are cleared.
 #[derive(Clone, Copy, Debug, PartialEq, Eq)]
@@ -40,7 +38,7 @@ impl Ledger {
         }
     }
 
-    /// How many bits are cleared, 0 to 16,256.
+    /// How many bits are cleared, 0 to `MOST_COUNT`.
     pub fn count(&self) -> u16
         ensures { result ≡ count_of self.now }
     {
@@ -55,17 +53,17 @@ impl Ledger {
         ensures told { OnOk result (count_of self.new ≡ count_of self.old + 1) }
         ensures ran { OnOk result (Ran (operations (bump_trail (count_of self.old))) (N.device nor.old) (N.device nor.new)) }
         ensures awake { OnOk result ((N.device nor.old).stopped ≡ false) }
-        ensures touches { Touches 0 1 (N.device nor.old).image (N.device nor.new).image }
+        ensures touches { Touches ledger_sector (ledger_sector + 1) (N.device nor.old).image (N.device nor.new).image }
 
         ensures stopped { IsErrOf result LedgerFault.Stopped
             → Halted (operations (bump_trail (count_of self.old))) (MayBump (count_of self.old))
             (N.device nor.old) (N.device nor.new) }
-        ensures used { IsErrOf result LedgerFault.Used ↔ (count_of self.old ≡ 16256) }
+        ensures used { IsErrOf result LedgerFault.Used ↔ (count_of self.old ≡ most_count) }
         ensures unchanged { IsErrOf result LedgerFault.Used → N.device nor.new ≡ N.device nor.old }
         ensures same_count { OnErr result (count_of self.new ≡ count_of self.old) }
         ensures never_shape { IsErrOf result LedgerFault.Shape → ⊥ }
     {
-        if self.count == MOST {
+        if self.count == MOST_COUNT {
             return Err(LedgerFault::Used);
         }
         self.clear_next(nor)?;
@@ -74,13 +72,13 @@ impl Ledger {
 
     fn clear_next<N: Nor>(&mut self, nor: &mut N) -> Result<(), Stopped>
         requires counted { HasCount (N.device nor.old).image (count_of self.old) }
-        requires left { count_of self.old < 16256 }
+        requires left { count_of self.old < most_count }
 
         ensures ok { OnOk result (HasCount (N.device nor.new).image (count_of self.old + 1)) }
         ensures told { OnOk result (count_of self.new ≡ count_of self.old + 1) }
         ensures ran { OnOk result (Ran 1 (N.device nor.old) (N.device nor.new)) }
         ensures awake { OnOk result ((N.device nor.old).stopped ≡ false) }
-        ensures touches { Touches 0 1 (N.device nor.old).image (N.device nor.new).image }
+        ensures touches { Touches ledger_sector (ledger_sector + 1) (N.device nor.old).image (N.device nor.new).image }
 
         ensures stopped { OnErr result (Halts 1 0 (N.device nor.old) (N.device nor.new)) }
         ensures cut { OnErr result (HasCount (N.device nor.new).image (count_of self.old)
@@ -88,20 +86,25 @@ impl Ledger {
         ensures same_count { OnErr result (count_of self.new ≡ count_of self.old) }
     {
         let byte = 0x7F >> (self.count % 8);
-        program_in(nor, LEDGER, BITS + u32::from(self.count / 8), &[byte])?;
+        program_in(
+            nor,
+            LEDGER_SECTOR,
+            TEXT_SIZE + u32::from(self.count / 8),
+            &[byte],
+        )?;
         self.count += 1;
         Ok(())
     }
 
     /// Makes a ledger with that many cleared bits, whatever stood in its sector. 2 operations and one for each bit.
     pub fn format<N: Nor>(nor: &mut N, count: u16) -> Result<Ledger, Stopped>
-        requires { count ≤ 16256 }
+        requires { count ≤ most_count }
 
         ensures ok { OnOk result (HasCount (N.device nor.new).image count) }
         ensures told { IfOk result (λ l. count_of l ≡ count) }
         ensures ran { OnOk result (Ran (2 + count) (N.device nor.old) (N.device nor.new)) }
         ensures awake { OnOk result ((N.device nor.old).stopped ≡ false) }
-        ensures touches { Touches 0 1 (N.device nor.old).image (N.device nor.new).image }
+        ensures touches { Touches ledger_sector (ledger_sector + 1) (N.device nor.old).image (N.device nor.new).image }
         ensures stopped { OnErr result (Halted (2 + count) (λ _ _. ⊤) (N.device nor.old) (N.device nor.new)) }
     {
         let mut ledger = begin(nor)?;
@@ -118,10 +121,10 @@ fn begin<N: Nor>(nor: &mut N) -> Result<Ledger, Stopped>
     ensures told { IfOk result (λ l. count_of l ≡ 0) }
     ensures ran { OnOk result (Ran 2 (N.device nor.old) (N.device nor.new)) }
     ensures awake { OnOk result ((N.device nor.old).stopped ≡ false) }
-    ensures touches { Touches 0 1 (N.device nor.old).image (N.device nor.new).image }
+    ensures touches { Touches ledger_sector (ledger_sector + 1) (N.device nor.old).image (N.device nor.new).image }
     ensures stopped { OnErr result (Halted 2 (λ _ _. ⊤) (N.device nor.old) (N.device nor.new)) }
 {
-    erase_sector(nor, LEDGER)?;
-    program_in(nor, LEDGER, 0, &TEXT)?;
+    erase_sector(nor, LEDGER_SECTOR)?;
+    program_in(nor, LEDGER_SECTOR, 0, &TEXT)?;
     Ok(Ledger { count: 0 })
 }

@@ -1,14 +1,15 @@
 -- Bytes of which the first bits are cleared: each byte, how many bits are cleared, and the next one.
-use Rattle.std.proofs.Common.{◌≡◌, ◌≢◌, ℕ, zero, suc, ◌+◌, ◌-◌, ◌*◌, ◌/◌, ◌%◌, ◌^◌, ◌<◌, ◌≤◌, ⊎_elim, min, Bool, true, false, List, [], ◌∷◌, ◌++◌, length, get_or, take, bit_and, refl, sym, ap, ◌∙◌, subst, arith}
+use Rattle.std.proofs.Common.{◌≡◌, ◌≢◌, ℕ, zero, suc, ◌+◌, ◌-◌, ◌*◌, ◌/◌, ◌%◌, ◌^◌, ◌<◌, ◌≤◌, ◌↔◌, ⊎_elim, min, Bool, true, false, List, [], ◌∷◌, ◌++◌, length, get_or, take, bit_and, refl, sym, ap, ◌∙◌, subst, arith}
 use Rattle.std.specs.Prelude.{◌==◌, ◌&&◌, nat_lt}
 use Rattle.std.specs.List.{list_all, range_with_len, sum_by}
-use Rattle.std.specs.Int.{count_zeros, w8}
+use Rattle.std.specs.Int.{bit_at, count_zeros, w8}
 use Rattle.std.proofs.lemmas.Bool.{eqb-true, ltb-true, cases_lt}
 use Rattle.std.proofs.lemmas.List.FromFn.{length-map-range_with_len, get_or-map-range_with_len, take-map-range_with_len, map-range_with_len_more, fill_by_all}
 use Rattle.std.proofs.lemmas.List.Sums.{sum_by_push}
 use Rattle.std.proofs.lemmas.List.{get_or_past}
 use lib.Count.{ones, ones_in}
-use Rattle.dg_words.specs.Bits.{cleared_bits}
+use Rattle.std.proofs.lemmas.Nat.Bits.{bit_at_ones, bit_at_ones_above}
+use Rattle.dg_words.specs.Bits.{cleared_bits, bit_of}
 use Rattle.dg_words.specs.Cells.{AreBytes}
 
 both : (a b : Bool) → a && b ≡ true → (a ≡ true) × (b ≡ true)
@@ -124,3 +125,16 @@ byte_after n = omega arith
 -- all other bytes stay
 pub other_bytes : (n k : ℕ) → k ≢ n / 8 → min 8 (n + 1 - 8 * k) ≡ min 8 (n - 8 * k)
 other_bytes n k ne = omega arith
+
+-- ---- bit by bit
+
+pub bit_is_cleared : (bytes n i : ℕ) → i < 8 * bytes → (bit_of (cleared_bits bytes n) i ≡ 0) ↔ (i < n)
+bit_is_cleared bytes n i h =
+    let c = min 8 (n - 8 * (i / 8)) in
+    let byte : get_or (cleared_bits bytes n) (i / 8) 0 ≡ 2 ^ (8 - c) - 1 = get_or-cleared_bits bytes n (i / 8) 0 (omega arith) in
+    let bit : bit_of (cleared_bits bytes n) i ≡ bit_at (2 ^ (8 - c) - 1) (7 - i % 8) = ap (λ b. bit_at b (7 - i % 8)) byte in (
+      λ zero. ⊎_elim (λ lt. lt)
+          (λ ge. let set = bit_at_ones (8 - c) (7 - i % 8) (omega arith) in absurd (omega (arith, set, bit, zero)))
+          (cases_lt i n),
+      λ lt. bit ∙ bit_at_ones_above (8 - c) (7 - i % 8) (omega arith),
+    )

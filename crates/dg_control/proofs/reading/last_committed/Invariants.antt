@@ -1,7 +1,7 @@
 use Rattle.std.proofs.Common.{ℕ, ◌+◌, ◌<◌, ◌≤◌}
 use Rattle.dg_nor.specs.Chip.{sector}
 use Rattle.dg_control.specs.Places.{place_in, IsCommitted}
-use Rattle.dg_ledger.specs.Reads.{Looked}
+use Rattle.dg_nor.specs.Reads.{Looked}
 use Rattle.dg_control.proofs.reading.last_committed.Given as goal
 
 abbrev pub invariant-loop-back : goal.invariant-loop-back

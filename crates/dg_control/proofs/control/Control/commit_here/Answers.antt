@@ -1,4 +1,5 @@
 use Rattle.std.proofs.Common.{◌≡◌, ℕ, ◌+◌, ◌-◌, subst, arith}
+use Rattle.dg_control.specs.Sizes.{places}
 use Rattle.dg_nor.specs.Chip.{sector}
 use Rattle.dg_nor.specs.Device.{Ran, Halted}
 use Rattle.dg_nor.proofs.DeviceLemmas.{OnErr_from, Halted-weaker}
@@ -18,14 +19,14 @@ returns-in_err-commit_at-clause-stopped g c =
     let new = g.N.Nor.device c.commit_at.new.nor in
     let m = c.requires.mounted in
     let index : c.current_sector.result ≡ current n = c.current_sector.ensures in
-    let here : (32 - v.free) + v.free ≡ 32 = omega (arith, m.are_free.within) in
+    let here : (places - v.free) + v.free ≡ places = omega (arith, m.are_free.within) in
     let same : sector new.image 0 ≡ sector old.image 0 = c.commit_at.ensures.touches.before 0 (omega (arith, index)) (omega arith) in
     OnErr_from c.from_residual.result
     (subst (λ (k : ℕ). Halted k (MayCommit (control_store v) next) old new) (two_here old.image v next m c.requires.some)
-    (Halted-weaker {may = λ k image. MayWrite (32 - v.free) next (sector old.image c.current_sector.result) k (sector image c.current_sector.result)} {may' = MayCommit (control_store v) next}
+    (Halted-weaker {may = λ k image. MayWrite (places - v.free) next (sector old.image c.current_sector.result) k (sector image c.current_sector.result)} {may' = MayCommit (control_store v) next}
     (λ k within may.
-    may_here old.image new.image n v.free v.snapshot next (32 - v.free) k m.counted m.told m.are_free here c.requires.some same
-    (subst (λ (i : ℕ). MayWrite (32 - v.free) next (sector old.image i) k (sector new.image i)) index may))
+    may_here old.image new.image n v.free v.snapshot next (places - v.free) k m.counted m.told m.are_free here c.requires.some same
+    (subst (λ (i : ℕ). MayWrite (places - v.free) next (sector old.image i) k (sector new.image i)) index may))
     c.in_err-commit_at.ensures.stopped))
 
 pub returns-clause-ok : goal.returns-clause-ok
@@ -35,9 +36,9 @@ returns-clause-ok g c =
     let new = g.N.Nor.device c.commit_at.new.nor in
     let m = c.requires.mounted in
     let index : c.current_sector.result ≡ current (count_of v.ledger) = c.current_sector.ensures in
-    let here : (32 - v.free) + v.free ≡ 32 = omega (arith, m.are_free.within) in
+    let here : (places - v.free) + v.free ≡ places = omega (arith, m.are_free.within) in
     let same : sector new.image 0 ≡ sector old.image 0 = c.commit_at.ensures.touches.before 0 (omega (arith, index)) (omega arith) in
-    mounted_here old.image new.image v c.args.next.now (32 - v.free) m here c.requires.some same
+    mounted_here old.image new.image v c.args.next.now (places - v.free) m here c.requires.some same
     (rw index at c.in_ok-commit_at.ensures.changes) (rw index at c.in_ok-commit_at.ensures.whole)
 
 pub returns-clause-ran : goal.returns-clause-ran

@@ -9,7 +9,8 @@ use Rattle.dg_ledger.specs.Ledger.{count_of, bump_trail, MayBump}
 use Rattle.dg_control.specs.Mounted.{control_store}
 use Rattle.dg_control.specs.Places.{AreFree}
 use Rattle.dg_control.specs.Store.{current, commit_trail, MayCommit}
-use Rattle.dg_control.proofs.CommitLemmas.{store_at, count_kept, may_before, may_bump, mounted_next, four_next, are_ready, current_in, apart}
+use Rattle.dg_ledger.proofs.NextLemmas.{HasCount-same}
+use Rattle.dg_control.proofs.CommitLemmas.{store_at, may_before, may_bump, mounted_next, four_next, are_ready, current_in, apart}
 use Rattle.dg_control.proofs.control.Control.hand_over.Goals as goal
 
 pub returns-in_err-begin_sector-clause-stopped : goal.returns-in_err-begin_sector-clause-stopped
@@ -23,7 +24,7 @@ returns-in_err-begin_sector-clause-stopped g c =
     let index : c.other_sector-index.result ≡ current (n + 1) = c.other_sector-index.ensures in
     let keeps = rw index at c.begin_sector.ensures.touches in
     let free : AreFree (sector old.image (current n)) 0 = subst (AreFree (sector old.image (current n))) c.requires.none m.are_free in
-    let counted = count_kept old.image new.image n (keeps.before 0 (omega arith) (omega arith)) m.counted in
+    let counted = HasCount-same old.image new.image n m.counted (keeps.before 0 (omega arith) (omega arith)) in
     let same : sector new.image (current n) ≡ sector old.image (current n) = sector_kept (current n) keeps (omega (arith, current_in n)) (apart n) in
     OnErr_from c.from_residual.result
     (subst (λ (k : ℕ). Halted k (MayCommit (control_store v) next) old new) (four_next v next c.requires.none)
