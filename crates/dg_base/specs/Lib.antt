@@ -1,4 +1,5 @@
 pub mod Crc
+pub mod Faults
 pub mod Hexadecimal
 pub mod Memory
 pub mod Numbers
