@@ -1,3 +1,4 @@
+pub mod Clock
 pub mod Crc
 pub mod Faults
 pub mod Hexadecimal
