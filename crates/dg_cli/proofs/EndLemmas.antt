@@ -12,26 +12,26 @@ use Rattle.dg_base.proofs.OutsideLemmas.{Puts-join}
 use Rattle.dg_base.specs.declared.answers.Status.{Status}
 use Rattle.dg_base.specs.declared.answers.Status.TheVariants as status
 use Rattle.dg_nor.specs.Device.{Device}
-use Rattle.dg_cli.specs.Script.{Script, script_from, end_fault, is_event}
-use Rattle.dg_cli.specs.Report.{report_text}
-use Rattle.dg_cli.specs.World.{World, last_lines}
-use Rattle.dg_cli.specs.Played.{Played}
-use Rattle.dg_cli.specs.Boards.{BoardsStand, BoardStopped}
-use Rattle.dg_cli.specs.Player.{Stood}
+use Rattle.dg_script.specs.Script.{Script, script_from, end_fault, is_event}
+use Rattle.dg_script.specs.Report.{report_text}
+use Rattle.dg_rules.specs.World.{World, last_lines}
+use Rattle.dg_rules.specs.Played.{Played}
+use Rattle.dg_world.specs.Boards.{BoardsStand, BoardStopped}
+use Rattle.dg_world.specs.Player.{Stood}
 use Rattle.dg_cli.specs.Ending.{Ending, Ends, NoBoards, TooManyEvents, FaultAt, Over, is_motes, events_in, by_fault, ending_from, ending_line, status_of, up_to, whole_lines, used, is_over, script_of, ending_of, InLimits}
 use Rattle.dg_cli.specs.Outcome.{IsFront, line_played, played_text, IsWholeReport, StopsAt, Wrote, Boards, IsCaused}
 use Rattle.dg_cli.specs.Replaying.{StopEnds, Reached, PlayedFront, HasFew, LinesAnswer, ReadyToEnd, EndsWith, FinishesWith, ScriptReplayed}
-use Rattle.dg_cli.specs.declared.images.Images.{Images}
-use Rattle.dg_cli.specs.declared.script.Event.{Event}
-use Rattle.dg_cli.specs.declared.states.Player.{Player}
-use Rattle.dg_cli.specs.declared.script.Place.{Place}
-use Rattle.dg_cli.specs.declared.script.Place.TheVariants.{First, Second, Later}
-use Rattle.dg_cli.specs.declared.script.Line.{Line}
-use Rattle.dg_cli.specs.declared.script.Line.TheVariants.{Motes, Happens}
+use Rattle.dg_world.specs.declared.images.Images.{Images}
+use Rattle.dg_script.specs.declared.script.Event.{Event}
+use Rattle.dg_world.specs.declared.player.Player.{Player}
+use Rattle.dg_script.specs.declared.script.Place.{Place}
+use Rattle.dg_script.specs.declared.script.Place.TheVariants.{First, Second, Later}
+use Rattle.dg_script.specs.declared.script.Line.{Line}
+use Rattle.dg_script.specs.declared.script.Line.TheVariants.{Motes, Happens}
 use Rattle.dg_cli.specs.declared.stop.Stop.{Stop}
 use Rattle.dg_cli.specs.declared.stop.Stop.TheVariants.{Memory, BadInput, WriteFault, FlashFault, TooMany, NotAVolume, NoBoard, NoImage}
 use Rattle.dg_cli.proofs.ReplayLemmas.{few_of}
-use Rattle.dg_cli.proofs.KeepLemmas.{keeps_all}
+use Rattle.dg_rules.proofs.KeepLemmas.{keeps_all}
 
 wrote_whole : (e : Ending) (played : List Played) (rest : List Line) (last : Option World) (text : List ℕ) → IsWholeReport e played rest last text → Wrote (status_of e) e played rest last text
 wrote_whole Ends played rest last text whole = whole

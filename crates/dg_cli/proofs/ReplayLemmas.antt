@@ -8,30 +8,30 @@ use Rattle.dg_base.proofs.OutsideLemmas.{Puts-join, Puts-nil}
 use Rattle.dg_words.specs.Counts.{Rose}
 use Rattle.dg_base.specs.Outside.{Puts, PutsFront}
 use Rattle.dg_nor.specs.Device.{Device}
-use Rattle.dg_cli.specs.Script.{Script, script_from, with_line, spelled, place_after, keys_after}
-use Rattle.dg_cli.specs.Report.{report_line, report_text}
-use Rattle.dg_cli.specs.World.{World}
-use Rattle.dg_cli.specs.Played.{Played, LineStep, Plays, IsLegal, RunsRow, LeavesAgreement}
-use Rattle.dg_cli.specs.Images.{NothingDeclared}
-use Rattle.dg_cli.specs.Boards.{BoardsStand}
-use Rattle.dg_cli.specs.Player.{Stood, PlayedLine, PlayedAs}
+use Rattle.dg_script.specs.Script.{Script, script_from, with_line, spelled, place_after, keys_after}
+use Rattle.dg_script.specs.Report.{report_line, report_text}
+use Rattle.dg_rules.specs.World.{World}
+use Rattle.dg_rules.specs.Played.{Played, LineStep, Plays, IsLegal, RunsRow, LeavesAgreement}
+use Rattle.dg_world.specs.Images.{NothingDeclared}
+use Rattle.dg_world.specs.Boards.{BoardsStand}
+use Rattle.dg_world.specs.Player.{Stood, PlayedLine, PlayedAs}
 use Rattle.dg_cli.specs.Ending.{is_motes, events_in}
 use Rattle.dg_cli.specs.Outcome.{IsFront, line_played, played_text}
 use Rattle.dg_cli.specs.Replaying.{stop_of, keys_of, TextPlayed, TextTold, TextCut, NothingDone, TextAnswer, Reached, PlayedFront, LinesAnswer}
-use Rattle.dg_cli.specs.declared.images.Images.{Images}
-use Rattle.dg_cli.specs.declared.states.Key.{Key}
-use Rattle.dg_cli.specs.declared.states.Player.{Player}
-use Rattle.dg_cli.specs.declared.script.Place.{Place}
-use Rattle.dg_cli.specs.declared.script.Place.TheVariants.{First, Second, Later}
-use Rattle.dg_cli.specs.declared.script.Line.{Line}
-use Rattle.dg_cli.specs.declared.script.Line.TheVariants.{Nothing, Motes, Golden, Image, Happens}
-use Rattle.dg_cli.specs.declared.report.Report.{Report}
-use Rattle.dg_cli.specs.declared.mote.PlayStop.{PlayStop}
-use Rattle.dg_cli.specs.declared.mote.PlayStop.TheVariants as play
+use Rattle.dg_world.specs.declared.images.Images.{Images}
+use Rattle.dg_script.specs.declared.key.Key.{Key}
+use Rattle.dg_world.specs.declared.player.Player.{Player}
+use Rattle.dg_script.specs.declared.script.Place.{Place}
+use Rattle.dg_script.specs.declared.script.Place.TheVariants.{First, Second, Later}
+use Rattle.dg_script.specs.declared.script.Line.{Line}
+use Rattle.dg_script.specs.declared.script.Line.TheVariants.{Nothing, Motes, Golden, Image, Happens}
+use Rattle.dg_script.specs.declared.report.Report.{Report}
+use Rattle.dg_world.specs.declared.mote.PlayStop.{PlayStop}
+use Rattle.dg_world.specs.declared.mote.PlayStop.TheVariants as play
 use Rattle.dg_cli.specs.declared.stop.Stop.{Stop}
 use Rattle.dg_cli.specs.declared.stop.Stop.TheVariants.{Memory, BadInput, WriteFault, FlashFault, TooMany, NotAVolume, NoBoard, NoImage}
 use Rattle.dg_cli.proofs.StepLemmas.{keys_on, events_next, stood_events}
-use Rattle.dg_cli.proofs.KeepLemmas.{keeps_all}
+use Rattle.dg_rules.proofs.KeepLemmas.{keeps_all}
 
 -- ---- one line
 

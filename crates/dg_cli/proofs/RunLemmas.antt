@@ -11,12 +11,12 @@ use Rattle.dg_base.proofs.OutsideLemmas.{Puts-nil, Takes-told, Takes-all}
 use Rattle.dg_base.specs.declared.answers.Status.{Status}
 use Rattle.dg_base.specs.declared.answers.Status.TheVariants.{Done, Memory, Usage, BadInput, ReadFault, WriteFault, FlashFault, NotAVolume, Refused, LinkFault, TooLong, TooMany, NoBoard, NoImage}
 use Rattle.dg_nor.specs.Device.{Device}
-use Rattle.dg_cli.specs.Played.{Played}
-use Rattle.dg_cli.specs.Boards.{BoardStopped}
-use Rattle.dg_cli.specs.Script.{Script}
-use Rattle.dg_cli.specs.World.{World}
+use Rattle.dg_rules.specs.Played.{Played}
+use Rattle.dg_world.specs.Boards.{BoardStopped}
+use Rattle.dg_script.specs.Script.{Script}
+use Rattle.dg_rules.specs.World.{World}
 use Rattle.dg_cli.specs.Ending.{Ending, Ends, ending_of, status_of, script_of, is_over, InLimits}
-use Rattle.dg_cli.specs.declared.script.Line.{Line}
+use Rattle.dg_script.specs.declared.script.Line.{Line}
 use Rattle.dg_cli.specs.Outcome.{IsFront, Wrote, ReadEnough, IsCaused, Replayed}
 use Rattle.dg_cli.specs.Replaying.{ScriptReplayed}
 use Rattle.dg_cli.proofs.ReplayLemmas.{plays_none}

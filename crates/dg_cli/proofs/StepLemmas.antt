@@ -8,26 +8,26 @@ use Rattle.std.proofs.lemmas.List.Sums.{sum_by_push}
 use Rattle.dg_nor.specs.Device.{Device}
 use Rattle.dg_object.specs.Object.{Row}
 use Rattle.dg_volume.specs.Start.{Start, start_of}
-use Rattle.dg_cli.specs.Script.{◌>>=◌, guarded, line_of, spelled, is_new, is_key, is_event, keys_after, declared_row}
-use Rattle.dg_cli.specs.Table.{row_at, has_key}
-use Rattle.dg_cli.specs.World.{World, Outcome, cause_of, started, inject_row, done, by_cause, by_rules}
-use Rattle.dg_cli.specs.Played.{Played, LineStep}
-use Rattle.dg_cli.specs.Images.{found, Declares}
-use Rattle.dg_cli.specs.Player.{Stood, InWorld}
+use Rattle.dg_script.specs.Script.{◌>>=◌, guarded, line_of, spelled, is_new, is_key, is_event, keys_after, declared_row}
+use Rattle.dg_rules.specs.Table.{row_at, has_key}
+use Rattle.dg_rules.specs.World.{World, Outcome, cause_of, started, inject_row, done, by_cause, by_rules}
+use Rattle.dg_rules.specs.Played.{Played, LineStep}
+use Rattle.dg_world.specs.Images.{found, Declares}
+use Rattle.dg_world.specs.Player.{Stood, InWorld}
 use Rattle.dg_cli.specs.Ending.{events_in}
 use Rattle.dg_cli.specs.Outcome.{line_played}
 use Rattle.dg_cli.specs.Replaying.{row_key, keys_of}
-use Rattle.dg_cli.specs.declared.images.Images.{Images}
-use Rattle.dg_cli.specs.declared.states.Key.{Key}
-use Rattle.dg_cli.specs.declared.states.Player.{Player}
-use Rattle.dg_cli.specs.declared.script.Place.{Place}
-use Rattle.dg_cli.specs.declared.script.Event.{Event}
-use Rattle.dg_cli.specs.declared.script.Event.TheVariants.{Reset, Inject, Order}
-use Rattle.dg_cli.specs.declared.script.Image.{Image as ImageLine}
-use Rattle.dg_cli.specs.declared.script.Line.{Line}
-use Rattle.dg_cli.specs.declared.script.Line.TheVariants.{Nothing, Motes, Golden, Image, Happens}
-use Rattle.dg_cli.specs.declared.report.Cause.{Cause}
-use Rattle.dg_cli.specs.declared.report.Report.{Report}
+use Rattle.dg_world.specs.declared.images.Images.{Images}
+use Rattle.dg_script.specs.declared.key.Key.{Key}
+use Rattle.dg_world.specs.declared.player.Player.{Player}
+use Rattle.dg_script.specs.declared.script.Place.{Place}
+use Rattle.dg_script.specs.declared.script.Event.{Event}
+use Rattle.dg_script.specs.declared.script.Event.TheVariants.{Reset, Inject, Order}
+use Rattle.dg_script.specs.declared.script.Image.{Image as ImageLine}
+use Rattle.dg_script.specs.declared.script.Line.{Line}
+use Rattle.dg_script.specs.declared.script.Line.TheVariants.{Nothing, Motes, Golden, Image, Happens}
+use Rattle.dg_script.specs.declared.report.Cause.{Cause}
+use Rattle.dg_script.specs.declared.report.Report.{Report}
 
 -- ---- events
 

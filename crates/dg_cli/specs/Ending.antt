@@ -5,10 +5,10 @@ use Rattle.std.specs.Fmt.{decimal}
 use Rattle.std.specs.Str.Lines.{lines}
 use Rattle.dg_base.specs.declared.answers.Status.{Status}
 use Rattle.dg_base.specs.declared.answers.Status.TheVariants.{Done, BadInput, TooLong, TooMany, NoBoard}
-use Rattle.dg_cli.specs.Script.{Script, script_from, is_event}
-use Rattle.dg_cli.specs.declared.script.Line.{Line}
-use Rattle.dg_cli.specs.declared.script.Line.TheVariants.{Nothing, Motes, Golden, Image, Happens}
-use Rattle.dg_cli.specs.declared.script.Place.TheVariants.{First}
+use Rattle.dg_script.specs.Script.{Script, script_from, is_event}
+use Rattle.dg_script.specs.declared.script.Line.{Line}
+use Rattle.dg_script.specs.declared.script.Line.TheVariants.{Nothing, Motes, Golden, Image, Happens}
+use Rattle.dg_script.specs.declared.script.Place.TheVariants.{First}
 
 -- the byte, and the bytes up to the last LF behind it
 abbrev pub up_to : ℕ → List ℕ → List ℕ

@@ -1,14 +1,3 @@
-pub mod Words
-pub mod Script
-pub mod Reading
-pub mod Report
-pub mod Table
-pub mod World
-pub mod Legal
-pub mod Played
-pub mod Images
-pub mod Boards
-pub mod Player
 pub mod Ending
 pub mod Outcome
 pub mod Replaying

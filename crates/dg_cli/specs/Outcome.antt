@@ -5,15 +5,15 @@ use Rattle.dg_base.specs.Outside.{Takes, Puts, PutsFront, AtEnd}
 use Rattle.dg_base.specs.declared.answers.Status.{Status}
 use Rattle.dg_base.specs.declared.answers.Status.TheVariants.{Done, Memory, Usage, BadInput, ReadFault, WriteFault, FlashFault, TooLong, TooMany, NoBoard}
 use Rattle.dg_nor.specs.Device.{Device}
-use Rattle.dg_cli.specs.Boards.{BoardsStand, BoardStopped, StoppedIn}
-use Rattle.dg_cli.specs.Report.{report_text}
-use Rattle.dg_cli.specs.World.{World, last_lines}
-use Rattle.dg_cli.specs.Played.{Played, Plays, IsLegal, KeepsAll, RunsRow, LeavesAgreement}
-use Rattle.dg_cli.specs.Script.{Script, UsesBoard}
+use Rattle.dg_world.specs.Boards.{BoardsStand, BoardStopped, StoppedIn}
+use Rattle.dg_script.specs.Report.{report_text}
+use Rattle.dg_rules.specs.World.{World, last_lines}
+use Rattle.dg_rules.specs.Played.{Played, Plays, IsLegal, KeepsAll, RunsRow, LeavesAgreement}
+use Rattle.dg_script.specs.Script.{Script, UsesBoard}
 use Rattle.dg_cli.specs.Ending.{Ending, Ends, NoBoards, TooManyEvents, FaultAt, Over, events_in, ending_of, ending_line, usage_line, status_of, script_of, is_over}
-use Rattle.dg_cli.specs.declared.script.Line.{Line}
-use Rattle.dg_cli.specs.declared.script.Event.{Event}
-use Rattle.dg_cli.specs.declared.script.Line.TheVariants.{Motes, Happens}
+use Rattle.dg_script.specs.declared.script.Line.{Line}
+use Rattle.dg_script.specs.declared.script.Event.{Event}
+use Rattle.dg_script.specs.declared.script.Line.TheVariants.{Motes, Happens}
 
 abbrev pub line_played : Played → Line
 line_played p = p.line

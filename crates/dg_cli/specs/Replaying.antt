@@ -1,33 +1,29 @@
 -- What the steps of a replay do, line by line.
-use Rattle.std.specs.Prelude.{◌≡◌, ◌⊎◌, ℕ, ◌<◌, ◌≤◌, Bool, false, List, [], ◌∷◌, ◌++◌, length, map, Option, Some, None, Result, Ok, Err, option_to_list}
+use Rattle.std.specs.Prelude.{◌≡◌, ◌⊎◌, ℕ, ◌<◌, ◌≤◌, Bool, false, List, [], ◌∷◌, ◌++◌, length, map, Option, Some, None, Result, Ok, Err}
 use Rattle.std.specs.List.{AllByRecursion, list_any}
 use Rattle.dg_base.specs.Outside.{Puts, PutsFront}
 use Rattle.dg_nor.specs.Device.{Device}
 use Rattle.dg_object.specs.Object.{Row}
-use Rattle.dg_cli.specs.Script.{Script, script_from, spelled, place_after, keys_after, UsesBoard}
-use Rattle.dg_volume.specs.Mounted.{kept_at}
-use Rattle.dg_volume.specs.declared.volume.Volume.{Volume}
-use Rattle.dg_volume.specs.declared.kept.Kept.{Kept}
-use Rattle.dg_cli.specs.Report.{report_line, report_text}
+use Rattle.dg_script.specs.Script.{Script, script_from, spelled, place_after, UsesBoard}
+use Rattle.dg_script.specs.Report.{report_text}
 use Rattle.dg_base.specs.declared.answers.Status.{Status}
 use Rattle.dg_base.specs.declared.answers.Status.TheVariants as status
-use Rattle.dg_cli.specs.World.{World, mote_line, last_lines}
-use Rattle.dg_cli.specs.Played.{Played, Plays, IsLegal, RunsRow, LeavesAgreement}
-use Rattle.dg_cli.specs.Boards.{BoardsStand, BoardStopped, StoppedIn}
-use Rattle.dg_cli.specs.Player.{Stood, PlayedLine}
+use Rattle.dg_rules.specs.World.{World, last_lines}
+use Rattle.dg_rules.specs.Played.{Played, Plays, IsLegal, RunsRow, LeavesAgreement}
+use Rattle.dg_world.specs.Boards.{BoardsStand, BoardStopped, StoppedIn}
+use Rattle.dg_world.specs.Player.{Stood, PlayedLine}
 use Rattle.dg_cli.specs.Ending.{Ending, NoBoards, TooManyEvents, FaultAt, is_motes, events_in, ending_line}
 use Rattle.dg_cli.specs.Outcome.{CameTo, AtTooMany, closing, Wrote, Boards, IsCaused, IsFront, line_played, played_text}
-use Rattle.dg_cli.specs.declared.images.Images.{Images}
-use Rattle.dg_cli.specs.declared.states.Key.{Key}
-use Rattle.dg_cli.specs.declared.states.Player.{Player}
-use Rattle.dg_cli.specs.declared.script.Event.{Event}
-use Rattle.dg_cli.specs.declared.script.Place.{Place}
-use Rattle.dg_cli.specs.declared.script.Line.{Line}
-use Rattle.dg_cli.specs.declared.script.Line.TheVariants.{Motes, Happens}
-use Rattle.dg_cli.specs.declared.report.Report.{Report}
-use Rattle.dg_cli.specs.declared.report.Report.TheVariants.{End, Kept as KeptLine}
-use Rattle.dg_cli.specs.declared.mote.PlayStop.{PlayStop}
-use Rattle.dg_cli.specs.declared.mote.PlayStop.TheVariants as play
+use Rattle.dg_world.specs.declared.images.Images.{Images}
+use Rattle.dg_script.specs.declared.key.Key.{Key}
+use Rattle.dg_world.specs.declared.player.Player.{Player}
+use Rattle.dg_script.specs.declared.script.Event.{Event}
+use Rattle.dg_script.specs.declared.script.Place.{Place}
+use Rattle.dg_script.specs.declared.script.Line.{Line}
+use Rattle.dg_script.specs.declared.script.Line.TheVariants.{Motes, Happens}
+use Rattle.dg_script.specs.declared.report.Report.{Report}
+use Rattle.dg_world.specs.declared.mote.PlayStop.{PlayStop}
+use Rattle.dg_world.specs.declared.mote.PlayStop.TheVariants as play
 use Rattle.dg_cli.specs.declared.stop.Stop.{Stop}
 use Rattle.dg_cli.specs.declared.stop.Stop.TheVariants.{Memory, BadInput, WriteFault, FlashFault, TooMany, NotAVolume, NoBoard, NoImage}
 
@@ -143,18 +139,6 @@ LinesAnswer (Err NotAVolume) ends script initial now before after failed = ⊥
 LinesAnswer (Err NoBoard) ends script initial now before after failed = PlayedUpTo script before after (λ played rest last. (initial ≡ []) × ((more : List Line) × (rest ≡ Motes ∷ more)) × BoardsStand last initial now)
 LinesAnswer (Err NoImage) ends script initial now before after failed = ⊥
 
--- the line on an image, by what a volume tells of it
-abbrev pub kept_told : ℕ → Option Kept → Option Report
-kept_told image None = None
-kept_told image (Some kept) = Some (KeptLine 0 image kept.version kept.done)
-
--- the last lines, by what a volume tells
-abbrev pub last_told : Player → Volume → List ℕ
-last_told player volume =
-    report_line (End player.events) ++ report_line (mote_line player.runs)
-    ++ report_text (option_to_list (kept_told 1 (kept_at volume 1))) ++ report_text (option_to_list (kept_told 2 (kept_at volume 2)))
-    ++ report_text (option_to_list (kept_told 3 (kept_at volume 3)))
-
 -- A script came to its ending, and the end of its report, which is this piece, is not written yet.
 pub record ReadyToEnd (script : Script) (ending : Ending) (piece : List ℕ) (initial now : List Device) (before after : Option (List ℕ)) : Type 0 where
   pub played : List Played
@@ -183,6 +167,15 @@ StopEnds TooMany result before after failed = EndsWith result status.TooMany (en
 StopEnds NotAVolume result before after failed = Unit {0}
 StopEnds NoBoard result before after failed = EndsWith result status.NoBoard (ending_line NoBoards) before after failed
 StopEnds NoImage result before after failed = Unit {0}
+
+-- the status where the last lines are not told
+abbrev pub status_at : PlayStop → Status
+status_at play.Memory = status.Memory
+status_at play.NoBoard = status.NoBoard
+status_at play.TooMany = status.TooMany
+status_at play.FlashFault = status.FlashFault
+status_at play.NotAVolume = status.NotAVolume
+status_at play.NoImage = status.NoImage
 
 -- how the end of a report that reads its board ends
 abbrev pub FinishesWith : Status → World → (initial now : List Device) → (before after : Option (List ℕ)) → (write_failed : Type 0) → Type 0

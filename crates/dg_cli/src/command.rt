@@ -4,7 +4,7 @@ ghost use Rattle.std.specs.Bool.{OnTrue, OnFalse};
 ghost use Rattle.dg_words.specs.Counts.{Rose};
 ghost use Rattle.dg_cli.specs.Ending.{InLimits};
 ghost use Rattle.dg_cli.specs.Outcome.{Replayed, IsReplay, Unknown};
-ghost use Rattle.dg_cli.specs.Boards.{BoardStopped};
+ghost use Rattle.dg_world.specs.Boards.{BoardStopped};
 
 use crate::ends::replay_text;
 use crate::finish::end_with;

@@ -2,19 +2,19 @@
 ghost use Rattle.std.specs.Prelude.{◌≡◌, ◌≤◌, ◌++◌, ℕ, Bool, not, List, [], Option, map, length, take};
 ghost use Rattle.dg_words.specs.Counts.{Rose};
 ghost use Rattle.dg_nor.specs.Device.{Device};
-ghost use Rattle.dg_cli.specs.Script.{Script};
+ghost use Rattle.dg_script.specs.Script.{Script};
 ghost use Rattle.dg_cli.specs.Ending.{ending_from, ending_of, script_of, is_over, used, whole_lines};
 ghost use Rattle.dg_cli.specs.Replaying.{StopEnds, Reached, ScriptReplayed};
-ghost use Rattle.dg_cli.specs.declared.images.Images.{Images};
+ghost use Rattle.dg_world.specs.declared.images.Images.{Images};
 
 use crate::finish::{end_at_line, end_with, finish};
 use crate::input::USED;
 use crate::replay::play_lines;
-use crate::script::Place;
-use crate::states::Player;
 use crate::stop::Stop;
 use dg_base::{Sink, Status};
 use dg_nor::Nor;
+use dg_script::Place;
+use dg_world::Player;
 use std::alloc::Global;
 
 /// The status of a replay that stopped, whose last line is written where it has one.

@@ -80,36 +80,3 @@ pub fn read_input<S: Source>(alloc: Global, source: &mut S) -> Result<Vec<u8>, R
 {
     read_pieces(alloc, source, &mut [0; PIECE])
 }
-
-#[cfg(test)]
-mod tests {
-    use super::*;
-    use dg_base::MemSource;
-    use std::test::Fail;
-
-    #[test]
-    fn inputs_are_read_as_far_as_they_are_used(rt: HostRuntime) -> Result<(), Fail> {
-        // The bytes there are, and those that are read.
-        let rows = [
-            (0, 0),
-            (65_537, 65_537),
-            (16_777_216, 16_777_216),
-            (16_777_218, 16_777_217),
-        ];
-        for (there, wanted) in rows {
-            let bytes = vec![in rt.alloc(); b'#'; there]?;
-            let mut source = MemSource::new(bytes, Vec::new(rt.alloc()));
-            match read_input(rt.alloc(), &mut source) {
-                Ok(read) => assert_eq!(rt; read.len(), wanted, "of {there} bytes"),
-                Err(stop) => assert!(rt; false, "{stop:?} of {there} bytes"),
-            }
-        }
-
-        // A read in mid-stream fails.
-        let bytes = vec![in rt.alloc(); b'#'; 100_000]?;
-        let mut source = MemSource::new(bytes, vec![in rt.alloc(); 2]?);
-        let stop = read_input(rt.alloc(), &mut source).err();
-        assert_eq!(rt; stop, Some(ReadStop::ReadFault));
-        Ok(())
-    }
-}

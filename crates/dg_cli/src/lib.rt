@@ -7,19 +7,8 @@
 mod command;
 mod ends;
 mod finish;
-mod images;
 mod input;
-mod laws;
-mod mote;
 mod replay;
-mod report;
-mod script;
-mod states;
 mod stop;
-mod words;
 
 pub use command::run;
-pub use laws::{legal_steps_keep_versions, steps_are_legal};
-
-#[cfg(test)]
-mod tests;

@@ -4,26 +4,23 @@ ghost use Rattle.std.specs.Str.Lines.{lines};
 ghost use Rattle.dg_words.specs.Counts.{Rose};
 ghost use Rattle.dg_base.specs.Outside.{Puts, PutsFront};
 ghost use Rattle.dg_nor.specs.Device.{Device};
-ghost use Rattle.dg_cli.specs.Script.{script_from, spelled, is_new, AllowedAt, FitsLine};
-ghost use Rattle.dg_cli.specs.Images.{IsNewIn};
-ghost use Rattle.dg_cli.specs.Report.{report_text};
-ghost use Rattle.dg_cli.specs.World.{World};
-ghost use Rattle.dg_cli.specs.Player.{Stood, InWorld};
+ghost use Rattle.dg_script.specs.Script.{script_from, spelled, is_new, AllowedAt, FitsLine};
+ghost use Rattle.dg_world.specs.Images.{IsNewIn};
+ghost use Rattle.dg_script.specs.Report.{report_text};
+ghost use Rattle.dg_rules.specs.World.{World};
+ghost use Rattle.dg_world.specs.Player.{Stood, InWorld};
 ghost use Rattle.dg_cli.specs.Replaying.{stop_of, keys_of, TextAnswer, LinesAnswer};
-ghost use Rattle.dg_cli.specs.declared.script.Place.TheVariants.{First};
+ghost use Rattle.dg_script.specs.declared.script.Place.TheVariants.{First};
 
-use crate::images::Images;
-use crate::mote::{MOST_EVENTS, PlayStop, play_line};
-use crate::report::{Report, push_report};
-use crate::script::{Line, LineFault, Place, read_line};
-use crate::states::{Key, Player};
 use crate::stop::Stop;
 use dg_base::{Sink, WriteFailed, next_line};
 use dg_nor::Nor;
+use dg_script::{Key, Line, LineFault, Place, Report, push_report, read_line};
+use dg_world::{Images, MOST_EVENTS, PlayStop, Player, play_line};
 use std::alloc::{AllocError, Global};
 
 /// Writes a piece.
-pub fn hand_over<K: Sink>(out: &mut K, piece: &[u8]) -> Result<(), Stop>
+pub fn put_piece<K: Sink>(out: &mut K, piece: &[u8]) -> Result<(), Stop>
     ensures ok { OnOk result (Puts (K.written out.old) (K.written out.new) piece.now) }
     ensures cut { OnErr result (PutsFront (K.written out.old) (K.written out.new) piece.now) }
     ensures cause { OnErr result ((result ≡ Err Stop.WriteFault) × Rose (K.faults out.old) (K.faults out.new)) }
@@ -47,7 +44,7 @@ fn tell<K: Sink>(out: &mut K, piece: &mut Vec<u8>, report: Option<Report>) -> Re
         Some(report) => {
             piece.clear();
             match push_report(piece, &report) {
-                Ok(()) => hand_over(out, piece),
+                Ok(()) => put_piece(out, piece),
                 Err(AllocError) => Err(Stop::Memory),
             }
         }

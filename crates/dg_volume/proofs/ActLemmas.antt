@@ -3,7 +3,7 @@ use Rattle.std.proofs.Common.{◌≡◌, ℕ, ◌+◌, ◌≤◌, ◌⊎◌, tru
 use Rattle.dg_words.specs.Counts.{Rose}
 use Rattle.dg_nor.specs.declared.device.Stopped.{Stopped}
 use Rattle.dg_nor.specs.Device.{Device, Ran, Halts}
-use Rattle.dg_nor.proofs.DeviceLemmas.{more-zero, NotFallen_then, Ran-none, Ran_then}
+use Rattle.dg_nor.proofs.DeviceLemmas.{more-zero, Beneath_then, NotFallen_then, Ran-none, Ran_then}
 use Rattle.dg_volume.specs.Acts.{Looked, ReadStopped, Worked, ActStopped, ReadEnds, ActEnds, MountEnds, StartReadEnds}
 use Rattle.dg_volume.specs.declared.faults.MountFault.{MountFault}
 use Rattle.dg_volume.specs.declared.faults.MountFault.TheVariants as mount
@@ -88,6 +88,7 @@ ReadStopped_after {a} {b} {c} p q = record {
     faults = omega (arith, p.ran.faults, q.halts.faults);
     taken = NotFallen_then a.taken b.taken c.taken p.ran.taken q.halts.taken;
     references = q.halts.references ∙ p.ran.references;
+    beneath = Beneath_then a.beneath b.beneath c.beneath p.ran.beneath q.halts.beneath;
   };
 }
 

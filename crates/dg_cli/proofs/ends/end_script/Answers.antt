@@ -1,7 +1,7 @@
 use Rattle.std.proofs.Common.{◌≡◌, ◌≢◌, ◌∙◌, sym}
 use Rattle.dg_cli.proofs.EndLemmas.{short_ends, script_ends, at_over, at_ended}
 use Rattle.dg_cli.proofs.ReplayLemmas.{rose_later}
-use Rattle.dg_cli.specs.declared.script.Place.TheVariants.{First, Second, Later}
+use Rattle.dg_script.specs.declared.script.Place.TheVariants.{First, Second, Later}
 use Rattle.dg_cli.proofs.ends.end_script.Goals as goal
 
 pub returns-then-over-clause-ends : goal.returns-then-over-clause-ends

@@ -1,7 +1,7 @@
 use Rattle.std.proofs.Common.{not, ap, sym, ◌∙◌}
-use Rattle.dg_cli.specs.Script.{is_new}
+use Rattle.dg_script.specs.Script.{is_new}
 use Rattle.dg_cli.specs.Replaying.{keys_of}
-use Rattle.dg_cli.specs.declared.script.Line.{Line}
+use Rattle.dg_script.specs.declared.script.Line.{Line}
 use Rattle.dg_cli.proofs.StepLemmas.{new_image}
 use Rattle.dg_cli.proofs.replay.is_new.Goals as goal
 

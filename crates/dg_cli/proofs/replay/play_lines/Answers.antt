@@ -1,9 +1,9 @@
-use Rattle.std.proofs.Common.{◌≡◌, ◌<◌, ◌≤◌, List, [], ◌∷◌, length, drop, refl, arith}
+use Rattle.std.proofs.Common.{◌≡◌, ◌<◌, ◌≤◌, [], ◌∷◌, length, drop, refl, arith}
 use Rattle.std.specs.Str.Lines.{lines}
 use Rattle.std.specs.List.{slice_range}
 use Rattle.std.proofs.lemmas.List.{at_drop_all}
-use Rattle.dg_cli.specs.Script.{Script, script_from}
-use Rattle.dg_cli.specs.declared.script.Place.TheVariants.{First}
+use Rattle.dg_script.specs.Script.{Script, script_from}
+use Rattle.dg_script.specs.declared.script.Place.TheVariants.{First}
 use Rattle.dg_cli.proofs.ReplayLemmas.{reached_first, reached_next, reached_texts, stopped_at, rose_later}
 use Rattle.dg_cli.proofs.replay.play_lines.Goals as goal
 

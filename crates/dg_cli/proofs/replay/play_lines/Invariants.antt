@@ -1,9 +1,9 @@
 use Rattle.std.proofs.Common.{◌≤◌, ◌+◌, ◌-◌, length, drop, map, Bool, []}
 use Rattle.std.specs.Str.Lines.{lines}
-use Rattle.dg_cli.specs.Script.{script_from}
+use Rattle.dg_script.specs.Script.{script_from}
 use Rattle.dg_cli.specs.Replaying.{Reached}
-use Rattle.dg_cli.specs.declared.script.Place.TheVariants.{First}
-use Rattle.dg_cli.specs.declared.mote.TheConstants.{MOST_EVENTS}
+use Rattle.dg_script.specs.declared.script.Place.TheVariants.{First}
+use Rattle.dg_world.specs.declared.mote.TheConstants.{MOST_EVENTS}
 use Rattle.dg_cli.proofs.replay.play_lines.Given as goal
 
 -- the lines before `from` were played and reported

@@ -1,0 +1,185 @@
+-- Rows of a table, and a table with one row more.
+use Rattle.std.proofs.Common.{◌≡◌, ◌⊎◌, ℕ, ◌≤◌, arith, Bool, true, false, ◌==◌, ◌||◌, List, [], ◌∷◌, Option, Some, None, refl, sym, ap, subst, ◌∙◌, inl, inr, find, eqb-true, eq-eqb}
+use Rattle.std.specs.List.{list_any, AllByRecursion, IsDistinct}
+use Rattle.std.proofs.lemmas.Bool.{cases_Bool, and_parts, and_from, or_parts, cond-true, cond-false}
+use Rattle.dg_object.specs.Object.{Row, IsRow}
+use Rattle.dg_rules.specs.Table.{has_key, same_key, row_at, with_row, IsTable}
+
+pub same_some : {A : Type 0} (x y : A) → Some x ≡ Some y → x ≡ y
+same_some x y e = cc
+
+pub not_none : {A : Type 0} (o : Option A) (x : A) → o ≡ Some x → o ≡ None → ⊥
+not_none o x e f = cc
+
+-- ---- the first element that passes a test
+
+find_here : {X : Type 0} (p : X → Bool) (x : X) (xs : List X) → p x ≡ true → find p (x ∷ xs) ≡ Some x
+find_here p x xs e = cond-true (p x) (Some x) (find p xs) e
+
+find_later : {X : Type 0} (p : X → Bool) (x : X) (xs : List X) → p x ≡ false → find p (x ∷ xs) ≡ find p xs
+find_later p x xs e = cond-false (p x) (Some x) (find p xs) e
+
+find_passes : {X : Type 0} (p : X → Bool) (xs : List X) (x : X) → find p xs ≡ Some x → p x ≡ true
+find_passes p [] x e = absurd (not_none None x e refl)
+find_passes p (y ∷ ys) x e =
+    elim (cases_Bool (p y)) [
+      | inl here ↦ subst (λ z. p z ≡ true) (same_some y x (sym (find_here p y ys here) ∙ e)) here
+      | inr later ↦ find_passes p ys x (sym (find_later p y ys later) ∙ e)
+    ]
+
+find_each : {X : Type 0} (P : X → Type 0) (p : X → Bool) (xs : List X) (x : X) → AllByRecursion P xs → find p xs ≡ Some x → P x
+find_each P p [] x all e = absurd (not_none None x e refl)
+find_each P p (y ∷ ys) x all e =
+    elim (cases_Bool (p y)) [
+      | inl here ↦ subst P (same_some y x (sym (find_here p y ys here) ∙ e)) all.0
+      | inr later ↦ find_each P p ys x all.1 (sym (find_later p y ys later) ∙ e)
+    ]
+
+find_none : {X : Type 0} (p : X → Bool) (xs : List X) → list_any p xs ≡ false → find p xs ≡ None
+find_none p [] e = refl
+find_none p (y ∷ ys) e = let parts = or_parts (p y) (list_any p ys) e in find_later p y ys parts.0 ∙ find_none p ys parts.1
+
+find_some : {X : Type 0} (p : X → Bool) (xs : List X) → list_any p xs ≡ true → (x : X) × (find p xs ≡ Some x)
+find_some p [] e = absurd cc
+find_some p (y ∷ ys) e =
+    elim (cases_Bool (p y)) [
+      | inl here ↦ (y, find_here p y ys here)
+      | inr later ↦
+          let behind = find_some p ys (ap (λ b. b || list_any p ys) (sym later) ∙ e) in
+          (behind.0, find_later p y ys later ∙ behind.1)
+    ]
+
+none_passes : {X : Type 0} (p : X → Bool) (xs : List X) → list_any p xs ≡ false → AllByRecursion (λ x. p x ≡ false) xs
+none_passes p [] e = tt
+none_passes p (y ∷ ys) e = let parts = or_parts (p y) (list_any p ys) e in (parts.0, none_passes p ys parts.1)
+
+-- ---- the row of a key
+
+key_parts : (image version : ℕ) (row : Row) → has_key image version row ≡ true → (row.image ≡ image) × (row.version ≡ version)
+key_parts image version row e =
+    let parts = and_parts (row.image == image) (row.version == version) e in
+    (eqb-true row.image image parts.0, eqb-true row.version version parts.1)
+
+pub has_own_key : (row : Row) → has_key row.image row.version row ≡ true
+has_own_key row = and_from (row.image == row.image) (row.version == row.version) (eq-eqb row.image row.image refl) (eq-eqb row.version row.version refl)
+
+-- it has this key
+pub row_at-key : (rows : List Row) (image version : ℕ) (row : Row) → row_at rows image version ≡ Some row → (row.image ≡ image) × (row.version ≡ version)
+row_at-key rows image version row e = key_parts image version row (find_passes (has_key image version) rows row e)
+
+-- what holds of each row holds of it
+pub row_at-each : (P : Row → Type 0) (rows : List Row) (image version : ℕ) (row : Row) → AllByRecursion P rows → row_at rows image version ≡ Some row → P row
+row_at-each P rows image version row all e = find_each P (has_key image version) rows row all e
+
+-- ---- one row more
+
+abbrev known : List Row → Row → Bool
+known rows row = list_any (same_key row) rows
+
+with_row-known : (rows : List Row) (row : Row) → known rows row ≡ true → with_row rows row ≡ rows
+with_row-known rows row e = cond-true (known rows row) rows (row ∷ rows) e
+
+with_row-new : (rows : List Row) (row : Row) → known rows row ≡ false → with_row rows row ≡ row ∷ rows
+with_row-new rows row e = cond-false (known rows row) rows (row ∷ rows) e
+
+-- a row of the list is behind a new one
+behind_new : (rows : List Row) (row r : Row) (image version : ℕ) → known rows row ≡ false → row_at rows image version ≡ Some r → has_key image version row ≡ false
+behind_new rows row r image version new e =
+    elim (cases_Bool (has_key image version row)) [
+      | inl same ↦
+          let key = key_parts image version row same in
+          let none : row_at rows row.image row.version ≡ None = find_none (same_key row) rows new in
+          absurd (not_none (row_at rows image version) r e (ap (λ i. row_at rows i version) (sym key.0) ∙ ap (λ v. row_at rows row.image v) (sym key.1) ∙ none))
+      | inr other ↦ other
+    ]
+
+-- the rows stay
+pub row_at-with_row : (rows : List Row) (row r : Row) (image version : ℕ) → row_at rows image version ≡ Some r → row_at (with_row rows row) image version ≡ Some r
+row_at-with_row rows row r image version e =
+    elim (cases_Bool (known rows row)) [
+      | inl old ↦ ap (λ rs. row_at rs image version) (with_row-known rows row old) ∙ e
+      | inr new ↦
+          ap (λ rs. row_at rs image version) (with_row-new rows row new)
+          ∙ find_later (has_key image version) row rows (behind_new rows row r image version new e)
+          ∙ e
+    ]
+
+-- the row is there, unless another one has its key
+pub row_at-added : (rows : List Row) (row : Row) → ((r : Row) → row_at rows row.image row.version ≡ Some r → r ≡ row) → row_at (with_row rows row) row.image row.version ≡ Some row
+row_at-added rows row same =
+    elim (cases_Bool (known rows row)) [
+      | inl old ↦
+          let there = find_some (same_key row) rows old in
+          ap (λ rs. row_at rs row.image row.version) (with_row-known rows row old) ∙ there.1 ∙ ap (λ r. Some r) (same there.0 there.1)
+      | inr new ↦ ap (λ rs. row_at rs row.image row.version) (with_row-new rows row new) ∙ find_here (same_key row) row rows (has_own_key row)
+    ]
+
+-- each row is this one or was there
+pub row_at-cons : (rows : List Row) (row r : Row) (image version : ℕ) → row_at (row ∷ rows) image version ≡ Some r
+    → ((r ≡ row) × (row.image ≡ image) × (row.version ≡ version)) ⊎ (row_at rows image version ≡ Some r)
+row_at-cons rows row r image version e =
+    elim (cases_Bool (has_key image version row)) [
+      | inl here ↦
+          let key = key_parts image version row here in
+          inl (same_some r row (sym e ∙ find_here (has_key image version) row rows here), key.0, key.1)
+      | inr later ↦ inr (sym (find_later (has_key image version) row rows later) ∙ e)
+    ]
+
+pub row_at-of_with_row : (rows : List Row) (row r : Row) (image version : ℕ) → row_at (with_row rows row) image version ≡ Some r
+    → ((r ≡ row) × (row.image ≡ image) × (row.version ≡ version)) ⊎ (row_at rows image version ≡ Some r)
+row_at-of_with_row rows row r image version e =
+    elim (cases_Bool (known rows row)) [
+      | inl old ↦ inr (ap (λ rs. row_at rs image version) (sym (with_row-known rows row old)) ∙ e)
+      | inr new ↦ row_at-cons rows row r image version (ap (λ rs. row_at rs image version) (sym (with_row-new rows row new)) ∙ e)
+    ]
+
+-- a key that is new hides no row
+pub row_at-kept : (rows : List Row) (row r : Row) (image version : ℕ) → row_at rows row.image row.version ≡ None → row_at rows image version ≡ Some r → row_at (row ∷ rows) image version ≡ Some r
+row_at-kept rows row r image version none e =
+    elim (cases_Bool (has_key image version row)) [
+      | inl same ↦
+          let key = key_parts image version row same in
+          absurd (not_none (row_at rows image version) r e (ap (λ i. row_at rows i version) (sym key.0) ∙ ap (λ v. row_at rows row.image v) (sym key.1) ∙ none))
+      | inr later ↦ find_later (has_key image version) row rows later ∙ e
+    ]
+
+-- ---- tables
+
+-- a row of another image adds none of image 0
+other_alone : (rows : List Row) (row r : Row) (version : ℕ) → IsTable rows → 1 ≤ row.image → row_at (row ∷ rows) 0 version ≡ Some r → version ≡ 1
+other_alone rows row r version table some e =
+    elim (row_at-cons rows row r 0 version e) [ inl here ↦ absurd (omega (arith, some, here.1)) | inr there ↦ table.alone version r there ]
+
+-- a row of version 1 alone
+one_alone : (row r : Row) (version : ℕ) → row.version ≡ 1 → row_at (row ∷ []) 0 version ≡ Some r → version ≡ 1
+one_alone row r version one e =
+    elim (row_at-cons [] row r 0 version e) [ inl here ↦ sym here.2 ∙ one | inr there ↦ absurd (not_none None r there refl) ]
+
+table_cons : (rows : List Row) (row : Row) → IsTable rows → IsRow row → 1 ≤ row.image → known rows row ≡ false → IsTable (row ∷ rows)
+unfolding IsDistinct
+table_cons rows row table is some new =
+    record {
+      each = (is, table.each);
+      distinct = (none_passes (same_key row) rows new, table.distinct);
+      golden = (table.golden.0, find_later (has_key 0 1) row rows (behind_new rows row table.golden.0 0 1 new table.golden.1) ∙ table.golden.1);
+      alone = λ version r e. other_alone rows row r version table some e;
+    }
+
+-- a table with one row more, which is not of image 0, is a table
+pub IsTable-with_row : (rows : List Row) (row : Row) → IsTable rows → IsRow row → 1 ≤ row.image → IsTable (with_row rows row)
+IsTable-with_row rows row table is some =
+    elim (cases_Bool (known rows row)) [
+      | inl old ↦ subst IsTable (sym (with_row-known rows row old)) table
+      | inr new ↦ subst IsTable (sym (with_row-new rows row new)) (table_cons rows row table is some new)
+    ]
+
+-- a row alone is a table, where it is golden
+pub IsTable-one : (row : Row) → IsRow row → row.image ≡ 0 → row.version ≡ 1 → IsTable (row ∷ [])
+unfolding IsDistinct
+IsTable-one row is image version =
+    record {
+      each = (is, tt);
+      distinct = (tt, tt);
+      golden = (row, find_here (has_key 0 1) row [] (and_from (row.image == 0) (row.version == 1) (eq-eqb row.image 0 image) (eq-eqb row.version 1 version)));
+      alone = λ v r e. one_alone row r v version e;
+    }

@@ -1,0 +1,5 @@
+pub mod Table
+pub mod World
+pub mod Legal
+pub mod Played
+pub mod Reached

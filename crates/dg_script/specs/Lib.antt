@@ -1,0 +1,4 @@
+pub mod Words
+pub mod Script
+pub mod Reading
+pub mod Report

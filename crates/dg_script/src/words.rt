@@ -1,0 +1,96 @@
+//! The words of a line.
+ghost use Rattle.std.specs.Prelude.{◌≡◌, ◌≢◌, ℕ, ◌<◌, ◌≤◌, ◌∷◌, [], length, drop, slice_index, IfNone, IfSome, option_map};
+ghost use Rattle.dg_script.specs.Words.{words_of, one_of, three_of, four_of, five_of, six_of};
+
+// How many spaces the text begins with.
+#[tactic(auto, using(crate::proofs::WordLemmas::words_after_space))]
+fn spaces(text: &[u8]) -> usize
+    ensures bound { result ≤ length text.now }
+    ensures words { words_of (drop result text.now) ≡ words_of text.now }
+    ensures stops { result < length text.now → slice_index text.now result ≢ 32 }
+{
+    for (count, byte) in text.iter().enumerate() {
+        if *byte != b' ' {
+            return count;
+        }
+    }
+    text.len()
+}
+
+// How many bytes come before the first space.
+fn word_length(text: &[u8]) -> usize
+    ensures bound { result ≤ length text.now }
+    ensures word { (k : ℕ) → k < result → slice_index text.now k ≢ 32 }
+    ensures stops { result < length text.now → slice_index text.now result ≡ 32 }
+{
+    for (count, byte) in text.iter().enumerate() {
+        if *byte == b' ' {
+            return count;
+        }
+    }
+    text.len()
+}
+
+/// The first word of a text, and the text behind it. None where there is no word.
+#[tactic(auto, using(crate::proofs::WordLemmas::first_word))]
+pub fn next_word(text: &[u8]) -> Option<(&[u8], &[u8])>
+    ensures none { IfNone result (words_of text.now ≡ []) }
+    ensures some { IfSome result (λ p. words_of text.now ≡ p.0.now ∷ words_of p.1.now) }
+{
+    let (_, text) = text.split_at(spaces(text));
+    if text.is_empty() {
+        return None;
+    }
+    Some(text.split_at(word_length(text)))
+}
+
+/// The only word of a text.
+pub fn one_word(text: &[u8]) -> Option<&[u8]>
+    ensures { option_map (λ a. a.now) result ≡ one_of (words_of text.now) }
+{
+    let (first, rest) = next_word(text)?;
+    if next_word(rest).is_some() {
+        return None;
+    }
+    Some(first)
+}
+
+/// The words of a text that has three.
+pub fn three_words(text: &[u8]) -> Option<(&[u8], &[u8], &[u8])>
+    ensures { option_map (λ t. (t.0.now, t.1.now, t.2.now)) result ≡ three_of (words_of text.now) }
+{
+    let (first, rest) = next_word(text)?;
+    let (second, rest) = next_word(rest)?;
+    let (third, rest) = next_word(rest)?;
+    if next_word(rest).is_some() {
+        return None;
+    }
+    Some((first, second, third))
+}
+
+/// The words of a text that has four.
+pub fn four_words(text: &[u8]) -> Option<(&[u8], &[u8], &[u8], &[u8])>
+    ensures { option_map (λ t. (t.0.now, t.1.now, t.2.now, t.3.now)) result ≡ four_of (words_of text.now) }
+{
+    let (first, rest) = next_word(text)?;
+    let (second, third, fourth) = three_words(rest)?;
+    Some((first, second, third, fourth))
+}
+
+/// The words of a text that has five.
+pub fn five_words(text: &[u8]) -> Option<(&[u8], &[u8], &[u8], &[u8], &[u8])>
+    ensures { option_map (λ t. (t.0.now, t.1.now, t.2.now, t.3.now, t.4.now)) result ≡ five_of (words_of text.now) }
+{
+    let (first, rest) = next_word(text)?;
+    let (second, third, fourth, fifth) = four_words(rest)?;
+    Some((first, second, third, fourth, fifth))
+}
+
+/// The words of a text that has six.
+pub fn six_words(text: &[u8]) -> Option<(&[u8], &[u8], &[u8], &[u8], &[u8], &[u8])>
+    ensures { option_map (λ t. (t.0.now, t.1.now, t.2.now, t.3.now, t.4.now, t.5.now)) result ≡ six_of (words_of text.now) }
+{
+    let (first, rest) = next_word(text)?;
+    let (second, third, fourth, fifth, sixth) = five_words(rest)?;
+    Some((first, second, third, fourth, fifth, sixth))
+}

@@ -1,0 +1,9 @@
+//! Tests that need more than one crate.
+#![tactic(auto)]
+
+#[cfg(test)]
+mod lines;
+#[cfg(test)]
+mod reports;
+#[cfg(test)]
+mod runs;

@@ -1,0 +1,4 @@
+pub mod ImageLemmas
+pub mod MoteLemmas
+pub mod PlayLemmas
+pub mod FinishLemmas

@@ -1,0 +1,4 @@
+pub mod Images
+pub mod Boards
+pub mod Player
+pub mod Ended
