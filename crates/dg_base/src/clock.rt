@@ -1,6 +1,6 @@
 //! The clock, and one in memory.
-ghost use Rattle.std.specs.Prelude.{◌≡◌, ℕ, Option, ◌≤◌, Some};
-ghost use Rattle.dg_base.specs.Clock.{Answers, Answered};
+ghost use Rattle.std.specs.Prelude.{◌≡◌, ℕ, Option, ◌≤◌, ◌*◌, ◌-◌, ◌^◌, min, Some};
+ghost use Rattle.dg_base.specs.Clock.{Answers, Answered, behind_all};
 
 use std::marker::Model;
 
@@ -55,3 +55,10 @@ impl Clock for StepClock {
         answer
     }
 }
+
+/// A clock in memory answers 0, its step, twice its step and so on, up to the greatest `u64`, where it stays.
+#[tactic(auto, using(crate::proofs::ClockLemmas::behind_all_next))]
+pub fn a_step_clock_counts_on()
+    ensures { (step n : ℕ) → let first : Answers = record { next = 0; step = step } in
+        (behind_all n first).next ≡ min (n * step) (2 ^ 64 - 1) }
+{}
