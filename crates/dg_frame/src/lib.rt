@@ -16,6 +16,7 @@ use arrayvec::ArrayVec;
 use dg_bits::PageBits;
 use dg_control::Order;
 pub use laws::{one_reading, one_spelling};
+pub use ranges::in_range;
 pub use reading::read;
 use std::error::Error;
 use std::fmt;

@@ -1,6 +1,7 @@
 //! The ranges of the fields of a message.
-ghost use Rattle.std.specs.Prelude.{◌≡◌};
+ghost use Rattle.std.specs.Prelude.{◌≡◌, ◌↔◌, IsTrue};
 ghost use Rattle.std.specs.List.{list_all};
+ghost use Rattle.dg_frame.specs.Ranges.{IsInRange};
 ghost use Rattle.dg_frame.specs.Grammar.{entry_fits, order_in_frame, page_fits, in_range};
 
 use crate::{Entry, FRAME_IMAGES, Message, PACKETS};
@@ -11,10 +12,11 @@ const FEWEST_PAGES: u8 = 2;
 
 const MOST_PAGES: u8 = 65;
 
-/// Whether each field is in its range.
+/// Whether each field is in its range, so that the message has a frame. Sources and destinations are any.
 #[tactic(auto, unfolding(crate::specs::Grammar::in_range))]
-pub(crate) fn in_range(message: &Message) -> bool
-    ensures { result ≡ in_range message.now }
+pub fn in_range(message: &Message) -> bool
+    ensures value { result ≡ in_range message.now }
+    ensures fields { IsTrue result ↔ IsInRange message.now }
 {
     match message {
         Message::Advert { entries, order, .. } => entries_fit(entries) && order_fits(order),

@@ -1,11 +1,10 @@
 //! From bytes to messages.
-ghost use Rattle.std.specs.Prelude.{◌≡◌, ◌-◌, ◌==◌, ◌≤◌, length, take, IfOk};
-ghost use Rattle.dg_base.specs.Crc.{crc_of};
-ghost use Rattle.dg_frame.specs.Sizes.{advert_size, request_size, packet_size, shortest};
+ghost use Rattle.std.specs.Prelude.{◌≡◌, length, IfOk};
+ghost use Rattle.dg_frame.specs.Sizes.{advert_size, request_size, packet_size};
 ghost use Rattle.dg_frame.specs.Kinds.{row_of};
 ghost use Rattle.dg_frame.specs.Spelling.{frame_of};
 ghost use Rattle.dg_frame.specs.Readings.{IsReading};
-ghost use Rattle.dg_frame.specs.Grammar.{half_at, advert_in, request_in, packet_in, message_of};
+ghost use Rattle.dg_frame.specs.Grammar.{advert_in, request_in, packet_in, message_of};
 
 use crate::fields::{entry_at, half_at, order_at, set_at, word_at};
 use crate::kind::Kind;
@@ -32,7 +31,8 @@ pub fn read(bytes: &[u8]) -> Result<Message, FrameFault>
     if bytes.len() != kind.size() {
         return Err(FrameFault::Length);
     }
-    if !is_checked(bytes) {
+    let at = bytes.len() - 2;
+    if half_at(bytes, at) != crc16(&bytes[..at]) {
         return Err(FrameFault::Check);
     }
     let message = fields(kind, bytes);
@@ -41,15 +41,6 @@ pub fn read(bytes: &[u8]) -> Result<Message, FrameFault>
     } else {
         Err(FrameFault::Range)
     }
-}
-
-/// Whether the last two bytes are the CRC of those before them.
-fn is_checked(bytes: &[u8]) -> bool
-    requires { shortest ≤ length bytes.now }
-    ensures { let at = length bytes.now - 2 in result ≡ (half_at bytes.now at == crc_of (take at bytes.now)) }
-{
-    let at = bytes.len() - 2;
-    half_at(bytes, at) == crc16(&bytes[..at])
 }
 
 /// The fields of a frame of a kind.
