@@ -1,0 +1,45 @@
+//! The kinds of frames, as the rows of a table.
+ghost use Rattle.std.specs.Prelude.{◌≡◌};
+ghost use Rattle.std.specs.Option.{option_map};
+ghost use Rattle.dg_frame.specs.Grammar.{kind_of};
+ghost use Rattle.dg_frame.specs.Kinds.{number_of, row_of};
+
+/// The kind of a frame, and its first byte.
+#[derive(Clone, Copy, Debug, PartialEq, Eq)]
+pub(crate) enum Kind {
+    Advert = 1,
+    Request = 2,
+    Packet = 3,
+}
+
+impl Kind {
+    /// The kind with this number.
+    pub(crate) fn of(number: u8) -> Option<Kind>
+        ensures { option_map row_of result ≡ kind_of number }
+    {
+        match number {
+            1 => Some(Kind::Advert),
+            2 => Some(Kind::Request),
+            3 => Some(Kind::Packet),
+            _ => None,
+        }
+    }
+
+    /// The first byte of its frames.
+    pub(crate) fn number(self) -> u8
+        ensures { result ≡ number_of self }
+    {
+        self as u8
+    }
+
+    /// The bytes of its frames.
+    pub(crate) fn size(self) -> usize
+        ensures { result ≡ (row_of self).0 }
+    {
+        match self {
+            Kind::Advert => 38,
+            Kind::Request => 19,
+            Kind::Packet => 35,
+        }
+    }
+}

@@ -1,0 +1,112 @@
+//! Messages between motes, and their bytes.
+//!
+//! A frame is its kind, its source, the fields of its kind in their order and the CRC of all of these, the
+//! highest byte of a number first. A message that is in its ranges has one frame, and a frame spells one
+//! message. Nothing here allocates.
+#![tactic(auto)]
+
+mod fields;
+mod kind;
+mod laws;
+mod ranges;
+mod reading;
+mod writing;
+
+use arrayvec::ArrayVec;
+use dg_bits::PageBits;
+use dg_control::Order;
+pub use laws::{one_reading, one_spelling};
+pub use ranges::in_range;
+pub use reading::read;
+use std::error::Error;
+use std::fmt;
+pub use writing::write;
+
+/// The most bytes of a frame.
+pub const FRAME_BYTES: usize = 48;
+
+/// Frames speak of the images from 1 to this number.
+pub const FRAME_IMAGES: usize = 3;
+
+/// The packets of a page.
+pub const PACKETS: usize = 48;
+
+/// The bytes of a packet.
+pub const PACKET_BYTES: usize = 23;
+
+/// The bytes of a message.
+pub type Frame = ArrayVec<u8, FRAME_BYTES>;
+
+/// What a mote says that it keeps of an image. All is 0 where it keeps nothing.
+#[derive(Clone, Copy, Debug, PartialEq, Eq)]
+pub struct Entry {
+    pub version: u32,
+    /// Pages of the object, 2 to 65.
+    pub pages: u8,
+    /// How many of them it has.
+    pub have: u8,
+    /// The CRC of page 0.
+    pub crc: u16,
+}
+
+/// What one mote tells its neighbours.
+#[derive(Clone, Copy, Debug, PartialEq, Eq)]
+pub enum Message {
+    /// What the source keeps of each image, and the best order that it knows. The order is all 0 where it
+    /// knows none.
+    Advert {
+        source: u16,
+        entries: [Entry; FRAME_IMAGES],
+        order: Order,
+    },
+    /// The source asks a mote for packets of a page.
+    Request {
+        source: u16,
+        to: u16,
+        image: u8,
+        version: u32,
+        page: u8,
+        want: PageBits<PACKETS>,
+    },
+    /// A packet of a page.
+    Packet {
+        source: u16,
+        image: u8,
+        version: u32,
+        page: u8,
+        packet: u8,
+        bytes: [u8; PACKET_BYTES],
+    },
+}
+
+/// Why bytes are no frame. Each cause is told only where none before it is there.
+#[derive(Clone, Copy, Debug, PartialEq, Eq)]
+pub enum FrameFault {
+    /// They are fewer than a kind, a source and a CRC.
+    Short,
+    /// The first byte names no kind.
+    Kind,
+    /// They have another length than that kind's frames.
+    Length,
+    /// The last two are not the CRC of those before them.
+    Check,
+    /// A field is out of its range.
+    Range,
+}
+
+impl fmt::Display for FrameFault {
+    fn fmt<W: fmt::Write>(&self, f: &mut fmt::Formatter<W>) -> fmt::Result {
+        match self {
+            FrameFault::Short => f.write_str("the frame is too short"),
+            FrameFault::Kind => f.write_str("no kind of frame has this number"),
+            FrameFault::Length => f.write_str("frames of this kind have another length"),
+            FrameFault::Check => f.write_str("the CRC of the frame differs"),
+            FrameFault::Range => f.write_str("a field of the frame is out of its range"),
+        }
+    }
+}
+
+impl Error for FrameFault {}
+
+#[cfg(test)]
+mod tests;

@@ -1,0 +1,97 @@
+//! From bytes to messages.
+ghost use Rattle.std.specs.Prelude.{◌≡◌, length, IfOk};
+ghost use Rattle.dg_frame.specs.Sizes.{advert_size, request_size, packet_size};
+ghost use Rattle.dg_frame.specs.Kinds.{row_of};
+ghost use Rattle.dg_frame.specs.Spelling.{frame_of};
+ghost use Rattle.dg_frame.specs.Readings.{IsReading};
+ghost use Rattle.dg_frame.specs.Grammar.{advert_in, request_in, packet_in, message_of};
+
+use crate::fields::{entry_at, half_at, order_at, set_at, word_at};
+use crate::kind::Kind;
+use crate::ranges::in_range;
+use crate::{FrameFault, Message, PACKET_BYTES};
+use dg_base::crc16;
+
+/// A kind, a source and a CRC take so many bytes.
+const SHORTEST: usize = 5;
+
+/// The message that bytes spell, or the first cause why they spell none. Any bytes may be handed in.
+#[tactic(auto, unfolding(crate::specs::Grammar::message_of))]
+pub fn read(bytes: &[u8]) -> Result<Message, FrameFault>
+    ensures value { result ≡ message_of bytes.now }
+    ensures reading { IsReading bytes.now result }
+    ensures spelled { IfOk result (λ m. bytes.now ≡ frame_of m) }
+{
+    if bytes.len() < SHORTEST {
+        return Err(FrameFault::Short);
+    }
+    let Some(kind) = Kind::of(bytes[0]) else {
+        return Err(FrameFault::Kind);
+    };
+    if bytes.len() != kind.size() {
+        return Err(FrameFault::Length);
+    }
+    let at = bytes.len() - 2;
+    if half_at(bytes, at) != crc16(&bytes[..at]) {
+        return Err(FrameFault::Check);
+    }
+    let message = fields(kind, bytes);
+    if in_range(&message) {
+        Ok(message)
+    } else {
+        Err(FrameFault::Range)
+    }
+}
+
+/// The fields of a frame of a kind.
+fn fields(kind: Kind, bytes: &[u8]) -> Message
+    requires { length bytes.now ≡ (row_of kind).0 }
+    ensures { result ≡ (row_of kind).1 bytes.now }
+{
+    match kind {
+        Kind::Advert => advert(bytes),
+        Kind::Request => request(bytes),
+        Kind::Packet => packet(bytes),
+    }
+}
+
+fn advert(bytes: &[u8]) -> Message
+    requires { length bytes.now ≡ advert_size }
+    ensures { result ≡ advert_in bytes.now }
+{
+    Message::Advert {
+        source: half_at(bytes, 1),
+        entries: [entry_at(bytes, 3), entry_at(bytes, 11), entry_at(bytes, 19)],
+        order: order_at(bytes, 27),
+    }
+}
+
+fn request(bytes: &[u8]) -> Message
+    requires { length bytes.now ≡ request_size }
+    ensures { result ≡ request_in bytes.now }
+{
+    Message::Request {
+        source: half_at(bytes, 1),
+        to: half_at(bytes, 3),
+        image: bytes[5],
+        version: word_at(bytes, 6),
+        page: bytes[10],
+        want: set_at(bytes, 11),
+    }
+}
+
+fn packet(bytes: &[u8]) -> Message
+    requires { length bytes.now ≡ packet_size }
+    ensures { result ≡ packet_in bytes.now }
+{
+    let mut carried = [0; PACKET_BYTES];
+    carried.copy_from_slice(&bytes[10..10 + PACKET_BYTES]);
+    Message::Packet {
+        source: half_at(bytes, 1),
+        image: bytes[3],
+        version: word_at(bytes, 4),
+        page: bytes[8],
+        packet: bytes[9],
+        bytes: carried,
+    }
+}

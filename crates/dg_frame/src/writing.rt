@@ -1,0 +1,124 @@
+//! From messages to frames.
+ghost use Rattle.std.specs.Prelude.{◌≡◌, ◌≤◌, true, Ok, ◌+◌, ◌∷◌, ◌++◌, [], length};
+ghost use Rattle.std.specs.Int.{to_be_bytes, w16};
+ghost use Rattle.arrayvec.specs.ArrayVec.{array_vec_len};
+ghost use Rattle.dg_frame.specs.Sizes.{advert_size, request_size, packet_size};
+ghost use Rattle.dg_frame.specs.Kinds.{number_of, row_of};
+ghost use Rattle.dg_frame.specs.Spelling.{unchecked, frame_of, FitsTypes};
+ghost use Rattle.dg_frame.specs.Grammar.{in_range, message_of};
+ghost use Rattle.dg_frame.specs.declared.Message.TheVariants as message;
+
+use crate::fields::{put, put_entries, put_half, put_order, put_set, put_word};
+use crate::kind::Kind;
+use crate::{Entry, FRAME_BYTES, FRAME_IMAGES, Frame, Message, PACKET_BYTES, PACKETS};
+use dg_base::crc16;
+use dg_bits::PageBits;
+use dg_control::Order;
+
+/// The frame of a message whose fields are in their ranges.
+#[tactic(auto, unfolding(crate::specs::Spelling::frame_of))]
+pub fn write(message: &Message) -> Frame
+    requires { in_range message.now ≡ true }
+    ensures spelled { result.items ≡ frame_of message.now }
+    ensures reads_back { message_of result.items ≡ Ok message.now }
+{
+    let mut frame = unchecked(message);
+    let crc = crc16(frame.as_slice());
+    put_half(&mut frame, crc);
+    frame
+}
+
+/// A message's frame without the CRC.
+fn unchecked(message: &Message) -> Frame
+    ensures items { result.items ≡ unchecked message.now }
+    ensures room { array_vec_len result + 2 ≤ FRAME_BYTES }
+    ensures fits { FitsTypes message.now }
+{
+    match message {
+        Message::Advert {
+            source,
+            entries,
+            order,
+        } => advert(*source, entries, order),
+        Message::Request {
+            source,
+            to,
+            image,
+            version,
+            page,
+            want,
+        } => request(*source, *to, *image, *version, *page, want),
+        Message::Packet {
+            source,
+            image,
+            version,
+            page,
+            packet,
+            bytes,
+        } => packet_frame(*source, *image, *version, *page, *packet, bytes),
+    }
+}
+
+/// A frame's kind and source.
+fn begun(kind: Kind, source: u16) -> Frame
+    ensures items { result.items ≡ number_of kind ∷ to_be_bytes w16 source }
+    ensures len { array_vec_len result ≡ 3 }
+{
+    let mut frame = Frame::new();
+    frame.push(kind.number());
+    put_half(&mut frame, source);
+    frame
+}
+
+fn advert(source: u16, entries: &[Entry; FRAME_IMAGES], order: &Order) -> Frame
+    ensures items { result.items ≡ unchecked (message.Advert source entries.now order.now) }
+    ensures len { array_vec_len result + 2 ≡ advert_size }
+    ensures fits { FitsTypes (message.Advert source entries.now order.now) }
+{
+    let mut frame = begun(Kind::Advert, source);
+    put_entries(&mut frame, entries);
+    put_order(&mut frame, order);
+    frame
+}
+
+fn request(
+    source: u16,
+    to: u16,
+    image: u8,
+    version: u32,
+    page: u8,
+    want: &PageBits<PACKETS>,
+) -> Frame
+    ensures items { result.items ≡ unchecked (message.Request source to image version page want.now) }
+    ensures len { array_vec_len result + 2 ≡ request_size }
+    ensures fits { FitsTypes (message.Request source to image version page want.now) }
+{
+    let mut frame = begun(Kind::Request, source);
+    put_half(&mut frame, to);
+    frame.push(image);
+    put_word(&mut frame, version);
+    frame.push(page);
+    put_set(&mut frame, want);
+    frame
+}
+
+fn packet_frame(
+    source: u16,
+    image: u8,
+    version: u32,
+    page: u8,
+    packet: u8,
+    bytes: &[u8; PACKET_BYTES],
+) -> Frame
+    ensures items { result.items ≡ unchecked (message.Packet source image version page packet bytes.now) }
+    ensures len { array_vec_len result + 2 ≡ packet_size }
+    ensures fits { FitsTypes (message.Packet source image version page packet bytes.now) }
+{
+    let mut frame = begun(Kind::Packet, source);
+    frame.push(image);
+    put_word(&mut frame, version);
+    frame.push(page);
+    frame.push(packet);
+    put(&mut frame, bytes);
+    frame
+}
