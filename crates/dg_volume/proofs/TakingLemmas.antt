@@ -91,12 +91,12 @@ tells_keeping v w s i h known four has tells sets = record {
 -- ---- what the chip stands for
 
 -- the sectors of an image's slot were written, and those of the snapshots
-pub record Touches (i : ℕ) (old new : List ℕ) : Type 0 where
+pub record TouchesSlot (i : ℕ) (old new : List ℕ) : Type 0 where
   pub program : SameProgram old new
   pub others : (j : ℕ) → j < 4 → j ≢ i → SameSlot j old new
 
-pub Touches-slot : (i a b : ℕ) (old new : List ℕ) → i < 4 → 68 + 66 * i ≤ a → b ≤ 134 + 66 * i → Touches a b old new → Touches i old new
-Touches-slot i a b old new known low high keeps = record {
+pub TouchesSlot-slot : (i a b : ℕ) (old new : List ℕ) → i < 4 → 68 + 66 * i ≤ a → b ≤ 134 + 66 * i → Touches a b old new → TouchesSlot i old new
+TouchesSlot-slot i a b old new known low high keeps = record {
   program = λ k l m. keeps.before k (omega arith) (omega arith);
   others = λ j l ne k m n. ⊎_elim
       (λ lt. keeps.before k (omega arith) (omega arith))
@@ -107,8 +107,8 @@ Touches-slot i a b old new known low high keeps = record {
     side : (i j : ℕ) → j ≢ i → (j < i) ⊎ (i < j)
     side i j ne = ⊎_elim (λ lt. inl lt) (λ ge. inr (omega arith)) (cases_lt j i)
 
-pub Touches-snapshot : (i : ℕ) (old new : List ℕ) → Touches 1 2 old new → Touches i old new
-Touches-snapshot i old new keeps = record {
+pub TouchesSlot-snapshot : (i : ℕ) (old new : List ℕ) → Touches 1 2 old new → TouchesSlot i old new
+TouchesSlot-snapshot i old new keeps = record {
   program = λ k l m. keeps.behind k (omega arith) (omega arith);
   others = λ j l ne k m n. keeps.behind k (omega arith) (omega arith);
 }
@@ -129,7 +129,7 @@ place_told c v s stands tells =
       same_gesture = tells.gesture ∙ stands.gesture;
     }))
 
-slot_of : (old new : List ℕ) (s : Store) (i j : ℕ) (h : Option Held) → i < 4 → j < 4 → Stands old s → Touches i old new → SlotStands new i (slot_told h) h → SlotStands new j (slot_told (held (keeping i h s) j)) (held (keeping i h s) j)
+slot_of : (old new : List ℕ) (s : Store) (i j : ℕ) (h : Option Held) → i < 4 → j < 4 → Stands old s → TouchesSlot i old new → SlotStands new i (slot_told h) h → SlotStands new j (slot_told (held (keeping i h s) j)) (held (keeping i h s) j)
 slot_of old new s i j h known l stands touches here =
     ⊎_elim
     (λ same.
@@ -143,7 +143,7 @@ slot_of old new s i j h known l stands touches here =
     (cases_eq j i)
 
 -- a slot was written, and the volume tells what stands there
-pub stands_keeping : (old new : List ℕ) (w : Volume) (s : Store) (i : ℕ) (h : Option Held) → 1 ≤ i → i < 4 → Stands old s → Touches i old new → part (sector new 1) 0 64 ≡ place_of w.snapshot → Tells w (keeping i h s) → SlotStands new i (slot_told h) h
+pub stands_keeping : (old new : List ℕ) (w : Volume) (s : Store) (i : ℕ) (h : Option Held) → 1 ≤ i → i < 4 → Stands old s → TouchesSlot i old new → part (sector new 1) 0 64 ≡ place_of w.snapshot → Tells w (keeping i h s) → SlotStands new i (slot_told h) h
     → Stands new (keeping i h s)
 stands_keeping old new w s i h low known stands touches place tells here =
     let r = stands.snapshot in
@@ -183,7 +183,7 @@ pub committed : (old new : List ℕ) (v w : Volume) (i : ℕ) (h : Option Held) 
 committed old new v w i h low known has m sets keeps place here =
     let there = slot_stays old new i (slot_told h) h (λ k l n. keeps.behind k (omega arith) (omega arith)) here in
     let told_now : (s : Store) → Stands old s → Tells w (keeping i h s) = λ s stands. tells_keeping v w s i h known stands.four has (tells_store old v s m stands) sets in
-    record { stands = λ s stands. stands_keeping old new w s i h low known stands (Touches-snapshot i old new keeps) place (told_now s stands) there; tells = told_now }
+    record { stands = λ s stands. stands_keeping old new w s i h low known stands (TouchesSlot-snapshot i old new keeps) place (told_now s stands) there; tells = told_now }
 
 -- what an image keeps changes in its slot, and its state stays
 pub rewritten : (old new : List ℕ) (v w : Volume) (i : ℕ) (h : Option Held) → 1 ≤ i → i < 4 → HasFour v → IsMounted old v → Sets v w i h → Touches (68 + 66 * i) (134 + 66 * i) old new → w.snapshot ≡ v.snapshot → SlotStands new i (slot_told h) h
@@ -193,7 +193,7 @@ rewritten old new v w i h low known has m sets keeps same here =
     let place : (s : Store) → Stands old s → part (sector new 1) 0 64 ≡ place_of w.snapshot = λ s stands.
     ap (λ c. part c 0 64) (keeps.before 1 (omega arith) (omega arith)) ∙ place_told old v s stands (tells_store old v s m stands) ∙ ap place_of (sym same) in
     record {
-      stands = λ s stands. stands_keeping old new w s i h low known stands (Touches-slot i (68 + 66 * i) (134 + 66 * i) old new known (omega arith) (omega arith) keeps) (place s stands) (told_now s stands) here;
+      stands = λ s stands. stands_keeping old new w s i h low known stands (TouchesSlot-slot i (68 + 66 * i) (134 + 66 * i) old new known (omega arith) (omega arith) keeps) (place s stands) (told_now s stands) here;
       tells = told_now;
     }
 
@@ -226,7 +226,7 @@ header_written a b c v i low known p keeps = record {
       let tells = p.tells s h in
       let stands = p.stands s h in
       let place = ap (λ x. part x 0 64) (keeps.before 1 (omega arith) (omega arith)) ∙ place_told b v t stands tells in
-      let touches = Touches-slot i (68 + 66 * i) (69 + 66 * i) b c known (omega arith) (omega arith) keeps in
+      let touches = TouchesSlot-slot i (68 + 66 * i) (69 + 66 * i) b c known (omega arith) (omega arith) keeps in
       subst (λ (x : Store). Stands c x) twice (stands_keeping b c v t i None low known stands touches place (subst (λ (x : Store). Tells v x) (sym twice) tells) tt);
   tells = p.tells;
 }

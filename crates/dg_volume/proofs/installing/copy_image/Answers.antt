@@ -13,7 +13,7 @@ returns-clause-stands g c =
     let known : c.args.image < 4 = omega (arith, c.requires.known_image) in
     let is = whole_told_is old c.args.volume.now m.store c.args.image c.args.version c.unwrap-kept.result m m.stands known (c.requires.whole m.store m.stands) (sym c.kept.ensures ∙ c.unwrap-kept.ensures) in
     let touches : Touches 3 68 old (g.N.Nor.device c.copy_pages.new.nor).image = Touches_wider 3 (3 + c.unwrap-kept.result.pages) 3 68 c.copy_pages.ensures.touches (omega arith) (omega (arith, is.most)) in
-    on_ok_weaker c.copy_pages.result (λ _ s stands. blank_stands old (g.N.Nor.device c.copy_pages.new.nor).image c.args.volume.now s m stands c.requires.blank keeps) c.copy_pages.ensures.pages
+    on_ok_weaker c.copy_pages.result (λ _ s stands. blank_stands old (g.N.Nor.device c.copy_pages.new.nor).image c.args.volume.now s m stands c.requires.blank touches) c.copy_pages.ensures.pages
 
 pub returns-clause-holds : goal.returns-clause-holds
 returns-clause-holds g c =

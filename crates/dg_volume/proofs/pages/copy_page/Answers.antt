@@ -11,7 +11,7 @@ loop-k-init g c =
     let erased = c.in_ok-erase_sector.ensures in
     record {
       copied = copy_none _ _ erased.cells;
-      keeps = erased.keeps;
+      touches = erased.touches;
       worked = Worked-ran erased.ran erased.awake;
     }
 
@@ -23,11 +23,11 @@ loop-k-preserved g c =
     let done = c.in_ok-copy_piece.ensures in
     let chip = g.met.N.Nor.is_chip c.args.nor.now in
     let image = (g.N.Nor.device c.args.nor.now).image in
-    let same = sector_kept from before.keeps c.requires.from_in (apart from c.args.to c.requires.apart) in
+    let same = sector_kept from before.touches c.requires.from_in (apart from c.args.to c.requires.apart) in
     record {
       copied = copy_more (sector image from) _ _ _ (184 * k) 184 (184 * (k + 1)) (length-sector image from chip.cells c.requires.from_in) (AreBytes-sector image from chip.bytes)
           before.copied done.cells (ap (λ s. part s (184 * k) 184) same) (omega arith) (omega arith);
-      touches = Touches_then before.keeps done.keeps;
+      touches = Touches_then before.touches done.touches;
       worked = Worked_then before.worked done.ends;
     }
 

@@ -13,8 +13,8 @@ loop-p-preserved g c =
     let done = c.in_ok-copy_page.ensures in
     record {
       copied = below_more _ _
-          (λ q h. ap (λ s. part s 0 1104) (done.keeps.before (to + q) (omega arith) (omega arith)) ∙ before.copied q h)
-          (done.page ∙ ap (λ s. part s 0 1104) (before.keeps.behind (from + p) (omega arith) (omega arith)));
-      touches = Touches_then before.keeps (Touches_wider (to + p) (to + p + 1) to (to + c.args.count) done.keeps (omega arith) (omega arith));
+          (λ q h. ap (λ s. part s 0 1104) (done.touches.before (to + q) (omega arith) (omega arith)) ∙ before.copied q h)
+          (done.page ∙ ap (λ s. part s 0 1104) (before.touches.behind (from + p) (omega arith) (omega arith)));
+      touches = Touches_then before.touches (Touches_wider (to + p) (to + p + 1) to (to + c.args.count) done.touches (omega arith) (omega arith));
       worked = Worked_then before.worked done.ends;
     }

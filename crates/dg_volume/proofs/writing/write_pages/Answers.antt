@@ -15,7 +15,7 @@ loop-p-init g c =
     let done = c.in_ok-write_page.ensures in
     record {
       pages = first_written _ (new_row image) c.args.first.now done.page c.requires;
-      touches = Touches_wider (first + 0) (70 + 66 * image.number + 0) first (134 + 66 * image.number) done.keeps (omega arith) (omega arith);
+      touches = Touches_wider (first + 0) (70 + 66 * image.number + 0) first (134 + 66 * image.number) done.touches (omega arith) (omega arith);
       worked = done.ends;
     }
 
@@ -30,7 +30,7 @@ loop-p-preserved g c =
     let before = c.loop-p.invariant in
     let done = c.in_ok-write_page_of.ensures in
     record {
-      pages = below_more _ _ (λ q h. ap (λ s. part s 0 1104) (done.keeps.before (first + q) (omega arith) (omega arith)) ∙ before.pages q h) done.page;
-      touches = Touches_then before.keeps (Touches_wider (first + p) (70 + 66 * image.number + p) first (134 + 66 * image.number) done.keeps (omega arith) (omega arith));
+      pages = below_more _ _ (λ q h. ap (λ s. part s 0 1104) (done.touches.before (first + q) (omega arith) (omega arith)) ∙ before.pages q h) done.page;
+      touches = Touches_then before.touches (Touches_wider (first + p) (70 + 66 * image.number + p) first (134 + 66 * image.number) done.touches (omega arith) (omega arith));
       worked = Worked_then before.worked done.ends;
     }
