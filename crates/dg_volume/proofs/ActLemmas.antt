@@ -1,10 +1,10 @@
 -- Acts that follow one another.
-use Rattle.std.proofs.Common.{◌≡◌, ℕ, ◌+◌, ◌≤◌, ◌⊎◌, true, false, Result, Ok, Err, OnOk, OnErr, refl, sym, ap, ◌∙◌, inl, inr, ⊎_elim, arith}
+use Rattle.std.proofs.Common.{◌≡◌, ℕ, ◌+◌, ◌≤◌, ◌⊎◌, true, false, Result, Ok, Err, OnOk, OnErr, refl, sym, ap, subst, ◌∙◌, inl, inr, arith}
 use Rattle.dg_words.specs.Counts.{Rose}
 use Rattle.dg_nor.specs.declared.device.Stopped.{Stopped}
 use Rattle.dg_nor.specs.Device.{Device, Ran, Halts}
-use Rattle.dg_nor.proofs.DeviceLemmas.{more-zero, Beneath_then, NotFallen_then, Ran-none, Ran_then}
-use Rattle.dg_volume.specs.Acts.{Looked, ReadStopped, Worked, ActStopped, ReadEnds, ActEnds, MountEnds, StartReadEnds}
+use Rattle.dg_nor.proofs.DeviceLemmas.{Ran-none, Ran_then, Halts_second}
+use Rattle.dg_volume.specs.Acts.{Looked, ReadStopped, Worked, ActStopped, ReadEnds, ActEnds, MountEnds, StartEnds, StartReadEnds}
 use Rattle.dg_volume.specs.declared.faults.MountFault.{MountFault}
 use Rattle.dg_volume.specs.declared.faults.MountFault.TheVariants as mount
 use Rattle.dg_volume.specs.declared.faults.StartFault.{StartFault}
@@ -77,19 +77,7 @@ ActStopped_after {a} {b} {c} p q = record {
 pub ReadStopped_after : {a b c : Device} → Looked a b → ReadStopped b c → ReadStopped a c
 ReadStopped_after {a} {b} {c} p q = record {
   same_image = q.same_image ∙ p.same_image;
-  halts = record {
-    within = q.halts.within;
-    left = p.ran.left ∙ more-zero b.left ∙ q.halts.left;
-    stopped = q.halts.stopped;
-    cause = cause_after a b c p.ran.stopped p.ran.faults q.halts.faults q.halts.cause;
-    unchanged = still_then a b c p.still q.halts.unchanged;
-    blew = λ h. ⊎_elim (λ s. inl (sym p.ran.blown ∙ s)) (λ w. inr w) (q.halts.blew h);
-    blown = λ h. q.halts.blown (p.ran.blown ∙ h);
-    faults = omega (arith, p.ran.faults, q.halts.faults);
-    taken = NotFallen_then a.taken b.taken c.taken p.ran.taken q.halts.taken;
-    references = q.halts.references ∙ p.ran.references;
-    beneath = Beneath_then a.beneath b.beneath c.beneath p.ran.beneath q.halts.beneath;
-  };
+  halts = Halts_second p.ran q.halts;
 }
 
 -- ---- how a call ends behind others that were done
@@ -117,3 +105,14 @@ start_read_after (Err start.Stopped) a b c p q = ReadStopped_after p q
 pub act_of_read : {T : Type 0} (r : Result T Stopped) (a b : Device) → ReadEnds r a b → ActEnds r a b
 act_of_read (Ok x) a b h = Worked-looked h
 act_of_read (Err e) a b h = ActStopped-read h
+
+-- a start that worked behind calls that only read
+pub start_worked : {T : Type 0} (r : Result T StartFault) (a b c : Device) → Looked a b → StartEnds r b c → OnOk r (Worked a c)
+start_worked (Ok x) a b c p q = Worked_then (Worked-looked p) q
+start_worked (Err e) a b c p q = tt
+
+-- a start of which the reads stopped
+pub start_read_stopped : {T : Type 0} (r : Result T StartFault) (e : StartFault) (a b c : Device) → r ≡ Err e → e ≡ start.Stopped → Looked a b → ReadStopped b c → StartReadEnds r a c
+start_read_stopped {T} r e a b c is stopped p q =
+    let P : Result T StartFault → Type 0 = λ x. StartReadEnds x a c in
+    subst P (sym (is ∙ ap Err stopped)) (ReadStopped_after p q)

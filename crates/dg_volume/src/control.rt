@@ -8,7 +8,7 @@ ghost use Rattle.dg_control.specs.declared.snapshot.Snapshot.{Snapshot};
 
 use crate::layout::CONTROL;
 use crate::{MountFault, Snapshot};
-use dg_control::{PLACE, read_place, write_place};
+use dg_control::{PLACE_SIZE, read_place, write_place};
 use dg_nor::{Nor, Stopped, erase_sector, program_in, read_in};
 
 /// The snapshot that the chip keeps.
@@ -19,7 +19,7 @@ pub(crate) fn read_snapshot<N: Nor>(nor: &mut N) -> Result<Snapshot, MountFault>
     ensures awake { OnOk result ((N.device nor.old).stopped ≡ false) }
     ensures ends { MountEnds result (N.device nor.old) (N.device nor.new) }
 {
-    let mut place = [0; PLACE];
+    let mut place = [0; PLACE_SIZE];
     read_in(nor, CONTROL, 0, &mut place)?;
     match read_place(&place) {
         Some(snapshot) => Ok(snapshot),

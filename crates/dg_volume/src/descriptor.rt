@@ -7,10 +7,11 @@ ghost use Rattle.dg_object.specs.Descriptor.{Details, IsHead, IsDescriptor, Rest
 ghost use Rattle.dg_object.specs.Records.{details_of};
 ghost use Rattle.dg_volume.specs.Acts.{ReadEnds};
 ghost use Rattle.dg_volume.specs.Pages.{page_in};
-ghost use Rattle.dg_nor.specs.declared.device.TheConstants.{SECTORS};
+ghost use Rattle.dg_nor.specs.declared.sizes.TheConstants.{SECTORS};
 
+use crate::layout::PAGE;
 use dg_base::{crc16, crc16_more};
-use dg_nor::{Nor, PAGE, SECTORS, Stopped, read_in};
+use dg_nor::{Nor, SECTORS, Stopped, read_in};
 use dg_object::Descriptor;
 
 /// The bytes of a descriptor that hold all but the CRCs of the pages.

@@ -16,6 +16,9 @@ pub(crate) const PROGRAM: u32 = 3;
 /// Where the gates of a slot begin in the sector of its header.
 pub(crate) const GATES: u32 = 16;
 
+/// The bytes of a page of an image. A page stands in a sector of its own.
+pub(crate) const PAGE: u32 = 1_104;
+
 /// The sector of the header of an image's slot.
 pub(crate) fn header_sector(image: u8) -> u32
     requires { image ≤ 3 }

@@ -5,10 +5,11 @@ ghost use Rattle.dg_base.specs.Crc.{crc_of, crc_more};
 ghost use Rattle.dg_nor.specs.Chip.{sector, programmed, Touches};
 ghost use Rattle.dg_volume.specs.Acts.{ReadEnds, ActEnds};
 ghost use Rattle.dg_volume.specs.Pages.{page_in};
-ghost use Rattle.dg_nor.specs.declared.device.TheConstants.{SECTORS};
+ghost use Rattle.dg_nor.specs.declared.sizes.TheConstants.{SECTORS};
 
+use crate::layout::PAGE;
 use dg_base::crc16_more;
-use dg_nor::{Nor, PAGE, SECTORS, Stopped, erase_sector, program_in, read_in};
+use dg_nor::{Nor, SECTORS, Stopped, erase_sector, program_in, read_in};
 
 /// Pages are read and copied in pieces of this many bytes, six to a page.
 const PIECE: u32 = 184;

@@ -14,10 +14,10 @@ ghost use Rattle.dg_volume.specs.Started.{Starts};
 use crate::choosing::{is_golden_sound, takes_order};
 use crate::descriptor::read_head;
 use crate::installing::install;
-use crate::layout::{GOLDEN, GOLDEN_VERSION, PROGRAM};
+use crate::layout::{GOLDEN, GOLDEN_VERSION, PAGE, PROGRAM};
 use crate::pages::front_crc;
 use crate::{Program, StartFault, Volume};
-use dg_nor::{Nor, PAGE, Stopped};
+use dg_nor::{Nor, Stopped};
 
 /// What was started. `pages` counts the descriptor too, `length` is that of the image's bytes, and `crc` is their
 /// checksum as they stand in program memory.

@@ -3,7 +3,7 @@ use Rattle.std.proofs.lemmas.Result.{err_from_is_err_and}
 use Rattle.dg_control.specs.declared.snapshot.Order.{Order}
 use Rattle.dg_volume.specs.Store.{Stands, held}
 use Rattle.dg_volume.specs.Start.{copied, is_whole, start_of}
-use Rattle.dg_volume.proofs.ActLemmas.{Looked_then, Worked-looked, Worked_then, start_read_after}
+use Rattle.dg_volume.proofs.ActLemmas.{start_worked, start_read_stopped, Looked_then, Worked-looked, Worked_then, start_read_after}
 use Rattle.dg_volume.proofs.StoreLemmas.{tells_store}
 use Rattle.dg_volume.proofs.ChoiceLemmas.{order_waited, waits_ordered, takes_order, runs_on_app}
 use Rattle.dg_volume.proofs.RunLemmas.{not_a_volume}
@@ -40,3 +40,12 @@ returns-clause-runs_on g c s stands on =
     let mounted = subst (λ (x : List ℕ). Stands x s) (sym c.in_ok-volume.ensures.same_image) stands in
     let looked = subst (λ (x : List ℕ). Stands x s) (sym c.in_ok-takes_order.ensures.ends.same_image) mounted in
     start_read_after c.start_program.result _ _ _ (Looked_then c.in_ok-volume.ensures.looked c.in_ok-takes_order.ensures.ends) (c.start_program.ensures.runs_on s looked (runs_on_app s on))
+
+pub returns-in_err-takes_order-clause-runs_on : goal.returns-in_err-takes_order-clause-runs_on
+returns-in_err-takes_order-clause-runs_on g c s stands on =
+    let p = err_from_is_err_and c.from_residual-in_err-takes_order.result c.from_residual-in_err-takes_order.ensures.1 in
+    start_read_stopped c.from_residual-in_err-takes_order.result p.0 _ _ _ p.1 p.2 c.in_ok-volume.ensures.looked c.in_err-takes_order.ensures.ends
+
+pub returns-clause-worked : goal.returns-clause-worked
+returns-clause-worked g c =
+    start_worked c.start_program.result _ _ _ (Looked_then c.in_ok-volume.ensures.looked c.in_ok-takes_order.ensures.ends) c.start_program.ensures.ends
