@@ -7,7 +7,7 @@ use Rattle.std.proofs.lemmas.List.{map-append}
 use Rattle.std.proofs.lemmas.List.Sums.{sum_by_push}
 use Rattle.dg_nor.specs.Device.{Device}
 use Rattle.dg_object.specs.Object.{Row}
-use Rattle.dg_volume.specs.Start.{Start, start_of}
+use Rattle.dg_plain.specs.Start.{Start, start_of}
 use Rattle.dg_script.specs.Script.{◌>>=◌, guarded, line_of, spelled, is_new, is_key, is_event, keys_after, declared_row}
 use Rattle.dg_rules.specs.Table.{row_at, has_key}
 use Rattle.dg_rules.specs.World.{World, Outcome, cause_of, started, inject_row, done, by_cause, by_rules}

@@ -5,9 +5,9 @@ use Rattle.std.proofs.lemmas.List.{set_past}
 use Rattle.dg_object.specs.Object.{Row, IsRow, object}
 use Rattle.dg_object.proofs.RowLemmas.{length-object}
 use Rattle.dg_control.specs.declared.snapshot.Order.{Order}
-use Rattle.dg_volume.specs.Store.{Store, Held, App, held, held_whole, golden_row}
-use Rattle.dg_volume.specs.Start.{Start, start_of}
-use Rattle.dg_volume.specs.Changes.{injected, ordered}
+use Rattle.dg_plain.specs.Store.{Store, Held, App, held, held_whole, golden_row}
+use Rattle.dg_plain.specs.Start.{Start, start_of}
+use Rattle.dg_plain.specs.Changes.{injected, ordered}
 use Rattle.dg_rules.specs.Table.{row_at, with_row, IsTable, KeepsRow, KeptAgrees, AppAgrees, Agrees, IsWhole, AllWhole}
 use Rattle.dg_rules.specs.World.{World, formatted, declare}
 use Rattle.dg_rules.specs.Reached.{MayBeDeclared, IsReached}

@@ -5,9 +5,9 @@ use Rattle.std.proofs.lemmas.Bool.{and_from, and_left, cond-true, cond-false}
 use Rattle.dg_object.specs.Object.{Row, pages_for}
 use Rattle.dg_object.proofs.RowLemmas.{length-object}
 use Rattle.dg_control.specs.declared.snapshot.Order.{Order}
-use Rattle.dg_volume.specs.Store.{Store, Held, held, held_whole}
-use Rattle.dg_volume.specs.Start.{Start, start_of}
-use Rattle.dg_volume.specs.Changes.{injected, ordered}
+use Rattle.dg_plain.specs.Store.{Store, Held, held, held_whole}
+use Rattle.dg_plain.specs.Start.{Start, start_of}
+use Rattle.dg_plain.specs.Changes.{injected, ordered}
 use Rattle.dg_rules.specs.World.{same_order, order_change, same_held, have_change, changes}
 use Rattle.dg_script.specs.declared.report.Report.{Report}
 use Rattle.dg_script.specs.declared.report.Report.TheVariants.{Order as OrderLine, Have}

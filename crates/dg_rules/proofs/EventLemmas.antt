@@ -3,9 +3,9 @@ use Rattle.std.proofs.Common.{◌≡◌, ℕ, ◌<◌, ◌≤◌, List, [], ◌�
 use Rattle.std.proofs.lemmas.Bool.{cases_Bool, cond-true}
 use Rattle.dg_object.specs.Object.{Row}
 use Rattle.dg_control.specs.declared.snapshot.Order.{Order}
-use Rattle.dg_volume.specs.Store.{Store, Held}
-use Rattle.dg_volume.specs.Start.{Start, start_of}
-use Rattle.dg_volume.specs.Changes.{injected, ordered, newer, newer_held}
+use Rattle.dg_plain.specs.Store.{Store, Held}
+use Rattle.dg_plain.specs.Start.{Start, start_of}
+use Rattle.dg_plain.specs.Changes.{injected, ordered, newer, newer_held}
 use Rattle.dg_rules.specs.Table.{row_at, with_row}
 use Rattle.dg_script.specs.Script.{FitsEvent}
 use Rattle.dg_rules.specs.World.{World, Outcome, counted, changes, start_line, refused, stale_cause, inject_cause, order_cause, cause_of, to_store, inject_row, started, done, dt_of, by_cause, by_rules}

@@ -6,9 +6,9 @@ use Rattle.std.proofs.lemmas.Bool.{cases_lt}
 use Rattle.dg_object.specs.Object.{Row}
 use Rattle.dg_object.proofs.RowLemmas.{length-object}
 use Rattle.dg_control.specs.declared.snapshot.Order.{Order}
-use Rattle.dg_volume.specs.Store.{Store, Held, held, held_whole}
-use Rattle.dg_volume.specs.Start.{Start, start_of}
-use Rattle.dg_volume.specs.Changes.{newer, newer_held}
+use Rattle.dg_plain.specs.Store.{Store, Held, held, held_whole}
+use Rattle.dg_plain.specs.Start.{Start, start_of}
+use Rattle.dg_plain.specs.Changes.{newer, newer_held}
 use Rattle.dg_rules.specs.Table.{row_at, with_row}
 use Rattle.dg_script.specs.Script.{FitsEvent}
 use Rattle.dg_rules.specs.World.{World, Outcome, counted, cause_of, by_rules}

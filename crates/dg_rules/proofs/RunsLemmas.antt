@@ -2,9 +2,9 @@
 use Rattle.std.proofs.Common.{◌≡◌, ℕ, List, [], ◌∷◌, ◌++◌, length, get_or, Some, None, sym, ap, subst, ◌∙◌}
 use Rattle.dg_base.specs.Crc.{crc_of}
 use Rattle.dg_object.specs.Object.{Row, IsRow, object, content}
-use Rattle.dg_volume.specs.Start.{Start, start_of, length_in}
-use Rattle.dg_volume.specs.RowLaws.{RowLaws}
-use Rattle.dg_volume.proofs.WholeLemmas.{row_laws}
+use Rattle.dg_plain.specs.Start.{Start, start_of, length_in}
+use Rattle.dg_plain.specs.RowLaws.{RowLaws}
+use Rattle.dg_plain.proofs.WholeLemmas.{row_laws}
 use Rattle.dg_script.specs.Script.{FitsEvent}
 use Rattle.dg_rules.specs.World.{World, Outcome, changes, start_line, by_rules}
 use Rattle.dg_rules.specs.Played.{StartsRow, StartsAt}

@@ -3,9 +3,9 @@ use Rattle.std.proofs.Common.{◌≡◌, ◌≢◌, ◌⊎◌, ℕ, Bool, true, 
 use Rattle.std.proofs.lemmas.Bool.{cases_Bool, and_parts, eqb-false, not-true, cond-true, cond-false}
 use Rattle.dg_object.specs.Object.{Row, IsRow, object, pages_for}
 use Rattle.dg_object.proofs.RowLemmas.{length-object}
-use Rattle.dg_volume.specs.Store.{Store, Held, App, held, held_whole}
-use Rattle.dg_volume.specs.Start.{Start, start_of, start_from, copied, complete_pages, is_whole, is_set_to, order_waits, sound}
-use Rattle.dg_volume.proofs.WholeLemmas.{row_laws}
+use Rattle.dg_plain.specs.Store.{Store, Held, App, held, held_whole}
+use Rattle.dg_plain.specs.Start.{Start, start_of, start_from, copied, complete_pages, is_whole, is_set_to, order_waits, sound}
+use Rattle.dg_plain.proofs.WholeLemmas.{row_laws}
 use Rattle.dg_rules.specs.Table.{row_at, IsTable, KeepsRow, KeptAgrees, AppAgrees, Agrees}
 use Rattle.dg_rules.proofs.TableLemmas.{same_some, row_at-key, row_at-each}
 

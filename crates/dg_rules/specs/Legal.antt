@@ -2,7 +2,7 @@
 use Rattle.std.specs.Prelude.{◌≡◌, ◌≢◌, ◌⊎◌, ℕ, ◌<◌, ◌≤◌, List, length, map, slice_index_or, slice_set, Option, Some, None, option_map}
 use Rattle.dg_object.specs.Object.{Row, pages_for}
 use Rattle.dg_control.specs.declared.snapshot.Order.{Order}
-use Rattle.dg_volume.specs.Store.{Held, App}
+use Rattle.dg_plain.specs.Store.{Held, App}
 use Rattle.dg_rules.specs.Table.{row_at, with_row}
 use Rattle.dg_rules.specs.World.{World}
 use Rattle.dg_script.specs.declared.key.Key.{Key}

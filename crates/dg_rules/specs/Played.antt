@@ -2,7 +2,7 @@
 use Rattle.std.specs.Prelude.{◌≡◌, List, [], ◌∷◌, length, Option, Some, None}
 use Rattle.dg_base.specs.Crc.{crc_of}
 use Rattle.dg_object.specs.Object.{Row, object}
-use Rattle.dg_volume.specs.Start.{Start, start_of}
+use Rattle.dg_plain.specs.Start.{Start, start_of}
 use Rattle.dg_script.specs.Script.{declared_row}
 use Rattle.dg_rules.specs.Table.{row_at, IsTable, Agrees, AllWhole}
 use Rattle.dg_rules.specs.World.{World, formatted, declare, cause_of, EventStep}

@@ -2,7 +2,7 @@
 use Rattle.std.specs.Prelude.{◌≡◌, ℕ, ◌==◌, ◌&&◌, Bool, if◌then◌else◌, List, ◌∷◌, length, take, Option, Some, None}
 use Rattle.std.specs.List.{find, list_any, IsDistinct, AllByRecursion}
 use Rattle.dg_object.specs.Object.{Row, IsRow, object, profile}
-use Rattle.dg_volume.specs.Store.{Store, Held, App, held, held_whole}
+use Rattle.dg_plain.specs.Store.{Store, Held, App, held, held_whole}
 
 -- whether a row is this version of this image
 abbrev pub has_key : (image version : ℕ) → Row → Bool

@@ -3,9 +3,9 @@ use Rattle.std.specs.Prelude.{◌≡◌, ◌⊎◌, ℕ, ◌+◌, ◌==◌, nat_
 use Rattle.std.specs.List.{filter_map}
 use Rattle.dg_object.specs.Object.{Row}
 use Rattle.dg_control.specs.declared.snapshot.Order.{Order}
-use Rattle.dg_volume.specs.Store.{Store, Held, held, fresh, golden_row}
-use Rattle.dg_volume.specs.Start.{Start, start_of, started_length, started_crc}
-use Rattle.dg_volume.specs.Changes.{injected, ordered, newer}
+use Rattle.dg_plain.specs.Store.{Store, Held, held, fresh, golden_row}
+use Rattle.dg_plain.specs.Start.{Start, start_of, started_length, started_crc}
+use Rattle.dg_plain.specs.Changes.{injected, ordered, newer}
 use Rattle.dg_rules.specs.Table.{row_at, with_row}
 use Rattle.dg_script.specs.declared.key.Key.{Key}
 use Rattle.dg_script.specs.declared.script.Event.{Event}

@@ -1,8 +1,8 @@
 //! What holds of worlds and of legal steps. These functions do nothing: their contracts are the laws.
 ghost use Rattle.std.specs.Prelude.{◌≡◌, ℕ, List, Option, Some, None};
 ghost use Rattle.dg_object.specs.Object.{Row, IsRow};
-ghost use Rattle.dg_volume.specs.Store.{golden_row};
-ghost use Rattle.dg_volume.specs.Start.{start_of};
+ghost use Rattle.dg_plain.specs.Store.{golden_row};
+ghost use Rattle.dg_plain.specs.Start.{start_of};
 ghost use Rattle.dg_rules.specs.Table.{row_at};
 ghost use Rattle.dg_rules.specs.World.{World, Outcome, formatted, declare, cause_of, by_rules};
 ghost use Rattle.dg_script.specs.Script.{FitsEvent};

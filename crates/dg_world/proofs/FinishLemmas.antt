@@ -4,10 +4,10 @@ use Rattle.std.specs.Prelude.{Option, Some, None, option_to_list, slice_get, sli
 use Rattle.std.specs.List.{filter_map, cons_option}
 use Rattle.std.proofs.lemmas.Bool.Decides.{nat_tests}
 use Rattle.dg_nor.specs.Device.{Device, Ran, Halts}
-use Rattle.dg_volume.specs.Store.{Held, held, Stands}
-use Rattle.dg_volume.specs.Told.{told}
-use Rattle.dg_volume.specs.Mounted.{kept_at, Tells}
-use Rattle.dg_volume.specs.declared.volume.Volume.{Volume}
+use Rattle.dg_plain.specs.Store.{Held, held, Stands}
+use Rattle.dg_plain.specs.Told.{told}
+use Rattle.dg_plain.specs.Mounted.{kept_at, Tells}
+use Rattle.dg_plain.specs.declared.volume.Volume.{Volume}
 use Rattle.dg_script.specs.Report.{report_line, report_text}
 use Rattle.dg_rules.specs.World.{World, mote_line, kept_line, last_lines}
 use Rattle.dg_world.specs.Boards.{BoardsStand, BoardStands, StoppedIn, MemoryHolds}

@@ -6,19 +6,19 @@ use Rattle.std.proofs.lemmas.Bool.Decides.{nat_tests}
 use Rattle.dg_nor.specs.Device.{Device}
 use Rattle.dg_object.specs.Object.{Row, IsRow, row_of, pages_for}
 use Rattle.dg_control.specs.declared.snapshot.Order.{Order}
-use Rattle.dg_volume.specs.Store.{Store, Held, Stands, held, held_whole, golden_row}
-use Rattle.dg_volume.specs.Start.{Start}
-use Rattle.dg_volume.specs.Started.{Starts}
-use Rattle.dg_volume.specs.Changes.{injected, ordered, newer, newer_held, stale, inject_refusal, order_refusal}
-use Rattle.dg_volume.specs.Mounted.{IsMounted, kept_at}
-use Rattle.dg_volume.specs.Told.{told}
-use Rattle.dg_volume.specs.declared.volume.Volume.{Volume}
-use Rattle.dg_volume.specs.declared.starting.Started.{Started}
-use Rattle.dg_volume.specs.declared.faults.InjectFault.{InjectFault}
-use Rattle.dg_volume.specs.declared.faults.InjectFault.TheVariants as inject
-use Rattle.dg_volume.specs.declared.faults.OrderFault.TheVariants as order
+use Rattle.dg_plain.specs.Store.{Store, Held, Stands, held, held_whole, golden_row}
+use Rattle.dg_plain.specs.Start.{Start}
+use Rattle.dg_plain.specs.Started.{Starts}
+use Rattle.dg_plain.specs.Changes.{injected, ordered, newer, newer_held, stale, inject_refusal, order_refusal}
+use Rattle.dg_plain.specs.Mounted.{IsMounted, kept_at}
+use Rattle.dg_plain.specs.Told.{told}
+use Rattle.dg_plain.specs.declared.volume.Volume.{Volume}
+use Rattle.dg_plain.specs.declared.starting.Started.{Started}
+use Rattle.dg_plain.specs.declared.faults.InjectFault.{InjectFault}
+use Rattle.dg_plain.specs.declared.faults.InjectFault.TheVariants as inject
+use Rattle.dg_plain.specs.declared.faults.OrderFault.TheVariants as order
 use Rattle.dg_object.proofs.RowLemmas.{length-object}
-use Rattle.dg_volume.proofs.StoreLemmas.{tells_store}
+use Rattle.dg_plain.proofs.StoreLemmas.{tells_store}
 use Rattle.dg_script.specs.Script.{IsGolden, IsDeclared, declared_row}
 use Rattle.dg_rules.specs.Table.{row_at, with_row}
 use Rattle.dg_rules.specs.World.{World, Outcome, counted, changes, start_line, same_held, stale_cause, inject_cause, inject_row, order_cause, cause_of, started, by_cause, to_store}

@@ -4,8 +4,8 @@ use Rattle.std.specs.Prelude.{slice_get, slice_set, Option, Some, None, Result, 
 use Rattle.dg_words.specs.Counts.{Rose}
 use Rattle.dg_nor.specs.Device.{Device}
 use Rattle.dg_object.specs.Object.{Row, IsRow}
-use Rattle.dg_volume.specs.Store.{Store, App, golden_row, fresh, Stands}
-use Rattle.dg_volume.proofs.StoreLemmas.{app_stands}
+use Rattle.dg_plain.specs.Store.{Store, App, golden_row, fresh, Stands}
+use Rattle.dg_plain.proofs.StoreLemmas.{app_stands}
 use Rattle.dg_script.specs.Script.{IsDeclared, FitsEvent, FitsLine, AllowedAt, declared_row, place_after}
 use Rattle.dg_rules.specs.Table.{row_at}
 use Rattle.dg_rules.specs.World.{World, Outcome, formatted, declare, by_rules}

@@ -2,7 +2,7 @@
 use Rattle.std.specs.Prelude.{◌≡◌, ◌⊎◌, ℕ, ◌≤◌, true, false, List, length, slice_get, slice_set, Option, Some, None}
 use Rattle.dg_words.specs.Counts.{Rose}
 use Rattle.dg_nor.specs.Device.{Device}
-use Rattle.dg_volume.specs.Store.{App, Stands, program}
+use Rattle.dg_plain.specs.Store.{App, Stands, program}
 use Rattle.dg_rules.specs.World.{World}
 
 -- Of the boards at most the first was used, and all others are as before.

@@ -1,9 +1,9 @@
 -- The last lines of a report, for which the board is read.
 use Rattle.std.specs.Prelude.{◌≡◌, ℕ, List, ◌++◌, Option, Some, None, Result, Ok, Err, option_to_list}
 use Rattle.dg_nor.specs.Device.{Device}
-use Rattle.dg_volume.specs.Mounted.{kept_at}
-use Rattle.dg_volume.specs.declared.volume.Volume.{Volume}
-use Rattle.dg_volume.specs.declared.kept.Kept.{Kept}
+use Rattle.dg_plain.specs.Mounted.{kept_at}
+use Rattle.dg_plain.specs.declared.volume.Volume.{Volume}
+use Rattle.dg_plain.specs.declared.kept.Kept.{Kept}
 use Rattle.dg_script.specs.Report.{report_line, report_text}
 use Rattle.dg_script.specs.declared.report.Report.{Report}
 use Rattle.dg_script.specs.declared.report.Report.TheVariants.{End, Kept as KeptLine}

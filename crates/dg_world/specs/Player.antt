@@ -2,8 +2,8 @@
 use Rattle.std.specs.Prelude.{◌≡◌, ◌≢◌, ◌⊎◌, ℕ, ◌<◌, ◌≤◌, ◌==◌, Bool, true, false, List, [], length, Option, Some, None, Result, Ok, Err, option_to_list}
 use Rattle.dg_words.specs.Counts.{Rose}
 use Rattle.dg_nor.specs.Device.{Device}
-use Rattle.dg_volume.specs.Store.{Stands}
-use Rattle.dg_volume.specs.declared.kept.Kept.{Kept}
+use Rattle.dg_plain.specs.Store.{Stands}
+use Rattle.dg_plain.specs.declared.kept.Kept.{Kept}
 use Rattle.dg_script.specs.Script.{UsesBoard}
 use Rattle.dg_rules.specs.World.{World, by_rules}
 use Rattle.dg_rules.specs.Played.{LineStep, LegalLine, StartsLine, AgreesAt}

@@ -1,7 +1,7 @@
 //! The last lines of a report, for which the board is read.
 ghost use Rattle.std.specs.Prelude.{◌≡◌, ◌≤◌, ◌++◌, List, Some, map, OnOk, option_to_list};
 ghost use Rattle.dg_nor.specs.Device.{Device};
-ghost use Rattle.dg_volume.specs.Mounted.{kept_at};
+ghost use Rattle.dg_plain.specs.Mounted.{kept_at};
 ghost use Rattle.dg_script.specs.Report.{report_text};
 ghost use Rattle.dg_rules.specs.World.{World, mote_line};
 ghost use Rattle.dg_world.specs.Player.{Stood};
@@ -12,7 +12,7 @@ use crate::mote::PlayStop;
 use crate::player::Player;
 use dg_nor::Nor;
 use dg_script::{Key, Report, push_report};
-use dg_volume::{MountFault, Volume};
+use dg_plain::{MountFault, Volume};
 use std::alloc::AllocError;
 
 /// Appends the line on an image, where it is kept.

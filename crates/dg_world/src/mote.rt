@@ -2,8 +2,8 @@
 ghost use Rattle.std.specs.Prelude.{◌≡◌, ◌∷◌, ◌<◌, ◌≤◌, ℕ, false, List, Option, None, Some, map, IfOk, OnOk, OnErr, IsErrOf, Err, option_to_list};
 ghost use Rattle.dg_nor.specs.Device.{Device};
 ghost use Rattle.dg_object.specs.Object.{Row, IsRow, row_of};
-ghost use Rattle.dg_volume.specs.Store.{Store, Stands, fresh, golden_row};
-ghost use Rattle.dg_volume.specs.Mounted.{IsMounted, kept_at};
+ghost use Rattle.dg_plain.specs.Store.{Store, Stands, fresh, golden_row};
+ghost use Rattle.dg_plain.specs.Mounted.{IsMounted, kept_at};
 ghost use Rattle.dg_script.specs.Script.{IsGolden, IsDeclared, FitsEvent, FitsLine, AllowedAt, declared_row, place_after};
 ghost use Rattle.dg_rules.specs.Table.{row_at};
 ghost use Rattle.dg_rules.specs.World.{World};
@@ -16,7 +16,7 @@ use crate::images::Images;
 use crate::player::Player;
 use dg_nor::{Nor, Stopped};
 use dg_script::{Cause, Event, Golden, Image, Key, Line, Place, Report};
-use dg_volume::{
+use dg_plain::{
     FormatFault, InjectFault, MountFault, OrderFault, StartFault, Started, Volume, start,
 };
 use std::alloc::AllocError;

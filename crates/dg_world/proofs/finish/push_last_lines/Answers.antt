@@ -1,5 +1,5 @@
 use Rattle.std.proofs.Common.{◌<◌, length, ap, Err}
-use Rattle.dg_volume.proofs.StoreLemmas.{tells_store}
+use Rattle.dg_plain.proofs.StoreLemmas.{tells_store}
 use Rattle.dg_world.proofs.PlayLemmas.{first_board, not_empty, stands_at}
 use Rattle.dg_world.proofs.FinishLemmas.{told_last, read_board, read_stopped, no_boards}
 use Rattle.dg_world.proofs.finish.push_last_lines.Goals as goal

@@ -1,7 +1,7 @@
 use Rattle.std.proofs.Common.{ℕ, None, List, length, ap, subst, ◌∙◌, Err}
 use Rattle.dg_object.specs.Object.{Row, pages_for}
-use Rattle.dg_volume.specs.Store.{Stands}
-use Rattle.dg_volume.specs.Changes.{injected}
+use Rattle.dg_plain.specs.Store.{Stands}
+use Rattle.dg_plain.specs.Changes.{injected}
 use Rattle.dg_script.specs.Script.{declared_row}
 use Rattle.dg_world.proofs.MoteLemmas.{inject_put, inject_stale, not_kept, never_refused, refusal_of, same_row}
 use Rattle.dg_world.proofs.mote.inject_new.Goals as goal

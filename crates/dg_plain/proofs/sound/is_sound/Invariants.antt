@@ -1,0 +1,14 @@
+use Rattle.std.proofs.Common.{◌≡◌, ◌+◌, ◌-◌, ◌*◌, true}
+use Rattle.std.specs.List.{list_all, range_with_len}
+use Rattle.dg_plain.specs.Acts.{Looked}
+use Rattle.dg_plain.specs.Pages.{page_in}
+use Rattle.dg_plain.proofs.SoundLemmas.{is_sound_at}
+use Rattle.dg_plain.proofs.sound.is_sound.Given as goal
+
+abbrev pub invariant-loop-p : goal.invariant-loop-p
+invariant-loop-p g l =
+    let old = g.N.Nor.device l.fn.nor in
+    record {
+      sound : list_all (is_sound_at (λ p. page_in old.image (69 + 66 * l.image + p))) (range_with_len 1 (l.p - 1)) ≡ true;
+      looked : Looked old (g.N.Nor.device l.nor);
+    }
