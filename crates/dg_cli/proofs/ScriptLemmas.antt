@@ -68,7 +68,7 @@ content_size word bytes h =
     image_size read.0 bytes read.2
 
 -- A name is a name.
-name_is : (word name : List ℕ) → name_of word ≡ Some name → names name ≡ true
+name_is : (word name : List ℕ) → name_of word ≡ Some name → spells_name name ≡ true
 unfolding name_of
 name_is word name h =
     let named = guarded_some (spells_name word) word name h in

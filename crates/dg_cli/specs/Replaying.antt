@@ -4,7 +4,7 @@ use Rattle.std.specs.List.{AllByRecursion, list_any}
 use Rattle.dg_base.specs.Outside.{Puts, PutsFront}
 use Rattle.dg_nor.specs.Device.{Device}
 use Rattle.dg_object.specs.Object.{Row}
-use Rattle.dg_cli.specs.Script.{Script, script_from, spelled, place_after, keys_after, UsesBoard}
+use Rattle.dg_cli.specs.Script.{Script, script_from, spelled, place_after, UsesBoard}
 use Rattle.dg_volume.specs.Mounted.{kept_at}
 use Rattle.dg_volume.specs.declared.volume.Volume.{Volume}
 use Rattle.dg_volume.specs.declared.kept.Kept.{Kept}

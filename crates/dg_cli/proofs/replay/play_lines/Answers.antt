@@ -1,4 +1,4 @@
-use Rattle.std.proofs.Common.{◌≡◌, ◌<◌, ◌≤◌, List, [], ◌∷◌, length, drop, refl, arith}
+use Rattle.std.proofs.Common.{◌≡◌, ◌<◌, ◌≤◌, [], ◌∷◌, length, drop, refl, arith}
 use Rattle.std.specs.Str.Lines.{lines}
 use Rattle.std.specs.List.{slice_range}
 use Rattle.std.proofs.lemmas.List.{at_drop_all}
