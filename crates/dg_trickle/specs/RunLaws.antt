@@ -4,14 +4,14 @@ use Rattle.std.proofs.Common.{refl, sym, ap, inl, inr, arith}
 use Rattle.std.proofs.lemmas.Bool.{cond_both, ltb-true, ltb-false, true≢false}
 use Rattle.std.proofs.lemmas.List.Elements.{Contains-append_right}
 use Rattle.dg_trickle.specs.declared.Act.TheVariants.{Send, Quiet, Expired, Nothing}
-use Rattle.dg_trickle.specs.declared.TheConstants.{SHORTEST, LONGEST, REDUNDANCY}
+use Rattle.dg_trickle.specs.declared.TheConstants.{SHORTEST, LONGEST_INTERVAL, REDUNDANCY}
 use Rattle.dg_trickle.specs.Timer.{Timer}
 use Rattle.dg_trickle.specs.Steps.{begun, after_same, after_other, after_tick, act_of, is_due, is_over, IsRunning}
 use Rattle.dg_trickle.specs.Runs.{Call, Same, Other, Tick, after, timer, Mark, Heard, Kept, noted_of, noted, current, sends, IsDoubled, DoublesOrFalls}
 
 -- ---- the bounds of an interval and of t
 
-pub IsRunning-begun : (size moment word : ℕ) → SHORTEST ≤ size → size ≤ LONGEST → IsRunning (begun size moment word)
+pub IsRunning-begun : (size moment word : ℕ) → SHORTEST ≤ size → size ≤ LONGEST_INTERVAL → IsRunning (begun size moment word)
 IsRunning-begun size moment word low high =
     let half : word % (size / 2) < size / 2 = omega arith in
     record { shortest = low; longest = high; second_half = omega arith; before_end = omega arith }
@@ -27,12 +27,12 @@ IsRunning-other s moment word r =
 pub IsRunning-tick : (s : Timer) (moment word : ℕ) → IsRunning s → IsRunning (after_tick s moment word)
 IsRunning-tick s moment word r =
     let fires : Timer = record s { fired = true } in
-    let longer : Timer = begun (min (2 * s.interval) LONGEST) moment word in
+    let longer : Timer = begun (min (2 * s.interval) LONGEST_INTERVAL) moment word in
     cond_both (is_due s moment) fires _ IsRunning
     (λ _. record { shortest = r.shortest; longest = r.longest; second_half = r.second_half; before_end = r.before_end })
     (λ _.
     cond_both (is_over s moment) longer s IsRunning
-    (λ _. IsRunning-begun (min (2 * s.interval) LONGEST) moment word (omega (arith, r.shortest)) (omega arith))
+    (λ _. IsRunning-begun (min (2 * s.interval) LONGEST_INTERVAL) moment word (omega (arith, r.shortest)) (omega arith))
     (λ _. r))
 
 pub IsRunning-after : (s : Timer) (call : Call) → IsRunning s → IsRunning (after s call)
@@ -47,7 +47,7 @@ IsRunning-timer start word (call ∷ earlier) = IsRunning-after (timer start wor
 -- ---- an interval doubles or falls
 
 -- what is twice the shortest interval, doubled k times, at most the longest
-twice : (size k : ℕ) → k ≤ 7 → size ≡ SHORTEST * 2 ^ k → (j : ℕ) × (j ≤ 7) × (min (2 * size) LONGEST ≡ SHORTEST * 2 ^ j)
+twice : (size k : ℕ) → k ≤ 7 → size ≡ SHORTEST * 2 ^ k → (j : ℕ) × (j ≤ 7) × (min (2 * size) LONGEST_INTERVAL ≡ SHORTEST * 2 ^ j)
 twice size zero h e = (1, omega arith, omega arith)
 twice size (suc zero) h e = (2, omega arith, omega arith)
 twice size (suc (suc zero)) h e = (3, omega arith, omega arith)
@@ -67,7 +67,7 @@ IsDoubled-after s (Other moment word) d =
     cond_both (nat_lt SHORTEST s.interval) _ s IsDoubled (λ _. IsDoubled-shortest moment word) (λ _. d)
 IsDoubled-after s (Tick moment word) d =
     let fires : Timer = record s { fired = true } in
-    let longer : Timer = begun (min (2 * s.interval) LONGEST) moment word in
+    let longer : Timer = begun (min (2 * s.interval) LONGEST_INTERVAL) moment word in
     cond_both (is_due s moment) fires _ IsDoubled (λ _. d) (λ _.
     cond_both (is_over s moment) longer s IsDoubled (λ _. twice s.interval d.0 d.1 d.2) (λ _. d))
 
@@ -75,7 +75,7 @@ pub IsDoubled-timer : (start word : ℕ) (calls : List Call) → IsDoubled (time
 IsDoubled-timer start word [] = IsDoubled-shortest start word
 IsDoubled-timer start word (call ∷ earlier) = IsDoubled-after (timer start word earlier) call (IsDoubled-timer start word earlier)
 
-twice_or_same : (size k : ℕ) → k ≤ 7 → size ≡ SHORTEST * 2 ^ k → (min (2 * size) LONGEST ≡ size) ⊎ (min (2 * size) LONGEST ≡ 2 * size)
+twice_or_same : (size k : ℕ) → k ≤ 7 → size ≡ SHORTEST * 2 ^ k → (min (2 * size) LONGEST_INTERVAL ≡ size) ⊎ (min (2 * size) LONGEST_INTERVAL ≡ 2 * size)
 twice_or_same size zero h e = inr (omega arith)
 twice_or_same size (suc zero) h e = inr (omega arith)
 twice_or_same size (suc (suc zero)) h e = inr (omega arith)
@@ -92,7 +92,7 @@ doubles_or_falls s (Other moment word) d =
     cond_both (nat_lt SHORTEST s.interval) _ s (DoublesOrFalls s) (λ _. inr (inr refl)) (λ _. inl refl)
 doubles_or_falls s (Tick moment word) d =
     let fires : Timer = record s { fired = true } in
-    let longer : Timer = begun (min (2 * s.interval) LONGEST) moment word in
+    let longer : Timer = begun (min (2 * s.interval) LONGEST_INTERVAL) moment word in
     cond_both (is_due s moment) fires _ (DoublesOrFalls s) (λ _. inl refl) (λ _.
     cond_both (is_over s moment) longer s (DoublesOrFalls s)
     (λ _. elim (twice_or_same s.interval d.0 d.1 d.2) [ inl e ↦ inl e | inr e ↦ inr (inl e) ])
@@ -151,7 +151,7 @@ Remembers-after : (s : Timer) (call : Call) (marks : List Mark) → Remembers s 
 Remembers-after s Same marks m = Remembers-same s marks m
 Remembers-after s (Other moment word) marks m = Remembers-other s moment word marks m
 Remembers-after s (Tick moment word) marks m =
-    Remembers-tick s (begun (min (2 * s.interval) LONGEST) moment word) marks (is_due s moment) (is_over s moment) (nat_lt s.count REDUNDANCY) (not_fired s.fired _) refl (Remembers-begun _ moment word) m
+    Remembers-tick s (begun (min (2 * s.interval) LONGEST_INTERVAL) moment word) marks (is_due s moment) (is_over s moment) (nat_lt s.count REDUNDANCY) (not_fired s.fired _) refl (Remembers-begun _ moment word) m
 
 Remembers-timer : (start word : ℕ) (calls : List Call) → Remembers (timer start word calls) (current start word calls)
 Remembers-timer start word [] = Remembers-begun SHORTEST start word

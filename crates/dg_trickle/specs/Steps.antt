@@ -2,7 +2,7 @@
 use Rattle.std.specs.Prelude.{ℕ, ◌+◌, ◌*◌, ◌/◌, ◌%◌, ◌≤◌, ◌<◌, min, Bool, true, false, not, ◌&&◌, nat_le, nat_lt, if◌then◌else◌}
 use Rattle.dg_trickle.specs.declared.Act.{Act}
 use Rattle.dg_trickle.specs.declared.Act.TheVariants.{Send, Quiet, Expired, Nothing}
-use Rattle.dg_trickle.specs.declared.TheConstants.{SHORTEST, LONGEST, REDUNDANCY}
+use Rattle.dg_trickle.specs.declared.TheConstants.{SHORTEST, LONGEST_INTERVAL, REDUNDANCY}
 use Rattle.dg_trickle.specs.Timer.{Timer}
 
 -- step 2: an interval begins, and t is drawn from its second half
@@ -34,7 +34,7 @@ act_of s moment =
 -- step 5: an interval that is over gives way to one twice as long, up to the longest
 abbrev pub after_tick : Timer → ℕ → ℕ → Timer
 after_tick s moment word =
-    if is_due s moment then record s { fired = true } else (if is_over s moment then begun (min (2 * s.interval) LONGEST) moment word else s)
+    if is_due s moment then record s { fired = true } else (if is_over s moment then begun (min (2 * s.interval) LONGEST_INTERVAL) moment word else s)
 
 -- step 6: something other is heard, and the shortest interval begins unless it runs
 abbrev pub after_other : Timer → ℕ → ℕ → Timer
@@ -43,6 +43,6 @@ after_other s moment word = if nat_lt SHORTEST s.interval then begun SHORTEST mo
 -- the interval lies within its bounds, and t in its second half
 pub record IsRunning (s : Timer) : Type 0 where
   pub shortest : SHORTEST ≤ s.interval
-  pub longest : s.interval ≤ LONGEST
+  pub longest : s.interval ≤ LONGEST_INTERVAL
   pub second_half : s.interval / 2 ≤ s.t
   pub before_end : s.t < s.interval

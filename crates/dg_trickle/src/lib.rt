@@ -15,7 +15,7 @@ use std::marker::Model;
 pub const SHORTEST: u32 = 500;
 
 /// Imax, the longest interval, in milliseconds: the shortest, doubled seven times.
-pub const LONGEST: u32 = 64_000;
+pub const LONGEST_INTERVAL: u32 = 64_000;
 
 /// k, the redundancy constant: a timer sends where it heard fewer equal transmissions.
 pub const REDUNDANCY: u16 = 1;
@@ -126,7 +126,7 @@ impl Trickle {
         if now < self.begin + u64::from(self.interval) {
             return Act::Nothing;
         }
-        let longer = (2 * self.interval).min(LONGEST);
+        let longer = (2 * self.interval).min(LONGEST_INTERVAL);
         *self = Self::begin(longer, now, word);
         Act::Expired
     }
@@ -134,7 +134,7 @@ impl Trickle {
     // An interval begins. The moment from which on it may fire is drawn from its second half.
     fn begin(interval: u32, now: u64, word: u32) -> Self
         requires shortest { SHORTEST ≤ interval }
-        requires longest { interval ≤ LONGEST }
+        requires longest { interval ≤ LONGEST_INTERVAL }
         requires moment { now < 2 ^ 62 }
         ensures value { result ≡ begun interval now word }
         ensures running { IsRunning result }
