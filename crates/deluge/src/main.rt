@@ -5,14 +5,36 @@ use dg_base::{Status, StdSink, StdSource};
 use dg_cli::run;
 use dg_nor::Board;
 use std::env;
+use std::env::Args;
+use std::io::ErrorKind;
 use std::process::ExitCode;
+
+/// What is handed on in place of words of which one is not UTF-8. It is no command.
+const NOT_TEXT: &str = "\u{fffd}";
 
 /// The words after the program's name. None where memory runs out.
 fn words(rt: &HostRuntime) -> Option<Vec<String>> {
+    match env::args(rt) {
+        Ok(args) => after_name(rt, args),
+        Err(error) if error.kind() == ErrorKind::InvalidData => no_command(rt),
+        Err(_) => None,
+    }
+}
+
+/// All words but the first.
+fn after_name(rt: &HostRuntime, args: Args) -> Option<Vec<String>> {
     let mut words = Vec::new(rt.alloc());
-    for word in env::args(rt).ok()?.skip(1) {
+    for word in args.skip(1) {
         words.push(word).ok()?;
     }
+    Some(words)
+}
+
+/// Words that are no command.
+fn no_command(rt: &HostRuntime) -> Option<Vec<String>> {
+    let mut words = Vec::new(rt.alloc());
+    let word = String::from_str(rt.alloc(), NOT_TEXT).ok()?;
+    words.push(word).ok()?;
     Some(words)
 }
 

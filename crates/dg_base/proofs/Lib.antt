@@ -1,3 +1,4 @@
+mod ClockLemmas
 pub mod CrcLemmas
 pub mod HexLemmas
 pub mod LineLemmas

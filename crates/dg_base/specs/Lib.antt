@@ -1,4 +1,6 @@
+pub mod Clock
 pub mod Crc
+pub mod Faults
 pub mod Hexadecimal
 pub mod Memory
 pub mod Numbers

@@ -4,6 +4,8 @@ ghost use Rattle.std.specs.Bool.{OnTrue, OnFalse};
 ghost use Rattle.dg_base.specs.Hexadecimal.{hex_bytes, hex_digit, hex_text, hex_value, is_hex_digit};
 
 use std::alloc::{AllocError, Global};
+use std::error::Error;
+use std::fmt;
 
 /// Why digits could not be read as bytes.
 #[derive(Clone, Copy, PartialEq, Eq, Debug)]
@@ -15,6 +17,23 @@ pub enum HexFault {
     /// Memory ran out.
     Memory,
 }
+
+impl fmt::Display for HexFault {
+    ghost use Rattle.std.specs.Prelude.{Some};
+    ghost use Rattle.dg_base.specs.Faults.{hex_fault_text};
+
+    ghost output = { λ fault. Some (hex_fault_text fault) };
+
+    fn fmt<W: fmt::Write>(&self, f: &mut fmt::Formatter<W>) -> fmt::Result {
+        match self {
+            HexFault::Odd => f.write_str("an odd number of hex digits"),
+            HexFault::Digit => f.write_str("a byte that is no hex digit"),
+            HexFault::Memory => f.write_str("out of memory"),
+        }
+    }
+}
+
+impl Error for HexFault {}
 
 impl From<AllocError> for HexFault {
     ghost use Rattle.std.specs.Prelude.{◌≡◌};
@@ -48,7 +67,8 @@ static VALUES: [u8; 256] = [
 // The lower case digits.
 static DIGITS: [u8; 16] = *b"0123456789abcdef";
 
-/// The bytes that pairs of hex digits of either case write.
+/// The bytes that pairs of hex digits of either case write. The number of digits is looked at first, so an odd
+/// one is told also where memory is wanting.
 pub fn parse_hex(alloc: Global, digits: &[u8]) -> Result<Vec<u8>, HexFault>
     ensures ok { IfOk result (λ bytes. hex_bytes digits.now ≡ Some bytes.items) }
     ensures odd { result ≡ Err HexFault.Odd ↔ (length digits.now % 2 ≡ 1) }

@@ -1,18 +1,41 @@
 //! Where bytes come from and go to.
 //!
-//! Each trait counts its faults. The count never falls, a call answers its failure only where the
-//! count rose in that call, and at the end of a `u64` the count stands still.
-ghost use Rattle.std.specs.Prelude.{◌≡◌, ℕ, Option, ◌<◌, ◌≤◌, List, length, take, Ok, IfOk, OnOk, OnErr, MatchResult};
+//! Each trait counts its faults. A call answers its failure only where the count rose in that call,
+//! and a call that answers Ok leaves the count as it is. At the end of a `u64` the count stands still.
+ghost use Rattle.std.specs.Prelude.{◌≡◌, ℕ, Option, ◌<◌, ◌≤◌, List, length, take, Ok, Some, IfOk, OnOk, OnErr, MatchResult, codes};
 ghost use Rattle.dg_words.specs.Counts.{Rose};
 ghost use Rattle.dg_base.specs.Outside.{Takes, Puts, PutsFront, AtEnd};
+
+use std::error::Error;
+use std::fmt;
 
 /// A read failed. No byte was taken.
 #[derive(Clone, Copy, PartialEq, Eq, Debug)]
 pub struct ReadFailed;
 
+impl fmt::Display for ReadFailed {
+    ghost output = { λ _. Some (codes "a read failed") };
+
+    fn fmt<W: fmt::Write>(&self, f: &mut fmt::Formatter<W>) -> fmt::Result {
+        f.write_str("a read failed")
+    }
+}
+
+impl Error for ReadFailed {}
+
 /// A write failed. Some front of the piece, maybe none of it, was written.
 #[derive(Clone, Copy, PartialEq, Eq, Debug)]
 pub struct WriteFailed;
+
+impl fmt::Display for WriteFailed {
+    ghost output = { λ _. Some (codes "a write failed") };
+
+    fn fmt<W: fmt::Write>(&self, f: &mut fmt::Formatter<W>) -> fmt::Result {
+        f.write_str("a write failed")
+    }
+}
+
+impl Error for WriteFailed {}
 
 /// An input of bytes.
 pub trait Source {
@@ -31,7 +54,8 @@ pub trait Source {
             (λ _. left self.new ≡ left self.old) }
         ensures end { result ≡ Ok 0 → AtEnd (left self.old) }
         ensures counts { faults self.old ≤ faults self.new }
-        ensures failed { OnErr result (Rose (faults self.old) (faults self.new)) };
+        ensures failed { OnErr result (Rose (faults self.old) (faults self.new)) }
+        ensures unfailed { OnOk result (faults self.new ≡ faults self.old) };
 }
 
 /// An output of bytes.
@@ -47,5 +71,6 @@ pub trait Sink {
         ensures ok { OnOk result (Puts (written self.old) (written self.new) bytes.now) }
         ensures err { OnErr result (PutsFront (written self.old) (written self.new) bytes.now) }
         ensures counts { faults self.old ≤ faults self.new }
-        ensures failed { OnErr result (Rose (faults self.old) (faults self.new)) };
+        ensures failed { OnErr result (Rose (faults self.old) (faults self.new)) }
+        ensures unfailed { OnOk result (faults self.new ≡ faults self.old) };
 }

@@ -155,3 +155,55 @@ fn over_fakes(rt: HostRuntime) {
     assert_eq!(rt; sink.write(b"d"), Err(WriteFailed));
     assert_eq!(rt; sink.write(b""), Ok(()));
 }
+
+#[test]
+fn clock_in_memory(rt: HostRuntime) {
+    let mut clock = StepClock::new(250);
+    for answer in [0, 250, 500] {
+        assert_eq!(rt; clock.read(), answer);
+    }
+    let mut far = StepClock::new(18_446_744_073_709_551_610);
+    for answer in [
+        0,
+        18_446_744_073_709_551_610,
+        18_446_744_073_709_551_615,
+        18_446_744_073_709_551_615,
+    ] {
+        assert_eq!(rt; far.read(), answer);
+    }
+}
+
+#[test]
+fn events(rt: HostRuntime) -> Result<(), Fail> {
+    let frame = FrameBytes::new(b"\x01\x02");
+    assert_eq!(rt; frame.as_slice(), b"\x01\x02".as_slice());
+    let step = Step {
+        event: Event::Frame {
+            mote: 0,
+            dt: 16,
+            word: 7,
+            bytes: frame,
+        },
+        cut: Some(Cut {
+            after: 1,
+            mask: Bytes::new(vec![in rt.alloc(); 0x55]?),
+        }),
+    };
+    let mask = step.cut.as_ref().map(|cut| cut.mask.as_slice());
+    assert_eq!(rt; mask, Some(b"\x55".as_slice()));
+    let mut pairs = Pairs::new(Vec::new(rt.alloc()));
+    pairs.push((0, 1))?;
+    pairs.push((3, 2))?;
+    assert_eq!(rt; pairs.as_slice(), [(0, 1), (3, 2)].as_slice());
+    let key = Key {
+        image: 1,
+        version: 2,
+    };
+    assert!(rt;
+        key < Key {
+            image: 2,
+            version: 1
+        }
+    );
+    Ok(())
+}

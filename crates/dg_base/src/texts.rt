@@ -68,7 +68,7 @@ fn is_name_byte(byte: u8) -> bool
 }
 
 /// Bytes that contracts see as their list.
-#[derive(Drop)]
+#[derive(Debug, Drop)]
 pub struct Bytes {
     bytes: Vec<u8>,
 }

@@ -131,7 +131,7 @@ impl Trickle {
         Act::Expired
     }
 
-    // An interval begins, and fires at a random moment of its second half.
+    // An interval begins. The moment from which on it may fire is drawn from its second half.
     fn begin(interval: u32, now: u64, word: u32) -> Self
         requires shortest { SHORTEST ≤ interval }
         requires longest { interval ≤ LONGEST }

@@ -1,0 +1,22 @@
+-- What a clock tells of its answers.
+use Rattle.std.specs.Prelude.{◌≡◌, ℕ, zero, suc, ◌+◌, ◌-◌, ◌^◌, min, Option, Some, None}
+
+-- the next answer, and by how much each further one is greater
+pub record Answers : Type 0 where
+  pub next : ℕ
+  pub step : ℕ
+
+-- the answers behind the next one: they rise up to the greatest u64, and stay there
+abbrev pub behind : Answers → Answers
+behind a = record { next = min (a.next + a.step) (2 ^ 64 - 1); step = a.step }
+
+-- the answers behind the first n
+unfoldable pub behind_all : ℕ → Answers → Answers
+behind_all zero a = a
+behind_all (suc n) a = behind (behind_all n a)
+
+-- Where the answers are told, this one was next, and those behind it are told from then on. Where they are not, they
+-- are not told then either.
+abbrev pub Answered : Option Answers → Option Answers → ℕ → Type 0
+Answered None after answer = after ≡ None
+Answered (Some told) after answer = (answer ≡ told.next) × (after ≡ Some (behind told))
