@@ -18,8 +18,6 @@ use dg_control::Order;
 pub use laws::{one_reading, one_spelling};
 pub use ranges::in_range;
 pub use reading::read;
-use std::error::Error;
-use std::fmt;
 pub use writing::write;
 
 /// The most bytes of a frame.
@@ -93,20 +91,6 @@ pub enum FrameFault {
     /// A field is out of its range.
     Range,
 }
-
-impl fmt::Display for FrameFault {
-    fn fmt<W: fmt::Write>(&self, f: &mut fmt::Formatter<W>) -> fmt::Result {
-        match self {
-            FrameFault::Short => f.write_str("the frame is too short"),
-            FrameFault::Kind => f.write_str("no kind of frame has this number"),
-            FrameFault::Length => f.write_str("frames of this kind have another length"),
-            FrameFault::Check => f.write_str("the CRC of the frame differs"),
-            FrameFault::Range => f.write_str("a field of the frame is out of its range"),
-        }
-    }
-}
-
-impl Error for FrameFault {}
 
 #[cfg(test)]
 mod tests;

@@ -1,0 +1,3 @@
+pub mod RoundLemmas
+pub mod SweepLemmas
+pub mod WayLemmas

@@ -1,0 +1,4 @@
+pub mod Rounds
+pub mod Left
+pub mod Ways
+pub mod Marks

@@ -1,0 +1,33 @@
+-- Rounds and sweeps as lists of events.
+use Rattle.std.specs.Prelude.{ℕ, zero, suc, List, [], ◌∷◌, ◌++◌, replicate}
+use Rattle.std.specs.List.{flat_map}
+use Rattle.dg_base.specs.declared.events.Event.{Event}
+use Rattle.dg_base.specs.declared.events.Event.TheVariants.{Tick, Last}
+
+-- the milliseconds between the ticks of a round. They are more than any window of a mote
+abbrev pub pace : ℕ
+pace = 131072
+
+-- these events n times
+unfoldable pub times : {A : Type 0} → ℕ → List A → List A
+times zero xs = []
+times (suc n) xs = xs ++ times n xs
+
+abbrev pub paced : ℕ → Event
+paced m = Tick m pace 0
+
+abbrev pub passed : (from to : ℕ) → Event
+passed from to = Last from to 0 0
+
+-- Both motes come to rest. Then a tells b what it has, b asks a, and a sends the 48 packets of a page.
+unfoldable pub round : (a b : ℕ) → List Event
+round a b =
+    replicate 50 (paced a) ++ (replicate 50 (paced b) ++ (replicate 3 (paced a) ++ (passed a b ∷ paced b ∷ passed b a
+    ∷ times 48 (paced a ∷ passed a b ∷ []))))
+
+-- the rounds of a sweep: for each link one from its first mote to its second, and one back
+abbrev pub rounds_of : List (ℕ × ℕ) → List (ℕ × ℕ)
+rounds_of links = flat_map (λ l. (l.0, l.1) ∷ (l.1, l.0) ∷ []) links
+
+unfoldable pub sweep : List (ℕ × ℕ) → List Event
+sweep links = flat_map (λ r. round r.0 r.1) (rounds_of links)

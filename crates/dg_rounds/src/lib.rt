@@ -1,0 +1,16 @@
+//! Rounds and sweeps over the links of a network, and how many of them are enough.
+//!
+//! In a round two motes come to rest, the first tells the second what it has, the second asks for a page, and
+//! the first sends it. A sweep has for each link a round in both directions.
+#![tactic(auto)]
+
+mod distances;
+mod rounds;
+mod sweeps;
+
+pub use distances::{enough, levels};
+pub use rounds::{ROUND_EVENTS, RoundEvents, round};
+pub use sweeps::{SweepEvents, sweep};
+
+#[cfg(test)]
+mod tests;
