@@ -79,10 +79,10 @@ head_name is = ap (λ (xs : List ℕ). drop 12 xs) is.spelled
 pub head_tag : {h : List ℕ} {d : Details} → IsHead h d → HasTag h
 head_tag is = record { first = ap (λ (xs : List ℕ). get_or xs 0 0) is.spelled; second = ap (λ (xs : List ℕ). get_or xs 1 0) is.spelled }
 
-abbrev made : (image version pages length : ℕ) → List ℕ → Details
+abbrev pub made : (image version pages length : ℕ) → List ℕ → Details
 made i v p l n = record { image = i; version = v; pages = p; length = l; name = n }
 
-same_details : (d e : Details) → d.image ≡ e.image → d.version ≡ e.version → d.pages ≡ e.pages → d.length ≡ e.length → d.name ≡ e.name → d ≡ e
+pub same_details : (d e : Details) → d.image ≡ e.image → d.version ≡ e.version → d.pages ≡ e.pages → d.length ≡ e.length → d.name ≡ e.name → d ≡ e
 same_details d e i v p l n =
     ap (λ x. made x d.version d.pages d.length d.name) i
     ∙ ap (λ x. made e.image x d.pages d.length d.name) v

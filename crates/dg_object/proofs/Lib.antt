@@ -3,3 +3,4 @@ pub mod NameLemmas
 pub mod HeadLemmas
 pub mod RestLemmas
 pub mod RowLemmas
+pub mod TestedLemmas

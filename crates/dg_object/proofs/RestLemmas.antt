@@ -1,9 +1,13 @@
 -- What stands in a page behind its CRCs, looked at whole or in pieces.
-use Rattle.std.proofs.Common.{◌≡◌, ℕ, ◌+◌, ◌-◌, ◌*◌, ◌<◌, ◌≤◌, min, List, ◌++◌, length, take, drop, get_or, sym, ap, ◌∙◌, subst, arith, length-drop, length-take, get_or-drop, get_or-take, length-append, inl, inr}
+use Rattle.std.proofs.Common.{◌≡◌, ℕ, ◌+◌, ◌-◌, ◌*◌, ◌<◌, ◌≤◌, min, Bool, IsTrue, Decides, eqb, List, ◌++◌, length, take, drop, replicate, get_or, sym, ap, ◌∙◌, subst, arith, length-drop, length-take, get_or-drop, get_or-take, length-append, inl, inr}
+use Rattle.std.specs.Cmp.Lexicographic.{pointwise}
+use Rattle.std.proofs.lemmas.Bool.Decides.{Decides-eqb}
+use Rattle.std.proofs.lemmas.Slice.Eq.{slice_eq-Decides}
 use Rattle.std.proofs.lemmas.Bool.{cases_lt}
-use Rattle.std.proofs.lemmas.List.{take_rest, take_all, get_or_append_left, get_or-append-add}
+use Rattle.std.proofs.lemmas.List.{take_rest, take_all, get_or_append_left, get_or-append-add, get_or-replicate, length-replicate, length-take-le, ext_get_or}
 use Rattle.dg_words.specs.Cells.{part}
 use Rattle.dg_words.proofs.CellLemmas.{part-append-part, length-part}
+use Rattle.dg_object.specs.Sizes.{page_size}
 use Rattle.dg_object.specs.Descriptor.{RestFits, HasTag, IsHead, IsDescriptor, Details}
 
 -- what a piece has from place m on
@@ -67,15 +71,15 @@ pub RestFits-behind_head : (pages : ℕ) (page : List ℕ) → RestFits pages 0 
 RestFits-behind_head pages page fits j low past =
     get_or-drop 28 page j 0 ∙ fits (28 + j) (omega (arith, length-drop 28 page)) (omega arith)
 
-behind_head : (page : List ℕ) → length page ≡ 1104 → take 1076 (drop 28 page) ≡ drop 28 page
+behind_head : (page : List ℕ) → length page ≡ page_size → take 1076 (drop 28 page) ≡ drop 28 page
 behind_head page len = take_all 1076 (drop 28 page) (omega (arith, length-drop 28 page))
 
 -- a page whose head is read and whose rest fits is a descriptor, and no other page is
-pub descriptor_from_parts : (page : List ℕ) (d : Details) → length page ≡ 1104 → IsHead (take 28 page) d → RestFits d.pages 28 (take 1076 (drop 28 page)) → IsDescriptor page d
+pub descriptor_from_parts : (page : List ℕ) (d : Details) → length page ≡ page_size → IsHead (take 28 page) d → RestFits d.pages 28 (take 1076 (drop 28 page)) → IsDescriptor page d
 descriptor_from_parts page d len head rest =
     record { head = head; rest = RestFits-head d.pages page (let P : List ℕ → Type 0 = λ xs. RestFits d.pages 28 xs in subst P (behind_head page len) rest) }
 
-pub rest_of_descriptor : (page : List ℕ) (d : Details) → length page ≡ 1104 → IsDescriptor page d → RestFits d.pages 28 (take 1076 (drop 28 page))
+pub rest_of_descriptor : (page : List ℕ) (d : Details) → length page ≡ page_size → IsDescriptor page d → RestFits d.pages 28 (take 1076 (drop 28 page))
 rest_of_descriptor page d len is =
     let P : List ℕ → Type 0 = λ xs. RestFits d.pages 28 xs in
     subst P (sym (behind_head page len)) (RestFits-behind_head d.pages page is.rest)
@@ -95,7 +99,7 @@ RestFits-more pages page at m n within front back =
     (RestFits-append pages at (part page at m) (part page (at + m) n) front (subst Behind (sym (length-part page at m (omega arith))) back))
 
 -- all pieces behind the head, and the head
-pub descriptor_from_pieces : (page : List ℕ) (d : Details) → length page ≡ 1104 → IsHead (part page 0 28) d → RestFits d.pages 28 (part page 28 1076) → IsDescriptor page d
+pub descriptor_from_pieces : (page : List ℕ) (d : Details) → length page ≡ page_size → IsHead (part page 0 28) d → RestFits d.pages 28 (part page 28 1076) → IsDescriptor page d
 unfolding part
 descriptor_from_pieces page d len head rest = descriptor_from_parts page d len head rest
 
@@ -107,3 +111,47 @@ pieces_of_descriptor page d at n is k low past = RestFits-part d.pages 0 at n pa
 pub head_of_descriptor : (page : List ℕ) (d : Details) → IsDescriptor page d → IsHead (part page 0 28) d
 unfolding part
 head_of_descriptor page d is = is.head
+
+-- ---- bytes that are compared with the filling
+
+-- a piece that is compared with as many bytes of the filling
+pub piece_is_filling : (n : ℕ) (piece : List ℕ) (r : Bool) → length piece ≤ n → r ≡ pointwise eqb piece (take (length piece) (replicate n 255))
+    → (IsTrue r → (i : ℕ) → i < length piece → get_or piece i 0 ≡ 255) × (((i : ℕ) → i < length piece → get_or piece i 0 ≡ 255) → IsTrue r)
+piece_is_filling n piece r fits e = (
+  λ yes i low. ap (λ (xs : List ℕ). get_or xs i 0) (decides.0 yes) ∙ at_filling i low,
+  λ each. decides.1 (ext_get_or 0 piece filling (sym (length-take-le (length piece) (replicate n 255) (omega (arith, length-replicate {A = ℕ} n 255)))) (λ i low. each i low ∙ sym (at_filling i low))),
+)
+  where
+    filling : List ℕ
+    filling = take (length piece) (replicate n 255)
+
+    at_filling : (i : ℕ) → i < length piece → get_or filling i 0 ≡ 255
+    at_filling i low = get_or-take (length piece) (replicate n 255) i 0 low ∙ get_or-replicate n i 255 0 (omega arith)
+
+    decides : Decides r (piece ≡ filling)
+    decides = slice_eq-Decides Decides-eqb piece filling r e
+
+-- what is filled up to a place, and in the piece behind it
+pub more_is_filled : (bytes : List ℕ) (at n : ℕ) → at + n ≤ length bytes → ((k : ℕ) → k < at → get_or bytes k 0 ≡ 255)
+    → ((i : ℕ) → i < length (take (at + n - at) (drop at bytes)) → get_or (take (at + n - at) (drop at bytes)) i 0 ≡ 255)
+    → (k : ℕ) → k < at + n → get_or bytes k 0 ≡ 255
+more_is_filled bytes at n fits front piece k low =
+    elim (cases_lt k at) [
+      | inl early ↦ front k early
+      | inr late ↦
+          ap (λ (j : ℕ). get_or bytes j 0) (place late)
+          ∙ sym (get_or-drop at bytes (k - at) 0)
+          ∙ sym (get_or-take (at + n - at) (drop at bytes) (k - at) 0 (omega arith))
+          ∙ piece (k - at) (omega (arith, length-take (at + n - at) (drop at bytes), length-drop at bytes))
+    ]
+  where
+    place : at ≤ k → k ≡ at + (k - at)
+    place late = omega arith
+
+-- a piece of what is filled
+pub piece_of_filled : (bytes : List ℕ) (at n i : ℕ) → ((k : ℕ) → k < length bytes → get_or bytes k 0 ≡ 255)
+    → i < length (take (at + n - at) (drop at bytes)) → get_or (take (at + n - at) (drop at bytes)) i 0 ≡ 255
+piece_of_filled bytes at n i each low =
+    get_or-take (at + n - at) (drop at bytes) i 0 (omega (arith, length-take (at + n - at) (drop at bytes)))
+    ∙ get_or-drop at bytes i 0
+    ∙ each (at + i) (omega (arith, length-take (at + n - at) (drop at bytes), length-drop at bytes))

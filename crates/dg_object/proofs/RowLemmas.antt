@@ -10,6 +10,7 @@ use Rattle.dg_words.proofs.ListLemmas.{length-padded, take-padded_front, joined_
 use Rattle.dg_words.proofs.ByteLemmas.{AreBytes-cons, AreBytes-append, AreBytes-take, AreBytes-drop, AreBytes-padded, AreBytes-flat_map, AreBytes-high_first, All-from_AreBytes}
 use Rattle.dg_base.specs.Crc.{crc_of}
 use Rattle.dg_base.proofs.CrcLemmas.{crc_more-lt}
+use Rattle.dg_object.specs.Sizes.{most_bytes, most_pages, page_size}
 use Rattle.dg_object.specs.Object.{Row, IsRow, pages_for, data_page, head_of, page_crcs, descriptor_page, page_of_row, object, content}
 use Rattle.dg_object.specs.Descriptor.{IsDescriptor, details, crc_in}
 use Rattle.dg_object.proofs.NameLemmas.{names-fits, names-bytes}
@@ -19,19 +20,19 @@ use Rattle.dg_object.proofs.PageLemmas.{length-head_of, length-descriptor, page_
 pub pages_for-some : (len : ℕ) → 1 ≤ len → 2 ≤ pages_for len
 pages_for-some len h = omega arith
 
-pub pages_for-most : (len : ℕ) → len ≤ 70656 → pages_for len ≤ 65
+pub pages_for-most : (len : ℕ) → len ≤ most_bytes → pages_for len ≤ most_pages
 pages_for-most len h = omega arith
 
 -- the data pages have room for the image
-pub pages_for-room : (len : ℕ) → len ≤ (pages_for len - 1) * 1104
+pub pages_for-room : (len : ℕ) → len ≤ (pages_for len - 1) * page_size
 pages_for-room len = omega arith
 
 -- a data page
-pub length-data_page : (bytes : List ℕ) (p : ℕ) → length (data_page bytes p) ≡ 1104
-length-data_page bytes p = length-padded 1104 255 (take 1104 (drop ((p - 1) * 1104) bytes)) (omega (arith, length-take 1104 (drop ((p - 1) * 1104) bytes)))
+pub length-data_page : (bytes : List ℕ) (p : ℕ) → length (data_page bytes p) ≡ page_size
+length-data_page bytes p = length-padded page_size 255 (take page_size (drop ((p - 1) * page_size) bytes)) (omega (arith, length-take page_size (drop ((p - 1) * page_size) bytes)))
 
 pub AreBytes-data_page : (bytes : List ℕ) (p : ℕ) → AreBytes bytes → AreBytes (data_page bytes p)
-AreBytes-data_page bytes p h = AreBytes-padded 1104 255 _ (omega arith) (AreBytes-take 1104 _ (AreBytes-drop ((p - 1) * 1104) bytes h))
+AreBytes-data_page bytes p h = AreBytes-padded page_size 255 _ (omega arith) (AreBytes-take page_size _ (AreBytes-drop ((p - 1) * page_size) bytes h))
 
 pub crc_of-small : (bytes : List ℕ) → AreBytes bytes → crc_of bytes < 2 ^ 16
 crc_of-small bytes h = crc_more-lt 0 bytes (omega arith) (All-from_AreBytes bytes h)
@@ -40,12 +41,12 @@ crc_of-small bytes h = crc_more-lt 0 bytes (omega arith) (All-from_AreBytes byte
 filled_to : (row : Row) → IsRow row → length (head_of row.image (pages_for (length row.bytes)) row.version (length row.bytes) row.name ++ page_crcs row.bytes) ≡ 28 + 2 * (pages_for (length row.bytes) - 1)
 filled_to row is = length-descriptor row.image (pages_for (length row.bytes)) row.version (length row.bytes) (pages_for (length row.bytes) - 1) row.name row.bytes (names-fits row.name is.name)
 
-pub length-descriptor_page : (row : Row) → IsRow row → length (descriptor_page row) ≡ 1104
-length-descriptor_page row is = length-padded 1104 255 (head_of row.image (pages_for (length row.bytes)) row.version (length row.bytes) row.name ++ page_crcs row.bytes) (omega (arith, filled_to row is, pages_for-most (length row.bytes) is.fits))
+pub length-descriptor_page : (row : Row) → IsRow row → length (descriptor_page row) ≡ page_size
+length-descriptor_page row is = length-padded page_size 255 (head_of row.image (pages_for (length row.bytes)) row.version (length row.bytes) row.name ++ page_crcs row.bytes) (omega (arith, filled_to row is, pages_for-most (length row.bytes) is.fits))
 
 pub AreBytes-descriptor_page : (row : Row) → IsRow row → AreBytes (descriptor_page row)
 AreBytes-descriptor_page row is =
-    AreBytes-padded 1104 255 (head_of row.image (pages_for (length row.bytes)) row.version (length row.bytes) row.name ++ page_crcs row.bytes) (omega arith)
+    AreBytes-padded page_size 255 (head_of row.image (pages_for (length row.bytes)) row.version (length row.bytes) row.name ++ page_crcs row.bytes) (omega arith)
     (AreBytes-append (head_of row.image (pages_for (length row.bytes)) row.version (length row.bytes) row.name) (page_crcs row.bytes) head crcs)
   where
     numbers : AreBytes (68 ∷ 71 ∷ row.image ∷ pages_for (length row.bytes) ∷ to_be_bytes w32 row.version)
@@ -71,11 +72,11 @@ descriptor_of_row row is =
     record {
       head = record {
         spelled =
-            take-padded_front 1104 255 28 (head ++ page_crcs row.bytes) (omega (arith, filled_to row is))
+            take-padded_front page_size 255 28 (head ++ page_crcs row.bytes) (omega (arith, filled_to row is))
             ∙ take_at head (page_crcs row.bytes) 28 (length-head_of row.image (pages_for (length row.bytes)) row.version (length row.bytes) row.name (names-fits row.name is.name));
         range = record { image = is.image; version = is.version; version_fits = is.version_fits; some = is.some; fits = is.fits; pages = refl; name = is.name };
       };
-      rest = λ k low past. get_or-padded_behind 1104 255 k 0 (head ++ page_crcs row.bytes) (omega (arith, filled_to row is)) (omega (arith, length-descriptor_page row is));
+      rest = λ k low past. get_or-padded_behind page_size 255 k 0 (head ++ page_crcs row.bytes) (omega (arith, filled_to row is)) (omega (arith, length-descriptor_page row is));
     }
   where
     head : List ℕ
@@ -104,7 +105,7 @@ from_halves n h = omega arith
 -- what stands in a descriptor among the CRCs
 crc_cell : (row : Row) (k j : ℕ) → IsRow row → k ≡ 28 + j → j < 2 * (pages_for (length row.bytes) - 1) → get_or (descriptor_page row) k 0 ≡ get_or (page_crcs row.bytes) j 0
 crc_cell row k j is e low =
-    get_or-padded_front 1104 255 k 0 (head ++ page_crcs row.bytes) (omega (arith, filled_to row is))
+    get_or-padded_front page_size 255 k 0 (head ++ page_crcs row.bytes) (omega (arith, filled_to row is))
     ∙ get_or-append_right head (page_crcs row.bytes) 28 k 0 (length-head_of row.image (pages_for (length row.bytes)) row.version (length row.bytes) row.name (names-fits row.name is.name)) (omega arith)
     ∙ ap (λ i. get_or (page_crcs row.bytes) i 0) place
   where
@@ -136,7 +137,7 @@ pub content-object : (row : Row) → content (length row.bytes) (object row) ≡
 content-object row =
     ap (λ n. take (length row.bytes) (joined (drop 1 (map (page_of_row row) (range_with_len 0 n))))) count
     ∙ ap (λ n. take n (joined (map (page_of_row row) (range_with_len 1 (pages_for (length row.bytes) - 1))))) (sym (sub-zero (length row.bytes)))
-    ∙ joined_chunks 1104 255 (page_of_row row) row.bytes 1 (pages_for (length row.bytes) - 1) (λ p low. page_of_row-data row p low) (omega arith) (omega (arith, pages_for-room (length row.bytes)))
+    ∙ joined_chunks page_size 255 (page_of_row row) row.bytes 1 (pages_for (length row.bytes) - 1) (λ p low. page_of_row-data row p low) (omega arith) (omega (arith, pages_for-room (length row.bytes)))
   where
     count : pages_for (length row.bytes) ≡ suc (pages_for (length row.bytes) - 1)
     count = omega arith
@@ -147,7 +148,7 @@ length-object row = length-tabulate (pages_for (length row.bytes)) (page_of_row 
 pub get_or-object : (row : Row) (p : ℕ) (d : List ℕ) → p < pages_for (length row.bytes) → get_or (object row) p d ≡ page_of_row row p
 get_or-object row p d low = get_or-tabulate (pages_for (length row.bytes)) p (page_of_row row) d low
 
-pub length-page_of_row : (row : Row) (p : ℕ) → IsRow row → length (page_of_row row p) ≡ 1104
+pub length-page_of_row : (row : Row) (p : ℕ) → IsRow row → length (page_of_row row p) ≡ page_size
 unfolding page_of_row
 length-page_of_row row zero is = length-descriptor_page row is
 length-page_of_row row (suc k) is = length-data_page row.bytes (suc k)

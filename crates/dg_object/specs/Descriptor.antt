@@ -1,6 +1,7 @@
 -- What a page says as a descriptor.
 use Rattle.std.specs.Prelude.{◌≡◌, ℕ, ◌+◌, ◌-◌, ◌*◌, ◌^◌, ◌<◌, ◌≤◌, IsTrue, List, length, take, slice_index}
 use Rattle.dg_base.specs.Texts.{spells_name}
+use Rattle.dg_object.specs.Sizes.{most_bytes, slots, head_size}
 use Rattle.dg_object.specs.Object.{Row, head_of, pages_for}
 
 -- the fields of a descriptor
@@ -18,26 +19,30 @@ pub record HasTag (head : List ℕ) : Type 0 where
 
 -- each field is in its range
 pub record IsInRange (d : Details) : Type 0 where
-  pub image : d.image ≤ 3
+  pub image : d.image < slots
   pub version : 1 ≤ d.version
   pub version_fits : d.version < 2 ^ 32
   pub some : 1 ≤ d.length
-  pub fits : d.length ≤ 70656
+  pub fits : d.length ≤ most_bytes
   pub pages : d.pages ≡ pages_for d.length
   pub name : IsTrue (spells_name d.name)
 
--- 28 bytes spell these fields, which are in their ranges
+-- the bytes spell these fields, which are in their ranges
 pub record IsHead (head : List ℕ) (d : Details) : Type 0 where
   pub spelled : head ≡ head_of d.image d.pages d.version d.length d.name
   pub range : IsInRange d
 
+-- where the CRCs of the data pages end, two bytes each
+abbrev pub crcs_end : ℕ → ℕ
+crcs_end pages = head_size + 2 * (pages - 1)
+
 -- the bytes that stand at `at` of a page are 0xFF wherever they are past the CRC of the last page
 abbrev pub RestFits : ℕ → ℕ → List ℕ → Type 0
-RestFits pages at piece = (k : ℕ) → k < length piece → 28 + 2 * (pages - 1) ≤ at + k → slice_index piece k ≡ 255
+RestFits pages at piece = (k : ℕ) → k < length piece → crcs_end pages ≤ at + k → slice_index piece k ≡ 255
 
--- a page of 1,104 bytes is a descriptor of these fields
+-- a page is a descriptor of these fields
 pub record IsDescriptor (page : List ℕ) (d : Details) : Type 0 where
-  pub head : IsHead (take 28 page) d
+  pub head : IsHead (take head_size page) d
   pub rest : RestFits d.pages 0 page
 
 -- what the descriptor of a row says
@@ -47,3 +52,7 @@ details row = record { image = row.image; version = row.version; pages = pages_f
 -- the CRC that a descriptor keeps of data page p
 abbrev pub crc_in : List ℕ → ℕ → ℕ
 crc_in page p = 256 * slice_index page (26 + 2 * p) + slice_index page (27 + 2 * p)
+
+-- a page is the descriptor of that image and version, with that many pages
+abbrev pub Describes : List ℕ → (image version pages : ℕ) → Type 0
+Describes page image version pages = (d : Details) × IsDescriptor page d × (d.image ≡ image) × (d.version ≡ version) × (d.pages ≡ pages)

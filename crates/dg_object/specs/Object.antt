@@ -6,6 +6,7 @@ use Rattle.dg_words.specs.Cells.{AreBytes}
 use Rattle.dg_words.specs.Lists.{tabulate, padded, joined}
 use Rattle.dg_base.specs.Crc.{crc_of}
 use Rattle.dg_base.specs.Texts.{spells_name}
+use Rattle.dg_object.specs.Sizes.{page_size, most_bytes, slots, name_size}
 
 -- one version of one image: what an operator injects
 pub record Row : Type 0 where
@@ -17,28 +18,28 @@ pub record Row : Type 0 where
 abbrev pub row_of : (image version : ℕ) (name bytes : List ℕ) → Row
 row_of image version name bytes = record { image = image; version = version; name = name; bytes = bytes }
 
--- what a row may be: images 0 to 3, versions from 1, a name, and 1 to 70,656 bytes
+-- what a row may be: the image of a slot, a version from 1 on, a name, and at least one byte
 pub record IsRow (row : Row) : Type 0 where
-  pub image : row.image ≤ 3
+  pub image : row.image < slots
   pub version : 1 ≤ row.version
   pub version_fits : row.version < 2 ^ 32
   pub name : IsTrue (spells_name row.name)
   pub some : 1 ≤ length row.bytes
-  pub fits : length row.bytes ≤ 70656
+  pub fits : length row.bytes ≤ most_bytes
   pub bytes : AreBytes row.bytes
 
--- the pages of an object with that many bytes: the descriptor, and a page for each 1,104 bytes begun
+-- the pages of an object with that many bytes: the descriptor, and a page for each page's bytes begun
 abbrev pub pages_for : ℕ → ℕ
-pages_for len = 1 + (len + 1103) / 1104
+pages_for len = 1 + (len + (page_size - 1)) / page_size
 
--- page p, from 1 on, holds the bytes from (p − 1) · 1,104 on, the last page filled with 0xFF
+-- page p, from 1 on, holds the bytes behind those of p − 1 pages, the last page filled with 0xFF
 abbrev pub data_page : List ℕ → ℕ → List ℕ
-data_page bytes p = padded 1104 255 (take 1104 (drop ((p - 1) * 1104) bytes))
+data_page bytes p = padded page_size 255 (take page_size (drop ((p - 1) * page_size) bytes))
 
 -- the first 28 bytes of a descriptor: `DG`, image, pages, version, length, and the name, filled with 0
 abbrev pub head_of : (image pages version len : ℕ) → List ℕ → List ℕ
 head_of image pages version len name =
-    68 ∷ 71 ∷ image ∷ pages ∷ to_be_bytes w32 version ++ to_be_bytes w32 len ++ padded 16 0 name
+    68 ∷ 71 ∷ image ∷ pages ∷ to_be_bytes w32 version ++ to_be_bytes w32 len ++ padded name_size 0 name
 
 -- the CRCs of the first n data pages, two bytes each
 abbrev pub crcs_to : List ℕ → ℕ → List ℕ
@@ -51,7 +52,7 @@ page_crcs bytes = crcs_to bytes (pages_for (length bytes) - 1)
 -- page 0
 abbrev pub descriptor_page : Row → List ℕ
 descriptor_page row =
-    padded 1104 255 (head_of row.image (pages_for (length row.bytes)) row.version (length row.bytes) row.name ++ page_crcs row.bytes)
+    padded page_size 255 (head_of row.image (pages_for (length row.bytes)) row.version (length row.bytes) row.name ++ page_crcs row.bytes)
 
 -- a page of the object
 unfoldable pub page_of_row : Row → ℕ → List ℕ

@@ -3,13 +3,19 @@ ghost use Rattle.std.specs.Prelude.{◌≡◌, ℕ, ◌+◌, ◌-◌, ◌*◌, �
 ghost use Rattle.std.specs.Int.{from_be_bytes, w32};
 ghost use Rattle.dg_words.specs.Lists.{padded};
 ghost use Rattle.dg_base.specs.Texts.{spells_name};
+ghost use Rattle.dg_object.specs.Sizes.{most_bytes, slots, name_size};
 ghost use Rattle.dg_object.specs.Object.{pages_for};
 ghost use Rattle.dg_object.specs.Descriptor.{Details, HasTag, IsHead, RestFits, IsDescriptor};
 ghost use Rattle.dg_object.specs.Records.{details_of};
 
 use crate::Name;
-use crate::size::{HEAD, check_size, pages_of};
+use crate::size::{HEAD_SIZE, PAGE_SIZE, PIECE_SIZE, SLOTS, check_size, pages_of};
 use dg_base::is_name;
+use std::error::Error;
+use std::fmt;
+
+/// A piece of what stands behind the CRCs.
+const FILLED: [u8; PIECE_SIZE] = [0xFF; PIECE_SIZE];
 
 /// Why bytes are no descriptor.
 #[derive(Clone, Copy, Debug, PartialEq, Eq)]
@@ -19,6 +25,22 @@ pub enum DescriptorFault {
     /// They do, and a field is out of its range, or what has to be filled up isn't.
     Range,
 }
+
+impl fmt::Display for DescriptorFault {
+    ghost use Rattle.std.specs.Prelude.{Some};
+    ghost use Rattle.dg_object.specs.Faults.{descriptor_fault_text};
+
+    ghost output = { λ fault. Some (descriptor_fault_text fault) };
+
+    fn fmt<W: fmt::Write>(&self, f: &mut fmt::Formatter<W>) -> fmt::Result {
+        match self {
+            DescriptorFault::Tag => f.write_str("the page is no descriptor"),
+            DescriptorFault::Range => f.write_str("a field of the descriptor is out of its range"),
+        }
+    }
+}
+
+impl Error for DescriptorFault {}
 
 /// What a descriptor says of the image in the pages behind it.
 #[derive(Debug, PartialEq, Eq, Drop)]
@@ -34,24 +56,24 @@ pub struct Descriptor {
 
 impl Descriptor {
     /// Reads a whole page.
-    pub fn read(page: &[u8; 1104]) -> Result<Self, DescriptorFault>
+    pub fn read(page: &[u8; PAGE_SIZE]) -> Result<Self, DescriptorFault>
         ensures ok { IfOk result (λ d. IsDescriptor page.now (details_of d)) }
         ensures found { (d : Details) → IsDescriptor page.now d → IsOkAnd result (λ r. details_of r ≡ d) }
         ensures tag { (result ≡ Err DescriptorFault.Tag) ↔ (HasTag page.now → ⊥) }
         ensures range { (result ≡ Err DescriptorFault.Range) ↔ (HasTag page.now × ((d : Details) → IsDescriptor page.now d → ⊥)) }
     {
-        let mut head = [0; 28];
-        head.copy_from_slice(&page[..HEAD]);
+        let mut head = [0; HEAD_SIZE];
+        head.copy_from_slice(&page[..HEAD_SIZE]);
         let descriptor = Self::head(&head)?;
-        if descriptor.rest_fits(28, &page[HEAD..]) {
+        if descriptor.rest_fits(HEAD_SIZE as u16, &page[HEAD_SIZE..]) {
             Ok(descriptor)
         } else {
             Err(DescriptorFault::Range)
         }
     }
 
-    /// Reads the first 28 bytes of a page, which hold all fields but the CRCs.
-    pub fn head(head: &[u8; 28]) -> Result<Self, DescriptorFault>
+    /// Reads the first bytes of a page, which hold all fields but the CRCs.
+    pub fn head(head: &[u8; HEAD_SIZE]) -> Result<Self, DescriptorFault>
         ensures ok { IfOk result (λ d. IsHead head.now (details_of d)) }
         ensures found { (d : Details) → IsHead head.now d → IsOkAnd result (λ r. details_of r ≡ d) }
         ensures tag { (result ≡ Err DescriptorFault.Tag) ↔ (HasTag head.now → ⊥) }
@@ -70,20 +92,20 @@ impl Descriptor {
     pub fn rest_fits(&self, at: u16, piece: &[u8]) -> bool
         ensures { IsTrue result ↔ RestFits self.now.pages at piece.now }
     {
-        let crcs_end = HEAD + 2 * usize::from(self.pages).saturating_sub(1);
+        let crcs_end = HEAD_SIZE + 2 * usize::from(self.pages).saturating_sub(1);
         let checked_from = crcs_end.saturating_sub(usize::from(at)).min(piece.len());
-        is_filled(&piece[checked_from..], 0xFF)
+        is_filling(&piece[checked_from..])
     }
 }
 
-fn has_tag(head: &[u8; 28]) -> bool
+fn has_tag(head: &[u8; HEAD_SIZE]) -> bool
     ensures { IsTrue result ↔ HasTag head.now }
 {
     head[0] == b'D' && head[1] == b'G'
 }
 
 /// The fields of a head with its tag.
-fn fields(head: &[u8; 28]) -> Option<Descriptor>
+fn fields(head: &[u8; HEAD_SIZE]) -> Option<Descriptor>
     requires { HasTag head.now }
     ensures some { IfSome result (λ d. IsHead head.now (details_of d)) }
     ensures none { IfNone result ((d : Details) → IsHead head.now d → ⊥) }
@@ -105,10 +127,10 @@ fn fields(head: &[u8; 28]) -> Option<Descriptor>
 
 /// Whether the numbers are in their ranges.
 fn in_range(descriptor: &Descriptor) -> bool
-    ensures { let d = descriptor.now in IsTrue result ↔ ((d.image ≤ 3) × (1 ≤ d.version) × (1 ≤ d.length) × (d.length ≤ 70656) × (d.pages ≡ pages_for d.length)) }
+    ensures { let d = descriptor.now in IsTrue result ↔ ((d.image < slots) × (1 ≤ d.version) × (1 ≤ d.length) × (d.length ≤ most_bytes) × (d.pages ≡ pages_for d.length)) }
 {
     let length = descriptor.length;
-    descriptor.image <= 3
+    descriptor.image < SLOTS
         && descriptor.version >= 1
         && check_size(length as usize).is_ok()
         && descriptor.pages == pages_of(length)
@@ -122,17 +144,17 @@ fn word_at(bytes: &[u8], at: usize) -> u32
     u32::from_be_bytes([bytes[at], bytes[at + 1], bytes[at + 2], bytes[at + 3]])
 }
 
-/// The name in its field of 16 bytes, where it is filled with 0.
+/// The name in its field, where it is filled with 0.
 fn name_in(field: &[u8]) -> Option<Name>
-    requires { length field.now ≡ 16 }
-    ensures some { IfSome result (λ n. IsTrue (spells_name n) × (field.now ≡ padded 16 0 n)) }
-    ensures none { IfNone result ((n : List ℕ) → IsTrue (spells_name n) → field.now ≡ padded 16 0 n → ⊥) }
+    requires { length field.now ≡ name_size }
+    ensures some { IfSome result (λ n. IsTrue (spells_name n) × (field.now ≡ padded name_size 0 n)) }
+    ensures none { IfNone result ((n : List ℕ) → IsTrue (spells_name n) → field.now ≡ padded name_size 0 n → ⊥) }
 {
-    let (name, filling) = field.split_at(name_len(field));
+    let (name, padding) = field.split_at(name_len(field));
     if !is_name(name) {
         return None;
     }
-    if !is_filled(filling, 0) {
+    if !is_padding(padding) {
         return None;
     }
     Some(Name::new(name))
@@ -150,8 +172,31 @@ fn name_len(field: &[u8]) -> usize
         .unwrap_or(field.len())
 }
 
-fn is_filled(bytes: &[u8], filling: u8) -> bool
-    ensures { IsTrue result ↔ EachIndex bytes.now (λ k. slice_index bytes.now k ≡ filling) }
+fn is_padding(bytes: &[u8]) -> bool
+    ensures { IsTrue result ↔ EachIndex bytes.now (λ k. slice_index bytes.now k ≡ 0) }
 {
-    bytes.iter().all(|byte| *byte == filling)
+    bytes.iter().all(|byte| *byte == 0)
+}
+
+/// Whether all bytes are 0xFF.
+fn is_filling(bytes: &[u8]) -> bool
+    ensures { IsTrue result ↔ EachIndex bytes.now (λ k. slice_index bytes.now k ≡ 255) }
+{
+    let mut at = 0;
+    while at < bytes.len() {
+        let len = (bytes.len() - at).min(PIECE_SIZE);
+        if !is_filled_piece(&bytes[at..at + len]) {
+            return false;
+        }
+        at += len;
+    }
+    true
+}
+
+/// The same of a few bytes. Slices are compared many bytes at a time.
+fn is_filled_piece(piece: &[u8]) -> bool
+    requires { length piece.now ≤ PIECE_SIZE }
+    ensures { IsTrue result ↔ EachIndex piece.now (λ k. slice_index piece.now k ≡ 255) }
+{
+    piece == &FILLED[..piece.len()]
 }

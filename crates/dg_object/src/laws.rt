@@ -1,17 +1,19 @@
 //! What holds of objects and descriptors. These functions do nothing: their contracts are the laws.
-ghost use Rattle.std.specs.Prelude.{◌≡◌, ℕ, ◌+◌, ◌<◌, ◌≤◌, List, [], length, slice_index_or};
+ghost use Rattle.std.specs.Prelude.{◌≡◌, ℕ, ◌+◌, ◌-◌, ◌<◌, ◌≤◌, ◌↔◌, true, List, [], length, slice_index_or};
 ghost use Rattle.dg_words.specs.Cells.{AreBytes, part};
 ghost use Rattle.dg_base.specs.Crc.{crc_of};
+ghost use Rattle.dg_object.specs.Sizes.{page_size, most_pages, head_size};
 ghost use Rattle.dg_object.specs.Object.{Row, IsRow, pages_for, data_page, descriptor_page, page_of_row, object, content};
-ghost use Rattle.dg_object.specs.Descriptor.{Details, IsHead, IsDescriptor, RestFits, details, crc_in};
+ghost use Rattle.dg_object.specs.Descriptor.{Details, IsHead, IsDescriptor, RestFits, Describes, details, crc_in};
+ghost use Rattle.dg_object.specs.Tested.{fields_in, is_descriptor, describes};
 
-/// An object of 2 to 65 pages of 1,104 bytes holds the image, and nothing but the filling behind it.
+/// An object of 2 to 65 pages holds the image, and nothing but the filling behind it.
 pub fn a_row_is_its_pages()
     ensures some { (row : Row) → IsRow row → 2 ≤ pages_for (length row.bytes) }
-    ensures most { (row : Row) → IsRow row → pages_for (length row.bytes) ≤ 65 }
+    ensures most { (row : Row) → IsRow row → pages_for (length row.bytes) ≤ most_pages }
     ensures count { (row : Row) → length (object row) ≡ pages_for (length row.bytes) }
     ensures page { (row : Row) (p : ℕ) → p < pages_for (length row.bytes) → slice_index_or (object row) p [] ≡ page_of_row row p }
-    ensures long { (row : Row) (p : ℕ) → IsRow row → length (page_of_row row p) ≡ 1104 }
+    ensures long { (row : Row) (p : ℕ) → IsRow row → length (page_of_row row p) ≡ page_size }
     ensures bytes { (row : Row) (p : ℕ) → IsRow row → AreBytes (page_of_row row p) }
     ensures content { (row : Row) → content (length row.bytes) (object row) ≡ row.bytes }
 {}
@@ -24,16 +26,23 @@ pub fn a_row_has_a_descriptor()
     ensures crcs { (row : Row) (p : ℕ) → IsRow row → 1 ≤ p → p < pages_for (length row.bytes) → crc_in (descriptor_page row) p ≡ crc_of (data_page row.bytes p) }
 {}
 
-/// 28 bytes are the head of one descriptor at most.
+/// Bytes are the head of one descriptor at most.
 pub fn a_head_is_read_in_one_way()
     ensures { (head : List ℕ) (d e : Details) → IsHead head d → IsHead head e → d ≡ e }
 {}
 
-/// A page is a descriptor exactly where its first 28 bytes are its head and all that stands behind them fits, in one
+/// A page is a descriptor exactly where its first bytes are its head and all that stands behind them fits, in one
 /// piece or in several.
 pub fn a_descriptor_is_read_in_pieces()
-    ensures parts { (page : List ℕ) (d : Details) → length page ≡ 1104 → IsHead (part page 0 28) d → RestFits d.pages 28 (part page 28 1076) → IsDescriptor page d }
+    ensures parts { (page : List ℕ) (d : Details) → length page ≡ page_size → IsHead (part page 0 head_size) d → RestFits d.pages head_size (part page head_size (page_size - head_size)) → IsDescriptor page d }
     ensures more { (pages : ℕ) (page : List ℕ) (at m n : ℕ) → at + (m + n) ≤ length page → RestFits pages at (part page at m) → RestFits pages (at + m) (part page (at + m) n) → RestFits pages at (part page at (m + n)) }
-    ensures head { (page : List ℕ) (d : Details) → IsDescriptor page d → IsHead (part page 0 28) d }
+    ensures head { (page : List ℕ) (d : Details) → IsDescriptor page d → IsHead (part page 0 head_size) d }
     ensures pieces { (page : List ℕ) (d : Details) (at n : ℕ) → IsDescriptor page d → RestFits d.pages at (part page at n) }
+{}
+
+/// The test for a descriptor is true exactly where the page is one, and its fields are those that are read from it.
+pub fn a_descriptor_is_tested()
+    ensures tested { (page : List ℕ) → (is_descriptor page ≡ true) ↔ ((d : Details) × IsDescriptor page d) }
+    ensures fields { (page : List ℕ) (d : Details) → IsDescriptor page d → d ≡ fields_in page }
+    ensures described { (page : List ℕ) (image version pages : ℕ) → (describes page image version pages ≡ true) ↔ Describes page image version pages }
 {}

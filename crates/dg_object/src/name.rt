@@ -1,13 +1,17 @@
 //! Names of images.
 ghost use Rattle.std.specs.Prelude.{◌≡◌, ◌≤◌, length};
+ghost use Rattle.dg_object.specs.Sizes.{name_size};
 
 use arrayvec::ArrayVec;
 use std::marker::Model;
 
+/// The bytes that a descriptor gives a name.
+pub(crate) const NAME_SIZE: usize = 16;
+
 /// The name of an image: at most 16 bytes, without the padding that a descriptor gives them.
 #[derive(Debug, PartialEq, Eq, Drop)]
 pub struct Name {
-    bytes: ArrayVec<u8, 16>,
+    bytes: ArrayVec<u8, NAME_SIZE>,
 }
 
 impl Model for Name {
@@ -23,7 +27,7 @@ impl Model for Name {
 impl Name {
     /// The name with these bytes.
     pub fn new(bytes: &[u8]) -> Self
-        requires { length bytes.now ≤ 16 }
+        requires { length bytes.now ≤ name_size }
         ensures { result ≡ bytes.now }
     {
         let mut held = ArrayVec::new();
@@ -34,7 +38,7 @@ impl Name {
     /// The bytes of the name.
     pub fn as_slice(&self) -> &[u8]
         ensures value { result.now ≡ self.now }
-        ensures fits { length result.now ≤ 16 }
+        ensures fits { length result.now ≤ name_size }
     {
         self.bytes.as_slice()
     }

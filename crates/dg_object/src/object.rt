@@ -4,22 +4,31 @@ ghost use Rattle.std.specs.Int.{to_be_bytes, w16};
 ghost use Rattle.dg_words.specs.Lists.{padded};
 ghost use Rattle.dg_base.specs.Crc.{crc_of};
 ghost use Rattle.dg_base.specs.Texts.{spells_name};
+ghost use Rattle.dg_object.specs.Sizes.{page_size, most_bytes, slots, name_size};
 ghost use Rattle.dg_object.specs.Records.{outline_of};
 ghost use Rattle.dg_object.specs.Object.{row_of, profile, pages_for, data_page, head_of, descriptor_page, page_of_row};
 
 use crate::Profile;
-use crate::size::{HEAD, PAGE, pages_of};
+use crate::name::NAME_SIZE;
+use crate::size::{HEAD_SIZE, PAGE_SIZE, pages_of};
 use dg_base::{crc16, crc16_more};
 
 /// What fills a page behind its last byte.
 const FILLING: u8 = 0xFF;
 
 /// Writes page `p` of the object of an image into `into`: for 0 the descriptor, else the bytes of the image
-/// from `(p - 1) * 1104` on.
-pub fn page_of(bytes: &[u8], image: u8, version: u32, name: &[u8], p: u8, into: &mut [u8; 1104])
+/// behind those of the pages before it.
+pub fn page_of(
+    bytes: &[u8],
+    image: u8,
+    version: u32,
+    name: &[u8],
+    p: u8,
+    into: &mut [u8; PAGE_SIZE],
+)
     requires some { 1 ≤ length bytes.now }
-    requires fits { length bytes.now ≤ 70656 }
-    requires known_image { image ≤ 3 }
+    requires fits { length bytes.now ≤ most_bytes }
+    requires known_image { image < slots }
     requires real_version { 1 ≤ version }
     requires named { IsTrue (spells_name name.now) }
     requires page { p < pages_for (length bytes.now) }
@@ -35,13 +44,13 @@ pub fn page_of(bytes: &[u8], image: u8, version: u32, name: &[u8], p: u8, into: 
 /// The profile of the object of an image, in one pass over its bytes.
 pub fn profile_of(bytes: &[u8], image: u8, version: u32, name: &[u8]) -> Profile
     requires some { 1 ≤ length bytes.now }
-    requires fits { length bytes.now ≤ 70656 }
-    requires known_image { image ≤ 3 }
+    requires fits { length bytes.now ≤ most_bytes }
+    requires known_image { image < slots }
     requires real_version { 1 ≤ version }
     requires named { IsTrue (spells_name name.now) }
     ensures { outline_of result ≡ profile (row_of image version name.now bytes.now) }
 {
-    let mut descriptor = [0; PAGE];
+    let mut descriptor = [0; PAGE_SIZE];
     write_descriptor(bytes, image, version, name, &mut descriptor);
     Profile {
         image,
@@ -54,22 +63,22 @@ pub fn profile_of(bytes: &[u8], image: u8, version: u32, name: &[u8]) -> Profile
 /// The bytes of the image in data page `p`.
 fn held_in(bytes: &[u8], p: u8) -> &[u8]
     requires { 1 ≤ p }
-    ensures held { result.now ≡ take 1104 (drop ((p - 1) * 1104) bytes.now) }
-    ensures fits { length result.now ≤ 1104 }
+    ensures held { result.now ≡ take page_size (drop ((p - 1) * page_size) bytes.now) }
+    ensures fits { length result.now ≤ page_size }
 {
-    let start = (usize::from(p) - 1) * PAGE;
+    let start = (usize::from(p) - 1) * PAGE_SIZE;
     let rest = &bytes[start.min(bytes.len())..];
-    &rest[..rest.len().min(PAGE)]
+    &rest[..rest.len().min(PAGE_SIZE)]
 }
 
 /// A page without bytes.
-fn blank() -> [u8; 1104]
-    ensures { result ≡ padded 1104 255 [] }
+fn blank() -> [u8; PAGE_SIZE]
+    ensures { result ≡ padded page_size 255 [] }
 {
-    [FILLING; PAGE]
+    [FILLING; PAGE_SIZE]
 }
 
-fn write_data_page(bytes: &[u8], p: u8, into: &mut [u8; 1104])
+fn write_data_page(bytes: &[u8], p: u8, into: &mut [u8; PAGE_SIZE])
     requires { 1 ≤ p }
     ensures { into.new ≡ data_page bytes.now p }
 {
@@ -84,7 +93,7 @@ fn data_page_crc(bytes: &[u8], p: u8) -> u16
 {
     let held = held_in(bytes, p);
     let crc = crc16(held);
-    if held.len() == PAGE {
+    if held.len() == PAGE_SIZE {
         return crc;
     }
     let filling = blank();
@@ -92,27 +101,27 @@ fn data_page_crc(bytes: &[u8], p: u8) -> u16
 }
 
 /// Writes `piece` behind the `at` bytes that stand at the front of a page that is filled up.
-fn put_behind(page: &mut [u8; 1104], at: usize, piece: &[u8])
-    requires { at + length piece.now ≤ 1104 }
-    ensures { (front : List ℕ) → length front ≡ at → page.old ≡ padded 1104 255 front → page.new ≡ padded 1104 255 (front ++ piece.now) }
+fn put_behind(page: &mut [u8; PAGE_SIZE], at: usize, piece: &[u8])
+    requires { at + length piece.now ≤ page_size }
+    ensures { (front : List ℕ) → length front ≡ at → page.old ≡ padded page_size 255 front → page.new ≡ padded page_size 255 (front ++ piece.now) }
 {
     page[at..at + piece.len()].copy_from_slice(piece);
 }
 
 /// The name in its field of 16 bytes.
-fn name_field(name: &[u8]) -> [u8; 16]
-    requires { length name.now ≤ 16 }
-    ensures { result ≡ padded 16 0 name.now }
+fn name_field(name: &[u8]) -> [u8; NAME_SIZE]
+    requires { length name.now ≤ name_size }
+    ensures { result ≡ padded name_size 0 name.now }
 {
-    let mut field = [0; 16];
+    let mut field = [0; NAME_SIZE];
     field[..name.len()].copy_from_slice(name);
     field
 }
 
-/// Writes the first 28 bytes of a descriptor, and fills the page behind them.
-fn write_head(image: u8, pages: u8, version: u32, len: u32, name: &[u8], into: &mut [u8; 1104])
-    requires { length name.now ≤ 16 }
-    ensures { into.new ≡ padded 1104 255 (head_of image pages version len name.now) }
+/// Writes the head of a descriptor, and fills the page behind them.
+fn write_head(image: u8, pages: u8, version: u32, len: u32, name: &[u8], into: &mut [u8; PAGE_SIZE])
+    requires { length name.now ≤ name_size }
+    ensures { into.new ≡ padded page_size 255 (head_of image pages version len name.now) }
 {
     *into = blank();
     put_behind(into, 0, &[b'D', b'G', image, pages]);
@@ -121,9 +130,9 @@ fn write_head(image: u8, pages: u8, version: u32, len: u32, name: &[u8], into: &
     put_behind(into, 12, &name_field(name));
 }
 
-fn write_descriptor(bytes: &[u8], image: u8, version: u32, name: &[u8], into: &mut [u8; 1104])
-    requires fits { length bytes.now ≤ 70656 }
-    requires named { length name.now ≤ 16 }
+fn write_descriptor(bytes: &[u8], image: u8, version: u32, name: &[u8], into: &mut [u8; PAGE_SIZE])
+    requires fits { length bytes.now ≤ most_bytes }
+    requires named { length name.now ≤ name_size }
     ensures { into.new ≡ descriptor_page (row_of image version name.now bytes.now) }
 {
     let len = bytes.len() as u32;
@@ -131,6 +140,10 @@ fn write_descriptor(bytes: &[u8], image: u8, version: u32, name: &[u8], into: &m
     write_head(image, pages, version, len, name, into);
     for p in 1..pages {
         let crc = data_page_crc(bytes, p);
-        put_behind(into, HEAD + 2 * (usize::from(p) - 1), &crc.to_be_bytes());
+        put_behind(
+            into,
+            HEAD_SIZE + 2 * (usize::from(p) - 1),
+            &crc.to_be_bytes(),
+        );
     }
 }

@@ -1,5 +1,6 @@
 //! What is told of an object before any of its pages.
 ghost use Rattle.std.specs.Prelude.{◌≤◌};
+ghost use Rattle.dg_object.specs.Sizes.{most_pages};
 
 /// An object in outline: `crc` is that of page 0, which keeps the CRCs of the other pages.
 #[derive(Clone, Copy, Debug, PartialEq, Eq)]
@@ -10,5 +11,5 @@ pub struct Profile {
     pub crc: u16,
     ghost real_version: { 1 ≤ version },
     ghost some_pages: { 2 ≤ pages },
-    ghost most_pages: { pages ≤ 65 },
+    ghost few_pages: { pages ≤ most_pages },
 }

@@ -1,33 +1,70 @@
 //! How long an image may be, and how many pages it makes.
 ghost use Rattle.std.specs.Prelude.{◌≡◌, ◌↔◌, ◌<◌, ◌≤◌, IsOk};
+ghost use Rattle.dg_object.specs.Sizes.{most_bytes};
 ghost use Rattle.dg_object.specs.Object.{pages_for};
 
-/// Bytes of a page.
-pub const PAGE: usize = 1104;
-/// Bytes of a descriptor in front of the CRCs.
-pub const HEAD: usize = 28;
-/// Bytes of the longest image, which fills 64 data pages.
-pub const LONGEST: usize = 70_656;
+use std::error::Error;
+use std::fmt;
+
+/// The bytes of a page.
+pub const PAGE_SIZE: usize = 1_104;
+
+/// The packets of a page.
+pub const PACKETS: usize = 48;
+
+/// The bytes of a packet.
+pub const PACKET_SIZE: usize = 23;
+
+/// The most pages of an object: its descriptor, and 64 of the image.
+pub const MOST_PAGES: u8 = 65;
+
+/// The bytes of the longest image, which fills 64 pages.
+pub const MOST_BYTES: usize = 70_656;
+
+/// The slots of a chip, each for one image. Image numbers are below this.
+pub const SLOTS: u8 = 4;
+
+/// The bytes of a descriptor in front of the CRCs.
+pub const HEAD_SIZE: usize = 28;
+
+/// What stands behind them is read from a chip in pieces of at most this many bytes.
+pub const PIECE_SIZE: usize = 112;
 
 /// Why no image has this length.
 #[derive(Clone, Copy, Debug, PartialEq, Eq)]
 pub enum SizeFault {
     /// There is no byte.
     Empty,
-    /// There are more than 70,656 bytes.
+    /// There are more bytes than the pages of an object hold.
     TooLarge,
 }
 
+impl fmt::Display for SizeFault {
+    ghost use Rattle.std.specs.Prelude.{Some};
+    ghost use Rattle.dg_object.specs.Faults.{size_fault_text};
+
+    ghost output = { λ fault. Some (size_fault_text fault) };
+
+    fn fmt<W: fmt::Write>(&self, f: &mut fmt::Formatter<W>) -> fmt::Result {
+        match self {
+            SizeFault::Empty => f.write_str("the image is empty"),
+            SizeFault::TooLarge => f.write_str("the image is too large"),
+        }
+    }
+}
+
+impl Error for SizeFault {}
+
 /// Whether an image may have `length` bytes: 1 to 70,656.
 pub fn check_size(length: usize) -> Result<(), SizeFault>
-    ensures ok { IsOk result ↔ ((1 ≤ length) × (length ≤ 70656)) }
+    ensures ok { IsOk result ↔ ((1 ≤ length) × (length ≤ most_bytes)) }
     ensures empty { (result ≡ Err SizeFault.Empty) ↔ (length ≡ 0) }
-    ensures too_large { (result ≡ Err SizeFault.TooLarge) ↔ (70656 < length) }
+    ensures too_large { (result ≡ Err SizeFault.TooLarge) ↔ (most_bytes < length) }
 {
     if length == 0 {
         return Err(SizeFault::Empty);
     }
-    if length > LONGEST {
+    if length > MOST_BYTES {
         return Err(SizeFault::TooLarge);
     }
     Ok(())
@@ -35,8 +72,8 @@ pub fn check_size(length: usize) -> Result<(), SizeFault>
 
 /// How many pages an image of `length` bytes makes: the descriptor, and a page for each 1,104 bytes begun.
 pub fn pages_of(length: u32) -> u8
-    requires { length ≤ 70656 }
+    requires { length ≤ most_bytes }
     ensures { result ≡ pages_for length }
 {
-    1 + (length as usize).div_ceil(PAGE) as u8
+    1 + (length as usize).div_ceil(PAGE_SIZE) as u8
 }

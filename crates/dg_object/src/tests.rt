@@ -10,20 +10,20 @@ const DESCRIPTOR: [u8; 30] = [
     0, 0, 0, 0, 0, 0x32, 0xa5,
 ];
 
-fn descriptor_page() -> [u8; 1104] {
-    let mut page = [0; 1104];
+fn descriptor_page() -> [u8; PAGE_SIZE] {
+    let mut page = [0; PAGE_SIZE];
     page_of(DIGITS, 1, 1, b"blink", 0, &mut page);
     page
 }
 
 /// Whether the page is these bytes, filled up with 0xFF.
-fn is_filled_up(page: &[u8; 1104], front: &[u8]) -> bool {
+fn is_filled_up(page: &[u8; PAGE_SIZE], front: &[u8]) -> bool {
     page.starts_with(front) && page.iter().skip(front.len()).all(|byte| *byte == 0xFF)
 }
 
-fn head_bytes(page: &[u8; 1104]) -> [u8; 28] {
-    let mut head = [0; 28];
-    head.copy_from_slice(&page[..28]);
+fn head_bytes(page: &[u8; PAGE_SIZE]) -> [u8; HEAD_SIZE] {
+    let mut head = [0; HEAD_SIZE];
+    head.copy_from_slice(&page[..HEAD_SIZE]);
     head
 }
 
@@ -32,7 +32,7 @@ fn sizes(rt: HostRuntime) {
     let rows = [
         (0, Err(SizeFault::Empty)),
         (1, Ok(())),
-        (70_656, Ok(())),
+        (MOST_BYTES, Ok(())),
         (70_657, Err(SizeFault::TooLarge)),
     ];
     for (length, want) in rows {
@@ -48,7 +48,7 @@ fn pages(rt: HostRuntime) {
     let page = descriptor_page();
     assert!(rt; is_filled_up(&page, &DESCRIPTOR), "{page:?}");
 
-    let mut page = [0; 1104];
+    let mut page = [0; PAGE_SIZE];
     page_of(DIGITS, 1, 1, b"blink", 1, &mut page);
     assert!(rt; is_filled_up(&page, DIGITS), "{page:?}");
 
@@ -86,7 +86,7 @@ fn descriptors(rt: HostRuntime) -> Result<(), Fail> {
     for (at, byte, fault) in rows {
         let mut page = descriptor_page();
         let at: usize = at;
-        if at < 1104 {
+        if at < PAGE_SIZE {
             page[at] = byte;
         }
         assert_eq!(rt; Descriptor::read(&page), Err(fault), "byte {at}");
@@ -98,7 +98,7 @@ fn descriptors(rt: HostRuntime) -> Result<(), Fail> {
 fn pieces(rt: HostRuntime) -> Result<(), Fail> {
     let page = descriptor_page();
     let read = Descriptor::head(&head_bytes(&page))?;
-    let filling = [0xFF; 112];
+    let filling = [0xFF; PIECE_SIZE];
     let mut spoilt = filling;
     spoilt[0] = 0;
     for (at, piece, want) in [
