@@ -1,0 +1,5 @@
+//! Tests that need more than one crate.
+#![tactic(auto)]
+
+#[cfg(test)]
+mod slots;
