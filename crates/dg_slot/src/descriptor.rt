@@ -2,6 +2,7 @@
 ghost use Rattle.std.specs.Prelude.{◌≡◌, ◌↔◌, ℕ, ◌+◌, ◌-◌, ◌<◌, ◌≤◌, false, length, IsTrue, OnOk, IfOk, IfSome, IsNone};
 ghost use Rattle.dg_words.specs.Cells.{part};
 ghost use Rattle.dg_base.specs.Crc.{crc_of, crc_more};
+ghost use Rattle.dg_nor.specs.Sizes.{sectors};
 ghost use Rattle.dg_nor.specs.Chip.{sector};
 ghost use Rattle.dg_nor.specs.Reads.{ReadEnds};
 ghost use Rattle.dg_object.specs.Sizes.{head_size};
@@ -10,11 +11,10 @@ ghost use Rattle.dg_object.specs.Records.{details_of};
 ghost use Rattle.dg_slot.specs.Layout.{slots, page_size, page_sector};
 ghost use Rattle.dg_slot.specs.Pages.{page_in};
 ghost use Rattle.dg_slot.specs.Kept.{HasDescriptor};
-ghost use Rattle.dg_nor.specs.declared.device.TheConstants.{SECTORS};
 
 use crate::layout::page_sector;
 use dg_base::{crc16, crc16_more};
-use dg_nor::{Nor, SECTORS, Stopped, read_in};
+use dg_nor::{Nor, Stopped, read_in};
 use dg_object::{Descriptor, HEAD_SIZE, PAGE_SIZE, PIECE_SIZE, Profile};
 
 /// A page that is a descriptor, and the checksum of that page.
@@ -26,7 +26,7 @@ struct FirstPage {
 
 /// What the first bytes of a sector say, where they are the head of a descriptor, and their checksum.
 fn read_head<N: Nor>(nor: &mut N, index: u32) -> Result<Option<FirstPage>, Stopped>
-    requires { index < SECTORS }
+    requires { index < sectors }
     ensures head { IfOk result (λ found. IfSome found (λ f.
         IsHead (part (sector (N.device nor.old).image index) 0 head_size) (details_of f.descriptor)
         × (f.crc ≡ crc_of (part (sector (N.device nor.old).image index) 0 head_size)))) }
@@ -55,7 +55,7 @@ fn rest_piece<N: Nor>(
     first: &Descriptor,
     before: u16,
 ) -> Result<Option<u16>, Stopped>
-    requires in_chip { index < SECTORS }
+    requires in_chip { index < sectors }
     requires in_page { at + length piece.old ≤ page_size }
     ensures fits { IfOk result (λ found. IfSome found (λ crc.
         RestFits first.now.pages at (part (sector (N.device nor.old).image index) at (length piece.old))
@@ -81,7 +81,7 @@ fn read_rest<N: Nor>(
     first: &Descriptor,
     before: u16,
 ) -> Result<Option<u16>, Stopped>
-    requires { index < SECTORS }
+    requires { index < sectors }
     ensures fits { IfOk result (λ found. IfSome found (λ crc.
         RestFits first.now.pages head_size (part (sector (N.device nor.old).image index) head_size (page_size - head_size))
         × (crc ≡ crc_more before (part (sector (N.device nor.old).image index) head_size (page_size - head_size))))) }
@@ -105,7 +105,7 @@ fn read_rest<N: Nor>(
 
 /// The page that stands in a sector, where it is a descriptor.
 fn read_descriptor<N: Nor>(nor: &mut N, index: u32) -> Result<Option<FirstPage>, Stopped>
-    requires { index < SECTORS }
+    requires { index < sectors }
     ensures descriptor { IfOk result (λ found. IfSome found (λ f.
         IsDescriptor (page_in (N.device nor.old).image index) (details_of f.descriptor)
         × (f.crc ≡ crc_of (page_in (N.device nor.old).image index)))) }
