@@ -7,3 +7,5 @@ mod lines;
 mod reports;
 #[cfg(test)]
 mod runs;
+#[cfg(test)]
+mod slots;
