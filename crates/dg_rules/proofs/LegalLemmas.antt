@@ -1,196 +1,161 @@
--- The steps by the rules are legal, and what legal steps keep.
-use Rattle.std.proofs.Common.{◌≡◌, ◌⊎◌, ℕ, ◌≤◌, List, length, map, get_or, set, Option, Some, None, option_map, refl, sym, ap, subst, ◌∙◌, inl, inr, arith, get_or-set_other}
+-- What an event may change of the small state.
+use Rattle.std.proofs.Common.{◌≡◌, ◌⊎◌, ℕ, true, false, List, length, map, Option, Some, None, option_map, IfSome, refl, sym, ap, subst, ◌∙◌, inl, inr, ⊎_elim, eqb-true}
 use Rattle.std.proofs.Math.ListN.{get_or-map}
-use Rattle.std.proofs.lemmas.List.{map-set}
-use Rattle.std.proofs.lemmas.Bool.{cases_lt}
-use Rattle.dg_object.specs.Object.{Row}
-use Rattle.dg_object.proofs.RowLemmas.{length-object}
-use Rattle.dg_control.specs.declared.snapshot.Order.{Order}
-use Rattle.dg_plain.specs.Store.{Store, Held, held, held_whole}
-use Rattle.dg_plain.specs.Start.{Start, start_of}
-use Rattle.dg_plain.specs.Changes.{newer, newer_held}
-use Rattle.dg_rules.specs.Table.{row_at, with_row}
-use Rattle.dg_script.specs.Script.{FitsEvent}
-use Rattle.dg_rules.specs.World.{World, Outcome, counted, cause_of, by_rules}
-use Rattle.dg_rules.specs.Legal.{Holding, Small, holding, app_key, small, holds, whole, MayTake, LegalInject, LegalOrder, HoldsWhole, IsOrdered, IsGoldenKey, LegalStart, LegalDone, Legal, IsKeptIn, KeepsVersions}
-use Rattle.dg_rules.specs.Reached.{IsReached}
-use Rattle.dg_script.specs.declared.key.Key.{Key}
-use Rattle.dg_script.specs.declared.script.Event.{Event}
-use Rattle.dg_script.specs.declared.script.Event.TheVariants.{Reset, Inject, Order as OrderEvent}
-use Rattle.dg_script.specs.declared.report.Cause.{Cause}
-use Rattle.dg_rules.proofs.StartLemmas.{Ordered, choice_of, waits-parts, ordered_whole, after_start}
-use Rattle.dg_rules.proofs.AgreeLemmas.{set_cases, held_is_declared, added_row}
-use Rattle.dg_rules.proofs.EventLemmas.{Does, Injects, Orders, Started, Happens, is_refused, is_done, happens, newer_held-none, declared_row_is}
+use Rattle.std.proofs.lemmas.Bool.{and_parts}
+use Rattle.std.specs.Prelude.{◌==◌, take}
+use Rattle.std.proofs.Math.Seq.{take-length}
+use Rattle.dg_words.proofs.ListLemmas.{length-tabulate}
+use Rattle.dg_nor.specs.Trail.{last}
+use Rattle.dg_nor.specs.Through.{Through}
+use Rattle.dg_nor.proofs.ThroughLemmas.{Through-last}
+use Rattle.dg_object.specs.Object.{Row, IsRow, object, pages_for, page_of_row}
+use Rattle.dg_slot.specs.Kept.{Held}
+use Rattle.dg_volume.specs.Store.{Store, App, held, held_whole}
+use Rattle.dg_volume.specs.Start.{Runs, boot, order_waits, is_whole, kept_runs}
+use Rattle.dg_volume.specs.Table.{row_at, IsTable}
+use Rattle.dg_volume.specs.Agreement.{KeepsRow, Agrees}
+use Rattle.dg_volume.specs.RowLaws.{RowLaws}
+use Rattle.dg_volume.specs.declared.volume.Kind.{Kind}
+use Rattle.dg_volume.specs.declared.volume.Kind.TheVariants as kind
+use Rattle.dg_rules.specs.declared.events.Key.{Key}
+use Rattle.dg_rules.specs.World.{Site, Running}
+use Rattle.dg_rules.specs.Small.{Holding, SmallMote, holding, app_key, small_mote, holds, whole}
+use Rattle.dg_rules.specs.Events.{key_of}
+use Rattle.dg_rules.specs.Legal.{HoldsWhole, MayStart, MayRestart, LegalStart, LegalTick, CutStart}
+use Rattle.dg_rules.proofs.ThroughLemmas.{Through-map}
+use Rattle.dg_rules.proofs.TableLemmas.{row_at-key, row_at-each}
+use Rattle.dg_rules.proofs.StartLemmas.{OnWay, AppOnWay, boot_way}
+use Rattle.dg_rules.proofs.BootLemmas.{IsWaiting, MayRun, IsSettled, boot_start, order_alone, waits_whole, waits_some}
 
--- ---- what a small state holds
+-- a mote with what runs
+abbrev pub mote : Store → Option Running → SmallMote
+mote s runs = small_mote (record { store = s; runs = runs })
 
-holds-small : (w : World) (image : ℕ) → holds (small w) image ≡ option_map holding (held w.store image)
-holds-small w image = get_or-map (option_map holding) w.store.kept image None
+pub holds_at : (x : Site) (i : ℕ) → holds (small_mote x) i ≡ option_map holding (held x.store i)
+holds_at x i = get_or-map (option_map holding) x.store.kept i None
 
-holding-whole : (row : Row) → option_map holding (Some (held_whole row)) ≡ Some (whole row)
-holding-whole row = ap (λ n. Some (record { version = row.version; pages = n })) (length-object row)
+-- ---- an image that is kept whole
 
--- ---- an injection
+-- what a row's image is where it is whole
+pub record Whole (table : List Row) (image version : ℕ) (o : Option Held) : Type 0 where
+  pub row : Row
+  pub in_table : row_at table image version ≡ Some row
+  pub is : o ≡ Some (held_whole row)
 
-may_take_held : (w : World) (image version : ℕ) (row : Row) (h : Held) → IsReached w → 1 ≤ image → row_at w.declared image version ≡ Some row → row.version ≡ version → held w.store image ≡ Some h → h.version ≤ row.version
-    → MayTake (Some (holding h)) row
-may_take_held w image version row h reached some there same kept low =
-    elim (cases_lt h.version row.version) [
-      | inl older ↦ inl older
-      | inr newer ↦
-          let e : h.version ≡ row.version = omega arith in
-          let is : h ≡ held_whole row = held_is_declared w image version row h reached some there kept (e ∙ same) in
-          inr (e, omega (arith, ap (λ (x : Held). length x.complete) is, length-object row))
-    ]
+same_held_as : (a b : Held) → a.version ≡ b.version → a.pages ≡ b.pages → a.crc ≡ b.crc → a.complete ≡ b.complete → a ≡ b
+same_held_as a b version pages crc complete i = record { version = version i; pages = pages i; crc = crc i; complete = complete i }
 
-may_take : (w : World) (image version : ℕ) (row : Row) (o : Option Held) → IsReached w → 1 ≤ image → row_at w.declared image version ≡ Some row → row.version ≡ version → held w.store image ≡ o → newer_held o row.version ≡ None
-    → MayTake (option_map holding o) row
-may_take w image version row None reached some there same kept newest = tt
-may_take w image version row (Some h) reached some there same kept newest = may_take_held w image version row h reached some there same kept (newer_held-none h row.version newest)
-
--- the row of an injection may replace what is kept
-takes : (w : World) (image version dt : ℕ) (o : Outcome) → IsReached w → 1 ≤ image → (did : Injects w image version dt o) → MayTake (holds (small w) image) did.row
-takes w image version dt o reached some did =
-    let is = declared_row_is w image version did.row reached did.declared in
-    let newest : newer w.store image did.row.version ≡ None = ap (λ i. newer w.store i did.row.version) (sym is.same_image) ∙ did.newest in
-    let P : Option Holding → Type 0 = λ x. MayTake x did.row in
-    subst P (sym (holds-small w image)) (may_take w image version did.row (held w.store image) reached some did.declared is.same_version refl newest)
-
--- the holdings with this one whole
-holdings-set : (kept : List (Option Held)) (row : Row) (image : ℕ) → row.image ≡ image → map (option_map holding) (set kept row.image (Some (held_whole row))) ≡ set (map (option_map holding) kept) image (Some (whole row))
-holdings-set kept row image same =
-    map-set (option_map holding) kept row.image (Some (held_whole row))
-    ∙ ap (λ h. set (map (option_map holding) kept) row.image h) (holding-whole row)
-    ∙ ap (λ i. set (map (option_map holding) kept) i (Some (whole row))) same
-
-legal_inject : (w : World) (image version dt : ℕ) (o : Outcome) → IsReached w → 1 ≤ image → image ≤ 3 → Injects w image version dt o → LegalInject w.declared (small w) image version (small o.world)
-legal_inject w image version dt o reached some most did =
-    let row = did.row in
-    let is = declared_row_is w image version row reached did.declared in
-    let P : Outcome → Type 0 = λ x. LegalInject w.declared (small w) image version (small x.world) in
-    subst P (sym did.outcome) (record {
-      known = some;
-      most = most;
+whole_by : (table : List Row) (image version : ℕ) (o : Option Held) → is_whole o version ≡ true → IfSome o (KeepsRow table image) → Whole table image version o
+whole_by table image version None is keeps = absurd cc
+whole_by table image version (Some h) is keeps =
+    let parts = and_parts (h.version == version) (length h.complete == h.pages) is in
+    let same : h.version ≡ version = eqb-true h.version version parts.0 in
+    let all : length h.complete ≡ h.pages = eqb-true (length h.complete) h.pages parts.1 in
+    let row = keeps.row in
+    let many : length h.complete ≡ length (object row) = all ∙ keeps.pages ∙ sym (length-tabulate (pages_for (length row.bytes)) (page_of_row row)) in
+    let key = row_at-key table image h.version row keeps.in_table in
+    record {
       row = row;
-      is_declared = did.declared;
-      in_table =
-          ap (λ i. row_at (with_row w.table row) i version) (sym is.same_image)
-          ∙ ap (λ v. row_at (with_row w.table row) row.image v) (sym is.same_version)
-          ∙ added_row w row reached is.may.image is.there;
-      before = takes w image version dt o reached some did;
-      after = ap (λ hs. record (small w) { table = with_row w.table row; holdings = hs }) (holdings-set w.store.kept row image is.same_image);
-    })
+      in_table = ap (row_at table image) (sym same) ∙ keeps.in_table;
+      is = ap (λ (x : Held). Some x)
+          (same_held_as h (held_whole row) (sym key.1) keeps.pages keeps.crc (keeps.first ∙ ap (λ (n : ℕ). take n (object row)) many ∙ take-length (object row)));
+    }
 
--- ---- an order
+-- the order's image, where it waits
+pub waiting_whole : (table : List Row) (s : Store) → Agrees table s → is_whole (held s s.order.image) s.order.version ≡ true → Whole table s.order.image s.order.version (held s s.order.image)
+waiting_whole table s agrees is = whole_by table s.order.image s.order.version (held s s.order.image) is (agrees.kept s.order.image)
 
-legal_order : (w : World) (order : Order) (dt : ℕ) (o : Outcome) → Orders w order dt o → LegalOrder (small w) order (small o.world)
-legal_order w order dt o did =
-    let P : Outcome → Type 0 = λ x. LegalOrder (small w) order (small x.world) in
-    subst P (sym did.outcome) (record { larger = did.larger; after = refl })
+holding_whole : (row : Row) → holding (held_whole row) ≡ whole row
+holding_whole row i = record { version = row.version; pages = length-tabulate (pages_for (length row.bytes)) (page_of_row row) i }
 
--- ---- a start
+holds_whole : (table : List Row) (x : Site) (key : Key) (o : Option Held) → held x.store key.image ≡ o → Whole table key.image key.version o → HoldsWhole table (small_mote x) key
+holds_whole table x key o here w = record {
+  row = w.row;
+  in_table = w.in_table;
+  whole_row = holds_at x key.image ∙ ap (option_map holding) (here ∙ w.is) ∙ ap (λ (h : Holding). Some h) (holding_whole w.row);
+}
 
-abbrev key_of : Start → Key
-key_of x = record { image = x.image; version = x.version }
+-- ---- starts
 
-abbrev Chosen : World → Start → Type 0
-Chosen w x = IsGoldenKey (key_of x) ⊎ (((small w).app ≡ Some (key_of x)) ⊎ (IsOrdered (small w) (key_of x) × HoldsWhole (small w) (key_of x)))
+module _ (table : List Row) (x : Site) (agrees : Agrees table x.store) where
+  abbrev Waits : Runs → Type 0
+  Waits r = MayRestart table (small_mote x) (key_of r)
 
-chosen_order : (w : World) (x : Start) → IsReached w → Ordered w.store x → IsOrdered (small w) (key_of x) × HoldsWhole (small w) (key_of x)
-chosen_order w x reached o =
-    let s = w.store in
-    let k = ordered_whole w.table s reached.agrees.store o.waits in
-    let P : Start → Type 0 = λ y. IsOrdered (small w) (key_of y) × HoldsWhole (small w) (key_of y) in
-    subst P (sym o.start) (
-      record { some = (waits-parts s o.waits).some; image = refl; version = refl },
-      record { row = k.row; in_table = k.in_table; whole = holds-small w s.order.image ∙ ap (option_map holding) k.whole ∙ holding-whole k.row },
-    )
+  waits_legal : (r : Runs) → IsWaiting x.store.order (held x.store x.store.order.image) r → Waits r
+  waits_legal r w =
+      let o = x.store.order in
+      let there : Whole table o.image o.version (held x.store o.image) = waiting_whole table x.store agrees w.whole in
+      let here : Whole table r.image r.version (held x.store r.image) =
+      subst (λ (i : ℕ). Whole table i r.version (held x.store i)) w.image (subst (λ (v : ℕ). Whole table o.image v (held x.store o.image)) w.version there) in
+      (record { some = w.some; image = w.image; version = w.version }, holds_whole table x (key_of r) (held x.store r.image) refl here)
 
-chosen_key : (w : World) (x : Start) → IsReached w → start_of w.store ≡ Some x → Chosen w x
-chosen_key w x reached e =
-    elim (choice_of w.store x e) [
-      | inl o ↦ inr (inr (chosen_order w x reached o))
-      | inr rest ↦ elim rest [
-        | inl g ↦
-            let P : Start → Type 0 = λ y. (small w).app ≡ Some (key_of y) in
-            inr (inl (subst P (sym g.start) (ap (option_map app_key) g.set)))
-        | inr g ↦ let P : Start → Type 0 = λ y. IsGoldenKey (key_of y) in inl (subst P (sym g.start) (refl, refl))
-      ]
-    ]
+  may_start : (r : Runs) → MayRun x.store r → MayStart table (small_mote x) (key_of r)
+  may_start r may =
+      ⊎_elim
+      (λ golden. inl (ap (λ (k : Key). k.image) golden, ap (λ (k : Key). k.version) golden))
+      (λ other. ⊎_elim (λ set. inr (inl set)) (λ waits. inr (inr (waits_legal r waits))) other)
+      may
 
-legal_start : (w : World) (dt : ℕ) (o : Outcome) → IsReached w → Started w dt o → LegalStart (small w) (small o.world)
-legal_start w dt o reached did =
-    let x = did.start in
-    let P : Outcome → Type 0 = λ y. LegalStart (small w) (small y.world) in
-    subst P (sym did.outcome) (record {
-      key = key_of x;
-      app = Some (key_of x);
-      chosen = chosen_key w x reached did.chosen;
-      memory = inl refl;
-      after = ap (λ (s : Store). small (record (counted w dt) { store = s; runs = Some (key_of x) })) (after_start w.store x did.chosen);
-    })
+  -- where the start is not stopped
+  pub legal_start : (k : Kind) (r : Runs) (now : ℕ) → (boot k x.store).runs ≡ Some r → LegalStart table (small_mote x) (mote (last (boot k x.store).trail) (Some (record { key = key_of r; since = now })))
+  legal_start k r now runs =
+      let b = boot k x.store in
+      let start = boot_start k x.store in
+      let way = Through-last (OnWay x.store b.runs) b.trail (boot_way k x.store) in
+      record {
+        key = key_of r;
+        app = option_map app_key (last b.trail).app;
+        chosen = may_start r (start.chosen r runs);
+        memory =
+            ⊎_elim
+            (λ set. inl set)
+            (λ blank. inr (ap (option_map app_key) blank.0, (ap (λ (q : Key). q.image) blank.1, ap (λ (q : Key). q.version) blank.1)))
+            (start.memory r runs);
+        change = λ i. record { holdings = map (option_map holding) (way.kept i); app = option_map app_key (last b.trail).app; order = way.order i; runs = Some (key_of r) };
+      }
 
--- ---- every event
+  pub chosen_start : (k : Kind) (r : Runs) → (boot k x.store).runs ≡ Some r → MayStart table (small_mote x) (key_of r)
+  chosen_start k r runs = may_start r ((boot_start k x.store).chosen r runs)
 
-legal_done : (w : World) (event : Event) (o : Outcome) → IsReached w → FitsEvent event → Does w event o → LegalDone w.declared (small w) event (small o.world)
-legal_done w (Reset dt word) o reached fits did = legal_start w dt o reached did
-legal_done w (Inject image version dt word) o reached fits did = legal_inject w image version dt o reached fits.0 fits.1 did
-legal_done w (OrderEvent number image version dt word) o reached fits did = legal_order w (record { number = number; image = image; version = version }) dt o did
+  cut_app : (k : Kind) (may : Key → Type 0) → ((r : Runs) → (boot k x.store).runs ≡ Some r → may (key_of r)) → (new : Option App) → AppOnWay x.store.app (boot k x.store).runs new
+      → (option_map app_key new ≡ (small_mote x).app) ⊎ ((option_map app_key new ≡ None) ⊎ ((key : Key) × (option_map app_key new ≡ Some key) × may key))
+  cut_app k may chosen new way =
+      ⊎_elim
+      (λ same. inl (ap (option_map app_key) same))
+      (λ other. ⊎_elim
+      (λ blank. inr (inl (ap (option_map app_key) blank)))
+      (λ set. inr (inr (key_of set.0, ap (option_map app_key) set.2, chosen set.0 set.1)))
+      other)
+      way
 
-legal_happens : (w : World) (event : Event) (o : Outcome) → IsReached w → FitsEvent event → Happens w event o → Legal w.declared (cause_of w event) (small w) event (small o.world)
-legal_happens w event o reached fits (is_refused cause why outcome) =
-    let P : Option Cause → Type 0 = λ c. Legal w.declared c (small w) event (small o.world) in
-    subst P (sym why) (ap (λ (x : Outcome). small x.world) outcome)
-legal_happens w event o reached fits (is_done why did) =
-    let P : Option Cause → Type 0 = λ c. Legal w.declared c (small w) event (small o.world) in
-    subst P (sym why) (legal_done w event o reached fits did)
+  -- where a cut blew in it
+  pub cut_start : (k : Kind) (may : Key → Type 0) → ((r : Runs) → (boot k x.store).runs ≡ Some r → may (key_of r)) → Through (λ s. CutStart may (small_mote x) (mote s None)) (boot k x.store).trail
+  cut_start k may chosen =
+      let b = boot k x.store in
+      Through-map (OnWay x.store b.runs) (λ s. CutStart may (small_mote x) (mote s None))
+      (λ s way. record {
+        app = option_map app_key s.app;
+        how = cut_app k may chosen s.app way.app;
+        change = λ i. record { holdings = map (option_map holding) (way.kept i); app = option_map app_key s.app; order = way.order i; runs = None };
+      })
+      b.trail (boot_way k x.store)
 
--- the step by the rules is legal
-pub legal_event : (w : World) (event : Event) (o : Outcome) → IsReached w → FitsEvent event → by_rules w event ≡ Some o → Legal w.declared (cause_of w event) (small w) event (small o.world)
-legal_event w event o reached fits e = legal_happens w event o reached fits (happens w event o e)
+  -- a tick starts the order's image alone
+  pub tick_starts : IsTable table → ((row : Row) → IsRow row → RowLaws row) → order_waits x.store ≡ true → IsSettled x.store
+      → (boot kind.Order x.store).runs ≡ Some (kept_runs x.store x.store.order.image x.store.order.version)
+  tick_starts is_table laws waits settled =
+      let o = x.store.order in
+      let w = waiting_whole table x.store agrees (waits_whole x.store waits) in
+      let known = laws w.row (row_at-each IsRow table o.image o.version w.row is_table.each w.in_table) in
+      order_alone x.store waits settled (known.is_sound x.store o.image w.is)
 
--- ---- what legal steps keep
+  pub tick_waits : order_waits x.store ≡ true → Waits (kept_runs x.store x.store.order.image x.store.order.version)
+  tick_waits waits =
+      let o = x.store.order in
+      waits_legal (kept_runs x.store o.image o.version) (record { some = waits_some x.store waits; image = refl; version = refl; whole = waits_whole x.store waits })
 
-kept_same : (h : Holding) → IsKeptIn (Some h) h
-kept_same h = inr (refl, omega arith)
-
-pub keeps_same : (old new : Small) → new.holdings ≡ old.holdings → KeepsVersions old new
-keeps_same old new same i h e =
-    let P : Option Holding → Type 0 = λ o. IsKeptIn o h in
-    subst P (sym (ap (λ hs. get_or hs i None) same ∙ e)) (kept_same h)
-
-keeps_inject : (declared : List Row) (old : Small) (image version : ℕ) (new : Small) → LegalInject declared old image version new → KeepsVersions old new
-keeps_inject declared old image version new legal i h e =
-    let taken : Option Holding = Some (whole legal.row) in
-    let P : ℕ → Option Holding → Type 0 = λ j o. (k : Holding) → holds old j ≡ Some k → IsKeptIn o k in
-    let here : P image taken = λ k there. let Q : Option Holding → Type 0 = λ o. MayTake o legal.row in subst Q there legal.before in
-    let others : (j : ℕ) → P j (get_or old.holdings j None) = λ j k there. keeps_same old old refl j k there in
-    let R : Small → Type 0 = λ s. IsKeptIn (holds s i) h in
-    subst R (sym legal.after) (set_cases P old.holdings image taken here others i h e)
-
-keeps_done : (declared : List Row) (old : Small) (event : Event) (new : Small) → LegalDone declared old event new → KeepsVersions old new
-keeps_done declared old (Reset dt word) new legal = keeps_same old new (ap (λ (s : Small). s.holdings) legal.after)
-keeps_done declared old (Inject image version dt word) new legal = keeps_inject declared old image version new legal
-keeps_done declared old (OrderEvent number image version dt word) new legal = keeps_same old new (ap (λ (s : Small). s.holdings) legal.after)
-
--- across a legal step no version falls, and complete pages stay
-pub keeps_versions : (declared : List Row) (cause : Option Cause) (old : Small) (event : Event) (new : Small) → Legal declared cause old event new → KeepsVersions old new
-keeps_versions declared None old event new legal = keeps_done declared old event new legal
-keeps_versions declared (Some cause) old event new legal = keeps_same old new (ap (λ (s : Small). s.holdings) legal)
-
--- ---- golden stays
-
-golden_inject : (declared : List Row) (old : Small) (image version : ℕ) (new : Small) → LegalInject declared old image version new → holds new 0 ≡ holds old 0
-golden_inject declared old image version new legal =
-    let some : 1 ≤ image = legal.known in
-    ap (λ (s : Small). holds s 0) legal.after ∙ get_or-set_other old.holdings image 0 (Some (whole legal.row)) None (λ z. omega arith)
-
-golden_done : (declared : List Row) (old : Small) (event : Event) (new : Small) → LegalDone declared old event new → holds new 0 ≡ holds old 0
-golden_done declared old (Reset dt word) new legal = ap (λ (s : Small). holds s 0) legal.after
-golden_done declared old (Inject image version dt word) new legal = golden_inject declared old image version new legal
-golden_done declared old (OrderEvent number image version dt word) new legal = ap (λ (s : Small). holds s 0) legal.after
-
--- across a legal step golden stays as it is
-pub keeps_golden : (declared : List Row) (cause : Option Cause) (old : Small) (event : Event) (new : Small) → Legal declared cause old event new → holds new 0 ≡ holds old 0
-keeps_golden declared None old event new legal = golden_done declared old event new legal
-keeps_golden declared (Some cause) old event new legal = ap (λ (s : Small). holds s 0) legal
+  pub tick_start : (now : ℕ) → order_waits x.store ≡ true → (boot kind.Order x.store).runs ≡ Some (kept_runs x.store x.store.order.image x.store.order.version)
+      → LegalTick table false (small_mote x) (mote (last (boot kind.Order x.store).trail) (Some (record { key = key_of (kept_runs x.store x.store.order.image x.store.order.version); since = now })))
+  unfolding legal_start
+  tick_start now waits chosen =
+      inr (legal_start kind.Order (kept_runs x.store x.store.order.image x.store.order.version) now chosen, tick_waits waits)

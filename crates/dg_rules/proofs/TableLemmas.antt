@@ -1,9 +1,9 @@
 -- Rows of a table, and a table with one row more.
-use Rattle.std.proofs.Common.{◌≡◌, ◌⊎◌, ℕ, ◌≤◌, arith, Bool, true, false, ◌==◌, ◌||◌, List, [], ◌∷◌, Option, Some, None, refl, sym, ap, subst, ◌∙◌, inl, inr, find, eqb-true, eq-eqb}
+use Rattle.std.proofs.Common.{◌≡◌, ◌⊎◌, ℕ, ◌≤◌, arith, Bool, true, false, ◌==◌, ◌||◌, List, [], ◌∷◌, ◌++◌, Option, Some, None, refl, sym, ap, subst, ◌∙◌, inl, inr, find, eqb-true, eq-eqb}
 use Rattle.std.specs.List.{list_any, AllByRecursion, IsDistinct}
 use Rattle.std.proofs.lemmas.Bool.{cases_Bool, and_parts, and_from, or_parts, cond-true, cond-false}
 use Rattle.dg_object.specs.Object.{Row, IsRow}
-use Rattle.dg_rules.specs.Table.{has_key, same_key, row_at, with_row, IsTable}
+use Rattle.dg_volume.specs.Table.{has_key, same_key, row_at, with_row, IsTable}
 
 pub same_some : {A : Type 0} (x y : A) → Some x ≡ Some y → x ≡ y
 same_some x y e = cc
@@ -183,3 +183,42 @@ IsTable-one row is image version =
       golden = (row, find_here (has_key 0 1) row [] (and_from (row.image == 0) (row.version == 1) (eq-eqb row.image 0 image) (eq-eqb row.version 1 version)));
       alone = λ v r e. one_alone row r v version e;
     }
+
+-- ---- a row behind the others
+
+-- a row that is found was there, or is the last one
+pub row_at-of_push : (rows : List Row) (row r : Row) (image version : ℕ) → row_at (rows ++ row ∷ []) image version ≡ Some r
+    → (row_at rows image version ≡ Some r) ⊎ ((row_at rows image version ≡ None) × (r ≡ row) × (row.image ≡ image) × (row.version ≡ version))
+row_at-of_push [] row r image version e =
+    elim (row_at-cons [] row r image version e) [
+      | inl here ↦ inr (refl, here.0, here.1, here.2)
+      | inr there ↦ absurd (not_none None r there refl)
+    ]
+row_at-of_push (x ∷ xs) row r image version e =
+    elim (cases_Bool (has_key image version x)) [
+      | inl here ↦ inl (find_here (has_key image version) x xs here ∙ sym (find_here (has_key image version) x (xs ++ row ∷ []) here) ∙ e)
+      | inr later ↦
+          let behind = find_later (has_key image version) x xs later in
+          elim (row_at-of_push xs row r image version (sym (find_later (has_key image version) x (xs ++ row ∷ []) later) ∙ e)) [
+            | inl old ↦ inl (behind ∙ old)
+            | inr new ↦ inr (behind ∙ new.0, new.1, new.2, new.3)
+          ]
+    ]
+
+-- the rows stay
+pub row_at-push : (rows : List Row) (row r : Row) (image version : ℕ) → row_at rows image version ≡ Some r → row_at (rows ++ row ∷ []) image version ≡ Some r
+row_at-push [] row r image version e = absurd (not_none None r e refl)
+row_at-push (x ∷ xs) row r image version e =
+    elim (cases_Bool (has_key image version x)) [
+      | inl here ↦ find_here (has_key image version) x (xs ++ row ∷ []) here ∙ sym (find_here (has_key image version) x xs here) ∙ e
+      | inr later ↦ find_later (has_key image version) x (xs ++ row ∷ []) later ∙ row_at-push xs row r image version (sym (find_later (has_key image version) x xs later) ∙ e)
+    ]
+
+pub all_push : (P : Row → Type 0) (rows : List Row) (row : Row) → AllByRecursion P rows → P row → AllByRecursion P (rows ++ row ∷ [])
+all_push P [] row all p = (p, tt)
+all_push P (x ∷ xs) row all p = (all.0, all_push P xs row all.1 p)
+
+-- the row under its own key
+pub row_at-own : (rows : List Row) (image version : ℕ) (row : Row) → row_at rows image version ≡ Some row → row_at rows row.image row.version ≡ Some row
+row_at-own rows image version row e =
+    let key = row_at-key rows image version row e in ap (λ i. row_at rows i row.version) key.0 ∙ ap (row_at rows image) key.1 ∙ e

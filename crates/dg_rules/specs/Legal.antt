@@ -1,106 +1,110 @@
--- What the steps of a run may change, told of a small state: the table of images and page counts, without pages or flash.
-use Rattle.std.specs.Prelude.{◌≡◌, ◌≢◌, ◌⊎◌, ℕ, ◌<◌, ◌≤◌, List, length, map, slice_index_or, slice_set, Option, Some, None, option_map}
-use Rattle.dg_object.specs.Object.{Row, pages_for}
+-- What a step may change of the small state.
+use Rattle.std.specs.Prelude.{◌≡◌, ◌≢◌, ◌⊎◌, ℕ, ◌<◌, ◌≤◌, Bool, true, false, List, length, slice_set, Option, Some, None}
+use Rattle.dg_object.specs.Object.{Row}
 use Rattle.dg_control.specs.declared.snapshot.Order.{Order}
-use Rattle.dg_plain.specs.Store.{Held, App}
-use Rattle.dg_rules.specs.Table.{row_at, with_row}
-use Rattle.dg_rules.specs.World.{World}
-use Rattle.dg_script.specs.declared.key.Key.{Key}
-use Rattle.dg_script.specs.declared.script.Event.{Event}
-use Rattle.dg_script.specs.declared.script.Event.TheVariants.{Reset, Inject, Order as OrderEvent}
-use Rattle.dg_script.specs.declared.report.Cause.{Cause}
+use Rattle.dg_volume.specs.Sizes.{golden_version}
+use Rattle.dg_volume.specs.Table.{row_at, with_row}
+use Rattle.dg_rules.specs.Small.{Holding, SmallMote, Small, mote_in, holds, whole}
+use Rattle.dg_rules.specs.declared.events.Key.{Key}
+use Rattle.dg_rules.specs.declared.events.Event.{Event}
+use Rattle.dg_rules.specs.declared.events.Event.TheVariants.{Tick, Reset, Inject, Order as OrderEvent}
 
--- a version that is kept of an image, with so many complete pages
-pub record Holding : Type 0 where
-  pub version : ℕ
-  pub pages : ℕ
+-- ---- one mote
 
--- The table, and of the mote: what it keeps of each image from 0 to 3, what program memory is Set to, the kept order, and what runs. Golden, which is image 0, is among the holdings and never changes.
-pub record Small : Type 0 where
-  pub table : List Row
-  pub holdings : List (Option Holding)
-  pub app : Option Key
-  pub order : Order
-  pub runs : Option Key
-
-abbrev pub holding : Held → Holding
-holding h = record { version = h.version; pages = length h.complete }
-
-abbrev pub app_key : App → Key
-app_key app = record { image = app.image; version = app.version }
-
--- the small state of a world
-abbrev pub small : World → Small
-small w = record { table = w.table; holdings = map (option_map holding) w.store.kept; app = option_map app_key w.store.app; order = w.store.order; runs = w.runs }
-
-abbrev pub holds : Small → ℕ → Option Holding
-holds s i = slice_index_or s.holdings i None
-
--- a row whole
-abbrev pub whole : Row → Holding
-whole row = record { version = row.version; pages = pages_for (length row.bytes) }
+-- one holding changes, and all else stays
+abbrev pub taking : SmallMote → ℕ → Option Holding → SmallMote
+taking x i h = record x { holdings = slice_set x.holdings i h }
 
 -- nothing is kept, or an older version, or some pages of this one
-abbrev pub MayTake : Option Holding → Row → Type 0
-MayTake None row = Unit {0}
-MayTake (Some h) row = (h.version < row.version) ⊎ ((h.version ≡ row.version) × (h.pages ≤ pages_for (length row.bytes)))
+abbrev pub MayInject : Option Holding → Row → Type 0
+MayInject None row = Unit {0}
+MayInject (Some h) row = (h.version < row.version) ⊎ ((h.version ≡ row.version) × (h.pages ≤ (whole row).pages))
 
--- An injection of an image from 1 to 3: the table gets the row that was declared if it lacks it, and the mote keeps all its pages. Nothing else changes.
-pub record LegalInject (declared : List Row) (old : Small) (image version : ℕ) (new : Small) : Type 0 where
+-- where a cut blew: what was kept stays; or so many pages of the new version are kept, no fewer than before; or nothing, where an older version was kept
+abbrev pub CutHolding : Option Holding → Row → Option Holding → Type 0
+CutHolding old row None = (old ≡ None) ⊎ ((h : Holding) × (old ≡ Some h) × (h.version < row.version))
+CutHolding old row (Some new) =
+    (old ≡ Some new) ⊎ ((new.version ≡ row.version) × ((h : Holding) → old ≡ Some h → h.version ≡ row.version → h.pages ≤ new.pages))
+
+pub record LegalInject (declared table : List Row) (blew : Bool) (image version : ℕ) (old new : SmallMote) (after : List Row) : Type 0 where
   pub known : 1 ≤ image
-  pub most : image ≤ 3
   pub row : Row
   pub is_declared : row_at declared image version ≡ Some row
-  pub in_table : row_at new.table image version ≡ Some row
-  pub before : MayTake (holds old image) row
-  pub after : new ≡ record old { table = with_row old.table row; holdings = slice_set old.holdings image (Some (whole row)) }
+  pub table_after : after ≡ with_row table row
+  pub before : MayInject (holds old image) row
+  pub held : Option Holding
+  pub change : new ≡ taking old image held
+  pub how : ((blew ≡ false) × (held ≡ Some (whole row))) ⊎ ((blew ≡ true) × CutHolding (holds old image) row held)
 
--- An order: the kept order becomes this one, whose number is larger. Nothing else changes.
-pub record LegalOrder (old : Small) (order : Order) (new : Small) : Type 0 where
+pub record LegalOrder (blew : Bool) (order : Order) (old new : SmallMote) : Type 0 where
   pub larger : old.order.number < order.number
-  pub after : new ≡ record old { order = order }
+  pub change : (new ≡ record old { order = order }) ⊎ ((blew ≡ true) × (new ≡ old))
 
--- the mote keeps this version of this image whole
-pub record HoldsWhole (s : Small) (key : Key) : Type 0 where
-  pub row : Row
-  pub in_table : row_at s.table key.image key.version ≡ Some row
-  pub whole : holds s key.image ≡ Some (whole row)
-
--- the kept order names this version of this image
-pub record IsOrdered (s : Small) (key : Key) : Type 0 where
-  pub some : s.order.number ≢ 0
-  pub image : s.order.image ≡ key.image
-  pub version : s.order.version ≡ key.version
-
--- golden is image 0 with version 1
 abbrev pub IsGoldenKey : Key → Type 0
-IsGoldenKey key = (key.image ≡ 0) × (key.version ≡ 1)
+IsGoldenKey key = (key.image ≡ 0) × (key.version ≡ golden_version)
 
--- A start: golden runs, or what program memory is Set to, or the image that the order names and that is kept whole. Program memory becomes the same, or it is blank where golden runs. Nothing else changes.
-pub record LegalStart (old new : Small) : Type 0 where
+pub record HoldsWhole (table : List Row) (x : SmallMote) (key : Key) : Type 0 where
+  pub row : Row
+  pub in_table : row_at table key.image key.version ≡ Some row
+  pub whole_row : holds x key.image ≡ Some (whole row)
+
+pub record IsOrdered (x : SmallMote) (key : Key) : Type 0 where
+  pub some : x.order.number ≢ 0
+  pub image : x.order.image ≡ key.image
+  pub version : x.order.version ≡ key.version
+
+-- a row that the mote holds whole and that its order names
+abbrev pub MayRestart : List Row → SmallMote → Key → Type 0
+MayRestart table x key = IsOrdered x key × HoldsWhole table x key
+
+-- golden, what program memory is Set to, or such a row
+abbrev pub MayStart : List Row → SmallMote → Key → Type 0
+MayStart table x key = IsGoldenKey key ⊎ ((x.app ≡ Some key) ⊎ MayRestart table x key)
+
+-- a start that was not stopped
+pub record LegalStart (table : List Row) (old new : SmallMote) : Type 0 where
   pub key : Key
   pub app : Option Key
-  pub chosen : IsGoldenKey key ⊎ ((old.app ≡ Some key) ⊎ (IsOrdered old key × HoldsWhole old key))
+  pub chosen : MayStart table old key
   pub memory : (app ≡ Some key) ⊎ ((app ≡ None) × IsGoldenKey key)
-  pub after : new ≡ record old { app = app; runs = Some key }
+  pub change : new ≡ record old { app = app; runs = Some key }
 
-abbrev pub LegalDone : List Row → Small → Event → Small → Type 0
-LegalDone declared old (Reset dt word) new = LegalStart old new
-LegalDone declared old (Inject image version dt word) new = LegalInject declared old image version new
-LegalDone declared old (OrderEvent number image version dt word) new = LegalOrder old (record { number = number; image = image; version = version }) new
+-- one whose cut blew: program memory stays, is blank, or is what was chosen
+pub record CutStart (may : Key → Type 0) (old new : SmallMote) : Type 0 where
+  pub app : Option Key
+  pub how : (app ≡ old.app) ⊎ ((app ≡ None) ⊎ ((key : Key) × (app ≡ Some key) × may key))
+  pub change : new ≡ record old { app = app; runs = None }
 
--- A step behind lines that declared these rows is legal where a refused event changes nothing, and one that is not refused only what its kind allows.
-abbrev pub Legal : List Row → Option Cause → Small → Event → Small → Type 0
-Legal declared (Some cause) old event new = new ≡ old
-Legal declared None old event new = LegalDone declared old event new
+abbrev pub off_after : Bool → SmallMote → SmallMote
+off_after true x = record x { runs = None }
+off_after false x = x
 
--- ---- what legal steps keep
+-- ---- a step
 
--- this version with as many complete pages or more, or a newer version
-abbrev pub IsKeptIn : Option Holding → Holding → Type 0
-IsKeptIn None h = ⊥
-IsKeptIn (Some k) h = (h.version < k.version) ⊎ ((h.version ≡ k.version) × (h.pages ≤ k.pages))
+-- A mote that is off changes by Reset, Inject and Order alone.
+abbrev pub IsOn : SmallMote → Type 0
+IsOn x = (key : Key) × (x.runs ≡ Some key)
 
--- No version falls, and a complete page stays unless a newer version of its image replaces it.
-abbrev pub KeepsVersions : Small → Small → Type 0
-KeepsVersions old new = (i : ℕ) (h : Holding) → holds old i ≡ Some h → IsKeptIn (holds new i) h
+-- A Tick may also change nothing, and it starts the ordered row alone.
+abbrev pub LegalTick : List Row → Bool → SmallMote → SmallMote → Type 0
+LegalTick table false old new = (new ≡ old) ⊎ ((s : LegalStart table old new) × MayRestart table old s.key)
+LegalTick table true old new = CutStart (MayRestart table old) old new
+
+abbrev pub LegalReset : List Row → Bool → SmallMote → SmallMote → Type 0
+LegalReset table false old new = LegalStart table old new
+LegalReset table true old new = CutStart (MayStart table old) old new
+
+-- What an event that is not refused may change at its mote. A cut that blew makes the mote off.
+abbrev pub LegalAt : List Row → List Row → Bool → Event → SmallMote → SmallMote → List Row → Type 0
+LegalAt declared table blew (Tick m dt word) old new after = IsOn old × LegalTick table blew old new × (after ≡ table)
+LegalAt declared table blew (Reset m dt word) old new after = LegalReset table blew old new × (after ≡ table)
+LegalAt declared table blew (Inject m image version dt word) old new after =
+    (mid : SmallMote) × LegalInject declared table blew image version old mid after × (new ≡ off_after blew mid)
+LegalAt declared table blew (OrderEvent m number image version dt word) old new after =
+    (mid : SmallMote) × LegalOrder blew (record { number = number; image = image; version = version }) old mid × (new ≡ off_after blew mid) × (after ≡ table)
+
+-- An event that is not refused changes only what its kind allows, at its mote alone.
+pub record LegalStep (declared : List Row) (blew : Bool) (event : Event) (mote : ℕ) (old new : Small) : Type 0 where
+  pub there : LegalAt declared old.table blew event (mote_in old mote) (mote_in new mote) new.table
+  pub others : (m : ℕ) → m ≢ mote → mote_in new m ≡ mote_in old m
+  pub count : length new.motes ≡ length old.motes

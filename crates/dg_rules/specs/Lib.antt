@@ -1,5 +1,12 @@
-pub mod Table
+pub mod Sizes
 pub mod World
+pub mod Changes
+pub mod Events
+pub mod Steps
+pub mod Small
 pub mod Legal
-pub mod Played
-pub mod Reached
+pub mod Runs
+pub mod Promises
+pub mod Ranges
+pub mod Premises
+pub mod Golden

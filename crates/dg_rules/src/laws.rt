@@ -1,38 +1,84 @@
-//! What holds of worlds and of legal steps. These functions do nothing: their contracts are the laws.
-ghost use Rattle.std.specs.Prelude.{◌≡◌, ℕ, List, Option, Some, None};
-ghost use Rattle.dg_object.specs.Object.{Row, IsRow};
-ghost use Rattle.dg_plain.specs.Store.{golden_row};
-ghost use Rattle.dg_plain.specs.Start.{start_of};
-ghost use Rattle.dg_rules.specs.Table.{row_at};
-ghost use Rattle.dg_rules.specs.World.{World, Outcome, formatted, declare, cause_of, by_rules};
-ghost use Rattle.dg_script.specs.Script.{FitsEvent};
-ghost use Rattle.dg_rules.specs.Legal.{Small, small, holds, Legal, KeepsVersions};
-ghost use Rattle.dg_rules.specs.Played.{StartsAt};
-ghost use Rattle.dg_rules.specs.Reached.{MayBeDeclared, IsReached};
-ghost use Rattle.dg_script.specs.declared.script.Event.{Event};
-ghost use Rattle.dg_script.specs.declared.report.Cause.{Cause};
+//! What holds of worlds and of runs. These functions do nothing: their contracts are the laws.
+ghost use Rattle.std.specs.Prelude.{◌≡◌, ℕ, List, [], length};
+ghost use Rattle.std.specs.List.{AllByRecursion};
+ghost use Rattle.dg_nor.specs.Trail.{Trail, Leaves};
+ghost use Rattle.dg_nor.specs.Through.{Through};
+ghost use Rattle.dg_object.specs.Object.{Row};
+ghost use Rattle.dg_volume.specs.Store.{Store, IsNear};
+ghost use Rattle.dg_volume.specs.Agreement.{Agrees};
+ghost use Rattle.dg_rules.specs.World.{World};
+ghost use Rattle.dg_rules.specs.Steps.{WorldStep, DeclareStep, EndsRun};
+ghost use Rattle.dg_rules.specs.Events.{does};
+ghost use Rattle.dg_rules.specs.Runs.{Played, Plays, EachAfter};
+ghost use Rattle.dg_rules.specs.Promises.{IsLegal, KeepsAll, GoldenStays, StartsDoes, StartsRow};
+ghost use Rattle.dg_rules.specs.Ranges.{EventFits, StepFits};
+ghost use Rattle.dg_rules.specs.Premises.{WorldAgrees, WorldTimely, MayDeclare, PlayedFits, LeavesAgreement, AllOff};
+ghost use Rattle.dg_rules.specs.Golden.{WorldKeepsGolden, FindsImage, PlaysGolden};
+ghost use Rattle.dg_rules.specs.declared.events.Event.{Event};
+ghost use Rattle.dg_rules.specs.declared.events.Step.{Step};
+ghost use Rattle.dg_rules.specs.declared.reports.Report.{Report};
 
-/// The worlds of a replay: formatted boards begin one, and declarations and events that fit lead on to one. Each step
-/// by the rules is legal, what starts is a row of the table, and there is always an image to start.
-pub fn steps_are_legal()
-    ensures begins { (name bytes : List ℕ) → IsRow (golden_row name bytes) → IsReached (formatted name bytes) }
-    ensures declares { (w : World) (row : Row) → IsReached w → MayBeDeclared row
-        → row_at w.declared row.image row.version ≡ None → IsReached (declare w row) }
-    ensures reached { (w : World) (event : Event) (o : Outcome) → IsReached w → FitsEvent event
-        → by_rules w event ≡ Some o → IsReached o.world }
+use dg_volume::{a_whole_image_is_sound, trails_keep_agreement};
 
-    ensures legal { (w : World) (event : Event) (o : Outcome) → IsReached w → FitsEvent event
-        → by_rules w event ≡ Some o → Legal w.declared (cause_of w event) (small w) event (small o.world) }
-    ensures starts { (w : World) (event : Event) (o : Outcome) → IsReached w → FitsEvent event
-        → by_rules w event ≡ Some o → StartsAt event w o.reports }
-    ensures goes { (w : World) → IsReached w → start_of w.store ≡ None → ⊥ }
+/// A store that a cut leaves on a trail of agreeing stores agrees.
+pub fn what_a_cut_leaves_agrees()
+    ensures { (table : List Row) (t : Trail Store) (k : ℕ) (s : Store) → Through (Agrees table) t → Leaves IsNear t k s → Agrees table s }
 {}
 
-/// Across a legal step no version that is kept falls, and a complete page stays unless a newer version of its image
-/// replaces it. Golden stays as it is.
-pub fn legal_steps_keep_versions()
-    ensures versions { (declared : List Row) (cause : Option Cause) (old : Small) (event : Event) (new : Small)
-        → Legal declared cause old event new → KeepsVersions old new }
-    ensures golden { (declared : List Row) (cause : Option Cause) (old : Small) (event : Event) (new : Small)
-        → Legal declared cause old event new → holds new 0 ≡ holds old 0 }
+/// A world that agrees with its table still does after a step, also a cut one, and after a declaration. And no mote
+/// that is on was started later than now.
+pub fn agreement_is_kept()
+    ensures stepped { (w v : World) (x : Step) (reports : List Report) → WorldAgrees w → StepFits (length w.sites) x → WorldStep w x v reports → WorldAgrees v }
+    ensures declared { (w v : World) (row : Row) (reports : List Report) → WorldAgrees w → MayDeclare w row → DeclareStep w row v reports → WorldAgrees v }
+    ensures timely { (w v : World) (x : Step) (reports : List Report) → WorldTimely w → StepFits (length w.sites) x → WorldStep w x v reports → WorldTimely v }
+{
+    trails_keep_agreement();
+}
+
+/// What an event starts is a row of the table, whose length and CRC are told.
+pub fn what_starts_is_a_row()
+    ensures { (w : World) (e : Event) → WorldAgrees w → EventFits (length w.sites) e → StartsDoes (does w e) w.table }
+{
+    a_whole_image_is_sound();
+}
+
+/// Where every mote keeps golden whole, each still does after a step, also a cut one, and no event finds that there is no
+/// image to start, so that none ends the run. Whether anything agrees with a table is no matter.
+pub fn golden_is_found()
+    ensures stepped { (w v : World) (x : Step) (reports : List Report) → WorldKeepsGolden w → StepFits (length w.sites) x → WorldStep w x v reports → WorldKeepsGolden v }
+    ensures found { (w : World) (e : Event) → WorldKeepsGolden w → EventFits (length w.sites) e → FindsImage (does w e) }
+    ensures goes_on { (w v : World) (x : Step) → WorldKeepsGolden w → StepFits (length w.sites) x → EndsRun w x v → ⊥ }
+{
+    a_whole_image_is_sound();
+}
+
+/// In a run from a world that agrees with its table and in which no mote is on, each step is legal after those before
+/// it, each item leaves agreement and starts only rows of the table, and no version falls.
+pub fn every_step_is_legal()
+    ensures legal { (w v : World) (played : List Played) → WorldAgrees w → AllOff w → Plays w played v → AllByRecursion PlayedFits played → EachAfter IsLegal [] played }
+    ensures agrees { (w v : World) (played : List Played) → WorldAgrees w → AllOff w → Plays w played v → AllByRecursion PlayedFits played → AllByRecursion LeavesAgreement played }
+    ensures starts { (w v : World) (played : List Played) → WorldAgrees w → AllOff w → Plays w played v → AllByRecursion PlayedFits played → AllByRecursion StartsRow played }
+    ensures keeps { (w v : World) (played : List Played) → WorldAgrees w → AllOff w → Plays w played v → AllByRecursion PlayedFits played → AllByRecursion KeepsAll played }
+{
+    trails_keep_agreement();
+    a_whole_image_is_sound();
+}
+
+/// What is legal lets no version fall, and no complete page be lost, but to a newer version. Golden stays as it is.
+pub fn versions_do_not_fall()
+    ensures versions { (past : List Played) (p : Played) → IsLegal past p → KeepsAll p }
+    ensures golden { (past : List Played) (p : Played) → IsLegal past p → GoldenStays p }
 {}
+
+/// A script with golden, over freshly formatted chips: whatever is played of it, each step is legal, versions do not
+/// fall, what starts is a row of the table, the chips agree with the table, and the next event finds an image to start.
+pub fn scripts_with_golden()
+    ensures legal { (name bytes : List ℕ) (used motes : ℕ) (played : List Played) (v : World) → PlaysGolden name bytes used motes played v → EachAfter IsLegal [] played }
+    ensures keeps { (name bytes : List ℕ) (used motes : ℕ) (played : List Played) (v : World) → PlaysGolden name bytes used motes played v → AllByRecursion KeepsAll played }
+    ensures starts { (name bytes : List ℕ) (used motes : ℕ) (played : List Played) (v : World) → PlaysGolden name bytes used motes played v → AllByRecursion StartsRow played }
+    ensures agrees { (name bytes : List ℕ) (used motes : ℕ) (played : List Played) (v : World) → PlaysGolden name bytes used motes played v → AllByRecursion LeavesAgreement played × WorldAgrees v }
+    ensures found { (name bytes : List ℕ) (used motes : ℕ) (played : List Played) (v : World) (e : Event) → PlaysGolden name bytes used motes played v → EventFits motes e → FindsImage (does v e) }
+{
+    trails_keep_agreement();
+    a_whole_image_is_sound();
+}

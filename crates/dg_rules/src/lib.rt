@@ -1,7 +1,13 @@
-//! The rules of a world of motes: what its events do, which steps are legal, and what holds of its runs. No call stands
-//! here but laws.
+//! The rules of a world: events, what they do, and which steps are legal.
 #![tactic(auto)]
 
+mod events;
 mod laws;
+mod reports;
 
-pub use laws::{legal_steps_keep_versions, steps_are_legal};
+pub use events::{Cut, Event, Key, Step};
+pub use laws::{
+    agreement_is_kept, every_step_is_legal, golden_is_found, scripts_with_golden,
+    versions_do_not_fall, what_a_cut_leaves_agrees, what_starts_is_a_row,
+};
+pub use reports::{Cause, Report};

@@ -15,6 +15,7 @@ mod preparing;
 mod sealing;
 mod states;
 
+pub use descriptor::{FirstPage, read_descriptor};
 pub use laws::{a_page_is_its_packets, a_slot_stays};
 pub use layout::{PROGRAM_SECTOR, page_sector};
 pub use pages::{read_packet, read_page_crc};

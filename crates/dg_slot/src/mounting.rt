@@ -39,6 +39,16 @@ fn mount_header<N: Nor>(nor: &mut N, image: u8, version: u32) -> Result<Option<O
 }
 
 impl OpenSlot {
+    /// The slot that was told to have this profile and so many complete pages. By itself it says nothing of a chip.
+    pub fn new(profile: Profile, done: u8) -> OpenSlot
+        requires known { profile.image < slots }
+        requires within { done ≤ profile.pages }
+        ensures same { outline_told result ≡ outline_of profile }
+        ensures done { done_told result ≡ done }
+    {
+        OpenSlot { profile, done }
+    }
+
     /// What a slot keeps that is Live with this version. `None` exactly where no header of that version stands there,
     /// or page 0 is complete and does not fit it.
     pub fn mount<N: Nor>(nor: &mut N, image: u8, version: u32) -> Result<Option<OpenSlot>, Stopped>

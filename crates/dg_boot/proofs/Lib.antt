@@ -1,0 +1,13 @@
+pub mod ReadLemmas
+pub mod PageLemmas
+pub mod CopyLemmas
+pub mod SoundLemmas
+pub mod ContentLemmas
+pub mod DescriptorLemmas
+pub mod LoadLemmas
+pub mod CommitLemmas
+pub mod BeginLemmas
+pub mod BootLemmas
+pub mod CaseLemmas
+pub mod StartLemmas
+pub mod LawLemmas

@@ -1,0 +1,116 @@
+//! Pages that are read and copied piece by piece, with their checksums.
+ghost use Rattle.std.specs.Prelude.{◌≡◌, ◌≢◌, ℕ, ◌+◌, ◌-◌, ◌*◌, ◌<◌, ◌≤◌, ⊤, length, min, IfOk, OnOk, OnErr};
+ghost use Rattle.dg_words.specs.Cells.{part};
+ghost use Rattle.dg_base.specs.Crc.{crc_more};
+ghost use Rattle.dg_nor.specs.Sizes.{sectors};
+ghost use Rattle.dg_nor.specs.Chip.{sector, programmed, Touches};
+ghost use Rattle.dg_nor.specs.Device.{Ran, Halts, Halted};
+ghost use Rattle.dg_nor.specs.Reads.{ReadEnds};
+ghost use Rattle.dg_slot.specs.Layout.{page_size};
+ghost use Rattle.dg_slot.specs.Pages.{page_in};
+ghost use Rattle.dg_volume.specs.Sizes.{copy_operations};
+ghost use Rattle.dg_boot.specs.Sizes.{piece_size};
+
+use dg_base::crc16_more;
+use dg_nor::{Nor, Stopped, erase_sector, program_in, read_in};
+
+/// The bytes of a page that are read and programmed at once.
+const PIECE_SIZE: u32 = 184;
+
+/// The pieces of a page.
+const PIECES: u32 = 6;
+
+/// Reads the bytes of a sector from `at` on into `piece`, and gives their checksum behind `before`.
+fn piece_crc<N: Nor>(
+    nor: &mut N,
+    index: u32,
+    at: u32,
+    piece: &mut [u8],
+    before: u16,
+) -> Result<u16, Stopped>
+    requires in_chip { index < sectors }
+    requires in_page { at + length piece.old ≤ page_size }
+    ensures crc { IfOk result (λ crc. crc ≡ crc_more before (part (sector (N.device nor.old).image index) at (length piece.old))) }
+    ensures ends { ReadEnds result (N.device nor.old) (N.device nor.new) }
+{
+    read_in(nor, index, at, piece)?;
+    Ok(crc16_more(before, piece))
+}
+
+/// The checksum of the first `count` bytes of a sector behind `before`.
+pub(crate) fn front_crc<N: Nor>(
+    nor: &mut N,
+    index: u32,
+    count: u32,
+    before: u16,
+) -> Result<u16, Stopped>
+    requires in_chip { index < sectors }
+    requires in_page { count ≤ page_size }
+    ensures crc { IfOk result (λ crc. crc ≡ crc_more before (part (sector (N.device nor.old).image index) 0 count)) }
+    ensures ends { ReadEnds result (N.device nor.old) (N.device nor.new) }
+{
+    let mut piece = [0; PIECE_SIZE as usize];
+    let mut crc = before;
+    let mut at = 0;
+    while at < count {
+        let len = (count - at).min(PIECE_SIZE);
+        crc = piece_crc(nor, index, at, &mut piece[..len as usize], crc)?;
+        at += len;
+    }
+    Ok(crc)
+}
+
+/// Copies a piece of one sector into another, where it stands erased, and gives the checksum behind `before` of its
+/// bytes that are among the first `count` of the sector. 1 operation.
+fn copy_piece<N: Nor>(
+    nor: &mut N,
+    from: u32,
+    to: u32,
+    at: u32,
+    count: u32,
+    before: u16,
+) -> Result<u16, Stopped>
+    requires from_in { from < sectors }
+    requires to_in { to < sectors }
+    requires apart { from ≢ to }
+    requires in_page { at + piece_size ≤ page_size }
+    ensures cells { OnOk result (sector (N.device nor.new).image to
+        ≡ programmed (sector (N.device nor.old).image to) at (part (sector (N.device nor.old).image from) at piece_size)) }
+    ensures crc { IfOk result (λ crc. crc ≡ crc_more before (part (sector (N.device nor.old).image from) at (min (count - at) piece_size))) }
+    ensures touches { Touches to (to + 1) (N.device nor.old).image (N.device nor.new).image }
+    ensures ran { OnOk result (Ran 1 (N.device nor.old) (N.device nor.new)) }
+    ensures stopped { OnErr result (Halts 1 0 (N.device nor.old) (N.device nor.new)) }
+{
+    let mut piece = [0; PIECE_SIZE as usize];
+    read_in(nor, from, at, &mut piece)?;
+    program_in(nor, to, at, &piece)?;
+    let summed = count.saturating_sub(at).min(PIECE_SIZE);
+    Ok(crc16_more(before, &piece[..summed as usize]))
+}
+
+/// Copies the page in one sector into another, which is erased first, and gives the checksum behind `before` of its
+/// first `count` bytes. 7 operations.
+pub(crate) fn copy_page<N: Nor>(
+    nor: &mut N,
+    from: u32,
+    to: u32,
+    count: u32,
+    before: u16,
+) -> Result<u16, Stopped>
+    requires from_in { from < sectors }
+    requires to_in { to < sectors }
+    requires apart { from ≢ to }
+    requires in_page { count ≤ page_size }
+    ensures page { OnOk result (page_in (N.device nor.new).image to ≡ page_in (N.device nor.old).image from) }
+    ensures crc { IfOk result (λ crc. crc ≡ crc_more before (part (sector (N.device nor.old).image from) 0 count)) }
+    ensures touches { Touches to (to + 1) (N.device nor.old).image (N.device nor.new).image }
+    ensures ran { OnOk result (Ran copy_operations (N.device nor.old) (N.device nor.new)) }
+    ensures stopped { OnErr result (Halted copy_operations (λ _ _. ⊤) (N.device nor.old) (N.device nor.new)) }
+{
+    erase_sector(nor, to)?;
+    let mut crc = before;
+    for k in 0..PIECES {
+        crc = copy_piece(nor, from, to, PIECE_SIZE * k, count, crc)?;
+    }
+    Ok(crc)
+}

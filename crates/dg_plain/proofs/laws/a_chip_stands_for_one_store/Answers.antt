@@ -1,5 +1,0 @@
-use Rattle.dg_plain.proofs.StoreLemmas.{one_store, tells_store}
-use Rattle.dg_plain.proofs.laws.a_chip_stands_for_one_store.Goals as goal
-
-pub returns : goal.returns
-returns c = record { one = one_store; told = tells_store }

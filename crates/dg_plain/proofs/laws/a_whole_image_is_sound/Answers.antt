@@ -1,5 +1,0 @@
-use Rattle.dg_plain.proofs.WholeLemmas.{row_laws}
-use Rattle.dg_plain.proofs.laws.a_whole_image_is_sound.Goals as goal
-
-pub returns : goal.returns
-returns c = row_laws

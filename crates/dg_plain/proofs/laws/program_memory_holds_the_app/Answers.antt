@@ -1,5 +1,0 @@
-use Rattle.dg_plain.proofs.StoreLemmas.{app_stands}
-use Rattle.dg_plain.proofs.laws.program_memory_holds_the_app.Goals as goal
-
-pub returns : goal.returns
-returns c = app_stands

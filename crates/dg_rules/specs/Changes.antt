@@ -1,0 +1,70 @@
+-- What is reported of a chip that changed.
+use Rattle.std.specs.Prelude.{ℕ, ◌-◌, ◌==◌, ◌&&◌, Bool, false, if◌then◌else◌, List, [], ◌∷◌, ◌++◌, length, not, Option, Some, None}
+use Rattle.std.specs.List.{filter_map, flat_map, range_with_len}
+use Rattle.dg_control.specs.declared.snapshot.Order.{Order}
+use Rattle.dg_slot.specs.Kept.{Held}
+use Rattle.dg_object.specs.Object.{Row}
+use Rattle.dg_volume.specs.Sizes.{images}
+use Rattle.dg_volume.specs.Store.{Store, held}
+use Rattle.dg_volume.specs.Changes.{same_bytes}
+use Rattle.dg_volume.specs.Start.{Runs, runs_length, runs_crc}
+use Rattle.dg_rules.specs.declared.reports.Report.{Report}
+use Rattle.dg_rules.specs.declared.reports.Report.TheVariants.{Order as OrderLine, Lost, Have, Start, Taken, End, MoteOn, MoteOff, Kept}
+use Rattle.dg_rules.specs.World.{World, Running, Site, site}
+
+abbrev pub same_order : Order → Order → Bool
+same_order a b = (a.number == b.number) && ((a.image == b.image) && (a.version == b.version))
+
+abbrev pub order_change : ℕ → Order → Order → List Report
+order_change m old new = if same_order old new then [] else OrderLine m new.number new.image new.version ∷ []
+
+abbrev pub same_held : Option Held → Held → Bool
+same_held None new = false
+same_held (Some old) new = (old.version == new.version) && (length old.complete == length new.complete)
+
+abbrev pub lost_change : ℕ → ℕ → Option Held → Option Report
+lost_change m i None = None
+lost_change m i (Some old) = Some (Lost m i)
+
+abbrev pub have_change : ℕ → ℕ → Option Held → Option Held → Option Report
+have_change m i old None = lost_change m i old
+have_change m i old (Some new) = if same_held old new then None else Some (Have m i new.version (length new.complete))
+
+-- the stores before and after an event are compared
+abbrev pub changes : ℕ → Store → Store → List Report
+changes m old new =
+    order_change m old.order new.order ++ filter_map (λ i. have_change m i (held old i) (held new i)) (range_with_len 0 images)
+
+abbrev pub start_line : ℕ → Option Runs → List Report
+start_line m None = []
+start_line m (Some r) = Start m r.image r.version (runs_length r) (runs_crc r) ∷ []
+
+-- ---- declarations
+
+abbrev pub same_row : Row → Row → Bool
+same_row a b = same_bytes a.name b.name && same_bytes a.bytes b.bytes
+
+-- the key is declared with another name or content
+abbrev pub is_taken : Option Row → Row → Bool
+is_taken None row = false
+is_taken (Some kept) row = not (same_row kept row)
+
+abbrev pub declared_lines : Option Row → Row → List Report
+declared_lines kept row = if is_taken kept row then Taken row.image row.version ∷ [] else []
+
+-- ---- the last lines
+
+abbrev pub mote_line : ℕ → Option Running → Report
+mote_line m None = MoteOff m
+mote_line m (Some r) = MoteOn m r.key.image r.key.version
+
+abbrev pub kept_line : ℕ → ℕ → Option Held → Option Report
+kept_line m i None = None
+kept_line m i (Some h) = Some (Kept m i h.version (length h.complete))
+
+-- of a mote: what runs, and what is kept of each image but golden
+abbrev pub site_lines : ℕ → Site → List Report
+site_lines m x = mote_line m x.runs ∷ filter_map (λ i. kept_line m i (held x.store i)) (range_with_len 1 (images - 1))
+
+abbrev pub final_lines : World → List Report
+final_lines w = End w.events ∷ flat_map (λ m. site_lines m (site w m)) (range_with_len 0 (length w.sites))

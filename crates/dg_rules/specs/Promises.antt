@@ -1,0 +1,90 @@
+-- What holds of each item of a run: it is legal, what is kept stays, and what starts is one row of the table, byte for byte.
+use Rattle.std.specs.Prelude.{◌≡◌, ◌⊎◌, ℕ, ◌<◌, ◌≤◌, true, List, length, Option, Some, None, IfSome}
+use Rattle.dg_object.specs.Object.{Row, object}
+use Rattle.dg_base.specs.Crc.{crc_of}
+use Rattle.dg_volume.specs.Start.{Runs, runs_length, runs_crc}
+use Rattle.dg_volume.specs.Table.{row_at}
+use Rattle.dg_rules.specs.World.{World}
+use Rattle.dg_rules.specs.Events.{Does, Refuses, Goes, does, mote_of}
+use Rattle.dg_rules.specs.Steps.{blows}
+use Rattle.dg_rules.specs.Small.{Holding, small, mote_in, holds}
+use Rattle.dg_rules.specs.Legal.{LegalStep}
+use Rattle.dg_rules.specs.Runs.{Item, Declares, Happens, Played}
+use Rattle.dg_rules.specs.declared.events.Event.{Event}
+use Rattle.dg_rules.specs.declared.events.Event.TheVariants.{Tick, Reset, Inject, Order as OrderEvent}
+use Rattle.dg_rules.specs.declared.events.Step.{Step}
+
+-- ---- legality
+
+-- a refused event changes nothing
+abbrev pub LegalDoes : Does → World → Step → World → Type 0
+LegalDoes (Refuses why) w x v = small v ≡ small w
+LegalDoes (Goes d) w x v = LegalStep w.declared (blows x.cut d.trail) x.event (mote_of x.event) (small w) (small v)
+
+abbrev pub LegalItem : Item → World → World → Type 0
+LegalItem (Declares row) w v = small v ≡ small w
+LegalItem (Happens step) w v = LegalDoes (does w step.event) w step v
+
+-- What was played is legal after what was played before it, the newest first. No event of today looks back.
+abbrev pub IsLegal : List Played → Played → Type 0
+IsLegal past p = LegalItem p.item p.before p.after
+
+-- ---- what is kept stays
+
+-- this version with as many complete pages or more, or a newer version
+abbrev pub IsKeptIn : Option Holding → Holding → Type 0
+IsKeptIn None h = ⊥
+IsKeptIn (Some k) h = (h.version < k.version) ⊎ ((h.version ≡ k.version) × (h.pages ≤ k.pages))
+
+-- an injection brings a newer version of the image
+abbrev pub Replaces : Event → ℕ → Holding → Type 0
+Replaces (Inject m image version dt word) i h = (image ≡ i) × (h.version < version)
+Replaces (Tick m dt word) i h = ⊥
+Replaces (Reset m dt word) i h = ⊥
+Replaces (OrderEvent m number image version dt word) i h = ⊥
+
+-- the cut of the step blew
+abbrev pub IsBlown : Does → Step → Type 0
+IsBlown (Refuses why) x = ⊥
+IsBlown (Goes d) x = blows x.cut d.trail ≡ true
+
+-- its power was cut while a newer version replaced it, and nothing is kept of the image
+pub record IsReplacing (w : World) (x : Step) (m i : ℕ) (h : Holding) (new : Option Holding) : Type 0 where
+  pub none : new ≡ None
+  pub at : m ≡ mote_of x.event
+  pub newer : Replaces x.event i h
+  pub cut : IsBlown (does w x.event) x
+
+-- No version falls, and a complete page stays unless a newer version of its image replaces it, which a cut may have left half done.
+abbrev pub KeepsItem : Item → World → World → Type 0
+KeepsItem (Declares row) w v = (m i : ℕ) (h : Holding) → holds (mote_in (small w) m) i ≡ Some h → IsKeptIn (holds (mote_in (small v) m) i) h
+KeepsItem (Happens step) w v = (m i : ℕ) (h : Holding) → holds (mote_in (small w) m) i ≡ Some h
+    → IsKeptIn (holds (mote_in (small v) m) i) h ⊎ IsReplacing w step m i h (holds (mote_in (small v) m) i)
+
+abbrev pub KeepsAll : Played → Type 0
+KeepsAll p = KeepsItem p.item p.before p.after
+
+-- what is kept of golden stays as it is
+abbrev pub GoldenStays : Played → Type 0
+GoldenStays p = (m : ℕ) → holds (mote_in (small p.after) m) 0 ≡ holds (mote_in (small p.before) m) 0
+
+-- ---- what starts
+
+-- What runs is a row of the table: its pages are the row's object, and its length and CRC are those of the row's bytes.
+pub record RunsRow (table : List Row) (r : Runs) : Type 0 where
+  pub row : Row
+  pub in_table : row_at table r.image r.version ≡ Some row
+  pub pages : r.pages ≡ object row
+  pub length_told : runs_length r ≡ length row.bytes
+  pub crc_told : runs_crc r ≡ crc_of row.bytes
+
+abbrev pub StartsDoes : Does → List Row → Type 0
+StartsDoes (Refuses why) table = Unit {0}
+StartsDoes (Goes d) table = IfSome d.started (RunsRow table)
+
+abbrev pub StartsItem : Item → World → Type 0
+StartsItem (Declares row) w = Unit {0}
+StartsItem (Happens step) w = StartsDoes (does w step.event) w.table
+
+abbrev pub StartsRow : Played → Type 0
+StartsRow p = StartsItem p.item p.before

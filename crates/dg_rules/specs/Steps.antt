@@ -1,0 +1,77 @@
+-- The step of a world: whole, or cut in one of its operations.
+use Rattle.std.specs.Prelude.{◌≡◌, ℕ, ◌-◌, nat_le, Bool, true, false, List, [], ◌∷◌, ◌++◌, Option, Some, None}
+use Rattle.dg_nor.specs.Trail.{Trail, operations, last, Leaves}
+use Rattle.dg_object.specs.Object.{Row}
+use Rattle.dg_volume.specs.Store.{Store, IsNear}
+use Rattle.dg_volume.specs.Table.{row_at}
+use Rattle.dg_rules.specs.World.{World, Running, store_at, with_site, counted}
+use Rattle.dg_rules.specs.Changes.{changes, start_line, declared_lines}
+use Rattle.dg_rules.specs.Events.{Deed, Does, Refuses, Goes, does, mote_of, dt_of}
+use Rattle.dg_rules.specs.declared.events.Cut.{Cut}
+use Rattle.dg_rules.specs.declared.events.Step.{Step}
+use Rattle.dg_rules.specs.declared.reports.Report.{Report}
+use Rattle.dg_rules.specs.declared.reports.Report.TheVariants.{Off, Refused}
+
+-- A cut blows in the operation with its number, where the event makes so many.
+abbrev pub blows : Option Cut → Trail Store → Bool
+blows None t = false
+blows (Some cut) t = nat_le cut.after (operations t)
+
+-- the operations that are made before it
+abbrev pub before_cut : Option Cut → ℕ
+before_cut None = 0
+before_cut (Some cut) = cut.after - 1
+
+-- the world after an event at mote m that was not stopped
+abbrev pub done_world : World → (m dt : ℕ) → Deed → Option Running → World
+done_world w m dt d runs =
+    with_site (record (counted w dt) { table = d.table }) m (record { store = last d.trail; runs = runs })
+
+-- the world after one whose cut left store s: the mote is off
+abbrev pub cut_world : World → (m dt : ℕ) → Deed → Store → World
+cut_world w m dt d s = with_site (record (counted w dt) { table = d.table }) m (record { store = s; runs = None })
+
+abbrev pub done_reports : World → ℕ → Deed → List Report
+done_reports w m d = changes m (store_at w m) (last d.trail) ++ start_line m d.started
+
+-- the event was not stopped: what comes is a function of the world and the event
+abbrev pub IsDone : World → (m dt : ℕ) → Deed → World → List Report → Type 0
+IsDone w m dt d v reports = (runs : Option Running) × (d.runs ≡ Some runs) × (v ≡ done_world w m dt d runs) × (reports ≡ done_reports w m d)
+
+-- the cut blew: the chip stands for one of the stores that the trail leaves there
+pub record IsCut (w : World) (m dt : ℕ) (d : Deed) (k : ℕ) (v : World) (reports : List Report) : Type 0 where
+  pub store : Store
+  pub allowed : Leaves IsNear d.trail k store
+  pub world : v ≡ cut_world w m dt d store
+  pub report : reports ≡ changes m (store_at w m) store ++ Off m ∷ []
+
+abbrev pub Ended : Bool → World → Step → Deed → World → List Report → Type 0
+Ended true w x d v reports = IsCut w (mote_of x.event) (dt_of x.event) d (before_cut x.cut) v reports
+Ended false w x d v reports = IsDone w (mote_of x.event) (dt_of x.event) d v reports
+
+abbrev pub StepDoes : Does → World → Step → World → List Report → Type 0
+StepDoes (Refuses why) w x v reports = (v ≡ counted w (dt_of x.event)) × (reports ≡ Refused (mote_of x.event) why ∷ [])
+StepDoes (Goes d) w x v reports = Ended (blows x.cut d.trail) w x d v reports
+
+-- from world w, a step may lead to world v with these report lines
+unfoldable pub WorldStep : World → Step → World → List Report → Type 0
+WorldStep w x v reports = StepDoes (does w x.event) w x v reports
+
+-- A start that found no image ends the run: the mote is off, and its store is the last of the trail.
+pub record EndsRun (w : World) (x : Step) (v : World) : Type 0 where
+  pub deed : Deed
+  pub goes : does w x.event ≡ Goes deed
+  pub whole : blows x.cut deed.trail ≡ false
+  pub none : deed.runs ≡ None
+  pub world : v ≡ cut_world w (mote_of x.event) (dt_of x.event) deed (last deed.trail)
+
+-- ---- declarations
+
+abbrev pub declared_as : Option Row → World → Row → World
+declared_as None w row = record w { declared = w.declared ++ row ∷ [] }
+declared_as (Some kept) w row = w
+
+-- A row is declared: it is added where its key is not there. Where the key has another name or content, that is told and nothing changes
+pub record DeclareStep (w : World) (row : Row) (v : World) (reports : List Report) : Type 0 where
+  pub world : v ≡ declared_as (row_at w.declared row.image row.version) w row
+  pub told : reports ≡ declared_lines (row_at w.declared row.image row.version) row

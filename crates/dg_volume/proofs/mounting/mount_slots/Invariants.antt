@@ -1,0 +1,17 @@
+use Rattle.std.proofs.Common.{◌≡◌, ℕ, ◌<◌, length, Option, None, get_or}
+use Rattle.dg_nor.specs.Reads.{Looked}
+use Rattle.dg_control.specs.declared.snapshot.SlotState.TheVariants.{Dirty}
+use Rattle.dg_slot.specs.Kept.{Held}
+use Rattle.dg_volume.specs.Sizes.{images}
+use Rattle.dg_volume.specs.Told.{told}
+use Rattle.dg_volume.specs.Reading.{SlotKeeps}
+use Rattle.dg_volume.proofs.mounting.mount_slots.Given as goal
+
+abbrev pub invariant-loop-image : goal.invariant-loop-image
+invariant-loop-image g l =
+    let old = g.N.Nor.device l.fn.nor in
+    record {
+      found : (i : ℕ) → i < l.image → (h : Option Held) × SlotKeeps old.image i (get_or l.snapshot.slots i Dirty) h × (get_or l.kept i None ≡ told h);
+      long : length l.kept ≡ images;
+      looked : Looked old (g.N.Nor.device l.nor);
+    }

@@ -1,0 +1,48 @@
+use Rattle.std.proofs.Common.{Err, ap, ◌∙◌, arith}
+use Rattle.dg_control.specs.declared.snapshot.Order.{Order}
+use Rattle.dg_volume.specs.Changes.{ordered}
+use Rattle.dg_volume.proofs.CommitLemmas.{commit_acted, commit_stops}
+use Rattle.dg_volume.proofs.OrderLemmas.{order_commits, order_old, order_worn, order_allowed}
+use Rattle.dg_volume.proofs.volume.Volume.order.Goals as goal
+
+pub returns-then-number-kept-clause-refused : goal.returns-then-number-kept-clause-refused
+returns-then-number-kept-clause-refused g c e is _ s mounted =
+    let o : Order = record { number = c.args.number; image = c.args.image; version = c.args.version } in
+    let same = ap (λ p. p.order.number) c.now-snapshot.ensures ∙ ap (λ (o : Order). o.number) mounted.tells.says.order in
+    order_old s o _ e same (omega (arith, c.if-number-kept.true)) cc
+
+pub returns-then-room-lt-COMMITS-clause-refused : goal.returns-then-room-lt-COMMITS-clause-refused
+returns-then-room-lt-COMMITS-clause-refused g c e is _ s mounted =
+    let o : Order = record { number = c.args.number; image = c.args.image; version = c.args.version } in
+    let same = ap (λ p. p.order.number) c.now-snapshot.ensures ∙ ap (λ (o : Order). o.number) mounted.tells.says.order in
+    order_worn s o c.room-room.result e (omega (arith, c.if-number-kept.false, same)) (c.room-room.ensures ∙ mounted.tells.room) c.if-room-lt-COMMITS.true cc
+
+pub returns-in-Ok-clause-allowed : goal.returns-in-Ok-clause-allowed
+returns-in-Ok-clause-allowed g c s mounted =
+    let o : Order = record { number = c.args.number; image = c.args.image; version = c.args.version } in
+    let same = ap (λ p. p.order.number) c.now-snapshot.ensures ∙ ap (λ (o : Order). o.number) mounted.tells.says.order in
+    order_allowed s o (omega (arith, c.if-number-kept.false, same)) (omega (arith, c.room-room.ensures, mounted.tells.room, c.if-room-lt-COMMITS.false))
+
+pub returns-in-Err-Stopped-clause-allowed : goal.returns-in-Err-Stopped-clause-allowed
+returns-in-Err-Stopped-clause-allowed g c s mounted =
+    let o : Order = record { number = c.args.number; image = c.args.image; version = c.args.version } in
+    let same = ap (λ p. p.order.number) c.now-snapshot.ensures ∙ ap (λ (o : Order). o.number) mounted.tells.says.order in
+    order_allowed s o (omega (arith, c.if-number-kept.false, same)) (omega (arith, c.room-room.ensures, mounted.tells.room, c.if-room-lt-COMMITS.false))
+
+pub returns-in-Ok-clause-acted : goal.returns-in-Ok-clause-acted
+returns-in-Ok-clause-acted g c s mounted =
+    let o : Order = record { number = c.args.number; image = c.args.image; version = c.args.version } in
+    let says = c.with_order-next.ensures in
+    let now = c.now-snapshot.ensures in
+    let commits = order_commits (g.N.Nor.device c.args.nor.now).image c.args.self.now s c.with_order-next.result o mounted.stands mounted.tells
+    (record { order = says.order; waived = says.waived; slots = says.slots ∙ ap (λ p. p.slots) now; program = says.program ∙ ap (λ p. p.program) now; gesture = says.gesture ∙ ap (λ p. p.gesture) now }) in
+    commit_acted c.args.self.now _ c.with_order-next.result s (ordered s o) _ _ commits c.in-Ok.ensures.touches c.in-Ok.ensures.ok c.in-Ok.ensures.now c.in-Ok.ensures.room (λ i known. mounted.tells.kept i known (λ h. h)) c.in-Ok.ensures.ran
+
+pub returns-in-Err-Stopped-clause-stopped : goal.returns-in-Err-Stopped-clause-stopped
+returns-in-Err-Stopped-clause-stopped g c _ s mounted =
+    let o : Order = record { number = c.args.number; image = c.args.image; version = c.args.version } in
+    let says = c.with_order-next.ensures in
+    let now = c.now-snapshot.ensures in
+    let commits = order_commits (g.N.Nor.device c.args.nor.now).image c.args.self.now s c.with_order-next.result o mounted.stands mounted.tells
+    (record { order = says.order; waived = says.waived; slots = says.slots ∙ ap (λ p. p.slots) now; program = says.program ∙ ap (λ p. p.program) now; gesture = says.gesture ∙ ap (λ p. p.gesture) now }) in
+    commit_stops c.args.self.now.control c.with_order-next.result s (ordered s o) _ _ commits c.in-Err-Stopped.ensures.touches (c.in-Err-Stopped.ensures.stopped (ap Err c.in-Err-Stopped.field-0-is))

@@ -1,0 +1,216 @@
+//! Images that are injected, page by page.
+ghost use Rattle.std.specs.Prelude.{◌≡◌, ◌≢◌, ◌⊎◌, ℕ, ◌<◌, ◌≤◌, true, false, List, Some, Ok, Err, OnOk, IfOk, IsErrOf, IsNone, IsSomeAnd, IsTrue, length};
+ghost use Rattle.dg_base.specs.Texts.{spells_name};
+ghost use Rattle.dg_nor.specs.Chip.{Touches};
+ghost use Rattle.dg_nor.specs.Reads.{Looked, ReadEnds};
+ghost use Rattle.dg_object.specs.Object.{row_of, pages_for};
+ghost use Rattle.dg_slot.specs.Layout.{most_bytes, header_sector, slot_end};
+ghost use Rattle.dg_slot.specs.Kept.{Held, KeepsImage};
+ghost use Rattle.dg_volume.specs.Sizes.{images};
+ghost use Rattle.dg_volume.specs.Store.{Store};
+ghost use Rattle.dg_volume.specs.Told.{told_held};
+ghost use Rattle.dg_volume.specs.Stands.{kept_at, NothingLent, Mounted, IsMounted, Tells};
+ghost use Rattle.dg_volume.specs.Changes.{inject_refusal, is_other, UnlessInjectRefused};
+ghost use Rattle.dg_volume.specs.Trails.{inject_trail};
+ghost use Rattle.dg_volume.specs.Filling.{new_row};
+ghost use Rattle.dg_volume.specs.Injecting.{InjectEnds};
+ghost use Rattle.dg_volume.specs.Acts.{Acted, Stops, TouchesBut};
+ghost use Rattle.dg_volume.specs.declared.volume.Kept.{Kept};
+ghost use Rattle.dg_volume.specs.declared.volume.Volume.{Volume};
+ghost use Rattle.dg_volume.specs.declared.volume.InjectFault.{InjectFault};
+ghost use Rattle.dg_volume.specs.declared.volume.InjectFault.TheVariants as inject_faults;
+
+use crate::comparing::is_first_page;
+use crate::laws::a_row_is_filled_page_by_page;
+use crate::layout::{GOLDEN, PAGE_SIZE};
+use crate::new_image::NewImage;
+use crate::taking::TAKE_COMMITS;
+use crate::volume::{InjectFault, Injected, Kept, Volume};
+use dg_nor::{Nor, Stopped};
+use dg_object::{SizeFault, check_size};
+
+impl Volume {
+    /// Keeps an image whole, in place of an older version of it. A version that is kept in part is resumed at its next
+    /// page, and where it is whole nothing changes.
+    ///
+    /// The image has 1 to 70,656 bytes and number 1 to 3. What refuses it is looked for in this order: `Empty`,
+    /// `TooLarge`, `Reserved`, `Stale`, `Taken`, for which page 0 of the slot may be read, and `Worn`. These change
+    /// nothing.
+    pub fn inject<N: Nor>(
+        &mut self,
+        nor: &mut N,
+        image: u8,
+        version: u32,
+        name: &[u8],
+        bytes: &[u8],
+    ) -> Result<Injected, InjectFault>
+        requires mounted { IsMounted (N.device nor.old).image self.old }
+        requires free { NothingLent self.old }
+        requires known_image { image < images }
+        requires some_version { 1 ≤ version }
+        requires named { IsTrue (spells_name name.now) }
+        ensures acted { OnOk result ((s : Store) → Mounted (N.device nor.old).image self.old s
+            → Acted (inject_trail s (row_of image version name.now bytes.now)) (N.device nor.old) (N.device nor.new) self.new) }
+        ensures same_reference { (N.device nor.new).references ≡ (N.device nor.old).references }
+        ensures free { OnOk result (NothingLent self.new) }
+        ensures pages { IfOk result (λ i. i.pages ≡ pages_for (length bytes.now)) }
+        // one that is whole changes nothing
+        ensures again { OnOk result (IsSomeAnd (kept_at self.old image) (λ k. (k.version ≡ version) × (k.done ≡ k.pages))
+            → Looked (N.device nor.old) (N.device nor.new) × (self.new ≡ self.old)) }
+        ensures awake { OnOk result ((N.device nor.old).stopped ≡ false) }
+        ensures allowed { (s : Store) → Mounted (N.device nor.old).image self.old s
+            → UnlessInjectRefused result (inject_refusal s (row_of image version name.now bytes.now)) }
+        ensures refused { (e : InjectFault) → result ≡ Err e → e ≢ InjectFault.Stopped → (s : Store) → Mounted (N.device nor.old).image self.old s
+            → inject_refusal s (row_of image version name.now bytes.now) ≡ Some e }
+        ensures unchanged { (e : InjectFault) → result ≡ Err e → e ≢ InjectFault.Stopped → e ≢ InjectFault.Taken
+            → (N.device nor.new ≡ N.device nor.old) × (self.new ≡ self.old) }
+        // page 0 may have been read
+        ensures taken { result ≡ Err InjectFault.Taken → Looked (N.device nor.old) (N.device nor.new) × (self.new ≡ self.old) }
+        ensures touches { TouchesBut (header_sector image) (slot_end image) (N.device nor.old).image (N.device nor.new).image }
+        ensures stopped { IsErrOf result InjectFault.Stopped → (s : Store) → Mounted (N.device nor.old).image self.old s
+            → Stops (inject_trail s (row_of image version name.now bytes.now)) (N.device nor.old) (N.device nor.new) }
+    {
+        match injection_fault(self.kept(image), image, version, bytes) {
+            Some(fault) => Err(fault),
+            None => {
+                let new = NewImage {
+                    image,
+                    version,
+                    name,
+                    bytes,
+                };
+                self.keep(nor, &new)
+            }
+        }
+    }
+
+    /// Keeps an image whole, of which no larger version is kept.
+    fn keep<N: Nor>(&mut self, nor: &mut N, new: &NewImage<'_>) -> Result<Injected, InjectFault>
+        requires mounted { IsMounted (N.device nor.old).image self.old }
+        requires free { NothingLent self.old }
+        requires not_golden { 1 ≤ new.now.image }
+        requires newest { (k : Kept) → kept_at self.old new.now.image ≡ Some k → k.version ≤ new.now.version }
+        ensures ends { (s : Store) → Mounted (N.device nor.old).image self.old s → InjectEnds result s (new_row new.now) (N.device nor.old) (N.device nor.new) self.new }
+        ensures same_reference { (N.device nor.new).references ≡ (N.device nor.old).references }
+        ensures free { OnOk result (NothingLent self.new) }
+        ensures pages { IfOk result (λ i. i.pages ≡ pages_for (length new.now.bytes.now)) }
+        ensures again { OnOk result (IsSomeAnd (kept_at self.old new.now.image) (λ k. (k.version ≡ new.now.version) × (k.done ≡ k.pages))
+            → Looked (N.device nor.old) (N.device nor.new) × (self.new ≡ self.old)) }
+        ensures awake { OnOk result ((N.device nor.old).stopped ≡ false) }
+        ensures unchanged { (e : InjectFault) → result ≡ Err e → e ≢ inject_faults.Stopped → e ≢ inject_faults.Taken
+            → (N.device nor.new ≡ N.device nor.old) × (self.new ≡ self.old) }
+        ensures taken { result ≡ Err inject_faults.Taken → Looked (N.device nor.old) (N.device nor.new) × (self.new ≡ self.old) }
+        ensures touches { TouchesBut (header_sector new.now.image) (slot_end new.now.image) (N.device nor.old).image (N.device nor.new).image }
+    {
+        match self.kept(new.image) {
+            Some(kept) if kept.version == new.version => self.resume(nor, new, &kept),
+            _ => self.begin_anew(nor, new),
+        }
+    }
+
+    /// Fills what is missing of a version that is kept, where that is this image.
+    fn resume<N: Nor>(
+        &mut self,
+        nor: &mut N,
+        new: &NewImage<'_>,
+        kept: &Kept,
+    ) -> Result<Injected, InjectFault>
+        requires mounted { IsMounted (N.device nor.old).image self.old }
+        requires free { NothingLent self.old }
+        requires not_golden { 1 ≤ new.now.image }
+        requires kept { kept_at self.old new.now.image ≡ Some kept.now }
+        requires same_version { kept.now.version ≡ new.now.version }
+        ensures ends { (s : Store) → Mounted (N.device nor.old).image self.old s → InjectEnds result s (new_row new.now) (N.device nor.old) (N.device nor.new) self.new }
+        ensures same_reference { (N.device nor.new).references ≡ (N.device nor.old).references }
+        ensures free { OnOk result (NothingLent self.new) }
+        ensures pages { IfOk result (λ i. i.pages ≡ pages_for (length new.now.bytes.now)) }
+        ensures again { OnOk result (kept.now.done ≡ kept.now.pages → Looked (N.device nor.old) (N.device nor.new) × (self.new ≡ self.old)) }
+        ensures awake { OnOk result ((N.device nor.old).stopped ≡ false) }
+        ensures only { (e : InjectFault) → result ≡ Err e → (e ≡ inject_faults.Stopped) ⊎ (e ≡ inject_faults.Taken) }
+        ensures taken { result ≡ Err inject_faults.Taken → Looked (N.device nor.old) (N.device nor.new) × (self.new ≡ self.old) }
+        ensures touches { Touches (header_sector new.now.image) (slot_end new.now.image) (N.device nor.old).image (N.device nor.new).image }
+    {
+        if is_other(nor, new, kept)? {
+            return Err(InjectFault::Taken);
+        }
+        a_row_is_filled_page_by_page();
+        self.fill_rest(nor, new, kept.done)?;
+        Ok(Injected { pages: new.pages() })
+    }
+
+    /// Takes the slot for a version that is not kept, and fills all of its pages.
+    fn begin_anew<N: Nor>(
+        &mut self,
+        nor: &mut N,
+        new: &NewImage<'_>,
+    ) -> Result<Injected, InjectFault>
+        requires mounted { IsMounted (N.device nor.old).image self.old }
+        requires free { NothingLent self.old }
+        requires not_golden { 1 ≤ new.now.image }
+        requires older { (k : Kept) → kept_at self.old new.now.image ≡ Some k → k.version < new.now.version }
+        ensures ends { (s : Store) → Mounted (N.device nor.old).image self.old s → InjectEnds result s (new_row new.now) (N.device nor.old) (N.device nor.new) self.new }
+        ensures same_reference { (N.device nor.new).references ≡ (N.device nor.old).references }
+        ensures free { OnOk result (NothingLent self.new) }
+        ensures pages { IfOk result (λ i. i.pages ≡ pages_for (length new.now.bytes.now)) }
+        ensures awake { OnOk result ((N.device nor.old).stopped ≡ false) }
+        ensures not_taken { result ≢ Err inject_faults.Taken }
+        ensures unchanged { (e : InjectFault) → result ≡ Err e → e ≢ inject_faults.Stopped
+            → (N.device nor.new ≡ N.device nor.old) × (self.new ≡ self.old) }
+        ensures touches { TouchesBut (header_sector new.now.image) (slot_end new.now.image) (N.device nor.old).image (N.device nor.new).image }
+    {
+        let room = self.room();
+        if room < TAKE_COMMITS {
+            return Err(InjectFault::Worn { room });
+        }
+        let mut first = [0; PAGE_SIZE];
+        new.page(0, &mut first);
+        let slot = self.replace(nor, &new.profile(&first))?;
+        self.put_back(slot);
+        a_row_is_filled_page_by_page();
+        self.fill_rest(nor, new, 0)?;
+        Ok(Injected { pages: new.pages() })
+    }
+}
+
+/// Why an image is refused, wherever its version is not the one that is kept.
+fn injection_fault(kept: Option<Kept>, image: u8, version: u32, bytes: &[u8]) -> Option<InjectFault>
+    ensures refusal { (e : InjectFault) → result ≡ Some e → (v : Volume) (s : Store) (name : List ℕ) → Tells v s → kept ≡ kept_at v image → image < images
+        → inject_refusal s (row_of image version name bytes.now) ≡ Some e }
+    ensures other { (e : InjectFault) → result ≡ Some e → (e ≢ inject_faults.Stopped) × (e ≢ inject_faults.Taken) }
+    ensures some { IsNone result → 1 ≤ length bytes.now }
+    ensures fits { IsNone result → length bytes.now ≤ most_bytes }
+    ensures not_golden { IsNone result → 1 ≤ image }
+    ensures newest { IsNone result → (k : Kept) → kept ≡ Some k → k.version ≤ version }
+{
+    match check_size(bytes.len()) {
+        Ok(()) => {}
+        Err(SizeFault::Empty) => return Some(InjectFault::Empty),
+        Err(SizeFault::TooLarge) => return Some(InjectFault::TooLarge),
+    }
+    if image == GOLDEN {
+        return Some(InjectFault::Reserved);
+    }
+    match kept {
+        Some(kept) if version < kept.version => Some(InjectFault::Stale { kept: kept.version }),
+        _ => None,
+    }
+}
+
+/// Whether what is kept of a version is another image: it has another profile, or another page 0.
+fn is_other<N: Nor>(nor: &mut N, new: &NewImage<'_>, kept: &Kept) -> Result<bool, Stopped>
+    ensures other { IfOk result (λ other. (h : Held) → KeepsImage (N.device nor.old).image new.now.image h → told_held h ≡ kept.now
+        → other ≡ is_other h (new_row new.now)) }
+    ensures awake { result ≡ Ok false → 1 ≤ kept.now.done → (N.device nor.old).stopped ≡ false }
+    ensures ends { ReadEnds result (N.device nor.old) (N.device nor.new) }
+{
+    let mut first = [0; PAGE_SIZE];
+    new.page(0, &mut first);
+    let profile = new.profile(&first);
+    if kept.pages != profile.pages || kept.crc != profile.crc {
+        return Ok(true);
+    }
+    if kept.done == 0 {
+        return Ok(false);
+    }
+    Ok(!is_first_page(nor, new.image, &first)?)
+}

@@ -1,0 +1,75 @@
+//! Slots that a volume lends, and takes back.
+ghost use Rattle.std.specs.Prelude.{◌≡◌, ◌≢◌, ◌↔◌, ◌⊎◌, ℕ, ◌<◌, ◌≤◌, true, false, List, Some, None, IfSome, IsNone, length};
+ghost use Rattle.dg_object.specs.Records.{outline_of};
+ghost use Rattle.dg_slot.specs.Layout.{slots, most_pages};
+ghost use Rattle.dg_slot.specs.Kept.{Held};
+ghost use Rattle.dg_slot.specs.Jobs.{Opens, IsOpen, outline_told, done_told};
+ghost use Rattle.dg_volume.specs.Sizes.{images};
+ghost use Rattle.dg_volume.specs.Store.{Store, held};
+ghost use Rattle.dg_volume.specs.Stands.{kept_at, is_lent, MountedBut, Mounted, IsMounted};
+
+use crate::volume::{Kept, Volume};
+use dg_object::Profile;
+use dg_slot::OpenSlot;
+
+impl Volume {
+    /// Lends the slot of an image: `None` where nothing is kept of the image, or its slot is lent already.
+    pub fn slot(&mut self, image: u8) -> Option<OpenSlot>
+        requires known_image { image < images }
+        // it stands for some chip
+        requires mounted { (c : List ℕ) × IsMounted c self.old }
+        ensures lends { IfSome result (λ o. ((outline_told o).image ≡ image)
+            × ((c : List ℕ) (s : Store) (h : Held) → Mounted c self.old s → held s image ≡ Some h → IsOpen c o h)) }
+        ensures none { IsNone result ↔ ((kept_at self.old image ≡ None) ⊎ (is_lent self.old image ≡ true)) }
+        ensures same { IsNone result → self.new ≡ self.old }
+        ensures lent { IfSome result (λ o. is_lent self.new image ≡ true) }
+        ensures others { (i : ℕ) → i ≢ image → is_lent self.new i ≡ is_lent self.old i }
+        ensures mounted { (c : List ℕ) (s : Store) → Mounted c self.old s → Mounted c self.new s }
+    {
+        let index = usize::from(image);
+        if self.lent[index] {
+            return None;
+        }
+        let kept = self.kept[index]?;
+        self.lent[index] = true;
+        Some(open_slot(image, &kept))
+    }
+
+    /// Takes a lent slot back, perhaps with more pages done.
+    pub fn put_back(&mut self, slot: OpenSlot)
+        requires { is_lent self.old (outline_told slot).image ≡ true }
+        ensures mounted { (c : List ℕ) (s : Store) (h : Held) → MountedBut (λ i. i ≡ (outline_told slot).image) c self.old s
+            → held s (outline_told slot).image ≡ Some h → Opens slot h → Mounted c self.new s }
+        ensures back { is_lent self.new (outline_told slot).image ≡ false }
+        ensures others { (i : ℕ) → i ≢ (outline_told slot).image → is_lent self.new i ≡ is_lent self.old i }
+    {
+        let profile = slot.profile();
+        let index = usize::from(profile.image);
+        self.kept[index] = Some(Kept {
+            version: profile.version,
+            pages: profile.pages,
+            done: slot.done(),
+            crc: profile.crc,
+        });
+        self.lent[index] = false;
+    }
+}
+
+/// The open slot of an image of which this is kept.
+fn open_slot(image: u8, kept: &Kept) -> OpenSlot
+    requires known_image { image < images }
+    requires some_version { 1 ≤ kept.now.version }
+    requires some_pages { 2 ≤ kept.now.pages }
+    requires most_pages { kept.now.pages ≤ most_pages }
+    requires within { kept.now.done ≤ kept.now.pages }
+    ensures told { outline_told result ≡ record { image = image; version = kept.now.version; pages = kept.now.pages; crc = kept.now.crc } }
+    ensures done { done_told result ≡ kept.now.done }
+{
+    let profile = Profile {
+        image,
+        version: kept.version,
+        pages: kept.pages,
+        crc: kept.crc,
+    };
+    OpenSlot::new(profile, kept.done)
+}

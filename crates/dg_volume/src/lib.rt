@@ -1,0 +1,29 @@
+//! A volume on a chip: what it keeps of each image, what is in program memory, and the order.
+#![tactic(auto)]
+
+mod committing;
+mod comparing;
+mod faults;
+mod filling;
+mod formatting;
+mod injecting;
+mod laws;
+mod layout;
+mod lending;
+mod mounting;
+mod new_image;
+mod ordering;
+mod slot_filling;
+mod taking;
+mod telling;
+mod volume;
+
+pub use dg_control::{Order, Program, SlotState, Snapshot};
+pub use laws::{
+    a_chip_stands_for_one_store, a_row_is_filled_page_by_page, a_start_ends,
+    a_whole_image_is_sound, acts_end, an_agreeing_store_keeps_rows, program_memory_holds_the_app,
+    trails_begin, trails_join, trails_keep_agreement, what_stands_behind_the_commits,
+};
+pub use volume::{
+    FormatFault, InjectFault, Injected, Kept, Kind, MountFault, OrderFault, TakeFault, Volume,
+};

@@ -1,4 +1,0 @@
-pub mod ImageLemmas
-pub mod MoteLemmas
-pub mod PlayLemmas
-pub mod FinishLemmas

@@ -1,4 +1,0 @@
-pub mod Images
-pub mod Boards
-pub mod Player
-pub mod Ended
