@@ -26,10 +26,10 @@ use Rattle.dg_rules.specs.Events.{Deed, Does, Refuses, Goes, does, mote_of, dt_o
 use Rattle.dg_rules.specs.Steps.{blows, StepDoes, WorldStep, DeclareStep, declared_as}
 use Rattle.dg_rules.specs.Ranges.{EventFits, StepFits}
 use Rattle.dg_rules.specs.Premises.{IsDeclared, WorldAgrees, WorldTimely, MayDeclare}
-use Rattle.dg_rules.specs.declared.events.Event.{Event}
-use Rattle.dg_rules.specs.declared.events.Event.TheVariants.{Tick, Reset, Inject, Order as OrderEvent}
-use Rattle.dg_rules.specs.declared.events.Step.{Step}
-use Rattle.dg_rules.specs.declared.reports.Report.{Report}
+use Rattle.dg_script.specs.declared.events.Event.{Event}
+use Rattle.dg_script.specs.declared.events.Event.TheVariants.{Tick, Reset, Inject, Order as OrderEvent}
+use Rattle.dg_script.specs.declared.events.Step.{Step}
+use Rattle.dg_script.specs.declared.report.Report.{Report}
 use Rattle.dg_rules.proofs.ThroughLemmas.{Through-map, Through-both, Through-each, agrees_room}
 use Rattle.dg_rules.proofs.TableLemmas.{row_at-key, row_at-each, row_at-own, row_at-with_row, row_at-added, row_at-of_with_row, row_at-of_push, all_push, IsTable-with_row, same_some}
 use Rattle.dg_rules.proofs.SiteLemmas.{each_site}

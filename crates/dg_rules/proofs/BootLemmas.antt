@@ -19,7 +19,7 @@ use Rattle.dg_volume.specs.Agreement.{KeepsRow, HoldsRow, Agrees}
 use Rattle.dg_volume.specs.Start.{Runs, Boot, behind, counts, count_trail, by_gesture, order_waits, complete_pages, is_whole, is_set_to, blank_by, blank_trail, copy_trail, app_of, kept_runs, order_boot, golden_done, finish_trail, golden_copied, golden_stays, golden_by, golden_boot, kept_by, kept_boot, waived_once, boot_counted, boot, sound}
 use Rattle.dg_volume.specs.declared.volume.Kind.{Kind}
 use Rattle.dg_volume.specs.declared.volume.Kind.TheVariants as kind
-use Rattle.dg_rules.specs.declared.events.Key.{Key}
+use Rattle.dg_base.specs.declared.events.Key.{Key}
 use Rattle.dg_rules.specs.Small.{app_key}
 use Rattle.dg_rules.specs.Events.{key_of}
 

@@ -19,7 +19,7 @@ use Rattle.dg_volume.specs.RowLaws.{RowLaws}
 use Rattle.dg_volume.specs.declared.volume.Kind.TheVariants as kind
 use Rattle.dg_volume.specs.declared.volume.OrderFault.{OrderFault}
 use Rattle.dg_volume.specs.declared.volume.OrderFault.TheVariants as order_fault
-use Rattle.dg_rules.specs.declared.events.Key.{Key}
+use Rattle.dg_base.specs.declared.events.Key.{Key}
 use Rattle.dg_rules.specs.World.{World, Site, Running, site, store_at, with_site, counted}
 use Rattle.dg_rules.specs.Small.{Holding, SmallMote, holding, app_key, running_key, small_mote, small, holds, whole}
 use Rattle.dg_rules.specs.Events.{Deed, Does, Refuses, Goes, does, mote_of, dt_of, key_of, running_by, starts, acts, goes_on}
@@ -28,10 +28,10 @@ use Rattle.dg_rules.specs.Ranges.{EventFits, StepFits}
 use Rattle.dg_rules.specs.Premises.{WorldAgrees}
 use Rattle.dg_rules.specs.Legal.{MayInject, CutHolding, LegalInject, IsOn, MayStart, MayRestart, CutStart, LegalAt, LegalStep, taking}
 use Rattle.dg_rules.specs.Promises.{LegalDoes}
-use Rattle.dg_rules.specs.declared.events.Event.{Event}
-use Rattle.dg_rules.specs.declared.events.Event.TheVariants.{Tick, Reset, Inject, Order as OrderEvent}
-use Rattle.dg_rules.specs.declared.events.Step.{Step}
-use Rattle.dg_rules.specs.declared.reports.Report.{Report}
+use Rattle.dg_script.specs.declared.events.Event.{Event}
+use Rattle.dg_script.specs.declared.events.Event.TheVariants.{Tick, Reset, Inject, Order as OrderEvent}
+use Rattle.dg_script.specs.declared.events.Step.{Step}
+use Rattle.dg_script.specs.declared.report.Report.{Report}
 use Rattle.dg_rules.proofs.ThroughLemmas.{Through-map, Through-each}
 use Rattle.dg_rules.proofs.SiteLemmas.{each_site, small_at, small_there, small_other, small_count}
 use Rattle.dg_rules.proofs.BootLemmas.{IsSettled, boot_start}

@@ -17,12 +17,12 @@ use Rattle.dg_volume.specs.Table.{row_at, with_row}
 use Rattle.dg_rules.specs.World.{World, Site, Running, site, store_at, with_site, counted, off_site}
 use Rattle.dg_rules.specs.Events.{Deed, Does, Refuses, does, mote_of, dt_of, starts, acts, goes_on, clears, ticks, inject_unless, inject_row, order_unless}
 use Rattle.dg_rules.specs.Steps.{Ended, before_cut}
-use Rattle.dg_rules.specs.declared.events.Event.{Event}
-use Rattle.dg_rules.specs.declared.events.Event.TheVariants.{Tick, Reset, Inject, Order as OrderEvent}
-use Rattle.dg_rules.specs.declared.events.Step.{Step}
-use Rattle.dg_rules.specs.declared.reports.Cause.{Cause}
-use Rattle.dg_rules.specs.declared.reports.Cause.TheVariants as cause
-use Rattle.dg_rules.specs.declared.reports.Report.{Report}
+use Rattle.dg_script.specs.declared.events.Event.{Event}
+use Rattle.dg_script.specs.declared.events.Event.TheVariants.{Tick, Reset, Inject, Order as OrderEvent}
+use Rattle.dg_script.specs.declared.events.Step.{Step}
+use Rattle.dg_script.specs.declared.report.Cause.{Cause}
+use Rattle.dg_script.specs.declared.report.Cause.TheVariants as cause
+use Rattle.dg_script.specs.declared.report.Report.{Report}
 use Rattle.dg_rules.proofs.ThroughLemmas.{cut_holds}
 
 abbrev pub order_of : (number image version : ℕ) → Order

@@ -11,9 +11,9 @@ use Rattle.dg_rules.specs.Steps.{blows}
 use Rattle.dg_rules.specs.Legal.{MayInject, CutHolding, LegalInject, LegalOrder, LegalTick, LegalReset, LegalAt, off_after}
 use Rattle.dg_rules.specs.Runs.{Item, Declares, Happens, Played}
 use Rattle.dg_rules.specs.Promises.{LegalDoes, LegalItem, IsLegal, IsKeptIn, Replaces, IsBlown, KeepsItem, KeepsAll, GoldenStays}
-use Rattle.dg_rules.specs.declared.events.Event.{Event}
-use Rattle.dg_rules.specs.declared.events.Event.TheVariants.{Tick, Reset, Inject, Order as OrderEvent}
-use Rattle.dg_rules.specs.declared.events.Step.{Step}
+use Rattle.dg_script.specs.declared.events.Event.{Event}
+use Rattle.dg_script.specs.declared.events.Event.TheVariants.{Tick, Reset, Inject, Order as OrderEvent}
+use Rattle.dg_script.specs.declared.events.Step.{Step}
 use Rattle.dg_rules.proofs.TableLemmas.{row_at-key}
 
 same_holding : (a b : Holding) → Some a ≡ Some b → a ≡ b

@@ -17,7 +17,7 @@ use Rattle.dg_volume.specs.Agreement.{KeepsRow, Agrees}
 use Rattle.dg_volume.specs.RowLaws.{RowLaws}
 use Rattle.dg_volume.specs.declared.volume.Kind.{Kind}
 use Rattle.dg_volume.specs.declared.volume.Kind.TheVariants as kind
-use Rattle.dg_rules.specs.declared.events.Key.{Key}
+use Rattle.dg_base.specs.declared.events.Key.{Key}
 use Rattle.dg_rules.specs.World.{Site, Running}
 use Rattle.dg_rules.specs.Small.{Holding, SmallMote, holding, app_key, small_mote, holds, whole}
 use Rattle.dg_rules.specs.Events.{key_of}

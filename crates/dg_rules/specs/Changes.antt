@@ -8,8 +8,8 @@ use Rattle.dg_volume.specs.Sizes.{images}
 use Rattle.dg_volume.specs.Store.{Store, held}
 use Rattle.dg_volume.specs.Changes.{same_bytes}
 use Rattle.dg_volume.specs.Start.{Runs, runs_length, runs_crc}
-use Rattle.dg_rules.specs.declared.reports.Report.{Report}
-use Rattle.dg_rules.specs.declared.reports.Report.TheVariants.{Order as OrderLine, Lost, Have, Start, Taken, End, MoteOn, MoteOff, Kept}
+use Rattle.dg_script.specs.declared.report.Report.{Report}
+use Rattle.dg_script.specs.declared.report.Report.TheVariants.{Order as OrderLine, Lost, Have, Start, Taken, End, MoteOn, MoteOff, Kept}
 use Rattle.dg_rules.specs.World.{World, Running, Site, site}
 
 abbrev pub same_order : Order → Order → Bool

@@ -15,11 +15,11 @@ use Rattle.dg_volume.specs.declared.volume.OrderFault.TheVariants as order_fault
 use Rattle.dg_volume.specs.Table.{row_at, with_row}
 use Rattle.dg_rules.specs.Sizes.{short_start}
 use Rattle.dg_rules.specs.World.{World, Running, site, store_at}
-use Rattle.dg_rules.specs.declared.events.Key.{Key}
-use Rattle.dg_rules.specs.declared.events.Event.{Event}
-use Rattle.dg_rules.specs.declared.events.Event.TheVariants.{Tick, Reset, Inject, Order as OrderEvent}
-use Rattle.dg_rules.specs.declared.reports.Cause.{Cause}
-use Rattle.dg_rules.specs.declared.reports.Cause.TheVariants as cause
+use Rattle.dg_base.specs.declared.events.Key.{Key}
+use Rattle.dg_script.specs.declared.events.Event.{Event}
+use Rattle.dg_script.specs.declared.events.Event.TheVariants.{Tick, Reset, Inject, Order as OrderEvent}
+use Rattle.dg_script.specs.declared.report.Cause.{Cause}
+use Rattle.dg_script.specs.declared.report.Cause.TheVariants as cause
 
 -- What an event does that is not refused, unless its power is cut: the stores on the way, the table then, what was
 -- started, and the mote then, None where there was no image to start.

@@ -5,9 +5,9 @@ use Rattle.dg_control.specs.declared.snapshot.Order.{Order}
 use Rattle.dg_volume.specs.Sizes.{golden_version}
 use Rattle.dg_volume.specs.Table.{row_at, with_row}
 use Rattle.dg_rules.specs.Small.{Holding, SmallMote, Small, mote_in, holds, whole}
-use Rattle.dg_rules.specs.declared.events.Key.{Key}
-use Rattle.dg_rules.specs.declared.events.Event.{Event}
-use Rattle.dg_rules.specs.declared.events.Event.TheVariants.{Tick, Reset, Inject, Order as OrderEvent}
+use Rattle.dg_base.specs.declared.events.Key.{Key}
+use Rattle.dg_script.specs.declared.events.Event.{Event}
+use Rattle.dg_script.specs.declared.events.Event.TheVariants.{Tick, Reset, Inject, Order as OrderEvent}
 
 -- ---- one mote
 

@@ -10,9 +10,9 @@ use Rattle.dg_rules.specs.Steps.{blows}
 use Rattle.dg_rules.specs.Small.{Holding, small, mote_in, holds}
 use Rattle.dg_rules.specs.Legal.{LegalStep}
 use Rattle.dg_rules.specs.Runs.{Item, Declares, Happens, Played}
-use Rattle.dg_rules.specs.declared.events.Event.{Event}
-use Rattle.dg_rules.specs.declared.events.Event.TheVariants.{Tick, Reset, Inject, Order as OrderEvent}
-use Rattle.dg_rules.specs.declared.events.Step.{Step}
+use Rattle.dg_script.specs.declared.events.Event.{Event}
+use Rattle.dg_script.specs.declared.events.Event.TheVariants.{Tick, Reset, Inject, Order as OrderEvent}
+use Rattle.dg_script.specs.declared.events.Step.{Step}
 
 -- ---- legality
 

@@ -2,10 +2,10 @@
 use Rattle.std.specs.Prelude.{ℕ, ◌<◌, ◌≤◌, length, IfSome}
 use Rattle.dg_nor.specs.Sizes.{sector_size}
 use Rattle.dg_volume.specs.Sizes.{images}
-use Rattle.dg_rules.specs.declared.events.Cut.{Cut}
-use Rattle.dg_rules.specs.declared.events.Event.{Event}
-use Rattle.dg_rules.specs.declared.events.Event.TheVariants.{Tick, Reset, Inject, Order as OrderEvent}
-use Rattle.dg_rules.specs.declared.events.Step.{Step}
+use Rattle.dg_script.specs.declared.events.Cut.{Cut}
+use Rattle.dg_script.specs.declared.events.Event.{Event}
+use Rattle.dg_script.specs.declared.events.Event.TheVariants.{Tick, Reset, Inject, Order as OrderEvent}
+use Rattle.dg_script.specs.declared.events.Step.{Step}
 
 -- of a world with so many motes
 abbrev pub EventFits : ℕ → Event → Type 0
@@ -16,8 +16,8 @@ EventFits motes (OrderEvent mote number image version dt word) = (mote < motes) 
 
 pub record CutFits (cut : Cut) : Type 0 where
   pub counted : 1 ≤ cut.after
-  pub some : 0 < length cut.mask.items
-  pub few : length cut.mask.items ≤ sector_size
+  pub some : 0 < length cut.mask
+  pub few : length cut.mask ≤ sector_size
 
 pub record StepFits (motes : ℕ) (x : Step) : Type 0 where
   pub event : EventFits motes x.event

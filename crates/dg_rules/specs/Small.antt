@@ -5,7 +5,7 @@ use Rattle.dg_control.specs.declared.snapshot.Order.{Order}
 use Rattle.dg_slot.specs.Kept.{Held}
 use Rattle.dg_volume.specs.Store.{App}
 use Rattle.dg_rules.specs.World.{World, Running, Site, no_site}
-use Rattle.dg_rules.specs.declared.events.Key.{Key}
+use Rattle.dg_base.specs.declared.events.Key.{Key}
 
 pub record Holding : Type 0 where
   pub version : ℕ

@@ -7,10 +7,10 @@ use Rattle.dg_volume.specs.Table.{row_at}
 use Rattle.dg_rules.specs.World.{World, Running, store_at, with_site, counted}
 use Rattle.dg_rules.specs.Changes.{changes, start_line, declared_lines}
 use Rattle.dg_rules.specs.Events.{Deed, Does, Refuses, Goes, does, mote_of, dt_of}
-use Rattle.dg_rules.specs.declared.events.Cut.{Cut}
-use Rattle.dg_rules.specs.declared.events.Step.{Step}
-use Rattle.dg_rules.specs.declared.reports.Report.{Report}
-use Rattle.dg_rules.specs.declared.reports.Report.TheVariants.{Off, Refused}
+use Rattle.dg_script.specs.declared.events.Cut.{Cut}
+use Rattle.dg_script.specs.declared.events.Step.{Step}
+use Rattle.dg_script.specs.declared.report.Report.{Report}
+use Rattle.dg_script.specs.declared.report.Report.TheVariants.{Off, Refused}
 
 -- A cut blows in the operation with its number, where the event makes so many.
 abbrev pub blows : Option Cut → Trail Store → Bool

@@ -2,7 +2,7 @@
 use Rattle.std.specs.Prelude.{ℕ, ◌+◌, List, [], map, slice_index_or, slice_set, Option, None}
 use Rattle.dg_object.specs.Object.{Row}
 use Rattle.dg_volume.specs.Store.{Store, fresh}
-use Rattle.dg_rules.specs.declared.events.Key.{Key}
+use Rattle.dg_base.specs.declared.events.Key.{Key}
 
 -- a mote that is on: what it runs, and the moment of its start
 pub record Running : Type 0 where

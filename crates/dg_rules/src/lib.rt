@@ -1,13 +1,11 @@
 //! The rules of a world: events, what they do, and which steps are legal.
 #![tactic(auto)]
 
-mod events;
 mod laws;
-mod reports;
 
-pub use events::{Cut, Event, Key, Step};
+pub use dg_base::Key;
 pub use laws::{
     agreement_is_kept, every_step_is_legal, golden_is_found, scripts_with_golden,
     versions_do_not_fall, what_a_cut_leaves_agrees, what_starts_is_a_row,
 };
-pub use reports::{Cause, Report};
+pub use dg_script::{Cause, Cut, Event, Report, Step};

@@ -1,8 +1,8 @@
 -- How a text splits into words.
-use Rattle.std.proofs.Common.{◌≡◌, ◌≢◌, ℕ, zero, suc, ◌+◌, ◌<◌, ◌≤◌, false, List, [], ◌∷◌, length, drop, take, get_or, refl, ap, sym, ◌∙◌, arith, add-one, ◌==◌, subst, drop-cons, length-drop}
-use Rattle.std.proofs.lemmas.List.{get_or-drop}
+use Rattle.std.proofs.Common.{◌≡◌, ◌≢◌, ℕ, zero, suc, ◌+◌, ◌-◌, ◌<◌, ◌≤◌, false, List, [], ◌∷◌, length, drop, take, get_or, Some, None, refl, ap, sym, ◌∙◌, arith, add-one, ◌==◌, subst, drop-cons, length-drop}
+use Rattle.std.proofs.lemmas.List.{get_or-drop, take_all}
 use Rattle.std.proofs.lemmas.Bool.Decides.{nat_tests}
-use Rattle.dg_script.specs.Words.{split_of, words_of, with_word}
+use Rattle.dg_script.specs.Words.{split_of, words_of, with_word, halves_of}
 
 -- a space in front changes no word
 words_of-space : (cs : List ℕ) → words_of (32 ∷ cs) ≡ words_of cs
@@ -54,3 +54,37 @@ word_begins text rest s zero back some begins stops =
     let place : s + 0 ≡ s = omega arith in
     let here : get_or rest 0 0 ≡ get_or text s 0 = ap (λ xs. get_or xs 0 0) back ∙ get_or-drop s text 0 0 ∙ ap (λ k. get_or text k 0) place in
     absurd (begins within (sym here ∙ stops some))
+
+-- ---- halves
+
+no_colon : (c : ℕ) → c ≢ 58 → (c == 58) ≡ false
+no_colon c other = grind (arith, nat_tests)
+
+-- no byte is a colon
+pub halves_of-none : (text : List ℕ) → ((k : ℕ) → k < length text → get_or text k 0 ≢ 58) → halves_of text ≡ None
+unfolding halves_of
+halves_of-none [] none = refl
+halves_of-none (c ∷ cs) none =
+    let other : (c == 58) ≡ false = no_colon c (none 0 (omega arith)) in
+    let rest : halves_of cs ≡ None = halves_of-none cs (λ k below. none (suc k) (omega (arith, below))) in
+    rw (other, rest) refl
+
+-- byte n is the first colon
+pub halves_of-at : (text : List ℕ) (n : ℕ) → n < length text → ((k : ℕ) → k < n → get_or text k 0 ≢ 58) → get_or text n 0 ≡ 58 → halves_of text ≡ Some (take n text, drop (suc n) text)
+unfolding halves_of
+halves_of-at [] n h none here = absurd (omega (arith, h))
+halves_of-at (c ∷ cs) zero h none here =
+    let family : ℕ → Type 0 = λ x. halves_of (x ∷ cs) ≡ Some ([], cs) in
+    subst family (sym here) refl
+halves_of-at (c ∷ cs) (suc n) h none here =
+    let other : (c == 58) ≡ false = no_colon c (none 0 (omega arith)) in
+    let rest : halves_of cs ≡ Some (take n cs, drop (suc n) cs) =
+    halves_of-at cs n (omega (arith, h)) (λ k below. none (suc k) (omega (arith, below))) here in
+    rw (other, rest) refl
+
+pub halves_found : (text : List ℕ) (n : ℕ) → n < length text → ((k : ℕ) → k < n → get_or text k 0 ≢ 58) → get_or text n 0 ≡ 58
+    → Some (take n text, take (length text - (n + 1)) (drop (n + 1) text)) ≡ halves_of text
+halves_found text n h none here =
+    let back : take (length text - (n + 1)) (drop (n + 1) text) ≡ drop (n + 1) text = take_all (length text - (n + 1)) (drop (n + 1) text) (omega (arith, length-drop (n + 1) text)) in
+    let next : drop (n + 1) text ≡ drop (suc n) text = rw add-one refl in
+    ap (λ (xs : List ℕ). Some (take n text, xs)) (back ∙ next) ∙ sym (halves_of-at text n h none here)

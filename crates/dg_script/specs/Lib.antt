@@ -1,4 +1,7 @@
+pub mod Sizes
+pub mod Options
 pub mod Words
+pub mod Contents
 pub mod Script
 pub mod Reading
 pub mod Report

@@ -1,7 +1,7 @@
 -- What a reader answers for a line that spells something, or nothing.
 use Rattle.std.specs.Prelude.{◌≡◌, Option, Some, None, Result, Ok, Err}
-use Rattle.dg_script.specs.declared.script.LineFault.{LineFault}
-use Rattle.dg_script.specs.declared.script.LineFault.TheVariants.{Memory, Verb}
+use Rattle.dg_script.specs.declared.line.LineFault.{LineFault}
+use Rattle.dg_script.specs.declared.line.LineFault.TheVariants.{Memory, Verb}
 
 -- A reader answers what is spelled, and `Verb` exactly where nothing is, unless memory ran out.
 abbrev pub Fails : {A : Type 0} → LineFault → Option A → Type 0

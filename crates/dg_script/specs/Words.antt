@@ -27,11 +27,26 @@ words_of text = with_word (split_of text).front (split_of text).behind
 abbrev pub same : List ℕ → List ℕ → Bool
 same = pointwise nat_eq
 
--- exactly one word, and exactly three
+-- the bytes up to the first colon, and those behind it
+abbrev pub onto_half : ℕ → Option (List ℕ × List ℕ) → Option (List ℕ × List ℕ)
+onto_half c None = None
+onto_half c (Some h) = Some (c ∷ h.0, h.1)
+
+unfoldable pub halves_of : List ℕ → Option (List ℕ × List ℕ)
+halves_of [] = None
+halves_of (c ∷ cs) = if c == 58 then Some ([], cs) else onto_half c (halves_of cs)
+
+-- exactly one word, exactly two, and exactly three
 abbrev pub one_of : List (List ℕ) → Option (List ℕ)
 one_of [] = None
 one_of (a ∷ []) = Some a
 one_of (a ∷ b ∷ more) = None
+
+abbrev pub two_of : List (List ℕ) → Option (List ℕ × List ℕ)
+two_of [] = None
+two_of (a ∷ []) = None
+two_of (a ∷ b ∷ []) = Some (a, b)
+two_of (a ∷ b ∷ c ∷ more) = None
 
 abbrev pub three_of : List (List ℕ) → Option (List ℕ × List ℕ × List ℕ)
 three_of [] = None

@@ -1,6 +1,7 @@
 //! The lines of a report.
-ghost use Rattle.std.specs.Prelude.{◌≡◌, ◌++◌, OnOk};
-ghost use Rattle.dg_script.specs.Report.{numbers, cause_text, said_of, report_line};
+ghost use Rattle.std.specs.Prelude.{◌≡◌, ◌∷◌, ◌++◌, [], OnOk};
+ghost use Rattle.dg_script.specs.Report.{numbers, cause_text, mote_text, said_of, report_line};
+ghost use Rattle.dg_script.specs.declared.report.Report.TheVariants.{Start};
 
 use dg_base::{push_hex, push_u32};
 use std::alloc::AllocError;
@@ -8,10 +9,26 @@ use std::alloc::AllocError;
 /// Why an event was refused.
 #[derive(Clone, Copy, Debug, PartialEq, Eq)]
 pub enum Cause {
+    /// The mote is off.
+    Off,
+    /// No such frame was sent.
+    Frame,
+    /// The two motes are no neighbours.
+    Link,
     /// The image is not declared.
     Image,
+    /// The image has no bytes.
+    Empty,
+    /// The image has more bytes than a slot takes.
+    TooLarge { length: u32 },
+    /// Image 0 is golden, which is not injected.
+    Reserved,
     /// A larger version is kept.
     Stale { version: u32 },
+    /// The version is kept with another content.
+    Taken,
+    /// So few commits are left in the control sectors.
+    Worn { room: u32 },
     /// The number of the kept order is not smaller.
     OldOrder { number: u32 },
 }
@@ -25,6 +42,11 @@ pub enum Report {
         number: u32,
         image: u8,
         version: u32,
+    },
+    /// A mote keeps nothing of an image any more.
+    Lost {
+        mote: u8,
+        image: u8,
     },
     /// A mote now keeps this version of an image, with so many complete pages.
     Have {
@@ -41,10 +63,19 @@ pub enum Report {
         length: u32,
         crc: u16,
     },
+    /// The power of a mote was cut, and it is off.
+    Off {
+        mote: u8,
+    },
     /// An event at a mote was refused.
     Refused {
         mote: u8,
         cause: Cause,
+    },
+    /// An image was not declared, since its key has another name or content.
+    Taken {
+        image: u8,
+        version: u32,
     },
     /// The script ended, after so many events.
     End {
@@ -79,20 +110,73 @@ fn push_numbers(out: &mut Vec<u8>, ns: &[u32]) -> Result<(), AllocError>
     Ok(())
 }
 
+// Appends a word, and numbers behind it.
+fn push_with(out: &mut Vec<u8>, word: &[u8], ns: &[u32]) -> Result<(), AllocError>
+    ensures { OnOk result (out.new.items ≡ out.old.items ++ word.now ++ numbers ns.now) }
+{
+    out.extend_from_slice(word)?;
+    push_numbers(out, ns)
+}
+
 // Appends why an event was refused.
 fn push_cause(out: &mut Vec<u8>, cause: Cause) -> Result<(), AllocError>
     ensures { OnOk result (out.new.items ≡ out.old.items ++ cause_text cause) }
 {
     match cause {
+        Cause::Off => out.extend_from_slice(b" off"),
+        Cause::Frame => out.extend_from_slice(b" frame"),
+        Cause::Link => out.extend_from_slice(b" link"),
         Cause::Image => out.extend_from_slice(b" image"),
-        Cause::Stale { version } => {
-            out.extend_from_slice(b" stale")?;
-            push_numbers(out, &[version])
-        }
-        Cause::OldOrder { number } => {
-            out.extend_from_slice(b" oldorder")?;
-            push_numbers(out, &[number])
-        }
+        Cause::Empty => out.extend_from_slice(b" empty"),
+        Cause::TooLarge { length } => push_with(out, b" toolarge", &[length]),
+        Cause::Reserved => out.extend_from_slice(b" reserved"),
+        Cause::Stale { version } => push_with(out, b" stale", &[version]),
+        Cause::Taken => out.extend_from_slice(b" taken"),
+        Cause::Worn { room } => push_with(out, b" worn", &[room]),
+        Cause::OldOrder { number } => push_with(out, b" oldorder", &[number]),
+    }
+}
+
+// Appends the text of a line on what was started.
+fn push_start(
+    out: &mut Vec<u8>,
+    mote: u8,
+    image: u8,
+    version: u32,
+    length: u32,
+    crc: u16,
+) -> Result<(), AllocError>
+    ensures { OnOk result (out.new.items ≡ out.old.items ++ said_of (Start mote image version length crc)) }
+{
+    let ns = [u32::from(mote), u32::from(image), version, length];
+    push_with(out, b"start", &ns)?;
+    out.push(b' ')?;
+    push_hex(out, &crc.to_be_bytes())
+}
+
+// Appends the text of a line on a version of an image that a mote keeps.
+fn push_kept(
+    out: &mut Vec<u8>,
+    word: &[u8],
+    mote: u8,
+    image: u8,
+    version: u32,
+    pages: u8,
+) -> Result<(), AllocError>
+    ensures { OnOk result (out.new.items ≡ out.old.items ++ word.now ++ numbers (mote ∷ image ∷ version ∷ pages ∷ [])) }
+{
+    let ns = [u32::from(mote), u32::from(image), version, u32::from(pages)];
+    push_with(out, word, &ns)
+}
+
+// Appends the text of a line on what a mote runs at the end.
+fn push_mote(out: &mut Vec<u8>, mote: u8, runs: Option<(u8, u32)>) -> Result<(), AllocError>
+    ensures { OnOk result (out.new.items ≡ out.old.items ++ mote_text mote runs) }
+{
+    push_with(out, b"mote", &[u32::from(mote)])?;
+    match runs {
+        Some((image, version)) => push_with(out, b" on", &[u32::from(image), version]),
+        None => out.extend_from_slice(b" off"),
     }
 }
 
@@ -106,70 +190,51 @@ fn push_said(out: &mut Vec<u8>, report: &Report) -> Result<(), AllocError>
             number,
             image,
             version,
-        } => {
-            out.extend_from_slice(b"order")?;
-            push_numbers(out, &[u32::from(mote), number, u32::from(image), version])
-        }
+        } => push_with(
+            out,
+            b"order",
+            &[u32::from(mote), number, u32::from(image), version],
+        ),
+        Report::Lost { mote, image } => push_with(
+            out,
+            b"none",
+            &[u32::from(mote), u32::from(image)],
+        ),
         Report::Have {
             mote,
             image,
             version,
             pages,
-        } => {
-            out.extend_from_slice(b"have")?;
-            push_numbers(
-                out,
-                &[u32::from(mote), u32::from(image), version, u32::from(pages)],
-            )
-        }
-        Report::Refused { mote, cause } => {
-            out.extend_from_slice(b"no")?;
-            push_numbers(out, &[u32::from(mote)])?;
-            push_cause(out, cause)
-        }
+        } => push_kept(out, b"have", mote, image, version, pages),
         Report::Start {
             mote,
             image,
             version,
             length,
             crc,
-        } => {
-            out.extend_from_slice(b"start")?;
-            push_numbers(out, &[u32::from(mote), u32::from(image), version, length])?;
-            out.push(b' ')?;
-            push_hex(out, &crc.to_be_bytes())
+        } => push_start(out, mote, image, version, length, crc),
+        Report::Off { mote } => push_with(out, b"off", &[u32::from(mote)]),
+        Report::Refused { mote, cause } => {
+            push_with(out, b"no", &[u32::from(mote)])?;
+            push_cause(out, cause)
         }
-        Report::End { events } => {
-            out.extend_from_slice(b"end")?;
-            push_numbers(out, &[events])
+        Report::Taken { image, version } => {
+            push_with(out, b"no image", &[u32::from(image), version])?;
+            out.extend_from_slice(b" taken")
         }
+        Report::End { events } => push_with(out, b"end", &[events]),
         Report::MoteOn {
             mote,
             image,
             version,
-        } => {
-            out.extend_from_slice(b"mote")?;
-            push_numbers(out, &[u32::from(mote)])?;
-            out.extend_from_slice(b" on")?;
-            push_numbers(out, &[u32::from(image), version])
-        }
-        Report::MoteOff { mote } => {
-            out.extend_from_slice(b"mote")?;
-            push_numbers(out, &[u32::from(mote)])?;
-            out.extend_from_slice(b" off")
-        }
+        } => push_mote(out, mote, Some((image, version))),
+        Report::MoteOff { mote } => push_mote(out, mote, None),
         Report::Kept {
             mote,
             image,
             version,
             pages,
-        } => {
-            out.extend_from_slice(b"kept")?;
-            push_numbers(
-                out,
-                &[u32::from(mote), u32::from(image), version, u32::from(pages)],
-            )
-        }
+        } => push_kept(out, b"kept", mote, image, version, pages),
     }
 }
 

@@ -1,6 +1,6 @@
 //! The words of a line.
 ghost use Rattle.std.specs.Prelude.{◌≡◌, ◌≢◌, ℕ, ◌<◌, ◌≤◌, ◌∷◌, [], length, drop, slice_index, IfNone, IfSome, option_map};
-ghost use Rattle.dg_script.specs.Words.{words_of, one_of, three_of, four_of, five_of, six_of};
+ghost use Rattle.dg_script.specs.Words.{words_of, halves_of, one_of, two_of, three_of, four_of, five_of, six_of};
 
 // How many spaces the text begins with.
 #[tactic(auto, using(crate::proofs::WordLemmas::words_after_space))]
@@ -17,18 +17,29 @@ fn spaces(text: &[u8]) -> usize
     text.len()
 }
 
-// How many bytes come before the first space.
-fn word_length(text: &[u8]) -> usize
+// How many bytes come before the first that is `stop`.
+fn length_before(text: &[u8], stop: u8) -> usize
     ensures bound { result ≤ length text.now }
-    ensures word { (k : ℕ) → k < result → slice_index text.now k ≢ 32 }
-    ensures stops { result < length text.now → slice_index text.now result ≡ 32 }
+    ensures word { (k : ℕ) → k < result → slice_index text.now k ≢ stop }
+    ensures stops { result < length text.now → slice_index text.now result ≡ stop }
 {
     for (count, byte) in text.iter().enumerate() {
-        if *byte == b' ' {
+        if *byte == stop {
             return count;
         }
     }
     text.len()
+}
+
+/// The bytes up to the first colon, and those behind it. None where there is no colon.
+pub fn halves(text: &[u8]) -> Option<(&[u8], &[u8])>
+    ensures { option_map (λ h. (h.0.now, h.1.now)) result ≡ halves_of text.now }
+{
+    let length = length_before(text, b':');
+    if length == text.len() {
+        return None;
+    }
+    Some((&text[..length], &text[length + 1..]))
 }
 
 /// The first word of a text, and the text behind it. None where there is no word.
@@ -41,7 +52,7 @@ pub fn next_word(text: &[u8]) -> Option<(&[u8], &[u8])>
     if text.is_empty() {
         return None;
     }
-    Some(text.split_at(word_length(text)))
+    Some(text.split_at(length_before(text, b' ')))
 }
 
 /// The only word of a text.
@@ -53,6 +64,18 @@ pub fn one_word(text: &[u8]) -> Option<&[u8]>
         return None;
     }
     Some(first)
+}
+
+/// The words of a text that has two.
+pub fn two_words(text: &[u8]) -> Option<(&[u8], &[u8])>
+    ensures { option_map (λ t. (t.0.now, t.1.now)) result ≡ two_of (words_of text.now) }
+{
+    let (first, rest) = next_word(text)?;
+    let (second, rest) = next_word(rest)?;
+    if next_word(rest).is_some() {
+        return None;
+    }
+    Some((first, second))
 }
 
 /// The words of a text that has three.

@@ -11,8 +11,8 @@ returns-then-is_empty-clause-none c =
 pub returns-clause-some : goal.returns-clause-some
 returns-clause-some c =
     let text = c.split_at.result.1.now in
-    let n = c.word_length.result in
+    let n = c.length_before.result in
     let behind : 0 < length text = search rules in
-    let some : 0 < n = word_begins c.args.text.now text c.spaces.result n c.split_at.ensures.back behind c.spaces.ensures.stops c.word_length.ensures.stops in
-    let first : words_of text ≡ _ = first_word text n some c.word_length.ensures.bound c.word_length.ensures.word c.word_length.ensures.stops in
+    let some : 0 < n = word_begins c.args.text.now text c.spaces.result n c.split_at.ensures.back behind c.spaces.ensures.stops c.length_before.ensures.stops in
+    let first : words_of text ≡ _ = first_word text n some c.length_before.ensures.bound c.length_before.ensures.word c.length_before.ensures.stops in
     sym c.spaces.ensures.words ∙ ap words_of (sym c.split_at.ensures.back) ∙ first ∙ cc
