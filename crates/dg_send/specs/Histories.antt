@@ -39,7 +39,7 @@ sent start first (Asks want ∷ earlier) = sent start first earlier
 sent start first (Next moment ∷ earlier) = sent_by (serve_of (owed start first earlier) moment) (sent start first earlier)
 
 -- 1 where a set names the packet
-abbrev pub references : Numbers → ℕ → ℕ
+abbrev pub names : Numbers → ℕ → ℕ
 names s packet = if set.contains s packet then 1 else 0
 
 -- how many requests asked for a packet
