@@ -7,3 +7,5 @@ mod boards;
 mod slots;
 #[cfg(test)]
 mod starts;
+#[cfg(test)]
+mod stops;
