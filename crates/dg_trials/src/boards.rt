@@ -1,0 +1,71 @@
+//! The boards that are stopped, and what an operation leaves that is interrupted.
+ghost use Rattle.std.specs.Prelude.{◌≤◌, IfOk};
+ghost use Rattle.dg_nor.specs.Board.{board_image};
+ghost use Rattle.dg_volume.specs.Sizes.{most_room};
+ghost use Rattle.dg_volume.specs.Stands.{IsMounted, NothingLent};
+
+use dg_control::PLACE_SIZE;
+use dg_nor::Board;
+use dg_volume::{Injected, Volume};
+use std::test::Fail;
+
+/// The content of golden.
+pub(crate) const GOLDEN: &[u8; 1] = b"A";
+
+/// The content of the image that is injected, of two pages with its descriptor.
+pub(crate) const CONTENT: &[u8; 9] = b"123456789";
+
+pub(crate) const NAME: &[u8; 5] = b"blink";
+
+pub(crate) const IMAGE: u8 = 1;
+
+pub(crate) const VERSION: u32 = 1;
+
+/// A committed place by which program memory is Set to version 9 of image 3: slot 0 is Live with version 1, the others
+/// are Dirty, and there is no order. Left in a sector by an erase that is interrupted, it stands there 32 times.
+pub(crate) const FORGED: [u8; PLACE_SIZE] = [
+    0x7F, 0x01, 0x01, 0x00, 0x00, 0x00, 0x01, 0x00, 0x00, 0x00, 0x00, 0x00, 0x00, 0x00, 0x00, 0x00,
+    0x00, 0x00, 0x00, 0x00, 0x00, 0x00, 0x01, 0x03, 0x00, 0x00, 0x00, 0x09, 0x00, 0x00, 0x00, 0x00,
+    0x00, 0x00, 0x00, 0x00, 0x00, 0x00, 0x00, 0xFF, 0xFF, 0xFF, 0xFF, 0xFF, 0xFF, 0xFF, 0xFF, 0xFF,
+    0xFF, 0xFF, 0xFF, 0xFF, 0xFF, 0xFF, 0xFF, 0xFF, 0xFF, 0xFF, 0xFF, 0xFF, 0xFF, 0xFF, 0xFF, 0xFF,
+];
+
+/// What interrupted operations leave: the finished bytes, the old ones, some bits of each, and a place that was never
+/// written.
+pub(crate) const MASKS: [[u8; PLACE_SIZE]; 4] = [
+    [0x00; PLACE_SIZE],
+    [0xFF; PLACE_SIZE],
+    [0xA5; PLACE_SIZE],
+    FORGED,
+];
+
+/// A volume that keeps golden alone, with so many commits told as spent.
+pub(crate) fn formatted(rt: &HostRuntime, used: u32) -> Result<Board, Fail>
+    requires { used ≤ most_room }
+{
+    let mut board = Board::memory(rt.alloc())?;
+    if Volume::format(&mut board, GOLDEN, b"base", used).is_err() {
+        return Err("the board is not formatted".into());
+    }
+    Ok(board)
+}
+
+/// The volume of a board.
+pub(crate) fn mounted(board: &mut Board) -> Result<Volume, Fail>
+    ensures volume { IfOk result (λ v. IsMounted (board_image board.new) v) }
+    ensures free { IfOk result NothingLent }
+{
+    match Volume::mount(board) {
+        Ok(volume) => Ok(volume),
+        Err(_) => Err("the board is no volume".into()),
+    }
+}
+
+/// Injects the image whole.
+pub(crate) fn inject(board: &mut Board) -> Result<(), Fail> {
+    let mut volume = mounted(board)?;
+    match volume.inject(board, IMAGE, VERSION, NAME, CONTENT) {
+        Ok(Injected { pages: 2 }) => Ok(()),
+        _ => Err("the image is not injected".into()),
+    }
+}

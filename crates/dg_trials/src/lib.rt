@@ -1,0 +1,11 @@
+//! Tests that need more than one crate.
+#![tactic(auto)]
+
+#[cfg(test)]
+mod boards;
+#[cfg(test)]
+mod slots;
+#[cfg(test)]
+mod starts;
+#[cfg(test)]
+mod stops;
