@@ -29,6 +29,7 @@ ghost use Rattle.dg_boot.specs.Started.{Starts, Lacks};
 
 use crate::starting::start_mounted;
 use dg_nor::Nor;
+pub use choosing::waits;
 pub use dg_volume::Kind;
 use dg_volume::Volume;
 pub use laws::{

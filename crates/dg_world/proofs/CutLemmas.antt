@@ -1,0 +1,142 @@
+-- From what an event did over a fuse to what its board holds.
+use Rattle.std.proofs.Common.{◌≡◌, ◌⊎◌, ℕ, ◌+◌, ◌-◌, ◌<◌, ◌≤◌, Bool, true, false, refl, ap, sym, ◌∙◌, subst, inl, inr, ⊎_elim, arith}
+use Rattle.std.specs.Prelude.{◌||◌, ◌∷◌, nat_le, Option, Some, None, Result, Ok, Err, IsSomeAnd}
+use Rattle.std.proofs.lemmas.Bool.{lt-leb, le-leb, both_ways}
+use Rattle.std.specs.Borrow.{GName}
+use Rattle.dg_nor.specs.Device.{Device, Beneath, Endures, BeneathEndures, Ran, Halts, Halted}
+use Rattle.dg_nor.specs.Fuse.{beneath_of, inner_of, fused_device}
+use Rattle.dg_nor.specs.declared.fuse.Fused.{Fused}
+use Rattle.dg_nor.specs.Trail.{Trail, operations, last, resting, MayLeave}
+use Rattle.dg_nor.specs.Reads.{Looked, StopsIn}
+use Rattle.dg_nor.proofs.DeviceLemmas.{left_ran, left_blown}
+use Rattle.dg_nor.proofs.TrailLemmas.{operations-resting}
+use Rattle.dg_volume.specs.Store.{Store, IsNear}
+use Rattle.dg_volume.specs.Stands.{Stands}
+use Rattle.dg_rules.specs.World.{World as RuleWorld, store_at}
+use Rattle.dg_rules.specs.Events.{Deed, Does, Refuses, Goes}
+use Rattle.dg_rules.specs.Steps.{blows}
+use Rattle.dg_script.specs.declared.events.Cut.{Cut as PowerCut}
+use Rattle.dg_world.specs.Turns.{trail_of, Tells, Went, StoppedOn, Lacked, BeforeShows, TurnEnds}
+use Rattle.dg_world.specs.Cuts.{ended, IsWhole, IsBlown, IsStopped, IsLacking, PlayEnds, Played}
+use Rattle.dg_world.specs.declared.shown.Shown.{Shown}
+use Rattle.dg_world.specs.declared.turn.Turn.{Turn}
+use Rattle.dg_world.specs.declared.turn.Turn.TheVariants.{Refused, Rests, Changes, Starts}
+use Rattle.dg_world.specs.declared.turn.Ended.{Ended}
+use Rattle.dg_world.specs.declared.turn.Halt.{Halt}
+use Rattle.dg_world.specs.declared.turn.Halt.TheVariants.{Stopped, NotAVolume, NoImage}
+
+-- ---- without a cut
+
+ran_endures : {n : ℕ} (a b : Device) → Ran n a b → Endures (beneath_of a) (beneath_of b)
+ran_endures a b r = record { faults = r.faults; cause = λ stopped. inl (sym r.stopped ∙ stopped) }
+
+halts_endures : {n done : ℕ} (a b : Device) → Halts n done a b → Endures (beneath_of a) (beneath_of b)
+halts_endures a b h = record { faults = h.faults; cause = λ stopped. h.cause }
+
+went_whole : (w : RuleWorld) (m now : ℕ) (does : Does) (a b : Device) (turn : Turn) → Went w m now does a b turn → IsWhole w m now does None b.image turn
+went_whole w m now does a b turn x = record { deed = x.deed; goes = x.goes; whole = refl; tells = x.tells }
+
+pub uncut : (r : Result Turn Halt) (w : RuleWorld) (m now : ℕ) (does : Does) (a b : Device) → TurnEnds r w m now does a b → Played (ended false r) w m now does None a b
+uncut (Ok (Refused why)) w m now does a b x = record { ends = (x.0, x.1.same_image); endures = ran_endures a b x.1.ran }
+uncut (Ok Rests) w m now does a b x = record { ends = went_whole w m now does a b Rests x; endures = ran_endures a b x.ran }
+uncut (Ok (Changes p q)) w m now does a b x = record { ends = went_whole w m now does a b (Changes p q) x; endures = ran_endures a b x.ran }
+uncut (Ok (Starts p)) w m now does a b x = record { ends = went_whole w m now does a b (Starts p) x; endures = ran_endures a b x.ran }
+uncut (Err (Stopped before)) w m now does a b x = record { ends = record { stopped = x.stops.halts.stopped; done = x.stops.done; leaves = x.stops.leaves }; endures = halts_endures a b x.stops.halts }
+uncut (Err NoImage) w m now does a b x = record { ends = record { deed = x.deed; goes = x.goes; none = x.none; whole = refl; stands = x.stands }; endures = ran_endures a b x.ran }
+uncut (Err NotAVolume) w m now does a b x = absurd x
+
+-- ---- over a fuse
+
+-- the device over the board, before and after, as a fuse makes it
+pub record IsFused (cut : PowerCut) (a b x y : Device) : Type 0 where
+  pub counted : 1 ≤ cut.after
+  pub whole : x.blown ≡ false
+  pub left : x.left ≡ Some (cut.after - 1)
+  pub image : x.image ≡ a.image
+  pub beneath : x.beneath ≡ Some (beneath_of a)
+  pub image_then : y.image ≡ b.image
+  pub beneath_then : y.beneath ≡ Some (beneath_of b)
+  pub stopped : y.blown ≡ false → y.stopped ≡ true → b.stopped ≡ true
+
+endures_by : (a b : Beneath) (x y : Option Beneath) → x ≡ Some a → y ≡ Some b → BeneathEndures x y → Endures a b
+endures_by a b x y ex ey h = subst (λ (o : Option Beneath). IsSomeAnd o (Endures a)) ey (subst (λ (o : Option Beneath). BeneathEndures o y) ex h)
+
+not_reached : (cut : PowerCut) (n : ℕ) (a b x y : Device) → IsFused cut a b x y → Ran n x y → nat_le cut.after n ≡ false
+not_reached cut n a b x y f r =
+    let h = left_ran (cut.after - 1) r f.left in
+    lt-leb cut.after n (omega (arith, h.0, f.counted))
+
+fused_ran : {n : ℕ} (cut : PowerCut) (a b x y : Device) → IsFused cut a b x y → Ran n x y → Endures (beneath_of a) (beneath_of b)
+fused_ran cut a b x y f r = endures_by (beneath_of a) (beneath_of b) x.beneath y.beneath f.beneath f.beneath_then r.beneath
+
+fused_halts : {n done : ℕ} (cut : PowerCut) (a b x y : Device) → IsFused cut a b x y → Halts n done x y → Endures (beneath_of a) (beneath_of b)
+fused_halts cut a b x y f h = endures_by (beneath_of a) (beneath_of b) x.beneath y.beneath f.beneath f.beneath_then h.beneath
+
+fused_whole : (cut : PowerCut) (w : RuleWorld) (m now : ℕ) (does : Does) (a b x y : Device) (turn : Turn) → IsFused cut a b x y → Went w m now does x y turn → IsWhole w m now does (Some cut) b.image turn
+fused_whole cut w m now does a b x y turn f g = record {
+  deed = g.deed;
+  goes = g.goes;
+  whole = not_reached cut (operations g.deed.trail) a b x y f g.ran;
+  tells = subst (Tells w m now g.deed turn) f.image_then g.tells;
+}
+
+-- a refused event makes no operation, so that no cut blows in it
+blown_deed : (cut : PowerCut) (w : RuleWorld) (m : ℕ) (does : Does) (a b x y : Device) (before : Option Shown) → IsFused cut a b x y → y.blown ≡ true → StoppedOn does (store_at w m) x y before → IsBlown w m does (Some cut) b.image before
+blown_deed cut w m (Refuses why) a b x y before f blown s =
+    let h = left_blown (cut.after - 1) s.stops f.whole blown f.left in
+    absurd (omega (arith, h.0, operations-resting (store_at w m) 0))
+blown_deed cut w m (Goes d) a b x y before f blown s =
+    let h = left_blown (cut.after - 1) s.stops f.whole blown f.left in
+    record {
+      deed = d;
+      goes = refl;
+      blown = le-leb cut.after (operations d.trail) (omega (arith, h.0));
+      leaves = subst (λ c. MayLeave Stands IsNear d.trail (cut.after - 1) c) f.image_then h.1;
+      shows = s.shows f.whole blown;
+    }
+
+fused_stopped : (cut : PowerCut) (w : RuleWorld) (m now : ℕ) (does : Does) (a b x y : Device) (before : Option Shown) (blown : Bool) → y.blown ≡ blown → IsFused cut a b x y → StoppedOn does (store_at w m) x y before
+    → PlayEnds (ended blown (Err (Stopped before))) w m now does (Some cut) a b
+fused_stopped cut w m now does a b x y before true is f s = blown_deed cut w m does a b x y before f is s
+fused_stopped cut w m now does a b x y before false is f s = record {
+  stopped = f.stopped is s.stops.halts.stopped;
+  done = s.stops.done;
+  leaves = subst (λ c. MayLeave Stands IsNear (trail_of does (store_at w m)) s.stops.done c) f.image_then s.stops.leaves;
+}
+
+pub fused : (r : Result Turn Halt) (cut : PowerCut) (w : RuleWorld) (m now : ℕ) (does : Does) (a b x y : Device) → IsFused cut a b x y → TurnEnds r w m now does x y → Played (ended y.blown r) w m now does (Some cut) a b
+fused (Ok (Refused why)) cut w m now does a b x y f t = record { ends = (t.0, sym f.image_then ∙ t.1.same_image ∙ f.image); endures = fused_ran cut a b x y f t.1.ran }
+fused (Ok Rests) cut w m now does a b x y f t = record { ends = fused_whole cut w m now does a b x y Rests f t; endures = fused_ran cut a b x y f t.ran }
+fused (Ok (Changes p q)) cut w m now does a b x y f t = record { ends = fused_whole cut w m now does a b x y (Changes p q) f t; endures = fused_ran cut a b x y f t.ran }
+fused (Ok (Starts p)) cut w m now does a b x y f t = record { ends = fused_whole cut w m now does a b x y (Starts p) f t; endures = fused_ran cut a b x y f t.ran }
+fused (Err (Stopped before)) cut w m now does a b x y f t = record { ends = fused_stopped cut w m now does a b x y before y.blown refl f t; endures = fused_halts cut a b x y f t.stops.halts }
+fused (Err NoImage) cut w m now does a b x y f t =
+    record {
+      ends = record { deed = t.deed; goes = t.goes; none = t.none; whole = not_reached cut (operations t.deed.trail) a b x y f t.ran; stands = subst (λ c. Stands c (last t.deed.trail)) f.image_then t.stands };
+      endures = fused_ran cut a b x y f t.ran;
+    }
+fused (Err NotAVolume) cut w m now does a b x y f t = absurd t
+
+or_second : (x y : Bool) → x ≡ false → (x || y) ≡ true → y ≡ true
+or_second false y e h = h
+or_second true y e h = cc
+
+-- a fuse over a board
+pub is_fused : {N : Type 0} (device : N → Device) (cut : PowerCut) (a : Device) (f g : Fused N) (name : GName) → 1 ≤ cut.after → fused_device device f ≡ record {
+  image = a.image; stopped = a.stopped; faults = a.faults; left = Some (cut.after - 1); taken = a.taken; blown = false; references = name ∷ a.references; beneath = Some (beneath_of a); }
+    → IsFused cut a (device (inner_of g)) (fused_device device f) (fused_device device g)
+is_fused device cut a f g name counted made = record {
+  counted = counted;
+  whole = ap (λ (d : Device). d.blown) made;
+  left = ap (λ (d : Device). d.left) made;
+  image = ap (λ (d : Device). d.image) made;
+  beneath = ap (λ (d : Device). d.beneath) made;
+  image_then = refl;
+  beneath_then = refl;
+  stopped = λ whole stopped. or_second g.blown (device (inner_of g)).stopped whole stopped;
+}
+
+pub played_as : (r q : Result Ended Halt) (cut other : Option PowerCut) (w : RuleWorld) (m now : ℕ) (does : Does) (a b : Device) → r ≡ q → cut ≡ other → Played q w m now does other a b → Played r w m now does cut a b
+played_as r q cut other w m now does a b e f p =
+    let P : Result Ended Halt → Option PowerCut → Type 0 = λ x y. Played x w m now does y a b in
+    subst (λ x. P x cut) (sym e) (subst (λ y. P q y) (sym f) p)

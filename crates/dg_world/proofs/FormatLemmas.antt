@@ -1,0 +1,106 @@
+-- Boards that are formatted one after the other.
+use Rattle.std.proofs.Common.{◌≡◌, ◌≢◌, ℕ, ◌+◌, ◌<◌, ◌≤◌, inl, inr, false, List, length, refl, ap, sym, ◌∙◌, subst, arith}
+use Rattle.std.specs.Prelude.{Some, Result, Err, slice_get}
+use Rattle.std.proofs.Math.ListN.{length-set}
+use Rattle.std.proofs.lemmas.Bool.{cases_eq}
+use Rattle.dg_nor.specs.Device.{Device}
+use Rattle.dg_nor.specs.Reads.{ActStopped}
+use Rattle.dg_volume.specs.Store.{Store}
+use Rattle.dg_volume.specs.Stands.{Stands}
+use Rattle.dg_world.specs.Formatted.{FirstBoards, FormatStops}
+use Rattle.dg_world.specs.declared.format.FormatStopped.{FormatStopped}
+use Rattle.dg_world.proofs.BoardLemmas.{Used, same_some, get_same, get_other}
+
+pub same_err : {E : Type 0} (a b : E) → (let x : Result (Unit {0}) E = Err a in x ≡ Err b) → a ≡ b
+same_err a b e = cc
+
+-- the first n boards stand for the store, and were not stopped
+pub record FormattedTo (n : ℕ) (s : Store) (old new : List Device) : Type 0 where
+  pub boards : FirstBoards n old new
+  pub formatted : (m : ℕ) (d : Device) → m < n → slice_get new m ≡ Some d → Stands d.image s
+  pub awake : (m : ℕ) (d : Device) → m < n → slice_get old m ≡ Some d → d.stopped ≡ false
+
+pub first_none : (ds : List Device) → FirstBoards 0 ds ds
+first_none ds =
+    record {
+      count = refl;
+      others = λ m h. refl;
+      counts = λ m a b here there. let e : a.faults ≡ b.faults = ap (λ (d : Device). d.faults) (same_some a b (sym here ∙ there)) in omega (arith, e);
+    }
+
+pub formatted_none : (s : Store) (ds : List Device) → FormattedTo 0 s ds ds
+formatted_none s ds =
+    record {
+      boards = first_none ds;
+      formatted = λ m d h here. absurd (omega (arith, h));
+      awake = λ m d h here. absurd (omega (arith, h));
+    }
+
+-- the board was not used before
+pub unused : (n : ℕ) (old now new : List Device) (d e : Device) → FirstBoards n old now → Used n now new d e → slice_get old n ≡ Some d
+unused n old now new d e first used = sym (first.others n (omega arith)) ∙ used.before
+
+pub is_now : (n : ℕ) (now new : List Device) (d e : Device) → Used n now new d e → slice_get new n ≡ Some e
+is_now n now new d e used = ap (λ (ds : List Device). slice_get ds n) used.after ∙ get_same now n d e used.before
+
+pub is_other : (n m : ℕ) (now new : List Device) (d e : Device) → Used n now new d e → m ≢ n → slice_get new m ≡ slice_get now m
+is_other n m now new d e used other = ap (λ (ds : List Device). slice_get ds m) used.after ∙ get_other now n m e other
+
+counts_more : (n m : ℕ) (old now new : List Device) (d e a b : Device) → FirstBoards n old now → Used n now new d e → d.faults ≤ e.faults
+    → slice_get old m ≡ Some a → slice_get new m ≡ Some b → a.faults ≤ b.faults
+counts_more n m old now new d e a b first used risen here there =
+    elim (cases_eq m n) [
+      | inl same ↦
+          let p : a ≡ d = same_some a d (sym here ∙ ap (slice_get old) same ∙ unused n old now new d e first used) in
+          let q : b ≡ e = same_some b e (sym there ∙ ap (slice_get new) same ∙ is_now n now new d e used) in
+          let f : a.faults ≡ d.faults = ap (λ (x : Device). x.faults) p in
+          let g : b.faults ≡ e.faults = ap (λ (x : Device). x.faults) q in
+          omega (arith, f, g, risen)
+      | inr other ↦ first.counts m a b here (sym (is_other n m now new d e used other) ∙ there)
+    ]
+
+-- one board more was used
+pub first_more : (n : ℕ) (old now new : List Device) (d e : Device) → FirstBoards n old now → Used n now new d e → d.faults ≤ e.faults → FirstBoards (n + 1) old new
+first_more n old now new d e first used risen =
+    record {
+      count = ap length used.after ∙ length-set now n e ∙ first.count;
+      others = λ m h. let other : m ≢ n = omega (arith, h) in is_other n m now new d e used other ∙ first.others m (omega (arith, h));
+      counts = λ m a b here there. counts_more n m old now new d e a b first used risen here there;
+    }
+
+pub first_within : (n k : ℕ) (old new : List Device) → FirstBoards n old new → n ≤ k → FirstBoards k old new
+first_within n k old new first within = record { count = first.count; others = λ m h. first.others m (omega (arith, h, within)); counts = first.counts }
+
+-- one board more was formatted
+pub formatted_more : (n : ℕ) (s : Store) (old now new : List Device) (d e : Device) → FormattedTo n s old now → Used n now new d e → d.faults ≤ e.faults → d.stopped ≡ false → Stands e.image s
+    → FormattedTo (n + 1) s old new
+formatted_more n s old now new d e to used risen awake stands =
+    record {
+      boards = first_more n old now new d e to.boards used risen;
+      formatted = λ m x h here. elim (cases_eq m n) [
+        | inl same ↦ subst (λ (y : Device). Stands y.image s) (same_some e x (sym (is_now n now new d e used) ∙ ap (slice_get new) (sym same) ∙ here)) stands
+        | inr other ↦ to.formatted m x (omega (arith, h, other)) (sym (is_other n m now new d e used other) ∙ here)
+      ];
+      awake = λ m x h here. elim (cases_eq m n) [
+        | inl same ↦ subst (λ (y : Device). y.stopped ≡ false) (same_some d x (sym (unused n old now new d e to.boards used) ∙ ap (slice_get old) (sym same) ∙ here)) awake
+        | inr other ↦ to.awake m x (omega (arith, h, other)) here
+      ];
+    }
+
+-- the next board stopped
+pub format_stopped : (n motes : ℕ) (s : Store) (old now new : List Device) (d e : Device) → FormattedTo n s old now → Used n now new d e → ActStopped d e → n < motes → FormatStops n motes old new
+format_stopped n motes s old now new d e to used stopped known =
+    record {
+      known = known;
+      before = d;
+      after = e;
+      was = unused n old now new d e to.boards used;
+      is = is_now n now new d e used;
+      cause = stopped.cause;
+      behind = λ m h. let other : m ≢ n = omega (arith, h) in is_other n m now new d e used other ∙ to.boards.others m (omega (arith, h));
+    }
+
+pub board_of : (board : ℕ) (e : FormatStopped) (motes : ℕ) (old new : List Device) → (let x : Result (Unit {0}) FormatStopped = Err (record { board = board }) in x ≡ Err e) → FormatStops board motes old new → FormatStops e.board motes old new
+board_of board e motes old new is stops =
+    let same : record { board = board } ≡ e = same_err _ _ is in
+    subst (λ (x : FormatStopped). FormatStops x.board motes old new) same stops

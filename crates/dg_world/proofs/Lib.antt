@@ -1,0 +1,15 @@
+pub mod ImageLemmas
+pub mod WorldLemmas
+pub mod ShownLemmas
+pub mod TurnLemmas
+pub mod StartLemmas
+pub mod TickLemmas
+pub mod InjectLemmas
+pub mod HappenLemmas
+pub mod CutLemmas
+pub mod BoardLemmas
+pub mod FormatLemmas
+pub mod StepLemmas
+pub mod DoneLemmas
+pub mod FinishLemmas
+pub mod PlaceLemmas

@@ -1,0 +1,230 @@
+-- A step of the world where the board and the mote of one place changed.
+use Rattle.std.proofs.Common.{◌≡◌, ◌≢◌, ◌⊎◌, ℕ, zero, suc, ◌+◌, ◌-◌, ◌*◌, ◌^◌, ◌<◌, ◌≤◌, Bool, true, false, List, [], ◌∷◌, length, get_or, set, map, refl, ap, sym, ◌∙◌, subst, inl, inr, ⊎_elim, arith, eqb-true, eq-eqb}
+use Rattle.std.specs.Prelude.{◌==◌, slice_get, slice_set, slice_index_or, Option, Some, None, Result, Ok, Err}
+use Rattle.std.proofs.Math.ListN.{length-set}
+use Rattle.std.proofs.lemmas.List.{get_or-set_same, get_or-set_other, get_or_read}
+use Rattle.std.proofs.lemmas.Option.{same_Some}
+use Rattle.std.proofs.lemmas.Bool.{both_ways}
+use Rattle.dg_nor.specs.Device.{Device, Endures}
+use Rattle.dg_nor.specs.Fuse.{beneath_of}
+use Rattle.dg_nor.specs.Trail.{last}
+use Rattle.dg_slot.specs.Pages.{program}
+use Rattle.dg_volume.specs.Store.{Store}
+use Rattle.dg_volume.specs.Stands.{Stands}
+use Rattle.dg_rules.specs.Sizes.{most_events, most_motes}
+use Rattle.dg_rules.specs.World.{World as RuleWorld, Running, Site, no_site, site, store_at}
+use Rattle.dg_rules.specs.Events.{Deed, Goes, does, mote_of, dt_of}
+use Rattle.dg_rules.specs.Steps.{cut_world}
+use Rattle.dg_rules.specs.Ranges.{StepFits}
+use Rattle.dg_script.specs.declared.events.Step.{Step}
+use Rattle.dg_script.specs.declared.report.Report.{Report}
+use Rattle.dg_object.specs.Object.{Row}
+use Rattle.dg_world.specs.Images.{Declares}
+use Rattle.dg_world.specs.Worlds.{MoteStands, SiteStands, IsWorld}
+use Rattle.dg_world.specs.Applied.{OneBoard, Applied, FlashAt, Ended, ApplyEnds, fault_of}
+use Rattle.dg_world.specs.Cuts.{IsStopped, IsLacking}
+use Rattle.dg_world.specs.Stepped.{StepDone, Stepped}
+use Rattle.dg_world.specs.declared.images.Images.{Images}
+use Rattle.dg_world.specs.declared.turn.Halt.{Halt}
+use Rattle.dg_world.specs.declared.turn.Halt.TheVariants.{Stopped, NotAVolume, NoImage}
+use Rattle.dg_world.specs.declared.world.WorldFault.{WorldFault}
+use Rattle.dg_world.specs.declared.world.World.{World}
+use Rattle.dg_world.specs.declared.world.RunningMote.{RunningMote}
+
+-- ---- lists by their indices
+
+same_or : (b : Bool) (k i : ℕ) → (k == i) ≡ b → (k ≡ i) ⊎ (k ≢ i)
+same_or true k i e = inl (eqb-true k i e)
+same_or false k i e = inr (λ h. both_ways (k == i) e (eq-eqb k i h))
+
+pub is_or : (k i : ℕ) → (k ≡ i) ⊎ (k ≢ i)
+is_or k i = same_or (k == i) k i refl
+
+get_set_same : {A : Type 0} (xs : List A) (i : ℕ) (y : A) → i < length xs → slice_get (set xs i y) i ≡ Some y
+get_set_same [] i y h = absurd (omega arith)
+get_set_same (x ∷ xs) zero y h = refl
+get_set_same (x ∷ xs) (suc i) y h = get_set_same xs i y (omega arith)
+
+get_set_other : {A : Type 0} (xs : List A) (i k : ℕ) (y : A) → k ≢ i → slice_get (set xs i y) k ≡ slice_get xs k
+get_set_other [] i k y other = refl
+get_set_other (x ∷ xs) zero zero y other = absurd (other refl)
+get_set_other (x ∷ xs) zero (suc k) y other = refl
+get_set_other (x ∷ xs) (suc i) zero y other = refl
+get_set_other (x ∷ xs) (suc i) (suc k) y other = get_set_other xs i k y (λ e. other (ap suc e))
+
+-- ---- one board
+
+same_of : {A : Type 0} (o : Option A) (p q : A) → o ≡ Some p → o ≡ Some q → p ≡ q
+same_of o p q e f = same_Some p q (sym e ∙ f)
+
+pub one_board : (bs : List Device) (i : ℕ) (a b : Device) → i < length bs → slice_get bs i ≡ Some a → a.faults ≤ b.faults → OneBoard i bs (set bs i b)
+one_board bs i a b known here faults = record {
+  count = length-set bs i b;
+  others = λ k other. get_set_other bs i k b other;
+  counts = λ k p q old new.
+      ⊎_elim
+      (λ is.
+      let ep : p ≡ a = same_of (slice_get bs i) p a (sym (ap (slice_get bs) is) ∙ old) here in
+      let eq : q ≡ b = same_of (slice_get (set bs i b) i) q b (sym (ap (slice_get (set bs i b)) is) ∙ new) (get_set_same bs i b known) in
+      subst (λ (d : Device). p.faults ≤ d.faults) (sym eq) (subst (λ (d : Device). d.faults ≤ b.faults) (sym ep) faults))
+      (λ other.
+      let e : p ≡ q = same_of (slice_get bs k) p q old (sym (get_set_other bs i k b other) ∙ new) in
+      let h : p.faults ≤ p.faults = omega arith in
+      subst (λ (d : Device). p.faults ≤ d.faults) e h)
+      (is_or k i);
+}
+
+-- ---- the world then
+
+-- the code's world after a step
+pub record Moves (v u : World) (i : ℕ) (moment : ℕ) (runs : Option RunningMote) : Type 0 where
+  pub moment_then : u.moment ≡ moment
+  pub events : u.events ≡ v.events + 1
+  pub images : u.images ≡ v.images
+  pub motes : u.motes.items ≡ set v.motes.items i runs
+
+site_then : (v u : World) (bs : List Device) (w : RuleWorld) (x : Step) (i : ℕ) (runs : Option RunningMote) (b : Device) (start end : List Report) → IsWorld v bs w → i ≡ mote_of x.event → i < length w.sites → Moves v u i (w.moment + dt_of x.event) runs
+    → (s : StepDone w x runs b start end) → (k : ℕ) (d : Device) → k < length s.world.sites → slice_get (set bs i b) k ≡ Some d → SiteStands d (slice_index_or u.motes.items k None) (site s.world k)
+site_then v u bs w x i runs b start end is at known moves s k d within here =
+    let sites : s.world.sites ≡ set w.sites i s.here = s.sites ∙ ap (λ (j : ℕ). set w.sites j s.here) (sym at) in
+    let wide : i < length bs = omega (arith, known, is.boards_enough) in
+    let many : i < length v.motes.items = omega (arith, known, is.motes) in
+    let P : Device → Option RunningMote → Site → Type 0 = λ e o y. SiteStands e o y in
+    ⊎_elim
+    (λ same.
+    let ed : d ≡ b = same_of (slice_get (set bs i b) i) d b (sym (ap (slice_get (set bs i b)) same) ∙ here) (get_set_same bs i b wide) in
+    let eo : slice_index_or u.motes.items k None ≡ runs = ap (λ (xs : List (Option RunningMote)). get_or xs k None) moves.motes ∙ ap (λ (j : ℕ). get_or (set v.motes.items i runs) j None) same ∙ get_or-set_same v.motes.items i runs None many in
+    let ey : site s.world k ≡ s.here = ap (λ (xs : List Site). get_or xs k no_site) sites ∙ ap (λ (j : ℕ). get_or (set w.sites i s.here) j no_site) same ∙ get_or-set_same w.sites i s.here no_site known in
+    let here_stands : SiteStands b runs s.here = record { stands = s.stands; mote = s.mote } in
+    subst (λ (e : Device). P e (slice_index_or u.motes.items k None) (site s.world k)) (sym ed)
+    (subst (λ (o : Option RunningMote). P b o (site s.world k)) (sym eo) (subst (P b runs) (sym ey) here_stands)))
+    (λ other.
+    let eo : slice_index_or u.motes.items k None ≡ slice_index_or v.motes.items k None = ap (λ (xs : List (Option RunningMote)). get_or xs k None) moves.motes ∙ get_or-set_other v.motes.items i k runs None other in
+    let ey : site s.world k ≡ site w k = ap (λ (xs : List Site). get_or xs k no_site) sites ∙ get_or-set_other w.sites i k s.here no_site other in
+    let count : length s.world.sites ≡ length w.sites = ap length sites ∙ length-set w.sites i s.here in
+    let before = is.sites k d (omega (arith, within, count)) (sym (get_set_other bs i k b other) ∙ here) in
+    subst (λ (o : Option RunningMote). P d o (site s.world k)) (sym eo) (subst (P d (slice_index_or v.motes.items k None)) (sym ey) before))
+    (is_or k i)
+
+world_then : (v u : World) (bs : List Device) (w : RuleWorld) (x : Step) (i : ℕ) (runs : Option RunningMote) (b : Device) (start end : List Report) → IsWorld v bs w → i ≡ mote_of x.event → i < length w.sites → v.events < most_events → dt_of x.event < 2 ^ 32
+    → Moves v u i (w.moment + dt_of x.event) runs → (s : StepDone w x runs b start end) → IsWorld u (set bs i b) s.world
+world_then v u bs w x i runs b start end is at known few short moves s =
+    let sites : s.world.sites ≡ set w.sites i s.here = s.sites ∙ ap (λ (j : ℕ). set w.sites j s.here) (sym at) in
+    let count : length s.world.sites ≡ length w.sites = ap length sites ∙ length-set w.sites i s.here in
+    record {
+      moment = moves.moment_then ∙ sym s.moment;
+      events = moves.events ∙ ap (λ (n : ℕ). n + 1) is.events ∙ sym s.events;
+      declared = let P : Images → List Row → Type 0 = λ images rows. Declares images rows in subst (λ (y : Images). P y s.world.declared) (sym moves.images) (subst (P v.images) (sym s.declared) is.declared);
+      motes = count ∙ is.motes ∙ sym (ap length moves.motes ∙ length-set v.motes.items i runs);
+      few_motes = omega (arith, count, is.few_motes);
+      boards_enough = omega (arith, count, is.boards_enough, length-set bs i b);
+      few_events = omega (arith, s.events, few, is.events);
+      early = omega (arith, s.moment, s.events, is.early, short);
+      sites = site_then v u bs w x i runs b start end is at known moves s;
+    }
+
+pub applied : (v u : World) (bs : List Device) (w : RuleWorld) (x : Step) (i : ℕ) (runs : Option RunningMote) (a b : Device) (start end : List Report) → IsWorld v bs w → i ≡ mote_of x.event → i < length w.sites → v.events < most_events → dt_of x.event < 2 ^ 32
+    → Moves v u i (w.moment + dt_of x.event) runs → slice_get bs i ≡ Some a → Endures (beneath_of a) (beneath_of b) → StepDone w x runs b start end → Applied w x u bs (set bs i b) start end
+applied v u bs w x i runs a b start end is at known few short moves here endures s =
+    let wide : i < length bs = omega (arith, known, is.boards_enough) in
+    record {
+      world = s.world;
+      reports = s.reports;
+      step = s.step;
+      stood = world_then v u bs w x i runs b start end is at known few short moves s;
+      told_now = s.told_now;
+      boards = subst (λ (j : ℕ). OneBoard j bs (set bs i b)) at (one_board bs i a b wide here endures.faults);
+      memory = λ d r e goes whole some there.
+          let eb : e ≡ b = same_of (slice_get (set bs i b) i) e b (ap (slice_get (set bs i b)) at ∙ there) (get_set_same bs i b wide) in
+          subst (λ (y : Device). program y.image (length r.pages) ≡ r.pages) (sym eb) (s.memory d r goes whole some);
+    }
+
+pub flashed : (v : World) (bs : List Device) (w : RuleWorld) (x : Step) (i : ℕ) (a b : Device) → IsWorld v bs w → i ≡ mote_of x.event → i < length w.sites → slice_get bs i ≡ Some a → Endures (beneath_of a) (beneath_of b)
+    → IsStopped w (mote_of x.event) (does w x.event) b → FlashAt w x i bs (set bs i b)
+flashed v bs w x i a b is at known here endures s =
+    let wide : i < length bs = omega (arith, known, is.boards_enough) in
+    record {
+      at = at;
+      before = a;
+      after = b;
+      was = here;
+      is = get_set_same bs i b wide;
+      cause = endures.cause s.stopped;
+      store = s.leaves.store;
+      stands = s.leaves.stands_for;
+      leaves = (s.done, s.leaves);
+      boards = one_board bs i a b wide here endures.faults;
+    }
+
+pub lacked : (v : World) (bs : List Device) (w : RuleWorld) (x : Step) (i : ℕ) (a b : Device) → IsWorld v bs w → i ≡ mote_of x.event → i < length w.sites → slice_get bs i ≡ Some a → Endures (beneath_of a) (beneath_of b)
+    → IsLacking (does w x.event) x.cut b.image → Ended w x bs (set bs i b)
+lacked v bs w x i a b is at known here endures s =
+    let wide : i < length bs = omega (arith, known, is.boards_enough) in
+    let m = mote_of x.event in
+    let then_site : Site = record { store = last s.deed.trail; runs = None } in
+    let world = cut_world w m (dt_of x.event) s.deed (last s.deed.trail) in
+    let sites : world.sites ≡ set w.sites i then_site = ap (λ (j : ℕ). set w.sites j then_site) (sym at) in
+    record {
+      world = world;
+      ends = record { deed = s.deed; goes = s.goes; whole = s.whole; none = s.none; world = refl };
+      stood = λ k d within there.
+          ⊎_elim
+          (λ same.
+          let ed : d ≡ b = same_of (slice_get (set bs i b) i) d b (sym (ap (slice_get (set bs i b)) same) ∙ there) (get_set_same bs i b wide) in
+          let ey : store_at world k ≡ last s.deed.trail = ap (λ (xs : List Site). (get_or xs k no_site).store) sites ∙ ap (λ (j : ℕ). (get_or (set w.sites i then_site) j no_site).store) same ∙ ap (λ (y : Site). y.store) (get_or-set_same w.sites i then_site no_site known) in
+          let P : Device → Store → Type 0 = λ e t. Stands e.image t in
+          subst (λ (e : Device). P e (store_at world k)) (sym ed) (subst (P b) (sym ey) s.stands))
+          (λ other.
+          let ey : store_at world k ≡ store_at w k = ap (λ (xs : List Site). (get_or xs k no_site).store) sites ∙ ap (λ (y : Site). y.store) (get_or-set_other w.sites i k then_site no_site other) in
+          let count : length world.sites ≡ length w.sites = ap length sites ∙ length-set w.sites i then_site in
+          let before = is.sites k d (omega (arith, within, count)) (sym (get_set_other bs i k b other) ∙ there) in
+          let P : Store → Type 0 = λ t. Stands d.image t in
+          subst P (sym ey) before.stands)
+          (is_or k i);
+      boards = subst (λ (j : ℕ). OneBoard j bs (set bs i b)) at (one_board bs i a b wide here endures.faults);
+    }
+
+pub got_or : {N : Type 0} (f : N → Device) (xs : List N) (i : ℕ) (d : N) → i < length xs → slice_get (map f xs) i ≡ Some (f (get_or xs i d))
+got_or f [] i d h = absurd (omega arith)
+got_or f (y ∷ ys) zero d h = refl
+got_or f (y ∷ ys) (suc i) d h = got_or f ys i d (omega arith)
+
+-- what a step at a board of the world has to know
+pub record StandsAt (v : World) (w : RuleWorld) (m : ℕ) (a : Device) (runs : Option RunningMote) : Type 0 where
+  pub stands : Stands a.image (store_at w m)
+  pub mote : MoteStands runs (site w m).runs
+
+pub stands_at : (v : World) (bs : List Device) (w : RuleWorld) (i m : ℕ) (a : Device) (runs : Option RunningMote) → IsWorld v bs w → i ≡ m → i < length w.sites → slice_get bs i ≡ Some a → runs ≡ get_or v.motes.items i runs → StandsAt v w m a runs
+stands_at v bs w i m a runs is at known here read =
+    let s = is.sites i a known here in
+    let many : i < length v.motes.items = omega (arith, known, is.motes) in
+    let same : slice_index_or v.motes.items i None ≡ runs = sym (get_or_read v.motes.items i runs many read None) in
+    record {
+      stands = subst (λ (j : ℕ). Stands a.image (store_at w j)) at s.stands;
+      mote = subst (λ (j : ℕ). MoteStands runs (site w j).runs) at (subst (λ (o : Option RunningMote). MoteStands o (site w i).runs) same s.mote);
+    }
+
+pub halts_at : (h : Halt) (f : WorldFault) (v u : World) (bs : List Device) (w : RuleWorld) (x : Step) (i mote : ℕ) (a b : Device) (start end : List Report) → f ≡ fault_of h mote → i ≡ mote → IsWorld v bs w → i ≡ mote_of x.event → i < length w.sites
+    → slice_get bs i ≡ Some a → Stepped (Err h) w x a b start end → ApplyEnds (Err f) w x u bs (set bs i b) start end
+halts_at (Stopped k) f v u bs w x i mote a b start end is_fault same is at known here s =
+    let P : WorldFault → Type 0 = λ y. ApplyEnds (Err y) w x u bs (set bs i b) start end in
+    subst P (sym is_fault) (subst (λ (j : ℕ). FlashAt w x j bs (set bs i b)) same (flashed v bs w x i a b is at known here s.endures s.ends.0), s.ends.1)
+halts_at NotAVolume f v u bs w x i mote a b start end is_fault same is at known here s = absurd s.ends
+halts_at NoImage f v u bs w x i mote a b start end is_fault same is at known here s =
+    let P : WorldFault → Type 0 = λ y. ApplyEnds (Err y) w x u bs (set bs i b) start end in
+    subst P (sym is_fault) (lacked v bs w x i a b is at known here s.endures s.ends.0, s.ends.1)
+
+-- a step that fits one world that the code stands for fits every one
+pub fits_each : (v : World) (bs : List Device) (w u : RuleWorld) (x : Step) → IsWorld v bs w → IsWorld v bs u → StepFits (length w.sites) x → StepFits (length u.sites) x
+fits_each v bs w u x is other fits = subst (λ (n : ℕ). StepFits n x) (is.motes ∙ sym other.motes) fits
+
+-- the same over boards that are given by an equation
+pub applied_at : (v u : World) (bs cs : List Device) (w : RuleWorld) (x : Step) (i : ℕ) (runs : Option RunningMote) (a b : Device) (start end : List Report) → cs ≡ set bs i b → IsWorld v bs w → i ≡ mote_of x.event → i < length w.sites → v.events < most_events → dt_of x.event < 2 ^ 32
+    → Moves v u i (w.moment + dt_of x.event) runs → slice_get bs i ≡ Some a → Stepped (Ok runs) w x a b start end → Applied w x u bs cs start end
+applied_at v u bs cs w x i runs a b start end e is at known few short moves here s =
+    subst (λ (ds : List Device). Applied w x u bs ds start end) (sym e) (applied v u bs w x i runs a b start end is at known few short moves here s.endures s.ends)
+
+pub halts_there : (h : Halt) (f : WorldFault) (v u : World) (bs cs : List Device) (w : RuleWorld) (x : Step) (i mote : ℕ) (a b : Device) (start end : List Report) → cs ≡ set bs i b → f ≡ fault_of h mote → i ≡ mote → IsWorld v bs w → i ≡ mote_of x.event → i < length w.sites
+    → slice_get bs i ≡ Some a → Stepped (Err h) w x a b start end → ApplyEnds (Err f) w x u bs cs start end
+halts_there h f v u bs cs w x i mote a b start end e is_fault same is at known here s =
+    subst (λ (ds : List Device). ApplyEnds (Err f) w x u bs ds start end) (sym e) (halts_at h f v u bs w x i mote a b start end is_fault same is at known here s)

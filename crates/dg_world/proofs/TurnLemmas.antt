@@ -1,0 +1,97 @@
+-- What an event does at a board, from what the acts on its volume did.
+use Rattle.std.proofs.Common.{◌≡◌, ◌⊎◌, ℕ, ◌+◌, ◌-◌, ◌<◌, ◌≤◌, Bool, true, false, List, [], ◌∷◌, ◌++◌, length, refl, ap, sym, ◌∙◌, subst, inl, inr, ⊎_elim, arith}
+use Rattle.std.specs.Prelude.{if◌then◌else◌, Option, Some, None, IfSome, Result, Ok, Err, IsErrAnd}
+use Rattle.std.proofs.lemmas.List.{append-nil}
+use Rattle.std.proofs.lemmas.Bool.{both_ways}
+use Rattle.dg_nor.specs.Device.{Device, Ran, Halts, Halted}
+use Rattle.dg_nor.specs.Trail.{Stage, Trail, operations, last, last_of, LeavesFrom, Leaves, EachWorks, resting, MayLeave}
+use Rattle.dg_nor.specs.Reads.{Looked, ReadStopped, StopsIn}
+use Rattle.dg_nor.proofs.DeviceLemmas.{Ran_then, Ran-none, Halts_first, Halted_second}
+use Rattle.dg_volume.specs.Store.{Store, IsNear}
+use Rattle.dg_volume.specs.Stands.{Stands}
+use Rattle.dg_volume.specs.Trails.{BeginsAt}
+use Rattle.dg_rules.specs.World.{World as RuleWorld, Running, site, store_at}
+use Rattle.dg_rules.specs.Events.{Deed, Does, Refuses, Goes}
+use Rattle.dg_world.specs.Turns.{trail_of, Tells, Went, StoppedOn, Lacked, TurnEnds}
+use Rattle.dg_world.specs.declared.turn.Turn.{Turn}
+use Rattle.dg_world.specs.declared.turn.Turn.TheVariants.{Refused, Rests, Changes, Starts}
+use Rattle.dg_world.specs.declared.turn.Halt.{Halt}
+use Rattle.dg_world.specs.declared.turn.Halt.TheVariants.{Stopped, NotAVolume, NoImage}
+
+-- ---- before the first operation
+
+near_same : (s : Store) → IsNear s s
+near_same s = record { same = refl; room = inl refl }
+
+leaves_from : (s : Store) (stages : List (Stage Store)) → EachWorks stages → LeavesFrom IsNear s stages 0 s
+unfolding LeavesFrom EachWorks
+leaves_from s [] works = near_same s
+leaves_from s (stage ∷ stages) works = inr (works.0, inl (near_same s))
+
+-- a stop before the first operation leaves the store
+pub leaves_start : (s : Store) (t : Trail Store) → BeginsAt s t → Leaves IsNear t 0 s
+leaves_start s t b = subst (λ (x : Store). LeavesFrom IsNear x t.stages 0 s) (sym b.first) (leaves_from s t.stages b.works)
+
+-- a read that stopped, as a stop of an act that begins there
+pub read_stops : (s : Store) (t : Trail Store) (a b : Device) → BeginsAt s t → Stands a.image s → ReadStopped a b → StopsIn Stands IsNear t a b
+read_stops s t a b begins stands r =
+    let e : 0 + operations t ≡ operations t = omega arith in
+    record {
+      done = 0;
+      halts = subst (λ (n : ℕ). Halts n 0 a b) e (Halts_first (operations t) r.halts);
+      leaves = record { store = s; stands_for = subst (λ (c : List ℕ). Stands c s) (sym r.same_image) stands; allowed = leaves_start s t begins };
+    }
+
+-- no fuse blows in a read
+read_whole : (a b : Device) → ReadStopped a b → a.blown ≡ false → b.blown ≡ true → ⊥
+read_whole a b r whole blown = ⊎_elim (λ was. both_ways a.blown whole was) (λ out. omega (arith, out.0)) (r.halts.blew blown)
+
+pub read_stopped : (w : RuleWorld) (m now : ℕ) (does : Does) (a b : Device) → BeginsAt (store_at w m) (trail_of does (store_at w m)) → Stands a.image (store_at w m) → ReadStopped a b
+    → TurnEnds (Err (Stopped None)) w m now does a b
+read_stopped w m now does a b begins stands r =
+    record { stops = read_stops (store_at w m) (trail_of does (store_at w m)) a b begins stands r; shows = λ whole blown. absurd (read_whole a b r whole blown) }
+
+-- ---- an act behind a reading
+
+pub ran_after : (n : ℕ) (a b c : Device) → Looked a b → Ran n b c → Ran n a c
+ran_after n a b c l r = let e : 0 + n ≡ n = omega arith in subst (λ (k : ℕ). Ran k a c) e (Ran_then l.ran r)
+
+pub looked_after : (a b c : Device) → Looked a b → Looked b c → Looked a c
+looked_after a b c l r = record { same_image = r.same_image ∙ l.same_image; ran = Ran_then l.ran r.ran }
+
+stops_after : (t : Trail Store) (a b c : Device) → Looked a b → StopsIn Stands IsNear t b c → StopsIn Stands IsNear t a c
+stops_after t a b c l s =
+    let e : 0 + operations t ≡ operations t = omega arith in
+    subst (λ (n : ℕ). Halted n (MayLeave Stands IsNear t) a c) e
+    (Halted_second (MayLeave Stands IsNear t) l.ran (λ k within x. let f : k ≡ 0 + k = omega arith in subst (λ (j : ℕ). MayLeave Stands IsNear t j c.image) f x) s)
+
+went_after : (w : RuleWorld) (m now : ℕ) (does : Does) (a b c : Device) (turn : Turn) → Looked a b → Went w m now does b c turn → Went w m now does a c turn
+went_after w m now does a b c turn l x = record { deed = x.deed; goes = x.goes; ran = ran_after (operations x.deed.trail) a b c l x.ran; tells = x.tells }
+
+pub turn_after : (r : Result Turn Halt) (w : RuleWorld) (m now : ℕ) (does : Does) (a b c : Device) → Looked a b → TurnEnds r w m now does b c → TurnEnds r w m now does a c
+turn_after (Ok (Refused why)) w m now does a b c l x = (x.0, looked_after a b c l x.1)
+turn_after (Ok Rests) w m now does a b c l x = went_after w m now does a b c Rests l x
+turn_after (Ok (Changes p q)) w m now does a b c l x = went_after w m now does a b c (Changes p q) l x
+turn_after (Ok (Starts p)) w m now does a b c l x = went_after w m now does a b c (Starts p) l x
+turn_after (Err (Stopped before)) w m now does a b c l x = record { stops = stops_after (trail_of does (store_at w m)) a b c l x.stops; shows = λ whole blown. x.shows (l.ran.blown ∙ whole) blown }
+turn_after (Err NoImage) w m now does a b c l x = record { deed = x.deed; goes = x.goes; none = x.none; ran = ran_after (operations x.deed.trail) a b c l x.ran; stands = x.stands }
+turn_after (Err NotAVolume) w m now does a b c l x = x
+
+abbrev pub halted : (T : Type 0) → Halt → Result T Halt
+halted T h = Err h
+
+same_err : (T : Type 0) (x y : Halt) → halted T x ≡ halted T y → x ≡ y
+same_err T x y e = cc
+
+pub read_halts : (T : Type 0) (w : RuleWorld) (m now : ℕ) (does : Does) (a b : Device) (h : Halt) → halted T (Stopped None) ≡ halted T h → BeginsAt (store_at w m) (trail_of does (store_at w m)) → Stands a.image (store_at w m) → ReadStopped a b
+    → TurnEnds (Err h) w m now does a b
+read_halts T w m now does a b h is begins stands r =
+    let P : Halt → Type 0 = λ x. TurnEnds (Err x) w m now does a b in
+    subst P (same_err T (Stopped None) h is) (read_stopped w m now does a b begins stands r)
+
+pub turn_err : (r : Result Turn Halt) (x : Halt) (w : RuleWorld) (m now : ℕ) (does : Does) (a b : Device) → IsErrAnd r (λ e. e ≡ x) → TurnEnds (Err x) w m now does a b → TurnEnds r w m now does a b
+turn_err (Ok t) x w m now does a b is ends = absurd is
+turn_err (Err e) x w m now does a b is ends = subst (λ (h : Halt). TurnEnds (Err h) w m now does a b) (sym is) ends
+
+pub stopped_none : (T : Type 0) (h : Halt) → halted T (Stopped None) ≡ halted T h → h ≡ Stopped None
+stopped_none T h e = cc

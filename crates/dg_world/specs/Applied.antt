@@ -1,0 +1,87 @@
+-- What a step does to a world and its boards.
+use Rattle.std.specs.Prelude.{◌≡◌, ◌≢◌, ◌⊎◌, ℕ, ◌<◌, ◌≤◌, true, false, List, ◌++◌, length, slice_get, Some, Result, Ok, Err}
+use Rattle.dg_words.specs.Counts.{Rose}
+use Rattle.dg_nor.specs.Device.{Device}
+use Rattle.dg_nor.specs.Trail.{MayLeave}
+use Rattle.dg_slot.specs.Pages.{program}
+use Rattle.dg_volume.specs.Store.{Store, IsNear}
+use Rattle.dg_volume.specs.Stands.{Stands}
+use Rattle.dg_volume.specs.Start.{Runs}
+use Rattle.dg_rules.specs.World.{World as RuleWorld, store_at}
+use Rattle.dg_rules.specs.Events.{Deed, Goes, does, mote_of}
+use Rattle.dg_rules.specs.Steps.{WorldStep, EndsRun, blows}
+use Rattle.dg_script.specs.declared.events.Step.{Step}
+use Rattle.dg_script.specs.declared.report.Report.{Report}
+use Rattle.dg_world.specs.declared.turn.Halt.{Halt}
+use Rattle.dg_world.specs.declared.turn.Halt.TheVariants.{Stopped, NotAVolume, NoImage}
+use Rattle.dg_world.specs.declared.world.WorldFault.{WorldFault}
+use Rattle.dg_world.specs.declared.world.WorldFault.TheVariants.{Memory, Flash, TooMany, NotAVolume as NotAVolumeFault, NoImage as NoImageFault}
+use Rattle.dg_world.specs.declared.world.World.{World}
+use Rattle.dg_world.specs.Turns.{trail_of}
+use Rattle.dg_world.specs.Worlds.{IsWorld}
+
+-- no board but this one was used, and no count fell
+pub record OneBoard (board : ℕ) (old new : List Device) : Type 0 where
+  pub count : length new ≡ length old
+  pub others : (m : ℕ) → m ≢ board → slice_get new m ≡ slice_get old m
+  pub counts : (m : ℕ) (a b : Device) → slice_get old m ≡ Some a → slice_get new m ≡ Some b → a.faults ≤ b.faults
+
+-- a step was applied: what the rules allow. Where something was started, its pages stand in program memory
+pub record Applied (w : RuleWorld) (x : Step) (v : World) (old new : List Device) (told_before told : List Report) : Type 0 where
+  pub world : RuleWorld
+  pub reports : List Report
+  pub step : WorldStep w x world reports
+  pub stood : IsWorld v new world
+  pub told_now : told ≡ told_before ++ reports
+  pub boards : OneBoard (mote_of x.event) old new
+  pub memory : (d : Deed) (r : Runs) (b : Device) → does w x.event ≡ Goes d → blows x.cut d.trail ≡ false → d.started ≡ Some r
+      → slice_get new (mote_of x.event) ≡ Some b → program b.image (length r.pages) ≡ r.pages
+
+-- A board stopped: it is that of the event's mote, and stands for a store that the event's trail leaves.
+pub record FlashAt (w : RuleWorld) (x : Step) (board : ℕ) (old new : List Device) : Type 0 where
+  pub at : board ≡ mote_of x.event
+  pub before : Device
+  pub after : Device
+  pub was : slice_get old board ≡ Some before
+  pub is : slice_get new board ≡ Some after
+  pub cause : (before.stopped ≡ true) ⊎ Rose before.faults after.faults
+  pub store : Store
+  pub stands : Stands after.image store
+  pub leaves : (k : ℕ) × MayLeave Stands IsNear (trail_of (does w x.event) (store_at w (mote_of x.event))) k after.image
+  pub boards : OneBoard board old new
+
+-- A start found no image: the boards stand for the world in which the run ended.
+pub record Ended (w : RuleWorld) (x : Step) (old new : List Device) : Type 0 where
+  pub world : RuleWorld
+  pub ends : EndsRun w x world
+  pub stood : (m : ℕ) (d : Device) → m < length world.sites → slice_get new m ≡ Some d → Stands d.image (store_at world m)
+  pub boards : OneBoard (mote_of x.event) old new
+
+-- The boards were only read. No count fell
+pub record SameBoards (old new : List Device) : Type 0 where
+  pub count : length new ≡ length old
+  pub images : (m : ℕ) (a b : Device) → slice_get old m ≡ Some a → slice_get new m ≡ Some b → b.image ≡ a.image
+  pub counts : (m : ℕ) (a b : Device) → slice_get old m ≡ Some a → slice_get new m ≡ Some b → a.faults ≤ b.faults
+
+-- A board stopped in such a reading.
+pub record ReadFlash (board : ℕ) (old new : List Device) : Type 0 where
+  pub before : Device
+  pub after : Device
+  pub was : slice_get old board ≡ Some before
+  pub is : slice_get new board ≡ Some after
+  pub cause : (before.stopped ≡ true) ⊎ Rose before.faults after.faults
+
+-- ---- the answer of a step
+
+abbrev pub fault_of : Halt → ℕ → WorldFault
+fault_of (Stopped before) mote = Flash mote
+fault_of NotAVolume mote = NotAVolumeFault
+fault_of NoImage mote = NoImageFault
+
+abbrev pub ApplyEnds : Result (Unit {0}) WorldFault → RuleWorld → Step → World → List Device → List Device → List Report → List Report → Type 0
+ApplyEnds (Ok u) w x v old new told_before told = Applied w x v old new told_before told
+ApplyEnds (Err (Flash board)) w x v old new told_before told = FlashAt w x board old new × (told ≡ told_before)
+ApplyEnds (Err NoImageFault) w x v old new told_before told = Ended w x old new × (told ≡ told_before)
+ApplyEnds (Err NotAVolumeFault) w x v old new told_before told = ⊥
+ApplyEnds (Err Memory) w x v old new told_before told = ⊥
+ApplyEnds (Err TooMany) w x v old new told_before told = ⊥

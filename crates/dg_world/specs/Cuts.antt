@@ -1,0 +1,71 @@
+-- How an event ends at a board whose power may be cut.
+use Rattle.std.specs.Prelude.{◌≡◌, ℕ, Bool, true, false, List, Option, Some, None, Result, Ok, Err}
+use Rattle.dg_nor.specs.Device.{Device, Endures}
+use Rattle.dg_nor.specs.Fuse.{beneath_of}
+use Rattle.dg_nor.specs.Trail.{last, MayLeave}
+use Rattle.dg_volume.specs.Store.{Store, IsNear}
+use Rattle.dg_volume.specs.Stands.{Stands}
+use Rattle.dg_rules.specs.World.{World as RuleWorld, store_at}
+use Rattle.dg_rules.specs.Events.{Deed, Does, Refuses, Goes}
+use Rattle.dg_rules.specs.Steps.{blows, before_cut}
+use Rattle.dg_script.specs.declared.events.Cut.{Cut as PowerCut}
+use Rattle.dg_world.specs.Turns.{trail_of, Tells, BeforeShows}
+use Rattle.dg_world.specs.declared.shown.Shown.{Shown}
+use Rattle.dg_world.specs.declared.turn.Turn.{Turn}
+use Rattle.dg_world.specs.declared.turn.Turn.TheVariants.{Refused, Rests, Changes, Starts}
+use Rattle.dg_world.specs.declared.turn.Halt.{Halt}
+use Rattle.dg_world.specs.declared.turn.Halt.TheVariants.{Stopped, NotAVolume, NoImage}
+use Rattle.dg_world.specs.declared.turn.Ended.{Ended}
+use Rattle.dg_world.specs.declared.turn.Ended.TheVariants.{Whole, Cut}
+
+-- how an event ended that answered this over a fuse that blew or not
+abbrev pub ended : Bool → Result Turn Halt → Result Ended Halt
+ended blown (Ok turn) = Ok (Whole turn)
+ended true (Err (Stopped before)) = Ok (Cut before)
+ended false (Err (Stopped before)) = Err (Stopped before)
+ended blown (Err NotAVolume) = Err NotAVolume
+ended blown (Err NoImage) = Err NoImage
+
+-- the whole event was done, and no cut blew
+pub record IsWhole (w : RuleWorld) (m now : ℕ) (does : Does) (cut : Option PowerCut) (image : List ℕ) (turn : Turn) : Type 0 where
+  pub deed : Deed
+  pub goes : does ≡ Goes deed
+  pub whole : blows cut deed.trail ≡ false
+  pub tells : Tells w m now deed turn image
+
+-- the cut blew in the operation with its number
+pub record IsBlown (w : RuleWorld) (m : ℕ) (does : Does) (cut : Option PowerCut) (image : List ℕ) (before : Option Shown) : Type 0 where
+  pub deed : Deed
+  pub goes : does ≡ Goes deed
+  pub blown : blows cut deed.trail ≡ true
+  pub leaves : MayLeave Stands IsNear deed.trail (before_cut cut) image
+  pub shows : BeforeShows before deed.trail (store_at w m)
+
+-- the board stopped on its own
+pub record IsStopped (w : RuleWorld) (m : ℕ) (does : Does) (new : Device) : Type 0 where
+  pub stopped : new.stopped ≡ true
+  pub done : ℕ
+  pub leaves : MayLeave Stands IsNear (trail_of does (store_at w m)) done new.image
+
+-- a start found no image
+pub record IsLacking (does : Does) (cut : Option PowerCut) (image : List ℕ) : Type 0 where
+  pub deed : Deed
+  pub goes : does ≡ Goes deed
+  pub none : deed.runs ≡ None
+  pub whole : blows cut deed.trail ≡ false
+  pub stands : Stands image (last deed.trail)
+
+abbrev pub PlayEnds : Result Ended Halt → RuleWorld → (m now : ℕ) → Does → Option PowerCut → Device → Device → Type 0
+PlayEnds (Ok (Whole (Refused why))) w m now does cut old new = (does ≡ Refuses why) × (new.image ≡ old.image)
+PlayEnds (Ok (Whole Rests)) w m now does cut old new = IsWhole w m now does cut new.image Rests
+PlayEnds (Ok (Whole (Changes a b))) w m now does cut old new = IsWhole w m now does cut new.image (Changes a b)
+PlayEnds (Ok (Whole (Starts x))) w m now does cut old new = IsWhole w m now does cut new.image (Starts x)
+PlayEnds (Ok (Cut before)) w m now does cut old new = IsBlown w m does cut new.image before
+PlayEnds (Err (Stopped before)) w m now does cut old new = IsStopped w m does new
+PlayEnds (Err NoImage) w m now does cut old new = IsLacking does cut new.image
+PlayEnds (Err NotAVolume) w m now does cut old new = ⊥
+
+-- The event ended so, and the board's count did not fall: it is stopped only where it was, or where its count rose.
+pub record Played (r : Result Ended Halt) (w : RuleWorld) (m now : ℕ) (does : Does) (cut : Option PowerCut) (old new : Device) : Type 0 where
+  pub ends : PlayEnds r w m now does cut old new
+  pub endures : Endures (beneath_of old) (beneath_of new)

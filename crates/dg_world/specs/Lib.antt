@@ -1,0 +1,9 @@
+pub mod Images
+pub mod Worlds
+pub mod Applied
+pub mod Formatted
+pub mod Shown
+pub mod Turns
+pub mod Cuts
+pub mod Stepped
+pub mod Finished

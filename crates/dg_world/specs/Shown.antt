@@ -1,0 +1,29 @@
+-- What is reported of a chip by what its volume tells.
+use Rattle.std.specs.Prelude.{◌≡◌, ℕ, ◌<◌, ◌==◌, ◌&&◌, if◌then◌else◌, List, ◌++◌, slice_index_or, Option, Some, None}
+use Rattle.std.specs.List.{filter_map, range_with_len}
+use Rattle.dg_volume.specs.Sizes.{images}
+use Rattle.dg_volume.specs.Store.{Store, held}
+use Rattle.dg_volume.specs.Told.{told}
+use Rattle.dg_volume.specs.declared.volume.Kept.{Kept}
+use Rattle.dg_rules.specs.Changes.{order_change}
+use Rattle.dg_script.specs.declared.report.Report.{Report}
+use Rattle.dg_script.specs.declared.report.Report.TheVariants.{Lost, Have}
+use Rattle.dg_world.specs.declared.shown.Shown.{Shown}
+
+-- the order, and what is told of each image, are the store's
+pub record Shows (x : Shown) (s : Store) : Type 0 where
+  pub order : x.order ≡ s.order
+  pub kept : (i : ℕ) → i < images → slice_index_or x.kept i None ≡ told (held s i)
+
+abbrev pub have_shown : ℕ → ℕ → Option Kept → Option Kept → Option Report
+have_shown m i None None = None
+have_shown m i (Some old) None = Some (Lost m i)
+have_shown m i None (Some new) = Some (Have m i new.version new.done)
+have_shown m i (Some old) (Some new) = if (old.version == new.version) && (old.done == new.done) then None else Some (Have m i new.version new.done)
+
+-- of the first n images
+abbrev pub haves_shown : ℕ → Shown → Shown → ℕ → List Report
+haves_shown m old new n = filter_map (λ i. have_shown m i (slice_index_or old.kept i None) (slice_index_or new.kept i None)) (range_with_len 0 n)
+
+abbrev pub changes_shown : ℕ → Shown → Shown → List Report
+changes_shown m old new = order_change m old.order new.order ++ haves_shown m old new images

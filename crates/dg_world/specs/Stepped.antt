@@ -1,0 +1,86 @@
+-- What is told of a step, and where it leaves the board.
+use Rattle.std.specs.Prelude.{◌≡◌, ℕ, ◌+◌, true, false, slice_set, length, List, ◌∷◌, [], ◌++◌, Option, Some, None, Result, Ok, Err}
+use Rattle.dg_nor.specs.Device.{Device, Endures}
+use Rattle.dg_nor.specs.Fuse.{beneath_of}
+use Rattle.dg_nor.specs.Trail.{Trail, Leaves}
+use Rattle.dg_volume.specs.Store.{Store, IsNear}
+use Rattle.dg_slot.specs.Pages.{program}
+use Rattle.dg_volume.specs.Stands.{Stands}
+use Rattle.dg_volume.specs.Start.{Runs}
+use Rattle.dg_rules.specs.World.{World as RuleWorld, Site}
+use Rattle.dg_rules.specs.Events.{Deed, Goes, does, mote_of, dt_of}
+use Rattle.dg_rules.specs.Steps.{WorldStep, blows}
+use Rattle.dg_script.specs.declared.events.Step.{Step}
+use Rattle.dg_rules.specs.Changes.{changes}
+use Rattle.dg_script.specs.declared.report.Report.{Report}
+use Rattle.dg_script.specs.declared.report.Report.TheVariants.{Off}
+use Rattle.dg_world.specs.Worlds.{MoteStands}
+use Rattle.dg_world.specs.Cuts.{IsStopped, IsLacking}
+use Rattle.dg_world.specs.Turns.{BeforeShows, turn_lines}
+use Rattle.dg_world.specs.declared.shown.Shown.{Shown}
+use Rattle.dg_world.specs.declared.turn.Turn.{Turn}
+use Rattle.dg_world.specs.declared.turn.Turn.TheVariants.{Refused, Rests, Changes, Starts}
+use Rattle.dg_world.specs.declared.turn.Halt.{Halt}
+use Rattle.dg_world.specs.declared.turn.Halt.TheVariants.{Stopped, NotAVolume, NoImage}
+use Rattle.dg_world.specs.declared.world.RunningMote.{RunningMote}
+
+-- what the code keeps of the mote after a turn
+abbrev pub turn_mote : Turn → ℕ → Option RunningMote → Option RunningMote
+turn_mote (Refused why) now runs = runs
+turn_mote Rests now runs = runs
+turn_mote (Changes a b) now runs = runs
+turn_mote (Starts x) now runs = Some (record { key = x.key; since = now })
+
+-- the board was only read
+pub record IsRead (old new : Device) : Type 0 where
+  pub same_image : new.image ≡ old.image
+  pub endures : Endures (beneath_of old) (beneath_of new)
+
+-- the lines on what changed from s to t, of a trail that leaves t there
+abbrev pub TellsCut : (before : Option Shown) (t : Store) → ((m : ℕ) → List Report) → Type 0
+TellsCut before t lines = (m k : ℕ) (s : Store) (trail : Trail Store) → Leaves IsNear trail k t → BeforeShows before trail s → lines m ≡ changes m s t
+
+-- what a cut changed was found in a reading of the board, which stands for t
+abbrev pub CutTold : Result Turn Halt → Option Shown → Store → Device → Device → Type 0
+CutTold (Ok turn) before t old new = TellsCut before t (λ m. turn_lines m turn) × IsRead old new
+CutTold (Err (Stopped x)) before t old new = (new.stopped ≡ true) × IsRead old new
+CutTold (Err NotAVolume) before t old new = ⊥
+CutTold (Err NoImage) before t old new = ⊥
+
+-- the lines of a cut were appended
+pub record CutLinesAre (m : ℕ) (before : Option Shown) (t : Store) (told_before told : List Report) : Type 0 where
+  pub lines : List Report
+  pub tells : (k : ℕ) (s : Store) (trail : Trail Store) → Leaves IsNear trail k t → BeforeShows before trail s → lines ≡ changes m s t
+  pub told_now : told ≡ told_before ++ (lines ++ Off m ∷ [])
+
+abbrev pub CutLines : Result (Option RunningMote) Halt → ℕ → Option Shown → Store → Device → Device → List Report → List Report → Type 0
+CutLines (Ok runs) m before t old new told_before told = (runs ≡ None) × CutLinesAre m before t told_before told × IsRead old new
+CutLines (Err (Stopped x)) m before t old new told_before told = (new.stopped ≡ true) × IsRead old new × (told ≡ told_before)
+CutLines (Err NotAVolume) m before t old new told_before told = ⊥
+CutLines (Err NoImage) m before t old new told_before told = ⊥
+
+-- A step was done at its board, which stood for the mote's store: what the rules allow, where the mote and the board are then, and what was told.
+pub record StepDone (w : RuleWorld) (x : Step) (runs : Option RunningMote) (new : Device) (told_before told : List Report) : Type 0 where
+  pub world : RuleWorld
+  pub reports : List Report
+  pub step : WorldStep w x world reports
+  pub told_now : told ≡ told_before ++ reports
+  pub here : Site
+  pub moment : world.moment ≡ w.moment + dt_of x.event
+  pub events : world.events ≡ w.events + 1
+  pub declared : world.declared ≡ w.declared
+  pub sites : world.sites ≡ slice_set w.sites (mote_of x.event) here
+  pub stands : Stands new.image here.store
+  pub mote : MoteStands runs here.runs
+  pub memory : (d : Deed) (r : Runs) → does w x.event ≡ Goes d → blows x.cut d.trail ≡ false → d.started ≡ Some r → program new.image (length r.pages) ≡ r.pages
+
+abbrev pub StepEnds : Result (Option RunningMote) Halt → RuleWorld → Step → Device → List Report → List Report → Type 0
+StepEnds (Ok runs) w x new told_before told = StepDone w x runs new told_before told
+StepEnds (Err (Stopped b)) w x new told_before told = IsStopped w (mote_of x.event) (does w x.event) new × (told ≡ told_before)
+StepEnds (Err NoImage) w x new told_before told = IsLacking (does w x.event) x.cut new.image × (told ≡ told_before)
+StepEnds (Err NotAVolume) w x new told_before told = ⊥
+
+-- the step ended so at its board, whose count did not fall
+pub record Stepped (r : Result (Option RunningMote) Halt) (w : RuleWorld) (x : Step) (old new : Device) (told_before told : List Report) : Type 0 where
+  pub ends : StepEnds r w x new told_before told
+  pub endures : Endures (beneath_of old) (beneath_of new)

@@ -1,0 +1,89 @@
+//! How a world begins, and what is declared in it.
+ghost use Rattle.std.specs.Prelude.{◌≡◌, ◌<◌, ◌≤◌, ℕ, true, false, List, length, map, slice_get, slice_index_or, replicate, Some, None, Err, IfOk, OnOk, OnErr, IsTrue};
+ghost use Rattle.dg_base.specs.Texts.{spells_name};
+ghost use Rattle.dg_nor.specs.Device.{Device};
+ghost use Rattle.dg_object.specs.Object.{Row, row_of};
+ghost use Rattle.dg_volume.specs.Sizes.{images};
+ghost use Rattle.dg_volume.specs.Store.{Store};
+ghost use Rattle.dg_volume.specs.Stands.{Stands};
+ghost use Rattle.dg_volume.specs.Table.{row_at};
+ghost use Rattle.dg_rules.specs.Sizes.{most_motes, most_content};
+ghost use Rattle.dg_rules.specs.World.{World as RuleWorld, first_world, no_site};
+ghost use Rattle.dg_rules.specs.Changes.{same_row, is_taken};
+ghost use Rattle.dg_rules.specs.Steps.{declared_as};
+ghost use Rattle.dg_base.specs.declared.events.Key.{Key};
+ghost use Rattle.dg_world.specs.Images.{row_of_image};
+ghost use Rattle.dg_world.specs.Worlds.{IsWorld};
+
+use crate::images::{Image, Images};
+use crate::world::{DeclareFault, RunningMote, World};
+use dg_base::Bytes;
+use dg_rules::Key;
+use std::alloc::{AllocError, Global};
+
+impl World {
+    /// A world at moment 0 in which no event was applied and nothing is declared. All motes are off.
+    pub fn new(alloc: Global, motes: u8) -> Result<World, AllocError>
+        requires some { 1 ≤ motes }
+        requires few { motes ≤ most_motes }
+        ensures { IfOk result (λ v. (boards : List Device) (stores : List Store) (table : List Row) → length stores ≡ motes → motes ≤ length boards
+            → ((m : ℕ) (d : Device) → m < motes → slice_get boards m ≡ Some d → Stands d.image (slice_index_or stores m no_site.store))
+            → IsWorld v boards (first_world table stores)) }
+    {
+        Ok(World {
+            moment: 0,
+            events: 0,
+            images: Images::new(alloc),
+            motes: all_off(alloc, motes)?,
+        })
+    }
+
+    /// Declares an image, unless its key has another name or content.
+    pub fn declare(
+        &mut self,
+        image: u8,
+        version: u32,
+        name: Bytes,
+        content: Bytes,
+    ) -> Result<(), DeclareFault>
+        requires not_golden { 1 ≤ image }
+        requires known_image { image < images }
+        requires some_version { 1 ≤ version }
+        requires named { IsTrue (spells_name name) }
+        requires fits { length content ≤ most_content }
+        ensures declared { OnOk result ((boards : List Device) (w : RuleWorld) → IsWorld self.old boards w
+            → IsWorld self.new boards (declared_as (row_at w.declared image version) w (row_of image version name content))) }
+        ensures allowed { OnOk result ((boards : List Device) (w : RuleWorld) → IsWorld self.old boards w
+            → is_taken (row_at w.declared image version) (row_of image version name content) ≡ false) }
+        ensures taken { result ≡ Err DeclareFault.Taken → (boards : List Device) (w : RuleWorld) → IsWorld self.old boards w
+            → is_taken (row_at w.declared image version) (row_of image version name content) ≡ true }
+        ensures unchanged { OnErr result ((boards : List Device) (w : RuleWorld) → IsWorld self.old boards w → IsWorld self.new boards w) }
+    {
+        let key = Key { image, version };
+        if let Some(kept) = self.images.get(key) {
+            if is_same(kept, &name, &content) {
+                return Ok(());
+            }
+            return Err(DeclareFault::Taken);
+        }
+        match self.images.add(key, Image { name, content }) {
+            Ok(()) => Ok(()),
+            Err(AllocError) => Err(DeclareFault::Memory),
+        }
+    }
+}
+
+/// What runs on so many motes that are off.
+fn all_off(alloc: Global, motes: u8) -> Result<Vec<Option<RunningMote>>, AllocError>
+    ensures { IfOk result (λ v. v.items ≡ replicate motes None) }
+{
+    let motes = vec![in alloc; None; usize::from(motes)]?;
+    Ok(motes)
+}
+
+/// Whether an image has this name and these bytes.
+fn is_same(kept: &Image, name: &Bytes, content: &Bytes) -> bool
+    ensures { (key : Key) → result ≡ same_row (row_of_image key kept.now) (row_of key.image key.version name.now content.now) }
+{
+    kept.name.as_slice() == name.as_slice() && kept.content.as_slice() == content.as_slice()
+}

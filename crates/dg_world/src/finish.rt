@@ -1,0 +1,158 @@
+//! The last state of a world, read from its boards.
+ghost use Rattle.std.specs.Prelude.{◌≡◌, ◌⊎◌, ◌+◌, ◌-◌, ◌*◌, ◌≤◌, ◌++◌, ℕ, List, map, length, vec_len, Err, OnOk, OnErr};
+ghost use Rattle.std.specs.List.{flat_map, range_with_len};
+ghost use Rattle.std.specs.Vec.{vec_capacity};
+ghost use Rattle.dg_nor.specs.Reads.{Looked, ReadStopped};
+ghost use Rattle.dg_volume.specs.Sizes.{images};
+ghost use Rattle.dg_volume.specs.Stands.{IsVolume};
+ghost use Rattle.dg_rules.specs.World.{World as RuleWorld, Site, site};
+ghost use Rattle.dg_rules.specs.Changes.{site_lines, final_lines};
+ghost use Rattle.dg_world.specs.Worlds.{IsWorld, SiteStands};
+ghost use Rattle.dg_world.specs.Applied.{SameBoards, ReadFlash};
+ghost use Rattle.dg_world.specs.Finished.{mote_shown, kept_shown, keeps_shown};
+
+use crate::shown::{Shown, push_line, show};
+use crate::world::{RunningMote, World, WorldFault};
+use dg_control::IMAGES;
+use dg_nor::{Nor, Stopped};
+use dg_rules::Report;
+use dg_volume::{Kept, MountFault, Volume};
+
+/// The most last lines of a mote: what it runs, and what is kept of each image but golden.
+const MOST_SITE_LINES: usize = IMAGES;
+
+impl World {
+    /// The last state, read from the boards. After `Flash` and `Memory` nothing is told of it.
+    pub fn finish<N: Nor>(
+        &self,
+        boards: &mut Vec<N>,
+        out: &mut Vec<Report>,
+    ) -> Result<(), WorldFault>
+        requires world { (w : RuleWorld) × IsWorld self.now (map N.device boards.old.items) w }
+        ensures finished { OnOk result ((w : RuleWorld) → IsWorld self.now (map N.device boards.old.items) w → out.new.items ≡ out.old.items ++ final_lines w) }
+        ensures untold { OnErr result (out.new.items ≡ out.old.items) }
+        ensures boards { SameBoards (map N.device boards.old.items) (map N.device boards.new.items) }
+        // whatever comes of it, the boards stand for the world as before
+        ensures stands { (w : RuleWorld) → IsWorld self.now (map N.device boards.old.items) w → IsWorld self.now (map N.device boards.new.items) w }
+        ensures flash { (board : ℕ) → result ≡ Err (WorldFault.Flash board) → ReadFlash board (map N.device boards.old.items) (map N.device boards.new.items) }
+        ensures no_other { (result ≡ Err WorldFault.TooMany) ⊎ ((result ≡ Err WorldFault.NotAVolume) ⊎ (result ≡ Err WorldFault.NoImage)) → ⊥ }
+    {
+        let told = out.len();
+        match out.reserve(1 + MOST_SITE_LINES * self.motes.len()) {
+            Ok(()) => {}
+            Err(_) => return Err(WorldFault::Memory),
+        }
+        out.push_reserved(Report::End {
+            events: self.events,
+        });
+        match self.push_sites(boards, out) {
+            Ok(()) => Ok(()),
+            Err(BoardStopped { board }) => {
+                out.truncate(told);
+                Err(WorldFault::Flash { board })
+            }
+        }
+    }
+
+    /// Appends the last lines of all motes, in their order. There is room for them.
+    fn push_sites<N: Nor>(
+        &self,
+        boards: &mut [N],
+        out: &mut Vec<Report>,
+    ) -> Result<(), BoardStopped>
+        requires world { (w : RuleWorld) × IsWorld self.now (map N.device boards.old) w }
+        requires room { vec_len out.old + MOST_SITE_LINES * length self.now.motes.items ≤ vec_capacity out.old }
+        ensures told { OnOk result ((w : RuleWorld) → IsWorld self.now (map N.device boards.old) w
+            → out.new.items ≡ out.old.items ++ flat_map (λ m. site_lines m (site w m)) (range_with_len 0 (length w.sites))) }
+        ensures begun { (told : List Report) × (out.new.items ≡ out.old.items ++ told) }
+        ensures boards { SameBoards (map N.device boards.old) (map N.device boards.new) }
+        ensures stands { (w : RuleWorld) → IsWorld self.now (map N.device boards.old) w → IsWorld self.now (map N.device boards.new) w }
+        ensures flash { (e : BoardStopped) → result ≡ Err e → ReadFlash e.board (map N.device boards.old) (map N.device boards.new) }
+    {
+        for mote in 0..self.motes.len() {
+            let runs = self.motes[mote];
+            match push_site(&mut boards[mote], mote as u8, runs, out) {
+                Ok(()) => {}
+                Err(Stopped) => return Err(BoardStopped { board: mote as u8 }),
+            }
+        }
+        Ok(())
+    }
+}
+
+/// A board stopped while it was read.
+#[derive(Clone, Copy, Debug, PartialEq, Eq)]
+struct BoardStopped {
+    /// The number of the board, from 0.
+    board: u8,
+}
+
+/// Reads a board that is a volume, and appends the last lines of its mote. There is room for them.
+fn push_site<N: Nor>(
+    nor: &mut N,
+    mote: u8,
+    runs: Option<RunningMote>,
+    out: &mut Vec<Report>,
+) -> Result<(), Stopped>
+    requires volume { IsVolume (N.device nor.old).image }
+    requires room { vec_len out.old + MOST_SITE_LINES ≤ vec_capacity out.old }
+    ensures told { OnOk result ((x : Site) → SiteStands (N.device nor.old) runs x → out.new.items ≡ out.old.items ++ site_lines mote x) }
+    ensures begun { (told : List Report) × (out.new.items ≡ out.old.items ++ told) }
+    ensures looked { OnOk result (Looked (N.device nor.old) (N.device nor.new)) }
+    ensures stopped { OnErr result (ReadStopped (N.device nor.old) (N.device nor.new)) }
+    ensures untold { OnErr result (out.new.items ≡ out.old.items) }
+    ensures room { vec_capacity out.new ≡ vec_capacity out.old }
+    ensures few { vec_len out.new ≤ vec_len out.old + MOST_SITE_LINES }
+{
+    match Volume::mount(nor) {
+        Ok(volume) => {
+            out.push_reserved(mote_line(mote, runs));
+            push_keeps(mote, &show(&volume), out);
+            Ok(())
+        }
+        Err(MountFault::Stopped) => Err(Stopped),
+        Err(MountFault::NotAVolume) => unreachable!(),
+    }
+}
+
+/// The line on what a mote runs at the end.
+fn mote_line(mote: u8, runs: Option<RunningMote>) -> Report
+    ensures { result ≡ mote_shown mote runs }
+{
+    match runs {
+        None => Report::MoteOff { mote },
+        Some(running) => Report::MoteOn {
+            mote,
+            image: running.key.image,
+            version: running.key.version,
+        },
+    }
+}
+
+/// The line on what a mote keeps of an image at the end.
+fn kept_line(mote: u8, image: u8, kept: Option<Kept>) -> Option<Report>
+    ensures { result ≡ kept_shown mote image kept }
+{
+    match kept {
+        None => None,
+        Some(kept) => Some(Report::Kept {
+            mote,
+            image,
+            version: kept.version,
+            pages: kept.done,
+        }),
+    }
+}
+
+/// Appends the lines on what a mote keeps of each image but golden. There is room for them.
+fn push_keeps(mote: u8, shown: &Shown, out: &mut Vec<Report>)
+    requires room { vec_len out.old + (IMAGES - 1) ≤ vec_capacity out.old }
+    ensures told { out.new.items ≡ out.old.items ++ keeps_shown mote shown.now (images - 1) }
+    ensures room { vec_capacity out.new ≡ vec_capacity out.old }
+    ensures few { vec_len out.new ≤ vec_len out.old + (IMAGES - 1) }
+{
+    for image in 1..IMAGES {
+        let line = kept_line(mote, image as u8, shown.kept[image]);
+        push_line(line, out);
+    }
+}

@@ -1,0 +1,57 @@
+//! The images that were declared.
+ghost use Rattle.std.specs.Prelude.{◌≤◌, IsTrue, length};
+ghost use Rattle.dg_base.specs.Texts.{spells_name};
+ghost use Rattle.dg_rules.specs.Sizes.{most_content};
+
+use dg_base::Bytes;
+use dg_rules::Key;
+use std::alloc::{AllocError, Global};
+use std::collections::BTreeMap;
+
+/// An image that was declared.
+#[derive(Drop)]
+pub struct Image {
+    pub(crate) name: Bytes,
+    pub(crate) content: Bytes,
+    ghost named: { IsTrue (spells_name name) },
+    ghost few: { length content ≤ most_content },
+}
+
+/// The images, by their keys.
+#[derive(Drop)]
+pub struct Images {
+    pub(crate) by_key: BTreeMap<Key, Image>,
+}
+
+impl Images {
+    ghost use Rattle.std.specs.Prelude.{◌≡◌, ◌∷◌, ◌++◌, List, [], None, OnOk, OnErr, option_map};
+    ghost use Rattle.dg_object.specs.Object.{Row};
+    ghost use Rattle.dg_world.specs.Images.{found, row_of_image, Declares, NothingDeclared};
+
+    pub(crate) fn new(alloc: Global) -> Images
+        ensures { NothingDeclared result }
+    {
+        Images {
+            by_key: BTreeMap::new(alloc),
+        }
+    }
+
+    /// The image that was declared with this key.
+    pub(crate) fn get(&self, key: Key) -> Option<&Image>
+        ensures { option_map (λ i. i.now) result ≡ found self.now key }
+    {
+        self.by_key.get(&key)
+    }
+
+    /// Declares an image whose key was not declared. Without memory nothing is declared.
+    pub(crate) fn add(&mut self, key: Key, image: Image) -> Result<(), AllocError>
+        requires { found self.old key ≡ None }
+        ensures added { OnOk result ((rows : List Row) → Declares self.old rows → Declares self.new (rows ++ row_of_image key image ∷ [])) }
+        ensures unchanged { OnErr result ((rows : List Row) → Declares self.old rows → Declares self.new rows) }
+    {
+        match self.by_key.insert(key, image) {
+            Ok(_) => Ok(()),
+            Err(_failed) => Err(AllocError),
+        }
+    }
+}

@@ -1,0 +1,47 @@
+//! The world as the code keeps it.
+use crate::images::Images;
+use dg_rules::Key;
+
+/// What runs on a mote that is on, and since when.
+#[derive(Clone, Copy, Debug, PartialEq, Eq)]
+pub struct RunningMote {
+    pub(crate) key: Key,
+    /// The moment of its start, in milliseconds.
+    pub(crate) since: u64,
+}
+
+/// A world of 1 to 16 motes. Their boards stand beside it.
+#[derive(Drop)]
+pub struct World {
+    /// The moment, in milliseconds.
+    pub(crate) moment: u64,
+    /// How many events were applied, refused ones included.
+    pub(crate) events: u32,
+    pub(crate) images: Images,
+    /// What runs on each mote, None where it is off.
+    pub(crate) motes: Vec<Option<RunningMote>>,
+}
+
+/// Why an image is not declared. Nothing has changed.
+#[derive(Clone, Copy, Debug, PartialEq, Eq)]
+pub enum DeclareFault {
+    Memory,
+    /// Its key was declared with another name or content.
+    Taken,
+}
+
+/// Why an event is not applied, or the last state not told. After `Flash`, `NotAVolume` and `NoImage` the world is not
+/// used again.
+#[derive(Clone, Copy, Debug, PartialEq, Eq)]
+pub enum WorldFault {
+    /// There was no memory. Nothing has changed.
+    Memory,
+    /// This board stopped.
+    Flash { board: u8 },
+    /// A million events were applied. Nothing has changed.
+    TooMany,
+    /// The mote's board is no volume.
+    NotAVolume,
+    /// The mote was to start, and there was no image.
+    NoImage,
+}
