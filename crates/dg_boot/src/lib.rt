@@ -28,8 +28,8 @@ ghost use Rattle.dg_volume.specs.Acts.{Stops, TouchesBut};
 ghost use Rattle.dg_boot.specs.Started.{Starts, Lacks};
 
 use crate::starting::start_mounted;
-use dg_nor::Nor;
 pub use choosing::waits;
+use dg_nor::Nor;
 pub use dg_volume::Kind;
 use dg_volume::Volume;
 pub use laws::{

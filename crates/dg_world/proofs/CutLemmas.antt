@@ -123,7 +123,15 @@ or_second true y e h = cc
 
 -- a fuse over a board
 pub is_fused : {N : Type 0} (device : N → Device) (cut : PowerCut) (a : Device) (f g : Fused N) (name : GName) → 1 ≤ cut.after → fused_device device f ≡ record {
-  image = a.image; stopped = a.stopped; faults = a.faults; left = Some (cut.after - 1); taken = a.taken; blown = false; references = name ∷ a.references; beneath = Some (beneath_of a); }
+  image = a.image;
+  stopped = a.stopped;
+  faults = a.faults;
+  left = Some (cut.after - 1);
+  taken = a.taken;
+  blown = false;
+  references = name ∷ a.references;
+  beneath = Some (beneath_of a);
+}
     → IsFused cut a (device (inner_of g)) (fused_device device f) (fused_device device g)
 is_fused device cut a f g name counted made = record {
   counted = counted;

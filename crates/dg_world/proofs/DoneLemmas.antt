@@ -143,12 +143,15 @@ step_cut (Ok runs) w x now before a b c start end p lines = record {
   endures = Endures_then (beneath_of a) (beneath_of b) (beneath_of c) p.endures lines.2.endures;
 }
 step_cut (Err (Stopped k)) w x now before a b c start end p lines = record {
-  ends = (record {
-    stopped = lines.0;
-    done = before_cut x.cut;
-    leaves = subst (λ i. MayLeave Stands IsNear (trail_of (does w x.event) (store_at w (mote_of x.event))) (before_cut x.cut) i) (sym lines.1.same_image)
-        (subst (λ (y : Does). MayLeave Stands IsNear (trail_of y (store_at w (mote_of x.event))) (before_cut x.cut) b.image) (sym p.ends.goes) p.ends.leaves);
-  }, lines.2);
+  ends = (
+    record {
+      stopped = lines.0;
+      done = before_cut x.cut;
+      leaves = subst (λ i. MayLeave Stands IsNear (trail_of (does w x.event) (store_at w (mote_of x.event))) (before_cut x.cut) i) (sym lines.1.same_image)
+          (subst (λ (y : Does). MayLeave Stands IsNear (trail_of y (store_at w (mote_of x.event))) (before_cut x.cut) b.image) (sym p.ends.goes) p.ends.leaves);
+    },
+    lines.2,
+  );
   endures = Endures_then (beneath_of a) (beneath_of b) (beneath_of c) p.endures lines.1.endures;
 }
 step_cut (Err NotAVolume) w x now before a b c start end p lines = absurd lines

@@ -79,8 +79,8 @@ added old new key image rows put fresh declares =
       each = λ i v. let q : Key = record { image = i; version = v } in
           ap (option_map (row_of_image q)) (at q)
           ∙ put_at (is_key key q) key q image (found old q) (row_at rows i v) (declares.each i v)
-            (λ is. sym (declares.each i v) ∙ ap (option_map (row_of_image q)) (ap (found old) (same_key_is key i v is) ∙ fresh))
-            (λ is. same_key_is key i v is)
+          (λ is. sym (declares.each i v) ∙ ap (option_map (row_of_image q)) (ap (found old) (same_key_is key i v is) ∙ fresh))
+          (λ is. same_key_is key i v is)
           ∙ sym (row_behind rows (row_of_image key image) i v);
     }
 

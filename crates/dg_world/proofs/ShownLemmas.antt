@@ -58,8 +58,8 @@ changes_told m a b s t shows after =
     let f : ℕ → Option Report = λ i. have_shown m i (slice_index_or a.kept i None) (slice_index_or b.kept i None) in
     let g : ℕ → Option Report = λ i. have_change m i (held s i) (held t i) in
     let same : (i : ℕ) → i < images → f i ≡ g i = λ i h.
-        ap (λ (o : Option Kept). have_shown m i o (slice_index_or b.kept i None)) (shows.kept i h)
-        ∙ ap (have_shown m i (told (held s i))) (after.kept i h) ∙ have_told m i (held s i) (held t i) in
+    ap (λ (o : Option Kept). have_shown m i o (slice_index_or b.kept i None)) (shows.kept i h)
+    ∙ ap (have_shown m i (told (held s i))) (after.kept i h) ∙ have_told m i (held s i) (held t i) in
     ap (λ (o : Order). order_change m o b.order ++ filter_map f (range_with_len 0 images)) shows.order
     ∙ ap (λ (o : Order). order_change m s.order o ++ filter_map f (range_with_len 0 images)) after.order
     ∙ ap (λ (xs : List Report). order_change m s.order t.order ++ xs) (same_over f g 0 images same (omega arith))

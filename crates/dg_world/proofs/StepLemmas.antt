@@ -64,9 +64,12 @@ cut_stopped (Err y) q h m before t a b told is e x =
 pub cut_told : (turn : Turn) (q : Result Turn Halt) (m : ℕ) (before : Option Shown) (t : Store) (a b : Device) (start mid end : List Report) → q ≡ Ok turn → CutTold q before t a b
     → mid ≡ start ++ turn_lines m turn → end ≡ mid ++ Off m ∷ [] → CutLines (Ok None) m before t a b start end
 cut_told turn q m before t a b start mid end e x told off =
-    let y : CutTold (Ok turn) before t a b = subst (λ (z : Result Turn Halt). CutTold z before t a b) e x in
-    (refl, record {
-      lines = turn_lines m turn;
-      tells = λ k s trail leaves was. y.0 m k s trail leaves was;
-      told_now = told_then start mid end (turn_lines m turn) (Off m ∷ []) _ told off refl;
-    }, y.1)
+    let y : CutTold (Ok turn) before t a b = subst (λ (z : Result Turn Halt). CutTold z before t a b) e x in (
+      refl,
+      record {
+        lines = turn_lines m turn;
+        tells = λ k s trail leaves was. y.0 m k s trail leaves was;
+        told_now = told_then start mid end (turn_lines m turn) (Off m ∷ []) _ told off refl;
+      },
+      y.1,
+    )

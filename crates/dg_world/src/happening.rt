@@ -82,9 +82,7 @@ fn start_line(started: &Started) -> StartLine
 fn clears(volume: &Volume, since: u64, now: u64) -> bool
     ensures { (s : Store) → Tells volume.now s → result ≡ clears s since now }
 {
-    volume.snapshot().gesture >= 1
-        && now.saturating_sub(since) >= SHORT_START
-        && volume.room() >= 1
+    volume.snapshot().gesture >= 1 && now.saturating_sub(since) >= SHORT_START && volume.room() >= 1
 }
 
 /// Clears the short starts.
@@ -130,12 +128,7 @@ fn tick<N: Nor>(runs: Option<RunningMote>, now: u64, board: &mut N) -> Result<Tu
 }
 
 /// Injects an image.
-fn inject_image<N: Nor>(
-    board: &mut N,
-    key: Key,
-    name: &[u8],
-    content: &[u8],
-) -> Result<Turn, Halt>
+fn inject_image<N: Nor>(board: &mut N, key: Key, name: &[u8], content: &[u8]) -> Result<Turn, Halt>
     requires known_image { key.image < images }
     requires some_version { 1 ≤ key.version }
     requires named { IsTrue (spells_name name.now) }
@@ -201,12 +194,7 @@ fn inject<N: Nor>(declared: &Images, key: Key, board: &mut N) -> Result<Turn, Ha
 }
 
 /// Touches an order.
-fn order<N: Nor>(
-    board: &mut N,
-    number: u32,
-    image: u8,
-    version: u32,
-) -> Result<Turn, Halt>
+fn order<N: Nor>(board: &mut N, number: u32, image: u8, version: u32) -> Result<Turn, Halt>
     requires some_number { 1 ≤ number }
     requires known_image { image < images }
     requires some_version { 1 ≤ version }
