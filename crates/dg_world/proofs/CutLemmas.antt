@@ -1,23 +1,21 @@
 -- From what an event did over a fuse to what its board holds.
-use Rattle.std.proofs.Common.{◌≡◌, ◌⊎◌, ℕ, ◌+◌, ◌-◌, ◌<◌, ◌≤◌, Bool, true, false, refl, ap, sym, ◌∙◌, subst, inl, inr, ⊎_elim, arith}
+use Rattle.std.proofs.Common.{◌≡◌, ℕ, ◌-◌, ◌≤◌, Bool, true, false, refl, ap, sym, ◌∙◌, subst, inl, arith}
 use Rattle.std.specs.Prelude.{◌||◌, ◌∷◌, nat_le, Option, Some, None, Result, Ok, Err, IsSomeAnd}
-use Rattle.std.proofs.lemmas.Bool.{lt-leb, le-leb, both_ways}
+use Rattle.std.proofs.lemmas.Bool.{lt-leb, le-leb}
 use Rattle.std.specs.Borrow.{GName}
-use Rattle.dg_nor.specs.Device.{Device, Beneath, Endures, BeneathEndures, Ran, Halts, Halted}
+use Rattle.dg_nor.specs.Device.{Device, Beneath, Endures, BeneathEndures, Ran, Halts}
 use Rattle.dg_nor.specs.Fuse.{beneath_of, inner_of, fused_device}
 use Rattle.dg_nor.specs.declared.fuse.Fused.{Fused}
-use Rattle.dg_nor.specs.Trail.{Trail, operations, last, resting, MayLeave}
-use Rattle.dg_nor.specs.Reads.{Looked, StopsIn}
+use Rattle.dg_nor.specs.Trail.{operations, last, MayLeave}
 use Rattle.dg_nor.proofs.DeviceLemmas.{left_ran, left_blown}
 use Rattle.dg_nor.proofs.TrailLemmas.{operations-resting}
-use Rattle.dg_volume.specs.Store.{Store, IsNear}
+use Rattle.dg_volume.specs.Store.{IsNear}
 use Rattle.dg_volume.specs.Stands.{Stands}
 use Rattle.dg_rules.specs.World.{World as RuleWorld, store_at}
-use Rattle.dg_rules.specs.Events.{Deed, Does, Refuses, Goes}
-use Rattle.dg_rules.specs.Steps.{blows}
+use Rattle.dg_rules.specs.Events.{Does, Refuses, Goes}
 use Rattle.dg_script.specs.declared.events.Cut.{Cut as PowerCut}
-use Rattle.dg_world.specs.Turns.{trail_of, Tells, Went, StoppedOn, Lacked, BeforeShows, TurnEnds}
-use Rattle.dg_world.specs.Cuts.{ended, IsWhole, IsBlown, IsStopped, IsLacking, PlayEnds, Played}
+use Rattle.dg_world.specs.Turns.{trail_of, Tells, Went, StoppedOn, TurnEnds}
+use Rattle.dg_world.specs.Cuts.{ended, IsWhole, IsBlown, PlayEnds, Played}
 use Rattle.dg_world.specs.declared.shown.Shown.{Shown}
 use Rattle.dg_world.specs.declared.turn.Turn.{Turn}
 use Rattle.dg_world.specs.declared.turn.Turn.TheVariants.{Refused, Rests, Changes, Starts}

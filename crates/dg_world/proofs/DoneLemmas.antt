@@ -1,8 +1,8 @@
 -- A step that was done at its board, as a step of the world.
-use Rattle.std.proofs.Common.{◌≡◌, ℕ, ◌+◌, ◌<◌, Bool, true, false, List, [], ◌∷◌, ◌++◌, length, get_or, set, refl, ap, sym, ◌∙◌, subst, arith}
-use Rattle.std.specs.Prelude.{slice_set, Option, Some, None, IfSome, Result, Ok, Err}
+use Rattle.std.proofs.Common.{◌≡◌, ℕ, ◌<◌, Bool, true, false, List, [], ◌∷◌, ◌++◌, length, get_or, set, refl, ap, sym, ◌∙◌, subst}
+use Rattle.std.specs.Prelude.{Option, None, IfSome, Result, Ok, Err}
 use Rattle.std.proofs.lemmas.List.{set-get_or}
-use Rattle.dg_nor.specs.Device.{Device, Endures}
+use Rattle.dg_nor.specs.Device.{Device}
 use Rattle.dg_nor.specs.Fuse.{beneath_of}
 use Rattle.dg_nor.specs.Trail.{last, MayLeave}
 use Rattle.dg_nor.proofs.DeviceLemmas.{Endures_then}
@@ -10,7 +10,7 @@ use Rattle.dg_slot.specs.Pages.{program}
 use Rattle.dg_volume.specs.Store.{Store, IsNear}
 use Rattle.dg_volume.specs.Stands.{Stands}
 use Rattle.dg_volume.specs.Start.{Runs}
-use Rattle.dg_rules.specs.World.{World as RuleWorld, Running, Site, no_site, site, store_at, counted}
+use Rattle.dg_rules.specs.World.{World as RuleWorld, Running, no_site, site, store_at, counted}
 use Rattle.dg_rules.specs.Events.{Deed, Does, Refuses, Goes, does, mote_of, dt_of}
 use Rattle.dg_rules.specs.Steps.{blows, before_cut, done_world, cut_world, done_reports, Ended as StepEnded, StepDoes, WorldStep}
 use Rattle.dg_rules.specs.Changes.{changes}
@@ -23,12 +23,11 @@ use Rattle.dg_script.specs.declared.report.Report.{Report}
 use Rattle.dg_script.specs.declared.report.Report.TheVariants.{Off, Refused as RefusedLine}
 use Rattle.dg_world.specs.Worlds.{MoteStands}
 use Rattle.dg_world.specs.Turns.{trail_of, runs_after, turn_lines}
-use Rattle.dg_world.specs.Cuts.{IsWhole, IsBlown, IsStopped, IsLacking, PlayEnds, Played}
-use Rattle.dg_world.specs.Stepped.{turn_mote, IsRead, CutLinesAre, CutLines, StepDone, StepEnds, Stepped}
+use Rattle.dg_world.specs.Cuts.{IsWhole, IsBlown, Played}
+use Rattle.dg_world.specs.Stepped.{turn_mote, CutLinesAre, CutLines, StepDone, Stepped}
 use Rattle.dg_world.specs.declared.shown.Shown.{Shown}
 use Rattle.dg_world.specs.declared.turn.Turn.{Turn}
 use Rattle.dg_world.specs.declared.turn.Turn.TheVariants.{Refused, Rests, Changes, Starts}
-use Rattle.dg_world.specs.declared.turn.Ended.{Ended}
 use Rattle.dg_world.specs.declared.turn.Ended.TheVariants.{Whole, Cut}
 use Rattle.dg_world.specs.declared.turn.Halt.{Halt}
 use Rattle.dg_world.specs.declared.turn.Halt.TheVariants.{Stopped, NotAVolume, NoImage}

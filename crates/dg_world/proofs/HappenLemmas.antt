@@ -1,5 +1,5 @@
 -- What each event does at the board of its mote.
-use Rattle.std.proofs.Common.{◌≡◌, ℕ, ◌+◌, sym, subst}
+use Rattle.std.proofs.Common.{◌≡◌, ℕ, ◌+◌, subst}
 use Rattle.std.specs.Prelude.{◌==◌, if◌then◌else◌, Option, Result}
 use Rattle.dg_nor.specs.Device.{Device}
 use Rattle.dg_control.specs.declared.snapshot.Order.{Order}

@@ -1,5 +1,5 @@
 -- What injections and orders do at a board.
-use Rattle.std.proofs.Common.{◌≡◌, ◌≢◌, ◌⊎◌, ℕ, ◌<◌, Bool, true, false, List, [], ◌∷◌, ◌++◌, refl, ap, sym, ◌∙◌, subst, ⊎_elim, inl, inr, arith}
+use Rattle.std.proofs.Common.{◌≡◌, ◌≢◌, ◌⊎◌, ℕ, Bool, false, List, refl, ap, sym, ◌∙◌, subst, ⊎_elim, inl, inr, arith}
 use Rattle.std.specs.Prelude.{◌==◌, if◌then◌else◌, Option, Some, None, Result, Ok, Err}
 use Rattle.std.proofs.lemmas.List.{append-nil}
 use Rattle.std.proofs.lemmas.Bool.Decides.{nat_tests}
@@ -21,19 +21,18 @@ use Rattle.dg_volume.specs.declared.volume.OrderFault.TheVariants as order_fault
 use Rattle.dg_volume.specs.declared.volume.Injected.{Injected}
 use Rattle.dg_volume.specs.declared.volume.Volume.{Volume}
 use Rattle.dg_volume.proofs.BeginLemmas.{begins_resting, begins_committing, inject_begins}
-use Rattle.dg_rules.specs.World.{World as RuleWorld, Running, site, store_at}
-use Rattle.dg_rules.specs.Events.{Does, Refuses, Goes, acts, inject_cause, inject_row, inject_unless, order_cause, order_unless}
+use Rattle.dg_rules.specs.World.{World as RuleWorld, site, store_at}
+use Rattle.dg_rules.specs.Events.{Does, Refuses, acts, inject_cause, inject_row, inject_unless, order_cause, order_unless}
 use Rattle.dg_rules.specs.Changes.{changes}
 use Rattle.dg_script.specs.declared.report.Cause.{Cause}
 use Rattle.dg_script.specs.declared.report.Cause.TheVariants as cause
-use Rattle.dg_world.specs.Shown.{Shows, changes_shown}
-use Rattle.dg_world.specs.Turns.{trail_of, Went, StoppedOn, TurnEnds}
+use Rattle.dg_world.specs.Shown.{Shows}
+use Rattle.dg_world.specs.Turns.{trail_of, Went, TurnEnds}
 use Rattle.dg_world.specs.declared.shown.Shown.{Shown}
 use Rattle.dg_world.specs.declared.turn.Turn.{Turn}
 use Rattle.dg_world.specs.declared.turn.Turn.TheVariants.{Refused, Changes}
 use Rattle.dg_world.specs.declared.turn.Halt.{Halt}
 use Rattle.dg_world.specs.declared.turn.Halt.TheVariants.{Stopped}
-use Rattle.dg_script.specs.declared.report.Report.{Report}
 use Rattle.dg_world.proofs.ShownLemmas.{changes_told}
 use Rattle.dg_world.proofs.TurnLemmas.{turn_after}
 

@@ -1,6 +1,6 @@
 -- A step of the world where the board and the mote of one place changed.
-use Rattle.std.proofs.Common.{◌≡◌, ◌≢◌, ◌⊎◌, ℕ, zero, suc, ◌+◌, ◌-◌, ◌*◌, ◌^◌, ◌<◌, ◌≤◌, Bool, true, false, List, [], ◌∷◌, length, get_or, set, map, refl, ap, sym, ◌∙◌, subst, inl, inr, ⊎_elim, arith, eqb-true, eq-eqb}
-use Rattle.std.specs.Prelude.{◌==◌, slice_get, slice_set, slice_index_or, Option, Some, None, Result, Ok, Err}
+use Rattle.std.proofs.Common.{◌≡◌, ◌≢◌, ◌⊎◌, ℕ, zero, suc, ◌+◌, ◌^◌, ◌<◌, ◌≤◌, Bool, true, false, List, [], ◌∷◌, length, get_or, set, map, refl, ap, sym, ◌∙◌, subst, inl, inr, ⊎_elim, arith, eqb-true, eq-eqb}
+use Rattle.std.specs.Prelude.{◌==◌, slice_get, slice_index_or, Option, Some, None, Ok, Err}
 use Rattle.std.proofs.Math.ListN.{length-set}
 use Rattle.std.proofs.lemmas.List.{get_or-set_same, get_or-set_other, get_or_read}
 use Rattle.std.proofs.lemmas.Option.{same_Some}
@@ -11,9 +11,9 @@ use Rattle.dg_nor.specs.Trail.{last}
 use Rattle.dg_slot.specs.Pages.{program}
 use Rattle.dg_volume.specs.Store.{Store}
 use Rattle.dg_volume.specs.Stands.{Stands}
-use Rattle.dg_rules.specs.Sizes.{most_events, most_motes}
-use Rattle.dg_rules.specs.World.{World as RuleWorld, Running, Site, no_site, site, store_at}
-use Rattle.dg_rules.specs.Events.{Deed, Goes, does, mote_of, dt_of}
+use Rattle.dg_rules.specs.Sizes.{most_events}
+use Rattle.dg_rules.specs.World.{World as RuleWorld, Site, no_site, site, store_at}
+use Rattle.dg_rules.specs.Events.{does, mote_of, dt_of}
 use Rattle.dg_rules.specs.Steps.{cut_world}
 use Rattle.dg_rules.specs.Ranges.{StepFits}
 use Rattle.dg_script.specs.declared.events.Step.{Step}

@@ -1,8 +1,8 @@
 -- A start changes neither what is kept nor the order, wherever it is stopped.
-use Rattle.std.proofs.Common.{◌≡◌, ℕ, Bool, true, List, Option, Some, None, refl, sym, ap, ◌∙◌, subst}
+use Rattle.std.proofs.Common.{ℕ, Bool, true, Option, Some, None, refl, ap, ◌∙◌}
 use Rattle.std.proofs.lemmas.Bool.{cond_both}
 use Rattle.std.specs.Prelude.{◌==◌, ◌*◌, length, ◌&&◌, ◌||◌, not, nat_lt}
-use Rattle.dg_nor.specs.Trail.{Trail, last, joined, resting, Leaves}
+use Rattle.dg_nor.specs.Trail.{Trail, last, joined, Leaves}
 use Rattle.dg_nor.specs.Through.{Through}
 use Rattle.dg_nor.proofs.ThroughLemmas.{Leaves-through, Through-joined, Through-resting, Through-stepping, Through-last}
 use Rattle.dg_control.specs.Store.{commit_operations}
@@ -10,7 +10,7 @@ use Rattle.dg_volume.specs.Sizes.{golden_version, short_starts, copy_operations}
 use Rattle.dg_volume.specs.Store.{Store, App, IsNear}
 use Rattle.dg_volume.specs.Changes.{spent}
 use Rattle.dg_volume.specs.Trails.{committing, clear_trail}
-use Rattle.dg_volume.specs.Start.{Runs, Boot, behind, counts, count_trail, by_gesture, order_waits, blank_by, blank_trail, copy_trail, app_of, kept_runs, order_boot, finish_trail, golden_copied, golden_stays, golden_by, golden_boot, kept_by, kept_boot, waived_once, boot_counted, boot, is_set_to, sound}
+use Rattle.dg_volume.specs.Start.{Runs, Boot, counts, count_trail, by_gesture, order_waits, blank_by, blank_trail, copy_trail, app_of, kept_runs, order_boot, finish_trail, golden_copied, golden_by, golden_boot, kept_by, kept_boot, waived_once, boot_counted, boot, is_set_to, sound}
 use Rattle.dg_volume.specs.declared.volume.Kind.{Kind}
 use Rattle.dg_world.specs.Turns.{SameShown}
 

@@ -1,19 +1,16 @@
 -- What is told of a step, and where it leaves its board.
-use Rattle.std.proofs.Common.{◌≡◌, ℕ, true, List, [], ◌∷◌, ◌++◌, refl, ap, sym, ◌∙◌, subst, inl}
+use Rattle.std.proofs.Common.{◌≡◌, ℕ, List, [], ◌∷◌, ◌++◌, refl, sym, ◌∙◌, subst, inl}
 use Rattle.std.specs.Prelude.{Option, Some, None, Result, Ok, Err, IsErrAnd}
-use Rattle.std.proofs.lemmas.List.{append_assoc}
-use Rattle.dg_nor.specs.Device.{Device, Ran, Halts, Endures}
+use Rattle.dg_nor.specs.Device.{Device}
 use Rattle.dg_nor.specs.Fuse.{beneath_of}
-use Rattle.dg_nor.specs.Trail.{Trail, Leaves}
 use Rattle.dg_nor.specs.Reads.{Looked, ReadStopped}
 use Rattle.dg_nor.proofs.DeviceLemmas.{Endures-same}
-use Rattle.dg_volume.specs.Store.{Store, IsNear}
-use Rattle.dg_rules.specs.Changes.{changes}
+use Rattle.dg_volume.specs.Store.{Store}
 use Rattle.dg_script.specs.declared.report.Report.{Report}
 use Rattle.dg_script.specs.declared.report.Report.TheVariants.{Off}
 use Rattle.dg_world.specs.Shown.{Shows}
-use Rattle.dg_world.specs.Turns.{SameShown, BeforeShows, turn_lines}
-use Rattle.dg_world.specs.Stepped.{IsRead, TellsCut, CutTold, CutLinesAre, CutLines}
+use Rattle.dg_world.specs.Turns.{turn_lines}
+use Rattle.dg_world.specs.Stepped.{IsRead, CutTold, CutLines}
 use Rattle.dg_world.specs.declared.shown.Shown.{Shown}
 use Rattle.dg_world.specs.declared.turn.Turn.{Turn}
 use Rattle.dg_world.specs.declared.turn.Turn.TheVariants.{Rests, Changes}

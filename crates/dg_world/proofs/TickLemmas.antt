@@ -3,7 +3,7 @@ use Rattle.std.proofs.Common.{◌≡◌, ℕ, Bool, true, false, List, [], ◌�
 use Rattle.std.specs.Prelude.{◌-◌, ◌≤◌, ◌&&◌, nat_le, if◌then◌else◌, Option, Some, None, IfSome, Result, Ok, Err}
 use Rattle.std.proofs.lemmas.Bool.{cond_both, leb-true}
 use Rattle.dg_nor.specs.Device.{Device, Ran}
-use Rattle.dg_nor.specs.Trail.{Trail, operations, last, last_of, resting}
+use Rattle.dg_nor.specs.Trail.{Trail, last, last_of, resting}
 use Rattle.dg_nor.specs.Through.{Through}
 use Rattle.dg_nor.specs.Reads.{Looked}
 use Rattle.dg_nor.proofs.ThroughLemmas.{Through-last}
@@ -22,13 +22,13 @@ use Rattle.dg_boot.specs.Started.{Starts as BootStarts, Lacks}
 use Rattle.dg_boot.specs.declared.Started.{Started}
 use Rattle.dg_rules.specs.Sizes.{short_start}
 use Rattle.dg_rules.specs.World.{World as RuleWorld, Running, site, store_at}
-use Rattle.dg_rules.specs.Events.{Deed, Does, Refuses, Goes, key_of, running_by, starts, goes_on, clears, ticks}
+use Rattle.dg_rules.specs.Events.{Does, key_of, running_by, starts, goes_on, clears, ticks}
 use Rattle.dg_rules.specs.Changes.{changes, start_line}
 use Rattle.dg_script.specs.declared.report.Cause.TheVariants as cause
 use Rattle.dg_script.specs.declared.report.Report.{Report}
 use Rattle.dg_script.specs.declared.report.Report.TheVariants.{Start}
 use Rattle.dg_world.specs.Worlds.{MoteStands}
-use Rattle.dg_world.specs.Turns.{SameShown, trail_of, Tells, Went, StoppedOn, Lacked, TurnEnds}
+use Rattle.dg_world.specs.Turns.{SameShown, trail_of, Went, Lacked, TurnEnds}
 use Rattle.dg_world.specs.declared.turn.StartLine.{StartLine}
 use Rattle.dg_world.specs.declared.turn.Turn.{Turn}
 use Rattle.dg_world.specs.declared.turn.Turn.TheVariants.{Refused, Rests, Starts}

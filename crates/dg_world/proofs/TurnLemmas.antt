@@ -1,18 +1,17 @@
 -- What an event does at a board, from what the acts on its volume did.
-use Rattle.std.proofs.Common.{◌≡◌, ◌⊎◌, ℕ, ◌+◌, ◌-◌, ◌<◌, ◌≤◌, Bool, true, false, List, [], ◌∷◌, ◌++◌, length, refl, ap, sym, ◌∙◌, subst, inl, inr, ⊎_elim, arith}
-use Rattle.std.specs.Prelude.{if◌then◌else◌, Option, Some, None, IfSome, Result, Ok, Err, IsErrAnd}
-use Rattle.std.proofs.lemmas.List.{append-nil}
+use Rattle.std.proofs.Common.{◌≡◌, ℕ, ◌+◌, true, false, List, [], ◌∷◌, refl, sym, ◌∙◌, subst, inl, inr, ⊎_elim, arith}
+use Rattle.std.specs.Prelude.{None, Result, Ok, Err, IsErrAnd}
 use Rattle.std.proofs.lemmas.Bool.{both_ways}
 use Rattle.dg_nor.specs.Device.{Device, Ran, Halts, Halted}
-use Rattle.dg_nor.specs.Trail.{Stage, Trail, operations, last, last_of, LeavesFrom, Leaves, EachWorks, resting, MayLeave}
+use Rattle.dg_nor.specs.Trail.{Stage, Trail, operations, LeavesFrom, Leaves, EachWorks, MayLeave}
 use Rattle.dg_nor.specs.Reads.{Looked, ReadStopped, StopsIn}
-use Rattle.dg_nor.proofs.DeviceLemmas.{Ran_then, Ran-none, Halts_first, Halted_second}
+use Rattle.dg_nor.proofs.DeviceLemmas.{Ran_then, Halts_first, Halted_second}
 use Rattle.dg_volume.specs.Store.{Store, IsNear}
 use Rattle.dg_volume.specs.Stands.{Stands}
 use Rattle.dg_volume.specs.Trails.{BeginsAt}
-use Rattle.dg_rules.specs.World.{World as RuleWorld, Running, site, store_at}
-use Rattle.dg_rules.specs.Events.{Deed, Does, Refuses, Goes}
-use Rattle.dg_world.specs.Turns.{trail_of, Tells, Went, StoppedOn, Lacked, TurnEnds}
+use Rattle.dg_rules.specs.World.{World as RuleWorld, store_at}
+use Rattle.dg_rules.specs.Events.{Does}
+use Rattle.dg_world.specs.Turns.{trail_of, Went, TurnEnds}
 use Rattle.dg_world.specs.declared.turn.Turn.{Turn}
 use Rattle.dg_world.specs.declared.turn.Turn.TheVariants.{Refused, Rests, Changes, Starts}
 use Rattle.dg_world.specs.declared.turn.Halt.{Halt}

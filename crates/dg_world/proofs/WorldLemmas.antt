@@ -1,15 +1,15 @@
 -- How the code's world stands for a world by the rules: where it begins, and where a board and a mote changed.
-use Rattle.std.proofs.Common.{◌≡◌, ℕ, ◌<◌, ◌≤◌, ◌*◌, ◌+◌, ◌^◌, ◌-◌, List, length, get_or, map, refl, ap, sym, ◌∙◌, subst, arith}
+use Rattle.std.proofs.Common.{◌≡◌, ℕ, ◌<◌, ◌≤◌, List, length, ap, sym, ◌∙◌, subst, arith}
 use Rattle.std.specs.Prelude.{slice_get, slice_index_or, replicate, Option, Some, None}
 use Rattle.std.proofs.lemmas.List.{length-map, length-replicate, get_or-replicate, get_or-map}
 use Rattle.dg_nor.specs.Device.{Device}
 use Rattle.dg_object.specs.Object.{Row}
 use Rattle.dg_volume.specs.Store.{Store}
 use Rattle.dg_volume.specs.Stands.{Stands}
-use Rattle.dg_rules.specs.Sizes.{most_events, most_motes}
-use Rattle.dg_rules.specs.World.{World as RuleWorld, Running, Site, site, first_world, off_site, no_site}
-use Rattle.dg_world.specs.Images.{NothingDeclared, Declares}
-use Rattle.dg_world.specs.Worlds.{MoteStands, SiteStands, IsWorld}
+use Rattle.dg_rules.specs.Sizes.{most_motes}
+use Rattle.dg_rules.specs.World.{Site, site, first_world, off_site, no_site}
+use Rattle.dg_world.specs.Images.{NothingDeclared}
+use Rattle.dg_world.specs.Worlds.{SiteStands, IsWorld}
 use Rattle.dg_world.specs.declared.world.World.{World}
 use Rattle.dg_world.specs.declared.world.RunningMote.{RunningMote}
 use Rattle.dg_world.proofs.ImageLemmas.{declares_none}

@@ -6,7 +6,6 @@ use Rattle.dg_nor.specs.Reads.{Looked, StopsIn}
 use Rattle.dg_slot.specs.Pages.{program}
 use Rattle.dg_volume.specs.Store.{Store, IsNear}
 use Rattle.dg_volume.specs.Stands.{Stands}
-use Rattle.dg_volume.specs.Start.{Runs}
 use Rattle.dg_rules.specs.World.{World as RuleWorld, Running, site, store_at}
 use Rattle.dg_rules.specs.Events.{Deed, Does, Refuses, Goes}
 use Rattle.dg_rules.specs.Steps.{done_reports}

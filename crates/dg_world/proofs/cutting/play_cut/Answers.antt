@@ -1,6 +1,5 @@
-use Rattle.std.proofs.Common.{◌∷◌, ap, sym, ◌∙◌, subst, refl, Some}
+use Rattle.std.proofs.Common.{ap, sym, ◌∙◌, subst, refl, Some}
 use Rattle.dg_nor.specs.Device.{Device}
-use Rattle.dg_nor.specs.Fuse.{fused_device, inner_of}
 use Rattle.dg_nor.proofs.FuseLemmas.{same_reference}
 use Rattle.dg_volume.specs.Stands.{Stands}
 use Rattle.dg_rules.specs.World.{store_at}

@@ -1,7 +1,7 @@
 use Rattle.std.proofs.Common.{subst}
 use Rattle.dg_world.specs.Worlds.{MoteStands}
 use Rattle.dg_rules.specs.World.{site}
-use Rattle.dg_world.proofs.TickLemmas.{tick_off, tick_of}
+use Rattle.dg_world.proofs.TickLemmas.{tick_of}
 use Rattle.dg_world.proofs.happening.tick.Goals as goal
 
 pub returns-in-Some-clause-ends : goal.returns-in-Some-clause-ends
