@@ -7,7 +7,8 @@ use Rattle.std.proofs.lemmas.List.{length-map}
 use Rattle.std.proofs.lemmas.List.Concat.{flat_map-append}
 use Rattle.std.proofs.lemmas.List.Elements.{filter_map-append}
 use Rattle.std.proofs.lemmas.Option.{slice_get-get_or, get_or_from_slice_get}
-use Rattle.dg_nor.specs.Device.{Device}
+use Rattle.dg_nor.specs.Device.{Device, Endures}
+use Rattle.dg_nor.specs.Fuse.{beneath_of}
 use Rattle.dg_nor.specs.Reads.{ReadStopped}
 use Rattle.dg_slot.specs.Kept.{Held}
 use Rattle.dg_volume.specs.Sizes.{images}
@@ -92,10 +93,10 @@ pub record ReadTo (n : ℕ) (old new : List Device) : Type 0 where
 pub read_none : (ds : List Device) → ReadTo 0 ds ds
 read_none ds = record { first = first_none ds; images = λ m a b here there. ap (λ (d : Device). d.image) (same_some b a (sym there ∙ here)) }
 
-pub read_more : (n : ℕ) (old now new : List Device) (d e : Device) → ReadTo n old now → Used n now new d e → d.faults ≤ e.faults → e.image ≡ d.image → ReadTo (n + 1) old new
-read_more n old now new d e to used risen same =
+pub read_more : (n : ℕ) (old now new : List Device) (d e : Device) → ReadTo n old now → Used n now new d e → Endures (beneath_of d) (beneath_of e) → e.image ≡ d.image → ReadTo (n + 1) old new
+read_more n old now new d e to used kept same =
     record {
-      first = first_more n old now new d e to.first used risen;
+      first = first_more n old now new d e to.first used kept;
       images = λ m a b here there. elim (cases_eq m n) [
         | inl at ↦
             let p : d ≡ a = same_some d a (sym (unused n old now new d e to.first used) ∙ ap (slice_get old) (sym at) ∙ here) in
@@ -106,7 +107,7 @@ read_more n old now new d e to used risen same =
     }
 
 pub same_boards : (n : ℕ) (old new : List Device) → ReadTo n old new → SameBoards old new
-same_boards n old new to = record { count = to.first.count; images = to.images; counts = to.first.counts }
+same_boards n old new to = record { count = to.first.count; images = to.images; counts = to.first.counts; endures = to.first.endures }
 
 pub unread : (ds : List Device) → SameBoards ds ds
 unread ds = same_boards 0 ds ds (read_none ds)
@@ -157,3 +158,6 @@ read_at motes n x within at = at ∙ sym (get_or_from_slice_get motes n (get_or 
 -- the board of a mote is there
 pub boards_there : {N : Type 0} (f : N → Device) (old now : List N) (v : World) (w : RuleWorld) (n : ℕ) → length now ≡ length old → IsWorld v (map f old) w → n < length v.motes.items → n < length now
 boards_there f old now v w n same is within = omega (arith, within, same, is.motes, is.boards_enough, length-map old f)
+
+pub read_endures : (a b : Device) → ReadStopped a b → Endures (beneath_of a) (beneath_of b)
+read_endures a b s = record { faults = s.halts.faults; cause = λ h. s.halts.cause }

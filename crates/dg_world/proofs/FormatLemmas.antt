@@ -3,7 +3,9 @@ use Rattle.std.proofs.Common.{◌≡◌, ◌≢◌, ℕ, ◌+◌, ◌<◌, ◌�
 use Rattle.std.specs.Prelude.{Some, Result, Err, slice_get}
 use Rattle.std.proofs.Math.ListN.{length-set}
 use Rattle.std.proofs.lemmas.Bool.{cases_eq}
-use Rattle.dg_nor.specs.Device.{Device}
+use Rattle.dg_nor.specs.Device.{Device, Endures, Ran}
+use Rattle.dg_nor.specs.Fuse.{beneath_of}
+use Rattle.dg_nor.proofs.DeviceLemmas.{Endures-same}
 use Rattle.dg_nor.specs.Reads.{ActStopped}
 use Rattle.dg_volume.specs.Store.{Store}
 use Rattle.dg_volume.specs.Stands.{Stands}
@@ -26,6 +28,7 @@ first_none ds =
       count = refl;
       others = λ m h. refl;
       counts = λ m a b here there. let e : a.faults ≡ b.faults = ap (λ (d : Device). d.faults) (same_some a b (sym here ∙ there)) in omega (arith, e);
+      endures = λ m a b here there. subst (λ (d : Device). Endures (beneath_of a) (beneath_of d)) (same_some a b (sym here ∙ there)) (Endures-same (beneath_of a));
     }
 
 pub formatted_none : (s : Store) (ds : List Device) → FormattedTo 0 s ds ds
@@ -46,37 +49,36 @@ is_now n now new d e used = ap (λ (ds : List Device). slice_get ds n) used.afte
 pub is_other : (n m : ℕ) (now new : List Device) (d e : Device) → Used n now new d e → m ≢ n → slice_get new m ≡ slice_get now m
 is_other n m now new d e used other = ap (λ (ds : List Device). slice_get ds m) used.after ∙ get_other now n m e other
 
-counts_more : (n m : ℕ) (old now new : List Device) (d e a b : Device) → FirstBoards n old now → Used n now new d e → d.faults ≤ e.faults
-    → slice_get old m ≡ Some a → slice_get new m ≡ Some b → a.faults ≤ b.faults
-counts_more n m old now new d e a b first used risen here there =
+endures_more : (n m : ℕ) (old now new : List Device) (d e a b : Device) → FirstBoards n old now → Used n now new d e → Endures (beneath_of d) (beneath_of e)
+    → slice_get old m ≡ Some a → slice_get new m ≡ Some b → Endures (beneath_of a) (beneath_of b)
+endures_more n m old now new d e a b first used kept here there =
     elim (cases_eq m n) [
       | inl same ↦
           let p : a ≡ d = same_some a d (sym here ∙ ap (slice_get old) same ∙ unused n old now new d e first used) in
           let q : b ≡ e = same_some b e (sym there ∙ ap (slice_get new) same ∙ is_now n now new d e used) in
-          let f : a.faults ≡ d.faults = ap (λ (x : Device). x.faults) p in
-          let g : b.faults ≡ e.faults = ap (λ (x : Device). x.faults) q in
-          omega (arith, f, g, risen)
-      | inr other ↦ first.counts m a b here (sym (is_other n m now new d e used other) ∙ there)
+          subst (λ (x : Device). Endures (beneath_of a) (beneath_of x)) (sym q) (subst (λ (x : Device). Endures (beneath_of x) (beneath_of e)) (sym p) kept)
+      | inr other ↦ first.endures m a b here (sym (is_other n m now new d e used other) ∙ there)
     ]
 
 -- one board more was used
-pub first_more : (n : ℕ) (old now new : List Device) (d e : Device) → FirstBoards n old now → Used n now new d e → d.faults ≤ e.faults → FirstBoards (n + 1) old new
-first_more n old now new d e first used risen =
+pub first_more : (n : ℕ) (old now new : List Device) (d e : Device) → FirstBoards n old now → Used n now new d e → Endures (beneath_of d) (beneath_of e) → FirstBoards (n + 1) old new
+first_more n old now new d e first used kept =
     record {
       count = ap length used.after ∙ length-set now n e ∙ first.count;
       others = λ m h. let other : m ≢ n = omega (arith, h) in is_other n m now new d e used other ∙ first.others m (omega (arith, h));
-      counts = λ m a b here there. counts_more n m old now new d e a b first used risen here there;
+      counts = λ m a b here there. (endures_more n m old now new d e a b first used kept here there).faults;
+      endures = λ m a b here there. endures_more n m old now new d e a b first used kept here there;
     }
 
 pub first_within : (n k : ℕ) (old new : List Device) → FirstBoards n old new → n ≤ k → FirstBoards k old new
-first_within n k old new first within = record { count = first.count; others = λ m h. first.others m (omega (arith, h, within)); counts = first.counts }
+first_within n k old new first within = record { count = first.count; others = λ m h. first.others m (omega (arith, h, within)); counts = first.counts; endures = first.endures }
 
 -- one board more was formatted
-pub formatted_more : (n : ℕ) (s : Store) (old now new : List Device) (d e : Device) → FormattedTo n s old now → Used n now new d e → d.faults ≤ e.faults → d.stopped ≡ false → Stands e.image s
+pub formatted_more : (n : ℕ) (s : Store) (old now new : List Device) (d e : Device) → FormattedTo n s old now → Used n now new d e → Endures (beneath_of d) (beneath_of e) → d.stopped ≡ false → Stands e.image s
     → FormattedTo (n + 1) s old new
-formatted_more n s old now new d e to used risen awake stands =
+formatted_more n s old now new d e to used kept awake stands =
     record {
-      boards = first_more n old now new d e to.boards used risen;
+      boards = first_more n old now new d e to.boards used kept;
       formatted = λ m x h here. elim (cases_eq m n) [
         | inl same ↦ subst (λ (y : Device). Stands y.image s) (same_some e x (sym (is_now n now new d e used) ∙ ap (slice_get new) (sym same) ∙ here)) stands
         | inr other ↦ to.formatted m x (omega (arith, h, other)) (sym (is_other n m now new d e used other) ∙ here)
@@ -104,3 +106,10 @@ pub board_of : (board : ℕ) (e : FormatStopped) (motes : ℕ) (old new : List D
 board_of board e motes old new is stops =
     let same : record { board = board } ≡ e = same_err _ _ is in
     subst (λ (x : FormatStopped). FormatStops x.board motes old new) same stops
+
+-- what is said of a board that ran, or that stopped
+pub ran_endures : {n : ℕ} (a b : Device) → Ran n a b → Endures (beneath_of a) (beneath_of b)
+ran_endures a b r = record { faults = r.faults; cause = λ h. inl (sym r.stopped ∙ h) }
+
+pub stopped_endures : (a b : Device) → ActStopped a b → Endures (beneath_of a) (beneath_of b)
+stopped_endures a b s = record { faults = s.faults; cause = λ h. s.cause }

@@ -7,6 +7,7 @@ use Rattle.std.proofs.lemmas.Option.{same_Some}
 use Rattle.std.proofs.lemmas.Bool.{both_ways}
 use Rattle.dg_nor.specs.Device.{Device, Endures}
 use Rattle.dg_nor.specs.Fuse.{beneath_of}
+use Rattle.dg_nor.proofs.DeviceLemmas.{Endures-same}
 use Rattle.dg_nor.specs.Trail.{last}
 use Rattle.dg_slot.specs.Pages.{program}
 use Rattle.dg_volume.specs.Store.{Store}
@@ -57,22 +58,26 @@ get_set_other (x ∷ xs) (suc i) (suc k) y other = get_set_other xs i k y (λ e.
 same_of : {A : Type 0} (o : Option A) (p q : A) → o ≡ Some p → o ≡ Some q → p ≡ q
 same_of o p q e f = same_Some p q (sym e ∙ f)
 
-pub one_board : (bs : List Device) (i : ℕ) (a b : Device) → i < length bs → slice_get bs i ≡ Some a → a.faults ≤ b.faults → OneBoard i bs (set bs i b)
-one_board bs i a b known here faults = record {
-  count = length-set bs i b;
-  others = λ k other. get_set_other bs i k b other;
-  counts = λ k p q old new.
-      ⊎_elim
-      (λ is.
-      let ep : p ≡ a = same_of (slice_get bs i) p a (sym (ap (slice_get bs) is) ∙ old) here in
-      let eq : q ≡ b = same_of (slice_get (set bs i b) i) q b (sym (ap (slice_get (set bs i b)) is) ∙ new) (get_set_same bs i b known) in
-      subst (λ (d : Device). p.faults ≤ d.faults) (sym eq) (subst (λ (d : Device). d.faults ≤ b.faults) (sym ep) faults))
-      (λ other.
-      let e : p ≡ q = same_of (slice_get bs k) p q old (sym (get_set_other bs i k b other) ∙ new) in
-      let h : p.faults ≤ p.faults = omega arith in
-      subst (λ (d : Device). p.faults ≤ d.faults) e h)
-      (is_or k i);
-}
+pub one_board : (bs : List Device) (i : ℕ) (a b : Device) → i < length bs → slice_get bs i ≡ Some a → Endures (beneath_of a) (beneath_of b) → OneBoard i bs (set bs i b)
+one_board bs i a b known here kept =
+    let all : (k : ℕ) (p q : Device) → slice_get bs k ≡ Some p → slice_get (set bs i b) k ≡ Some q → Endures (beneath_of p) (beneath_of q) =
+    λ k p q old new.
+    ⊎_elim
+    (λ is.
+    let ep : p ≡ a = same_of (slice_get bs i) p a (sym (ap (slice_get bs) is) ∙ old) here in
+    let eq : q ≡ b = same_of (slice_get (set bs i b) i) q b (sym (ap (slice_get (set bs i b)) is) ∙ new) (get_set_same bs i b known) in
+    subst (λ (d : Device). Endures (beneath_of p) (beneath_of d)) (sym eq) (subst (λ (d : Device). Endures (beneath_of d) (beneath_of b)) (sym ep) kept))
+    (λ other.
+    let e : p ≡ q = same_of (slice_get bs k) p q old (sym (get_set_other bs i k b other) ∙ new) in
+    subst (λ (d : Device). Endures (beneath_of p) (beneath_of d)) e (Endures-same (beneath_of p)))
+    (is_or k i)
+    in
+    record {
+      count = length-set bs i b;
+      others = λ k other. get_set_other bs i k b other;
+      counts = λ k p q old new. (all k p q old new).faults;
+      endures = all;
+    }
 
 -- ---- the world then
 
@@ -133,7 +138,7 @@ applied v u bs w x i runs a b start end is at known few short moves here endures
       step = s.step;
       stood = world_then v u bs w x i runs b start end is at known few short moves s;
       told_now = s.told_now;
-      boards = subst (λ (j : ℕ). OneBoard j bs (set bs i b)) at (one_board bs i a b wide here endures.faults);
+      boards = subst (λ (j : ℕ). OneBoard j bs (set bs i b)) at (one_board bs i a b wide here endures);
       memory = λ d r e goes whole some there.
           let eb : e ≡ b = same_of (slice_get (set bs i b) i) e b (ap (slice_get (set bs i b)) at ∙ there) (get_set_same bs i b wide) in
           subst (λ (y : Device). program y.image (length r.pages) ≡ r.pages) (sym eb) (s.memory d r goes whole some);
@@ -153,7 +158,7 @@ flashed v bs w x i a b is at known here endures s =
       store = s.leaves.store;
       stands = s.leaves.stands_for;
       leaves = (s.done, s.leaves);
-      boards = one_board bs i a b wide here endures.faults;
+      boards = one_board bs i a b wide here endures;
     }
 
 pub lacked : (v : World) (bs : List Device) (w : RuleWorld) (x : Step) (i : ℕ) (a b : Device) → IsWorld v bs w → i ≡ mote_of x.event → i < length w.sites → slice_get bs i ≡ Some a → Endures (beneath_of a) (beneath_of b)
@@ -181,7 +186,7 @@ lacked v bs w x i a b is at known here endures s =
           let P : Store → Type 0 = λ t. Stands d.image t in
           subst P (sym ey) before.stands)
           (is_or k i);
-      boards = subst (λ (j : ℕ). OneBoard j bs (set bs i b)) at (one_board bs i a b wide here endures.faults);
+      boards = subst (λ (j : ℕ). OneBoard j bs (set bs i b)) at (one_board bs i a b wide here endures);
     }
 
 pub got_or : {N : Type 0} (f : N → Device) (xs : List N) (i : ℕ) (d : N) → i < length xs → slice_get (map f xs) i ≡ Some (f (get_or xs i d))

@@ -1,7 +1,8 @@
 -- What a step does to a world and its boards.
 use Rattle.std.specs.Prelude.{◌≡◌, ◌≢◌, ◌⊎◌, ℕ, ◌<◌, ◌≤◌, true, false, List, ◌++◌, length, slice_get, Some, Result, Ok, Err}
 use Rattle.dg_words.specs.Counts.{Rose}
-use Rattle.dg_nor.specs.Device.{Device}
+use Rattle.dg_nor.specs.Device.{Device, Endures}
+use Rattle.dg_nor.specs.Fuse.{beneath_of}
 use Rattle.dg_nor.specs.Trail.{MayLeave}
 use Rattle.dg_slot.specs.Pages.{program}
 use Rattle.dg_volume.specs.Store.{Store, IsNear}
@@ -20,11 +21,12 @@ use Rattle.dg_world.specs.declared.world.World.{World}
 use Rattle.dg_world.specs.Turns.{trail_of}
 use Rattle.dg_world.specs.Worlds.{IsWorld}
 
--- no board but this one was used, and no count fell
+-- No board but this one was used. No count fell, and a board is stopped only where it was, or where its count rose.
 pub record OneBoard (board : ℕ) (old new : List Device) : Type 0 where
   pub count : length new ≡ length old
   pub others : (m : ℕ) → m ≢ board → slice_get new m ≡ slice_get old m
   pub counts : (m : ℕ) (a b : Device) → slice_get old m ≡ Some a → slice_get new m ≡ Some b → a.faults ≤ b.faults
+  pub endures : (m : ℕ) (a b : Device) → slice_get old m ≡ Some a → slice_get new m ≡ Some b → Endures (beneath_of a) (beneath_of b)
 
 -- a step was applied: what the rules allow. Where something was started, its pages stand in program memory
 pub record Applied (w : RuleWorld) (x : Step) (v : World) (old new : List Device) (told_before told : List Report) : Type 0 where
@@ -57,11 +59,12 @@ pub record Ended (w : RuleWorld) (x : Step) (old new : List Device) : Type 0 whe
   pub stood : (m : ℕ) (d : Device) → m < length world.sites → slice_get new m ≡ Some d → Stands d.image (store_at world m)
   pub boards : OneBoard (mote_of x.event) old new
 
--- The boards were only read. No count fell
+-- The boards were only read. No count fell, and a board is stopped only where it was, or where its count rose.
 pub record SameBoards (old new : List Device) : Type 0 where
   pub count : length new ≡ length old
   pub images : (m : ℕ) (a b : Device) → slice_get old m ≡ Some a → slice_get new m ≡ Some b → b.image ≡ a.image
   pub counts : (m : ℕ) (a b : Device) → slice_get old m ≡ Some a → slice_get new m ≡ Some b → a.faults ≤ b.faults
+  pub endures : (m : ℕ) (a b : Device) → slice_get old m ≡ Some a → slice_get new m ≡ Some b → Endures (beneath_of a) (beneath_of b)
 
 -- A board stopped in such a reading.
 pub record ReadFlash (board : ℕ) (old new : List Device) : Type 0 where

@@ -1,5 +1,5 @@
 //! The last state of a world, read from its boards.
-ghost use Rattle.std.specs.Prelude.{◌≡◌, ◌⊎◌, ◌+◌, ◌-◌, ◌*◌, ◌≤◌, ◌++◌, ℕ, List, map, length, vec_len, Err, OnOk, OnErr};
+ghost use Rattle.std.specs.Prelude.{◌≡◌, ◌⊎◌, ◌+◌, ◌-◌, ◌*◌, ◌<◌, ◌≤◌, ◌++◌, ℕ, List, map, length, slice_get, vec_len, Err, OnOk, OnErr};
 ghost use Rattle.std.specs.List.{flat_map, range_with_len};
 ghost use Rattle.std.specs.Vec.{vec_capacity};
 ghost use Rattle.dg_nor.specs.Reads.{Looked, ReadStopped};
@@ -32,9 +32,13 @@ impl World {
         ensures finished { OnOk result ((w : RuleWorld) → IsWorld self.now (map N.device boards.old.items) w → out.new.items ≡ out.old.items ++ final_lines w) }
         ensures untold { OnErr result (out.new.items ≡ out.old.items) }
         ensures boards { SameBoards (map N.device boards.old.items) (map N.device boards.new.items) }
+        // only the boards of motes are read
+        ensures others { (w : RuleWorld) → IsWorld self.now (map N.device boards.old.items) w → (m : ℕ) → length w.sites ≤ m
+            → slice_get (map N.device boards.new.items) m ≡ slice_get (map N.device boards.old.items) m }
         // whatever comes of it, the boards stand for the world as before
         ensures stands { (w : RuleWorld) → IsWorld self.now (map N.device boards.old.items) w → IsWorld self.now (map N.device boards.new.items) w }
         ensures flash { (board : ℕ) → result ≡ Err (WorldFault.Flash board) → ReadFlash board (map N.device boards.old.items) (map N.device boards.new.items) }
+        ensures known_board { (board : ℕ) → result ≡ Err (WorldFault.Flash board) → (w : RuleWorld) → IsWorld self.now (map N.device boards.old.items) w → board < length w.sites }
         ensures no_other { (result ≡ Err WorldFault.TooMany) ⊎ ((result ≡ Err WorldFault.NotAVolume) ⊎ (result ≡ Err WorldFault.NoImage)) → ⊥ }
     {
         let told = out.len();
@@ -66,8 +70,12 @@ impl World {
             → out.new.items ≡ out.old.items ++ flat_map (λ m. site_lines m (site w m)) (range_with_len 0 (length w.sites))) }
         ensures begun { (told : List Report) × (out.new.items ≡ out.old.items ++ told) }
         ensures boards { SameBoards (map N.device boards.old) (map N.device boards.new) }
+        // only the boards of motes are read
+        ensures others { (w : RuleWorld) → IsWorld self.now (map N.device boards.old) w → (m : ℕ) → length w.sites ≤ m
+            → slice_get (map N.device boards.new) m ≡ slice_get (map N.device boards.old) m }
         ensures stands { (w : RuleWorld) → IsWorld self.now (map N.device boards.old) w → IsWorld self.now (map N.device boards.new) w }
         ensures flash { (e : BoardStopped) → result ≡ Err e → ReadFlash e.board (map N.device boards.old) (map N.device boards.new) }
+        ensures known_board { (e : BoardStopped) → result ≡ Err e → (w : RuleWorld) → IsWorld self.now (map N.device boards.old) w → e.board < length w.sites }
     {
         for mote in 0..self.motes.len() {
             let runs = self.motes[mote];

@@ -1,7 +1,8 @@
 //! Formatting: the boards of motes become volumes that keep golden alone.
 ghost use Rattle.std.specs.Prelude.{◌≡◌, ◌<◌, ◌≤◌, ℕ, false, map, length, slice_get, Some, Err, OnOk, OnErr, IsTrue};
 ghost use Rattle.dg_base.specs.Texts.{spells_name};
-ghost use Rattle.dg_nor.specs.Device.{Device};
+ghost use Rattle.dg_nor.specs.Device.{Device, Endures};
+ghost use Rattle.dg_nor.specs.Fuse.{beneath_of};
 ghost use Rattle.dg_nor.specs.Reads.{ActStopped};
 ghost use Rattle.dg_volume.specs.Layout.{most_bytes};
 ghost use Rattle.dg_volume.specs.Sizes.{most_room};
@@ -55,7 +56,8 @@ fn format_board<N: Nor>(nor: &mut N, name: &[u8], golden: &[u8], used: u32) -> R
     ensures formatted { OnOk result (Stands (N.device nor.new).image (fresh name.now golden.now used)) }
     ensures awake { OnOk result ((N.device nor.old).stopped ≡ false) }
     ensures stopped { OnErr result (ActStopped (N.device nor.old) (N.device nor.new)) }
-    ensures counts { (N.device nor.old).faults ≤ (N.device nor.new).faults }
+    // it is stopped only where it was, or where its count rose
+    ensures endures { Endures (beneath_of (N.device nor.old)) (beneath_of (N.device nor.new)) }
 {
     match Volume::format(nor, golden, name, used) {
         Ok(()) => Ok(()),

@@ -8,7 +8,7 @@ returns-in-Err-clause-others g c =
     let i = c.loop-board.invariant in
     let there : c.from.result < length c.loop-board.boards = omega (arith, c.from.ensures, c.loop-board-test.true, c.requires.boards, within_boards g.N.Nor.device c.args.boards.now c.loop-board.boards i.to.boards.count) in
     let used = used_there g.N.Nor.device c.loop-board.boards c.loop-board.board c.from.result c.index-boards-from.result c.format_board.new.nor c.from.ensures there in
-    first_within _ _ _ _ (first_more _ _ _ _ _ _ i.to.boards used c.format_board.ensures.counts) (omega (arith, c.loop-board-test.true))
+    first_within _ _ _ _ (first_more _ _ _ _ _ _ i.to.boards used c.format_board.ensures.endures) (omega (arith, c.loop-board-test.true))
 
 pub returns-in-Err-clause-stopped : goal.returns-in-Err-clause-stopped
 returns-in-Err-clause-stopped g c = λ e is.
@@ -23,6 +23,6 @@ loop-board-preserved g c =
     let there : c.from.result < length c.loop-board.boards = omega (arith, c.from.ensures, c.loop-board-test.true, c.requires.boards, within_boards g.N.Nor.device c.args.boards.now c.loop-board.boards i.to.boards.count) in
     let used = used_there g.N.Nor.device c.loop-board.boards c.loop-board.board c.from.result c.index-boards-from.result c.format_board.new.nor c.from.ensures there in
     record {
-      to = formatted_more _ _ _ _ _ _ _ i.to used c.format_board.ensures.counts c.in-Ok.ensures.awake c.in-Ok.ensures.formatted;
+      to = formatted_more _ _ _ _ _ _ _ i.to used c.format_board.ensures.endures c.in-Ok.ensures.awake c.in-Ok.ensures.formatted;
       within = omega (arith, c.loop-board-test.true);
     }

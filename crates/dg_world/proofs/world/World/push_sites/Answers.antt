@@ -2,7 +2,8 @@ use Rattle.std.proofs.Common.{◌<◌, ◌++◌, refl, sym, ◌∙◌, length, a
 use Rattle.dg_rules.specs.Changes.{site_lines}
 use Rattle.dg_rules.specs.World.{site}
 use Rattle.dg_world.proofs.BoardLemmas.{used_at}
-use Rattle.dg_world.proofs.FinishLemmas.{boards_there, sites_more, read_more, same_boards, read_flash, still_world, next_site, is_volume, flash_of, read_at}
+use Rattle.dg_world.proofs.FormatLemmas.{ran_endures}
+use Rattle.dg_world.proofs.FinishLemmas.{read_endures, boards_there, sites_more, read_more, same_boards, read_flash, still_world, next_site, is_volume, flash_of, read_at}
 use Rattle.dg_world.proofs.ShownLemmas.{told_then}
 use Rattle.dg_world.proofs.world.World.push_sites.Goals as goal
 
@@ -22,7 +23,7 @@ returns-in-Err-clause-boards g c =
     let there : c.loop-mote.mote < length c.loop-mote.boards = boards_there g.N.Nor.device c.args.boards.now c.loop-mote.boards c.args.self.now c.requires.world.0 c.loop-mote.mote c.loop-mote.auto.boards c.requires.world.1 within in
     let used = used_at g.N.Nor.device c.loop-mote.boards c.loop-mote.mote c.index-boards-mote.result c.push_site.new.nor there in
     let stopped = c.in-Err.ensures.stopped in
-    same_boards _ _ _ (read_more _ _ _ _ _ _ i.read used stopped.halts.faults stopped.same_image)
+    same_boards _ _ _ (read_more _ _ _ _ _ _ i.read used (read_endures _ _ stopped) stopped.same_image)
 
 pub returns-in-Err-clause-stands : goal.returns-in-Err-clause-stands
 returns-in-Err-clause-stands g c = λ w is. still_world _ w _ _ (returns-in-Err-clause-boards g c) is
@@ -49,7 +50,7 @@ loop-mote-preserved g c =
           (c.in-Ok.ensures.told (site w c.loop-mote.mote) (next_site _ w _ _ _ _ _ is i.read used.before within at))
           (sym (sites_more (λ m. site_lines m (site w m)) c.loop-mote.mote));
       begun = (i.begun.0 ++ c.push_site.ensures.begun.0, told_then c.args.out.now.items c.loop-mote.out.items c.push_site.new.out.items _ _ _ i.begun.1 c.push_site.ensures.begun.1 refl);
-      read = read_more _ _ _ _ _ _ i.read used looked.ran.faults looked.same_image;
+      read = read_more _ _ _ _ _ _ i.read used (ran_endures _ _ looked.ran) looked.same_image;
       room = c.push_site.ensures.room ∙ i.room;
       few = omega (arith, i.few, c.push_site.ensures.few);
       within = omega (arith, within);
@@ -57,3 +58,13 @@ loop-mote-preserved g c =
 
 pub returns-clause-stands : goal.returns-clause-stands
 returns-clause-stands g c = λ w is. still_world _ w _ _ (same_boards _ _ _ c.loop-mote.invariant.read) is
+
+pub returns-in-Err-clause-others : goal.returns-in-Err-clause-others
+returns-in-Err-clause-others g c = λ w is m h.
+    let i = c.loop-mote.invariant in
+    let within : c.loop-mote.mote < length c.args.self.now.motes.items = omega (arith, c.loop-mote-test.true, c.len-mote-end.ensures) in
+    let there : c.loop-mote.mote < length c.loop-mote.boards = boards_there g.N.Nor.device c.args.boards.now c.loop-mote.boards c.args.self.now c.requires.world.0 c.loop-mote.mote c.loop-mote.auto.boards c.requires.world.1 within in
+    let used = used_at g.N.Nor.device c.loop-mote.boards c.loop-mote.mote c.index-boards-mote.result c.push_site.new.nor there in
+    let stopped = c.in-Err.ensures.stopped in
+    let more = read_more _ _ _ _ _ _ i.read used (read_endures _ _ stopped) stopped.same_image in
+    more.first.others m (omega (arith, h, within, is.motes))

@@ -1,0 +1,295 @@
+-- What is known of a replay behind each kind of line.
+use Rattle.std.proofs.Common.{◌≡◌, ℕ, ◌+◌, ◌<◌, ◌≤◌, inl, inr, Bool, true, false, if◌then◌else◌, List, [], ◌∷◌, length, replicate, get_or, refl, append-nil, ap, sym, ◌∙◌, subst, arith}
+use Rattle.std.specs.Prelude.{Option, Some, None, Result, Ok, Err, IfSome, nat_lt, slice_get, slice_index_or}
+use Rattle.std.proofs.lemmas.Bool.Decides.{nat_tests}
+use Rattle.std.proofs.lemmas.List.{length-map, length-replicate, get_or-replicate}
+use Rattle.dg_nor.specs.Device.{Device, Endures}
+use Rattle.dg_nor.specs.Fuse.{beneath_of}
+use Rattle.dg_object.specs.Object.{Row}
+use Rattle.dg_volume.specs.Store.{Store, fresh, golden_row}
+use Rattle.dg_volume.specs.Stands.{Stands}
+use Rattle.dg_script.specs.Script.{motes_at, FitsCut, FitsEvent, declared_row, AllowedAt}
+use Rattle.dg_script.specs.declared.events.Event.{Event}
+use Rattle.dg_script.specs.declared.events.Event.TheVariants.{Tick, Reset, Inject, Order}
+use Rattle.dg_script.specs.declared.events.Cut.{Cut as CutOfPower}
+use Rattle.dg_script.specs.declared.line.Golden.{Golden as GoldenImage}
+use Rattle.dg_script.specs.declared.line.Image.{Image as DeclaredImage}
+use Rattle.dg_script.specs.declared.line.Place.{Place}
+use Rattle.dg_script.specs.declared.line.Place.TheVariants.{First, Second, Later, AfterCut}
+use Rattle.dg_script.specs.declared.line.Line.{Line}
+use Rattle.dg_script.specs.declared.line.Line.TheVariants.{Nothing, Motes, Golden, Image, Cut, Happens}
+use Rattle.dg_script.specs.declared.report.Report.{Report}
+use Rattle.dg_rules.specs.World.{World, Site, first_world, off_site, no_site}
+use Rattle.dg_rules.specs.Events.{mote_of}
+use Rattle.dg_rules.specs.Steps.{EndsRun}
+use Rattle.dg_rules.specs.Runs.{Item}
+use Rattle.dg_rules.specs.Runs as runs
+use Rattle.dg_world.specs.Worlds.{IsWorld}
+use Rattle.dg_world.specs.Applied.{OneBoard, FlashAt}
+use Rattle.dg_world.specs.Formatted.{FirstBoards, FormatStops}
+use Rattle.dg_world.specs.declared.world.World.{World as KeptWorld}
+use Rattle.dg_world.specs.declared.format.FormatStopped.{FormatStopped}
+use Rattle.dg_cli.specs.Items.{beginning_of, golden_world}
+use Rattle.dg_cli.specs.Boards.{WorldStands, StoppedIn}
+use Rattle.dg_cli.specs.Ending.{events_in}
+use Rattle.dg_cli.specs.Playing.{is_behind_golden, Counted, Seated, Stood, PlayedLine, DeclaredNow, DeclaredAs, HappenedAs, PlayedAs}
+use Rattle.dg_cli.specs.declared.player.Player.{Player}
+use Rattle.dg_cli.specs.declared.stop.Stop.{Stop}
+use Rattle.dg_cli.specs.declared.stop.Stop.TheVariants.{Memory, BadInput, WriteFault, FlashFault, TooMany, NoBoard, NoImage}
+use Rattle.dg_cli.proofs.PlayLemmas.{stood_next, silent_runs, one_runs, golden_runs, declared_same, step_counts}
+use Rattle.dg_cli.proofs.BoardLemmas.{boards_through, caused_through, there}
+
+some_is : {A : Type 0} (x y : A) → Some x ≡ Some y → x ≡ y
+some_is x y e = cc
+
+false_not : {A : Type 0} (b : Bool) → b ≡ true → b ≡ false → A
+false_not b holds fails = absurd (let e : true ≡ false = sym holds ∙ fails in cc)
+
+-- ---- lines that say nothing to the motes
+
+pub nothing_played : (p : Player) (done : List Line) (w : Option World) (told : List Report) (initial now : List Device) → Stood p done w initial now → PlayedLine p done w Nothing told told initial now
+nothing_played p done w told initial now s =
+    record {
+      world = w;
+      reports = [];
+      told_now = sym (append-nil told);
+      runs = silent_runs done Nothing w refl refl refl;
+      stood = stood_next p p done Nothing w initial now s.seats s.cut s.cut_fits s.motes s.world s.boards;
+      boards_enough = refl;
+    }
+
+not_below : (n m : ℕ) → m ≤ n → nat_lt n m ≡ false
+not_below n m h = grind (arith, nat_tests)
+
+pub motes_played : (p : Player) (done : List Line) (w : Option World) (motes : ℕ) (told : List Report) (initial now : List Device) → p.place ≡ First → Counted motes (length now) → Stood p done w initial now
+    → PlayedLine (record p { place = Second motes }) done w (Motes motes) told told initial now
+motes_played p done None motes told initial now first counted s =
+    record {
+      world = None;
+      reports = [];
+      told_now = sym (append-nil told);
+      runs = silent_runs done (Motes motes) None refl refl refl;
+      stood = stood_next p (record p { place = Second motes }) done (Motes motes) None initial now counted s.cut s.cut_fits refl (s.world.0, refl) s.boards;
+      boards_enough = ap (λ (b : Bool). if b then Some motes else None) (not_below (length initial) motes (subst (λ (ds : List Device). motes ≤ length ds) s.boards counted.2));
+    }
+motes_played p done (Some w) motes told initial now first counted s = false_not (is_behind_golden p.place) s.world.4 (ap is_behind_golden first)
+
+later_seats : (place : Place) (boards : ℕ) → place ≡ Later (motes_at place) → Seated place boards → Counted (motes_at place) boards
+later_seats place boards is seats = subst (λ (at : Place). Seated at boards) is seats
+
+pub cut_played : (p q : Player) (done : List Line) (w : Option World) (cut : CutOfPower) (told : List Report) (initial now : List Device) → p.place ≡ Later (motes_at p.place) → FitsCut cut
+    → q.place ≡ AfterCut (motes_at p.place) → q.cut ≡ Some cut → q.world ≡ p.world → Stood p done w initial now → PlayedLine q done w (Cut cut) told told initial now
+cut_played p q done None cut told initial now later fits place has world s = false_not (is_behind_golden p.place) (ap is_behind_golden later) s.world.1
+cut_played p q done (Some w) cut told initial now later fits place has world s =
+    let k = s.world in
+    record {
+      world = Some w;
+      reports = [];
+      told_now = sym (append-nil told);
+      runs = silent_runs done (Cut cut) (Some w) refl refl refl;
+      stood = stood_next p q done (Cut cut) (Some w) initial now
+          (subst (λ (at : Place). Seated at (length now)) (sym place) (later_seats p.place (length now) later s.seats))
+          has
+          (subst (λ (o : Option CutOfPower). IfSome o FitsCut) (sym has) fits)
+          (ap motes_at place ∙ s.motes)
+          (k.0, world ∙ k.1, k.2, k.3 ∙ sym (ap motes_at place), ap is_behind_golden place)
+          s.boards;
+      boards_enough = refl;
+    }
+
+-- ---- golden
+
+pub golden_played : (p q : Player) (done : List Line) (w : Option World) (motes : ℕ) (golden : GoldenImage) (v : KeptWorld) (told : List Report) (initial old new : List Device)
+    → p.place ≡ Second motes → Counted motes (length old) → q.place ≡ Later motes → q.cut ≡ p.cut → q.world ≡ Some v
+    → ((m : ℕ) (d : Device) → m < motes → slice_get new m ≡ Some d → Stands d.image (fresh golden.name golden.content golden.used))
+    → ((m : ℕ) (d : Device) → m < motes → slice_get old m ≡ Some d → d.stopped ≡ false) → FirstBoards motes old new
+    → ((boards : List Device) (stores : List Store) (table : List Row) → length stores ≡ motes → motes ≤ length boards
+    → ((m : ℕ) (d : Device) → m < motes → slice_get boards m ≡ Some d → Stands d.image (slice_index_or stores m no_site.store)) → IsWorld v boards (first_world table stores))
+    → Stood p done w initial old → PlayedLine q done w (Golden golden) told told initial new
+golden_played p q done (Some w) motes golden v told initial old new second counted place cut world formatted awake others begins s = false_not (is_behind_golden p.place) s.world.4 (ap is_behind_golden second)
+golden_played p q done None motes golden v told initial old new second counted place cut world formatted awake others begins s =
+    let first : old ≡ initial = s.boards in
+    let chip : Store = fresh golden.name golden.content golden.used in
+    let stores : List Store = replicate motes chip in
+    let z : World = golden_world motes golden in
+    let enough : motes ≤ length new = omega (arith, counted.2, others.count) in
+    let seated : Counted motes (length new) = (counted.0, counted.1, enough) in
+    let stores_there : (m : ℕ) (d : Device) → m < motes → slice_get new m ≡ Some d → Stands d.image (slice_index_or stores m no_site.store) =
+    λ m d within is. subst (λ (x : Store). Stands d.image x) (sym (get_or-replicate motes m chip no_site.store within)) (formatted m d within is) in
+    let is_world : IsWorld v new z = begins new stores (golden_row golden.name golden.content ∷ []) (length-replicate motes chip) enough stores_there in
+    let many : length z.sites ≡ motes = length-map stores off_site ∙ length-replicate motes chip in
+    let here : motes ≡ (beginning_of done).motes = sym (ap motes_at second) ∙ s.motes in
+    record {
+      world = Some z;
+      reports = [];
+      told_now = sym (append-nil told);
+      runs = golden_runs done golden motes here;
+      stood = stood_next p q done (Golden golden) (Some z) initial new
+          (subst (λ (at : Place). Seated at (length new)) (sym place) seated)
+          (cut ∙ s.cut)
+          (subst (λ (o : Option CutOfPower). IfSome o FitsCut) (sym cut) s.cut_fits)
+          (ap motes_at place ∙ here)
+          (v, world, is_world, many ∙ sym (ap motes_at place), ap is_behind_golden place)
+          (record {
+            all = record { count = others.count ∙ ap (λ (ds : List Device). length ds) first; endures = subst (λ (ds : List Device). (m : ℕ) (a b : Device) → slice_get ds m ≡ Some a → slice_get new m ≡ Some b → Endures (beneath_of a) (beneath_of b)) first others.endures };
+            stands = λ m d within is. (is_world.sites m d within is).stands;
+            came = λ m d within is. awake m d (omega (arith, many, within)) (ap (λ (ds : List Device). slice_get ds m) first ∙ is);
+            others = λ m past. others.others m (omega (arith, many, past)) ∙ ap (λ (ds : List Device). slice_get ds m) first;
+          });
+      boards_enough = refl;
+    }
+
+-- formatting stopped
+pub golden_stopped : (p : Player) (done : List Line) (w : Option World) (motes : ℕ) (golden : GoldenImage) (e : FormatStopped) (initial old new : List Device) → p.place ≡ Second motes
+    → FirstBoards motes old new → FormatStops e.board motes old new → Stood p done w initial old → Unit {0} × StoppedIn (Golden golden ∷ []) w initial new
+golden_stopped p done (Some w) motes golden e initial old new second others stops s = false_not (is_behind_golden p.place) s.world.4 (ap is_behind_golden second)
+golden_stopped p done None motes golden e initial old new second others stops s =
+    let first : old ≡ initial = s.boards in (
+      tt,
+      record {
+        stopped = record {
+          board = e.board;
+          before = stops.before;
+          after = stops.after;
+          was = ap (λ (ds : List Device). slice_get ds e.board) (sym first) ∙ stops.was;
+          is = stops.is;
+          cause = stops.cause;
+        };
+        count = others.count ∙ ap (λ (ds : List Device). length ds) first;
+        there = tt;
+      },
+    )
+
+-- ---- images
+
+pub image_played : (r : Result (Unit {0}) Stop) (p q : Player) (done : List Line) (w : Option World) (image : DeclaredImage) (v v2 : KeptWorld) (told_before told : List Report) (initial now : List Device)
+    → p.place ≡ Later (motes_at p.place) → p.world ≡ Some v → q.place ≡ p.place → q.cut ≡ p.cut → q.world ≡ Some v2
+    → DeclaredAs r v v2 image told_before told → Stood p done w initial now → PlayedAs r q done w (Image image) told_before told initial now now
+image_played r p q done None image v v2 told_before told initial now later has place cut world declared s = false_not (is_behind_golden p.place) (ap is_behind_golden later) s.world.1
+image_played (Ok u) p q done (Some w) image v v2 told_before told initial now later has place cut world declared s =
+    let k = s.world in
+    let kept : IsWorld v now w = subst (λ (x : KeptWorld). IsWorld x now w) (some_is k.0 v (sym k.1 ∙ has)) k.2 in
+    let d : DeclaredNow v v2 image told_before told now w = declared now w kept in
+    let same = declared_same w d.world (declared_row image) d.reports d.step in
+    let none : d.world.events ≡ w.events + events_in (Image image ∷ []) = omega (arith, same.events) in
+    let b = s.boards in
+    record {
+      world = Some d.world;
+      reports = d.reports;
+      told_now = d.told_now;
+      runs = one_runs done (Image image) w d.world (runs.Declares (declared_row image)) d.reports refl refl d.step none;
+      stood = stood_next p q done (Image image) (Some d.world) initial now
+          (subst (λ (at : Place). Seated at (length now)) (sym place) s.seats)
+          (cut ∙ s.cut)
+          (subst (λ (o : Option CutOfPower). IfSome o FitsCut) (sym cut) s.cut_fits)
+          (ap motes_at place ∙ s.motes)
+          (v2, world, d.kept, ap (λ (xs : List Site). length xs) same.sites ∙ k.3 ∙ sym (ap motes_at place), ap is_behind_golden place ∙ k.4)
+          (record {
+            all = b.all;
+            stands = λ m x within is. (d.kept.sites m x within is).stands;
+            came = λ m x within is. b.came m x (omega (arith, within, ap (λ (xs : List Site). length xs) same.sites)) is;
+            others = λ m past. b.others m (omega (arith, past, ap (λ (xs : List Site). length xs) same.sites));
+          });
+      boards_enough = refl;
+    }
+image_played (Err Memory) p q done (Some w) image v v2 told_before told initial now later has place cut world declared s = refl
+image_played (Err (NoBoard motes boards)) p q done (Some w) image v v2 told_before told initial now later has place cut world declared s = absurd declared
+image_played (Err FlashFault) p q done (Some w) image v v2 told_before told initial now later has place cut world declared s = absurd declared
+image_played (Err TooMany) p q done (Some w) image v v2 told_before told initial now later has place cut world declared s = absurd declared
+image_played (Err NoImage) p q done (Some w) image v v2 told_before told initial now later has place cut world declared s = absurd declared
+image_played (Err (BadInput n)) p q done (Some w) image v v2 told_before told initial now later has place cut world declared s = absurd declared
+image_played (Err WriteFault) p q done (Some w) image v v2 told_before told initial now later has place cut world declared s = absurd declared
+
+-- ---- events
+
+event_place : (place : Place) (event : Event) → AllowedAt place (Happens event) → is_behind_golden place ≡ true
+event_place place event (inl is) = ap is_behind_golden is
+event_place place event (inr is) = ap is_behind_golden is
+
+event_seats : (place : Place) (event : Event) (boards : ℕ) → AllowedAt place (Happens event) → Seated place boards → Counted (motes_at place) boards
+event_seats place event boards (inl is) seats = subst (λ (at : Place). Seated at boards) is seats
+event_seats place event boards (inr is) seats = subst (λ (at : Place). Seated at boards) is seats
+
+event_mote : (event : Event) (motes : ℕ) → FitsEvent motes event → mote_of event < motes
+event_mote (Tick mote dt word) motes fits = fits
+event_mote (Reset mote dt word) motes fits = fits
+event_mote (Inject mote image version dt word) motes fits = fits.0
+event_mote (Order mote number image version dt word) motes fits = fits.0
+
+other_than : (m n k : ℕ) → n < k → k ≤ m → m ≡ n → ⊥
+other_than m n k low high e = omega arith
+
+stands_next : (u z : World) (v2 : KeptWorld) (mote : ℕ) (initial old new : List Device) → mote < length u.sites → length z.sites ≡ length u.sites → IsWorld v2 new z → OneBoard mote old new → WorldStands u initial old → WorldStands z initial new
+stands_next u z v2 mote initial old new within count kept one b =
+    record {
+      all = boards_through initial old new b.all one.count one.endures;
+      stands = λ m x inside is. (kept.sites m x inside is).stands;
+      came = λ m x inside is. b.came m x (omega (arith, inside, count)) is;
+      others = λ m past.
+          let far : length u.sites ≤ m = omega (arith, past, count) in
+          one.others m (other_than m mote (length u.sites) within far) ∙ b.others m far;
+    }
+
+flash_next : (u : World) (event : Event) (cut : Option CutOfPower) (board : ℕ) (initial old new : List Device) → FlashAt u (record { event = event; cut = cut }) board old new → WorldStands u initial old → StoppedIn (Happens event ∷ []) (Some u) initial new
+flash_next u event cut board initial old new f b =
+    let was : slice_get initial board ≡ Some (get_or initial board f.before) = there old initial board f.before (sym b.all.count) f.was in
+    record {
+      stopped = record {
+        board = board;
+        before = get_or initial board f.before;
+        after = f.after;
+        was = was;
+        is = f.is;
+        cause = caused_through (beneath_of (get_or initial board f.before)) (beneath_of f.before) (beneath_of f.after) (b.all.endures board _ f.before was f.was) (f.boards.counts board f.before f.after f.was f.is) f.cause;
+      };
+      count = f.boards.count ∙ b.all.count;
+      there = (f.at, f.leaves);
+    }
+
+pub event_played : (r : Result (Unit {0}) Stop) (p q : Player) (done : List Line) (w : Option World) (event : Event) (v v2 : KeptWorld) (told_before told : List Report) (initial old new : List Device)
+    → AllowedAt p.place (Happens event) → FitsEvent (motes_at p.place) event → p.world ≡ Some v → q.place ≡ Later (motes_at p.place) → q.cut ≡ None → q.world ≡ Some v2
+    → ((u : World) → IsWorld v old u → HappenedAs r u (record { event = event; cut = p.cut }) v2 old new told_before told) → Stood p done w initial old
+    → PlayedAs r q done w (Happens event) told_before told initial old new
+event_played r p q done None event v v2 told_before told initial old new allowed fits has place cut world happened s = false_not (is_behind_golden p.place) (event_place p.place event allowed) s.world.1
+event_played r p q done (Some w) event v v2 told_before told initial old new allowed fits has place cut world happened s =
+    by_result r (happened w kept)
+  where
+    kept : IsWorld v old w
+    kept = subst (λ (x : KeptWorld). IsWorld x old w) (some_is s.world.0 v (sym s.world.1 ∙ has)) s.world.2
+
+    by_result : (r : Result (Unit {0}) Stop) → HappenedAs r w (record { event = event; cut = p.cut }) v2 old new told_before told → PlayedAs r q done (Some w) (Happens event) told_before told initial old new
+    by_result (Ok u) a =
+        let counts = step_counts w a.world (record { event = event; cut = p.cut }) a.reports a.step in
+        let many : length a.world.sites ≡ motes_at p.place = counts.sites ∙ s.world.3 in
+        let within : mote_of event < length w.sites = subst (λ (n : ℕ). mote_of event < n) (sym s.world.3) (event_mote event (motes_at p.place) fits) in
+        let seated = event_seats p.place event (length new) allowed (subst (λ (n : ℕ). Seated p.place n) (sym a.boards.count) s.seats) in
+        record {
+          world = Some a.world;
+          reports = a.reports;
+          told_now = a.told_now;
+          runs = one_runs done (Happens event) w a.world (runs.Happens (record { event = event; cut = p.cut })) a.reports
+              (ap (λ (o : Option CutOfPower). runs.Happens (record { event = event; cut = o }) ∷ []) s.cut) refl a.step counts.events;
+          stood = stood_next p q done (Happens event) (Some a.world) initial new
+              (subst (λ (at : Place). Seated at (length new)) (sym place) seated)
+              cut
+              (subst (λ (o : Option CutOfPower). IfSome o FitsCut) (sym cut) tt)
+              (ap motes_at place ∙ s.motes)
+              (v2, world, a.stood, many ∙ sym (ap motes_at place), ap is_behind_golden place)
+              (stands_next w a.world v2 (mote_of event) initial old new within counts.sites a.stood a.boards s.boards);
+          boards_enough = refl;
+        }
+    by_result (Err Memory) a = a
+    by_result (Err FlashFault) a = (tt, flash_next w event p.cut a.0 initial old new a.1 s.boards)
+    by_result (Err TooMany) a = record { event = event; happens = refl; world = w; is_world = refl; full = a.0; same = a.1 }
+    by_result (Err NoImage) a =
+        record {
+          event = event;
+          happens = refl;
+          world = w;
+          is_world = refl;
+          after = a.world;
+          ends = subst (λ (o : Option CutOfPower). EndsRun w (record { event = event; cut = o }) a.world) s.cut a.ends;
+        }
+    by_result (Err (NoBoard motes boards)) a = absurd a
+    by_result (Err (BadInput n)) a = absurd a
+    by_result (Err WriteFault) a = absurd a

@@ -1,0 +1,220 @@
+-- What the top call did.
+use Rattle.std.proofs.Common.{◌≡◌, ◌≢◌, ◌⊎◌, inl, inr, ℕ, ◌<◌, ◌≤◌, Bool, true, false, List, [], ◌∷◌, ◌++◌, length, map, get_or, length-append, ◌&&◌, refl, ap, sym, ◌∙◌, subst, arith}
+use Rattle.std.specs.Prelude.{Option, Some, None, nat_lt, nat_eq}
+use Rattle.std.specs.Cmp.Lexicographic.{pointwise}
+use Rattle.std.specs.Bool.{OnTrue, OnFalse}
+use Rattle.std.proofs.lemmas.Bool.{eqb-true, eq-eqb}
+use Rattle.std.proofs.lemmas.List.{length-map}
+use Rattle.std.proofs.lemmas.Bool.Decides.{nat_tests}
+use Rattle.dg_base.specs.Outside.{Takes, AtEnd}
+use Rattle.dg_base.proofs.OutsideLemmas.{Puts-nil, Takes-told, Takes-all}
+use Rattle.dg_base.specs.declared.answers.Status.{Status}
+use Rattle.dg_base.specs.declared.answers.Status.TheVariants.{Done, Memory, Usage, BadInput, ReadFault, WriteFault, FlashFault, NotAVolume, Refused, LinkFault, TooLong, TooMany, NoBoard, NoImage}
+use Rattle.dg_nor.specs.Device.{Device}
+use Rattle.dg_rules.specs.Runs.{Played}
+use Rattle.dg_rules.specs.Golden.{PlaysGolden}
+use Rattle.dg_cli.specs.Boards.{BoardStopped}
+use Rattle.dg_cli.specs.Items.{items_behind, begin_behind, beginning_of}
+use Rattle.dg_script.specs.Script.{Script}
+use Rattle.dg_rules.specs.World.{World}
+use Rattle.dg_cli.specs.Ending.{Ending, Ends, ending_of, status_of, script_of, is_over, InLimits}
+use Rattle.dg_script.specs.declared.line.Line.{Line}
+use Rattle.dg_script.specs.declared.line.Place.TheVariants.{First}
+use Rattle.dg_cli.specs.Outcome.{IsFront, Wrote, ReadEnough, IsCaused, Replayed}
+use Rattle.dg_cli.specs.Replaying.{ScriptReplayed}
+use Rattle.dg_cli.specs.Outcome.{RunsTo}
+use Rattle.dg_cli.proofs.GoldenLemmas.{LinesFit, script_fits, front_fits, golden_run}
+use Rattle.dg_cli.proofs.EndLemmas.{is_over-true, in_limits}
+
+enough_for : (s : Status) (input : List ℕ) (at_end : Type 0) (played : List Played) (text : List ℕ) → at_end ⊎ (is_over input ≡ true) → ReadEnough s input at_end played text
+enough_for Memory input at_end played text e = inl e
+enough_for ReadFault input at_end played text e = tt
+enough_for _ input at_end played text e = e
+
+caused_too : (s : Status) (e : Ending) (r w b : Type 0) → IsCaused s e ⊥ w b → IsCaused s e r w b
+caused_too ReadFault e r w b h = absurd h
+caused_too Memory e r w b h = h
+caused_too WriteFault e r w b h = h
+caused_too FlashFault e r w b h = h
+caused_too _ e r w b h = h
+
+over_or : (input : List ℕ) (at_end : Type 0) → at_end ⊎ (16777216 < length input) → at_end ⊎ (is_over input ≡ true)
+over_or input at_end (inl e) = inl e
+over_or input at_end (inr more) = inr (is_over-true input more)
+
+-- a script that was read and replayed
+pub read_replayed : (s : Status) (text : List ℕ) (lb la wb wa : Option (List ℕ)) (r w : Type 0) (old new : List Device) (n : ℕ) → n ≡ length old → Takes lb la text → AtEnd la ⊎ (16777216 < length text)
+    → ScriptReplayed s (script_of text) (ending_of n text) old new wb wa w → Replayed s lb la wb wa r w old new
+read_replayed s text lb la wb wa r w old new n count taken enough replayed =
+    let P : ℕ → Type 0 = λ k. ScriptReplayed s (script_of text) (ending_of k text) old new wb wa w in
+    let t = subst P count replayed in
+    record {
+      input = text;
+      taken = taken;
+      enough = enough_for s text (AtEnd la) t.played t.text (over_or text (AtEnd la) enough);
+      done = t.done;
+      rest = t.rest;
+      played = t.played;
+      last = t.last;
+      front = t.front;
+      text = t.text;
+      written = t.written;
+      report = t.report;
+      boards = t.boards;
+      caused = caused_too s (ending_of (length old) text) r w (BoardStopped old new) t.caused;
+    }
+
+front_none : (script : Script) → IsFront script [] script.lines [] None
+unfolding items_behind begin_behind
+front_none script = record { lines = refl; items = refl; run = (refl, refl) }
+
+-- memory ran out in reading, and a read failed
+pub memory_unread : (bytes : List ℕ) (lb la wb : Option (List ℕ)) (r w : Type 0) (old : List Device) → Takes lb la bytes → Replayed Memory lb la wb wb r w old old
+memory_unread bytes lb la wb r w old taken =
+    record { input = bytes; taken = taken; enough = inr (refl, refl); done = []; rest = (script_of bytes).lines; played = []; last = None; front = front_none (script_of bytes); text = []; written = Puts-nil wb; report = record { more = []; front = refl }; boards = refl; caused = tt }
+
+pub read_failed : (bytes : List ℕ) (lb la wb : Option (List ℕ)) (r w : Type 0) (old : List Device) → Takes lb la bytes → r → Replayed ReadFault lb la wb wb r w old old
+read_failed bytes lb la wb r w old taken rose =
+    record { input = bytes; taken = taken; enough = tt; done = []; rest = (script_of bytes).lines; played = []; last = None; front = front_none (script_of bytes); text = []; written = Puts-nil wb; report = (refl, refl); boards = refl; caused = rose }
+
+-- the same, where the text was read into a vector
+pub vector_replayed : (s : Status) (text items bytes : List ℕ) (lb la wb wa : Option (List ℕ)) (r w : Type 0) (old new : List Device) (n : ℕ) → text ≡ items → items ≡ bytes → n ≡ length old → Takes lb la bytes → AtEnd la ⊎ (16777216 < length items)
+    → ScriptReplayed s (script_of text) (ending_of n text) old new wb wa w → Replayed s lb la wb wa r w old new
+vector_replayed s text items bytes lb la wb wa r w old new n same read count taken enough replayed =
+    let T : List ℕ → Type 0 = λ xs. Takes lb la xs in
+    let E : List ℕ → Type 0 = λ xs. AtEnd la ⊎ (16777216 < length xs) in
+    read_replayed s text lb la wb wa r w old new n count (subst T (sym (same ∙ read)) taken) (subst E (sym same) enough) replayed
+
+below_true : (n m : ℕ) → nat_lt n m ≡ true → n < m
+below_true n m e = grind (arith, nat_tests)
+
+over_more : (input : List ℕ) → is_over input ≡ true → 16777216 < length input
+over_more input over = below_true 16777216 (length input) over
+
+too_long : (bytes input rest : List ℕ) (m : ℕ) → bytes ≡ input ++ rest → m < length input → length bytes ≤ m → ⊥
+too_long bytes input rest m parts over short = absurd (omega (arith, ap length parts, length-append input rest, over, short))
+
+over_never : (bytes input : List ℕ) (la : Option (List ℕ)) → Takes (Some bytes) la input → is_over input ≡ true → length bytes ≤ 16777216 → ⊥
+over_never bytes input la taken over short =
+    let told = Takes-told bytes input la taken in
+    too_long bytes input told.0 _ told.1 (over_more input over) short
+
+by_status : (s : Status) (input : List ℕ) (la : Option (List ℕ)) (played : List Played) (text : List ℕ) (r w b : Type 0) (n : ℕ) → ReadEnough s input (AtEnd la) played text → IsCaused s (ending_of n input) r w b → (r → ⊥) → (w → ⊥) → (b → ⊥)
+    → (AtEnd la ⊎ (is_over input ≡ true) → ending_of n input ≡ Ends) → (s ≡ Done) ⊎ (s ≡ Memory)
+by_status Memory input la played text r w b n enough caused reads writes stops ends = inr refl
+by_status ReadFault input la played text r w b n enough caused reads writes stops ends = absurd (reads caused)
+by_status WriteFault input la played text r w b n enough caused reads writes stops ends = absurd (writes caused)
+by_status FlashFault input la played text r w b n enough caused reads writes stops ends = absurd (stops caused)
+by_status Done input la played text r w b n enough caused reads writes stops ends = inl refl
+by_status Usage input la played text r w b n enough caused reads writes stops ends = inl (caused ∙ ap status_of (ends enough))
+by_status BadInput input la played text r w b n enough caused reads writes stops ends = inl (caused ∙ ap status_of (ends enough))
+by_status NotAVolume input la played text r w b n enough caused reads writes stops ends = inl (caused ∙ ap status_of (ends enough))
+by_status Refused input la played text r w b n enough caused reads writes stops ends = inl (caused ∙ ap status_of (ends enough))
+by_status LinkFault input la played text r w b n enough caused reads writes stops ends = inl (caused ∙ ap status_of (ends enough))
+by_status TooLong input la played text r w b n enough caused reads writes stops ends = inl (caused ∙ ap status_of (ends enough))
+by_status TooMany input la played text r w b n enough caused reads writes stops ends = inl (caused ∙ ap status_of (ends enough))
+by_status NoBoard input la played text r w b n enough caused reads writes stops ends = inl (caused ∙ ap status_of (ends enough))
+by_status NoImage input la played text r w b n enough caused reads writes stops ends = inl (caused ∙ ap status_of (ends enough))
+
+-- A script in its limits, whose bytes are told, was replayed to its end, unless memory ran out or the outside failed.
+told_end : (bytes input : List ℕ) (la : Option (List ℕ)) (n : ℕ) → Takes (Some bytes) la input → InLimits n bytes → AtEnd la ⊎ (is_over input ≡ true) → ending_of n input ≡ Ends
+told_end bytes input la n taken limits (inl at_end) = subst (λ (xs : List ℕ). ending_of n xs ≡ Ends) (Takes-all bytes input la taken at_end) (in_limits n bytes limits)
+told_end bytes input la n taken limits (inr over) = absurd (over_never bytes input la taken over limits.bytes)
+
+pub completed : (s : Status) (bytes : List ℕ) (lb la wb wa : Option (List ℕ)) (r w : Type 0) (old new : List Device) (n : ℕ) → n ≡ length old → lb ≡ Some bytes → InLimits n bytes → (r → ⊥) → (w → ⊥) → (BoardStopped old new → ⊥)
+    → Replayed s lb la wb wa r w old new → (s ≡ Done) ⊎ (s ≡ Memory)
+completed s bytes lb la wb wa r w old new n count told limits reads writes stops x =
+    let taken : Takes (Some bytes) la x.input = subst (λ (o : Option (List ℕ)). Takes o la x.input) told x.taken in
+    let wanted : InLimits (length old) bytes = subst (λ (k : ℕ). InLimits k bytes) count limits in
+    by_status s x.input la x.played x.text r w (BoardStopped old new) (length old) x.enough x.caused reads writes stops (λ enough. told_end bytes x.input la (length old) taken wanted enough)
+
+-- what a replay comes to
+abbrev pub IsNever : Status → Type 0
+IsNever s = (s ≢ NotAVolume) × (s ≢ Refused) × (s ≢ LinkFault) × (s ≢ NoImage)
+
+wrote_never : (s : Status) (e : Ending) (done rest : List Line) (played : List Played) (last : Option World) (text : List ℕ) → Wrote s e done rest played last text → IsNever s
+wrote_never s e done rest played last text wrote =
+    let P : Status → Type 0 = λ x. Wrote x e done rest played last text in
+    (λ is. subst P is wrote, λ is. subst P is wrote, λ is. subst P is wrote, λ is. subst P is wrote)
+
+pub replayed_never : (s : Status) (lb la wb wa : Option (List ℕ)) (r w : Type 0) (old new : List Device) → Replayed s lb la wb wa r w old new → IsNever s
+replayed_never s lb la wb wa r w old new x = wrote_never s (ending_of (length old) x.input) x.done x.rest x.played x.last x.text x.report
+
+pub unknown_never : (s : Status) (P Q R : Type 0) → ((s ≡ Usage) × P) ⊎ ((s ≡ WriteFault) × Q × R) → IsNever s
+unknown_never s P Q R (inl (is, p)) = (λ e. cc, λ e. cc, λ e. cc, λ e. cc)
+unknown_never s P Q R (inr (is, q, r)) = (λ e. cc, λ e. cc, λ e. cc, λ e. cc)
+
+-- the words of the program
+and_true : (a b : Bool) → (a && b) ≡ true → (a ≡ true) × (b ≡ true)
+and_true true b e = (refl, e)
+and_true false b e = absurd (let f : false ≡ true = e in cc)
+
+same_cells : (x y : ℕ) (xs ys : List ℕ) → x ≡ y → xs ≡ ys → x ∷ xs ≡ y ∷ ys
+same_cells x y xs ys p q = cc
+
+pub pointwise_same : (xs ys : List ℕ) → pointwise nat_eq xs ys ≡ true → xs ≡ ys
+pointwise_same [] [] e = refl
+pointwise_same [] (y ∷ ys) e = absurd (let f : false ≡ true = e in cc)
+pointwise_same (x ∷ xs) [] e = absurd (let f : false ≡ true = e in cc)
+pointwise_same (x ∷ xs) (y ∷ ys) e =
+    let parts = and_true (nat_eq x y) (pointwise nat_eq xs ys) e in
+    same_cells x y xs ys (eqb-true x y parts.0) (pointwise_same xs ys parts.1)
+
+pub pointwise_self : (xs : List ℕ) → pointwise nat_eq xs xs ≡ true
+pointwise_self [] = refl
+pointwise_self (x ∷ xs) = ap (λ (b : Bool). b && pointwise nat_eq xs xs) (eq-eqb x x refl) ∙ pointwise_self xs
+
+on_true : (b : Bool) (P : Type 0) → (b ≡ true → P) → OnTrue b P
+on_true true P f = f refl
+on_true false P f = tt
+
+on_false : (b : Bool) (P : Type 0) → (b ≡ false → P) → OnFalse b P
+on_false true P f = tt
+on_false false P f = f refl
+
+one_item : {A : Type 0} (f : A → List ℕ) (words : List A) (w : A) → length words ≡ 1 → map f words ≡ f (get_or words 0 w) ∷ []
+one_item f [] w one = absurd (omega (arith, one))
+one_item f (x ∷ []) w one = refl
+one_item f (x ∷ y ∷ more) w one = absurd (omega (arith, one))
+
+head_same : (x y : List ℕ) → x ∷ [] ≡ y ∷ [] → x ≡ y
+head_same x y e = cc
+
+differs : (b : Bool) (text word : List ℕ) → b ≡ pointwise nat_eq text word → b ≡ false → text ≡ word → ⊥
+differs b text word is other same =
+    let yes : pointwise nat_eq text word ≡ true = ap (λ (xs : List ℕ). pointwise nat_eq xs word) same ∙ pointwise_self word in
+    let e : true ≡ false = sym yes ∙ sym is ∙ other in
+    cc
+
+-- one word, which is the text or is not
+pub one_word_is : {A : Type 0} (f : A → List ℕ) (words : List A) (w : A) (b : Bool) (text word : List ℕ) → length words ≡ 1 → text ≡ f (get_or words 0 w) → b ≡ pointwise nat_eq text word → OnTrue b (map f words ≡ word ∷ [])
+one_word_is f words w b text word one reads is =
+    on_true b (map f words ≡ word ∷ []) (λ yes. one_item f words w one ∙ ap (λ (xs : List ℕ). xs ∷ []) (sym reads ∙ pointwise_same text word (sym is ∙ yes)))
+
+pub one_word_differs : {A : Type 0} (f : A → List ℕ) (words : List A) (w : A) (b : Bool) (text word : List ℕ) → length words ≡ 1 → text ≡ f (get_or words 0 w) → b ≡ pointwise nat_eq text word → OnFalse b (map f words ≡ word ∷ [] → ⊥)
+one_word_differs f words w b text word one reads is =
+    on_false b (map f words ≡ word ∷ [] → ⊥) (λ other e. differs b text word is other (reads ∙ head_same (f (get_or words 0 w)) word (sym (one_item f words w one) ∙ e)))
+
+pub other_words : {A : Type 0} (f : A → List ℕ) (words : List A) (word : List ℕ) → length words ≢ 1 → map f words ≡ word ∷ [] → ⊥
+other_words f words word many e = many (sym (length-map words f) ∙ ap length e)
+
+-- ---- what holds of every run of a script with golden
+
+no_run : (o : Option World) (played : List Played) → RunsTo o played None → played ≡ []
+no_run None played r = r.0
+no_run (Some w) played (v, is, plays) = absurd (let e : None ≡ Some v = is in cc)
+
+script_of_fits : (input : List ℕ) → LinesFit First (script_of input).lines
+unfolding script_of
+script_of_fits input = script_fits _ First 1 _
+
+promised : (P : List Played → Type 0) → P [] → ((name bytes : List ℕ) (used motes : ℕ) (played : List Played) (v : World) → PlaysGolden name bytes used motes played v → P played)
+    → (spells : Script) (done rest : List Line) (played : List Played) (last : Option World) → LinesFit First spells.lines → IsFront spells done rest played last → P played
+promised P none law spells done rest played None fit f = subst P (sym (no_run (beginning_of done).world played f.run)) none
+promised P none law spells done rest played (Some v) fit f =
+    let g = golden_run done played v (front_fits First done rest (subst (LinesFit First) (sym f.lines) fit)) f.items f.run in
+    law g.name g.bytes g.used (beginning_of done).motes played v g.plays
+
+pub holds_of_runs : (P : List Played → Type 0) → P [] → ((name bytes : List ℕ) (used motes : ℕ) (played : List Played) (v : World) → PlaysGolden name bytes used motes played v → P played)
+    → (s : Status) (lb la wb wa : Option (List ℕ)) (r w : Type 0) (old new : List Device) → (x : Replayed s lb la wb wa r w old new) → P x.played
+holds_of_runs P none law s lb la wb wa r w old new x = promised P none law (script_of x.input) x.done x.rest x.played x.last (script_of_fits x.input) x.front

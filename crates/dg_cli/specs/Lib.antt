@@ -1,0 +1,6 @@
+pub mod Items
+pub mod Boards
+pub mod Ending
+pub mod Outcome
+pub mod Playing
+pub mod Replaying

@@ -1,0 +1,104 @@
+//! The top call.
+ghost use Rattle.std.specs.Prelude.{◌≡◌, ◌≢◌, ◌⊎◌, ◌≤◌, ℕ, List, [], Some, map, length, string_bytes};
+ghost use Rattle.std.specs.Bool.{OnTrue, OnFalse};
+ghost use Rattle.std.specs.List.{AllByRecursion};
+ghost use Rattle.dg_words.specs.Counts.{Rose};
+ghost use Rattle.dg_rules.specs.Runs.{EachAfter};
+ghost use Rattle.dg_rules.specs.Promises.{IsLegal, KeepsAll, StartsRow};
+ghost use Rattle.dg_rules.specs.Premises.{LeavesAgreement};
+ghost use Rattle.dg_cli.specs.Ending.{InLimits};
+ghost use Rattle.dg_cli.specs.Outcome.{Replayed, IsReplay, Unknown};
+ghost use Rattle.dg_cli.specs.Boards.{BoardStopped};
+
+use crate::ends::replay_text;
+use crate::finish::end_with;
+use crate::input::{ReadStop, read_input};
+use dg_base::{Sink, Source, Status};
+use dg_nor::Nor;
+use dg_rules::scripts_with_golden;
+use std::alloc::Global;
+
+/// Replays the script that `input` spells over the boards, and writes the report to `out`.
+fn replay<S: Source, K: Sink, N: Nor>(
+    alloc: Global,
+    input: &mut S,
+    out: &mut K,
+    boards: &mut Vec<N>,
+) -> Status
+    ensures replayed { Replayed result (S.left input.old) (S.left input.new) (K.written out.old) (K.written out.new)
+        (Rose (S.faults input.old) (S.faults input.new)) (Rose (K.faults out.old) (K.faults out.new)) (map N.device boards.old.items) (map N.device boards.new.items) }
+    ensures reads { S.faults input.old ≤ S.faults input.new }
+    ensures writes { K.faults out.old ≤ K.faults out.new }
+{
+    match read_input(alloc, input) {
+        Ok(text) => replay_text(alloc, &text, boards, out),
+        Err(ReadStop::Memory) => Status::Memory,
+        Err(ReadStop::ReadFault) => Status::ReadFault,
+    }
+}
+
+/// Whether the words are the command `replay`.
+fn is_replay(words: &[String]) -> bool
+    ensures yes { OnTrue result (IsReplay (map string_bytes words.now)) }
+    ensures other { OnFalse result (IsReplay (map string_bytes words.now) → ⊥) }
+{
+    if words.len() != 1 {
+        return false;
+    }
+    words[0].as_str() == "replay"
+}
+
+/// Does all that the program does with the words after its name, and answers how it ended.
+///
+/// The one command is the word `replay`: it replays the script that `input` spells over the boards, and writes the
+/// report to `out`. All other words are [`Status::Usage`]. A status other than [`Status::Done`] writes its line last,
+/// where it has one.
+pub fn run<S: Source, K: Sink, N: Nor>(
+    alloc: Global,
+    words: &Vec<String>,
+    input: &mut S,
+    out: &mut K,
+    boards: &mut Vec<N>,
+) -> Status
+    // The report is true: it is that of a run of the rules over the items of the script, and each status comes where the rules say.
+    ensures replayed { IsReplay (map string_bytes words.now.items) → Replayed result (S.left input.old) (S.left input.new) (K.written out.old) (K.written out.new)
+        (Rose (S.faults input.old) (S.faults input.new)) (Rose (K.faults out.old) (K.faults out.new)) (map N.device boards.old.items) (map N.device boards.new.items) }
+    // Each step is legal after those before it.
+    ensures legal { (x : Replayed result (S.left input.old) (S.left input.new) (K.written out.old) (K.written out.new)
+        (Rose (S.faults input.old) (S.faults input.new)) (Rose (K.faults out.old) (K.faults out.new)) (map N.device boards.old.items) (map N.device boards.new.items))
+        → EachAfter IsLegal [] x.played }
+    // No version falls, but as a cut in a replacement allows.
+    ensures keeps { (x : Replayed result (S.left input.old) (S.left input.new) (K.written out.old) (K.written out.new)
+        (Rose (S.faults input.old) (S.faults input.new)) (Rose (K.faults out.old) (K.faults out.new)) (map N.device boards.old.items) (map N.device boards.new.items))
+        → AllByRecursion KeepsAll x.played }
+    // What starts is one row of the table of images, byte for byte.
+    ensures starts { (x : Replayed result (S.left input.old) (S.left input.new) (K.written out.old) (K.written out.new)
+        (Rose (S.faults input.old) (S.faults input.new)) (Rose (K.faults out.old) (K.faults out.new)) (map N.device boards.old.items) (map N.device boards.new.items))
+        → AllByRecursion StartsRow x.played }
+    // Every chip agrees with the table, also one that a cut left half done.
+    ensures agrees { (x : Replayed result (S.left input.old) (S.left input.new) (K.written out.old) (K.written out.new)
+        (Rose (S.faults input.old) (S.faults input.new)) (Rose (K.faults out.old) (K.faults out.new)) (map N.device boards.old.items) (map N.device boards.new.items))
+        → AllByRecursion LeavesAgreement x.played }
+    ensures usage { (IsReplay (map string_bytes words.now.items) → ⊥) → Unknown result (S.left input.old) (S.left input.new) (K.written out.old) (K.written out.new)
+        (Rose (K.faults out.old) (K.faults out.new)) (map N.device boards.old.items) (map N.device boards.new.items) }
+    ensures untouched { (IsReplay (map string_bytes words.now.items) → ⊥) → input.new ≡ input.old }
+
+    // A script in its grammar and limits, with boards for its motes, is replayed to its end, unless memory runs out or the outside fails.
+    ensures complete { (bytes : List ℕ) → IsReplay (map string_bytes words.now.items) → S.left input.old ≡ Some bytes → InLimits (length boards.old.items) bytes
+        → (Rose (S.faults input.old) (S.faults input.new) → ⊥) → (Rose (K.faults out.old) (K.faults out.new) → ⊥)
+        → (BoardStopped (map N.device boards.old.items) (map N.device boards.new.items) → ⊥)
+        → (result ≡ Status.Done) ⊎ (result ≡ Status.Memory) }
+
+    // A replay formats its boards itself, so that they are volumes; no rule of `replay` refuses anything but its script;
+    // there is no link; and golden starts where nothing else does.
+    ensures never { (result ≢ Status.NotAVolume) × (result ≢ Status.Refused) × (result ≢ Status.LinkFault) × (result ≢ Status.NoImage) }
+
+    ensures reads { S.faults input.old ≤ S.faults input.new }
+    ensures writes { K.faults out.old ≤ K.faults out.new }
+{
+    scripts_with_golden();
+    if is_replay(words) {
+        return replay(alloc, input, out, boards);
+    }
+    end_with(out, b"usage\n", Status::Usage)
+}

@@ -1,0 +1,15 @@
+//! The commands of the program: `run` does all that it does.
+//!
+//! Today the one command is `replay`, over scripts of 1 to 16 motes: their chips are formatted, images are declared,
+//! injected, ordered and started, time passes, and power is cut.
+#![tactic(auto)]
+
+mod command;
+mod ends;
+mod finish;
+mod input;
+mod player;
+mod replay;
+mod stop;
+
+pub use command::run;

@@ -1,0 +1,161 @@
+//! Replays a script over boards.
+ghost use Rattle.std.specs.Prelude.{◌≡◌, ◌⊎◌, ◌≤◌, ◌++◌, ℕ, Bool, List, Option, Some, map, length, OnOk, OnErr, Err};
+ghost use Rattle.std.specs.Str.Lines.{lines};
+ghost use Rattle.dg_words.specs.Counts.{Rose};
+ghost use Rattle.dg_base.specs.Outside.{Puts, PutsFront};
+ghost use Rattle.dg_nor.specs.Device.{Device};
+ghost use Rattle.dg_script.specs.Script.{script_from, line_of, motes_at, AllowedAt, FitsLine};
+ghost use Rattle.dg_script.specs.Report.{report_text};
+ghost use Rattle.dg_rules.specs.World.{World};
+ghost use Rattle.dg_cli.specs.Playing.{Stood, Ready};
+ghost use Rattle.dg_cli.specs.Replaying.{TextAnswer, LinesAnswer};
+ghost use Rattle.dg_script.specs.declared.line.Line.{Line};
+ghost use Rattle.dg_script.specs.declared.line.Place.TheVariants.{First};
+
+use crate::player::{Player, play_line};
+use crate::stop::Stop;
+use dg_base::{Sink, WriteFailed, next_line};
+use dg_nor::Nor;
+use dg_rules::scripts_with_golden;
+use dg_script::{Line, LineFault, Place, Report, push_report, read_line};
+use std::alloc::{AllocError, Global};
+
+/// The buffers of a line: what it reports, and its text.
+#[derive(Drop)]
+pub struct Told {
+    pub reports: Vec<Report>,
+    pub piece: Vec<u8>,
+}
+
+/// Writes a piece.
+pub fn put_piece<K: Sink>(out: &mut K, piece: &[u8]) -> Result<(), Stop>
+    ensures ok { OnOk result (Puts (K.written out.old) (K.written out.new) piece.now) }
+    ensures cut { OnErr result (PutsFront (K.written out.old) (K.written out.new) piece.now) }
+    ensures cause { OnErr result ((result ≡ Err Stop.WriteFault) × Rose (K.faults out.old) (K.faults out.new)) }
+    ensures counts { K.faults out.old ≤ K.faults out.new }
+{
+    match out.write(piece) {
+        Ok(()) => Ok(()),
+        Err(WriteFailed) => Err(Stop::WriteFault),
+    }
+}
+
+/// Appends the text of report lines.
+pub fn push_reports(piece: &mut Vec<u8>, reports: &[Report]) -> Result<(), AllocError>
+    ensures { OnOk result (piece.new.items ≡ piece.old.items ++ report_text reports.now) }
+{
+    for report in reports {
+        push_report(piece, report)?;
+    }
+    Ok(())
+}
+
+/// Writes what a line reports, in one piece, where it reports anything.
+fn tell<K: Sink>(out: &mut K, piece: &mut Vec<u8>, reports: &[Report]) -> Result<(), Stop>
+    ensures ok { OnOk result (Puts (K.written out.old) (K.written out.new) (report_text reports.now)) }
+    ensures cut { OnErr result (PutsFront (K.written out.old) (K.written out.new) (report_text reports.now)) }
+    ensures cause { OnErr result ((result ≡ Err Stop.Memory) ⊎ ((result ≡ Err Stop.WriteFault) × Rose (K.faults out.old) (K.faults out.new))) }
+    ensures counts { K.faults out.old ≤ K.faults out.new }
+{
+    if reports.is_empty() {
+        return Ok(());
+    }
+    piece.clear();
+    match push_reports(piece, reports) {
+        Ok(()) => put_piece(out, piece),
+        Err(AllocError) => Err(Stop::Memory),
+    }
+}
+
+/// Plays a line that was read, and writes what it reports.
+fn play_read<K: Sink, N: Nor>(
+    alloc: Global,
+    line: Line,
+    player: &mut Player,
+    boards: &mut Vec<N>,
+    out: &mut K,
+    told: &mut Told,
+) -> Result<(), Stop>
+    requires ready { Ready player.old (map N.device boards.old.items) }
+    requires allowed { AllowedAt player.old.place line }
+    requires fits { FitsLine (motes_at player.old.place) line }
+    ensures played { (done : List Line) (w : Option World) (initial : List Device) (text : List ℕ) (number : ℕ) → line_of player.old.place text ≡ Some line
+        → Stood player.old done w initial (map N.device boards.old.items)
+        → TextAnswer result text number player.old player.new done w initial (map N.device boards.old.items) (map N.device boards.new.items)
+        (K.written out.old) (K.written out.new) (Rose (K.faults out.old) (K.faults out.new)) }
+    ensures counts { K.faults out.old ≤ K.faults out.new }
+{
+    told.reports.clear();
+    match play_line(alloc, line, player, boards, &mut told.reports) {
+        Ok(()) => tell(out, &mut told.piece, &told.reports),
+        Err(stop) => Err(stop),
+    }
+}
+
+/// Reads the text of line `number`, plays it and writes what it reports.
+fn play_text<K: Sink, N: Nor>(
+    alloc: Global,
+    text: &[u8],
+    number: u32,
+    player: &mut Player,
+    boards: &mut Vec<N>,
+    out: &mut K,
+    told: &mut Told,
+) -> Result<(), Stop>
+    requires { Ready player.old (map N.device boards.old.items) }
+    ensures played { (done : List Line) (w : Option World) (initial : List Device) → Stood player.old done w initial (map N.device boards.old.items)
+        → TextAnswer result text.now number player.old player.new done w initial (map N.device boards.old.items) (map N.device boards.new.items)
+        (K.written out.old) (K.written out.new) (Rose (K.faults out.old) (K.faults out.new)) }
+    ensures counts { K.faults out.old ≤ K.faults out.new }
+{
+    match read_line(alloc, text, player.place) {
+        Ok(line) => play_read(alloc, line, player, boards, out, told),
+        Err(LineFault::Memory) => Err(Stop::Memory),
+        Err(LineFault::Verb) => Err(Stop::BadInput { line: number }),
+    }
+}
+
+/// Plays the lines of a text, one after the other, and answers where the replay then stands, with the number of the line
+/// after the last.
+pub fn play_lines<K: Sink, N: Nor>(
+    alloc: Global,
+    text: &[u8],
+    boards: &mut Vec<N>,
+    out: &mut K,
+) -> Result<(Player, u32), Stop>
+    requires { length text.now ≤ 16777217 }
+    ensures answer { (ends : Bool) → LinesAnswer result ends (script_from ends First 1 (lines text.now)) (map N.device boards.old.items) (map N.device boards.new.items)
+        (K.written out.old) (K.written out.new) (Rose (K.faults out.old) (K.faults out.new)) }
+    ensures counts { K.faults out.old ≤ K.faults out.new }
+{
+    scripts_with_golden();
+    let mut player = Player {
+        place: Place::First,
+        cut: None,
+        world: None,
+    };
+    let mut told = Told {
+        reports: Vec::new(alloc),
+        piece: Vec::new(alloc),
+    };
+    let mut number = 1;
+    let mut from = 0;
+    while from < text.len() {
+        let (end, next) = next_line(text, from);
+        match play_text(
+            alloc,
+            &text[from..end],
+            number,
+            &mut player,
+            boards,
+            out,
+            &mut told,
+        ) {
+            Ok(()) => {}
+            Err(stop) => return Err(stop),
+        }
+        number += 1;
+        from = next;
+    }
+    Ok((player, number))
+}

@@ -1,0 +1,15 @@
+//! Why a replay ends before its script does.
+
+#[derive(Clone, Copy, Debug, PartialEq, Eq)]
+pub enum Stop {
+    Memory,
+    /// This line is outside the grammar.
+    BadInput { line: u32 },
+    WriteFault,
+    FlashFault,
+    /// A million events were played, and the line is one more.
+    TooMany,
+    /// There are fewer boards than motes.
+    NoBoard { motes: u8, boards: u32 },
+    NoImage,
+}
