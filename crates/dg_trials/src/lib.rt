@@ -4,6 +4,8 @@
 #[cfg(test)]
 mod boards;
 #[cfg(test)]
+mod lines;
+#[cfg(test)]
 mod runs;
 #[cfg(test)]
 mod slots;
