@@ -6,6 +6,8 @@ mod boards;
 #[cfg(test)]
 mod lines;
 #[cfg(test)]
+mod reports;
+#[cfg(test)]
 mod runs;
 #[cfg(test)]
 mod slots;
