@@ -4,6 +4,12 @@
 #[cfg(test)]
 mod boards;
 #[cfg(test)]
+mod lines;
+#[cfg(test)]
+mod reports;
+#[cfg(test)]
+mod runs;
+#[cfg(test)]
 mod slots;
 #[cfg(test)]
 mod starts;

@@ -1,0 +1,148 @@
+//! Runs of the program: scripts with the reports that they must have, and the ways in which a run fails.
+
+use dg_base::{MemSink, MemSource, Status};
+use dg_cli::run;
+use dg_nor::Board;
+use std::alloc::{AllocError, Global};
+use std::test::Fail;
+
+/// A script of one mote, which is started.
+const ONE_START: &[u8] = b"motes 1\ngolden base 0 hex:41\nreset 0 0 0\n";
+
+const ONE_START_REPORT: &[u8] = b"start 0 0 1 1 58e5\nend 1\nmote 0 on 0 1\n";
+
+/// The power is cut while an ordered image is copied to program memory, and the mote is started again.
+const CUT_IN_COPY: &[u8] =
+    b"motes 1\ngolden base 0 hex:41\nimage 1 1 blink hex:313233343536373839\nreset 0 0 0\ninject 0 1 1 0 0\ntick 0 5000 0\norder 0 1 1 1 0 0\ncut 10 00\nreset 0 0 0\nreset 0 0 0\n";
+
+const CUT_IN_COPY_REPORT: &[u8] =
+    b"start 0 0 1 1 58e5\nhave 0 1 1 2\norder 0 1 1 1\noff 0\nstart 0 1 1 9 31c3\nend 6\nmote 0 on 1 1\nkept 0 1 1 2\n";
+
+/// More room than a report of this module needs, in bytes.
+const AMPLE: usize = 4096;
+
+/// What a run answers and writes.
+#[derive(Drop)]
+struct Told {
+    status: Status,
+    written: Vec<u8>,
+}
+
+/// What goes wrong outside: the reads and the writes that fail, by their numbers, and the bytes that the output takes.
+#[derive(Drop)]
+struct Outside {
+    reads: Vec<u32>,
+    writes: Vec<u32>,
+    room: usize,
+}
+
+/// Nothing goes wrong.
+fn calm(alloc: Global) -> Outside {
+    Outside {
+        reads: Vec::new(alloc),
+        writes: Vec::new(alloc),
+        room: AMPLE,
+    }
+}
+
+/// So many new boards.
+fn new_boards(alloc: Global, count: usize) -> Result<Vec<Board>, AllocError> {
+    let mut boards = Vec::new(alloc);
+    for _ in 0..count {
+        boards.push(Board::memory(alloc)?)?;
+    }
+    Ok(boards)
+}
+
+/// Runs a command of one word over a script and so many new boards.
+fn answer(
+    alloc: Global,
+    word: &str,
+    script: &[u8],
+    outside: Outside,
+    boards: usize,
+) -> Result<Told, AllocError> {
+    let mut words = Vec::new(alloc);
+    words.push(String::from_str(alloc, word)?)?;
+    let mut boards = new_boards(alloc, boards)?;
+    let mut input = MemSource::new(Vec::from_slice(alloc, script)?, outside.reads);
+    let mut out = MemSink::new(alloc, outside.room, outside.writes)?;
+    let status = run(alloc, &words, &mut input, &mut out, &mut boards);
+    let written = Vec::from_slice(alloc, out.bytes())?;
+    Ok(Told { status, written })
+}
+
+#[test]
+fn scripts_have_their_reports(rt: HostRuntime) -> Result<(), Fail> {
+    let rows: [(&[u8], Status, &[u8]); 5] = [
+        (ONE_START, Status::Done, ONE_START_REPORT),
+        (CUT_IN_COPY, Status::Done, CUT_IN_COPY_REPORT),
+        (
+            b"motes 1\ngolden base 0 hex:ff\n",
+            Status::Done,
+            b"end 0\nmote 0 off\n",
+        ),
+        (b"", Status::BadInput, b"line 1 verb\n"),
+        (
+            b"motes 1\ngolden base 0 hex:41\nreset 0 0 0\nrese",
+            Status::BadInput,
+            b"start 0 0 1 1 58e5\nline 4 verb\n",
+        ),
+    ];
+    for (script, status, report) in rows {
+        let told = answer(rt.alloc(), "replay", script, calm(rt.alloc()), 1)?;
+        assert_eq!(rt; told.status, status);
+        assert_eq!(rt; told.written.as_slice(), report);
+    }
+    Ok(())
+}
+
+#[test]
+fn other_words_are_no_command(rt: HostRuntime) -> Result<(), Fail> {
+    let told = answer(rt.alloc(), "fly", ONE_START, calm(rt.alloc()), 1)?;
+    assert_eq!(rt; told.status, Status::Usage);
+    assert_eq!(rt; told.status.code(), 2);
+    assert_eq!(rt; told.written.as_slice(), b"usage\n".as_slice());
+    Ok(())
+}
+
+#[test]
+fn each_mote_needs_a_board(rt: HostRuntime) -> Result<(), Fail> {
+    let script: &[u8] = b"motes 2\ngolden base 0 hex:41\nreset 0 0 0\n";
+    let told = answer(rt.alloc(), "replay", script, calm(rt.alloc()), 1)?;
+    assert_eq!(rt; told.status, Status::NoBoard);
+    assert_eq!(rt; told.written.as_slice(), b"noboard 2 1\n".as_slice());
+    Ok(())
+}
+
+#[test]
+fn a_read_fails_in_mid_stream(rt: HostRuntime) -> Result<(), Fail> {
+    let alloc = rt.alloc();
+    let mut script = Vec::from_slice(alloc, ONE_START)?;
+    script.extend_from_slice(&vec![in alloc; b'#'; 100_000]?)?;
+    let mut outside = calm(alloc);
+    outside.reads.push(2)?;
+    let told = answer(alloc, "replay", &script, outside, 1)?;
+    assert_eq!(rt; told.status, Status::ReadFault);
+    assert_eq!(rt; told.written.as_slice(), b"".as_slice());
+    Ok(())
+}
+
+#[test]
+fn a_write_fails(rt: HostRuntime) -> Result<(), Fail> {
+    // The number of the write that fails, the room for the output, and what was written before.
+    let rows: [(u32, usize, &[u8]); 3] = [
+        (1, AMPLE, b""),
+        (2, AMPLE, b"start 0 0 1 1 58e5\n"),
+        (9, 20, b"start 0 0 1 1 58e5\n"),
+    ];
+    for (number, room, written) in rows {
+        let mut outside = calm(rt.alloc());
+        outside.writes.push(number)?;
+        outside.room = room;
+        let told = answer(rt.alloc(), "replay", ONE_START, outside, 1)?;
+        assert_eq!(rt; told.status, Status::WriteFault);
+        assert_eq!(rt; told.written.as_slice(), written);
+    }
+    Ok(())
+}
