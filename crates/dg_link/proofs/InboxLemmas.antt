@@ -1,0 +1,98 @@
+-- Inboxes that are kept in rings.
+use Rattle.std.proofs.Common.{◌≡◌, ℕ, zero, suc, ◌-◌, ◌<◌, ◌≤◌, ◌++◌, List, [], ◌∷◌, length, drop, take, map, get_or, set, Option, Some, None, option_map, slice_get, refl, sym, ap, ◌∙◌, subst, arith, replicate}
+use Rattle.std.proofs.lemmas.List.{get_or-map, map-set, length-map, set-get_or, get_or-set_same, drop-append-le, length-append}
+use Rattle.std.proofs.lemmas.List.Elements.{All-get_or, Contains-push}
+use Rattle.std.specs.Prelude.{All, Contains}
+use Rattle.circular_buffer.specs.Buffer.{Buffer, buffer, keep_last}
+use Rattle.dg_link.specs.Inboxes.{Inboxes, inbox_of, with_inbox, emptied, delivered, Receives}
+
+abbrev pub Ring : Type 0
+Ring = Buffer (List ℕ)
+
+abbrev pub inboxes : ℕ → List Ring → Inboxes
+inboxes room rings = record { room = room; frames = map (λ ring. ring.items) rings }
+
+-- what waits at a mote is in its ring
+pub inbox_of-inboxes : (room : ℕ) (rings : List Ring) (mote : ℕ) (ring : Ring) → mote < length rings → ring ≡ get_or rings mote ring → inbox_of (inboxes room rings) mote ≡ ring.items
+inbox_of-inboxes room rings mote ring within is = get_or-map (λ r. r.items) rings mote ring [] within ∙ ap (λ r. r.items) (sym is)
+
+-- another ring for a mote
+pub inboxes-set : (room : ℕ) (rings : List Ring) (mote : ℕ) (ring : Ring) → inboxes room (set rings mote ring) ≡ with_inbox mote ring.items (inboxes room rings)
+inboxes-set room rings mote ring = rw (map-set (λ r. r.items) rings mote ring)
+
+-- a mote has an inbox exactly where it has a ring
+within_rings : (room : ℕ) (rings : List Ring) (boxes : Inboxes) (mote : ℕ) → inboxes room rings ≡ boxes → mote < length boxes.frames → mote < length rings
+within_rings room rings boxes mote is within =
+    let same : length boxes.frames ≡ length rings = ap (λ b. length b.frames) (sym is) ∙ length-map rings (λ ring. ring.items) in
+    omega arith
+
+-- the ring of a mote, what comes of it, and the inboxes before
+pub inboxes-push_back : (room : ℕ) (rings : List Ring) (boxes : Inboxes) (mote at : ℕ) (ring new : Ring) (frame : List ℕ) → inboxes room rings ≡ boxes → mote < length boxes.frames → at ≡ mote
+    → ring ≡ get_or rings at ring → All (λ r. r.capacity ≡ room) rings → new ≡ buffer (keep_last ring.capacity (ring.items ++ frame ∷ [])) ring.capacity
+    → inboxes room (set rings at new) ≡ delivered mote frame boxes
+inboxes-push_back room rings boxes mote at ring new frame is within same old cap becomes =
+    let here : at < length rings = subst (λ m. m < length rings) (sym same) (within_rings room rings boxes mote is within) in
+    let full : ring.capacity ≡ room = ap (λ r. r.capacity) old ∙ All-get_or (λ r. r.capacity ≡ room) rings at ring here cap in
+    let waits = inbox_of-inboxes room rings at ring here old in
+    let moved : inboxes room (set rings at new) ≡ delivered at frame (inboxes room rings) =
+    inboxes-set room rings at new ∙ ap (λ r. with_inbox at r.items (inboxes room rings)) becomes
+    ∙ ap (λ n. with_inbox at (keep_last n (ring.items ++ frame ∷ [])) (inboxes room rings)) full
+    ∙ ap (λ xs. with_inbox at (keep_last room (xs ++ frame ∷ [])) (inboxes room rings)) (sym waits) in
+    moved ∙ ap (λ m. delivered m frame (inboxes room rings)) same ∙ ap (delivered mote frame) is
+
+pub inboxes-pop_front : (room : ℕ) (rings : List Ring) (boxes : Inboxes) (mote at : ℕ) (ring new : Ring) → inboxes room rings ≡ boxes → mote < length boxes.frames → at ≡ mote
+    → ring ≡ get_or rings at ring → new ≡ buffer (drop 1 ring.items) ring.capacity
+    → inboxes room (set rings at new) ≡ with_inbox mote (drop 1 (inbox_of boxes mote)) boxes
+inboxes-pop_front room rings boxes mote at ring new is within same old becomes =
+    let here : at < length rings = subst (λ m. m < length rings) (sym same) (within_rings room rings boxes mote is within) in
+    let waits = inbox_of-inboxes room rings at ring here old in
+    let moved : inboxes room (set rings at new) ≡ with_inbox at (drop 1 (inbox_of (inboxes room rings) at)) (inboxes room rings) =
+    inboxes-set room rings at new ∙ ap (λ r. with_inbox at r.items (inboxes room rings)) becomes
+    ∙ ap (λ xs. with_inbox at (drop 1 xs) (inboxes room rings)) (sym waits) in
+    moved ∙ ap (λ m. with_inbox m (drop 1 (inbox_of (inboxes room rings) m)) (inboxes room rings)) same
+    ∙ ap (λ b. with_inbox mote (drop 1 (inbox_of b mote)) b) is
+
+map-replicate : {A B : Type 0} (f : A → B) (n : ℕ) (x : A) → map f (replicate n x) ≡ replicate n (f x)
+map-replicate f zero x = refl
+map-replicate f (suc n) x = ap (λ ys. f x ∷ ys) (map-replicate f n x)
+
+-- rings without frames
+pub inboxes-replicate : (room motes : ℕ) (boxes : Inboxes) → boxes.room ≡ room → inboxes room (replicate motes (buffer [] room)) ≡ emptied motes boxes
+inboxes-replicate room motes boxes is =
+    ap (λ frames. record { room = room; frames = frames }) (map-replicate (λ ring. ring.items) motes (buffer [] room))
+    ∙ ap (λ n. record { room = n; frames = replicate motes [] }) (sym is)
+
+with_same : (boxes : Inboxes) (mote : ℕ) → inbox_of boxes mote ≡ [] → with_inbox mote [] boxes ≡ boxes
+with_same boxes mote none =
+    ap (λ frames. record { room = boxes.room; frames = frames }) (ap (set boxes.frames mote) (sym none) ∙ set-get_or boxes.frames mote [])
+
+takes : (boxes : Inboxes) (mote : ℕ) (into : List ℕ) (waits : List (List ℕ)) (r : Option ℕ) → inbox_of boxes mote ≡ waits → option_map (λ n. take n into) r ≡ slice_get waits 0
+    → Receives mote into r (Some boxes) (Some (with_inbox mote (drop 1 waits) boxes))
+takes boxes mote into [] None is e = (is, ap Some (with_same boxes mote is))
+takes boxes mote into [] (Some n) is e = absurd cc
+takes boxes mote into (frame ∷ rest) None is e = absurd cc
+takes boxes mote into (frame ∷ rest) (Some n) is e =
+    let same : frame ≡ take n into = cc in
+    (rest, is ∙ ap (λ f. f ∷ rest) same, refl)
+
+-- what a receive does where the oldest frame is taken, if there is one
+pub receives : (boxes : Inboxes) (mote : ℕ) (into : List ℕ) (r : Option ℕ) → option_map (λ n. take n into) r ≡ slice_get (inbox_of boxes mote) 0
+    → Receives mote into r (Some boxes) (Some (with_inbox mote (drop 1 (inbox_of boxes mote)) boxes))
+receives boxes mote into r e = takes boxes mote into (inbox_of boxes mote) r refl e
+
+-- a receive answers none exactly where no frame waits
+pub is_none-frame : (f : ℕ → List ℕ) (waits : List (List ℕ)) (r : Option ℕ) → option_map f r ≡ slice_get waits 0 → (r ≡ None → waits ≡ []) × (waits ≡ [] → r ≡ None)
+is_none-frame f [] None e = (λ _. refl, λ _. refl)
+is_none-frame f [] (Some n) e = absurd cc
+is_none-frame f (frame ∷ rest) None e = absurd cc
+is_none-frame f (frame ∷ rest) (Some n) e = (λ no. absurd cc, λ no. absurd cc)
+
+-- a frame that came waits at the mote
+pub Contains-delivered : (boxes : Inboxes) (mote : ℕ) (frame : List ℕ) → 1 ≤ boxes.room → mote < length boxes.frames → Contains (inbox_of (delivered mote frame boxes) mote) frame
+Contains-delivered boxes mote frame room within =
+    let waits = inbox_of boxes mote in
+    let all = waits ++ frame ∷ [] in
+    let short : length all - boxes.room ≤ length waits = omega (arith, length-append waits (frame ∷ [])) in
+    let place : inbox_of (delivered mote frame boxes) mote ≡ keep_last boxes.room all = get_or-set_same boxes.frames mote (keep_last boxes.room all) [] within in
+    let cut : keep_last boxes.room all ≡ drop (length all - boxes.room) waits ++ frame ∷ [] = drop-append-le (length all - boxes.room) waits (frame ∷ []) short in
+    subst (λ xs. Contains xs frame) (sym (place ∙ cut)) (Contains-push (drop (length all - boxes.room) waits) frame)

@@ -1,0 +1,47 @@
+-- The frames that wait at motes, where a link tells them.
+use Rattle.std.specs.Prelude.{◌≡◌, ℕ, ◌-◌, List, [], ◌∷◌, ◌++◌, length, take, drop, replicate, slice_index_or, slice_set, Option, Some, None}
+
+-- how many frames an inbox holds at most, and for each mote the frames in its inbox, the oldest first
+pub record Inboxes : Type 0 where
+  pub room : ℕ
+  pub frames : List (List (List ℕ))
+
+-- the frames that wait at a mote
+abbrev pub inbox_of : Inboxes → ℕ → List (List ℕ)
+inbox_of boxes mote = slice_index_or boxes.frames mote []
+
+-- the last n of a list
+abbrev pub latest : {A : Type 0} → ℕ → List A → List A
+latest n xs = drop (length xs - n) xs
+
+-- so many motes, with empty inboxes
+abbrev pub emptied : ℕ → Inboxes → Inboxes
+emptied motes boxes = record { room = boxes.room; frames = replicate motes [] }
+
+-- other frames wait at a mote
+abbrev pub with_inbox : ℕ → List (List ℕ) → Inboxes → Inboxes
+with_inbox mote frames boxes = record { room = boxes.room; frames = slice_set boxes.frames mote frames }
+
+-- a frame came last at a mote. Where its inbox was full, the oldest is lost
+abbrev pub delivered : ℕ → List ℕ → Inboxes → Inboxes
+delivered mote frame boxes = with_inbox mote (latest boxes.room (inbox_of boxes mote ++ frame ∷ [])) boxes
+
+-- No frame waits at the mote; nothing is claimed where the inboxes are not told.
+abbrev pub IsEmptyAt : ℕ → Option Inboxes → Type 0
+IsEmptyAt mote None = Unit {0}
+IsEmptyAt mote (Some boxes) = inbox_of boxes mote ≡ []
+
+-- The oldest frame at a mote was taken, and it was this one; or the inboxes are not told, before and after.
+abbrev pub Takes : ℕ → List ℕ → Option Inboxes → Option Inboxes → Type 0
+Takes mote frame None after = after ≡ None
+Takes mote frame (Some boxes) after = (rest : List (List ℕ)) × (inbox_of boxes mote ≡ frame ∷ rest) × (after ≡ Some (with_inbox mote rest boxes))
+
+-- A frame of n bytes was taken, which stands at the front of `into`; or there was none.
+abbrev pub Receives : ℕ → List ℕ → Option ℕ → Option Inboxes → Option Inboxes → Type 0
+Receives mote into (Some n) before after = Takes mote (take n into) before after
+Receives mote into None before after = IsEmptyAt mote before × (after ≡ before)
+
+-- Each of so many motes has an inbox; nothing is claimed where the inboxes are not told.
+abbrev pub HasInboxes : Option Inboxes → ℕ → Type 0
+HasInboxes None motes = Unit {0}
+HasInboxes (Some boxes) motes = length boxes.frames ≡ motes

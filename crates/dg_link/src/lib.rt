@@ -1,0 +1,11 @@
+//! Links, over which motes send frames to one another.
+#![tactic(auto)]
+
+mod link;
+mod memory;
+
+pub use link::{Link, LinkFailed, OpenFault};
+pub use memory::MemLink;
+
+#[cfg(test)]
+mod tests;

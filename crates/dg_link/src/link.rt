@@ -1,0 +1,128 @@
+//! What a link between motes offers, and what is known of it.
+//!
+//! A link counts its faults. A call answers its failure only where the count rose in that call, and a call that
+//! answers Ok leaves the count as it is. At the end of a `u64` the count stands still.
+ghost use Rattle.std.specs.Prelude.{◌≡◌, ℕ, ◌<◌, ◌≤◌, length, Option, Some, Err, option_map, IfOk, IfSome, OnOk, OnErr, codes};
+ghost use Rattle.dg_words.specs.Counts.{Rose};
+ghost use Rattle.dg_link.specs.Sizes.{most_motes, greatest_port};
+ghost use Rattle.dg_link.specs.Inboxes.{Inboxes, emptied, delivered, Receives, HasInboxes};
+
+use dg_base::LONGEST_FRAME;
+use std::alloc::{AllocError, Global};
+use std::error::Error;
+use std::fmt;
+
+/// A send or a receive failed.
+#[derive(Clone, Copy, PartialEq, Eq, Debug)]
+pub struct LinkFailed;
+
+impl fmt::Display for LinkFailed {
+    ghost output = { λ _. Some (codes "the link failed") };
+
+    fn fmt<W: fmt::Write>(&self, f: &mut fmt::Formatter<W>) -> fmt::Result {
+        f.write_str("the link failed")
+    }
+}
+
+impl Error for LinkFailed {}
+
+/// Why a link could not be opened.
+#[derive(Clone, Copy, PartialEq, Eq, Debug)]
+pub enum OpenFault {
+    /// Memory ran out.
+    Memory,
+    /// The link failed.
+    LinkFailed,
+}
+
+impl fmt::Display for OpenFault {
+    ghost use Rattle.std.specs.Prelude.{Some};
+    ghost use Rattle.dg_link.specs.Faults.{open_fault_text};
+
+    ghost output = { λ fault. Some (open_fault_text fault) };
+
+    fn fmt<W: fmt::Write>(&self, f: &mut fmt::Formatter<W>) -> fmt::Result {
+        match self {
+            OpenFault::Memory => f.write_str("out of memory"),
+            OpenFault::LinkFailed => f.write_str("the link failed"),
+        }
+    }
+}
+
+impl Error for OpenFault {}
+
+impl From<AllocError> for OpenFault {
+    ghost use Rattle.std.specs.Prelude.{◌≡◌};
+    ghost use Rattle.dg_link.specs.declared.link.OpenFault.{OpenFault};
+
+    ghost from_gives = { λ _ e. e ≡ OpenFault.Memory };
+
+    fn from(_error: AllocError) -> OpenFault {
+        OpenFault::Memory
+    }
+}
+
+/// A link between motes. One that was not opened has no motes.
+pub trait Link {
+    // The inboxes of its motes, where the link tells them.
+    ghost inboxes: { Self → Option Inboxes };
+
+    // How many motes it has. Their numbers begin at 0.
+    ghost mote_count: { Self → ℕ };
+
+    // How many calls failed.
+    ghost faults: { Self → ℕ };
+
+    /// Begins with so many motes, from 1 to 16, at which no frame waits. Where the link goes over ports, the first
+    /// mote has `port`, at most 65,500, and the others have those that follow. After a refusal the link has no motes.
+    fn open(&mut self, alloc: Global, port: u16, motes: u16) -> Result<(), OpenFault>
+        requires some { 1 ≤ motes }
+        requires most { motes ≤ most_motes }
+        requires ports { port ≤ greatest_port }
+
+        ensures opened { OnOk result (mote_count self.new ≡ motes) }
+        ensures empty { OnOk result (inboxes self.new ≡ option_map (emptied motes) (inboxes self.old)) }
+
+        ensures closed { OnErr result (mote_count self.new ≡ 0) }
+        ensures none { OnErr result (inboxes self.new ≡ option_map (emptied 0) (inboxes self.old)) }
+
+        ensures counts { faults self.old ≤ faults self.new }
+        ensures failed { result ≡ Err OpenFault.LinkFailed → Rose (faults self.old) (faults self.new) }
+        ensures unfailed { OnOk result (faults self.new ≡ faults self.old) }
+        ensures memory { result ≡ Err OpenFault.Memory → faults self.new ≡ faults self.old };
+
+    /// Sends a frame from a mote to another.
+    fn send(&mut self, from: u16, to: u16, bytes: &[u8]) -> Result<(), LinkFailed>
+        requires fits { length bytes.now ≤ LONGEST_FRAME }
+        requires sender { from < mote_count self.old }
+        requires receiver { to < mote_count self.old }
+
+        ensures delivered { OnOk result (inboxes self.new ≡ option_map (delivered to bytes.now) (inboxes self.old)) }
+        ensures nothing { OnErr result (inboxes self.new ≡ inboxes self.old) }
+        ensures same_motes { mote_count self.new ≡ mote_count self.old }
+
+        ensures counts { faults self.old ≤ faults self.new }
+        ensures failed { OnErr result (Rose (faults self.old) (faults self.new)) }
+        ensures unfailed { OnOk result (faults self.new ≡ faults self.old) };
+
+    /// Receives a frame at a mote into the front of `into`, and answers how many bytes it has; or none, only
+    /// where none waited there when the call looked.
+    fn receive(
+        &mut self,
+        at: u16,
+        into: &mut [u8; LONGEST_FRAME],
+    ) -> Result<Option<usize>, LinkFailed>
+        requires { at < mote_count self.old }
+
+        ensures fits { IfOk result (λ r. IfSome r (λ n. n ≤ LONGEST_FRAME)) }
+        ensures received { IfOk result (λ r. Receives at into.new r (inboxes self.old) (inboxes self.new)) }
+        ensures nothing { OnErr result (inboxes self.new ≡ inboxes self.old) }
+        ensures same_motes { mote_count self.new ≡ mote_count self.old }
+
+        ensures counts { faults self.old ≤ faults self.new }
+        ensures failed { OnErr result (Rose (faults self.old) (faults self.new)) }
+        ensures unfailed { OnOk result (faults self.new ≡ faults self.old) };
+
+    // Where the inboxes are told, each mote has one.
+    ghost has_inboxes: { (l : Self) → HasInboxes (inboxes l) (mote_count l) };
+}

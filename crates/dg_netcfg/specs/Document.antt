@@ -1,0 +1,42 @@
+-- What a network profile reads of a TOML document, as `toml` defines documents.
+use Rattle.std.specs.Prelude.{ℕ, ◌&&◌, nat_le, if◌then◌else◌, ℤ, pos, negsuc, List, [], ◌∷◌, Option, Some, None, option_map, option_and_then}
+use Rattle.std.specs.Str.{is_utf8}
+use Rattle.toml.specs.Data.{Data, Items, no_items, item, Members, no_members, member, as_integer, as_array, get_member}
+use Rattle.toml.specs.Parse.{parse_document}
+
+-- the document that bytes write, where `toml` reads them
+unfoldable pub document_of : List ℕ → Option Members
+document_of bytes = if is_utf8 bytes then parse_document bytes else None
+
+-- the keys of a document
+abbrev pub keys_of : Members → List (List ℕ)
+keys_of no_members = []
+keys_of (member key value rest) = key ∷ keys_of rest
+
+-- the items of an array as a list
+abbrev pub list_of : Items → List Data
+list_of no_items = []
+list_of (item value rest) = value ∷ list_of rest
+
+-- the whole number at a key, and the array
+abbrev pub integer_at : List ℕ → Members → Option ℤ
+integer_at key document = option_and_then as_integer (get_member key document)
+
+abbrev pub array_at : List ℕ → Members → Option Items
+array_at key document = option_and_then as_array (get_member key document)
+
+-- a whole number, where it is in a range
+abbrev pub within : (least most : ℕ) → ℤ → Option ℕ
+within least most (pos n) = if nat_le least n && nat_le n most then Some n else None
+within least most (negsuc n) = None
+
+-- the two items of an array of exactly two
+abbrev pub two_of : Items → Option (Data × Data)
+two_of (item a (item b no_items)) = Some (a, b)
+two_of _ = None
+
+-- all the values of a list, where none is missing
+abbrev pub all_of : {A : Type 0} → List (Option A) → Option (List A)
+all_of [] = Some []
+all_of (None ∷ rest) = None
+all_of (Some x ∷ rest) = option_map (λ xs. x ∷ xs) (all_of rest)

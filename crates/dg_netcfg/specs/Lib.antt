@@ -1,0 +1,5 @@
+pub mod Faults
+pub mod Document
+pub mod Profile
+pub mod Readings
+pub mod Sizes

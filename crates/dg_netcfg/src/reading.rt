@@ -1,0 +1,110 @@
+//! From bytes to a network profile.
+ghost use Rattle.std.specs.Prelude.{◌≡◌, ◌≤◌, ℕ, option_map, IfSome};
+ghost use Rattle.std.specs.List.{list_all};
+ghost use Rattle.toml.specs.Data.{get_member};
+ghost use Rattle.toml.specs.View.{view, array_view, table_view};
+ghost use Rattle.dg_netcfg.specs.Document.{keys_of, integer_at, array_at, within};
+ghost use Rattle.dg_netcfg.specs.Profile.{is_key, fields_of, with_fields, netprofile};
+ghost use Rattle.dg_netcfg.specs.Readings.{Reads, IsReading};
+
+use crate::links::read_links;
+use crate::profile::{GREATEST_PORT, LEAST_PORT, MOST_MOTES, NetProfile, ProfileFault};
+use dg_base::Pairs;
+use std::alloc::Global;
+use toml::value::Array;
+use toml::{Table, Value};
+
+/// The profile that bytes write as a TOML document, or the first cause why they write none.
+pub fn read_profile(alloc: Global, bytes: &[u8]) -> Result<NetProfile, ProfileFault>
+    ensures value { Reads result (netprofile bytes.now) }
+    ensures reading { IsReading bytes.now result }
+{
+    match toml::table_from_slice(alloc, bytes) {
+        Ok(table) => profile_of(alloc, &table),
+        Err(fault) if fault.is_memory() => Err(ProfileFault::Memory),
+        Err(_) => Err(ProfileFault::NotToml),
+    }
+}
+
+/// The profile that a document is.
+fn profile_of(alloc: Global, document: &Table) -> Result<NetProfile, ProfileFault>
+    ensures { Reads result (with_fields (fields_of (table_view document.now))) }
+{
+    let Some((motes, port, entries)) = fields_of(document) else {
+        return Err(ProfileFault::Key);
+    };
+    let Some(motes) = within(motes, 1, MOST_MOTES) else {
+        return Err(ProfileFault::Id);
+    };
+    let motes = motes as u8;
+    let Some(links) = read_links(alloc, motes, entries)? else {
+        return Err(ProfileFault::Link);
+    };
+    let Some(port) = within(port, LEAST_PORT, GREATEST_PORT) else {
+        return Err(ProfileFault::Port);
+    };
+    Ok(NetProfile {
+        motes,
+        port,
+        links: Pairs::new(links),
+    })
+}
+
+/// What stands at the three keys, where there are no others and each has a value of its type.
+fn fields_of(document: &Table) -> Option<(i64, i64, &Array)>
+    ensures { option_map (λ f. (f.0, f.1, array_view f.2.now)) result ≡ fields_of (table_view document.now) }
+{
+    if !has_known_keys(document) {
+        return None;
+    }
+    let motes = integer_at(document, "motes")?;
+    let port = integer_at(document, "port")?;
+    let entries = array_at(document, "links")?;
+    Some((motes, port, entries))
+}
+
+fn has_known_keys(document: &Table) -> bool
+    ensures { result ≡ list_all is_key (keys_of (table_view document.now)) }
+{
+    for key in document.keys() {
+        if !is_key(key.as_str()) {
+            return false;
+        }
+    }
+    true
+}
+
+fn is_key(key: &str) -> bool
+    ensures { result ≡ is_key key.now }
+{
+    key == "motes" || key == "port" || key == "links"
+}
+
+fn value_at<'a>(document: &'a Table, key: &str) -> Option<&'a Value>
+    ensures { option_map (λ v. view v.now) result ≡ get_member key.now (table_view document.now) }
+{
+    document.get(key)
+}
+
+fn integer_at(document: &Table, key: &str) -> Option<i64>
+    ensures { result ≡ integer_at key.now (table_view document.now) }
+{
+    value_at(document, key)?.as_integer()
+}
+
+fn array_at<'a>(document: &'a Table, key: &str) -> Option<&'a Array>
+    ensures { option_map (λ a. array_view a.now) result ≡ array_at key.now (table_view document.now) }
+{
+    value_at(document, key)?.as_array()
+}
+
+/// A whole number, where it is in a range.
+pub(crate) fn within(number: i64, least: u16, most: u16) -> Option<u16>
+    ensures value { result ≡ within least most number }
+    ensures bound { IfSome result (λ n. n ≤ most) }
+{
+    match u16::try_from(number) {
+        Ok(number) if least <= number && number <= most => Some(number),
+        _ => None,
+    }
+}
