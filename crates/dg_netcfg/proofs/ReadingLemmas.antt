@@ -1,6 +1,6 @@
 -- The definition that computes tells the fields, the links and the causes.
 use Rattle.std.proofs.Common.{◌≡◌, ◌≢◌, ℕ, zero, suc, ◌-◌, ◌<◌, ◌≤◌, ℤ, pos, negsuc, Bool, true, false, cond, ◌&&◌, ◌||◌, Decides, List, [], ◌∷◌, map, Option, Some, None, option_map, Result, Ok, Err, refl, sym, ap, ◌∙◌, subst, arith}
-use Rattle.std.specs.Prelude.{◌==◌, nat_le, codes, option_and_then, All, AllPairs}
+use Rattle.std.specs.Prelude.{◌==◌, nat_le, codes, option_and_then, All, AllPairs, IfOk}
 use Rattle.std.specs.List.{list_all, list_any, AllZip}
 use Rattle.std.specs.Str.{is_utf8}
 use Rattle.std.proofs.lemmas.Bool.{false_from_ne_true, ne_eqb}
@@ -13,7 +13,7 @@ use Rattle.toml.specs.Data.{Data, string, integer, float, boolean, datetime, arr
 use Rattle.toml.specs.Parse.{parse_document}
 use Rattle.dg_netcfg.specs.Document.{document_of, keys_of, list_of, integer_at, array_at, within, two_of, all_of}
 use Rattle.dg_netcfg.specs.Profile.{is_key, three, fields_of, mote_of, joined, link_of, is_same_link, has_repeat, once, links_of, with_port, with_links, with_motes, with_fields, with_document, netprofile}
-use Rattle.dg_netcfg.specs.Readings.{Reads, IsDocument, IsKey, HasFields, IsWithin, IsLink, IsSameLink, AreLinks, IsReading}
+use Rattle.dg_netcfg.specs.Readings.{Reads, IsDocument, IsKey, HasFields, IsWithin, IsLink, IsSameLink, AreLinks, IsAllowed, IsReading}
 use Rattle.dg_netcfg.specs.declared.profile.NetProfile.{NetProfile}
 use Rattle.dg_netcfg.specs.declared.profile.ProfileFault.{ProfileFault}
 use Rattle.dg_netcfg.specs.declared.profile.ProfileFault.TheVariants.{NotToml, Key, Id, Link, Port, Memory}
@@ -307,3 +307,24 @@ is_read b (Err Memory) ne h = absurd (ne refl)
 is_read b (Ok p) ne h =
     with_read b h.0 h.1 h.2 h.3 ∙ ap (with_motes h.1 h.2) (within-from 1 most_motes h.0 p.motes h.4) ∙ ap (with_links p.motes h.1) (links_from p.motes h.2 p.links h.5)
     ∙ ap (with_port p.motes p.links) (within-from least_port greatest_port h.1 p.port h.6)
+
+-- ---- what is allowed
+
+abbrev Joins : ℕ → ℕ × ℕ → Type 0
+Joins motes l = (l.0 < motes) × (l.1 < motes) × (l.0 ≢ l.1)
+
+all_join : (motes : ℕ) (ds : List Data) (ls : List (ℕ × ℕ)) → AllZip (IsLink motes) ds ls → All (Joins motes) ls
+all_join motes [] [] h = λ k d within. absurd (omega arith)
+all_join motes [] (l ∷ ls) h = absurd h
+all_join motes (d ∷ ds) [] h = absurd h
+all_join motes (d ∷ ds) (l ∷ ls) h = All-cons (Joins motes) l ls (h.0.1, h.0.2, h.0.3) (all_join motes ds ls h.1)
+
+pub allowed : (b : List ℕ) (r : Result NetProfile ProfileFault) → IsReading b r → IfOk r IsAllowed
+allowed b (Ok p) h =
+    record {
+      motes = (h.4.1, h.4.2);
+      links = all_join p.motes (list_of h.2) p.links h.5.each;
+      once = h.5.once;
+      port = (h.6.1, h.6.2);
+    }
+allowed b (Err e) h = tt

@@ -47,6 +47,13 @@ pub record AreLinks (motes : ℕ) (entries : Items) (links : List (ℕ × ℕ)) 
   pub each : AllZip (IsLink motes) (list_of entries) links
   pub once : AllPairs (λ l m. ¬ IsSameLink l m) links
 
+-- what holds of each profile that is read
+pub record IsAllowed (p : NetProfile) : Type 0 where
+  pub motes : (1 ≤ p.motes) × (p.motes ≤ most_motes)
+  pub links : All (λ l. (l.0 < p.motes) × (l.1 < p.motes) × (l.0 ≢ l.1)) p.links
+  pub once : AllPairs (λ l m. ¬ IsSameLink l m) p.links
+  pub port : (least_port ≤ p.port) × (p.port ≤ greatest_port)
+
 -- Nothing is said where memory ran out.
 abbrev pub IsReading : List ℕ → Result NetProfile ProfileFault → Type 0
 IsReading b (Err NotToml) = (document : Members) → IsDocument b document → ⊥

@@ -1,11 +1,11 @@
 //! From bytes to a network profile.
-ghost use Rattle.std.specs.Prelude.{◌≡◌, ◌≤◌, ℕ, option_map, IfSome};
+ghost use Rattle.std.specs.Prelude.{◌≡◌, ◌≤◌, ℕ, option_map, IfOk, IfSome};
 ghost use Rattle.std.specs.List.{list_all};
 ghost use Rattle.toml.specs.Data.{get_member};
 ghost use Rattle.toml.specs.View.{view, array_view, table_view};
 ghost use Rattle.dg_netcfg.specs.Document.{keys_of, integer_at, array_at, within};
 ghost use Rattle.dg_netcfg.specs.Profile.{is_key, fields_of, with_fields, netprofile};
-ghost use Rattle.dg_netcfg.specs.Readings.{Reads, IsReading};
+ghost use Rattle.dg_netcfg.specs.Readings.{Reads, IsReading, IsAllowed};
 
 use crate::links::read_links;
 use crate::profile::{GREATEST_PORT, LEAST_PORT, MOST_MOTES, NetProfile, ProfileFault};
@@ -14,10 +14,14 @@ use std::alloc::Global;
 use toml::value::Array;
 use toml::{Table, Value};
 
-/// The profile that bytes write as a TOML document, or the first cause why they write none.
+/// The profile that bytes write as a document of TOML 1.1, or the first cause why they write none.
+///
+/// The document has exactly the keys `motes`, from 1 to 16, `port`, from 1,024 to 65,500, and `links`, an array of
+/// arrays of two motes, which are numbered from 0.
 pub fn read_profile(alloc: Global, bytes: &[u8]) -> Result<NetProfile, ProfileFault>
     ensures value { Reads result (netprofile bytes.now) }
     ensures reading { IsReading bytes.now result }
+    ensures allowed { IfOk result IsAllowed }
 {
     match toml::table_from_slice(alloc, bytes) {
         Ok(table) => profile_of(alloc, &table),
