@@ -8,8 +8,8 @@ use Rattle.dg_volume.specs.Sizes.{golden_version, short_starts, copy_operations}
 use Rattle.dg_volume.specs.Store.{Store, App}
 use Rattle.dg_volume.specs.Changes.{spent}
 use Rattle.dg_volume.specs.Trails.{committing}
-use Rattle.dg_volume.specs.Start.{Runs, Boot, behind, counts, count_trail, by_gesture, order_waits, is_set_to, blank_by, blank_trail, copy_trail, app_of, kept_runs, order_boot, golden_done, finish_trail, golden_copied, golden_stays, golden_by, golden_boot, kept_boot, waived_once, boot_counted, boot, sound}
-use Rattle.dg_volume.specs.Ends.{blank_commits, blanked, ordered_runs, order_started, golden_started, golden_runs, BootEnds}
+use Rattle.dg_volume.specs.Start.{Runs, Boot, behind, counts, count_trail, by_gesture, order_waits, is_set_to, blank_by, blank_trail, copy_trail, app_of, kept_runs, order_boot, golden_done, finish_trail, golden_copied, golden_stays, golden_by, golden_boot, kept_by, kept_boot, waived_once, boot_counted, boot, sound}
+use Rattle.dg_volume.specs.Ends.{blank_commits, blanked, ordered_runs, order_started, golden_started, golden_runs, app_runs, BootEnds}
 use Rattle.dg_volume.specs.declared.volume.Kind.{Kind}
 use Rattle.dg_volume.proofs.BeginLemmas.{counted_begins, finish_begins}
 
@@ -84,12 +84,29 @@ finish_last : (s : Store) (r : Runs) (three : Bool) → last (finish_trail s r t
 unfolding finish_trail
 finish_last s r three = last_if (nat_lt 0 s.room && (not (is_set_to s.app 0 golden_version) || three)) s (golden_done s r three)
 
-golden_is : (s : Store) → by_gesture s ≡ true → boot_counted s ≡ golden_boot s true
+pub golden_is : (s : Store) → by_gesture s ≡ true → boot_counted s ≡ golden_boot s true
 unfolding boot_counted
 golden_is s golden =
     ap (λ (b : Bool). cond b (golden_boot s true) (cond (order_waits s)
     (cond (sound s s.order.image) (order_boot s) (behind (committing s (waived_once s)) (kept_boot (waived_once s) (s.gesture == short_starts))))
     (kept_boot s (s.gesture == short_starts)))) golden
+
+kept_is : (s : Store) → by_gesture s ≡ false → order_waits s ≡ false → boot_counted s ≡ kept_boot s (s.gesture == short_starts)
+unfolding boot_counted
+kept_is s golden none =
+    let ordered = cond (sound s s.order.image) (order_boot s) (behind (committing s (waived_once s)) (kept_boot (waived_once s) (s.gesture == short_starts))) in
+    let kept = kept_boot s (s.gesture == short_starts) in
+    ap (λ (b : Bool). cond b (golden_boot s true) (cond (order_waits s) ordered kept)) golden ∙ ap (λ (b : Bool). cond b ordered kept) none
+
+pub blank_is : (s : Store) → by_gesture s ≡ false → order_waits s ≡ false → s.app ≡ None → boot_counted s ≡ golden_boot s (s.gesture == short_starts)
+unfolding kept_boot
+blank_is s golden none blank = kept_is s golden none ∙ ap (λ (o : Option App). kept_by o s (s.gesture == short_starts)) blank
+
+pub kept_ends : (s : Store) (app : App) → by_gesture s ≡ false → order_waits s ≡ false → s.app ≡ Some app → BootEnds (boot_counted s) (app_runs app) s
+unfolding kept_boot
+kept_ends s app golden none here =
+    let is = kept_is s golden none ∙ ap (λ (o : Option App). kept_by o s (s.gesture == short_starts)) here in
+    record { started = ap (λ (b : Boot). b.runs) is; ends = ap (λ (b : Boot). last b.trail) is ∙ last-resting s 0 }
 
 copied_by : (o : Option App) (s : Store) (three : Bool) → is_set_to o 0 golden_version ≡ false → golden_by o s three ≡ golden_copied s three
 copied_by None s three other = refl
@@ -110,11 +127,11 @@ copied_last s three fine =
       ends = ap (λ (x : Boot). last x.trail) is ∙ last_copied s r.pages (λ x. finish_trail x r three) (λ x. (finish_begins x r three).first) ∙ finish_last (blanked s) r three;
     }
 
-pub golden_copied_ends : (s : Store) → by_gesture s ≡ true → is_set_to s.app 0 golden_version ≡ false → sound s 0 ≡ true
-    → BootEnds (boot_counted s) (kept_runs s 0 golden_version) (golden_started (blanked s) (kept_runs s 0 golden_version) true)
-golden_copied_ends s golden other fine =
-    let is = golden_is s golden ∙ copied_is s true other in
-    let ends = copied_last s true fine in
+pub golden_copied_ends : (s : Store) (three : Bool) → is_set_to s.app 0 golden_version ≡ false → sound s 0 ≡ true
+    → BootEnds (golden_boot s three) (kept_runs s 0 golden_version) (golden_started (blanked s) (kept_runs s 0 golden_version) three)
+golden_copied_ends s three other fine =
+    let is = copied_is s three other in
+    let ends = copied_last s three fine in
     record { started = ap (λ (b : Boot). b.runs) is ∙ ends.started; ends = ap (λ (b : Boot). last b.trail) is ∙ ends.ends }
 
 stays_is : (s : Store) (app : App) (three : Bool) → s.app ≡ Some app → is_set_to (Some app) 0 golden_version ≡ true → golden_boot s three ≡ golden_stays s app three
@@ -122,7 +139,7 @@ unfolding golden_boot
 stays_is s app three is set =
     ap (λ (o : Option App). golden_by o s three) is ∙ ap (λ (b : Bool). cond b (golden_stays s app three) (golden_copied s three)) set
 
-pub golden_stays_ends : (s : Store) (app : App) → by_gesture s ≡ true → s.app ≡ Some app → is_set_to (Some app) 0 golden_version ≡ true → BootEnds (boot_counted s) (golden_runs app) (golden_started s (golden_runs app) true)
-golden_stays_ends s app golden here set =
-    let is = golden_is s golden ∙ stays_is s app true here set in
-    record { started = ap (λ (b : Boot). b.runs) is; ends = ap (λ (b : Boot). last b.trail) is ∙ finish_last s (golden_runs app) true }
+pub golden_stays_ends : (s : Store) (app : App) (three : Bool) → s.app ≡ Some app → is_set_to (Some app) 0 golden_version ≡ true → BootEnds (golden_boot s three) (golden_runs app) (golden_started s (golden_runs app) three)
+golden_stays_ends s app three here set =
+    let is = stays_is s app three here set in
+    record { started = ap (λ (b : Boot). b.runs) is; ends = ap (λ (b : Boot). last b.trail) is ∙ finish_last s (golden_runs app) three }

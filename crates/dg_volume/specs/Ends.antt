@@ -66,6 +66,10 @@ order_started s = record s { app = Some (app_of (ordered_runs s)); room = s.room
 abbrev pub golden_started : Store → Runs → Bool → Store
 golden_started s r three = if nat_lt 0 s.room && (not (is_set_to s.app 0 golden_version) || three) then golden_done s r three else s
 
+-- what is in program memory runs on
+abbrev pub app_runs : App → Runs
+app_runs app = record { image = app.image; version = app.version; pages = app.pages }
+
 -- golden that stands in program memory
 abbrev pub golden_runs : App → Runs
 golden_runs app = record { image = 0; version = golden_version; pages = app.pages }

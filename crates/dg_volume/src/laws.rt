@@ -1,5 +1,5 @@
 //! What holds of volumes. These functions do nothing: their contracts are the laws.
-ghost use Rattle.std.specs.Prelude.{◌≡◌, ◌↔◌, ℕ, ◌+◌, ◌<◌, ◌≤◌, if◌then◌else◌, Bool, true, false, List, [], Option, Some, None, IfSome, length, drop, slice_index_or};
+ghost use Rattle.std.specs.Prelude.{◌≡◌, ◌↔◌, ℕ, ◌+◌, ◌<◌, ◌≤◌, ◌==◌, if◌then◌else◌, Bool, true, false, List, [], Option, Some, None, IfSome, length, drop, slice_index_or};
 ghost use Rattle.dg_nor.specs.Chip.{Touches};
 ghost use Rattle.dg_nor.specs.Device.{Device, Ran, Halts};
 ghost use Rattle.dg_nor.specs.Trail.{Trail, operations, last, joined, resting, stepping, EachWorks, Leaves};
@@ -7,17 +7,17 @@ ghost use Rattle.dg_nor.specs.Through.{Through};
 ghost use Rattle.dg_object.specs.Object.{Row, Outline, IsRow, profile, object};
 ghost use Rattle.dg_slot.specs.Layout.{header_sector, slot_end, program_sector, program_end};
 ghost use Rattle.dg_slot.specs.Pages.{program};
-ghost use Rattle.dg_slot.specs.Kept.{Held, KeepsImage, with_page};
+ghost use Rattle.dg_slot.specs.Kept.{Held, KeepsImage, held_begun, with_page};
 ghost use Rattle.dg_slot.specs.Fits.{may_seal};
 ghost use Rattle.dg_slot.specs.Jobs.{seal_trail, SlotStops};
-ghost use Rattle.dg_volume.specs.Sizes.{images, golden_version};
+ghost use Rattle.dg_volume.specs.Sizes.{images, golden_version, short_starts};
 ghost use Rattle.dg_volume.specs.Store.{App, Store, IsNear, held, held_to, held_whole};
 ghost use Rattle.dg_volume.specs.Stands.{Stands, Tells, MountedBut, Mounted, IsMounted};
 ghost use Rattle.dg_volume.specs.Changes.{spent, keeping, paged, ordered, gesture_cleared, advanced, inject_refusal, FitAll};
 ghost use Rattle.dg_volume.specs.Trails.{BeginsAt, order_trail, clear_trail, advance_trail, take_trail, fill_trail, inject_trail, sealing_trail};
 ghost use Rattle.dg_volume.specs.Acts.{Acted, Stops};
-ghost use Rattle.dg_volume.specs.Start.{counts, count_trail, by_gesture, order_waits, is_set_to, sound, kept_runs, boot_counted, boot};
-ghost use Rattle.dg_volume.specs.Ends.{taken, with_pages, injected, KeepsPagesOf, PartOf, blanked, ordered_runs, order_started, golden_started, golden_runs, BootEnds, Boots};
+ghost use Rattle.dg_volume.specs.Start.{counts, count_trail, by_gesture, order_waits, is_set_to, sound, kept_runs, golden_boot, boot_counted, boot};
+ghost use Rattle.dg_volume.specs.Ends.{taken, with_pages, injected, KeepsPagesOf, PartOf, blanked, ordered_runs, order_started, golden_started, golden_runs, app_runs, BootEnds, Boots};
 ghost use Rattle.dg_volume.specs.Table.{row_at, IsTable};
 ghost use Rattle.dg_volume.specs.Agreement.{Agrees};
 ghost use Rattle.dg_volume.specs.RowLaws.{RowLaws, SoundRows, RowsFit};
@@ -136,23 +136,28 @@ pub fn acts_end()
     ensures clear { (s : Store) → last (clear_trail s) ≡ gesture_cleared s }
     ensures advance { (s : Store) (app : Option App) (gesture : ℕ) (waived : Bool) → last (advance_trail s app gesture waived) ≡ advanced s app gesture waived }
     ensures take { (s : Store) (p : Outline) → last (take_trail s p) ≡ taken s p }
+    ensures begun { (s : Store) (p : Outline) → p.image < length s.kept → held (taken s p) p.image ≡ Some (held_begun p) }
     ensures fill { (s : Store) (image : ℕ) (h : Held) (pages : List (List ℕ)) → image < length s.kept → held s image ≡ Some h
         → last (fill_trail s image pages) ≡ keeping image (Some (with_pages h pages)) s }
     ensures inject { (s : Store) (row : Row) → row.image < length s.kept → inject_refusal s row ≡ None
         → IfSome (held s row.image) (KeepsPagesOf row) → last (inject_trail s row) ≡ injected s row }
 {}
 
-/// Where a start ends, and what it starts: counted where it counts, and then by its gesture golden, which is copied or
-/// stands in program memory already, or by an order that waits the ordered image.
+/// Where a start ends, and what it starts. First it is counted, where it counts. Then it is golden by the gesture, the
+/// ordered image where an order waits, and else what is in program memory, or golden where that is blank.
 pub fn starts_end()
     ensures count { (kind : Kind) (s : Store) → last (count_trail kind s) ≡ if counts kind s then record (spent s) { gesture = s.gesture + 1 } else s }
     ensures counted { (kind : Kind) (s : Store) → ((boot kind s).runs ≡ (boot_counted (last (count_trail kind s))).runs)
         × (last (boot kind s).trail ≡ last (boot_counted (last (count_trail kind s))).trail) }
+    ensures by_gesture { (s : Store) → by_gesture s ≡ true → boot_counted s ≡ golden_boot s true }
     ensures order { (s : Store) → by_gesture s ≡ false → order_waits s ≡ true → sound s s.order.image ≡ true → BootEnds (boot_counted s) (ordered_runs s) (order_started s) }
-    ensures golden_copied { (s : Store) → by_gesture s ≡ true → is_set_to s.app 0 golden_version ≡ false → sound s 0 ≡ true
-        → BootEnds (boot_counted s) (kept_runs s 0 golden_version) (golden_started (blanked s) (kept_runs s 0 golden_version) true) }
-    ensures golden_stays { (s : Store) (app : App) → by_gesture s ≡ true → s.app ≡ Some app → is_set_to (Some app) 0 golden_version ≡ true
-        → BootEnds (boot_counted s) (golden_runs app) (golden_started s (golden_runs app) true) }
+    ensures kept { (s : Store) (app : App) → by_gesture s ≡ false → order_waits s ≡ false → s.app ≡ Some app → BootEnds (boot_counted s) (app_runs app) s }
+    ensures blank { (s : Store) → by_gesture s ≡ false → order_waits s ≡ false → s.app ≡ None → boot_counted s ≡ golden_boot s (s.gesture == short_starts) }
+    // golden is copied, or it stands in program memory
+    ensures golden_copied { (s : Store) (three : Bool) → is_set_to s.app 0 golden_version ≡ false → sound s 0 ≡ true
+        → BootEnds (golden_boot s three) (kept_runs s 0 golden_version) (golden_started (blanked s) (kept_runs s 0 golden_version) three) }
+    ensures golden_stays { (s : Store) (app : App) (three : Bool) → s.app ≡ Some app → is_set_to (Some app) 0 golden_version ≡ true
+        → BootEnds (golden_boot s three) (golden_runs app) (golden_started s (golden_runs app) three) }
 {}
 
 /// A start leaves kept images and the order as they are, runs golden, what program memory was Set to or the ordered
