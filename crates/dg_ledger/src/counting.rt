@@ -1,5 +1,5 @@
 //! A ledger read from its chip: the text, and how many bits are cleared behind it.
-ghost use Rattle.std.specs.Prelude.{◌≡◌, ◌↔◌, ℕ, ◌+◌, ◌*◌, ◌<◌, ◌≤◌, [], ◌∷◌, ◌++◌, false, length, IfOk, OnOk, IfSome, IsNone, IsTrue};
+ghost use Rattle.std.specs.Prelude.{◌≡◌, ◌↔◌, ℕ, ◌+◌, ◌*◌, ◌<◌, ◌≤◌, [], ◌∷◌, ◌++◌, false, length, replicate, IfOk, OnOk, IfSome, IsNone, IsTrue};
 ghost use Rattle.dg_ledger.specs.Sizes.{ledger_sector, text_size, bits_size, most_count};
 ghost use Rattle.dg_words.specs.Bits.{cleared_bits};
 ghost use Rattle.dg_words.specs.Cells.{part};
@@ -15,6 +15,10 @@ pub(crate) const TEXT: [u8; TEXT_SIZE as usize] = *b"DELUGE-NOR-PROF1";
 
 /// The bytes of bits are read in pieces of at most this many.
 const PIECE: u16 = 64;
+
+/// Pieces with no bit cleared, and with all. Slices are compared many bytes at a time.
+const UNUSED: [u8; PIECE as usize] = [0xFF; PIECE as usize];
+const USED: [u8; PIECE as usize] = [0x00; PIECE as usize];
 
 /// Whether the sector begins with the text of a ledger.
 pub(crate) fn has_text<N: Nor>(nor: &mut N) -> Result<bool, Stopped>
@@ -48,9 +52,25 @@ fn count_byte(byte: u8, at: u16, count: u16) -> Option<u16>
     Some(count + cleared)
 }
 
+/// Whether no bit of the piece is cleared.
+fn is_unused(piece: &[u8]) -> bool
+    requires { length piece.now ≤ PIECE }
+    ensures { IsTrue result ↔ (piece.now ≡ replicate (length piece.now) 255) }
+{
+    piece == &UNUSED[..piece.len()]
+}
+
+/// Whether all bits of the piece are cleared.
+fn is_used(piece: &[u8]) -> bool
+    requires { length piece.now ≤ PIECE }
+    ensures { IsTrue result ↔ (piece.now ≡ replicate (length piece.now) 0) }
+{
+    piece == &USED[..piece.len()]
+}
+
 /// How many bits are cleared where `piece` stands behind `at` bytes with `count` cleared bits, if all of them
-/// come first.
-fn count_piece(piece: &[u8], at: u16, count: u16) -> Option<u16>
+/// come first. It is looked at byte by byte.
+fn count_bytes(piece: &[u8], at: u16, count: u16) -> Option<u16>
     requires within { count ≤ 8 * at }
     requires in_ledger { at + length piece.now ≤ bits_size }
     ensures fits { IfSome result (λ n. n ≤ 8 * (at + length piece.now)
@@ -68,6 +88,25 @@ fn count_piece(piece: &[u8], at: u16, count: u16) -> Option<u16>
     Some(counted)
 }
 
+/// The same. In a ledger all pieces but one are used or unused as a whole, which is seen at once.
+fn count_piece(piece: &[u8], at: u16, count: u16) -> Option<u16>
+    requires within { count ≤ 8 * at }
+    requires in_ledger { at + length piece.now ≤ bits_size }
+    requires in_piece { length piece.now ≤ PIECE }
+    ensures fits { IfSome result (λ n. n ≤ 8 * (at + length piece.now)
+        × (cleared_bits at count ++ piece.now ≡ cleared_bits (at + length piece.now) n)) }
+    ensures no_fit { IsNone result
+        → (n : ℕ) → cleared_bits at count ++ piece.now ≡ cleared_bits (at + length piece.now) n → ⊥ }
+{
+    if is_unused(piece) {
+        return Some(count);
+    }
+    if count == 8 * at && is_used(piece) {
+        return Some(count + 8 * piece.len() as u16);
+    }
+    count_bytes(piece, at, count)
+}
+
 /// Reads the bits behind `at` bytes of them into `piece`, and counts on.
 fn read_piece<N: Nor>(
     nor: &mut N,
@@ -77,6 +116,7 @@ fn read_piece<N: Nor>(
 ) -> Result<Option<u16>, Stopped>
     requires within { count ≤ 8 * at }
     requires in_ledger { at + length piece.old ≤ bits_size }
+    requires in_piece { length piece.old ≤ PIECE }
     ensures fits { IfOk result (λ found. IfSome found (λ n. n ≤ 8 * (at + length piece.old)
         × (cleared_bits at count ++ part (sector (N.device nor.old).image ledger_sector) (text_size + at) (length piece.old)
         ≡ cleared_bits (at + length piece.old) n))) }
