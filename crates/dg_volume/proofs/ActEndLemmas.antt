@@ -72,7 +72,7 @@ take_last s p = take_last_by s p (held s p.image)
 
 -- ---- pages that are filled
 
-held_paged : (s : Store) (image : ℕ) (h : Held) (page : List ℕ) → image < length s.kept → held s image ≡ Some h → held (paged image page s) image ≡ Some (with_page h page)
+pub held_paged : (s : Store) (image : ℕ) (h : Held) (page : List ℕ) → image < length s.kept → held s image ≡ Some h → held (paged image page s) image ≡ Some (with_page h page)
 held_paged s image h page known here =
     get_or-set_same s.kept image (option_map (λ x. with_page x page) (held s image)) None known ∙ ap (λ (o : Option Held). option_map (λ x. with_page x page) o) here
 

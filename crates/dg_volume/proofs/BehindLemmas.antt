@@ -64,9 +64,9 @@ held_stays c d i (Some h) same keeps = image_stays c d i h same keeps
 
 -- ---- a chip on which these parts stay, or are as they are said to be
 
-mounted_by : (P : ℕ → Type 0) (c d : List ℕ) (v : Volume) (s t : Store) → SameControl c d → Mounted c v s → t.room ≡ s.room → ((p : Snapshot) → Says p s → Says p t) → Contains d t
+mounted_by : (P Q : ℕ → Type 0) (c d : List ℕ) (v : Volume) (s t : Store) → SameControl c d → MountedBut Q c v s → t.room ≡ s.room → ((p : Snapshot) → Says p s → Says p t) → Contains d t
     → ((i : ℕ) → i < images → (P i → ⊥) → kept_at v i ≡ told (held t i)) → MountedBut P d v t
-mounted_by P c d v s t same m room says contains kept = record {
+mounted_by P Q c d v s t same m room says contains kept = record {
   control = mounted_kept c d v.control same m.control;
   stands = record {
     snapshot = m.stands.snapshot;
@@ -80,7 +80,7 @@ mounted_by P c d v s t same m room says contains kept = record {
 pub memory_free : (c d : List ℕ) (v : Volume) (s : Store) → s.app ≡ None → Touches (program_sector 0) program_end c d → Mounted c v s → Mounted d v s
 memory_free c d v s none keeps m =
     let contains = m.stands.contains in
-    mounted_by (λ i. ⊥) c d v s s (control_before (program_sector 0) program_end c d (omega arith) keeps) m refl (λ p says. says)
+    mounted_by (λ i. ⊥) (λ i. ⊥) c d v s s (control_before (program_sector 0) program_end c d (omega arith) keeps) m refl (λ p says. says)
     (record {
       count = contains.count;
       kept = λ i known. held_stays c d i (held s i) (slot_behind c d i known keeps) (contains.kept i known);
@@ -95,7 +95,11 @@ held_here s i g h = get_or-set_same s.kept i (Some g) None h
 held_there : (s : Store) (i j : ℕ) (g : Held) → (j ≡ i → ⊥) → held (keeping i (Some g) s) j ≡ held s j
 held_there s i j g other = get_or-set_other s.kept i j (Some g) None other
 
-pub slot_counts : (c d : List ℕ) (v : Volume) (s : Store) (i : ℕ) (h g : Held) → 1 ≤ i → i < images → held s i ≡ Some h → g.version ≡ h.version → Touches (header_sector i) (slot_end i) c d → KeepsImage d i g → Mounted c v s
+-- what is told of one slot does not count
+pub told_but : (c : List ℕ) (v : Volume) (s : Store) (i : ℕ) → Mounted c v s → MountedBut (λ j. j ≡ i) c v s
+told_but c v s i m = record { control = m.control; stands = m.stands; tells = record { says = m.tells.says; room = m.tells.room; kept = λ j k other. m.tells.kept j k (λ x. x) } }
+
+pub slot_counts : (c d : List ℕ) (v : Volume) (s : Store) (i : ℕ) (h g : Held) → 1 ≤ i → i < images → held s i ≡ Some h → g.version ≡ h.version → Touches (header_sector i) (slot_end i) c d → KeepsImage d i g → MountedBut (λ j. j ≡ i) c v s
     → MountedBut (λ j. j ≡ i) d v (keeping i (Some g) s)
 slot_counts c d v s i h g not_golden known here version keeps image m =
     let contains = m.stands.contains in
@@ -104,7 +108,7 @@ slot_counts c d v s i h g not_golden known here version keeps image m =
     let same_slot : slot_told (held s i) ≡ slot_told (held t i) = ap slot_told here ∙ ap (λ (n : ℕ). Live n) (sym version) ∙ ap slot_told (sym (held_here s i g within)) in
     let told_slots : (j : ℕ) → slot_told (held s j) ≡ slot_told (held t j) =
     λ j. ⊎_elim (λ e. subst (λ (n : ℕ). slot_told (held s n) ≡ slot_told (held t n)) (sym e) same_slot) (λ other. ap slot_told (sym (held_there s i j g other))) (cases_eq j i) in
-    mounted_by (λ j. j ≡ i) c d v s t (control_before (header_sector i) (slot_end i) c d (omega arith) keeps) m refl
+    mounted_by (λ j. j ≡ i) (λ j. j ≡ i) c d v s t (control_before (header_sector i) (slot_end i) c d (omega arith) keeps) m refl
     (λ p says. record { slots = λ j k. says.slots j k ∙ told_slots j; program = says.program; order = says.order; waived = says.waived; gesture = says.gesture })
     (record {
       count = length-set s.kept i (Some g) ∙ contains.count;
@@ -115,12 +119,14 @@ slot_counts c d v s i h g not_golden known here version keeps image m =
       golden = record { whole = subst (λ (o : Option Held). IsSomeAnd o (λ x. (x.version ≡ golden_version) × (length x.complete ≡ x.pages))) (sym (held_there s i 0 g (λ e. absurd (omega (arith, e, not_golden))))) contains.golden.whole };
       app = memory_stays c d s.app (memory_before (slot_end i) c d i keeps) contains.app;
     })
-    (λ j k other. m.tells.kept j k (λ x. x) ∙ ap told (sym (held_there s i j g other)))
+    (λ j k other. m.tells.kept j k other ∙ ap told (sym (held_there s i j g other)))
 
-pub slot_same : (c d : List ℕ) (v : Volume) (s : Store) (i : ℕ) (h : Held) → 1 ≤ i → i < images → held s i ≡ Some h → Touches (header_sector i) (slot_end i) c d → KeepsImage d i h → Mounted c v s → Mounted d v s
-slot_same c d v s i h not_golden known here keeps image m =
+-- what of the slots is told stays, whatever that is
+pub slot_same : (P : ℕ → Type 0) (c d : List ℕ) (v : Volume) (s : Store) (i : ℕ) (h : Held) → 1 ≤ i → i < images → held s i ≡ Some h → Touches (header_sector i) (slot_end i) c d → KeepsImage d i h → MountedBut P c v s
+    → MountedBut P d v s
+slot_same P c d v s i h not_golden known here keeps image m =
     let contains = m.stands.contains in
-    mounted_by (λ j. ⊥) c d v s s (control_before (header_sector i) (slot_end i) c d (omega arith) keeps) m refl (λ p says. says)
+    mounted_by P P c d v s s (control_before (header_sector i) (slot_end i) c d (omega arith) keeps) m refl (λ p says. says)
     (record {
       count = contains.count;
       kept = λ j k. ⊎_elim
@@ -136,7 +142,7 @@ slot_same c d v s i h not_golden known here keeps image m =
 pub slot_free : (c d : List ℕ) (v : Volume) (s : Store) (i : ℕ) → i < images → held s i ≡ None → Touches (header_sector i) (slot_end i) c d → Mounted c v s → Mounted d v s
 slot_free c d v s i known none keeps m =
     let contains = m.stands.contains in
-    mounted_by (λ j. ⊥) c d v s s (control_before (header_sector i) (slot_end i) c d (omega arith) keeps) m refl (λ p says. says)
+    mounted_by (λ j. ⊥) (λ j. ⊥) c d v s s (control_before (header_sector i) (slot_end i) c d (omega arith) keeps) m refl (λ p says. says)
     (record {
       count = contains.count;
       kept = λ j k. ⊎_elim

@@ -25,3 +25,6 @@ pub mod PagedLemmas
 pub mod CompareLemmas
 pub mod PartLemmas
 pub mod InjectLemmas
+pub mod TableLemmas
+pub mod SoundLemmas
+pub mod StartEndLemmas

@@ -1,8 +1,8 @@
 -- What is kept of a row in part: its next pages fit.
-use Rattle.std.proofs.Common.{◌≡◌, ℕ, zero, suc, ◌+◌, ◌<◌, ◌≤◌, Bool, true, false, List, [], ◌∷◌, ◌++◌, length, take, drop, get_or, Option, Some, refl, sym, ap, subst, ◌∙◌, arith}
+use Rattle.std.proofs.Common.{◌≡◌, ℕ, zero, suc, ◌+◌, ◌-◌, ◌<◌, ◌≤◌, Bool, true, false, List, [], ◌∷◌, ◌++◌, length, take, drop, get_or, Option, Some, refl, sym, ap, subst, ◌∙◌, ⊎_elim, arith}
 use Rattle.std.specs.Prelude.{◌==◌, ◌&&◌, ◌||◌, not, option_map}
 use Rattle.std.specs.Cmp.Lexicographic.{same_text}
-use Rattle.std.proofs.lemmas.Bool.{eqb-true}
+use Rattle.std.proofs.lemmas.Bool.{eqb-true, cases_lt}
 use Rattle.std.proofs.lemmas.List.{get_or-take, get_or-set_same, length-append}
 use Rattle.std.proofs.Math.ListN.{length-set, drop_of_length-le}
 use Rattle.std.proofs.Math.Seq.{drop-cons}
@@ -13,15 +13,9 @@ use Rattle.dg_object.proofs.RowLemmas.{length-object, get_or-object}
 use Rattle.dg_slot.specs.Kept.{Held, with_page, held_begun, crc_by, kept_crc}
 use Rattle.dg_slot.specs.Fits.{describes, first_fits, may_seal}
 use Rattle.dg_volume.specs.Store.{Store, held, held_to}
+use Rattle.dg_volume.specs.Ends.{PartOf}
 use Rattle.dg_volume.specs.Changes.{paged, FitsNext, FitAll, is_other, other_first, same_bytes}
-use Rattle.dg_volume.proofs.RowLemmas.{length-held_to}
-
--- the row's profile is kept, and where there is a complete page, page 0 is the row's
-pub record PartOf (row : Row) (h : Held) : Type 0 where
-  pub version : h.version ≡ row.version
-  pub pages : h.pages ≡ (profile row).pages
-  pub crc : h.crc ≡ (profile row).crc
-  pub first : 0 < length h.complete → get_or h.complete 0 [] ≡ page_of_row row 0
+use Rattle.dg_volume.proofs.RowLemmas.{length-held_to, beyond}
 
 pub part_begun : (row : Row) → PartOf row (held_begun (profile row))
 part_begun row = record { version = refl; pages = refl; crc = refl; first = λ some. absurd (omega (arith, some)) }
@@ -111,3 +105,10 @@ rest_part next row (suc k) n h s e is row_is part known here =
     let rest : FitAll row.image (drop (suc n) (object row)) t =
     subst (λ (m : ℕ). FitAll row.image (drop m (object row)) t) j (rest_part next row k (n + 1) g t (omega (arith, e)) count row_is part_g known_t kept) in
     subst (λ (xs : List (List ℕ)). FitAll row.image xs s) (sym (drop-cons (object row) n [] within)) (one, rest)
+
+pub all_rest : NextFits → (row : Row) (h : Held) (s : Store) → IsRow row → PartOf row h → row.image < length s.kept → held s row.image ≡ Some h → FitAll row.image (drop (length h.complete) (object row)) s
+all_rest next row h s is part known here =
+    ⊎_elim
+    (λ less. rest_part next row (length (object row) - length h.complete) (length h.complete) h s (omega (arith, less)) refl is part known here)
+    (λ more. beyond row (length h.complete) s more)
+    (cases_lt (length h.complete) (length (object row)))

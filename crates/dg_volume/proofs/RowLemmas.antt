@@ -90,7 +90,7 @@ rest_fits tested row (suc k) n s e is known here =
     subst (λ (m : ℕ). FitAll row.image (drop m (object row)) t) j (rest_fits tested row k (n + 1) t (omega (arith, e)) is known_t (held_next row s n known here h)) in
     subst (λ (xs : List (List ℕ)). FitAll row.image xs s) (sym (drop-cons (object row) n [] h)) (next, rest)
 
-beyond : (row : Row) (n : ℕ) (s : Store) → length (object row) ≤ n → FitAll row.image (drop n (object row)) s
+pub beyond : (row : Row) (n : ℕ) (s : Store) → length (object row) ≤ n → FitAll row.image (drop n (object row)) s
 unfolding FitAll
 beyond row n s h = subst (λ (xs : List (List ℕ)). FitAll row.image xs s) (sym (drop_of_length-le (object row) h)) tt
 

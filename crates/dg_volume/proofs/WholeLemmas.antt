@@ -58,7 +58,7 @@ first_page row = get_or-object row 0 [] (omega arith) ∙ page_of_row-first row 
 other_page : (row : Row) (p : ℕ) → 1 ≤ p → p < pages_for (length row.bytes) → get_or (object row) p [] ≡ data_page row.bytes p
 other_page row p low high = get_or-object row p [] high ∙ page_of_row-data row p low
 
-object_is_sound : (row : Row) → IsRow row → pages_sound (crc_of (descriptor_page row)) (object row) ≡ true
+pub object_is_sound : (row : Row) → IsRow row → pages_sound (crc_of (descriptor_page row)) (object row) ≡ true
 object_is_sound row is =
     let count = length-object row in
     pages_sound_from (crc_of (descriptor_page row)) (object row) (omega arith) (ap crc_of (first_page row))

@@ -1,13 +1,13 @@
 -- Where acts and starts end, and what they leave as it is.
-use Rattle.std.specs.Prelude.{◌≡◌, ◌≢◌, ◌⊎◌, ℕ, ◌-◌, ◌≤◌, if◌then◌else◌, true, List, ◌++◌, length, Option, Some, None, IfSome}
+use Rattle.std.specs.Prelude.{◌≡◌, ◌≢◌, ◌⊎◌, ℕ, ◌+◌, ◌-◌, ◌<◌, ◌≤◌, ◌&&◌, ◌||◌, not, nat_lt, if◌then◌else◌, Bool, true, List, [], ◌++◌, length, slice_index_or, Option, Some, None, IfSome}
 use Rattle.dg_nor.specs.Trail.{last}
 use Rattle.dg_nor.specs.Through.{Through}
-use Rattle.dg_object.specs.Object.{Row, Outline, object}
+use Rattle.dg_object.specs.Object.{Row, Outline, page_of_row, object, profile}
 use Rattle.dg_slot.specs.Kept.{Held, held_begun}
 use Rattle.dg_volume.specs.Sizes.{golden_version}
-use Rattle.dg_volume.specs.Store.{Store, held, held_to, held_whole}
+use Rattle.dg_volume.specs.Store.{Store, App, held, held_to, held_whole}
 use Rattle.dg_volume.specs.Changes.{keeping, is_version}
-use Rattle.dg_volume.specs.Start.{Runs, Boot, complete_pages, is_whole, app_of}
+use Rattle.dg_volume.specs.Start.{Runs, Boot, complete_pages, is_whole, is_set_to, app_of, kept_runs, golden_done}
 
 -- ---- a take
 
@@ -38,7 +38,46 @@ injected s row = keeping row.image (Some (held_whole row)) (record s { room = s.
 abbrev pub KeepsPagesOf : Row → Held → Type 0
 KeepsPagesOf row h = h.version ≡ row.version → (n : ℕ) × (n ≤ length (object row)) × (h ≡ held_to row n)
 
+-- the row's profile is kept, and where there is a complete page, page 0 is the row's
+pub record PartOf (row : Row) (h : Held) : Type 0 where
+  pub version : h.version ≡ row.version
+  pub pages : h.pages ≡ (profile row).pages
+  pub crc : h.crc ≡ (profile row).crc
+  pub first : 0 < length h.complete → slice_index_or h.complete 0 [] ≡ page_of_row row 0
+
 -- ---- a start
+
+-- program memory is blank: a commit made it so, unless it was
+abbrev pub blank_commits : Option App → ℕ
+blank_commits None = 0
+blank_commits (Some app) = 1
+
+abbrev pub blanked : Store → Store
+blanked s = record s { app = None; room = s.room - blank_commits s.app }
+
+-- the ordered image runs, and program memory is Set to it
+abbrev pub ordered_runs : Store → Runs
+ordered_runs s = kept_runs s s.order.image s.order.version
+
+abbrev pub order_started : Store → Store
+order_started s = record s { app = Some (app_of (ordered_runs s)); room = s.room - (blank_commits s.app + 1) }
+
+-- golden runs: the last commit is made where there is room, unless it would change nothing
+abbrev pub golden_started : Store → Runs → Bool → Store
+golden_started s r three = if nat_lt 0 s.room && (not (is_set_to s.app 0 golden_version) || three) then golden_done s r three else s
+
+-- what is in program memory runs on
+abbrev pub app_runs : App → Runs
+app_runs app = record { image = app.image; version = app.version; pages = app.pages }
+
+-- golden that stands in program memory
+abbrev pub golden_runs : App → Runs
+golden_runs app = record { image = 0; version = golden_version; pages = app.pages }
+
+-- the start that this store makes ends with these
+pub record BootEnds (b : Boot) (runs : Runs) (s : Store) : Type 0 where
+  pub started : b.runs ≡ Some runs
+  pub ends : last b.trail ≡ s
 
 pub record IsGolden (r : Runs) : Type 0 where
   pub image : r.image ≡ 0

@@ -6,6 +6,7 @@ use Rattle.dg_control.specs.declared.snapshot.Order.{Order}
 use Rattle.dg_object.specs.Object.{Row, Outline, object, profile}
 use Rattle.dg_slot.specs.Layout.{page_operations}
 use Rattle.dg_slot.specs.Kept.{Held, held_begun}
+use Rattle.dg_slot.specs.Fits.{may_seal}
 use Rattle.dg_volume.specs.Store.{Store, App, held}
 use Rattle.dg_volume.specs.Changes.{spent, keeping, paged, ordered, gesture_cleared, advanced, is_version, inject_refusal}
 use Rattle.dg_volume.specs.declared.volume.InjectFault.{InjectFault}
@@ -43,6 +44,10 @@ take_trail s p = joined (drop_trail s p.image) (open_trail (last (drop_trail s p
 unfoldable pub fill_trail : Store → ℕ → List (List ℕ) → Trail Store
 fill_trail s image [] = resting s 0
 fill_trail s image (page ∷ pages) = joined (stepping s page_operations (paged image page s)) (fill_trail (paged image page s) image pages)
+
+-- a page is made complete where it fits, by one operation
+abbrev pub sealing_trail : Store → ℕ → Held → List ℕ → Trail Store
+sealing_trail s image h page = if may_seal image h page then stepping s 1 (paged image page s) else resting s 0
 
 abbrev pub done_of : Option Held → ℕ
 done_of None = 0

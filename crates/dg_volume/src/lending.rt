@@ -6,7 +6,8 @@ ghost use Rattle.dg_slot.specs.Kept.{Held};
 ghost use Rattle.dg_slot.specs.Jobs.{Opens, IsOpen, outline_told, done_told};
 ghost use Rattle.dg_volume.specs.Sizes.{images};
 ghost use Rattle.dg_volume.specs.Store.{Store, held};
-ghost use Rattle.dg_volume.specs.Stands.{kept_at, is_lent, MountedBut, Mounted, IsMounted};
+ghost use Rattle.dg_volume.specs.Told.{kept_told};
+ghost use Rattle.dg_volume.specs.Stands.{control_of, kept_at, is_lent, MountedBut, Mounted, IsMounted};
 
 use crate::volume::{Kept, Volume};
 use dg_object::Profile;
@@ -21,10 +22,15 @@ impl Volume {
         ensures lends { IfSome result (λ o. ((outline_told o).image ≡ image)
             × ((c : List ℕ) (s : Store) (h : Held) → Mounted c self.old s → held s image ≡ Some h → IsOpen c o h)) }
         ensures none { IsNone result ↔ ((kept_at self.old image ≡ None) ⊎ (is_lent self.old image ≡ true)) }
+        // it tells what the volume tells of the image
+        ensures told { IfSome result (λ o. kept_at self.old image ≡ Some (kept_told o)) }
         ensures same { IsNone result → self.new ≡ self.old }
+        ensures control { control_of self.new ≡ control_of self.old }
+        ensures kept { (i : ℕ) → kept_at self.new i ≡ kept_at self.old i }
         ensures lent { IfSome result (λ o. is_lent self.new image ≡ true) }
         ensures others { (i : ℕ) → i ≢ image → is_lent self.new i ≡ is_lent self.old i }
         ensures mounted { (c : List ℕ) (s : Store) → Mounted c self.old s → Mounted c self.new s }
+        ensures mounted_but { (c : List ℕ) (s : Store) (i : ℕ) → MountedBut (λ j. j ≡ i) c self.old s → MountedBut (λ j. j ≡ i) c self.new s }
     {
         let index = usize::from(image);
         if self.lent[index] {
@@ -40,6 +46,9 @@ impl Volume {
         requires { is_lent self.old (outline_told slot).image ≡ true }
         ensures mounted { (c : List ℕ) (s : Store) (h : Held) → MountedBut (λ i. i ≡ (outline_told slot).image) c self.old s
             → held s (outline_told slot).image ≡ Some h → Opens slot h → Mounted c self.new s }
+        ensures control { control_of self.new ≡ control_of self.old }
+        ensures kept { kept_at self.new (outline_told slot).image ≡ Some (kept_told slot) }
+        ensures others_kept { (i : ℕ) → i ≢ (outline_told slot).image → kept_at self.new i ≡ kept_at self.old i }
         ensures back { is_lent self.new (outline_told slot).image ≡ false }
         ensures others { (i : ℕ) → i ≢ (outline_told slot).image → is_lent self.new i ≡ is_lent self.old i }
     {

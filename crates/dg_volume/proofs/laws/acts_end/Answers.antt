@@ -1,4 +1,6 @@
+use Rattle.std.proofs.Common.{Some, None, get_or-set_same}
 use Rattle.dg_nor.proofs.TrailLemmas.{last-stepping}
+use Rattle.dg_slot.specs.Kept.{held_begun}
 use Rattle.dg_volume.proofs.ActEndLemmas.{take_last, fill_last, inject_last}
 use Rattle.dg_volume.proofs.laws.acts_end.Goals as goal
 
@@ -19,3 +21,6 @@ returns-clause-fill c = fill_last
 
 pub returns-clause-inject : goal.returns-clause-inject
 returns-clause-inject c = inject_last
+
+pub returns-clause-begun : goal.returns-clause-begun
+returns-clause-begun c s p known = get_or-set_same s.kept p.image (Some (held_begun p)) None known

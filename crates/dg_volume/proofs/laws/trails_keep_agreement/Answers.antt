@@ -1,3 +1,6 @@
+use Rattle.dg_nor.proofs.ThroughLemmas.{Through-joined, Through-resting, Through-stepping, Through-last}
+use Rattle.dg_volume.specs.Agreement.{Agrees}
+use Rattle.dg_volume.proofs.AgreedLemmas.{agreed_page}
 use Rattle.dg_volume.proofs.AgreeLemmas.{order_through, clear_through, take_through, inject_through}
 use Rattle.dg_volume.proofs.BootLemmas.{boot_through}
 use Rattle.dg_volume.proofs.laws.trails_keep_agreement.Goals as goal
@@ -16,3 +19,16 @@ returns-clause-inject c = inject_through
 
 pub returns-clause-boot : goal.returns-clause-boot
 returns-clause-boot c = boot_through
+
+pub returns-clause-page : goal.returns-clause-page
+returns-clause-page c table s row h n low within in_table here version more a =
+    Through-stepping (Agrees table) s n _ a (agreed_page table s row h low within in_table here version more a)
+
+pub returns-clause-resting : goal.returns-clause-resting
+returns-clause-resting c table s n a = Through-resting (Agrees table) s n a
+
+pub returns-clause-joined : goal.returns-clause-joined
+returns-clause-joined c table t u first second = Through-joined (Agrees table) t u first second
+
+pub returns-clause-ends : goal.returns-clause-ends
+returns-clause-ends c table t through = Through-last (Agrees table) t through

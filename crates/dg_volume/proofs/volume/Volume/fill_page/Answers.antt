@@ -3,12 +3,13 @@ use Rattle.std.proofs.lemmas.Bool.{cases_eq}
 use Rattle.dg_nor.specs.Chip.{Touches}
 use Rattle.dg_nor.proofs.DeviceLemmas.{OnErr_from}
 use Rattle.dg_object.specs.Object.{Outline}
-use Rattle.dg_slot.specs.Layout.{header_sector, slot_end}
+use Rattle.dg_slot.specs.Layout.{header_sector, slot_end, page_operations}
 use Rattle.dg_slot.specs.Fits.{may_seal}
 use Rattle.dg_slot.specs.Jobs.{SlotStops}
 use Rattle.dg_volume.specs.Changes.{paged}
 use Rattle.dg_volume.specs.Filling.{page_trail}
 use Rattle.dg_volume.specs.Stands.{is_lent}
+use Rattle.dg_volume.proofs.BehindLemmas.{told_but}
 use Rattle.dg_volume.proofs.PagedLemmas.{is_held, some_kept, page_mounted, page_acted, page_stops}
 use Rattle.dg_volume.proofs.volume.Volume.fill_page.Goals as goal
 
@@ -30,7 +31,7 @@ returns-in_err-filled-in-Some-clause-stopped g c = OnErr_from c.from_residual.re
     let h = kept.kept in
     let touches = subst (λ (n : ℕ). Touches (header_sector n) (slot_end n) a.image b.image) lends.0 c.fill_next.ensures.touches in
     let stops = subst (λ (n : ℕ). SlotStops n (page_trail h c.args.page.now) a b) lends.0 (c.in_err-filled-in-Some.ensures.stops h (lends.1 a.image s h mounted kept.here)) in
-    page_stops a b c.args.self.now s i h c.args.page.now c.requires.not_golden c.requires.known_image kept.here touches mounted stops)
+    page_stops page_operations a b c.args.self.now s i h c.args.page.now c.requires.not_golden c.requires.known_image kept.here touches (told_but a.image c.args.self.now s i mounted) stops)
 
 pub returns-clause-acted : goal.returns-clause-acted
 returns-clause-acted g c s mounted =
