@@ -5,4 +5,5 @@ pub mod ReplayLemmas
 pub mod FinishLemmas
 pub mod GoldenLemmas
 pub mod EndLemmas
+pub mod TakenLemmas
 pub mod RunLemmas

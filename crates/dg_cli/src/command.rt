@@ -6,7 +6,8 @@ ghost use Rattle.dg_words.specs.Counts.{Rose};
 ghost use Rattle.dg_rules.specs.Runs.{EachAfter};
 ghost use Rattle.dg_rules.specs.Promises.{IsLegal, KeepsAll, StartsRow};
 ghost use Rattle.dg_rules.specs.Premises.{LeavesAgreement};
-ghost use Rattle.dg_cli.specs.Ending.{InLimits};
+ghost use Rattle.dg_cli.specs.Ending.{InLimits, script_of};
+ghost use Rattle.dg_cli.specs.Items.{motes_in};
 ghost use Rattle.dg_cli.specs.Outcome.{Replayed, IsReplay, Unknown};
 ghost use Rattle.dg_cli.specs.Boards.{BoardStopped};
 
@@ -86,7 +87,7 @@ pub fn run<S: Source, K: Sink, N: Nor>(
     // A script in its grammar and limits, with boards for its motes, is replayed to its end, unless memory runs out or the outside fails.
     ensures complete { (bytes : List ℕ) → IsReplay (map string_bytes words.now.items) → S.left input.old ≡ Some bytes → InLimits (length boards.old.items) bytes
         → (Rose (S.faults input.old) (S.faults input.new) → ⊥) → (Rose (K.faults out.old) (K.faults out.new) → ⊥)
-        → (BoardStopped (map N.device boards.old.items) (map N.device boards.new.items) → ⊥)
+        → (BoardStopped (motes_in (script_of bytes).lines) (map N.device boards.old.items) (map N.device boards.new.items) → ⊥)
         → (result ≡ Status.Done) ⊎ (result ≡ Status.Memory) }
 
     // A replay formats its boards itself, so that they are volumes; no rule of `replay` refuses anything but its script;

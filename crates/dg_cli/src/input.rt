@@ -28,7 +28,7 @@ fn read_piece<S: Source>(
 ) -> Result<usize, ReadStop>
     requires piece { 0 < length piece.old }
     requires room { vec_len bytes.old ≤ USED }
-    ensures taken { (more : List ℕ) × Takes (S.left source.old) (S.left source.new) more
+    ensures taken { (more : List ℕ) × Takes (S.left source.old) (S.left source.new) more × (vec_len bytes.old + length more ≤ USED + 1)
         × IfOk result (λ n. (n ≡ length more) × (bytes.new.items ≡ bytes.old.items ++ more)) }
     ensures bound { OnOk result (vec_len bytes.new ≤ USED + 1) }
     ensures ended { result ≡ Ok 0 → AtEnd (S.left source.new) }
@@ -52,7 +52,7 @@ fn read_pieces<S: Source>(
     piece: &mut [u8],
 ) -> Result<Vec<u8>, ReadStop>
     requires { 0 < length piece.old }
-    ensures taken { (bytes : List ℕ) × Takes (S.left source.old) (S.left source.new) bytes × IfOk result (λ v. v.items ≡ bytes) }
+    ensures taken { (bytes : List ℕ) × Takes (S.left source.old) (S.left source.new) bytes × (length bytes ≤ USED + 1) × IfOk result (λ v. v.items ≡ bytes) }
     ensures ended { IfOk result (λ v. AtEnd (S.left source.new) ⊎ (USED < length v.items)) }
     ensures bound { IfOk result (λ v. length v.items ≤ USED + 1) }
     ensures counts { S.faults source.old ≤ S.faults source.new }
@@ -69,10 +69,10 @@ fn read_pieces<S: Source>(
 
 /// Reads an input to its end, or one byte past those that are used.
 ///
-/// Whatever it answers, some bytes were taken from the source, in their order; after Ok they are
-/// those of the answer.
+/// Whatever it answers, some bytes were taken from the source, in their order and no more than that; after Ok they
+/// are those of the answer.
 pub fn read_input<S: Source>(alloc: Global, source: &mut S) -> Result<Vec<u8>, ReadStop>
-    ensures taken { (bytes : List ℕ) × Takes (S.left source.old) (S.left source.new) bytes × IfOk result (λ v. v.items ≡ bytes) }
+    ensures taken { (bytes : List ℕ) × Takes (S.left source.old) (S.left source.new) bytes × (length bytes ≤ 16777217) × IfOk result (λ v. v.items ≡ bytes) }
     ensures ended { IfOk result (λ v. AtEnd (S.left source.new) ⊎ (16777216 < length v.items)) }
     ensures bound { IfOk result (λ v. length v.items ≤ 16777217) }
     ensures counts { S.faults source.old ≤ S.faults source.new }

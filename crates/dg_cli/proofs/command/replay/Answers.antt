@@ -6,10 +6,10 @@ use Rattle.dg_cli.proofs.command.replay.Goals as goal
 pub returns-in-Ok-clause-replayed : goal.returns-in-Ok-clause-replayed
 returns-in-Ok-clause-replayed g c =
     let t = c.in-Ok.ensures.taken in
-    vector_replayed c.replay_text.result c.deref.result.now c.in-Ok.text.items t.0 _ _ _ _ _ _ _ _ _ c.deref.ensures.value t.2 (sym (length-map c.args.boards.now.items g.N.Nor.device)) t.1 c.in-Ok.ensures.ended c.replay_text.ensures.replayed
+    vector_replayed c.replay_text.result c.deref.result.now c.in-Ok.text.items t.0 _ _ _ _ _ _ _ _ _ c.deref.ensures.value t.3 (sym (length-map c.args.boards.now.items g.N.Nor.device)) t.1 c.in-Ok.ensures.bound c.in-Ok.ensures.ended c.replay_text.ensures.replayed
 
 pub returns-in-Err-Memory-clause-replayed : goal.returns-in-Err-Memory-clause-replayed
-returns-in-Err-Memory-clause-replayed g c = memory_unread _ _ _ _ _ _ _ c.in-Err-Memory.ensures.taken.1
+returns-in-Err-Memory-clause-replayed g c = memory_unread _ _ _ _ _ _ _ c.in-Err-Memory.ensures.taken.1 c.in-Err-Memory.ensures.taken.2
 
 pub returns-in-Err-ReadFault-clause-replayed : goal.returns-in-Err-ReadFault-clause-replayed
-returns-in-Err-ReadFault-clause-replayed g c = read_failed _ _ _ _ _ _ _ c.in-Err-ReadFault.ensures.taken.1 (c.in-Err-ReadFault.ensures.failed (ap (λ e. Err e) c.in-Err-ReadFault.field-0-is))
+returns-in-Err-ReadFault-clause-replayed g c = read_failed _ _ _ _ _ _ _ c.in-Err-ReadFault.ensures.taken.1 c.in-Err-ReadFault.ensures.taken.2 (c.in-Err-ReadFault.ensures.failed (ap (λ e. Err e) c.in-Err-ReadFault.field-0-is))
