@@ -6,4 +6,5 @@ pub mod FinishLemmas
 pub mod GoldenLemmas
 pub mod EndLemmas
 pub mod TakenLemmas
+pub mod WholeLemmas
 pub mod RunLemmas

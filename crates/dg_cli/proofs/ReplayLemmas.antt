@@ -32,6 +32,13 @@ use Rattle.dg_cli.proofs.GoldenLemmas.{script_fits, lacking_none}
 
 -- ---- one line
 
+-- an answer that is another one
+pub ok_differs : {A E : Type 0} (r : Result A E) (x : A) (e : E) → r ≡ Ok x → r ≡ Err e → ⊥
+ok_differs r x e is other = absurd (let f : Ok x ≡ Err e = sym is ∙ other in cc)
+
+pub err_differs : {A E : Type 0} (r : Result A E) (x e : E) → r ≡ Err x → (x ≡ e → ⊥) → r ≡ Err e → ⊥
+err_differs r x e is differs other = differs (let f : Err x ≡ Err e = sym is ∙ other in cc)
+
 other_stop : (s t : Stop) → ◌≡◌ {A = Result (Unit {0}) Stop} (Err s) (Err t) → (s ≡ t → ⊥) → ⊥
 other_stop s t e differ = differ (cc)
 

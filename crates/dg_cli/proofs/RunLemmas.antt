@@ -9,6 +9,7 @@ use Rattle.dg_base.specs.Outside.{Takes, AtEnd}
 use Rattle.dg_base.proofs.OutsideLemmas.{Puts-nil, Takes-told, Takes-all}
 use Rattle.dg_base.specs.declared.answers.Status.{Status}
 use Rattle.dg_base.specs.declared.answers.Status.TheVariants.{Done, Memory, Usage, BadInput, ReadFault, WriteFault, FlashFault, NotAVolume, Refused, LinkFault, TooLong, TooMany, NoBoard, NoImage}
+use Rattle.dg_words.specs.Counts.{Rose}
 use Rattle.dg_nor.specs.Device.{Device}
 use Rattle.dg_rules.specs.Runs.{Played}
 use Rattle.dg_rules.specs.Golden.{PlaysGolden}
@@ -63,16 +64,16 @@ over_or input at_end (inl e) = inl e
 over_or input at_end (inr more) = inr (is_over-true input more)
 
 -- a script that was read and replayed
-pub read_replayed : (s : Status) (text : List ℕ) (lb la wb wa : Option (List ℕ)) (r w : Type 0) (old new : List Device) (n : ℕ) → n ≡ length old → Takes lb la text → length text ≤ 16777217 → AtEnd la ⊎ (16777216 < length text)
-    → ScriptReplayed s (script_of text) (ending_of n text) old new wb wa w → Replayed s lb la wb wa r w old new
-read_replayed s text lb la wb wa r w old new n count taken few enough replayed =
-    let P : ℕ → Type 0 = λ k. ScriptReplayed s (script_of text) (ending_of k text) old new wb wa w in
+pub read_replayed : (s : Status) (text : List ℕ) (lb la wb wa : Option (List ℕ)) (rb ra kb ka : ℕ) (old new : List Device) (n : ℕ) → n ≡ length old → Takes lb la text → length text ≤ 16777217 → AtEnd la ⊎ (16777216 < length text)
+    → ScriptReplayed s (script_of text) (ending_of n text) old new wb wa (Rose kb ka) → ra ≡ rb → (s ≢ WriteFault → ka ≡ kb) → Replayed s lb la wb wa rb ra kb ka old new
+read_replayed s text lb la wb wa rb ra kb ka old new n count taken few enough replayed reads writes =
+    let P : ℕ → Type 0 = λ k. ScriptReplayed s (script_of text) (ending_of k text) old new wb wa (Rose kb ka) in
     let t = subst P count replayed in
     record {
       input = text;
       taken = taken;
       few_bytes = few;
-      enough = enough_for s (length old) text (AtEnd la) t.done t.rest t.played t.last t.text w (BoardStopped (motes_in t.done) old new) (over_or text (AtEnd la) enough) t.front.lines t.report t.caused;
+      enough = enough_for s (length old) text (AtEnd la) t.done t.rest t.played t.last t.text (Rose kb ka) (BoardStopped (motes_in t.done) old new) (over_or text (AtEnd la) enough) t.front.lines t.report t.caused;
       done = t.done;
       rest = t.rest;
       played = t.played;
@@ -83,7 +84,9 @@ read_replayed s text lb la wb wa r w old new n count taken few enough replayed =
       report = t.report;
       limits = t.limits;
       boards = t.boards;
-      caused = caused_too s (ending_of (length old) text) r w (BoardStopped (motes_in t.done) old new) t.caused;
+      caused = caused_too s (ending_of (length old) text) (Rose rb ra) (Rose kb ka) (BoardStopped (motes_in t.done) old new) t.caused;
+      reads = λ other. reads;
+      writes = writes;
     }
 
 -- before the first line nothing is done
@@ -96,22 +99,22 @@ unfolding items_behind begin_behind
 front_none script = record { lines = refl; items = refl; run = (refl, refl) }
 
 -- memory ran out in reading, and a read failed
-pub memory_unread : (bytes : List ℕ) (lb la wb : Option (List ℕ)) (r w : Type 0) (old : List Device) → Takes lb la bytes → length bytes ≤ 16777217 → Replayed Memory lb la wb wb r w old old
-memory_unread bytes lb la wb r w old taken few =
-    record { input = bytes; taken = taken; few_bytes = few; enough = inr (none_whole bytes); done = []; rest = (script_of bytes).lines; played = []; last = None; front = front_none (script_of bytes); text = []; written = Puts-nil wb; report = record { more = []; front = refl }; limits = none_done (length old); boards = refl; caused = tt }
+pub memory_unread : (bytes : List ℕ) (lb la wb : Option (List ℕ)) (rb ra k : ℕ) (old : List Device) → Takes lb la bytes → length bytes ≤ 16777217 → ra ≡ rb → Replayed Memory lb la wb wb rb ra k k old old
+memory_unread bytes lb la wb rb ra k old taken few reads =
+    record { input = bytes; taken = taken; few_bytes = few; enough = inr (none_whole bytes); done = []; rest = (script_of bytes).lines; played = []; last = None; front = front_none (script_of bytes); text = []; written = Puts-nil wb; report = record { more = []; front = refl }; limits = none_done (length old); boards = refl; caused = tt; reads = λ other. reads; writes = λ other. refl }
 
-pub read_failed : (bytes : List ℕ) (lb la wb : Option (List ℕ)) (r w : Type 0) (old : List Device) → Takes lb la bytes → length bytes ≤ 16777217 → r → Replayed ReadFault lb la wb wb r w old old
-read_failed bytes lb la wb r w old taken few rose =
-    record { input = bytes; taken = taken; few_bytes = few; enough = none_whole bytes; done = []; rest = (script_of bytes).lines; played = []; last = None; front = front_none (script_of bytes); text = []; written = Puts-nil wb; report = refl; limits = none_done (length old); boards = refl; caused = rose }
+pub read_failed : (bytes : List ℕ) (lb la wb : Option (List ℕ)) (rb ra k : ℕ) (old : List Device) → Takes lb la bytes → length bytes ≤ 16777217 → Rose rb ra → Replayed ReadFault lb la wb wb rb ra k k old old
+read_failed bytes lb la wb rb ra k old taken few rose =
+    record { input = bytes; taken = taken; few_bytes = few; enough = none_whole bytes; done = []; rest = (script_of bytes).lines; played = []; last = None; front = front_none (script_of bytes); text = []; written = Puts-nil wb; report = refl; limits = none_done (length old); boards = refl; caused = rose; reads = λ other. absurd (other refl); writes = λ other. refl }
 
 -- the same, where the text was read into a vector
-pub vector_replayed : (s : Status) (text items bytes : List ℕ) (lb la wb wa : Option (List ℕ)) (r w : Type 0) (old new : List Device) (n : ℕ) → text ≡ items → items ≡ bytes → n ≡ length old → Takes lb la bytes → length items ≤ 16777217 → AtEnd la ⊎ (16777216 < length items)
-    → ScriptReplayed s (script_of text) (ending_of n text) old new wb wa w → Replayed s lb la wb wa r w old new
-vector_replayed s text items bytes lb la wb wa r w old new n same read count taken few enough replayed =
+pub vector_replayed : (s : Status) (text items bytes : List ℕ) (lb la wb wa : Option (List ℕ)) (rb ra kb ka : ℕ) (old new : List Device) (n : ℕ) → text ≡ items → items ≡ bytes → n ≡ length old → Takes lb la bytes → length items ≤ 16777217 → AtEnd la ⊎ (16777216 < length items)
+    → ScriptReplayed s (script_of text) (ending_of n text) old new wb wa (Rose kb ka) → ra ≡ rb → (s ≢ WriteFault → ka ≡ kb) → Replayed s lb la wb wa rb ra kb ka old new
+vector_replayed s text items bytes lb la wb wa rb ra kb ka old new n same read count taken few enough replayed reads writes =
     let T : List ℕ → Type 0 = λ xs. Takes lb la xs in
     let F : List ℕ → Type 0 = λ xs. length xs ≤ 16777217 in
     let E : List ℕ → Type 0 = λ xs. AtEnd la ⊎ (16777216 < length xs) in
-    read_replayed s text lb la wb wa r w old new n count (subst T (sym (same ∙ read)) taken) (subst F (sym same) few) (subst E (sym same) enough) replayed
+    read_replayed s text lb la wb wa rb ra kb ka old new n count (subst T (sym (same ∙ read)) taken) (subst F (sym same) few) (subst E (sym same) enough) replayed reads writes
 
 -- the status of an ending that is the script's
 by_status : (s : Status) (input : List ℕ) (at_end : Type 0) (done rest : List Line) (played : List Played) (text : List ℕ) (r w b : Type 0) (n : ℕ) → ReadEnough s n input at_end done rest played text → IsCaused s (ending_of n input) r w b → (r → ⊥) → (w → ⊥)
@@ -150,12 +153,12 @@ told_stop bytes input la done (line ∷ rest) old new taken front s (inr whole) 
     subst (λ (xs : List ℕ). BoardStopped (motes_in (script_of xs).lines) old new) (sym told.1)
     (stopped_of_script (input ++ told.0) done (line ∷ more.0) old new (sym (append_assoc done (line ∷ []) more.0) ∙ more.1) s)
 
-pub completed : (s : Status) (bytes : List ℕ) (lb la wb wa : Option (List ℕ)) (r w : Type 0) (old new : List Device) (n : ℕ) → n ≡ length old → lb ≡ Some bytes → InLimits n bytes → (r → ⊥) → (w → ⊥) → (BoardStopped (motes_in (script_of bytes).lines) old new → ⊥)
-    → Replayed s lb la wb wa r w old new → (s ≡ Done) ⊎ (s ≡ Memory)
-completed s bytes lb la wb wa r w old new n count told limits reads writes stops x =
+pub completed : (s : Status) (bytes : List ℕ) (lb la wb wa : Option (List ℕ)) (rb ra kb ka : ℕ) (old new : List Device) (n : ℕ) → n ≡ length old → lb ≡ Some bytes → InLimits n bytes → (Rose rb ra → ⊥) → (Rose kb ka → ⊥) → (BoardStopped (motes_in (script_of bytes).lines) old new → ⊥)
+    → Replayed s lb la wb wa rb ra kb ka old new → (s ≡ Done) ⊎ (s ≡ Memory)
+completed s bytes lb la wb wa rb ra kb ka old new n count told limits reads writes stops x =
     let taken : Takes (Some bytes) la x.input = subst (λ (o : Option (List ℕ)). Takes o la x.input) told x.taken in
     let wanted : InLimits (length old) bytes = subst (λ (k : ℕ). InLimits k bytes) count limits in
-    by_status s x.input (AtEnd la) x.done x.rest x.played x.text r w (BoardStopped (motes_in x.done) old new) (length old) x.enough x.caused reads writes
+    by_status s x.input (AtEnd la) x.done x.rest x.played x.text (Rose rb ra) (Rose kb ka) (BoardStopped (motes_in x.done) old new) (length old) x.enough x.caused reads writes
     (λ b enough. stops (told_stop bytes x.input la x.done x.rest old new taken x.front.lines b enough)) (λ enough. told_end bytes x.input la (length old) taken wanted enough)
 
 -- what a replay comes to
@@ -167,12 +170,12 @@ wrote_never s e done rest played last text wrote =
     let P : Status → Type 0 = λ x. Wrote x e done rest played last text in
     (λ is. subst P is wrote, λ is. subst P is wrote, λ is. subst P is wrote, λ is. subst P is wrote)
 
-pub replayed_never : (s : Status) (lb la wb wa : Option (List ℕ)) (r w : Type 0) (old new : List Device) → Replayed s lb la wb wa r w old new → IsNever s
-replayed_never s lb la wb wa r w old new x = wrote_never s (ending_of (length old) x.input) x.done x.rest x.played x.last x.text x.report
+pub replayed_never : (s : Status) (lb la wb wa : Option (List ℕ)) (rb ra kb ka : ℕ) (old new : List Device) → Replayed s lb la wb wa rb ra kb ka old new → IsNever s
+replayed_never s lb la wb wa rb ra kb ka old new x = wrote_never s (ending_of (length old) x.input) x.done x.rest x.played x.last x.text x.report
 
-pub unknown_never : (s : Status) (P Q R : Type 0) → ((s ≡ Usage) × P) ⊎ ((s ≡ WriteFault) × Q × R) → IsNever s
-unknown_never s P Q R (inl (is, p)) = (λ e. cc, λ e. cc, λ e. cc, λ e. cc)
-unknown_never s P Q R (inr (is, q, r)) = (λ e. cc, λ e. cc, λ e. cc, λ e. cc)
+pub unknown_never : (s : Status) (P K Q R : Type 0) → ((s ≡ Usage) × P × K) ⊎ ((s ≡ WriteFault) × Q × R) → IsNever s
+unknown_never s P K Q R (inl (is, p, k)) = (λ e. cc, λ e. cc, λ e. cc, λ e. cc)
+unknown_never s P K Q R (inr (is, q, r)) = (λ e. cc, λ e. cc, λ e. cc, λ e. cc)
 
 -- the words of the program
 and_true : (a b : Bool) → (a && b) ≡ true → (a ≡ true) × (b ≡ true)
@@ -234,13 +237,17 @@ no_run : (o : Option World) (played : List Played) → RunsTo o played None → 
 no_run None played r = r.0
 no_run (Some w) played (v, is, plays) = absurd (let e : None ≡ Some v = is in cc)
 
-promised : (P : List Played → Type 0) → P [] → ((name bytes : List ℕ) (used motes : ℕ) (played : List Played) (v : World) → PlaysGolden name bytes used motes played v → P played)
-    → (spells : Script) (done rest : List Line) (played : List Played) (last : Option World) → LinesFit First spells.lines → IsFront spells done rest played last → P played
-promised P none law spells done rest played None fit f = subst P (sym (no_run (beginning_of done).world played f.run)) none
+promised : (P : List Played → Option World → Type 0) → P [] None → ((name bytes : List ℕ) (used motes : ℕ) (played : List Played) (v : World) → PlaysGolden name bytes used motes played v → P played (Some v))
+    → (spells : Script) (done rest : List Line) (played : List Played) (last : Option World) → LinesFit First spells.lines → IsFront spells done rest played last → P played last
+promised P none law spells done rest played None fit f = subst (λ (ps : List Played). P ps None) (sym (no_run (beginning_of done).world played f.run)) none
 promised P none law spells done rest played (Some v) fit f =
     let g = golden_run done played v (front_fits First done rest (subst (LinesFit First) (sym f.lines) fit)) f.items f.run in
     law g.name g.bytes g.used (beginning_of done).motes played v g.plays
 
+pub holds_of_worlds : (P : List Played → Option World → Type 0) → P [] None → ((name bytes : List ℕ) (used motes : ℕ) (played : List Played) (v : World) → PlaysGolden name bytes used motes played v → P played (Some v))
+    → (s : Status) (lb la wb wa : Option (List ℕ)) (rb ra kb ka : ℕ) (old new : List Device) → (x : Replayed s lb la wb wa rb ra kb ka old new) → P x.played x.last
+holds_of_worlds P none law s lb la wb wa rb ra kb ka old new x = promised P none law (script_of x.input) x.done x.rest x.played x.last (script_of_fits x.input) x.front
+
 pub holds_of_runs : (P : List Played → Type 0) → P [] → ((name bytes : List ℕ) (used motes : ℕ) (played : List Played) (v : World) → PlaysGolden name bytes used motes played v → P played)
-    → (s : Status) (lb la wb wa : Option (List ℕ)) (r w : Type 0) (old new : List Device) → (x : Replayed s lb la wb wa r w old new) → P x.played
-holds_of_runs P none law s lb la wb wa r w old new x = promised P none law (script_of x.input) x.done x.rest x.played x.last (script_of_fits x.input) x.front
+    → (s : Status) (lb la wb wa : Option (List ℕ)) (rb ra kb ka : ℕ) (old new : List Device) → (x : Replayed s lb la wb wa rb ra kb ka old new) → P x.played
+holds_of_runs P none law s lb la wb wa rb ra kb ka old new x = holds_of_worlds (λ ps last. P ps) none law s lb la wb wa rb ra kb ka old new x

@@ -1,6 +1,7 @@
 -- What a replay did: the lines that it played, what it wrote, and how it left the boards.
-use Rattle.std.specs.Prelude.{◌≡◌, ◌⊎◌, ℕ, ◌≤◌, List, [], ◌∷◌, ◌++◌, length, map, codes, Option, Some, None}
+use Rattle.std.specs.Prelude.{◌≡◌, ◌≢◌, ◌⊎◌, ℕ, ◌≤◌, List, [], ◌∷◌, ◌++◌, length, map, codes, Option, Some, None}
 use Rattle.std.specs.List.{flat_map}
+use Rattle.dg_words.specs.Counts.{Rose}
 use Rattle.dg_base.specs.Outside.{Takes, Puts, PutsFront, AtEnd}
 use Rattle.dg_base.specs.declared.answers.Status.{Status}
 use Rattle.dg_base.specs.declared.answers.Status.TheVariants.{Done, Memory, Usage, BadInput, ReadFault, WriteFault, FlashFault, TooLong, TooMany, NoBoard}
@@ -128,7 +129,7 @@ ReadEnough FlashFault boards input at_end done rest played text = at_end ⊎ Nex
 ReadEnough status boards input at_end done rest played text = at_end ⊎ IsSettled boards input
 
 -- What a replay did. Some bytes were taken from the source: the bytes left before it and after it, where they are told, say which. What was written is told in the same way.
-pub record Replayed (status : Status) (left_before left_after written_before written_after : Option (List ℕ)) (reads_failed writes_failed : Type 0) (old new : List Device) : Type 0 where
+pub record Replayed (status : Status) (left_before left_after written_before written_after : Option (List ℕ)) (reads_before reads_after writes_before writes_after : ℕ) (old new : List Device) : Type 0 where
   -- what was taken of the input, whatever comes of it: no more than one byte past those that are used
   pub input : List ℕ
   pub taken : Takes left_before left_after input
@@ -150,14 +151,17 @@ pub record Replayed (status : Status) (left_before left_after written_before wri
   -- the boards of the motes stand for that world's stores, but for one that is stopped, and the others are as before
   pub boards : Boards status done rest last old new
   -- the status is the one that the rules give to the input, but for want of memory and faults of the outside
-  pub caused : IsCaused status (ending_of (length old) input) reads_failed writes_failed (BoardStopped (motes_in done) old new)
+  pub caused : IsCaused status (ending_of (length old) input) (Rose reads_before reads_after) (Rose writes_before writes_after) (BoardStopped (motes_in done) old new)
+  -- a read or a write that fails is always told: its count rises with its own answer alone
+  pub reads : status ≢ ReadFault → reads_after ≡ reads_before
+  pub writes : status ≢ WriteFault → writes_after ≡ writes_before
 
 -- the words are the command `replay`
 abbrev pub IsReplay : List (List ℕ) → Type 0
 IsReplay words = words ≡ codes "replay" ∷ []
 
 -- Words that are no command: nothing is read, no board is used, and one line is written.
-pub record Unknown (status : Status) (left_before left_after written_before written_after : Option (List ℕ)) (writes_failed : Type 0) (old new : List Device) : Type 0 where
+pub record Unknown (status : Status) (left_before left_after written_before written_after : Option (List ℕ)) (writes_before writes_after : ℕ) (old new : List Device) : Type 0 where
   pub unread : left_after ≡ left_before
   pub boards : new ≡ old
-  pub answer : ((status ≡ Usage) × Puts written_before written_after usage_line) ⊎ ((status ≡ WriteFault) × PutsFront written_before written_after usage_line × writes_failed)
+  pub answer : ((status ≡ Usage) × Puts written_before written_after usage_line × (writes_after ≡ writes_before)) ⊎ ((status ≡ WriteFault) × PutsFront written_before written_after usage_line × Rose writes_before writes_after)

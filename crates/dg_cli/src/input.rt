@@ -1,5 +1,5 @@
 //! The input of a command, read as far as it is used.
-ghost use Rattle.std.specs.Prelude.{◌≡◌, ◌⊎◌, ℕ, ◌+◌, ◌<◌, ◌≤◌, List, ◌++◌, length, vec_len, IfOk, OnOk};
+ghost use Rattle.std.specs.Prelude.{◌≡◌, ◌≢◌, ◌⊎◌, ℕ, ◌+◌, ◌<◌, ◌≤◌, List, ◌++◌, length, vec_len, IfOk, OnOk};
 ghost use Rattle.dg_words.specs.Counts.{Rose};
 ghost use Rattle.dg_base.specs.Outside.{Takes, AtEnd};
 
@@ -34,6 +34,7 @@ fn read_piece<S: Source>(
     ensures ended { result ≡ Ok 0 → AtEnd (S.left source.new) }
     ensures counts { S.faults source.old ≤ S.faults source.new }
     ensures failed { result ≡ Err ReadStop.ReadFault → Rose (S.faults source.old) (S.faults source.new) }
+    ensures unfailed { result ≢ Err ReadStop.ReadFault → S.faults source.new ≡ S.faults source.old }
 {
     let most = piece.len().min(USED + 1 - bytes.len());
     match source.read(&mut piece[..most]) {
@@ -57,6 +58,7 @@ fn read_pieces<S: Source>(
     ensures bound { IfOk result (λ v. length v.items ≤ USED + 1) }
     ensures counts { S.faults source.old ≤ S.faults source.new }
     ensures failed { result ≡ Err ReadStop.ReadFault → Rose (S.faults source.old) (S.faults source.new) }
+    ensures unfailed { result ≢ Err ReadStop.ReadFault → S.faults source.new ≡ S.faults source.old }
 {
     let mut bytes = Vec::new(alloc);
     while bytes.len() <= USED {
@@ -77,6 +79,7 @@ pub fn read_input<S: Source>(alloc: Global, source: &mut S) -> Result<Vec<u8>, R
     ensures bound { IfOk result (λ v. length v.items ≤ 16777217) }
     ensures counts { S.faults source.old ≤ S.faults source.new }
     ensures failed { result ≡ Err ReadStop.ReadFault → Rose (S.faults source.old) (S.faults source.new) }
+    ensures unfailed { result ≢ Err ReadStop.ReadFault → S.faults source.new ≡ S.faults source.old }
 {
     read_pieces(alloc, source, &mut [0; PIECE])
 }
