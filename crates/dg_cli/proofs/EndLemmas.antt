@@ -13,7 +13,7 @@ use Rattle.dg_base.specs.declared.answers.Status.TheVariants as status
 use Rattle.dg_nor.specs.Device.{Device}
 use Rattle.dg_rules.specs.Sizes.{most_events}
 use Rattle.dg_rules.specs.Changes.{final_lines}
-use Rattle.dg_cli.specs.Items.{lacking, lacking_by}
+use Rattle.dg_cli.specs.Items.{lacking, lacking_by, motes_in}
 use Rattle.dg_world.specs.Worlds.{IsWorld}
 use Rattle.dg_world.specs.declared.world.World.{World as KeptWorld}
 use Rattle.dg_cli.specs.Playing.{InWorld}
@@ -22,7 +22,7 @@ use Rattle.dg_script.specs.Report.{report_text}
 use Rattle.dg_rules.specs.World.{World}
 use Rattle.dg_rules.specs.Runs.{Played}
 use Rattle.dg_cli.specs.Boards.{WorldStands, BoardsStand, BoardStopped}
-use Rattle.dg_cli.specs.Ending.{Ending, Ends, NoBoards, TooManyEvents, FaultAt, Over, events_in, by_fault, by_events, by_boards, ending_from, ending_line, status_of, up_to, whole_lines, used, is_over, script_of, ending_of, InLimits}
+use Rattle.dg_cli.specs.Ending.{Ending, Ends, NoBoards, TooManyEvents, FaultAt, Over, events_in, LinesInLimits, by_fault, by_events, by_boards, ending_from, ending_line, status_of, up_to, whole_lines, used, is_over, script_of, ending_of, InLimits}
 use Rattle.dg_cli.specs.Outcome.{IsFront, played_text, IsWholeReport, StopsAt, Wrote, Boards, IsCaused}
 use Rattle.dg_cli.specs.Replaying.{StopEnds, Reached, PlayedFront, HasFew, LinesAnswer, ReadyToEnd, EndsWith, FinishesWith, ScriptReplayed}
 use Rattle.dg_script.specs.declared.events.Event.{Event}
@@ -42,12 +42,12 @@ wrote_whole TooManyEvents done rest played last text whole = whole
 wrote_whole (FaultAt line) done rest played last text whole = whole
 wrote_whole Over done rest played last text whole = whole
 
-boards_of : (e : Ending) (rest : List Line) (last : Option World) (initial now : List Device) → BoardsStand last initial now → Boards (status_of e) rest last initial now
-boards_of Ends rest last initial now stand = stand
-boards_of (NoBoards m b) rest last initial now stand = stand
-boards_of TooManyEvents rest last initial now stand = stand
-boards_of (FaultAt line) rest last initial now stand = stand
-boards_of Over rest last initial now stand = stand
+boards_of : (e : Ending) (done rest : List Line) (last : Option World) (initial now : List Device) → BoardsStand last initial now → Boards (status_of e) done rest last initial now
+boards_of Ends done rest last initial now stand = stand
+boards_of (NoBoards m b) done rest last initial now stand = stand
+boards_of TooManyEvents done rest last initial now stand = stand
+boards_of (FaultAt line) done rest last initial now stand = stand
+boards_of Over done rest last initial now stand = stand
 
 caused_by : (e : Ending) (r w b : Type 0) → IsCaused (status_of e) e r w b
 caused_by Ends r w b = refl
@@ -70,8 +70,9 @@ ended result script e piece initial now before mid after failed worse spread r (
       text = played_text r.played ++ piece;
       written = Puts-join before mid after _ _ r.told done.1;
       report = wrote_whole e r.done r.rest r.played r.last _ all;
-      boards = boards_of e r.rest r.last initial now r.boards;
-      caused = caused_by e ⊥ worse (BoardStopped initial now);
+      limits = r.limits;
+      boards = boards_of e r.done r.rest r.last initial now r.boards;
+      caused = caused_by e ⊥ worse (BoardStopped (motes_in r.done) initial now);
     } in
     subst (λ (s : Status). ScriptReplayed s script e initial now before after worse) (sym done.0) made
 ended result script e piece initial now before mid after failed worse spread r (inr (inl cut)) =
@@ -91,6 +92,7 @@ ended result script e piece initial now before mid after failed worse spread r (
           told = append_assoc (played_text r.played) (take k piece) (drop k piece) ∙ ap (λ (xs : List ℕ). played_text r.played ++ xs) (take-append-drop k piece ∙ sym r.line);
         });
       };
+      limits = r.limits;
       boards = r.boards;
       caused = spread cut.2;
     } in
@@ -105,6 +107,7 @@ ended result script e piece initial now before mid after failed worse spread r (
       text = played_text r.played;
       written = subst (λ (o : Option (List ℕ)). Puts before o (played_text r.played)) (sym memory.1) r.told;
       report = record { more = []; front = append-nil (played_text r.played) };
+      limits = r.limits;
       boards = r.boards;
       caused = tt;
     } in
@@ -113,11 +116,11 @@ ended result script e piece initial now before mid after failed worse spread r (
 -- a front was played and reported, and more of its report may have been written
 pub front_only : (script : Script) (e : Ending) (initial now : List Device) (before after : Option (List ℕ)) (worse : Type 0) → PlayedFront script initial now before after → ScriptReplayed status.Memory script e initial now before after worse
 front_only script e initial now before after worse f =
-    record { done = f.done; rest = f.rest; played = f.played; last = f.last; front = f.front; text = f.text; written = f.told; report = record { more = f.more; front = f.whole }; boards = f.boards; caused = tt }
+    record { done = f.done; rest = f.rest; played = f.played; last = f.last; front = f.front; text = f.text; written = f.told; report = record { more = f.more; front = f.whole }; limits = f.limits; boards = f.boards; caused = tt }
 
 front_cut : (script : Script) (e : Ending) (initial now : List Device) (before after : Option (List ℕ)) (worse : Type 0) → worse → PlayedFront script initial now before after → ScriptReplayed status.WriteFault script e initial now before after worse
 front_cut script e initial now before after worse rose f =
-    record { done = f.done; rest = f.rest; played = f.played; last = f.last; front = f.front; text = f.text; written = f.told; report = record { more = f.more; front = inl f.whole }; boards = f.boards; caused = rose }
+    record { done = f.done; rest = f.rest; played = f.played; last = f.last; front = f.front; text = f.text; written = f.told; report = record { more = f.more; front = inl f.whole }; limits = f.limits; boards = f.boards; caused = rose }
 
 -- ---- the ending of a script
 
@@ -188,7 +191,7 @@ stopped_ends Memory result script ends over initial now before mid after failed 
     (front_only script (ending_from (length initial) over script) initial now before after worse (subst (λ (o : Option (List ℕ)). PlayedFront script initial now before o) (sym told) f))
 stopped_ends (BadInput line) result script ends over initial now before mid after failed later worse spread widen f done =
     let e = fault_ending over script initial line f.there.3 f.there.1 in
-    let ready : ReadyToEnd script (FaultAt line) (ending_line (FaultAt line)) initial now before mid = record { done = f.done; rest = f.rest; played = f.played; last = f.last; front = f.front; told = f.told; boards = f.there.2; all = f.there.0; line = refl } in
+    let ready : ReadyToEnd script (FaultAt line) (ending_line (FaultAt line)) initial now before mid = record { done = f.done; rest = f.rest; played = f.played; last = f.last; front = f.front; told = f.told; boards = f.there.2; all = f.there.0; line = refl; limits = f.limits } in
     subst (λ (x : Ending). ScriptReplayed result script x initial now before after worse) (sym e) (ended result script (FaultAt line) _ initial now before mid after later worse widen ready done)
 stopped_ends WriteFault result script ends over initial now before mid after failed later worse spread widen (rose, f) (same, told) =
     subst (λ (s : Status). ScriptReplayed s script (ending_from (length initial) over script) initial now before after worse) (sym same)
@@ -203,6 +206,7 @@ stopped_ends FlashFault result script ends over initial now before mid after fai
       text = played_text f.played;
       written = subst (λ (o : Option (List ℕ)). Puts before o (played_text f.played)) (sym told) f.told;
       report = (refl, subst (λ (ls : List Line). StopsAt (ending_from (length initial) over script) ls) (sym f.there.0.2) f.there.0.3);
+      limits = f.limits;
       boards = f.there.1;
       caused = f.there.1.stopped;
     } in
@@ -211,14 +215,14 @@ stopped_ends TooMany result script ends over initial now before mid after failed
     let at = f.there.0 in
     let lines = ap (λ (ls : List Line). f.done ++ ls) (sym at.next) ∙ f.front.lines in
     let e = many_ending over script initial f.done at.more at.event f.there.2 at.events lines in
-    let ready : ReadyToEnd script TooManyEvents (ending_line TooManyEvents) initial now before mid = record { done = f.done; rest = f.rest; played = f.played; last = f.last; front = f.front; told = f.told; boards = f.there.1; all = at; line = refl } in
+    let ready : ReadyToEnd script TooManyEvents (ending_line TooManyEvents) initial now before mid = record { done = f.done; rest = f.rest; played = f.played; last = f.last; front = f.front; told = f.told; boards = f.there.1; all = at; line = refl; limits = f.limits } in
     subst (λ (x : Ending). ScriptReplayed result script x initial now before after worse) (sym e) (ended result script TooManyEvents _ initial now before mid after later worse widen ready done)
 stopped_ends (NoBoard motes boards) result script ends over initial now before mid after failed later worse spread widen f done =
     let same : boards ≡ length initial = f.there.0.0 in
     let short : length initial < motes = subst (λ (n : ℕ). n < motes) same f.there.0.1 in
     let e : ending_from (length initial) over script ≡ NoBoards motes boards =
     board_ending over script initial motes f.done f.there.1.0 short f.there.3 (ap (λ (ls : List Line). f.done ++ ls) (sym f.there.1.1) ∙ f.front.lines) ∙ ap (λ (n : ℕ). NoBoards motes n) (sym same) in
-    let ready : ReadyToEnd script (NoBoards motes boards) (ending_line (NoBoards motes boards)) initial now before mid = record { done = f.done; rest = f.rest; played = f.played; last = f.last; front = f.front; told = f.told; boards = f.there.2; all = f.there.1; line = refl } in
+    let ready : ReadyToEnd script (NoBoards motes boards) (ending_line (NoBoards motes boards)) initial now before mid = record { done = f.done; rest = f.rest; played = f.played; last = f.last; front = f.front; told = f.told; boards = f.there.2; all = f.there.1; line = refl; limits = f.limits } in
     subst (λ (x : Ending). ScriptReplayed result script x initial now before after worse) (sym e) (ended result script (NoBoards motes boards) _ initial now before mid after later worse widen ready done)
 stopped_ends NoImage result script ends over initial now before mid after failed later worse spread widen never done = absurd never
 
@@ -248,7 +252,7 @@ pub over_ends : (result : Status) (script : Script) (n : ℕ) (p : Player) (init
 over_ends result script n p initial now before mid after failed worse spread r done =
     let e : ending_from (length initial) true script ≡ Over =
     few_ending true script initial (few_done false script n p initial now before mid r) ∙ ap (λ (f : Option ℕ). by_fault true f) (sym (fault_done false script n p initial now before mid r)) in
-    let ready : ReadyToEnd script Over (ending_line Over) initial now before mid = record { done = r.done; rest = []; played = r.played; last = r.last; front = front_done false script n p initial now before mid r; told = r.told; boards = r.stood.boards; all = refl; line = refl } in
+    let ready : ReadyToEnd script Over (ending_line Over) initial now before mid = record { done = r.done; rest = []; played = r.played; last = r.last; front = front_done false script n p initial now before mid r; told = r.told; boards = r.stood.boards; all = refl; line = refl; limits = record { boards_enough = r.boards_enough; few_events = r.few } } in
     subst (λ (x : Ending). ScriptReplayed result script x initial now before after worse) (sym e) (ended result script Over _ initial now before mid after failed worse spread ready done)
 
 pub end_fault_at : (place : Place) (n : ℕ) → (place ≡ Later (motes_at place) → ⊥) → end_fault true place n ≡ Some n
@@ -263,15 +267,15 @@ pub short_ends : (result : Status) (script : Script) (n : ℕ) (p : Player) (ini
 short_ends result script n p initial now before mid after failed worse spread early r done =
     let fault : script.fault ≡ Some n = sym (fault_done true script n p initial now before mid r) ∙ end_fault_at p.place n early in
     let e = fault_ending false script initial n (few_done true script n p initial now before mid r) fault in
-    let ready : ReadyToEnd script (FaultAt n) (ending_line (FaultAt n)) initial now before mid = record { done = r.done; rest = []; played = r.played; last = r.last; front = front_done true script n p initial now before mid r; told = r.told; boards = r.stood.boards; all = refl; line = refl } in
+    let ready : ReadyToEnd script (FaultAt n) (ending_line (FaultAt n)) initial now before mid = record { done = r.done; rest = []; played = r.played; last = r.last; front = front_done true script n p initial now before mid r; told = r.told; boards = r.stood.boards; all = refl; line = refl; limits = record { boards_enough = r.boards_enough; few_events = r.few } } in
     subst (λ (x : Ending). ScriptReplayed result script x initial now before after worse) (sym e) (ended result script (FaultAt n) _ initial now before mid after failed worse spread ready done)
 
 -- a player that is behind the second line has a world
 finish_as : (result : Status) (script : Script) (w : World) (done : List Line) (played : List Played) (initial new : List Device) (before mid after : Option (List ℕ)) (failed worse : Type 0) → (failed → worse)
-    → IsFront script done [] played (Some w) → Puts before mid (played_text played) → FinishesWith result w initial new mid after failed → ScriptReplayed result script Ends initial new before after worse
-finish_as result script w done played initial new before mid after failed worse spread front told (inl (ends, boards)) =
-    ended result script Ends (report_text (final_lines w)) initial new before mid after failed worse spread (record { done = done; rest = []; played = played; last = Some w; front = front; told = told; boards = boards; all = refl; line = refl }) ends
-finish_as result script w done played initial new before mid after failed worse spread front told (inr (same, stopped, kept)) =
+    → IsFront script done [] played (Some w) → LinesInLimits (length initial) done → motes_in done ≡ length w.sites → Puts before mid (played_text played) → FinishesWith result w initial new mid after failed → ScriptReplayed result script Ends initial new before after worse
+finish_as result script w done played initial new before mid after failed worse spread front limits count told (inl (ends, boards)) =
+    ended result script Ends (report_text (final_lines w)) initial new before mid after failed worse spread (record { done = done; rest = []; played = played; last = Some w; front = front; told = told; boards = boards; all = refl; line = refl; limits = limits }) ends
+finish_as result script w done played initial new before mid after failed worse spread front limits count told (inr (same, stopped, kept)) =
     let made : ScriptReplayed status.FlashFault script Ends initial new before after worse = record {
       done = done;
       rest = [];
@@ -281,14 +285,15 @@ finish_as result script w done played initial new before mid after failed worse 
       text = played_text played;
       written = subst (λ (o : Option (List ℕ)). Puts before o (played_text played)) (sym kept) told;
       report = (refl, refl);
-      boards = stopped;
-      caused = stopped.stopped;
+      limits = limits;
+      boards = stopped done count;
+      caused = (stopped done count).stopped;
     } in
     subst (λ (s : Status). ScriptReplayed s script Ends initial new before after worse) (sym same) made
 
-kept_world : (p : Player) (v : KeptWorld) (last : Option World) (initial now : List Device) → p.world ≡ Some v → InWorld p last now → BoardsStand last initial now → (w : World) × (last ≡ Some w) × IsWorld v now w × WorldStands w initial now
+kept_world : (p : Player) (v : KeptWorld) (last : Option World) (initial now : List Device) → p.world ≡ Some v → InWorld p last now → BoardsStand last initial now → (w : World) × (last ≡ Some w) × IsWorld v now w × WorldStands w initial now × (length w.sites ≡ motes_at p.place)
 kept_world p v None initial now is kept stands = absurd (let e : Some v ≡ None = sym is ∙ kept.0 in cc)
-kept_world p v (Some w) initial now is kept stands = (w, refl, subst (λ (x : KeptWorld). IsWorld x now w) (same_kept kept.0 v (sym kept.1 ∙ is)) kept.2, stands)
+kept_world p v (Some w) initial now is kept stands = (w, refl, subst (λ (x : KeptWorld). IsWorld x now w) (same_kept kept.0 v (sym kept.1 ∙ is)) kept.2, stands, kept.3)
   where
     same_kept : (a b : KeptWorld) → Some a ≡ Some b → a ≡ b
     same_kept a b e = cc
@@ -305,7 +310,7 @@ script_ends result script n p v initial now new before mid after failed worse sp
     few_ending false script initial (few_done true script n p initial now before mid r) ∙ ap (λ (f : Option ℕ). by_fault false f) fault in
     let front = subst (λ (o : Option World). IsFront script r.done [] r.played o) world.1 (front_done true script n p initial now before mid r) in
     subst (λ (x : Ending). ScriptReplayed result script x initial new before after worse) (sym e)
-    (finish_as result script w r.done r.played initial new before mid after failed worse spread front r.told (finishes w world.2 world.3))
+    (finish_as result script w r.done r.played initial new before mid after failed worse spread front (record { boards_enough = r.boards_enough; few_events = r.few }) (sym r.stood.motes ∙ sym world.4) r.told (finishes w world.2 world.3))
 
 -- the bytes up to the last LF
 front_cell : (c : ℕ) (xs : List ℕ) → up_to c (xs ++ 10 ∷ []) ≡ c ∷ xs ++ 10 ∷ []
@@ -364,6 +369,12 @@ is_over-true text more = over_is 16777216 (length text) more
 
 pub is_over-false : (text : List ℕ) → length text ≤ 16777216 → is_over text ≡ false
 is_over-false text h = below_is_false 16777216 (length text) h
+
+below_true : (n m : ℕ) → nat_lt n m ≡ true → n < m
+below_true n m e = grind (arith, nat_tests)
+
+pub over_more : (input : List ℕ) → is_over input ≡ true → 16777216 < length input
+over_more input over = below_true 16777216 (length input) over
 
 -- an input that is known to be too long, and one that is known not to be
 pub at_over : (result : Status) (script : Script) (over : Bool) (n : ℕ) (p : Player) (initial now : List Device) (before mid after : Option (List ℕ)) (failed worse : Type 0) → over ≡ true → (failed → worse)

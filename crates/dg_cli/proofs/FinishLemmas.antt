@@ -1,5 +1,5 @@
 -- The end of a report, for which the boards are read.
-use Rattle.std.proofs.Common.{◌≡◌, ℕ, ◌<◌, ◌≤◌, inl, List, [], length, get_or, sym, ◌∙◌, subst}
+use Rattle.std.proofs.Common.{◌≡◌, ℕ, ◌<◌, ◌≤◌, inl, List, [], length, get_or, sym, ◌∙◌, subst, arith}
 use Rattle.std.specs.Prelude.{Option, Some, slice_get}
 use Rattle.dg_nor.specs.Device.{Device}
 use Rattle.dg_nor.specs.Fuse.{beneath_of}
@@ -12,6 +12,8 @@ use Rattle.dg_rules.specs.Changes.{final_lines}
 use Rattle.dg_cli.specs.Replaying.{EndsWith, FinishesWith}
 use Rattle.dg_rules.specs.World.{World, store_at}
 use Rattle.dg_world.specs.Applied.{SameBoards, ReadFlash}
+use Rattle.dg_script.specs.declared.line.Line.{Line}
+use Rattle.dg_cli.specs.Items.{motes_in}
 use Rattle.dg_cli.specs.Boards.{WorldStands, StoppedIn}
 use Rattle.dg_cli.proofs.BoardLemmas.{boards_through, caused_through, there}
 
@@ -27,20 +29,24 @@ stands_read w initial old new same others b =
       others = λ m past. others m past ∙ b.others m past;
     }
 
-pub read_stopped : (w : World) (board : ℕ) (initial old new : List Device) → board < length w.sites → SameBoards old new → ReadFlash board old new → WorldStands w initial old → StoppedIn [] (Some w) initial new
-read_stopped w board initial old new known same f b =
+-- one of which stopped
+pub read_stopped : (w : World) (board : ℕ) (initial old new : List Device) → board < length w.sites → SameBoards old new → ((m : ℕ) → length w.sites ≤ m → slice_get new m ≡ slice_get old m) → ReadFlash board old new → WorldStands w initial old
+    → (done : List Line) → motes_in done ≡ length w.sites → StoppedIn done [] (Some w) initial new
+read_stopped w board initial old new known same others f b done count =
     let was : slice_get initial board ≡ Some (get_or initial board f.before) = there old initial board f.before (sym b.all.count) f.was in
+    let stood = stands_read w initial old new same others b in
     record {
       stopped = record {
         board = board;
+        known = omega (arith, known, count);
         before = get_or initial board f.before;
         after = f.after;
         was = was;
         is = f.is;
+        stopped = f.stopped;
         cause = caused_through (beneath_of (get_or initial board f.before)) (beneath_of f.before) (beneath_of f.after) (b.all.endures board _ f.before was f.was) (same.counts board f.before f.after f.was f.is) f.cause;
       };
-      count = same.count ∙ b.all.count;
-      there = subst (λ (image : List ℕ). Stands image (store_at w board)) (sym (same.images board f.before f.after f.was f.is)) (b.stands board f.before known f.was);
+      there = (stood.stands board f.after known f.is, record { all = stood.all; stands = λ m d within other here. stood.stands m d within here; came = stood.came; others = stood.others });
     }
 
 pub finished_as : (result : Status) (w : World) (told lines : List Report) (initial new : List Device) (before after : Option (List ℕ)) (failed : Type 0) → told ≡ lines → lines ≡ final_lines w → EndsWith result status.Done (report_text told) before after failed

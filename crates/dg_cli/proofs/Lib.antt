@@ -5,4 +5,6 @@ pub mod ReplayLemmas
 pub mod FinishLemmas
 pub mod GoldenLemmas
 pub mod EndLemmas
+pub mod TakenLemmas
+pub mod WholeLemmas
 pub mod RunLemmas

@@ -1,5 +1,5 @@
 -- What is known of a replay behind each kind of line.
-use Rattle.std.proofs.Common.{◌≡◌, ℕ, ◌+◌, ◌<◌, ◌≤◌, inl, inr, Bool, true, false, if◌then◌else◌, List, [], ◌∷◌, length, replicate, get_or, refl, append-nil, ap, sym, ◌∙◌, subst, arith}
+use Rattle.std.proofs.Common.{◌≡◌, ℕ, ◌+◌, ◌-◌, ◌<◌, ◌≤◌, inl, inr, Bool, true, false, if◌then◌else◌, List, [], ◌∷◌, length, replicate, get_or, refl, append-nil, ap, sym, ◌∙◌, subst, arith}
 use Rattle.std.specs.Prelude.{Option, Some, None, Result, Ok, Err, IfSome, nat_lt, slice_get, slice_index_or}
 use Rattle.std.proofs.lemmas.Bool.Decides.{nat_tests}
 use Rattle.std.proofs.lemmas.List.{length-map, length-replicate, get_or-replicate}
@@ -29,8 +29,8 @@ use Rattle.dg_world.specs.Applied.{OneBoard, FlashAt}
 use Rattle.dg_world.specs.Formatted.{FirstBoards, FormatStops}
 use Rattle.dg_world.specs.declared.world.World.{World as KeptWorld}
 use Rattle.dg_world.specs.declared.format.FormatStopped.{FormatStopped}
-use Rattle.dg_cli.specs.Items.{beginning_of, golden_world}
-use Rattle.dg_cli.specs.Boards.{WorldStands, StoppedIn}
+use Rattle.dg_cli.specs.Items.{beginning_of, cut_behind, motes_in, golden_world}
+use Rattle.dg_cli.specs.Boards.{BoardsEndure, WorldStands, StoppedIn}
 use Rattle.dg_cli.specs.Ending.{events_in}
 use Rattle.dg_cli.specs.Playing.{is_behind_golden, Counted, Seated, Stood, PlayedLine, DeclaredNow, DeclaredAs, HappenedAs, PlayedAs}
 use Rattle.dg_cli.specs.declared.player.Player.{Player}
@@ -99,6 +99,13 @@ cut_played p q done (Some w) cut told initial now later fits place has world s =
 
 -- ---- golden
 
+endured : (motes : ℕ) (initial old new : List Device) → old ≡ initial → FirstBoards motes old new → BoardsEndure initial new
+endured motes initial old new first others =
+    record {
+      count = others.count ∙ ap (λ (ds : List Device). length ds) first;
+      endures = subst (λ (ds : List Device). (m : ℕ) (a b : Device) → slice_get ds m ≡ Some a → slice_get new m ≡ Some b → Endures (beneath_of a) (beneath_of b)) first others.endures;
+    }
+
 pub golden_played : (p q : Player) (done : List Line) (w : Option World) (motes : ℕ) (golden : GoldenImage) (v : KeptWorld) (told : List Report) (initial old new : List Device)
     → p.place ≡ Second motes → Counted motes (length old) → q.place ≡ Later motes → q.cut ≡ p.cut → q.world ≡ Some v
     → ((m : ℕ) (d : Device) → m < motes → slice_get new m ≡ Some d → Stands d.image (fresh golden.name golden.content golden.used))
@@ -131,7 +138,7 @@ golden_played p q done None motes golden v told initial old new second counted p
           (ap motes_at place ∙ here)
           (v, world, is_world, many ∙ sym (ap motes_at place), ap is_behind_golden place)
           (record {
-            all = record { count = others.count ∙ ap (λ (ds : List Device). length ds) first; endures = subst (λ (ds : List Device). (m : ℕ) (a b : Device) → slice_get ds m ≡ Some a → slice_get new m ≡ Some b → Endures (beneath_of a) (beneath_of b)) first others.endures };
+            all = endured motes initial old new first others;
             stands = λ m d within is. (is_world.sites m d within is).stands;
             came = λ m d within is. awake m d (omega (arith, many, within)) (ap (λ (ds : List Device). slice_get ds m) first ∙ is);
             others = λ m past. others.others m (omega (arith, many, past)) ∙ ap (λ (ds : List Device). slice_get ds m) first;
@@ -141,22 +148,29 @@ golden_played p q done None motes golden v told initial old new second counted p
 
 -- formatting stopped
 pub golden_stopped : (p : Player) (done : List Line) (w : Option World) (motes : ℕ) (golden : GoldenImage) (e : FormatStopped) (initial old new : List Device) → p.place ≡ Second motes
-    → FirstBoards motes old new → FormatStops e.board motes old new → Stood p done w initial old → Unit {0} × StoppedIn (Golden golden ∷ []) w initial new
+    → FirstBoards motes old new → FormatStops e.board motes (fresh golden.name golden.content golden.used) old new → Stood p done w initial old → Unit {0} × StoppedIn done (Golden golden ∷ []) w initial new
 golden_stopped p done (Some w) motes golden e initial old new second others stops s = false_not (is_behind_golden p.place) s.world.4 (ap is_behind_golden second)
 golden_stopped p done None motes golden e initial old new second others stops s =
-    let first : old ≡ initial = s.boards in (
+    let first : old ≡ initial = s.boards in
+    let here : motes ≡ motes_in done = sym (ap motes_at second) ∙ s.motes in (
       tt,
       record {
         stopped = record {
           board = e.board;
+          known = subst (λ (n : ℕ). e.board < n) here stops.known;
           before = stops.before;
           after = stops.after;
           was = ap (λ (ds : List Device). slice_get ds e.board) (sym first) ∙ stops.was;
           is = stops.is;
+          stopped = stops.stopped;
           cause = stops.cause;
         };
-        count = others.count ∙ ap (λ (ds : List Device). length ds) first;
-        there = tt;
+        there = record {
+          all = endured motes initial old new first others;
+          stands = stops.formatted;
+          came = λ m d within is. stops.awake m d within (ap (λ (ds : List Device). slice_get ds m) first ∙ is);
+          others = λ m past. stops.behind m past ∙ ap (λ (ds : List Device). slice_get ds m) first;
+        };
       },
     )
 
@@ -230,20 +244,31 @@ stands_next u z v2 mote initial old new within count kept one b =
           one.others m (other_than m mote (length u.sites) within far) ∙ b.others m far;
     }
 
-flash_next : (u : World) (event : Event) (cut : Option CutOfPower) (board : ℕ) (initial old new : List Device) → FlashAt u (record { event = event; cut = cut }) board old new → WorldStands u initial old → StoppedIn (Happens event ∷ []) (Some u) initial new
-flash_next u event cut board initial old new f b =
+flash_next : (u : World) (event : Event) (done : List Line) (cut : Option CutOfPower) (board : ℕ) (initial old new : List Device) → cut ≡ cut_behind None done → mote_of event < motes_in done → motes_in done ≡ length u.sites
+    → FlashAt u (record { event = event; cut = cut }) board old new → WorldStands u initial old → StoppedIn done (Happens event ∷ []) (Some u) initial new
+flash_next u event done cut board initial old new waits within count f b =
     let was : slice_get initial board ≡ Some (get_or initial board f.before) = there old initial board f.before (sym b.all.count) f.was in
     record {
       stopped = record {
         board = board;
+        known = omega (arith, f.at, within);
         before = get_or initial board f.before;
         after = f.after;
         was = was;
         is = f.is;
+        stopped = f.stopped;
         cause = caused_through (beneath_of (get_or initial board f.before)) (beneath_of f.before) (beneath_of f.after) (b.all.endures board _ f.before was f.was) (f.boards.counts board f.before f.after f.was f.is) f.cause;
       };
-      count = f.boards.count ∙ b.all.count;
-      there = (f.at, f.leaves);
+      there = record {
+        at = f.at;
+        there = record { made = f.done; within = f.within; uncut = subst (λ (o : Option CutOfPower). IfSome o (λ c. f.done ≤ c.after - 1)) waits f.uncut; leaves = f.leaves };
+        others = record {
+          all = boards_through initial old new b.all f.boards.count f.boards.endures;
+          stands = λ m d inside other is. b.stands m d inside (sym (f.boards.others m other) ∙ is);
+          came = b.came;
+          others = λ m past. f.boards.others m (other_than m board (length u.sites) (omega (arith, f.at, within, count)) past) ∙ b.others m past;
+        };
+      };
     }
 
 pub event_played : (r : Result (Unit {0}) Stop) (p q : Player) (done : List Line) (w : Option World) (event : Event) (v v2 : KeptWorld) (told_before told : List Report) (initial old new : List Device)
@@ -279,7 +304,9 @@ event_played r p q done (Some w) event v v2 told_before told initial old new all
           boards_enough = refl;
         }
     by_result (Err Memory) a = a
-    by_result (Err FlashFault) a = (tt, flash_next w event p.cut a.0 initial old new a.1 s.boards)
+    by_result (Err FlashFault) a =
+        let here : mote_of event < motes_in done = subst (λ (n : ℕ). mote_of event < n) s.motes (event_mote event (motes_at p.place) fits) in
+        (tt, flash_next w event done p.cut a.0 initial old new s.cut here (sym s.motes ∙ sym s.world.3) a.1 s.boards)
     by_result (Err TooMany) a = record { event = event; happens = refl; world = w; is_world = refl; full = a.0; same = a.1 }
     by_result (Err NoImage) a =
         record {

@@ -19,8 +19,8 @@ use Rattle.dg_rules.specs.Sizes.{most_events}
 use Rattle.dg_rules.specs.World.{World}
 use Rattle.dg_rules.specs.Runs.{Item, Played}
 use Rattle.dg_cli.specs.Items.{items_of, items_behind, cut_behind, begin_behind, Beginning, beginning_of, lacking, lacking_by, no_beginning}
-use Rattle.dg_cli.specs.Boards.{BoardsStand, StoppedIn, StandsStopped}
-use Rattle.dg_cli.specs.Ending.{events_in}
+use Rattle.dg_cli.specs.Boards.{BoardsStand, StoppedIn}
+use Rattle.dg_cli.specs.Ending.{events_in, LinesInLimits}
 use Rattle.dg_cli.specs.Outcome.{IsFront, RunsTo, item_played, played_text}
 use Rattle.dg_cli.specs.Playing.{InWorld, Seated, is_behind_golden, Stood, Ready, CountsEvents, PlayedLine, PlayedAs, LacksImage}
 use Rattle.dg_cli.specs.Replaying.{TextPlayed, TextTold, TextCut, NothingDone, TextAnswer, Reached, PlayedFront, PlayedUpTo, HasFew, LinesAnswer}
@@ -31,6 +31,13 @@ use Rattle.dg_cli.proofs.PlayLemmas.{items_next, begin_next}
 use Rattle.dg_cli.proofs.GoldenLemmas.{script_fits, lacking_none}
 
 -- ---- one line
+
+-- an answer that is another one
+pub ok_differs : {A E : Type 0} (r : Result A E) (x : A) (e : E) → r ≡ Ok x → r ≡ Err e → ⊥
+ok_differs r x e is other = absurd (let f : Ok x ≡ Err e = sym is ∙ other in cc)
+
+pub err_differs : {A E : Type 0} (r : Result A E) (x e : E) → r ≡ Err x → (x ≡ e → ⊥) → r ≡ Err e → ⊥
+err_differs r x e is differs other = differs (let f : Err x ≡ Err e = sym is ∙ other in cc)
 
 other_stop : (s t : Stop) → ◌≡◌ {A = Result (Unit {0}) Stop} (Err s) (Err t) → (s ≡ t → ⊥) → ⊥
 other_stop s t e differ = differ (cc)
@@ -151,13 +158,27 @@ few_counted (Some w) p n now counted kept = subst (λ (k : ℕ). k ≤ most_even
 events_one : (done : List Line) (line : Line) → events_in (done ++ line ∷ []) ≡ events_in done + events_in (line ∷ [])
 events_one done line = sum_by-append _ done (line ∷ [])
 
+-- the events that were counted with it
+counted_next : (ends : Bool) (script : Script) (texts : List (List ℕ)) (text : List ℕ) (n : ℕ) (p q : Player) (initial old now : List Device) (before mid : Option (List ℕ))
+    → (r : Reached ends script (text ∷ texts) n p initial old before mid) → (t : TextPlayed text p q r.done r.last initial now) → CountsEvents t.to.world (events_in (r.done ++ t.line ∷ []))
+counted_next ends script texts text n p q initial old now before mid r t =
+    subst (λ (k : ℕ). CountsEvents t.to.world k) (sym (events_one r.done t.line)) (t.to.runs.events (events_in r.done) r.events)
+
+limits_next : (ends : Bool) (script : Script) (texts : List (List ℕ)) (text : List ℕ) (n : ℕ) (p q : Player) (initial old now : List Device) (before mid : Option (List ℕ))
+    → (r : Reached ends script (text ∷ texts) n p initial old before mid) → (t : TextPlayed text p q r.done r.last initial now) → LinesInLimits (length initial) (r.done ++ t.line ∷ [])
+limits_next ends script texts text n p q initial old now before mid r t =
+    record {
+      boards_enough = lacking_next (length initial) r.done t.line r.boards_enough t.to.boards_enough;
+      few_events = few_counted t.to.world q (events_in (r.done ++ t.line ∷ [])) now (counted_next ends script texts text n p q initial old now before mid r t) t.to.stood.world;
+    }
+
 -- the next line was played, and what it reports was told
 pub reached_next : (ends : Bool) (script : Script) (texts : List (List ℕ)) (text : List ℕ) (n : ℕ) (p q : Player) (initial old now : List Device) (before mid after : Option (List ℕ))
     → (r : Reached ends script (text ∷ texts) n p initial old before mid) → TextTold text p q r.done r.last initial now mid after → Reached ends script texts (n + 1) q initial now before after
 reached_next ends script texts text n p q initial old now before mid after r t =
     let to = t.played.to in
     let x = next_of ends script texts text n p q initial old now before mid r t.played in
-    let counted : CountsEvents to.world (events_in (r.done ++ t.played.line ∷ [])) = subst (λ (k : ℕ). CountsEvents to.world k) (sym (events_one r.done t.played.line)) (to.runs.events (events_in r.done) r.events) in
+    let limits = limits_next ends script texts text n p q initial old now before mid r t.played in
     let told_now : report_text t.played.reports ≡ played_text to.runs.more = ap report_text to.told_now ∙ sym to.runs.text in
     record {
       done = r.done ++ t.played.line ∷ [];
@@ -169,9 +190,9 @@ reached_next ends script texts text n p q initial old now before mid after r t =
       run = x.run;
       told = subst (λ (xs : List ℕ). Puts before after xs) (ap (λ (xs : List ℕ). played_text r.played ++ xs) told_now ∙ sym (played_text-more r.played to.runs.more)) (Puts-join before mid after _ _ r.told t.told);
       stood = to.stood;
-      events = counted;
-      few = few_counted to.world q (events_in (r.done ++ t.played.line ∷ [])) now counted to.stood.world;
-      boards_enough = lacking_next (length initial) r.done t.played.line r.boards_enough to.boards_enough;
+      events = counted_next ends script texts text n p q initial old now before mid r t.played;
+      few = limits.few_events;
+      boards_enough = limits.boards_enough;
     }
 
 -- a front of the last line's report
@@ -194,6 +215,7 @@ front_of_report ends script texts text n p q initial old now before mid after r 
       told = Puts-join before mid after _ _ r.told t.told.2;
       whole = append_assoc (played_text r.played) (take k report) (drop k report) ∙ ap (λ (xs : List ℕ). played_text r.played ++ xs) (take-append-drop k report ∙ told_now) ∙ sym (played_text-more r.played to.runs.more);
       boards = to.stood.boards;
+      limits = limits_next ends script texts text n p q initial old now before mid r t.played;
     }
 
 -- ---- stops
@@ -217,6 +239,7 @@ front_kept ends script texts n p initial old now before mid after r none =
       told = subst (λ (o : Option (List ℕ)). Puts before o (played_text r.played)) (sym none.told) r.told;
       whole = append-nil (played_text r.played);
       boards = subst (λ (ds : List Device). BoardsStand r.last initial ds) (sym none.boards) r.stood.boards;
+      limits = record { boards_enough = r.boards_enough; few_events = r.few };
     }
 
 full_events : (w : Option World) (u : World) (n : ℕ) → w ≡ Some u → CountsEvents w n → u.events ≡ most_events → n ≡ most_events
@@ -228,7 +251,7 @@ full_events (Some w) u n is counted full = sym counted ∙ ap (λ (x : World). x
 
 -- where a line was read and not played
 reached_up_to : (ends : Bool) (script : Script) (texts : List (List ℕ)) (text : List ℕ) (n : ℕ) (p : Player) (initial old : List Device) (before mid after : Option (List ℕ)) (P : List Line → List Line → Option World → Type 0)
-    → (r : Reached ends script (text ∷ texts) n p initial old before mid) → after ≡ mid → P r.done (script_from ends p.place n (text ∷ texts)).lines r.last → PlayedUpTo script before after P
+    → (r : Reached ends script (text ∷ texts) n p initial old before mid) → after ≡ mid → P r.done (script_from ends p.place n (text ∷ texts)).lines r.last → PlayedUpTo script initial before after P
 reached_up_to ends script texts text n p initial old before mid after P r kept there =
     record {
       done = r.done;
@@ -237,6 +260,7 @@ reached_up_to ends script texts text n p initial old before mid after P r kept t
       last = r.last;
       front = front_reached ends script (text ∷ texts) n p initial old before mid r;
       told = subst (λ (o : Option (List ℕ)). Puts before o (played_text r.played)) (sym kept) r.told;
+      limits = record { boards_enough = r.boards_enough; few_events = r.few };
       there = there;
     }
 
@@ -253,17 +277,8 @@ all_done ends script texts n p initial now before mid r none =
       boards_enough = subst (λ (ls : List Line). lacking (length initial) ls ≡ None) all r.boards_enough;
     }
 
-stands_more : (line : Line) (more : List Line) (w : Option World) (board : ℕ) (image : List ℕ) → StandsStopped (line ∷ []) w board image → StandsStopped (line ∷ more) w board image
-stands_more line more None board image h = tt
-stands_more Nothing more (Some w) board image h = tt
-stands_more (Motes n) more (Some w) board image h = tt
-stands_more (Golden golden) more (Some w) board image h = tt
-stands_more (Image i) more (Some w) board image h = tt
-stands_more (Cut cut) more (Some w) board image h = tt
-stands_more (Happens event) more (Some w) board image h = h
-
-stopped_more : (line : Line) (more : List Line) (w : Option World) (initial now : List Device) → StoppedIn (line ∷ []) w initial now → StoppedIn (line ∷ more) w initial now
-stopped_more line more w initial now s = record { stopped = s.stopped; count = s.count; there = stands_more line more w s.stopped.board s.stopped.after.image s.there }
+stopped_more : (done : List Line) (line : Line) (more : List Line) (w : Option World) (initial now : List Device) → StoppedIn done (line ∷ []) w initial now → StoppedIn done (line ∷ more) w initial now
+stopped_more done line more w initial now s = record { stopped = s.stopped; there = s.there }
 
 -- a stop at a line, behind the front that was reached
 pub stopped_at : (stop : Stop) (ends : Bool) (script : Script) (texts : List (List ℕ)) (text : List ℕ) (n : ℕ) (p q : Player) (initial old now : List Device) (before mid after : Option (List ℕ)) (failed worse : Type 0) → (failed → worse)
@@ -286,7 +301,7 @@ stopped_at FlashFault ends script texts text n p q initial old now before mid af
     let s = ap (λ (s : Script). s.lines) (script_line ends p.place n text texts t.line t.spelled) in
     reached_up_to ends script texts text n p initial old before mid after _ r told (
       (t.line, _, s, t.stopped.0),
-      subst (λ (ls : List Line). StoppedIn ls r.last initial now) (sym s) (stopped_more t.line _ r.last initial now t.stopped.1),
+      subst (λ (ls : List Line). StoppedIn r.done ls r.last initial now) (sym s) (stopped_more r.done t.line _ r.last initial now t.stopped.1),
     )
 stopped_at TooMany ends script texts text n p q initial old now before mid after failed worse spread r found (t, told) =
     let m = t.stopped in

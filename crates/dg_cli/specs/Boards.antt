@@ -1,16 +1,20 @@
 -- What a replay leaves of the boards.
-use Rattle.std.specs.Prelude.{◌≡◌, ◌⊎◌, ℕ, ◌<◌, ◌≤◌, true, false, List, [], ◌∷◌, length, slice_get, Option, Some, None}
+use Rattle.std.specs.Prelude.{◌≡◌, ◌≢◌, ◌⊎◌, ℕ, ◌-◌, ◌<◌, ◌≤◌, true, false, List, [], ◌∷◌, length, slice_get, Option, Some, None, IfSome}
 use Rattle.dg_words.specs.Counts.{Rose}
 use Rattle.dg_nor.specs.Device.{Device, Endures}
 use Rattle.dg_nor.specs.Fuse.{beneath_of}
-use Rattle.dg_nor.specs.Trail.{MayLeave}
-use Rattle.dg_volume.specs.Store.{IsNear}
+use Rattle.dg_nor.specs.Trail.{Trail, operations, MayLeave}
+use Rattle.dg_volume.specs.Store.{Store, IsNear, fresh}
 use Rattle.dg_volume.specs.Stands.{Stands}
+use Rattle.dg_script.specs.declared.events.Cut.{Cut as CutOfPower}
+use Rattle.dg_script.specs.declared.events.Event.{Event}
+use Rattle.dg_script.specs.declared.line.Golden.{Golden as GoldenImage}
 use Rattle.dg_script.specs.declared.line.Line.{Line}
-use Rattle.dg_script.specs.declared.line.Line.TheVariants.{Nothing, Motes, Golden, Image, Cut, Happens}
+use Rattle.dg_script.specs.declared.line.Line.TheVariants.{Golden, Happens}
 use Rattle.dg_rules.specs.World.{World, store_at}
 use Rattle.dg_rules.specs.Events.{does, mote_of}
 use Rattle.dg_world.specs.Turns.{trail_of}
+use Rattle.dg_cli.specs.Items.{cut_behind, motes_in}
 
 -- No count of a board fell, and a board is stopped only where it was, or where its count rose.
 pub record BoardsEndure (old new : List Device) : Type 0 where
@@ -29,29 +33,59 @@ abbrev pub BoardsStand : Option World → List Device → List Device → Type 0
 BoardsStand None old new = new ≡ old
 BoardsStand (Some w) old new = WorldStands w old new
 
--- A board is stopped: its count rose, or it came stopped.
-pub record BoardStopped (old new : List Device) : Type 0 where
+-- ---- a board that stopped
+
+-- The board of one of so many motes is stopped: its count rose, or it came stopped.
+pub record BoardStopped (motes : ℕ) (old new : List Device) : Type 0 where
   pub board : ℕ
+  pub known : board < motes
   pub before : Device
   pub after : Device
   pub was : slice_get old board ≡ Some before
   pub is : slice_get new board ≡ Some after
+  pub stopped : after.stopped ≡ true
   pub cause : (before.stopped ≡ true) ⊎ Rose before.faults after.faults
 
--- What the stopped board stands for: in the reading at the end its last store, and in an event one that the event's trail leaves.
-abbrev pub StandsStopped : List Line → Option World → ℕ → List ℕ → Type 0
-StandsStopped rest None board image = Unit {0}
-StandsStopped [] (Some w) board image = Stands image (store_at w board)
-StandsStopped (Happens event ∷ rest) (Some w) board image =
-    (board ≡ mote_of event) × ((k : ℕ) × MayLeave Stands IsNear (trail_of (does w event) (store_at w (mote_of event))) k image)
-StandsStopped (Nothing ∷ rest) (Some w) board image = Unit {0}
-StandsStopped (Motes n ∷ rest) (Some w) board image = Unit {0}
-StandsStopped (Golden golden ∷ rest) (Some w) board image = Unit {0}
-StandsStopped (Image i ∷ rest) (Some w) board image = Unit {0}
-StandsStopped (Cut cut ∷ rest) (Some w) board image = Unit {0}
+-- The boards of a world's motes but this one stand for its stores. None of them came stopped, and all others are as before.
+pub record OthersStand (w : World) (board : ℕ) (old new : List Device) : Type 0 where
+  pub all : BoardsEndure old new
+  pub stands : (m : ℕ) (d : Device) → m < length w.sites → m ≢ board → slice_get new m ≡ Some d → Stands d.image (store_at w m)
+  pub came : (m : ℕ) (d : Device) → m < length w.sites → slice_get old m ≡ Some d → d.stopped ≡ false
+  pub others : (m : ℕ) → length w.sites ≤ m → slice_get new m ≡ slice_get old m
 
--- A board is stopped where a replay had come to this world, with these lines to play.
-pub record StoppedIn (rest : List Line) (last : Option World) (old new : List Device) : Type 0 where
-  pub stopped : BoardStopped old new
-  pub count : length new ≡ length old
-  pub there : StandsStopped rest last stopped.board stopped.after.image
+-- The boards before this one stand for golden alone, and did not come stopped. Those behind it are as before.
+pub record OthersFormatted (golden : GoldenImage) (board : ℕ) (old new : List Device) : Type 0 where
+  pub all : BoardsEndure old new
+  pub stands : (m : ℕ) (d : Device) → m < board → slice_get new m ≡ Some d → Stands d.image (fresh golden.name golden.content golden.used)
+  pub came : (m : ℕ) (d : Device) → m < board → slice_get old m ≡ Some d → d.stopped ≡ false
+  pub others : (m : ℕ) → board < m → slice_get new m ≡ slice_get old m
+
+-- A board that goes through these stores stopped where so many operations were done. A cut did not come before.
+pub record StopsOn (trail : Trail Store) (cut : Option CutOfPower) (image : List ℕ) : Type 0 where
+  pub made : ℕ
+  pub within : made ≤ operations trail
+  pub uncut : IfSome cut (λ c. made ≤ c.after - 1)
+  pub leaves : MayLeave Stands IsNear trail made image
+
+-- In an event it is the board of the event's mote.
+pub record EventStops (w : World) (event : Event) (cut : Option CutOfPower) (board : ℕ) (image : List ℕ) (old new : List Device) : Type 0 where
+  pub at : board ≡ mote_of event
+  pub there : StopsOn (trail_of (does w event) (store_at w (mote_of event))) cut image
+  pub others : OthersStand w board old new
+
+-- Where a board stopped in a line, before which a cut may wait: in formatting, or in an event. No other line uses a board.
+abbrev pub LineStops : Option CutOfPower → Line → Option World → (board : ℕ) → List ℕ → (old new : List Device) → Type 0
+LineStops cut (Golden golden) None board image old new = OthersFormatted golden board old new
+LineStops cut (Happens event) (Some w) board image old new = EventStops w event cut board image old new
+LineStops cut line last board image old new = ⊥
+
+-- The same in the reading at the end, which changes no store.
+abbrev pub BoardStops : Option CutOfPower → List Line → Option World → (board : ℕ) → List ℕ → (old new : List Device) → Type 0
+BoardStops cut [] None board image old new = ⊥
+BoardStops cut [] (Some w) board image old new = Stands image (store_at w board) × OthersStand w board old new
+BoardStops cut (line ∷ rest) last board image old new = LineStops cut line last board image old new
+
+-- A board is stopped where a replay had come to this world, with these lines done and those to do.
+pub record StoppedIn (done rest : List Line) (last : Option World) (old new : List Device) : Type 0 where
+  pub stopped : BoardStopped (motes_in done) old new
+  pub there : BoardStops (cut_behind None done) rest last stopped.board stopped.after.image old new

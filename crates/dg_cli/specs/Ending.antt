@@ -64,6 +64,11 @@ ending_from boards over script = by_boards (lacking boards script.lines) boards 
 abbrev pub ending_of : ℕ → List ℕ → Ending
 ending_of boards input = ending_from boards (is_over input) (script_of input)
 
+-- Lines that do not go past the ending: there are boards for their motes, and no more than a million events.
+pub record LinesInLimits (boards : ℕ) (done : List Line) : Type 0 where
+  pub boards_enough : lacking boards done ≡ None
+  pub few_events : events_in done ≤ most_events
+
 -- An input is in its grammar and limits, and there are boards for its motes.
 pub record InLimits (boards : ℕ) (input : List ℕ) : Type 0 where
   pub bytes : length input ≤ 16777216

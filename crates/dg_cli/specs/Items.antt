@@ -68,6 +68,10 @@ no_beginning = record { motes = 0; world = None }
 abbrev pub beginning_of : List Line → Beginning
 beginning_of lines = begin_behind no_beginning lines
 
+-- how many motes there are by these lines
+abbrev pub motes_in : List Line → ℕ
+motes_in lines = (beginning_of lines).motes
+
 -- the motes of a line for which boards are missing
 abbrev pub lacking_by : ℕ → Line → Option ℕ → Option ℕ
 lacking_by boards Nothing rest = rest

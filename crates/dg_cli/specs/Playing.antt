@@ -123,7 +123,7 @@ abbrev pub PlayedAs : Result (Unit {0}) Stop → Player → List Line → Option
 PlayedAs (Ok u) q done w line told_before told initial old new = PlayedLine q done w line told_before told initial new
 PlayedAs (Err Memory) q done w line told_before told initial old new = new ≡ old
 PlayedAs (Err (NoBoard motes boards)) q done w line told_before told initial old new = LacksBoards line motes boards initial old new
-PlayedAs (Err FlashFault) q done w line told_before told initial old new = UsesBoard line × StoppedIn (line ∷ []) w initial new
+PlayedAs (Err FlashFault) q done w line told_before told initial old new = UsesBoard line × StoppedIn done (line ∷ []) w initial new
 PlayedAs (Err TooMany) q done w line told_before told initial old new = IsOneTooMany w line old new
 PlayedAs (Err NoImage) q done w line told_before told initial old new = LacksImage (cut_behind None done) w line
 PlayedAs (Err (BadInput n)) q done w line told_before told initial old new = ⊥
@@ -134,7 +134,7 @@ pub record FormattedAs (result : Result (Unit {0}) FormatStopped) (motes : ℕ) 
   pub formatted : OnOk result ((m : ℕ) (d : Device) → m < motes → slice_get new m ≡ Some d → Stands d.image (fresh golden.name golden.content golden.used))
   pub awake : OnOk result ((m : ℕ) (d : Device) → m < motes → slice_get old m ≡ Some d → d.stopped ≡ false)
   pub others : FirstBoards motes old new
-  pub stopped : (e : FormatStopped) → result ≡ Err e → FormatStops e.board motes old new
+  pub stopped : (e : FormatStopped) → result ≡ Err e → FormatStops e.board motes (fresh golden.name golden.content golden.used) old new
 
 -- what declaring an image answers
 pub record DeclaredNow (v v2 : KeptWorld) (image : DeclaredImage) (told_before told : List Report) (boards : List Device) (w : World) : Type 0 where

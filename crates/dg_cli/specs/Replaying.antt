@@ -11,8 +11,8 @@ use Rattle.dg_rules.specs.World.{World}
 use Rattle.dg_rules.specs.Changes.{final_lines}
 use Rattle.dg_rules.specs.Runs.{Played}
 use Rattle.dg_cli.specs.Boards.{BoardsStand, BoardStopped, StoppedIn}
-use Rattle.dg_cli.specs.Items.{items_of, beginning_of, lacking, cut_behind}
-use Rattle.dg_cli.specs.Ending.{Ending, NoBoards, TooManyEvents, FaultAt, events_in, ending_line}
+use Rattle.dg_cli.specs.Items.{items_of, beginning_of, motes_in, lacking, cut_behind}
+use Rattle.dg_cli.specs.Ending.{Ending, NoBoards, TooManyEvents, FaultAt, events_in, LinesInLimits, ending_line}
 use Rattle.dg_cli.specs.Outcome.{CameTo, AtTooMany, closing, Wrote, Boards, IsCaused, IsFront, RunsTo, item_played, played_text}
 use Rattle.dg_cli.specs.Playing.{Stood, CountsEvents, PlayedLine, IsOneTooMany, LacksBoards, LacksImage}
 use Rattle.dg_cli.specs.declared.player.Player.{Player}
@@ -57,7 +57,7 @@ TextAnswer (Ok u) text number p q done w initial old new before after failed = T
 TextAnswer (Err Memory) text number p q done w initial old new before after failed = NothingDone old new before after ⊎ TextCut text p q done w initial new before after
 TextAnswer (Err (BadInput line)) text number p q done w initial old new before after failed = (line ≡ number) × (line_of p.place text ≡ None) × NothingDone old new before after
 TextAnswer (Err WriteFault) text number p q done w initial old new before after failed = failed × TextCut text p q done w initial new before after
-TextAnswer (Err FlashFault) text number p q done w initial old new before after failed = TextStopped text p (λ line. UsesBoard line × StoppedIn (line ∷ []) w initial new) × (after ≡ before)
+TextAnswer (Err FlashFault) text number p q done w initial old new before after failed = TextStopped text p (λ line. UsesBoard line × StoppedIn done (line ∷ []) w initial new) × (after ≡ before)
 TextAnswer (Err TooMany) text number p q done w initial old new before after failed = TextStopped text p (λ line. IsOneTooMany w line old new) × (after ≡ before)
 TextAnswer (Err (NoBoard motes boards)) text number p q done w initial old new before after failed = TextStopped text p (λ line. LacksBoards line motes boards initial old new) × (after ≡ before)
 TextAnswer (Err NoImage) text number p q done w initial old new before after failed = TextStopped text p (λ line. LacksImage (cut_behind None done) w line)
@@ -90,15 +90,17 @@ pub record PlayedFront (script : Script) (initial now : List Device) (before aft
   pub told : Puts before after text
   pub whole : text ++ more ≡ played_text played
   pub boards : BoardsStand last initial now
+  pub limits : LinesInLimits (length initial) done
 
 -- A front of the script was played and reported, and then a line P came.
-pub record PlayedUpTo (script : Script) (before after : Option (List ℕ)) (P : List Line → List Line → Option World → Type 0) : Type 0 where
+pub record PlayedUpTo (script : Script) (initial : List Device) (before after : Option (List ℕ)) (P : List Line → List Line → Option World → Type 0) : Type 0 where
   pub done : List Line
   pub rest : List Line
   pub played : List Played
   pub last : Option World
   pub front : IsFront script done rest played last
   pub told : Puts before after (played_text played)
+  pub limits : LinesInLimits (length initial) done
   pub there : P done rest last
 
 -- a script that was played to its first fault, or to its end
@@ -110,12 +112,12 @@ pub record HasFew (script : Script) (initial : List Device) : Type 0 where
 abbrev pub LinesAnswer : Result (Player × ℕ) Stop → Bool → Script → (initial now : List Device) → (before after : Option (List ℕ)) → (write_failed : Type 0) → Type 0
 LinesAnswer (Ok reached) ends script initial now before after failed = Reached ends script [] reached.1 reached.0 initial now before after
 LinesAnswer (Err Memory) ends script initial now before after failed = PlayedFront script initial now before after
-LinesAnswer (Err (BadInput line)) ends script initial now before after failed = PlayedUpTo script before after (λ done rest last. (rest ≡ []) × (script.fault ≡ Some line) × BoardsStand last initial now × HasFew script initial)
+LinesAnswer (Err (BadInput line)) ends script initial now before after failed = PlayedUpTo script initial before after (λ done rest last. (rest ≡ []) × (script.fault ≡ Some line) × BoardsStand last initial now × HasFew script initial)
 LinesAnswer (Err WriteFault) ends script initial now before after failed = failed × PlayedFront script initial now before after
-LinesAnswer (Err FlashFault) ends script initial now before after failed = PlayedUpTo script before after (λ done rest last. ((line : Line) × (more : List Line) × (rest ≡ line ∷ more) × UsesBoard line) × StoppedIn rest last initial now)
-LinesAnswer (Err TooMany) ends script initial now before after failed = PlayedUpTo script before after (λ done rest last. AtTooMany done rest × BoardsStand last initial now × (lacking (length initial) script.lines ≡ None))
+LinesAnswer (Err FlashFault) ends script initial now before after failed = PlayedUpTo script initial before after (λ done rest last. ((line : Line) × (more : List Line) × (rest ≡ line ∷ more) × UsesBoard line) × StoppedIn done rest last initial now)
+LinesAnswer (Err TooMany) ends script initial now before after failed = PlayedUpTo script initial before after (λ done rest last. AtTooMany done rest × BoardsStand last initial now × (lacking (length initial) script.lines ≡ None))
 LinesAnswer (Err (NoBoard motes boards)) ends script initial now before after failed =
-    PlayedUpTo script before after (λ done rest last. ((boards ≡ length initial) × (boards < motes)) × ((more : List Line) × (rest ≡ Motes motes ∷ more)) × BoardsStand last initial now × (lacking (length initial) done ≡ None))
+    PlayedUpTo script initial before after (λ done rest last. ((boards ≡ length initial) × (boards < motes)) × ((more : List Line) × (rest ≡ Motes motes ∷ more)) × BoardsStand last initial now × (lacking (length initial) done ≡ None))
 LinesAnswer (Err NoImage) ends script initial now before after failed = ⊥
 
 -- A script came to its ending, and the end of its report, which is this piece, is not written yet.
@@ -129,6 +131,7 @@ pub record ReadyToEnd (script : Script) (ending : Ending) (piece : List ℕ) (in
   pub boards : BoardsStand last initial now
   pub all : CameTo ending done rest
   pub line : closing ending last ≡ piece
+  pub limits : LinesInLimits (length initial) done
 
 -- how writing the end of a report ends
 abbrev pub EndsWith : Status → Status → List ℕ → (before after : Option (List ℕ)) → (write_failed : Type 0) → Type 0
@@ -151,7 +154,7 @@ StopEnds NoImage result before after failed = Unit {0}
 abbrev pub FinishesWith : Status → World → (initial now : List Device) → (before after : Option (List ℕ)) → (write_failed : Type 0) → Type 0
 FinishesWith result w initial now before after failed =
     (EndsWith result status.Done (report_text (final_lines w)) before after failed × BoardsStand (Some w) initial now)
-    ⊎ ((result ≡ status.FlashFault) × StoppedIn [] (Some w) initial now × (after ≡ before))
+    ⊎ ((result ≡ status.FlashFault) × ((done : List Line) → motes_in done ≡ length w.sites → StoppedIn done [] (Some w) initial now) × (after ≡ before))
 
 -- A script was replayed, as its ending and the status say.
 pub record ScriptReplayed (status : Status) (script : Script) (ending : Ending) (initial now : List Device) (before after : Option (List ℕ)) (write_failed : Type 0) : Type 0 where
@@ -163,5 +166,6 @@ pub record ScriptReplayed (status : Status) (script : Script) (ending : Ending) 
   pub text : List ℕ
   pub written : Puts before after text
   pub report : Wrote status ending done rest played last text
-  pub boards : Boards status rest last initial now
-  pub caused : IsCaused status ending ⊥ write_failed (BoardStopped initial now)
+  pub limits : LinesInLimits (length initial) done
+  pub boards : Boards status done rest last initial now
+  pub caused : IsCaused status ending ⊥ write_failed (BoardStopped (motes_in done) initial now)

@@ -1,12 +1,13 @@
 //! The top call.
-ghost use Rattle.std.specs.Prelude.{◌≡◌, ◌≢◌, ◌⊎◌, ◌≤◌, ℕ, List, [], Some, map, length, string_bytes};
+ghost use Rattle.std.specs.Prelude.{◌≡◌, ◌≢◌, ◌⊎◌, ◌≤◌, ℕ, List, [], Some, IfSome, map, length, string_bytes};
 ghost use Rattle.std.specs.Bool.{OnTrue, OnFalse};
 ghost use Rattle.std.specs.List.{AllByRecursion};
 ghost use Rattle.dg_words.specs.Counts.{Rose};
 ghost use Rattle.dg_rules.specs.Runs.{EachAfter};
 ghost use Rattle.dg_rules.specs.Promises.{IsLegal, KeepsAll, StartsRow};
-ghost use Rattle.dg_rules.specs.Premises.{LeavesAgreement};
-ghost use Rattle.dg_cli.specs.Ending.{InLimits};
+ghost use Rattle.dg_rules.specs.Premises.{LeavesAgreement, WorldAgrees};
+ghost use Rattle.dg_cli.specs.Ending.{InLimits, script_of};
+ghost use Rattle.dg_cli.specs.Items.{motes_in};
 ghost use Rattle.dg_cli.specs.Outcome.{Replayed, IsReplay, Unknown};
 ghost use Rattle.dg_cli.specs.Boards.{BoardStopped};
 
@@ -26,7 +27,7 @@ fn replay<S: Source, K: Sink, N: Nor>(
     boards: &mut Vec<N>,
 ) -> Status
     ensures replayed { Replayed result (S.left input.old) (S.left input.new) (K.written out.old) (K.written out.new)
-        (Rose (S.faults input.old) (S.faults input.new)) (Rose (K.faults out.old) (K.faults out.new)) (map N.device boards.old.items) (map N.device boards.new.items) }
+        (S.faults input.old) (S.faults input.new) (K.faults out.old) (K.faults out.new) (map N.device boards.old.items) (map N.device boards.new.items) }
     ensures reads { S.faults input.old ≤ S.faults input.new }
     ensures writes { K.faults out.old ≤ K.faults out.new }
 {
@@ -62,31 +63,31 @@ pub fn run<S: Source, K: Sink, N: Nor>(
 ) -> Status
     // The report is true: it is that of a run of the rules over the items of the script, and each status comes where the rules say.
     ensures replayed { IsReplay (map string_bytes words.now.items) → Replayed result (S.left input.old) (S.left input.new) (K.written out.old) (K.written out.new)
-        (Rose (S.faults input.old) (S.faults input.new)) (Rose (K.faults out.old) (K.faults out.new)) (map N.device boards.old.items) (map N.device boards.new.items) }
+        (S.faults input.old) (S.faults input.new) (K.faults out.old) (K.faults out.new) (map N.device boards.old.items) (map N.device boards.new.items) }
     // Each step is legal after those before it.
     ensures legal { (x : Replayed result (S.left input.old) (S.left input.new) (K.written out.old) (K.written out.new)
-        (Rose (S.faults input.old) (S.faults input.new)) (Rose (K.faults out.old) (K.faults out.new)) (map N.device boards.old.items) (map N.device boards.new.items))
+        (S.faults input.old) (S.faults input.new) (K.faults out.old) (K.faults out.new) (map N.device boards.old.items) (map N.device boards.new.items))
         → EachAfter IsLegal [] x.played }
     // No version falls, but as a cut in a replacement allows.
     ensures keeps { (x : Replayed result (S.left input.old) (S.left input.new) (K.written out.old) (K.written out.new)
-        (Rose (S.faults input.old) (S.faults input.new)) (Rose (K.faults out.old) (K.faults out.new)) (map N.device boards.old.items) (map N.device boards.new.items))
+        (S.faults input.old) (S.faults input.new) (K.faults out.old) (K.faults out.new) (map N.device boards.old.items) (map N.device boards.new.items))
         → AllByRecursion KeepsAll x.played }
     // What starts is one row of the table of images, byte for byte.
     ensures starts { (x : Replayed result (S.left input.old) (S.left input.new) (K.written out.old) (K.written out.new)
-        (Rose (S.faults input.old) (S.faults input.new)) (Rose (K.faults out.old) (K.faults out.new)) (map N.device boards.old.items) (map N.device boards.new.items))
+        (S.faults input.old) (S.faults input.new) (K.faults out.old) (K.faults out.new) (map N.device boards.old.items) (map N.device boards.new.items))
         → AllByRecursion StartsRow x.played }
-    // Every chip agrees with the table, also one that a cut left half done.
+    // Every chip agrees with the table, also one that a cut left half done: after each item, and in the last world.
     ensures agrees { (x : Replayed result (S.left input.old) (S.left input.new) (K.written out.old) (K.written out.new)
-        (Rose (S.faults input.old) (S.faults input.new)) (Rose (K.faults out.old) (K.faults out.new)) (map N.device boards.old.items) (map N.device boards.new.items))
-        → AllByRecursion LeavesAgreement x.played }
+        (S.faults input.old) (S.faults input.new) (K.faults out.old) (K.faults out.new) (map N.device boards.old.items) (map N.device boards.new.items))
+        → AllByRecursion LeavesAgreement x.played × IfSome x.last WorldAgrees }
     ensures usage { (IsReplay (map string_bytes words.now.items) → ⊥) → Unknown result (S.left input.old) (S.left input.new) (K.written out.old) (K.written out.new)
-        (Rose (K.faults out.old) (K.faults out.new)) (map N.device boards.old.items) (map N.device boards.new.items) }
+        (K.faults out.old) (K.faults out.new) (map N.device boards.old.items) (map N.device boards.new.items) }
     ensures untouched { (IsReplay (map string_bytes words.now.items) → ⊥) → input.new ≡ input.old }
 
     // A script in its grammar and limits, with boards for its motes, is replayed to its end, unless memory runs out or the outside fails.
     ensures complete { (bytes : List ℕ) → IsReplay (map string_bytes words.now.items) → S.left input.old ≡ Some bytes → InLimits (length boards.old.items) bytes
         → (Rose (S.faults input.old) (S.faults input.new) → ⊥) → (Rose (K.faults out.old) (K.faults out.new) → ⊥)
-        → (BoardStopped (map N.device boards.old.items) (map N.device boards.new.items) → ⊥)
+        → (BoardStopped (motes_in (script_of bytes).lines) (map N.device boards.old.items) (map N.device boards.new.items) → ⊥)
         → (result ≡ Status.Done) ⊎ (result ≡ Status.Memory) }
 
     // A replay formats its boards itself, so that they are volumes; no rule of `replay` refuses anything but its script;

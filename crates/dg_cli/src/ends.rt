@@ -1,5 +1,5 @@
 //! How a replay ends.
-ghost use Rattle.std.specs.Prelude.{◌≡◌, ◌≤◌, ℕ, Bool, not, List, [], Option, map, length, take};
+ghost use Rattle.std.specs.Prelude.{◌≡◌, ◌≢◌, ◌≤◌, ℕ, Bool, not, List, [], Option, map, length, take};
 ghost use Rattle.dg_words.specs.Counts.{Rose};
 ghost use Rattle.dg_nor.specs.Device.{Device};
 ghost use Rattle.dg_script.specs.Script.{Script};
@@ -21,6 +21,7 @@ use std::alloc::Global;
 fn end_at_stop<K: Sink>(alloc: Global, out: &mut K, stop: Stop) -> Status
     ensures ends { StopEnds stop result (K.written out.old) (K.written out.new) (Rose (K.faults out.old) (K.faults out.new)) }
     ensures counts { K.faults out.old ≤ K.faults out.new }
+    ensures unfailed { result ≢ Status.WriteFault → K.faults out.new ≡ K.faults out.old }
 {
     match stop {
         Stop::Memory => Status::Memory,
@@ -80,6 +81,7 @@ fn end_script<K: Sink, N: Nor>(
         → Reached (not over) script [] number player.now initial (map N.device boards.old.items) before (K.written out.old)
         → ScriptReplayed result script (ending_from (length initial) over script) initial (map N.device boards.new.items) before (K.written out.new) (Rose faults (K.faults out.new)) }
     ensures counts { K.faults out.old ≤ K.faults out.new }
+    ensures unfailed { result ≢ Status.WriteFault → K.faults out.new ≡ K.faults out.old }
 {
     if over {
         return end_with(out, b"toolong\n", Status::TooLong);
@@ -106,6 +108,7 @@ pub fn replay_text<K: Sink, N: Nor>(
     ensures replayed { ScriptReplayed result (script_of text.now) (ending_of (length boards.old.items) text.now) (map N.device boards.old.items) (map N.device boards.new.items)
         (K.written out.old) (K.written out.new) (Rose (K.faults out.old) (K.faults out.new)) }
     ensures counts { K.faults out.old ≤ K.faults out.new }
+    ensures unfailed { result ≢ Status.WriteFault → K.faults out.new ≡ K.faults out.old }
 {
     let over = is_over(text);
     match play_lines(alloc, &text[..used_length(text)], boards, out) {

@@ -1,5 +1,5 @@
 //! The end of a report.
-ghost use Rattle.std.specs.Prelude.{◌≡◌, ◌⊎◌, ◌≤◌, ◌++◌, List, map, OnOk};
+ghost use Rattle.std.specs.Prelude.{◌≡◌, ◌≢◌, ◌⊎◌, ◌≤◌, ◌++◌, List, map, OnOk};
 ghost use Rattle.dg_words.specs.Counts.{Rose};
 ghost use Rattle.dg_base.specs.Outside.{Puts, PutsFront};
 ghost use Rattle.dg_nor.specs.Device.{Device};
@@ -20,9 +20,10 @@ use std::alloc::{AllocError, Global};
 /// Ends a replay with the last piece of its report.
 pub fn end_with<K: Sink>(out: &mut K, piece: &[u8], status: Status) -> Status
     ensures ends { EndsWith result status piece.now (K.written out.old) (K.written out.new) (Rose (K.faults out.old) (K.faults out.new)) }
-    ensures written { ((result ≡ status) × Puts (K.written out.old) (K.written out.new) piece.now)
+    ensures written { ((result ≡ status) × Puts (K.written out.old) (K.written out.new) piece.now × (K.faults out.new ≡ K.faults out.old))
         ⊎ ((result ≡ Status.WriteFault) × PutsFront (K.written out.old) (K.written out.new) piece.now × Rose (K.faults out.old) (K.faults out.new)) }
     ensures counts { K.faults out.old ≤ K.faults out.new }
+    ensures unfailed { result ≢ Status.WriteFault → K.faults out.new ≡ K.faults out.old }
 {
     match out.write(piece) {
         Ok(()) => status,
@@ -42,6 +43,7 @@ fn push_bad_line(piece: &mut Vec<u8>, line: u32) -> Result<(), AllocError>
 pub fn end_at_line<K: Sink>(alloc: Global, out: &mut K, line: u32) -> Status
     ensures ends { EndsWith result Status.BadInput (ending_line (FaultAt line)) (K.written out.old) (K.written out.new) (Rose (K.faults out.old) (K.faults out.new)) }
     ensures counts { K.faults out.old ≤ K.faults out.new }
+    ensures unfailed { result ≢ Status.WriteFault → K.faults out.new ≡ K.faults out.old }
 {
     let mut piece = Vec::new(alloc);
     match push_bad_line(&mut piece, line) {
@@ -65,6 +67,7 @@ fn push_no_board(piece: &mut Vec<u8>, motes: u8, boards: u32) -> Result<(), Allo
 pub fn end_without_boards<K: Sink>(alloc: Global, out: &mut K, motes: u8, boards: u32) -> Status
     ensures ends { EndsWith result Status.NoBoard (ending_line (NoBoards motes boards)) (K.written out.old) (K.written out.new) (Rose (K.faults out.old) (K.faults out.new)) }
     ensures counts { K.faults out.old ≤ K.faults out.new }
+    ensures unfailed { result ≢ Status.WriteFault → K.faults out.new ≡ K.faults out.old }
 {
     let mut piece = Vec::new(alloc);
     match push_no_board(&mut piece, motes, boards) {
@@ -77,6 +80,7 @@ pub fn end_without_boards<K: Sink>(alloc: Global, out: &mut K, motes: u8, boards
 fn end_with_lines<K: Sink>(alloc: Global, out: &mut K, reports: &[Report]) -> Status
     ensures ends { EndsWith result Status.Done (report_text reports.now) (K.written out.old) (K.written out.new) (Rose (K.faults out.old) (K.faults out.new)) }
     ensures counts { K.faults out.old ≤ K.faults out.new }
+    ensures unfailed { result ≢ Status.WriteFault → K.faults out.new ≡ K.faults out.old }
 {
     let mut piece = Vec::new(alloc);
     match push_reports(&mut piece, reports) {
@@ -96,6 +100,7 @@ pub fn finish<K: Sink, N: Nor>(
     ensures finishes { (w : RuleWorld) (initial : List Device) → IsWorld world.now (map N.device boards.old.items) w → WorldStands w initial (map N.device boards.old.items)
         → FinishesWith result w initial (map N.device boards.new.items) (K.written out.old) (K.written out.new) (Rose (K.faults out.old) (K.faults out.new)) }
     ensures counts { K.faults out.old ≤ K.faults out.new }
+    ensures unfailed { result ≢ Status.WriteFault → K.faults out.new ≡ K.faults out.old }
 {
     let mut reports = Vec::new(alloc);
     match world.finish(boards, &mut reports) {

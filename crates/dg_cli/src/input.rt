@@ -1,5 +1,5 @@
 //! The input of a command, read as far as it is used.
-ghost use Rattle.std.specs.Prelude.{◌≡◌, ◌⊎◌, ℕ, ◌+◌, ◌<◌, ◌≤◌, List, ◌++◌, length, vec_len, IfOk, OnOk};
+ghost use Rattle.std.specs.Prelude.{◌≡◌, ◌≢◌, ◌⊎◌, ℕ, ◌+◌, ◌<◌, ◌≤◌, List, ◌++◌, length, vec_len, IfOk, OnOk};
 ghost use Rattle.dg_words.specs.Counts.{Rose};
 ghost use Rattle.dg_base.specs.Outside.{Takes, AtEnd};
 
@@ -28,12 +28,13 @@ fn read_piece<S: Source>(
 ) -> Result<usize, ReadStop>
     requires piece { 0 < length piece.old }
     requires room { vec_len bytes.old ≤ USED }
-    ensures taken { (more : List ℕ) × Takes (S.left source.old) (S.left source.new) more
+    ensures taken { (more : List ℕ) × Takes (S.left source.old) (S.left source.new) more × (vec_len bytes.old + length more ≤ USED + 1)
         × IfOk result (λ n. (n ≡ length more) × (bytes.new.items ≡ bytes.old.items ++ more)) }
     ensures bound { OnOk result (vec_len bytes.new ≤ USED + 1) }
     ensures ended { result ≡ Ok 0 → AtEnd (S.left source.new) }
     ensures counts { S.faults source.old ≤ S.faults source.new }
     ensures failed { result ≡ Err ReadStop.ReadFault → Rose (S.faults source.old) (S.faults source.new) }
+    ensures unfailed { result ≢ Err ReadStop.ReadFault → S.faults source.new ≡ S.faults source.old }
 {
     let most = piece.len().min(USED + 1 - bytes.len());
     match source.read(&mut piece[..most]) {
@@ -52,11 +53,12 @@ fn read_pieces<S: Source>(
     piece: &mut [u8],
 ) -> Result<Vec<u8>, ReadStop>
     requires { 0 < length piece.old }
-    ensures taken { (bytes : List ℕ) × Takes (S.left source.old) (S.left source.new) bytes × IfOk result (λ v. v.items ≡ bytes) }
+    ensures taken { (bytes : List ℕ) × Takes (S.left source.old) (S.left source.new) bytes × (length bytes ≤ USED + 1) × IfOk result (λ v. v.items ≡ bytes) }
     ensures ended { IfOk result (λ v. AtEnd (S.left source.new) ⊎ (USED < length v.items)) }
     ensures bound { IfOk result (λ v. length v.items ≤ USED + 1) }
     ensures counts { S.faults source.old ≤ S.faults source.new }
     ensures failed { result ≡ Err ReadStop.ReadFault → Rose (S.faults source.old) (S.faults source.new) }
+    ensures unfailed { result ≢ Err ReadStop.ReadFault → S.faults source.new ≡ S.faults source.old }
 {
     let mut bytes = Vec::new(alloc);
     while bytes.len() <= USED {
@@ -69,14 +71,15 @@ fn read_pieces<S: Source>(
 
 /// Reads an input to its end, or one byte past those that are used.
 ///
-/// Whatever it answers, some bytes were taken from the source, in their order; after Ok they are
-/// those of the answer.
+/// Whatever it answers, some bytes were taken from the source, in their order and no more than that; after Ok they
+/// are those of the answer.
 pub fn read_input<S: Source>(alloc: Global, source: &mut S) -> Result<Vec<u8>, ReadStop>
-    ensures taken { (bytes : List ℕ) × Takes (S.left source.old) (S.left source.new) bytes × IfOk result (λ v. v.items ≡ bytes) }
+    ensures taken { (bytes : List ℕ) × Takes (S.left source.old) (S.left source.new) bytes × (length bytes ≤ 16777217) × IfOk result (λ v. v.items ≡ bytes) }
     ensures ended { IfOk result (λ v. AtEnd (S.left source.new) ⊎ (16777216 < length v.items)) }
     ensures bound { IfOk result (λ v. length v.items ≤ 16777217) }
     ensures counts { S.faults source.old ≤ S.faults source.new }
     ensures failed { result ≡ Err ReadStop.ReadFault → Rose (S.faults source.old) (S.faults source.new) }
+    ensures unfailed { result ≢ Err ReadStop.ReadFault → S.faults source.new ≡ S.faults source.old }
 {
     read_pieces(alloc, source, &mut [0; PIECE])
 }

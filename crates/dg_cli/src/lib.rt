@@ -8,8 +8,10 @@ mod command;
 mod ends;
 mod finish;
 mod input;
+mod laws;
 mod player;
 mod replay;
 mod stop;
 
 pub use command::run;
+pub use laws::whole_lines_are_longest;

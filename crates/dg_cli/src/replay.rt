@@ -1,5 +1,5 @@
 //! Replays a script over boards.
-ghost use Rattle.std.specs.Prelude.{◌≡◌, ◌⊎◌, ◌≤◌, ◌++◌, ℕ, Bool, List, Option, Some, map, length, OnOk, OnErr, Err};
+ghost use Rattle.std.specs.Prelude.{◌≡◌, ◌≢◌, ◌⊎◌, ◌≤◌, ◌++◌, ℕ, Bool, List, Option, Some, map, length, OnOk, OnErr, Err};
 ghost use Rattle.std.specs.Str.Lines.{lines};
 ghost use Rattle.dg_words.specs.Counts.{Rose};
 ghost use Rattle.dg_base.specs.Outside.{Puts, PutsFront};
@@ -33,6 +33,7 @@ pub fn put_piece<K: Sink>(out: &mut K, piece: &[u8]) -> Result<(), Stop>
     ensures cut { OnErr result (PutsFront (K.written out.old) (K.written out.new) piece.now) }
     ensures cause { OnErr result ((result ≡ Err Stop.WriteFault) × Rose (K.faults out.old) (K.faults out.new)) }
     ensures counts { K.faults out.old ≤ K.faults out.new }
+    ensures unfailed { result ≢ Err Stop.WriteFault → K.faults out.new ≡ K.faults out.old }
 {
     match out.write(piece) {
         Ok(()) => Ok(()),
@@ -56,6 +57,7 @@ fn tell<K: Sink>(out: &mut K, piece: &mut Vec<u8>, reports: &[Report]) -> Result
     ensures cut { OnErr result (PutsFront (K.written out.old) (K.written out.new) (report_text reports.now)) }
     ensures cause { OnErr result ((result ≡ Err Stop.Memory) ⊎ ((result ≡ Err Stop.WriteFault) × Rose (K.faults out.old) (K.faults out.new))) }
     ensures counts { K.faults out.old ≤ K.faults out.new }
+    ensures unfailed { result ≢ Err Stop.WriteFault → K.faults out.new ≡ K.faults out.old }
 {
     if reports.is_empty() {
         return Ok(());
@@ -84,6 +86,7 @@ fn play_read<K: Sink, N: Nor>(
         → TextAnswer result text number player.old player.new done w initial (map N.device boards.old.items) (map N.device boards.new.items)
         (K.written out.old) (K.written out.new) (Rose (K.faults out.old) (K.faults out.new)) }
     ensures counts { K.faults out.old ≤ K.faults out.new }
+    ensures unfailed { result ≢ Err Stop.WriteFault → K.faults out.new ≡ K.faults out.old }
 {
     told.reports.clear();
     match play_line(alloc, line, player, boards, &mut told.reports) {
@@ -107,6 +110,7 @@ fn play_text<K: Sink, N: Nor>(
         → TextAnswer result text.now number player.old player.new done w initial (map N.device boards.old.items) (map N.device boards.new.items)
         (K.written out.old) (K.written out.new) (Rose (K.faults out.old) (K.faults out.new)) }
     ensures counts { K.faults out.old ≤ K.faults out.new }
+    ensures unfailed { result ≢ Err Stop.WriteFault → K.faults out.new ≡ K.faults out.old }
 {
     match read_line(alloc, text, player.place) {
         Ok(line) => play_read(alloc, line, player, boards, out, told),
@@ -127,6 +131,7 @@ pub fn play_lines<K: Sink, N: Nor>(
     ensures answer { (ends : Bool) → LinesAnswer result ends (script_from ends First 1 (lines text.now)) (map N.device boards.old.items) (map N.device boards.new.items)
         (K.written out.old) (K.written out.new) (Rose (K.faults out.old) (K.faults out.new)) }
     ensures counts { K.faults out.old ≤ K.faults out.new }
+    ensures unfailed { result ≢ Err Stop.WriteFault → K.faults out.new ≡ K.faults out.old }
 {
     scripts_with_golden();
     let mut player = Player {

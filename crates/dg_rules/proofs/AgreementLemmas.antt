@@ -25,7 +25,7 @@ use Rattle.dg_rules.specs.World.{World, Site, Running, site, store_at, counted}
 use Rattle.dg_rules.specs.Events.{Deed, Does, Refuses, Goes, does, mote_of, dt_of, key_of, running_by}
 use Rattle.dg_rules.specs.Steps.{blows, StepDoes, WorldStep, DeclareStep, declared_as}
 use Rattle.dg_rules.specs.Ranges.{EventFits, StepFits}
-use Rattle.dg_rules.specs.Premises.{IsDeclared, WorldAgrees, WorldTimely, MayDeclare}
+use Rattle.dg_rules.specs.Premises.{IsDeclared, WorldAgrees, WorldTimely, MayDeclare, KeepsAgreement}
 use Rattle.dg_script.specs.declared.events.Event.{Event}
 use Rattle.dg_script.specs.declared.events.Event.TheVariants.{Tick, Reset, Inject, Order as OrderEvent}
 use Rattle.dg_script.specs.declared.events.Step.{Step}
@@ -190,6 +190,13 @@ module _ (laws : Laws) (w : World) (agrees : WorldAgrees w) where
       (λ m dt word fits. same_table _ refl (boot_good m _ fits))
       (λ m image version dt word row known none fits. inject_deed m image version row _ fits.0 known none refl refl)
       (λ m number image version dt word none fits. same_table _ refl (order_good m (order_of number image version) fits.0))
+
+does_through : (w : World) (D : Does) → AgreesDoes w D → KeepsAgreement D
+does_through w (Refuses why) a = tt
+does_through w (Goes d) a = Through-map (IsGood d.table) (Agrees d.table) (λ s good. good.0) d.trail a.good
+
+pub event_through : (laws : Laws) (w : World) (agrees : WorldAgrees w) (e : Event) → EventFits (length w.sites) e → KeepsAgreement (does w e)
+event_through laws w agrees e fits = does_through w (does w e) (agrees_does laws w agrees e fits)
 
 -- ---- steps
 

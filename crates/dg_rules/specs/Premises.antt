@@ -3,12 +3,14 @@ use Rattle.std.specs.Prelude.{◌≡◌, ℕ, ◌<◌, ◌≤◌, ◌^◌, IsTru
 use Rattle.std.specs.List.{AllByRecursion}
 use Rattle.dg_words.specs.Cells.{AreBytes}
 use Rattle.dg_base.specs.Texts.{spells_name}
+use Rattle.dg_nor.specs.Through.{Through}
 use Rattle.dg_object.specs.Object.{Row}
 use Rattle.dg_volume.specs.Sizes.{images}
 use Rattle.dg_volume.specs.Table.{row_at, IsTable}
 use Rattle.dg_volume.specs.Agreement.{Agrees}
 use Rattle.dg_rules.specs.Sizes.{most_content}
 use Rattle.dg_rules.specs.World.{World, site, store_at}
+use Rattle.dg_rules.specs.Events.{Does, Refuses, Goes}
 use Rattle.dg_rules.specs.Ranges.{StepFits}
 use Rattle.dg_rules.specs.Runs.{Item, Declares, Happens, Played}
 
@@ -54,6 +56,11 @@ ItemInRange motes (Happens step) = StepFits motes step
 
 abbrev pub IsInRange : ℕ → Played → Type 0
 IsInRange motes p = ItemInRange motes p.item
+
+-- each store that an event goes through agrees with the table that the event leaves
+abbrev pub KeepsAgreement : Does → Type 0
+KeepsAgreement (Refuses why) = Unit {0}
+KeepsAgreement (Goes d) = Through (Agrees d.table) d.trail
 
 abbrev pub LeavesAgreement : Played → Type 0
 LeavesAgreement p = WorldAgrees p.after

@@ -12,7 +12,7 @@ ghost use Rattle.dg_rules.specs.Events.{does};
 ghost use Rattle.dg_rules.specs.Runs.{Played, Plays, EachAfter};
 ghost use Rattle.dg_rules.specs.Promises.{IsLegal, KeepsAll, GoldenStays, StartsDoes, StartsRow};
 ghost use Rattle.dg_rules.specs.Ranges.{EventFits, StepFits};
-ghost use Rattle.dg_rules.specs.Premises.{WorldAgrees, WorldTimely, MayDeclare, PlayedFits, LeavesAgreement, AllOff};
+ghost use Rattle.dg_rules.specs.Premises.{WorldAgrees, WorldTimely, MayDeclare, PlayedFits, KeepsAgreement, LeavesAgreement, AllOff};
 ghost use Rattle.dg_rules.specs.Golden.{WorldKeepsGolden, FindsImage, PlaysGolden};
 ghost use Rattle.dg_script.specs.declared.events.Event.{Event};
 ghost use Rattle.dg_script.specs.declared.events.Step.{Step};
@@ -25,11 +25,12 @@ pub fn what_a_cut_leaves_agrees()
     ensures { (table : List Row) (t : Trail Store) (k : ℕ) (s : Store) → Through (Agrees table) t → Leaves IsNear t k s → Agrees table s }
 {}
 
-/// A world that agrees with its table still does after a step, also a cut one, and after a declaration. And no mote
-/// that is on was started later than now.
+/// A world that agrees with its table still does after a step, also a cut one, and after a declaration: each store that
+/// an event goes through agrees. And no mote that is on was started later than now.
 pub fn agreement_is_kept()
     ensures stepped { (w v : World) (x : Step) (reports : List Report) → WorldAgrees w → StepFits (length w.sites) x → WorldStep w x v reports → WorldAgrees v }
     ensures declared { (w v : World) (row : Row) (reports : List Report) → WorldAgrees w → MayDeclare w row → DeclareStep w row v reports → WorldAgrees v }
+    ensures through { (w : World) (e : Event) → WorldAgrees w → EventFits (length w.sites) e → KeepsAgreement (does w e) }
     ensures timely { (w v : World) (x : Step) (reports : List Report) → WorldTimely w → StepFits (length w.sites) x → WorldStep w x v reports → WorldTimely v }
 {
     trails_keep_agreement();

@@ -1,4 +1,5 @@
 pub mod WordLemmas
+pub mod PieceLemmas
 pub mod OptionLemmas
 pub mod ContentLemmas
 pub mod ScriptLemmas

@@ -1,9 +1,10 @@
 -- From what an event did over a fuse to what its board holds.
-use Rattle.std.proofs.Common.{◌≡◌, ℕ, ◌-◌, ◌≤◌, Bool, true, false, refl, ap, sym, ◌∙◌, subst, inl, arith}
+use Rattle.std.proofs.Common.{◌≡◌, ℕ, ◌+◌, ◌-◌, ◌≤◌, Bool, true, false, refl, ap, sym, ◌∙◌, subst, inl, arith}
 use Rattle.std.specs.Prelude.{◌||◌, ◌∷◌, nat_le, Option, Some, None, Result, Ok, Err, IsSomeAnd}
 use Rattle.std.proofs.lemmas.Bool.{lt-leb, le-leb}
+use Rattle.std.proofs.lemmas.Option.{same_Some}
 use Rattle.std.specs.Borrow.{GName}
-use Rattle.dg_nor.specs.Device.{Device, Beneath, Endures, BeneathEndures, Ran, Halts}
+use Rattle.dg_nor.specs.Device.{Device, Beneath, Endures, BeneathEndures, Ran, Halts, more}
 use Rattle.dg_nor.specs.Fuse.{beneath_of, inner_of, fused_device}
 use Rattle.dg_nor.specs.declared.fuse.Fused.{Fused}
 use Rattle.dg_nor.specs.Trail.{operations, last, MayLeave}
@@ -39,7 +40,7 @@ uncut (Ok (Refused why)) w m now does a b x = record { ends = (x.0, x.1.same_ima
 uncut (Ok Rests) w m now does a b x = record { ends = went_whole w m now does a b Rests x; endures = ran_endures a b x.ran }
 uncut (Ok (Changes p q)) w m now does a b x = record { ends = went_whole w m now does a b (Changes p q) x; endures = ran_endures a b x.ran }
 uncut (Ok (Starts p)) w m now does a b x = record { ends = went_whole w m now does a b (Starts p) x; endures = ran_endures a b x.ran }
-uncut (Err (Stopped before)) w m now does a b x = record { ends = record { stopped = x.stops.halts.stopped; done = x.stops.done; leaves = x.stops.leaves }; endures = halts_endures a b x.stops.halts }
+uncut (Err (Stopped before)) w m now does a b x = record { ends = record { stopped = x.stops.halts.stopped; done = x.stops.done; within = x.stops.halts.within; uncut = tt; leaves = x.stops.leaves }; endures = halts_endures a b x.stops.halts }
 uncut (Err NoImage) w m now does a b x = record { ends = record { deed = x.deed; goes = x.goes; none = x.none; whole = refl; stands = x.stands }; endures = ran_endures a b x.ran }
 uncut (Err NotAVolume) w m now does a b x = absurd x
 
@@ -93,12 +94,19 @@ blown_deed cut w m (Goes d) a b x y before f blown s =
       shows = s.shows f.whole blown;
     }
 
+-- no more is made than is left
+made_within : (n k : ℕ) (o : Option ℕ) → Some k ≡ more n o → n ≤ k
+made_within n k None h = cc
+made_within n k (Some m) h = let e : k ≡ m + n = same_Some k (m + n) h in omega (arith, e)
+
 fused_stopped : (cut : PowerCut) (w : RuleWorld) (m now : ℕ) (does : Does) (a b x y : Device) (before : Option Shown) (blown : Bool) → y.blown ≡ blown → IsFused cut a b x y → StoppedOn does (store_at w m) x y before
     → PlayEnds (ended blown (Err (Stopped before))) w m now does (Some cut) a b
 fused_stopped cut w m now does a b x y before true is f s = blown_deed cut w m does a b x y before f is s
 fused_stopped cut w m now does a b x y before false is f s = record {
   stopped = f.stopped is s.stops.halts.stopped;
   done = s.stops.done;
+  within = s.stops.halts.within;
+  uncut = made_within s.stops.done (cut.after - 1) y.left (sym f.left ∙ s.stops.halts.left);
   leaves = subst (λ c. MayLeave Stands IsNear (trail_of does (store_at w m)) s.stops.done c) f.image_then s.stops.leaves;
 }
 

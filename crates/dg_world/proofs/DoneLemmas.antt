@@ -1,10 +1,11 @@
 -- A step that was done at its board, as a step of the world.
-use Rattle.std.proofs.Common.{◌≡◌, ℕ, ◌<◌, Bool, true, false, List, [], ◌∷◌, ◌++◌, length, get_or, set, refl, ap, sym, ◌∙◌, subst}
-use Rattle.std.specs.Prelude.{Option, None, IfSome, Result, Ok, Err}
+use Rattle.std.proofs.Common.{◌≡◌, ℕ, ◌-◌, ◌<◌, ◌≤◌, Bool, true, false, List, [], ◌∷◌, ◌++◌, length, get_or, set, refl, ap, sym, ◌∙◌, subst, arith}
+use Rattle.std.specs.Prelude.{Option, Some, None, IfSome, nat_le, Result, Ok, Err}
+use Rattle.std.proofs.lemmas.Bool.Decides.{nat_tests}
 use Rattle.std.proofs.lemmas.List.{set-get_or}
 use Rattle.dg_nor.specs.Device.{Device}
 use Rattle.dg_nor.specs.Fuse.{beneath_of}
-use Rattle.dg_nor.specs.Trail.{last, MayLeave}
+use Rattle.dg_nor.specs.Trail.{Trail, operations, last, MayLeave}
 use Rattle.dg_nor.proofs.DeviceLemmas.{Endures_then}
 use Rattle.dg_slot.specs.Pages.{program}
 use Rattle.dg_volume.specs.Store.{Store, IsNear}
@@ -15,6 +16,7 @@ use Rattle.dg_rules.specs.Events.{Deed, Does, Refuses, Goes, does, mote_of, dt_o
 use Rattle.dg_rules.specs.Steps.{blows, before_cut, done_world, cut_world, done_reports, Ended as StepEnded, StepDoes, WorldStep}
 use Rattle.dg_rules.specs.Changes.{changes}
 use Rattle.dg_rules.specs.Ranges.{EventFits}
+use Rattle.dg_script.specs.declared.events.Cut.{Cut as PowerCut}
 use Rattle.dg_script.specs.declared.events.Event.{Event}
 use Rattle.dg_script.specs.declared.events.Event.TheVariants.{Tick, Reset, Inject, Order as OrderEvent}
 use Rattle.dg_script.specs.declared.events.Step.{Step}
@@ -135,6 +137,21 @@ step_turn w x now v runs Rests a b start end known stands mote p at told = recor
 step_turn w x now v runs (Changes k l) a b start end known stands mote p at told = record { ends = whole_done w x now v runs (Changes k l) a b start end mote p.ends at told; endures = p.endures }
 step_turn w x now v runs (Starts k) a b start end known stands mote p at told = record { ends = whole_done w x now v runs (Starts k) a b start end mote p.ends at told; endures = p.endures }
 
+-- the operations before a cut that blows are some of the event's
+blown_within : (cut : Option PowerCut) (t : Trail Store) → blows cut t ≡ true → before_cut cut ≤ operations t
+blown_within None t blown = absurd (true_false (sym blown))
+blown_within (Some c) t blown = within_by c.after (operations t) blown
+  where
+    within_by : (n m : ℕ) → nat_le n m ≡ true → n - 1 ≤ m
+    within_by n m h = grind (arith, nat_tests)
+
+cut_within : (cut : Option PowerCut) (d : Deed) (D : Does) (s : Store) → D ≡ Goes d → blows cut d.trail ≡ true → before_cut cut ≤ operations (trail_of D s)
+cut_within cut d D s goes blown = subst (λ (y : Does). before_cut cut ≤ operations (trail_of y s)) (sym goes) (blown_within cut d.trail blown)
+
+cut_itself : (cut : Option PowerCut) → IfSome cut (λ c. before_cut cut ≤ c.after - 1)
+cut_itself None = tt
+cut_itself (Some c) = omega arith
+
 pub step_cut : (r : Result (Option RunningMote) Halt) (w : RuleWorld) (x : Step) (now : ℕ) (before : Option Shown) (a b c : Device) (start end : List Report) → (p : Played (Ok (Cut before)) w (mote_of x.event) now (does w x.event) x.cut a b)
     → CutLines r (mote_of x.event) before p.ends.leaves.store b c start end → Stepped r w x a c start end
 step_cut (Ok runs) w x now before a b c start end p lines = record {
@@ -146,6 +163,8 @@ step_cut (Err (Stopped k)) w x now before a b c start end p lines = record {
     record {
       stopped = lines.0;
       done = before_cut x.cut;
+      within = cut_within x.cut p.ends.deed (does w x.event) (store_at w (mote_of x.event)) p.ends.goes p.ends.blown;
+      uncut = cut_itself x.cut;
       leaves = subst (λ i. MayLeave Stands IsNear (trail_of (does w x.event) (store_at w (mote_of x.event))) (before_cut x.cut) i) (sym lines.1.same_image)
           (subst (λ (y : Does). MayLeave Stands IsNear (trail_of y (store_at w (mote_of x.event))) (before_cut x.cut) b.image) (sym p.ends.goes) p.ends.leaves);
     },

@@ -114,7 +114,7 @@ unread ds = same_boards 0 ds ds (read_none ds)
 
 pub read_flash : (n : ℕ) (old now new : List Device) (d e : Device) → ReadTo n old now → Used n now new d e → ReadStopped d e → ReadFlash n old new
 read_flash n old now new d e to used stopped =
-    record { before = d; after = e; was = unused n old now new d e to.first used; is = is_now n now new d e used; cause = stopped.halts.cause }
+    record { before = d; after = e; was = unused n old now new d e to.first used; is = is_now n now new d e used; stopped = stopped.halts.stopped; cause = stopped.halts.cause }
 
 -- what boards that were only read stand for is as before
 pub still_world : (v : World) (w : RuleWorld) (old new : List Device) → SameBoards old new → IsWorld v old w → IsWorld v new w

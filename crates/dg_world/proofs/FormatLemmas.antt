@@ -90,7 +90,7 @@ formatted_more n s old now new d e to used kept awake stands =
     }
 
 -- the next board stopped
-pub format_stopped : (n motes : ℕ) (s : Store) (old now new : List Device) (d e : Device) → FormattedTo n s old now → Used n now new d e → ActStopped d e → n < motes → FormatStops n motes old new
+pub format_stopped : (n motes : ℕ) (s : Store) (old now new : List Device) (d e : Device) → FormattedTo n s old now → Used n now new d e → ActStopped d e → n < motes → FormatStops n motes s old new
 format_stopped n motes s old now new d e to used stopped known =
     record {
       known = known;
@@ -98,14 +98,17 @@ format_stopped n motes s old now new d e to used stopped known =
       after = e;
       was = unused n old now new d e to.boards used;
       is = is_now n now new d e used;
+      stopped = stopped.stopped;
       cause = stopped.cause;
+      formatted = λ m x h here. let other : m ≢ n = omega (arith, h) in to.formatted m x h (sym (is_other n m now new d e used other) ∙ here);
+      awake = to.awake;
       behind = λ m h. let other : m ≢ n = omega (arith, h) in is_other n m now new d e used other ∙ to.boards.others m (omega (arith, h));
     }
 
-pub board_of : (board : ℕ) (e : FormatStopped) (motes : ℕ) (old new : List Device) → (let x : Result (Unit {0}) FormatStopped = Err (record { board = board }) in x ≡ Err e) → FormatStops board motes old new → FormatStops e.board motes old new
-board_of board e motes old new is stops =
+pub board_of : (board : ℕ) (e : FormatStopped) (motes : ℕ) (chip : Store) (old new : List Device) → (let x : Result (Unit {0}) FormatStopped = Err (record { board = board }) in x ≡ Err e) → FormatStops board motes chip old new → FormatStops e.board motes chip old new
+board_of board e motes chip old new is stops =
     let same : record { board = board } ≡ e = same_err _ _ is in
-    subst (λ (x : FormatStopped). FormatStops x.board motes old new) same stops
+    subst (λ (x : FormatStopped). FormatStops x.board motes chip old new) same stops
 
 -- what is said of a board that ran, or that stopped
 pub ran_endures : {n : ℕ} (a b : Device) → Ran n a b → Endures (beneath_of a) (beneath_of b)

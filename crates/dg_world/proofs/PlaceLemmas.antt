@@ -1,5 +1,5 @@
 -- A step of the world where the board and the mote of one place changed.
-use Rattle.std.proofs.Common.{◌≡◌, ◌≢◌, ◌⊎◌, ℕ, zero, suc, ◌+◌, ◌^◌, ◌<◌, ◌≤◌, Bool, true, false, List, [], ◌∷◌, length, get_or, set, map, refl, ap, sym, ◌∙◌, subst, inl, inr, ⊎_elim, arith, eqb-true, eq-eqb}
+use Rattle.std.proofs.Common.{◌≡◌, ◌≢◌, ◌⊎◌, ℕ, zero, suc, ◌+◌, ◌^◌, ◌<◌, Bool, true, false, List, [], ◌∷◌, length, get_or, set, map, refl, ap, sym, ◌∙◌, subst, inl, inr, ⊎_elim, arith, eqb-true, eq-eqb}
 use Rattle.std.specs.Prelude.{◌==◌, slice_get, slice_index_or, Option, Some, None, Ok, Err}
 use Rattle.std.proofs.Math.ListN.{length-set}
 use Rattle.std.proofs.lemmas.List.{get_or-set_same, get_or-set_other, get_or_read}
@@ -145,7 +145,7 @@ applied v u bs w x i runs a b start end is at known few short moves here endures
     }
 
 pub flashed : (v : World) (bs : List Device) (w : RuleWorld) (x : Step) (i : ℕ) (a b : Device) → IsWorld v bs w → i ≡ mote_of x.event → i < length w.sites → slice_get bs i ≡ Some a → Endures (beneath_of a) (beneath_of b)
-    → IsStopped w (mote_of x.event) (does w x.event) b → FlashAt w x i bs (set bs i b)
+    → IsStopped w (mote_of x.event) (does w x.event) x.cut b → FlashAt w x i bs (set bs i b)
 flashed v bs w x i a b is at known here endures s =
     let wide : i < length bs = omega (arith, known, is.boards_enough) in
     record {
@@ -154,10 +154,12 @@ flashed v bs w x i a b is at known here endures s =
       after = b;
       was = here;
       is = get_set_same bs i b wide;
+      stopped = s.stopped;
       cause = endures.cause s.stopped;
-      store = s.leaves.store;
-      stands = s.leaves.stands_for;
-      leaves = (s.done, s.leaves);
+      done = s.done;
+      within = s.within;
+      uncut = s.uncut;
+      leaves = s.leaves;
       boards = one_board bs i a b wide here endures;
     }
 

@@ -1,11 +1,11 @@
 -- What a step does to a world and its boards.
-use Rattle.std.specs.Prelude.{◌≡◌, ◌≢◌, ◌⊎◌, ℕ, ◌<◌, ◌≤◌, true, false, List, ◌++◌, length, slice_get, Some, Result, Ok, Err}
+use Rattle.std.specs.Prelude.{◌≡◌, ◌≢◌, ◌⊎◌, ℕ, ◌-◌, ◌<◌, ◌≤◌, true, false, List, ◌++◌, length, slice_get, Some, IfSome, Result, Ok, Err}
 use Rattle.dg_words.specs.Counts.{Rose}
 use Rattle.dg_nor.specs.Device.{Device, Endures}
 use Rattle.dg_nor.specs.Fuse.{beneath_of}
-use Rattle.dg_nor.specs.Trail.{MayLeave}
+use Rattle.dg_nor.specs.Trail.{operations, MayLeave}
 use Rattle.dg_slot.specs.Pages.{program}
-use Rattle.dg_volume.specs.Store.{Store, IsNear}
+use Rattle.dg_volume.specs.Store.{IsNear}
 use Rattle.dg_volume.specs.Stands.{Stands}
 use Rattle.dg_volume.specs.Start.{Runs}
 use Rattle.dg_rules.specs.World.{World as RuleWorld, store_at}
@@ -39,17 +39,19 @@ pub record Applied (w : RuleWorld) (x : Step) (v : World) (old new : List Device
   pub memory : (d : Deed) (r : Runs) (b : Device) → does w x.event ≡ Goes d → blows x.cut d.trail ≡ false → d.started ≡ Some r
       → slice_get new (mote_of x.event) ≡ Some b → program b.image (length r.pages) ≡ r.pages
 
--- A board stopped: it is that of the event's mote, and stands for a store that the event's trail leaves.
+-- A board stopped: it is that of the event's mote, and stands for a store that the event's trail leaves where so many operations were done. A cut that the step has did not come before.
 pub record FlashAt (w : RuleWorld) (x : Step) (board : ℕ) (old new : List Device) : Type 0 where
   pub at : board ≡ mote_of x.event
   pub before : Device
   pub after : Device
   pub was : slice_get old board ≡ Some before
   pub is : slice_get new board ≡ Some after
+  pub stopped : after.stopped ≡ true
   pub cause : (before.stopped ≡ true) ⊎ Rose before.faults after.faults
-  pub store : Store
-  pub stands : Stands after.image store
-  pub leaves : (k : ℕ) × MayLeave Stands IsNear (trail_of (does w x.event) (store_at w (mote_of x.event))) k after.image
+  pub done : ℕ
+  pub within : done ≤ operations (trail_of (does w x.event) (store_at w (mote_of x.event)))
+  pub uncut : IfSome x.cut (λ cut. done ≤ cut.after - 1)
+  pub leaves : MayLeave Stands IsNear (trail_of (does w x.event) (store_at w (mote_of x.event))) done after.image
   pub boards : OneBoard board old new
 
 -- A start found no image: the boards stand for the world in which the run ended.
@@ -72,6 +74,7 @@ pub record ReadFlash (board : ℕ) (old new : List Device) : Type 0 where
   pub after : Device
   pub was : slice_get old board ≡ Some before
   pub is : slice_get new board ≡ Some after
+  pub stopped : after.stopped ≡ true
   pub cause : (before.stopped ≡ true) ⊎ Rose before.faults after.faults
 
 -- ---- the answer of a step

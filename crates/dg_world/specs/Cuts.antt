@@ -1,8 +1,8 @@
 -- How an event ends at a board whose power may be cut.
-use Rattle.std.specs.Prelude.{◌≡◌, ℕ, Bool, true, false, List, Option, None, Result, Ok, Err}
+use Rattle.std.specs.Prelude.{◌≡◌, ℕ, ◌-◌, ◌≤◌, Bool, true, false, List, Option, None, IfSome, Result, Ok, Err}
 use Rattle.dg_nor.specs.Device.{Device, Endures}
 use Rattle.dg_nor.specs.Fuse.{beneath_of}
-use Rattle.dg_nor.specs.Trail.{last, MayLeave}
+use Rattle.dg_nor.specs.Trail.{operations, last, MayLeave}
 use Rattle.dg_volume.specs.Store.{IsNear}
 use Rattle.dg_volume.specs.Stands.{Stands}
 use Rattle.dg_rules.specs.World.{World as RuleWorld, store_at}
@@ -41,10 +41,12 @@ pub record IsBlown (w : RuleWorld) (m : ℕ) (does : Does) (cut : Option PowerCu
   pub leaves : MayLeave Stands IsNear deed.trail (before_cut cut) image
   pub shows : BeforeShows before deed.trail (store_at w m)
 
--- the board stopped on its own
-pub record IsStopped (w : RuleWorld) (m : ℕ) (does : Does) (new : Device) : Type 0 where
+-- the board stopped on its own, and the cut did not come before
+pub record IsStopped (w : RuleWorld) (m : ℕ) (does : Does) (cut : Option PowerCut) (new : Device) : Type 0 where
   pub stopped : new.stopped ≡ true
   pub done : ℕ
+  pub within : done ≤ operations (trail_of does (store_at w m))
+  pub uncut : IfSome cut (λ c. done ≤ c.after - 1)
   pub leaves : MayLeave Stands IsNear (trail_of does (store_at w m)) done new.image
 
 -- a start found no image
@@ -61,7 +63,7 @@ PlayEnds (Ok (Whole Rests)) w m now does cut old new = IsWhole w m now does cut 
 PlayEnds (Ok (Whole (Changes a b))) w m now does cut old new = IsWhole w m now does cut new.image (Changes a b)
 PlayEnds (Ok (Whole (Starts x))) w m now does cut old new = IsWhole w m now does cut new.image (Starts x)
 PlayEnds (Ok (Cut before)) w m now does cut old new = IsBlown w m does cut new.image before
-PlayEnds (Err (Stopped before)) w m now does cut old new = IsStopped w m does new
+PlayEnds (Err (Stopped before)) w m now does cut old new = IsStopped w m does cut new
 PlayEnds (Err NoImage) w m now does cut old new = IsLacking does cut new.image
 PlayEnds (Err NotAVolume) w m now does cut old new = ⊥
 

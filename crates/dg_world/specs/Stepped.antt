@@ -76,7 +76,7 @@ pub record StepDone (w : RuleWorld) (x : Step) (runs : Option RunningMote) (new 
 
 abbrev pub StepEnds : Result (Option RunningMote) Halt → RuleWorld → Step → Device → List Report → List Report → Type 0
 StepEnds (Ok runs) w x new told_before told = StepDone w x runs new told_before told
-StepEnds (Err (Stopped b)) w x new told_before told = IsStopped w (mote_of x.event) (does w x.event) new × (told ≡ told_before)
+StepEnds (Err (Stopped b)) w x new told_before told = IsStopped w (mote_of x.event) (does w x.event) x.cut new × (told ≡ told_before)
 StepEnds (Err NoImage) w x new told_before told = IsLacking (does w x.event) x.cut new.image × (told ≡ told_before)
 StepEnds (Err NotAVolume) w x new told_before told = ⊥
 

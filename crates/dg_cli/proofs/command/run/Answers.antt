@@ -4,13 +4,15 @@ use Rattle.std.proofs.lemmas.List.{length-map}
 use Rattle.std.specs.List.{AllByRecursion}
 use Rattle.dg_rules.specs.Runs.{Played, EachAfter}
 use Rattle.dg_rules.specs.Promises.{IsLegal, KeepsAll, StartsRow}
-use Rattle.dg_rules.specs.Premises.{LeavesAgreement}
-use Rattle.dg_cli.proofs.RunLemmas.{completed, replayed_never, unknown_never, holds_of_runs}
+use Rattle.std.specs.Prelude.{Option, IfSome}
+use Rattle.dg_rules.specs.World.{World}
+use Rattle.dg_rules.specs.Premises.{LeavesAgreement, WorldAgrees}
+use Rattle.dg_cli.proofs.RunLemmas.{completed, replayed_never, unknown_never, holds_of_runs, holds_of_worlds}
 use Rattle.dg_cli.proofs.command.run.Goals as goal
 
 pub returns-then-is_replay-clause-complete : goal.returns-then-is_replay-clause-complete
 returns-then-is_replay-clause-complete g c = λ bytes is told limits reads writes stops.
-    completed c.replay.result bytes _ _ _ _ _ _ _ _ _ (sym (length-map c.args.boards.now.items g.N.Nor.device)) told limits reads writes stops c.replay.ensures.replayed
+    completed c.replay.result bytes _ _ _ _ _ _ _ _ _ _ _ (sym (length-map c.args.boards.now.items g.N.Nor.device)) told limits reads writes stops c.replay.ensures.replayed
 
 pub returns-clause-usage : goal.returns-clause-usage
 returns-clause-usage g c = λ other. record { unread = refl; boards = refl; answer = c.end_with.ensures.written }
@@ -19,33 +21,33 @@ pub returns-clause-complete : goal.returns-clause-complete
 returns-clause-complete g c = λ bytes is told limits reads writes stops. absurd (c.if-is_replay.ensures.other (ap (map string_bytes) c.deref.ensures.value ∙ is))
 
 pub returns-then-is_replay-clause-never : goal.returns-then-is_replay-clause-never
-returns-then-is_replay-clause-never g c = replayed_never _ _ _ _ _ _ _ _ _ c.replay.ensures.replayed
+returns-then-is_replay-clause-never g c = replayed_never _ _ _ _ _ _ _ _ _ _ _ c.replay.ensures.replayed
 
 pub returns-clause-never : goal.returns-clause-never
-returns-clause-never g c = unknown_never _ _ _ _ c.end_with.ensures.written
+returns-clause-never g c = unknown_never _ _ _ _ _ c.end_with.ensures.written
 
 pub returns-then-is_replay-clause-legal : goal.returns-then-is_replay-clause-legal
 unfolding EachAfter
-returns-then-is_replay-clause-legal g c = λ x. holds_of_runs (λ (ps : List Played). EachAfter IsLegal [] ps) tt c.scripts_with_golden.ensures.legal _ _ _ _ _ _ _ _ _ x
+returns-then-is_replay-clause-legal g c = λ x. holds_of_runs (λ (ps : List Played). EachAfter IsLegal [] ps) tt c.scripts_with_golden.ensures.legal _ _ _ _ _ _ _ _ _ _ _ x
 
 pub returns-then-is_replay-clause-keeps : goal.returns-then-is_replay-clause-keeps
-returns-then-is_replay-clause-keeps g c = λ x. holds_of_runs (λ (ps : List Played). AllByRecursion KeepsAll ps) tt c.scripts_with_golden.ensures.keeps _ _ _ _ _ _ _ _ _ x
+returns-then-is_replay-clause-keeps g c = λ x. holds_of_runs (λ (ps : List Played). AllByRecursion KeepsAll ps) tt c.scripts_with_golden.ensures.keeps _ _ _ _ _ _ _ _ _ _ _ x
 
 pub returns-then-is_replay-clause-starts : goal.returns-then-is_replay-clause-starts
-returns-then-is_replay-clause-starts g c = λ x. holds_of_runs (λ (ps : List Played). AllByRecursion StartsRow ps) tt c.scripts_with_golden.ensures.starts _ _ _ _ _ _ _ _ _ x
+returns-then-is_replay-clause-starts g c = λ x. holds_of_runs (λ (ps : List Played). AllByRecursion StartsRow ps) tt c.scripts_with_golden.ensures.starts _ _ _ _ _ _ _ _ _ _ _ x
 
 pub returns-then-is_replay-clause-agrees : goal.returns-then-is_replay-clause-agrees
-returns-then-is_replay-clause-agrees g c = λ x. holds_of_runs (λ (ps : List Played). AllByRecursion LeavesAgreement ps) tt (λ name bytes used motes played v plays. (c.scripts_with_golden.ensures.agrees name bytes used motes played v plays).0) _ _ _ _ _ _ _ _ _ x
+returns-then-is_replay-clause-agrees g c = λ x. holds_of_worlds (λ (ps : List Played) (last : Option World). AllByRecursion LeavesAgreement ps × IfSome last WorldAgrees) (tt, tt) c.scripts_with_golden.ensures.agrees _ _ _ _ _ _ _ _ _ _ _ x
 
 pub returns-clause-legal : goal.returns-clause-legal
 unfolding EachAfter
-returns-clause-legal g c = λ x. holds_of_runs (λ (ps : List Played). EachAfter IsLegal [] ps) tt c.scripts_with_golden.ensures.legal _ _ _ _ _ _ _ _ _ x
+returns-clause-legal g c = λ x. holds_of_runs (λ (ps : List Played). EachAfter IsLegal [] ps) tt c.scripts_with_golden.ensures.legal _ _ _ _ _ _ _ _ _ _ _ x
 
 pub returns-clause-keeps : goal.returns-clause-keeps
-returns-clause-keeps g c = λ x. holds_of_runs (λ (ps : List Played). AllByRecursion KeepsAll ps) tt c.scripts_with_golden.ensures.keeps _ _ _ _ _ _ _ _ _ x
+returns-clause-keeps g c = λ x. holds_of_runs (λ (ps : List Played). AllByRecursion KeepsAll ps) tt c.scripts_with_golden.ensures.keeps _ _ _ _ _ _ _ _ _ _ _ x
 
 pub returns-clause-starts : goal.returns-clause-starts
-returns-clause-starts g c = λ x. holds_of_runs (λ (ps : List Played). AllByRecursion StartsRow ps) tt c.scripts_with_golden.ensures.starts _ _ _ _ _ _ _ _ _ x
+returns-clause-starts g c = λ x. holds_of_runs (λ (ps : List Played). AllByRecursion StartsRow ps) tt c.scripts_with_golden.ensures.starts _ _ _ _ _ _ _ _ _ _ _ x
 
 pub returns-clause-agrees : goal.returns-clause-agrees
-returns-clause-agrees g c = λ x. holds_of_runs (λ (ps : List Played). AllByRecursion LeavesAgreement ps) tt (λ name bytes used motes played v plays. (c.scripts_with_golden.ensures.agrees name bytes used motes played v plays).0) _ _ _ _ _ _ _ _ _ x
+returns-clause-agrees g c = λ x. holds_of_worlds (λ (ps : List Played) (last : Option World). AllByRecursion LeavesAgreement ps × IfSome last WorldAgrees) (tt, tt) c.scripts_with_golden.ensures.agrees _ _ _ _ _ _ _ _ _ _ _ x

@@ -17,4 +17,4 @@ returns-in-Err-Memory-clause-finishes g c = λ w initial is stands.
 pub returns-in-Err-Flash-clause-finishes : goal.returns-in-Err-Flash-clause-finishes
 returns-in-Err-Flash-clause-finishes g c = λ w initial is stands.
     let e = ap Err c.in-Err-Flash.field-0-is in
-    inr (refl, read_stopped w c.in-Err-Flash.field-0-0 initial _ _ (c.in-Err-Flash.ensures.known_board c.in-Err-Flash.field-0-0 e w is) c.finish.ensures.boards (c.in-Err-Flash.ensures.flash c.in-Err-Flash.field-0-0 e) stands, refl)
+    inr (refl, read_stopped w c.in-Err-Flash.field-0-0 initial _ _ (c.in-Err-Flash.ensures.known_board c.in-Err-Flash.field-0-0 e w is) c.finish.ensures.boards (c.finish.ensures.others w is) (c.in-Err-Flash.ensures.flash c.in-Err-Flash.field-0-0 e) stands, refl)

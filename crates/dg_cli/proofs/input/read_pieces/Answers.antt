@@ -1,4 +1,4 @@
-use Rattle.std.proofs.Common.{◌≡◌, ◌++◌}
+use Rattle.std.proofs.Common.{◌≡◌, ◌++◌, length-append, arith}
 use Rattle.std.proofs.lemmas.Result.{IfOk-from_err}
 use Rattle.dg_base.proofs.OutsideLemmas.{Takes-join}
 use Rattle.dg_cli.proofs.input.read_pieces.Goals as goal
@@ -11,5 +11,6 @@ returns-in_err-read_piece-clause-taken g c =
     let left = g.S.Source.left in (
       before ++ piece.0,
       Takes-join (left c.args.source.now) (left c.loop-source.source) (left c.read_piece.new.source) before piece.0 c.loop-source.invariant.0 piece.1,
+      omega (arith, length-append before piece.0, piece.2),
       IfOk-from_err c.from_residual.result (λ v. v.items ≡ before ++ piece.0) c.from_residual.ensures.0,
     )

@@ -1,4 +1,4 @@
-use Rattle.std.proofs.Common.{◌+◌, ◌-◌, ◌≤◌, vec_len}
+use Rattle.std.proofs.Common.{◌≡◌, ◌+◌, ◌-◌, ◌≤◌, vec_len}
 use Rattle.dg_base.specs.Outside.{Takes}
 use Rattle.dg_cli.specs.declared.input.TheConstants.{USED}
 use Rattle.dg_cli.proofs.input.read_pieces.Given as goal
@@ -7,7 +7,7 @@ use Rattle.dg_cli.proofs.input.read_pieces.Given as goal
 abbrev pub invariant-loop-source : goal.invariant-loop-source
 invariant-loop-source g l =
     Takes (g.S.Source.left l.initial.source) (g.S.Source.left l.source) l.bytes.items
-    × (g.S.Source.faults l.initial.source ≤ g.S.Source.faults l.source) × (vec_len l.bytes ≤ USED + 1)
+    × (g.S.Source.faults l.source ≡ g.S.Source.faults l.initial.source) × (vec_len l.bytes ≤ USED + 1)
 
 abbrev pub decreases-loop-source : goal.decreases-loop-source
 decreases-loop-source g l = USED + 1 - vec_len l.bytes

@@ -6,5 +6,5 @@ returns g c =
       formatted = rw (← c.as_slice-name.ensures, ← c.as_slice-content.ensures) c.format_boards.ensures.formatted;
       awake = c.format_boards.ensures.awake;
       others = c.format_boards.ensures.others;
-      stopped = c.format_boards.ensures.stopped;
+      stopped = rw (← c.as_slice-name.ensures, ← c.as_slice-content.ensures) c.format_boards.ensures.stopped;
     }

@@ -1,4 +1,4 @@
-use Rattle.std.proofs.Common.{◌≤◌, ◌+◌, ◌-◌, length, drop, map, Bool}
+use Rattle.std.proofs.Common.{◌≡◌, ◌≤◌, ◌+◌, ◌-◌, length, drop, map, Bool}
 use Rattle.std.specs.Str.Lines.{lines}
 use Rattle.dg_script.specs.Script.{script_from}
 use Rattle.dg_cli.specs.Replaying.{Reached}
@@ -13,7 +13,7 @@ invariant-loop-from g l =
           (map g.N.Nor.device l.fn.boards.items) (map g.N.Nor.device l.boards.items) (g.K.Sink.written l.fn.out) (g.K.Sink.written l.out);
       within : l.from ≤ length l.text;
       numbered : l.number ≤ l.from + 1;
-      counts : g.K.Sink.faults l.fn.out ≤ g.K.Sink.faults l.out;
+      unfailed : g.K.Sink.faults l.out ≡ g.K.Sink.faults l.fn.out;
     }
 
 abbrev pub decreases-loop-from : goal.decreases-loop-from

@@ -15,7 +15,7 @@ returns-in-Err-clause-stopped g c = λ e is.
     let i = c.loop-board.invariant in
     let there : c.from.result < length c.loop-board.boards = omega (arith, c.from.ensures, c.loop-board-test.true, c.requires.boards, within_boards g.N.Nor.device c.args.boards.now c.loop-board.boards i.to.boards.count) in
     let used = used_there g.N.Nor.device c.loop-board.boards c.loop-board.board c.from.result c.index-boards-from.result c.format_board.new.nor c.from.ensures there in
-    board_of _ e _ _ _ is (format_stopped _ _ _ _ _ _ _ _ i.to used c.in-Err.ensures.stopped c.loop-board-test.true)
+    board_of _ e _ _ _ _ is (format_stopped _ _ _ _ _ _ _ _ i.to used c.in-Err.ensures.stopped c.loop-board-test.true)
 
 pub loop-board-preserved : goal.loop-board-preserved
 loop-board-preserved g c =

@@ -1,0 +1,110 @@
+-- What the bytes that were taken tell of an input that goes on behind them.
+use Rattle.std.proofs.Common.{◌≡◌, inl, inr, ℕ, ◌<◌, Bool, true, false, List, [], ◌∷◌, ◌++◌, length, take, length-append, append_assoc, refl, ap, sym, ◌∙◌, subst, arith}
+use Rattle.std.specs.Prelude.{Option, Some, None, nat_lt, if◌then◌else◌, not}
+use Rattle.std.specs.Str.Lines.{lines}
+use Rattle.std.proofs.lemmas.List.{take-append-le}
+use Rattle.dg_nor.specs.Device.{Device}
+use Rattle.dg_script.specs.Script.{Script, script_from, motes_at}
+use Rattle.dg_script.specs.declared.line.Place.{Place}
+use Rattle.dg_script.specs.declared.line.Place.TheVariants.{First, Second, Later, AfterCut}
+use Rattle.dg_script.specs.declared.line.Line.{Line}
+use Rattle.dg_script.specs.declared.line.Line.TheVariants.{Nothing, Motes, Golden, Image, Cut, Happens}
+use Rattle.dg_rules.specs.Sizes.{most_events}
+use Rattle.dg_cli.specs.Items.{Beginning, begin_by, begin_behind, motes_in, lacking}
+use Rattle.dg_cli.specs.Boards.{BoardStopped}
+use Rattle.dg_cli.specs.Ending.{Ends, TooManyEvents, whole_lines, used, is_over, script_of, events_in, by_fault, by_events, by_boards, ending_from, ending_of}
+use Rattle.dg_cli.specs.Outcome.{IsSettled, AreWhole, NextIsWhole, StopsAt}
+use Rattle.dg_cli.proofs.EndLemmas.{is_over-true, over_more}
+use Rattle.dg_cli.proofs.GoldenLemmas.{LinesFit, script_fits, front_fits}
+
+-- ---- more bytes than are used
+
+still_over : (input more : List ℕ) → is_over input ≡ true → is_over (input ++ more) ≡ true
+still_over input more over = is_over-true (input ++ more) (longer input more _ (over_more input over))
+  where
+    longer : (xs ys : List ℕ) (k : ℕ) → k < length xs → k < length (xs ++ ys)
+    longer xs ys k h = omega (arith, length-append xs ys, h)
+
+same_front : (k : ℕ) (xs ys : List ℕ) → k < length xs → take k (xs ++ ys) ≡ take k xs
+same_front k xs ys h = take-append-le k xs ys (omega (arith, h))
+
+over_used : (input more : List ℕ) → is_over input ≡ true → used (input ++ more) ≡ used input
+over_used input more over =
+    ap (λ (b : Bool). if b then whole_lines (take 16777216 (input ++ more)) else input ++ more) (still_over input more over)
+    ∙ ap whole_lines (same_front _ input more (over_more input over))
+    ∙ ap (λ (b : Bool). if b then whole_lines (take 16777216 input) else input) (sym over)
+
+over_script : (input more : List ℕ) → is_over input ≡ true → script_of (input ++ more) ≡ script_of input
+unfolding script_of
+over_script input more over =
+    ap (λ (b : Bool). script_from (not b) First 1 (lines (used (input ++ more)))) (still_over input more over ∙ sym over)
+    ∙ ap (λ (xs : List ℕ). script_from (not (is_over input)) First 1 (lines xs)) (over_used input more over)
+
+pub over_settled : (boards : ℕ) (input : List ℕ) → is_over input ≡ true → IsSettled boards input
+over_settled boards input over = λ more.
+    ap (λ (b : Bool). ending_from boards b (script_of (input ++ more))) (still_over input more over ∙ sym over)
+    ∙ ap (λ (s : Script). ending_from boards (is_over input) s) (over_script input more over)
+
+pub over_whole : (input : List ℕ) (done rest : List Line) → is_over input ≡ true → done ++ rest ≡ (script_of input).lines → AreWhole input done
+over_whole input done rest over front = λ more. (rest, front ∙ ap (λ (s : Script). s.lines) (sym (over_script input more over)))
+
+-- nothing was done
+pub none_whole : (input : List ℕ) → AreWhole input []
+none_whole input = λ more. ((script_of (input ++ more)).lines, refl)
+
+-- a script that is too long does not end by itself
+not_fault_ends : (fault : Option ℕ) → by_fault true fault ≡ Ends → ⊥
+not_fault_ends None e = cc
+not_fault_ends (Some n) e = cc
+
+not_events_end : (b : Bool) (fault : Option ℕ) → (if b then TooManyEvents else by_fault true fault) ≡ Ends → ⊥
+not_events_end true fault e = cc
+not_events_end false fault e = not_fault_ends fault e
+
+not_boards_end : (o : Option ℕ) (boards : ℕ) (script : Script) → by_boards o boards (by_events true script) ≡ Ends → ⊥
+not_boards_end None boards script e = not_events_end (nat_lt most_events (events_in script.lines)) script.fault e
+not_boards_end (Some n) boards script e = cc
+
+over_not_ends : (boards : ℕ) (input : List ℕ) → is_over input ≡ true → ending_of boards input ≡ Ends → ⊥
+over_not_ends boards input over e = not_boards_end (lacking boards (script_of input).lines) boards (script_of input) (ap (λ (b : Bool). ending_from boards b (script_of input)) (sym over) ∙ e)
+
+pub over_next : (boards : ℕ) (input : List ℕ) (done rest : List Line) → is_over input ≡ true → done ++ rest ≡ (script_of input).lines → StopsAt (ending_of boards input) rest → NextIsWhole input done rest
+over_next boards input done [] over front stops = over_not_ends boards input over stops
+over_next boards input done (line ∷ rest) over front stops = over_whole input (done ++ line ∷ []) rest over (append_assoc done (line ∷ []) rest ∙ front)
+
+-- ---- how many motes there are
+
+counted_stays : (b : Beginning) (place : Place) (lines : List Line) → (place ≡ First → ⊥) → LinesFit place lines → (begin_behind b lines).motes ≡ b.motes
+unfolding LinesFit begin_behind
+counted_stays b place [] known h = refl
+counted_stays b place (Nothing ∷ lines) known h = counted_stays b place lines known h.2
+counted_stays b place (Motes n ∷ lines) known h = absurd (known h.0)
+counted_stays b place (Golden golden ∷ lines) known h = counted_stays (begin_by b (Golden golden)) (Later (motes_at place)) lines (λ e. cc) h.2
+counted_stays b place (Image image ∷ lines) known h = counted_stays b (Later (motes_at place)) lines (λ e. cc) h.2
+counted_stays b place (Cut c ∷ lines) known h = counted_stays b (AfterCut (motes_at place)) lines (λ e. cc) h.2
+counted_stays b place (Happens event ∷ lines) known h = counted_stays b (Later (motes_at place)) lines (λ e. cc) h.2
+
+-- the first lines of a script that say how many motes there are say it of the whole script
+counted_once : (done rest : List Line) → LinesFit First (done ++ rest) → 0 < motes_in done → motes_in (done ++ rest) ≡ motes_in done
+unfolding LinesFit begin_behind
+counted_once [] rest h some = absurd (omega (arith, some))
+counted_once (Nothing ∷ done) rest h some = counted_once done rest h.2 some
+counted_once (Motes n ∷ done) rest h some =
+    counted_stays (record { motes = n; world = None }) (Second n) (done ++ rest) (λ e. cc) h.2
+    ∙ sym (counted_stays (record { motes = n; world = None }) (Second n) done (λ e. cc) (front_fits (Second n) done rest h.2))
+counted_once (Golden golden ∷ done) rest h some = absurd (let e : First ≡ Second 0 = h.0 in cc)
+counted_once (Image image ∷ done) rest h some = absurd (let e : First ≡ Later 0 = h.0 in cc)
+counted_once (Cut c ∷ done) rest h some = absurd (let e : First ≡ Later 0 = h.0 in cc)
+counted_once (Happens event ∷ done) rest (inl e, f, g) some = absurd (let k : First ≡ Later 0 = e in cc)
+counted_once (Happens event ∷ done) rest (inr e, f, g) some = absurd (let k : First ≡ AfterCut 0 = e in cc)
+
+pub script_of_fits : (input : List ℕ) → LinesFit First (script_of input).lines
+unfolding script_of
+script_of_fits input = script_fits _ First 1 _
+
+-- a board that stopped behind the first lines of a script is one that the script uses
+pub stopped_of_script : (input : List ℕ) (done rest : List Line) (old new : List Device) → done ++ rest ≡ (script_of input).lines → BoardStopped (motes_in done) old new → BoardStopped (motes_in (script_of input).lines) old new
+stopped_of_script input done rest old new lines s =
+    let some : 0 < motes_in done = omega (arith, s.known) in
+    let same : motes_in (done ++ rest) ≡ motes_in done = counted_once done rest (subst (LinesFit First) (sym lines) (script_of_fits input)) some in
+    subst (λ (n : ℕ). BoardStopped n old new) (sym same ∙ ap motes_in lines) s
