@@ -1,0 +1,47 @@
+use Rattle.std.proofs.Common.{◌≡◌, Err, sym, ap, subst, ◌∙◌}
+use Rattle.dg_nor.specs.Trail.{Trail}
+use Rattle.dg_volume.specs.Store.{Store}
+use Rattle.dg_volume.specs.Acts.{Acted, Stops}
+use Rattle.dg_volume.proofs.ActLemmas.{acted_none}
+use Rattle.dg_mote.proofs.AskLemmas.{heeded, unheeded, order_free}
+use Rattle.dg_mote.proofs.adverts.heed.Goals as goal
+
+pub returns-then-not-heeds-clause-acted : goal.returns-then-not-heeds-clause-acted
+returns-then-not-heeds-clause-acted g c s m =
+    let a = g.N.Nor.device c.args.nor.now in
+    let e = sym (c.heeds.ensures s m.tells) ∙ c.if-not-heeds.true in
+    subst (λ (t : Trail Store). Acted t a a c.args.volume.now) (sym (unheeded s c.args.order.now e)) (acted_none s a c.args.volume.now m)
+
+pub unreachable-requires : goal.unreachable-requires
+unreachable-requires g c =
+    let s = c.requires.mounted.0 in
+    let m = c.requires.mounted.1 in
+    let x = c.in-Err-OldOrder in
+    let e = sym (c.heeds.ensures s m.tells) ∙ c.if-not-heeds.false in
+    let refused = c.order.ensures.refused x.field-0 x.is (λ (y : x.field-0 ≡ _). let k = x.field-0-is in cc) s m in
+    let free = order_free s c.args.order.now e in
+    cc
+
+pub unreachable-requires-in-Err-Worn : goal.unreachable-requires-in-Err-Worn
+unreachable-requires-in-Err-Worn g c =
+    let s = c.requires.mounted.0 in
+    let m = c.requires.mounted.1 in
+    let x = c.in-Err-Worn in
+    let e = sym (c.heeds.ensures s m.tells) ∙ c.if-not-heeds.false in
+    let refused = c.order.ensures.refused x.field-0 x.is (λ (y : x.field-0 ≡ _). let k = x.field-0-is in cc) s m in
+    let free = order_free s c.args.order.now e in
+    cc
+
+pub returns-in-Ok-clause-acted : goal.returns-in-Ok-clause-acted
+returns-in-Ok-clause-acted g c s m =
+    let a = g.N.Nor.device c.args.nor.now in
+    let b = g.N.Nor.device c.order.new.nor in
+    let e = sym (c.heeds.ensures s m.tells) ∙ c.if-not-heeds.false in
+    subst (λ (t : Trail Store). Acted t a b c.order.new.self) (sym (heeded s c.args.order.now e)) (c.in-Ok.ensures.acted s m)
+
+pub returns-in-Err-Stopped-clause-stopped : goal.returns-in-Err-Stopped-clause-stopped
+returns-in-Err-Stopped-clause-stopped g c s m =
+    let a = g.N.Nor.device c.args.nor.now in
+    let b = g.N.Nor.device c.order.new.nor in
+    let e = sym (c.heeds.ensures s m.tells) ∙ c.if-not-heeds.false in
+    subst (λ (t : Trail Store). Stops t a b) (sym (heeded s c.args.order.now e)) (c.in-Err-Stopped.ensures.stopped (ap Err c.in-Err-Stopped.field-0-is) s m)

@@ -1,0 +1,37 @@
+use Rattle.std.proofs.Common.{◌≡◌, ℕ, List, Result, Ok, Err, refl, sym, ap, subst, ◌∙◌}
+use Rattle.dg_frame.specs.Grammar.{message_of}
+use Rattle.dg_frame.specs.declared.Message.{Message}
+use Rattle.dg_frame.specs.declared.FrameFault.{FrameFault}
+use Rattle.dg_volume.specs.Store.{Store}
+use Rattle.dg_volume.specs.Acts.{Stops}
+use Rattle.dg_mote.specs.Model.{MoteState, Turn}
+use Rattle.dg_mote.specs.Hears.{by_message, heard_of}
+use Rattle.dg_mote.specs.Motes.{Done}
+use Rattle.dg_mote.specs.declared.mote.Heard.{Heard}
+use Rattle.dg_mote.specs.declared.mote.Heard.TheVariants as heard
+use Rattle.dg_mote.proofs.ServeLemmas.{rests_done, if_ok, on_err}
+use Rattle.dg_mote.proofs.mote.Mote.hear.Goals as goal
+
+heard_is : (m : MoteState) (s : Store) (now word : ℕ) (bytes : List ℕ) (r : Result Message FrameFault) → r ≡ message_of bytes → by_message r m s now word ≡ heard_of m s now word bytes
+unfolding heard_of
+heard_is m s now word bytes r e = ap (λ (x : Result Message FrameFault). by_message x m s now word) e
+
+pub returns-in-Err-clause-done : goal.returns-in-Err-clause-done
+returns-in-Err-clause-done g c m s is =
+    let a = g.N.Nor.device c.args.nor.now in
+    let v = c.args.self.now in
+    let fault = c.in-Err.fault in
+    subst (λ (t : Turn Heard). Done t a a v (heard.Refused fault)) (heard_is m s c.args.now c.args.word c.args.bytes.now (Err fault) (sym c.in-Err.is ∙ c.read.ensures.value))
+    (rests_done (by_message (Err fault) m s c.args.now c.args.word) a s v (heard.Refused fault) (record { trail = refl; mote = is; answers = refl }))
+
+pub returns-in-Ok-clause-done : goal.returns-in-Ok-clause-done
+returns-in-Ok-clause-done g c = if_ok c.hear_message.result c.hear_message.ensures.done (λ answer done m s is.
+    let a = g.N.Nor.device c.args.nor.now in
+    let b = g.N.Nor.device c.hear_message.new.nor in
+    subst (λ (t : Turn Heard). Done t a b c.hear_message.new.self answer) (heard_is m s c.args.now c.args.word c.args.bytes.now (Ok c.in-Ok.message) (sym c.in-Ok.is ∙ c.read.ensures.value)) (done m s is))
+
+pub returns-in-Ok-clause-stopped : goal.returns-in-Ok-clause-stopped
+returns-in-Ok-clause-stopped g c = on_err c.hear_message.result c.hear_message.ensures.stopped (λ stopped m s is.
+    let a = g.N.Nor.device c.args.nor.now in
+    let b = g.N.Nor.device c.hear_message.new.nor in
+    subst (λ (t : Turn Heard). Stops t.trail a b) (heard_is m s c.args.now c.args.word c.args.bytes.now (Ok c.in-Ok.message) (sym c.in-Ok.is ∙ c.read.ensures.value)) (stopped m s is))

@@ -1,0 +1,70 @@
+use Rattle.std.proofs.Common.{◌≡◌, ◌≢◌, ℕ, true, false, sym, subst, arith}
+use Rattle.std.specs.Prelude.{◌==◌}
+use Rattle.std.proofs.lemmas.Bool.Decides.{nat_tests}
+use Rattle.dg_volume.specs.Acts.{Stops}
+use Rattle.dg_frame.specs.declared.Message.{Message}
+use Rattle.dg_mote.specs.Model.{Turn}
+use Rattle.dg_mote.specs.Adverts.{dropped}
+use Rattle.dg_mote.specs.Requests.{on_request}
+use Rattle.dg_mote.specs.Hears.{source_of, on_message}
+use Rattle.dg_mote.specs.Motes.{Done}
+use Rattle.dg_mote.specs.declared.mote.Heard.{Heard}
+use Rattle.dg_mote.specs.declared.mote.Heard.TheVariants as heard
+use Rattle.dg_mote.proofs.ServeLemmas.{chosen, passed, rests_done, dropped_done, if_ok, on_err}
+use Rattle.dg_mote.proofs.mote.Mote.hear_message.Goals as goal
+
+own_source : (x y z w : ℕ) → x ≡ y → z ≡ w → x ≡ z → (y == w) ≡ true
+own_source x y z w e f same = grind (arith, nat_tests)
+
+other_source : (x y z w : ℕ) → x ≡ y → z ≡ w → x ≢ z → (y == w) ≡ false
+other_source x y z w e f other = grind (arith, nat_tests)
+
+pub returns-then-source-self-clause-done : goal.returns-then-source-self-clause-done
+returns-then-source-self-clause-done g c m s is =
+    let a = g.N.Nor.device c.args.nor.now in
+    let v = c.args.self.now in
+    let e = own_source _ (source_of c.args.message) _ m.id c.source.ensures is.id c.if-source-self.true in
+    subst (λ (t : Turn Heard). Done t a a v heard.Dropped) (sym (chosen (source_of c.args.message == m.id) (dropped m s) (on_message m s c.args.now c.args.word c.args.message) e)) (dropped_done a v m s is)
+
+pub returns-in-Advert-clause-done : goal.returns-in-Advert-clause-done
+returns-in-Advert-clause-done g c = if_ok c.hear_advert.result c.hear_advert.ensures.done (λ answer done m s is.
+    let a = g.N.Nor.device c.args.nor.now in
+    let b = g.N.Nor.device c.hear_advert.new.nor in
+    let v = c.hear_advert.new.self in
+    let e = other_source _ (source_of c.args.message) _ m.id c.source.ensures is.id c.if-source-self.false in
+    subst (λ (t : Turn Heard). Done t a b v answer) (sym (passed (source_of c.args.message == m.id) (dropped m s) (on_message m s c.args.now c.args.word c.args.message) e))
+    (subst (λ (y : Message). Done (on_message m s c.args.now c.args.word y) a b v answer) (sym c.in-Advert.is) (done m s is)))
+
+pub returns-in-Advert-clause-stopped : goal.returns-in-Advert-clause-stopped
+returns-in-Advert-clause-stopped g c = on_err c.hear_advert.result c.hear_advert.ensures.stopped (λ stopped m s is.
+    let a = g.N.Nor.device c.args.nor.now in
+    let b = g.N.Nor.device c.hear_advert.new.nor in
+    let e = other_source _ (source_of c.args.message) _ m.id c.source.ensures is.id c.if-source-self.false in
+    subst (λ (t : Turn Heard). Stops t.trail a b) (sym (passed (source_of c.args.message == m.id) (dropped m s) (on_message m s c.args.now c.args.word c.args.message) e))
+    (subst (λ (y : Message). Stops (on_message m s c.args.now c.args.word y).trail a b) (sym c.in-Advert.is) (stopped m s is)))
+
+pub returns-in-Request-clause-done : goal.returns-in-Request-clause-done
+returns-in-Request-clause-done g c m s is =
+    let x = c.in-Request in
+    let a = g.N.Nor.device c.args.nor.now in
+    let v = c.hear_request.new.self in
+    let e = other_source _ (source_of c.args.message) _ m.id c.source.ensures is.id c.if-source-self.false in
+    subst (λ (t : Turn Heard). Done t a a v c.hear_request.result) (sym (passed (source_of c.args.message == m.id) (dropped m s) (on_message m s c.args.now c.args.word c.args.message) e))
+    (subst (λ (y : Message). Done (on_message m s c.args.now c.args.word y) a a v c.hear_request.result) (sym c.in-Request.is) (rests_done (on_request m s c.args.now x.to x.image x.version x.page x.want) a s v c.hear_request.result (c.hear_request.ensures a.image m s is)))
+
+pub returns-in-Packet-clause-done : goal.returns-in-Packet-clause-done
+returns-in-Packet-clause-done g c = if_ok c.hear_packet.result c.hear_packet.ensures.done (λ answer done m s is.
+    let a = g.N.Nor.device c.args.nor.now in
+    let b = g.N.Nor.device c.hear_packet.new.nor in
+    let v = c.hear_packet.new.self in
+    let e = other_source _ (source_of c.args.message) _ m.id c.source.ensures is.id c.if-source-self.false in
+    subst (λ (t : Turn Heard). Done t a b v answer) (sym (passed (source_of c.args.message == m.id) (dropped m s) (on_message m s c.args.now c.args.word c.args.message) e))
+    (subst (λ (y : Message). Done (on_message m s c.args.now c.args.word y) a b v answer) (sym c.in-Packet.is) (done m s is)))
+
+pub returns-in-Packet-clause-stopped : goal.returns-in-Packet-clause-stopped
+returns-in-Packet-clause-stopped g c = on_err c.hear_packet.result c.hear_packet.ensures.stopped (λ stopped m s is.
+    let a = g.N.Nor.device c.args.nor.now in
+    let b = g.N.Nor.device c.hear_packet.new.nor in
+    let e = other_source _ (source_of c.args.message) _ m.id c.source.ensures is.id c.if-source-self.false in
+    subst (λ (t : Turn Heard). Stops t.trail a b) (sym (passed (source_of c.args.message == m.id) (dropped m s) (on_message m s c.args.now c.args.word c.args.message) e))
+    (subst (λ (y : Message). Stops (on_message m s c.args.now c.args.word y).trail a b) (sym c.in-Packet.is) (stopped m s is)))

@@ -1,0 +1,59 @@
+use Rattle.std.proofs.Common.{sym, subst}
+use Rattle.dg_nor.specs.Trail.{last}
+use Rattle.dg_nor.proofs.DeviceLemmas.{OnErr_from}
+use Rattle.dg_volume.specs.Acts.{Stops}
+use Rattle.dg_mote.specs.Model.{Turn}
+use Rattle.dg_mote.specs.Summary.{ahead_in}
+use Rattle.dg_mote.specs.Adverts.{heed_trail, by_ahead}
+use Rattle.dg_mote.specs.Motes.{Done}
+use Rattle.dg_mote.specs.declared.mote.Heard.{Heard}
+use Rattle.dg_mote.proofs.ServeLemmas.{if_ok, on_err}
+use Rattle.dg_mote.proofs.FillLemmas.{done_behind, stops_behind, stops_before}
+use Rattle.dg_mote.proofs.AskLemmas.{follow_begins, heed_mote, advert_is}
+use Rattle.dg_mote.proofs.mote.Mote.weigh_advert.Goals as goal
+
+pub returns-in_err-heed-clause-stopped : goal.returns-in_err-heed-clause-stopped
+returns-in_err-heed-clause-stopped g c = OnErr_from c.from_residual.result (λ m s timer is mode.
+    let a = g.N.Nor.device c.args.nor.now in
+    let b = g.N.Nor.device c.heed.new.nor in
+    let t = heed_trail s c.args.order.now in
+    let rest = by_ahead (ahead_in c.args.entries.now (last t)) m timer (last t) c.args.now c.args.word c.args.source c.args.entries.now c.would_say-same.result in
+    subst (λ (x : Turn Heard). Stops x.trail a b) (sym (advert_is m timer s c.args.now c.args.word c.args.source c.args.entries.now c.args.order.now c.would_say-same.result (c.would_say-same.ensures s is.mounted.tells)))
+    (stops_before t rest a b (follow_begins (ahead_in c.args.entries.now (last t)) m timer (last t) c.args.now c.args.word c.args.source c.args.entries.now c.would_say-same.result) (c.in_err-heed.ensures.stopped s is.mounted)))
+
+pub follow-requires-clause-mote : goal.follow-requires-clause-mote
+follow-requires-clause-mote g c =
+    let a = g.N.Nor.device c.args.nor.now in
+    let b = g.N.Nor.device c.heed.new.nor in
+    let m = c.requires.mote.0 in
+    let s = c.requires.mote.1 in
+    let timer = c.requires.mote.2 in
+    let is = c.requires.mote.3 in
+    let mode = c.requires.mote.4 in
+    (m, last (heed_trail s c.args.order.now), timer, heed_mote a b c.args.self.now c.heed.new.volume m s timer c.args.order.now is mode (c.in_ok-heed.ensures.acted s is.mounted) c.heed.ensures.lent, mode)
+
+pub returns-clause-done : goal.returns-clause-done
+returns-clause-done g c = if_ok c.follow.result c.follow.ensures.done (λ answer done m s timer is mode.
+    let a = g.N.Nor.device c.args.nor.now in
+    let b = g.N.Nor.device c.heed.new.nor in
+    let d = g.N.Nor.device c.follow.new.nor in
+    let t = heed_trail s c.args.order.now in
+    let rest = by_ahead (ahead_in c.args.entries.now (last t)) m timer (last t) c.args.now c.args.word c.args.source c.args.entries.now c.would_say-same.result in
+    let acted = c.in_ok-heed.ensures.acted s is.mounted in
+    let now_is = heed_mote a b c.args.self.now c.heed.new.volume m s timer c.args.order.now is mode acted c.heed.ensures.lent in
+    let begins = follow_begins (ahead_in c.args.entries.now (last t)) m timer (last t) c.args.now c.args.word c.args.source c.args.entries.now c.would_say-same.result in
+    subst (λ (x : Turn Heard). Done x a d c.follow.new.self answer) (sym (advert_is m timer s c.args.now c.args.word c.args.source c.args.entries.now c.args.order.now c.would_say-same.result (c.would_say-same.ensures s is.mounted.tells)))
+    (done_behind t rest a b d c.follow.new.self answer (sym begins.first) acted.ran (done m (last t) timer now_is mode)))
+
+pub returns-clause-stopped : goal.returns-clause-stopped
+returns-clause-stopped g c = on_err c.follow.result c.follow.ensures.stopped (λ stopped m s timer is mode.
+    let a = g.N.Nor.device c.args.nor.now in
+    let b = g.N.Nor.device c.heed.new.nor in
+    let d = g.N.Nor.device c.follow.new.nor in
+    let t = heed_trail s c.args.order.now in
+    let rest = by_ahead (ahead_in c.args.entries.now (last t)) m timer (last t) c.args.now c.args.word c.args.source c.args.entries.now c.would_say-same.result in
+    let acted = c.in_ok-heed.ensures.acted s is.mounted in
+    let now_is = heed_mote a b c.args.self.now c.heed.new.volume m s timer c.args.order.now is mode acted c.heed.ensures.lent in
+    let begins = follow_begins (ahead_in c.args.entries.now (last t)) m timer (last t) c.args.now c.args.word c.args.source c.args.entries.now c.would_say-same.result in
+    subst (λ (x : Turn Heard). Stops x.trail a d) (sym (advert_is m timer s c.args.now c.args.word c.args.source c.args.entries.now c.args.order.now c.would_say-same.result (c.would_say-same.ensures s is.mounted.tells)))
+    (stops_behind t rest a b d (sym begins.first) acted.ran (stopped m (last t) timer now_is mode)))

@@ -1,0 +1,17 @@
+pub mod Sizes
+pub mod Model
+pub mod Summary
+pub mod Ticks
+pub mod Adverts
+pub mod Requests
+pub mod Packets
+pub mod Hears
+pub mod Effects
+pub mod Timely
+pub mod Agreement
+pub mod Well
+pub mod Speaking
+pub mod Rules
+pub mod Motes
+pub mod Hearing
+pub mod Shows

@@ -1,0 +1,105 @@
+-- The rules of asking and serving in the words of Deluge, and what happens to a mote in a row.
+use Rattle.std.specs.Prelude.{◌≡◌, ◌≢◌, ◌⊎◌, ◌↔◌, true, false, ℕ, ◌+◌, ◌<◌, ◌≤◌, List, [], ◌∷◌, length, Option, Some, None}
+use Rattle.std.specs.List.{AllByRecursion}
+use Rattle.std.specs.FinSet as set
+use Rattle.dg_bits.specs.Sets.{Numbers}
+use Rattle.dg_nor.specs.Trail.{last}
+use Rattle.dg_trickle.specs.Timer.{Timer}
+use Rattle.dg_slot.specs.Kept.{Held}
+use Rattle.dg_slot.specs.Layout.{packets}
+use Rattle.dg_slot.specs.Jobs.{packet}
+use Rattle.dg_volume.specs.Store.{Store, held}
+use Rattle.dg_volume.specs.Start.{order_waits}
+use Rattle.dg_frame.specs.declared.Message.{Message}
+use Rattle.dg_frame.specs.declared.Message.TheVariants.{Advert, Request, Packet}
+use Rattle.dg_mote.specs.Model.{MoteState, Mode, Maintain, Receive, Transmit, Receiving}
+use Rattle.dg_mote.specs.Ticks.{clears, tick_of}
+use Rattle.dg_mote.specs.Hears.{heard_of}
+
+-- ---- pages
+
+-- a page is of use here: it is kept, or is the next one, of the kept version, or it is the first of a newer one
+abbrev pub IsOfUse : Option Held → (version page : ℕ) → Type 0
+IsOfUse None version page = page ≡ 0
+IsOfUse (Some h) version page = ((h.version ≡ version) × (page ≤ length h.complete)) ⊎ ((h.version < version) × (page ≡ 0))
+
+-- a page is complete here. How many pages its image has is not looked at
+pub record HasPage (s : Store) (image version page : ℕ) : Type 0 where
+  pub kept : Held
+  pub here : held s image ≡ Some kept
+  pub version_is : kept.version ≡ version
+  pub complete : page < length kept.complete
+
+-- it asks its server for the packets of a page that did not come
+pub record AsksFor (m : MoteState) (source to image version page : ℕ) (want : Numbers) : Type 0 where
+  pub r : Receiving
+  pub receives : m.mode ≡ Receive r
+  pub source_is : source ≡ m.id
+  pub server : to ≡ r.server
+  pub image_is : image ≡ r.image
+  pub version_is : version ≡ r.version
+  pub page_is : page ≡ r.page
+  pub missing : (q : ℕ) → (set.contains want q ≡ true) ↔ ((q < packets) × (packet r.packets q ≡ None))
+
+-- ---- restarts
+
+-- it maintains, no short starts are to be cleared, and the order waits
+pub record MayRestart (m : MoteState) (s : Store) (now : ℕ) : Type 0 where
+  pub timer : Timer
+  pub maintains : m.mode ≡ Maintain timer
+  pub clears_nothing : clears m s now ≡ false
+  pub waits : order_waits s ≡ true
+
+-- ---- what happens to a mote
+
+-- it ticks, or hears a frame, with the moment and the word
+pub data Happens : Type 0 where
+  Ticks : (now word : ℕ) → Happens
+  Hears : (now word : ℕ) (bytes : List ℕ) → Happens
+
+abbrev pub moment_of : Happens → ℕ
+moment_of (Ticks now word) = now
+moment_of (Hears now word bytes) = now
+
+-- what a mote sends while all this happens, one after the other, and it is not started anew
+unfoldable pub sent_in : List Happens → MoteState → Store → List (Option Message)
+sent_in [] m s = []
+sent_in (Ticks now word ∷ rest) m s = let step = tick_of m s now word in step.sent ∷ sent_in rest step.mote (last step.trail)
+sent_in (Hears now word bytes ∷ rest) m s = let step = heard_of m s now word bytes in step.sent ∷ sent_in rest step.mote (last step.trail)
+
+-- each moment is one of these
+abbrev pub AllBetween : (from until : ℕ) → List Happens → Type 0
+AllBetween from until events = AllByRecursion (λ e. (from ≤ moment_of e) × (moment_of e < until)) events
+
+-- ---- silence
+
+abbrev pub IsSilent : List (Option Message) → Type 0
+IsSilent sent = AllByRecursion (λ message. message ≡ None) sent
+
+abbrev pub NoRequest : ℕ → Option Message → Type 0
+NoRequest image None = Unit {0}
+NoRequest image (Some (Advert source entries order)) = Unit {0}
+NoRequest image (Some (Request source to i version page want)) = i ≢ image
+NoRequest image (Some (Packet source i version page packet bytes)) = Unit {0}
+
+-- it asks for no page of the image
+abbrev pub AsksNotFor : ℕ → Mode → Type 0
+AsksNotFor image (Maintain timer) = Unit {0}
+AsksNotFor image (Receive r) = r.image ≢ image
+AsksNotFor image (Transmit t) = Unit {0}
+
+-- ---- an interval of the timer
+
+-- it maintains, in the interval that this timer is in
+abbrev pub IsInInterval : Timer → Mode → Type 0
+IsInInterval timer (Maintain t) = (t.begin ≡ timer.begin) × (t.interval ≡ timer.interval)
+IsInInterval timer (Receive r) = ⊥
+IsInInterval timer (Transmit t) = ⊥
+
+-- all this happens in it: ticks before its end, and frames that leave the mote in it
+unfoldable pub HappenIn : Timer → List Happens → MoteState → Store → Type 0
+HappenIn timer [] m s = Unit {0}
+HappenIn timer (Ticks now word ∷ rest) m s =
+    let step = tick_of m s now word in (now < timer.begin + timer.interval) × HappenIn timer rest step.mote (last step.trail)
+HappenIn timer (Hears now word bytes ∷ rest) m s =
+    let step = heard_of m s now word bytes in IsInInterval timer step.mote.mode × HappenIn timer rest step.mote (last step.trail)

@@ -1,0 +1,358 @@
+//! Adverts that are heard: a better order is kept, and an image is asked for in which the advertiser is ahead.
+ghost use Rattle.std.specs.Prelude.{◌≡◌, ◌≢◌, ℕ, ◌<◌, ◌≤◌, ◌^◌, ◌&&◌, ◌||◌, ◌==◌, nat_le, nat_lt, true, false, List, Option, Some, All, IfOk, OnOk, OnErr, IfSome};
+ghost use Rattle.dg_nor.specs.Trail.{last};
+ghost use Rattle.dg_trickle.specs.Timer.{Timer};
+ghost use Rattle.dg_frame.specs.Sizes.{frame_images};
+ghost use Rattle.dg_frame.specs.Ranges.{EntryInRange, OrderInRange};
+ghost use Rattle.dg_slot.specs.Kept.{Held};
+ghost use Rattle.dg_slot.specs.Jobs.{IsOpen, outline_told};
+ghost use Rattle.dg_volume.specs.Sizes.{images};
+ghost use Rattle.dg_volume.specs.Store.{Store, held};
+ghost use Rattle.dg_volume.specs.Told.{told};
+ghost use Rattle.dg_volume.specs.Stands.{Mounted, IsMounted, Tells, kept_at, is_lent};
+ghost use Rattle.dg_volume.specs.Changes.{is_version};
+ghost use Rattle.dg_volume.specs.Acts.{Acted, Stops};
+ghost use Rattle.dg_mote.specs.Model.{MoteState, Maintain};
+ghost use Rattle.dg_mote.specs.Summary.{entry_by, same_entry, same_order, entry_for, is_own, ahead_of, ahead_in};
+ghost use Rattle.dg_mote.specs.Adverts.{heed_trail, ask_trail, asks, asking, noting, by_ahead, advert_heard, on_advert};
+ghost use Rattle.dg_mote.specs.Motes.{IsMote, Done};
+ghost use Rattle.dg_mote.specs.Hearing.{Rests, MayTake, slot_trail, Opened, Begun};
+
+use crate::summary::entry_of;
+use crate::{Heard, Mode, Mote};
+use dg_control::Order;
+use dg_frame::{Entry, FRAME_IMAGES};
+use dg_nor::{Nor, Stopped};
+use dg_object::Profile;
+use dg_order::better;
+use dg_recv::Asking;
+use dg_slot::{OpenSlot, PageJob};
+use dg_volume::{Kept, OrderFault, TakeFault, Volume};
+
+/// The commits of a taking.
+const TAKE_COMMITS: u32 = 2;
+
+/// The images that frames speak of are 1 to this number.
+const IMAGES: u8 = FRAME_IMAGES as u8;
+
+impl Mote {
+    /// An advert of another mote was heard.
+    pub(crate) fn hear_advert<N: Nor>(
+        &mut self,
+        nor: &mut N,
+        now: u64,
+        word: u32,
+        source: u16,
+        entries: &[Entry; FRAME_IMAGES],
+        order: &Order,
+    ) -> Result<Heard, Stopped>
+        requires mote { (m : MoteState) × (s : Store) × IsMote (N.device nor.old).image self.old m s }
+        requires moment { now < 2 ^ 62 }
+        requires entries { All EntryInRange entries.now }
+        requires order { OrderInRange order.now }
+        ensures done { IfOk result (λ heard. (m : MoteState) (s : Store) → IsMote (N.device nor.old).image self.old m s
+            → Done (on_advert m.mode m s now word source entries.now order.now) (N.device nor.old) (N.device nor.new) self.new heard) }
+        ensures same_reference { (N.device nor.new).references ≡ (N.device nor.old).references }
+        ensures stopped { OnErr result ((m : MoteState) (s : Store) → IsMote (N.device nor.old).image self.old m s
+            → Stops (on_advert m.mode m s now word source entries.now order.now).trail (N.device nor.old) (N.device nor.new)) }
+    {
+        match self.mode {
+            Mode::Maintain(_) => self.weigh_advert(nor, now, word, source, entries, order),
+            Mode::Receive { .. } => Ok(Heard::Dropped),
+            Mode::Transmit { .. } => Ok(Heard::Dropped),
+        }
+    }
+
+    /// A mote that maintains heard an advert. Whether that equals what it would say counts before the order is kept.
+    fn weigh_advert<N: Nor>(
+        &mut self,
+        nor: &mut N,
+        now: u64,
+        word: u32,
+        source: u16,
+        entries: &[Entry; FRAME_IMAGES],
+        order: &Order,
+    ) -> Result<Heard, Stopped>
+        requires mote { (m : MoteState) × (s : Store) × (timer : Timer) × IsMote (N.device nor.old).image self.old m s × (m.mode ≡ Maintain timer) }
+        requires moment { now < 2 ^ 62 }
+        requires entries { All EntryInRange entries.now }
+        requires order { OrderInRange order.now }
+        ensures done { IfOk result (λ heard. (m : MoteState) (s : Store) (timer : Timer) → IsMote (N.device nor.old).image self.old m s → m.mode ≡ Maintain timer
+            → Done (advert_heard m timer s now word source entries.now order.now) (N.device nor.old) (N.device nor.new) self.new heard) }
+        ensures same_reference { (N.device nor.new).references ≡ (N.device nor.old).references }
+        ensures stopped { OnErr result ((m : MoteState) (s : Store) (timer : Timer) → IsMote (N.device nor.old).image self.old m s → m.mode ≡ Maintain timer
+            → Stops (advert_heard m timer s now word source entries.now order.now).trail (N.device nor.old) (N.device nor.new)) }
+    {
+        let same = would_say(&self.volume, entries, order);
+        heed(nor, &mut self.volume, order)?;
+        self.follow(nor, now, word, source, entries, same)
+    }
+
+    /// Asks for the least image in which the advertiser is ahead, where that may be asked for. Else the advert is noted.
+    fn follow<N: Nor>(
+        &mut self,
+        nor: &mut N,
+        now: u64,
+        word: u32,
+        source: u16,
+        entries: &[Entry; FRAME_IMAGES],
+        same: bool,
+    ) -> Result<Heard, Stopped>
+        requires mote { (m : MoteState) × (s : Store) × (timer : Timer) × IsMote (N.device nor.old).image self.old m s × (m.mode ≡ Maintain timer) }
+        requires moment { now < 2 ^ 62 }
+        requires entries { All EntryInRange entries.now }
+        ensures done { IfOk result (λ heard. (m : MoteState) (s : Store) (timer : Timer) → IsMote (N.device nor.old).image self.old m s → m.mode ≡ Maintain timer
+            → Done (by_ahead (ahead_in entries.now s) m timer s now word source entries.now same) (N.device nor.old) (N.device nor.new) self.new heard) }
+        ensures same_reference { (N.device nor.new).references ≡ (N.device nor.old).references }
+        ensures stopped { OnErr result ((m : MoteState) (s : Store) (timer : Timer) → IsMote (N.device nor.old).image self.old m s → m.mode ≡ Maintain timer
+            → Stops (by_ahead (ahead_in entries.now s) m timer s now word source entries.now same).trail (N.device nor.old) (N.device nor.new)) }
+    {
+        let Some(image) = first_ahead(&self.volume, entries) else {
+            return Ok(self.note_advert(same, now, word));
+        };
+        let entry = entry_for(entries, image);
+        if !self.may_ask(now, image, entry) {
+            return Ok(self.note_advert(same, now, word));
+        }
+        self.ask(nor, now, word, source, image, entry)
+    }
+
+    /// Whether no window of an image is open, and its slot need not be taken, or there is room to take it.
+    fn may_ask(&self, now: u64, image: u8, entry: Entry) -> bool
+        requires not_golden { 1 ≤ image }
+        requires known { image ≤ frame_images }
+        ensures { (c : List ℕ) (m : MoteState) (s : Store) → IsMote c self.now m s → result ≡ asks m s now image entry }
+    {
+        self.windows.may_ask(now, image) && can_open(&self.volume, image, entry.version)
+    }
+
+    /// Notes that an equal or another advert was heard.
+    fn note_advert(&mut self, same: bool, now: u64, word: u32) -> Heard
+        requires moment { now < 2 ^ 62 }
+        ensures { (c : List ℕ) (m : MoteState) (s : Store) (timer : Timer) → IsMote c self.old m s → m.mode ≡ Maintain timer
+            → Rests (noting m timer s now word same) c s self.new result }
+    {
+        let Mode::Maintain(trickle) = &mut self.mode else {
+            return Heard::Dropped;
+        };
+        if same {
+            trickle.heard_same();
+            Heard::Same
+        } else {
+            trickle.heard_other(now, word);
+            Heard::Other
+        }
+    }
+
+    /// Begins the next page of an image, and asks the advertiser for it.
+    fn ask<N: Nor>(
+        &mut self,
+        nor: &mut N,
+        now: u64,
+        word: u32,
+        source: u16,
+        image: u8,
+        entry: Entry,
+    ) -> Result<Heard, Stopped>
+        requires mote { (m : MoteState) × (s : Store) × (timer : Timer) × IsMote (N.device nor.old).image self.old m s × (m.mode ≡ Maintain timer) × MayTake s image entry }
+        requires moment { now < 2 ^ 62 }
+        ensures done { IfOk result (λ heard. (m : MoteState) (s : Store) (timer : Timer) → IsMote (N.device nor.old).image self.old m s → m.mode ≡ Maintain timer → MayTake s image entry
+            → Done (asking m s now word source image entry) (N.device nor.old) (N.device nor.new) self.new heard) }
+        ensures same_reference { (N.device nor.new).references ≡ (N.device nor.old).references }
+        ensures stopped { OnErr result ((m : MoteState) (s : Store) (timer : Timer) → IsMote (N.device nor.old).image self.old m s → m.mode ≡ Maintain timer → MayTake s image entry
+            → Stops (ask_trail s image entry) (N.device nor.old) (N.device nor.new)) }
+    {
+        let job = begin_page(nor, &mut self.volume, image, entry)?;
+        let page = job.page();
+        self.mode = Mode::Receive {
+            version: entry.version,
+            server: source,
+            asking: Asking::new(now, word),
+            job,
+        };
+        Ok(Heard::Asks { image, page })
+    }
+}
+
+/// Whether an advert equals what a mote would say that keeps this.
+fn would_say(volume: &Volume, entries: &[Entry; FRAME_IMAGES], order: &Order) -> bool
+    ensures { (s : Store) → Tells volume.now s → result ≡ is_own entries.now order.now s }
+{
+    if !says_entries(volume, entries) {
+        return false;
+    }
+    is_same_order(order, &volume.snapshot().order)
+}
+
+fn is_same_order(a: &Order, b: &Order) -> bool
+    ensures { result ≡ same_order a.now b.now }
+{
+    a == b
+}
+
+/// Whether entries equal what a mote would say that keeps this.
+fn says_entries(volume: &Volume, entries: &[Entry; FRAME_IMAGES]) -> bool
+    ensures told { result ≡ true → (s : Store) → Tells volume.now s → (i : ℕ) → 1 ≤ i → i ≤ frame_images → same_entry (entry_for entries.now i) (entry_by (held s i)) ≡ true }
+    ensures other { result ≡ false → (i : ℕ) × (1 ≤ i) × (i ≤ frame_images) × ((s : Store) → Tells volume.now s → same_entry (entry_for entries.now i) (entry_by (held s i)) ≡ false) }
+{
+    for image in 1..=IMAGES {
+        if !is_same_entry(&entry_for(entries, image), &entry_of(volume.kept(image))) {
+            return false;
+        }
+    }
+    true
+}
+
+fn is_same_entry(a: &Entry, b: &Entry) -> bool
+    ensures { result ≡ same_entry a.now b.now }
+{
+    a == b
+}
+
+/// The least image in which an advertiser is ahead of a mote that keeps this.
+fn first_ahead(volume: &Volume, entries: &[Entry; FRAME_IMAGES]) -> Option<u8>
+    ensures least { (s : Store) → Tells volume.now s → result ≡ ahead_in entries.now s }
+    ensures within { IfSome result (λ i. (1 ≤ i) × (i ≤ frame_images)) }
+    ensures ahead { IfSome result (λ i. (s : Store) → Tells volume.now s → ahead_of (entry_for entries.now i) (held s i) ≡ true) }
+{
+    for image in 1..=IMAGES {
+        if is_ahead(volume.kept(image), entry_for(entries, image)) {
+            return Some(image);
+        }
+    }
+    None
+}
+
+/// Whether an advertiser is ahead in an image of which this is kept here: it has a page, and tells of a larger version,
+/// or of more pages of the same object.
+fn is_ahead(kept: Option<Kept>, entry: Entry) -> bool
+    ensures { (h : Option Held) → kept ≡ told h → result ≡ ahead_of entry h }
+{
+    match kept {
+        Some(kept) => {
+            entry.have >= 1
+                && (kept.version < entry.version
+                    || is_same_object(kept, entry) && kept.done < entry.have)
+        }
+        None => entry.have >= 1,
+    }
+}
+
+/// Whether an entry tells of the object that is kept.
+fn is_same_object(kept: Kept, entry: Entry) -> bool
+    ensures { result ≡ (entry.version == kept.version) && (entry.pages == kept.pages) && (entry.crc == kept.crc) }
+{
+    entry.version == kept.version && entry.pages == kept.pages && entry.crc == kept.crc
+}
+
+/// The entry of an image in an advert.
+fn entry_for(entries: &[Entry; FRAME_IMAGES], image: u8) -> Entry
+    requires not_golden { 1 ≤ image }
+    requires known { image ≤ frame_images }
+    ensures { result ≡ entry_for entries.now image }
+{
+    entries[usize::from(image) - 1]
+}
+
+/// Whether this version is kept of an image.
+fn keeps_version(kept: Option<Kept>, version: u32) -> bool
+    ensures { (h : Option Held) → kept ≡ told h → result ≡ is_version h version }
+{
+    match kept {
+        Some(kept) => kept.version == version,
+        None => false,
+    }
+}
+
+/// Whether this version is kept of an image, or there is room to take its slot.
+fn can_open(volume: &Volume, image: u8, version: u32) -> bool
+    requires { image < images }
+    ensures { (s : Store) → Tells volume.now s → result ≡ is_version (held s image) version || nat_le 2 s.room }
+{
+    keeps_version(volume.kept(image), version) || volume.room() >= TAKE_COMMITS
+}
+
+/// Whether an order is better than the one that is kept, and there is room to keep it.
+fn heeds(volume: &Volume, order: &Order) -> bool
+    ensures { (s : Store) → Tells volume.now s → result ≡ nat_lt s.order.number order.now.number && nat_le 1 s.room }
+{
+    better(&volume.snapshot().order, order) && volume.room() >= 1
+}
+
+/// Keeps a better order, while there is room.
+fn heed<N: Nor>(nor: &mut N, volume: &mut Volume, order: &Order) -> Result<(), Stopped>
+    requires mounted { IsMounted (N.device nor.old).image volume.old }
+    requires range { OrderInRange order.now }
+    ensures acted { OnOk result ((s : Store) → Mounted (N.device nor.old).image volume.old s
+        → Acted (heed_trail s order.now) (N.device nor.old) (N.device nor.new) volume.new) }
+    ensures lent { (i : ℕ) → is_lent volume.new i ≡ is_lent volume.old i }
+    ensures same_reference { (N.device nor.new).references ≡ (N.device nor.old).references }
+    ensures stopped { OnErr result ((s : Store) → Mounted (N.device nor.old).image volume.old s
+        → Stops (heed_trail s order.now) (N.device nor.old) (N.device nor.new)) }
+{
+    if !heeds(volume, order) {
+        return Ok(());
+    }
+    match volume.order(nor, order.number, order.image, order.version) {
+        Ok(()) => Ok(()),
+        Err(OrderFault::Stopped) => Err(Stopped),
+        Err(OrderFault::OldOrder { .. }) => unreachable!(),
+        Err(OrderFault::Worn { .. }) => unreachable!(),
+    }
+}
+
+/// Begins the next page of an image, whose slot is taken unless this version is kept.
+fn begin_page<N: Nor>(
+    nor: &mut N,
+    volume: &mut Volume,
+    image: u8,
+    entry: Entry,
+) -> Result<PageJob, Stopped>
+    requires mounted { (s : Store) × Mounted (N.device nor.old).image volume.old s × MayTake s image entry }
+    requires not_lent { is_lent volume.old image ≡ false }
+    ensures begun { IfOk result (λ job. (s : Store) → Mounted (N.device nor.old).image volume.old s → MayTake s image entry
+        → Acted (ask_trail s image entry) (N.device nor.old) (N.device nor.new) volume.new × Begun (N.device nor.new).image (last (ask_trail s image entry)) image entry job) }
+    ensures lent { OnOk result (is_lent volume.new image ≡ true) }
+    ensures others { (i : ℕ) → i ≢ image → is_lent volume.new i ≡ is_lent volume.old i }
+    ensures same_reference { (N.device nor.new).references ≡ (N.device nor.old).references }
+    ensures stopped { OnErr result ((s : Store) → Mounted (N.device nor.old).image volume.old s → MayTake s image entry
+        → Stops (ask_trail s image entry) (N.device nor.old) (N.device nor.new)) }
+{
+    let slot = open(nor, volume, image, entry)?;
+    slot.begin_page(nor)
+}
+
+/// The slot of an image, taken unless this version is kept.
+fn open<N: Nor>(
+    nor: &mut N,
+    volume: &mut Volume,
+    image: u8,
+    entry: Entry,
+) -> Result<OpenSlot, Stopped>
+    requires mounted { (s : Store) × Mounted (N.device nor.old).image volume.old s × MayTake s image entry }
+    requires not_lent { is_lent volume.old image ≡ false }
+    ensures opened { IfOk result (λ o. (s : Store) → Mounted (N.device nor.old).image volume.old s → MayTake s image entry
+        → Acted (slot_trail s image entry) (N.device nor.old) (N.device nor.new) volume.new × Opened (N.device nor.new).image (last (slot_trail s image entry)) image entry o) }
+    ensures lent { OnOk result (is_lent volume.new image ≡ true) }
+    ensures others { (i : ℕ) → i ≢ image → is_lent volume.new i ≡ is_lent volume.old i }
+    ensures same_reference { (N.device nor.new).references ≡ (N.device nor.old).references }
+    ensures stopped { OnErr result ((s : Store) → Mounted (N.device nor.old).image volume.old s → MayTake s image entry
+        → Stops (slot_trail s image entry) (N.device nor.old) (N.device nor.new)) }
+{
+    if keeps_version(volume.kept(image), entry.version) {
+        return Ok(volume.slot(image).unwrap());
+    }
+    let profile = Profile {
+        image,
+        version: entry.version,
+        pages: entry.pages,
+        crc: entry.crc,
+    };
+    match volume.take(nor, image, &profile) {
+        Ok(slot) => Ok(slot),
+        Err(TakeFault::Stopped) => Err(Stopped),
+        Err(TakeFault::Stale { .. }) => unreachable!(),
+        Err(TakeFault::Reserved) => unreachable!(),
+        Err(TakeFault::Worn { .. }) => unreachable!(),
+    }
+}

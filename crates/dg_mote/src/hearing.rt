@@ -1,0 +1,116 @@
+//! What a mote does that hears a frame.
+ghost use Rattle.std.specs.Prelude.{◌≡◌, ℕ, ◌<◌, ◌^◌, Ok, IfOk, OnErr};
+ghost use Rattle.dg_frame.specs.Ranges.{IsInRange};
+ghost use Rattle.dg_volume.specs.Store.{Store};
+ghost use Rattle.dg_volume.specs.Acts.{Stops};
+ghost use Rattle.dg_mote.specs.Model.{MoteState};
+ghost use Rattle.dg_mote.specs.Hears.{source_of, by_message, heard_of};
+ghost use Rattle.dg_mote.specs.Timely.{Timely};
+ghost use Rattle.dg_mote.specs.Motes.{IsMote, Done};
+
+use crate::requests::PageName;
+use crate::{Heard, Mote};
+use dg_frame::{Message, read};
+use dg_nor::{Nor, Stopped};
+
+impl Mote {
+    /// Hears the bytes of a frame at this moment, in milliseconds, with a word as a random draw. The answer says what the
+    /// mote did. Bytes that are no frame, and the mote's own frames, change nothing.
+    ///
+    /// A mote that maintains keeps a better order, asks the sender of an advert for the next page of what it lacks, and
+    /// begins to serve a page that it is asked for. One that receives a page puts each packet that is missing into flash,
+    /// and seals the page with the last one. Requests and packets that others exchange keep it from asking for a while.
+    /// These are the rules of Deluge (Hui and Culler, SenSys 2004).
+    ///
+    /// After `Stopped` the mote is not used again: its board is started anew.
+    pub fn hear<N: Nor>(
+        &mut self,
+        nor: &mut N,
+        now: u64,
+        word: u32,
+        bytes: &[u8],
+    ) -> Result<Heard, Stopped>
+        requires mote { (m : MoteState) × (s : Store) × IsMote (N.device nor.old).image self.old m s × Timely m now }
+        requires moment { now < 2 ^ 62 }
+        ensures done { IfOk result (λ heard. (m : MoteState) (s : Store) → IsMote (N.device nor.old).image self.old m s
+            → Done (heard_of m s now word bytes.now) (N.device nor.old) (N.device nor.new) self.new heard) }
+        ensures same_reference { (N.device nor.new).references ≡ (N.device nor.old).references }
+        ensures stopped { OnErr result ((m : MoteState) (s : Store) → IsMote (N.device nor.old).image self.old m s
+            → Stops (heard_of m s now word bytes.now).trail (N.device nor.old) (N.device nor.new)) }
+    {
+        match read(bytes) {
+            Err(fault) => Ok(Heard::Refused(fault)),
+            Ok(message) => self.hear_message(nor, now, word, message),
+        }
+    }
+
+    /// A message was heard. The mote's own are dropped.
+    fn hear_message<N: Nor>(
+        &mut self,
+        nor: &mut N,
+        now: u64,
+        word: u32,
+        message: Message,
+    ) -> Result<Heard, Stopped>
+        requires mote { (m : MoteState) × (s : Store) × IsMote (N.device nor.old).image self.old m s }
+        requires moment { now < 2 ^ 62 }
+        requires range { IsInRange message }
+        ensures done { IfOk result (λ heard. (m : MoteState) (s : Store) → IsMote (N.device nor.old).image self.old m s
+            → Done (by_message (Ok message) m s now word) (N.device nor.old) (N.device nor.new) self.new heard) }
+        ensures same_reference { (N.device nor.new).references ≡ (N.device nor.old).references }
+        ensures stopped { OnErr result ((m : MoteState) (s : Store) → IsMote (N.device nor.old).image self.old m s
+            → Stops (by_message (Ok message) m s now word).trail (N.device nor.old) (N.device nor.new)) }
+    {
+        if source(&message) == self.id {
+            return Ok(Heard::Dropped);
+        }
+        match message {
+            Message::Advert {
+                source,
+                entries,
+                order,
+            } => self.hear_advert(nor, now, word, source, &entries, &order),
+            Message::Request {
+                to,
+                image,
+                version,
+                page,
+                want,
+                ..
+            } => {
+                let name = PageName {
+                    image,
+                    version,
+                    page,
+                };
+                Ok(self.hear_request(now, to, name, want))
+            }
+            Message::Packet {
+                image,
+                version,
+                page,
+                packet,
+                bytes,
+                ..
+            } => {
+                let name = PageName {
+                    image,
+                    version,
+                    page,
+                };
+                self.hear_packet(nor, now, word, name, packet, &bytes)
+            }
+        }
+    }
+}
+
+/// The mote that sends a message.
+fn source(message: &Message) -> u16
+    ensures { result ≡ source_of message.now }
+{
+    match message {
+        Message::Advert { source, .. }
+        | Message::Request { source, .. }
+        | Message::Packet { source, .. } => *source,
+    }
+}

@@ -1,0 +1,130 @@
+//! What holds of motes by their rules. These functions do nothing: their contracts are the laws.
+ghost use Rattle.std.specs.Prelude.{◌≡◌, ℕ, ◌<◌, ◌≤◌, ◌^◌, List, length, Ok, IfSome, IfOk};
+ghost use Rattle.dg_nor.specs.Trail.{Trail, last, Leaves};
+ghost use Rattle.dg_nor.specs.Through.{Through};
+ghost use Rattle.dg_object.specs.Object.{Row};
+ghost use Rattle.dg_volume.specs.Store.{Store, IsNear};
+ghost use Rattle.dg_volume.specs.Table.{IsTable};
+ghost use Rattle.dg_volume.specs.Agreement.{Agrees};
+ghost use Rattle.dg_volume.specs.Trails.{BeginsAt};
+ghost use Rattle.dg_frame.specs.Grammar.{message_of};
+ghost use Rattle.dg_frame.specs.Spelling.{frame_of, FitsTypes};
+ghost use Rattle.dg_frame.specs.declared.Message.{Message};
+ghost use Rattle.dg_mote.specs.Sizes.{outbox_bytes, buffered_bytes, most_buffered};
+ghost use Rattle.dg_mote.specs.Model.{MoteState, begun, maintains};
+ghost use Rattle.dg_mote.specs.Ticks.{tick_of};
+ghost use Rattle.dg_mote.specs.Hears.{heard_of};
+ghost use Rattle.dg_mote.specs.Effects.{reset_effect, tick_effect, frame_effect};
+ghost use Rattle.dg_mote.specs.Timely.{Timely};
+ghost use Rattle.dg_mote.specs.declared.mote.Heard.TheVariants.{Bad};
+ghost use Rattle.dg_mote.specs.Agreement.{ModeAgrees, IsHonest};
+ghost use Rattle.dg_mote.specs.Well.{StoreIsWell, IsWell, TurnIsWell, EffectIsWell, SendsHonest};
+ghost use Rattle.dg_mote.specs.Speaking.{OrderFits, Speaks, TurnSpeaks, EffectSpeaks, IsSaid};
+
+use dg_base::checksum_is_a_remainder;
+use dg_frame::{one_reading, one_spelling};
+use dg_object::{a_row_has_a_descriptor, a_row_is_its_pages};
+use dg_slot::a_page_is_its_packets;
+use dg_volume::{
+    a_row_is_filled_page_by_page, a_start_ends, a_table_holds_sound_rows, acts_end,
+    an_agreeing_store_keeps_rows, starts_end, trails_begin, trails_keep_agreement,
+};
+
+/// No moment of a mote is later than the present one, and what is due is due soon. Every effect keeps this.
+pub fn a_mote_stays_timely()
+    ensures begins { (id now word : ℕ) → Timely (begun id now word) now }
+    ensures later { (m : MoteState) (now then : ℕ) → now ≤ then → Timely m now → Timely m then }
+    ensures reloaded { (m : MoteState) (now word : ℕ) → Timely m now → Timely (maintains m now word) now }
+    ensures ticked { (m : MoteState) (s : Store) (now word : ℕ) → Timely m now → Timely (tick_of m s now word).mote now }
+    ensures heard { (m : MoteState) (s : Store) (now word : ℕ) (bytes : List ℕ) → Timely m now → Timely (heard_of m s now word bytes).mote now }
+{}
+
+/// The trails of steps begin at the store before them, and may follow others.
+pub fn steps_begin()
+    ensures ticked { (m : MoteState) (s : Store) (now word : ℕ) → BeginsAt s (tick_of m s now word).trail }
+    ensures heard { (m : MoteState) (s : Store) (now word : ℕ) (bytes : List ℕ) → BeginsAt s (heard_of m s now word bytes).trail }
+{
+    trails_begin();
+}
+
+/// An agreeing mote that ticks, or hears an honest frame, still agrees, and so does every store on the way. What it sends
+/// is honest, and a page that came in honest packets is never Bad.
+pub fn a_mote_keeps_agreement()
+    ensures begins { (table : List Row) (s : Store) (id now word : ℕ) → ModeAgrees table s (begun id now word).mode }
+    ensures ticked { (table : List Row) (m : MoteState) (s : Store) (now word : ℕ) → Agrees table s → ModeAgrees table s m.mode
+        → Through (Agrees table) (tick_of m s now word).trail × ModeAgrees table (last (tick_of m s now word).trail) (tick_of m s now word).mote.mode }
+    ensures honest { (table : List Row) (m : MoteState) (s : Store) (now word : ℕ) → Agrees table s → ModeAgrees table s m.mode
+        → SendsHonest table (tick_of m s now word).sent }
+    ensures heard { (table : List Row) (m : MoteState) (s : Store) (now word : ℕ) (bytes : List ℕ) → IsTable table → IsHonest table bytes → StoreIsWell table s → ModeAgrees table s m.mode
+        → Through (StoreIsWell table) (heard_of m s now word bytes).trail × ModeAgrees table (last (heard_of m s now word bytes).trail) (heard_of m s now word bytes).mote.mode }
+    ensures sealed { (table : List Row) (m : MoteState) (s : Store) (now word : ℕ) (bytes : List ℕ) → IsTable table → IsHonest table bytes → StoreIsWell table s → ModeAgrees table s m.mode
+        → (image page : ℕ) → (heard_of m s now word bytes).answer ≡ Bad image page → ⊥ }
+{
+    a_table_holds_sound_rows();
+    a_row_is_filled_page_by_page();
+    trails_begin();
+    trails_keep_agreement();
+    acts_end();
+    an_agreeing_store_keeps_rows();
+    a_page_is_its_packets();
+    a_row_is_its_pages();
+    one_reading();
+}
+
+/// A mote that agrees and is in time stays so as it ticks, at any moment and with any word, as it hears honest frames and
+/// as it starts, and every store on the way agrees, also one that a stop leaves. A start over such a store finds an
+/// image, which is a row of the table.
+pub fn a_mote_stays_well()
+    ensures begins { (table : List Row) (s : Store) (id now word : ℕ) → StoreIsWell table s → IsWell table (begun id now word) s now }
+    ensures later { (table : List Row) (m : MoteState) (s : Store) (now then : ℕ) → now ≤ then → IsWell table m s now → IsWell table m s then }
+    ensures reloaded { (table : List Row) (m : MoteState) (s : Store) (now word : ℕ) → Timely m now → StoreIsWell table s → IsWell table (maintains m now word) s now }
+    ensures ticked { (table : List Row) (m : MoteState) (s : Store) (now word : ℕ) → IsWell table m s now → TurnIsWell table (tick_of m s now word) now }
+    ensures heard { (table : List Row) (m : MoteState) (s : Store) (now word : ℕ) (bytes : List ℕ) → IsTable table → IsHonest table bytes → IsWell table m s now → TurnIsWell table (heard_of m s now word bytes) now }
+    ensures tick_effect { (table : List Row) (m : MoteState) (s : Store) (now word : ℕ) → IsTable table → IsWell table m s now → EffectIsWell table (tick_effect m s now word) now }
+    ensures frame_effect { (table : List Row) (m : MoteState) (s : Store) (now word : ℕ) (bytes : List ℕ) → IsTable table → IsHonest table bytes → IsWell table m s now → EffectIsWell table (frame_effect m s now word bytes) now }
+    ensures reset_effect { (table : List Row) (s : Store) (id now word : ℕ) → IsTable table → StoreIsWell table s → EffectIsWell table (reset_effect s id now word) now }
+    ensures stopped { (table : List Row) (t : Trail Store) (k : ℕ) (s : Store) → Through (StoreIsWell table) t → Leaves IsNear t k s → StoreIsWell table s }
+{
+    a_mote_keeps_agreement();
+    trails_begin();
+    trails_keep_agreement();
+    a_start_ends();
+    starts_end();
+    a_table_holds_sound_rows();
+    a_row_is_its_pages();
+}
+
+/// What a well mote sends is honest, names the mote, and is read as it was said, where its id has two bytes and its
+/// store's order fits into a frame. Ticks, starts and frames whose fields fit keep this.
+pub fn what_is_sent_is_read()
+    ensures said { (table : List Row) (m : MoteState) (s : Store) (now word : ℕ) → IsTable table → IsWell table m s now → Speaks m s → IfSome (tick_of m s now word).sent (IsSaid m.id) }
+    ensures honest { (table : List Row) (m : MoteState) (s : Store) (now word : ℕ) → IsTable table → IsWell table m s now → Speaks m s
+        → IfSome (tick_of m s now word).sent (λ message. IsHonest table (frame_of message)) }
+    ensures begins { (s : Store) (id now word : ℕ) → id < 2 ^ 16 → OrderFits s.order → Speaks (begun id now word) s }
+    ensures ticked { (m : MoteState) (s : Store) (now word : ℕ) → Speaks m s → TurnSpeaks m.id (tick_of m s now word) }
+    ensures heard { (m : MoteState) (s : Store) (now word : ℕ) (bytes : List ℕ) → IfOk (message_of bytes) FitsTypes → Speaks m s → TurnSpeaks m.id (heard_of m s now word bytes) }
+    ensures tick_effect { (m : MoteState) (s : Store) (now word : ℕ) → Speaks m s → EffectSpeaks m.id (tick_effect m s now word) }
+    ensures frame_effect { (m : MoteState) (s : Store) (now word : ℕ) (bytes : List ℕ) → IfOk (message_of bytes) FitsTypes → Speaks m s → EffectSpeaks m.id (frame_effect m s now word bytes) }
+    ensures reset_effect { (s : Store) (id now word : ℕ) → id < 2 ^ 16 → OrderFits s.order → EffectSpeaks id (reset_effect s id now word) }
+    ensures stopped { (t : Trail Store) (k : ℕ) (s : Store) → Through (λ x. OrderFits x.order) t → Leaves IsNear t k s → OrderFits s.order }
+{
+    a_mote_keeps_agreement();
+    trails_begin();
+    a_start_ends();
+    a_table_holds_sound_rows();
+    a_row_is_its_pages();
+    a_row_has_a_descriptor();
+    checksum_is_a_remainder();
+    one_reading();
+    one_spelling();
+}
+
+/// The fixed arrays of a mote and its calls have 244 bytes, and so no more than 256. Each frame that is read has room in
+/// the outbox.
+pub fn a_mote_buffers_little()
+    ensures counted { buffered_bytes ≡ 244 }
+    ensures few { buffered_bytes ≤ most_buffered }
+    ensures frames { (bytes : List ℕ) (message : Message) → message_of bytes ≡ Ok message → length bytes ≤ outbox_bytes }
+{
+    one_reading();
+}

@@ -1,0 +1,28 @@
+//! One mote over the flash of its board: it says what it keeps, asks for what it lacks, and serves what it is asked for.
+//!
+//! The three states and the rules of asking and serving are those of Deluge (Hui and Culler, SenSys 2004); adverts are
+//! timed by Trickle (RFC 6206). A mote keeps no packet bytes and allocates nothing.
+#![tactic(auto)]
+
+mod adverts;
+mod hearing;
+mod laws;
+mod mote;
+mod outbox;
+mod packets;
+mod requests;
+mod rules;
+mod summary;
+mod ticking;
+
+pub use laws::{
+    a_mote_buffers_little, a_mote_keeps_agreement, a_mote_stays_timely, a_mote_stays_well,
+    steps_begin, what_is_sent_is_read,
+};
+pub use mote::{Did, Heard, Mode, Mote};
+pub use outbox::Outbox;
+pub use rules::{
+    a_frame_is_heard_in_silence, a_restart_is_for_the_order, an_equal_advert_keeps_a_mote_silent,
+    an_overheard_frame_keeps_a_mote_from_asking, pages_are_handed_on_before_the_image_is_whole,
+    requests_are_sets,
+};

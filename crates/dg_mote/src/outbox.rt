@@ -1,0 +1,37 @@
+//! The frame that a mote sends.
+ghost use Rattle.std.specs.Prelude.{◌≡◌, true, Some, None, option_map};
+ghost use Rattle.dg_frame.specs.Grammar.{in_range};
+ghost use Rattle.dg_frame.specs.Spelling.{frame_of};
+ghost use Rattle.dg_mote.specs.Motes.{sent_in};
+
+use dg_frame::{Frame, Message, write};
+
+/// At most one frame.
+#[derive(Drop)]
+pub struct Outbox {
+    pub(crate) frame: Option<Frame>,
+}
+
+impl Outbox {
+    pub fn new() -> Outbox
+        ensures { sent_in result ≡ None }
+    {
+        Outbox { frame: None }
+    }
+
+    /// Takes the frame out, if there is one.
+    pub fn take(&mut self) -> Option<Frame>
+        ensures taken { option_map (λ f. f.items) result ≡ sent_in self.old }
+        ensures empty { sent_in self.new ≡ None }
+    {
+        self.frame.take()
+    }
+
+    /// Puts the frame of a message in.
+    pub(crate) fn put(&mut self, message: &Message)
+        requires { in_range message.now ≡ true }
+        ensures { sent_in self.new ≡ Some (frame_of message.now) }
+    {
+        self.frame = Some(write(message));
+    }
+}

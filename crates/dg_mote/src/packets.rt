@@ -1,0 +1,204 @@
+//! Packets that are heard: put into the page that is asked for, which is sealed when it is whole, or noted.
+ghost use Rattle.std.specs.Prelude.{◌≡◌, ◌≢◌, ◌↔◌, ℕ, ◌+◌, ◌<◌, ◌≤◌, ◌^◌, true, false, List, Some, length, is_some, IfOk, OnOk, OnErr};
+ghost use Rattle.std.specs.FinSet as set;
+ghost use Rattle.dg_nor.specs.Chip.{Touches};
+ghost use Rattle.dg_nor.specs.Device.{Ran, Halts};
+ghost use Rattle.dg_trickle.specs.Timer.{Timer};
+ghost use Rattle.dg_recv.specs.Steps.{after_accept};
+ghost use Rattle.dg_frame.specs.Sizes.{last_packet};
+ghost use Rattle.dg_frame.specs.Ranges.{PageInRange};
+ghost use Rattle.dg_slot.specs.Layout.{packets};
+ghost use Rattle.dg_slot.specs.Kept.{Held};
+ghost use Rattle.dg_slot.specs.Fits.{may_seal};
+ghost use Rattle.dg_slot.specs.Jobs.{IsOpen, IsJob, Packets, put_packet, page_from, outline_told, slot_of, slot_in, got_told, sector_of};
+ghost use Rattle.dg_volume.specs.Store.{Store};
+ghost use Rattle.dg_volume.specs.Stands.{is_lent, Mounted};
+ghost use Rattle.dg_volume.specs.Acts.{Acted, Stops};
+ghost use Rattle.dg_volume.specs.Trails.{sealing_trail};
+ghost use Rattle.dg_mote.specs.Model.{MoteState, Maintain, Receive, Receiving};
+ghost use Rattle.dg_mote.specs.Packets.{is_wanted, on_packet};
+ghost use Rattle.dg_mote.specs.Motes.{IsMote, Receives, Done};
+ghost use Rattle.dg_mote.specs.Hearing.{Rests, Fills, is_sealed, IsWhole, page_ends};
+
+use crate::requests::PageName;
+use crate::{Heard, Mode, Mote};
+use dg_frame::{PACKET_BYTES, PACKETS};
+use dg_nor::{Nor, Stopped};
+use dg_recv::Asking;
+use dg_slot::{OpenSlot, PageJob, Sealing};
+use dg_trickle::Trickle;
+use dg_volume::Volume;
+use std::mem;
+
+impl Mote {
+    /// A packet of a page was heard.
+    pub(crate) fn hear_packet<N: Nor>(
+        &mut self,
+        nor: &mut N,
+        now: u64,
+        word: u32,
+        name: PageName,
+        packet: u8,
+        bytes: &[u8; PACKET_BYTES],
+    ) -> Result<Heard, Stopped>
+        requires mote { (m : MoteState) × (s : Store) × IsMote (N.device nor.old).image self.old m s }
+        requires moment { now < 2 ^ 62 }
+        requires range { PageInRange name.image name.version name.page }
+        requires in_page { packet ≤ last_packet }
+        ensures done { IfOk result (λ heard. (m : MoteState) (s : Store) → IsMote (N.device nor.old).image self.old m s
+            → Done (on_packet m.mode m s now word name.image name.version name.page packet bytes.now) (N.device nor.old) (N.device nor.new) self.new heard) }
+        ensures same_reference { (N.device nor.new).references ≡ (N.device nor.old).references }
+        ensures stopped { OnErr result ((m : MoteState) (s : Store) → IsMote (N.device nor.old).image self.old m s
+            → Stops (on_packet m.mode m s now word name.image name.version name.page packet bytes.now).trail (N.device nor.old) (N.device nor.new)) }
+    {
+        match self.mode {
+            Mode::Maintain(_) => Ok(self.overhear_packet(now, name)),
+            Mode::Receive { .. } => self.take_packet(nor, now, word, name, packet, bytes),
+            Mode::Transmit { .. } => Ok(Heard::Dropped),
+        }
+    }
+
+    /// A page is sent to another mote: that is noted where it would be of use here.
+    fn overhear_packet(&mut self, now: u64, name: PageName) -> Heard
+        requires { PageInRange name.image name.version name.page }
+        ensures { (c : List ℕ) (m : MoteState) (s : Store) (timer : Timer) (word packet : ℕ) (bytes : List ℕ) → IsMote c self.old m s
+            → Rests (on_packet (Maintain timer) m s now word name.image name.version name.page packet bytes) c s self.new result }
+    {
+        if !self.concerns(name) {
+            return Heard::Dropped;
+        }
+        self.windows.note_packet(now, name.image);
+        Heard::Noted
+    }
+
+    /// Takes a packet that is missing of the page that is asked for. The last one makes the page whole.
+    fn take_packet<N: Nor>(
+        &mut self,
+        nor: &mut N,
+        now: u64,
+        word: u32,
+        name: PageName,
+        packet: u8,
+        bytes: &[u8; PACKET_BYTES],
+    ) -> Result<Heard, Stopped>
+        requires mote { (m : MoteState) × (s : Store) × (r : Receiving) × IsMote (N.device nor.old).image self.old m s × (m.mode ≡ Receive r) }
+        requires moment { now < 2 ^ 62 }
+        requires range { PageInRange name.image name.version name.page }
+        requires in_page { packet ≤ last_packet }
+        ensures done { IfOk result (λ heard. (m : MoteState) (s : Store) (r : Receiving) → IsMote (N.device nor.old).image self.old m s → m.mode ≡ Receive r
+            → Done (on_packet (Receive r) m s now word name.image name.version name.page packet bytes.now) (N.device nor.old) (N.device nor.new) self.new heard) }
+        ensures same_reference { (N.device nor.new).references ≡ (N.device nor.old).references }
+        ensures stopped { OnErr result ((m : MoteState) (s : Store) (r : Receiving) → IsMote (N.device nor.old).image self.old m s → m.mode ≡ Receive r
+            → Stops (on_packet (Receive r) m s now word name.image name.version name.page packet bytes.now).trail (N.device nor.old) (N.device nor.new)) }
+    {
+        let Mode::Receive {
+            version,
+            asking,
+            job,
+            ..
+        } = &mut self.mode
+        else {
+            return Ok(Heard::Dropped);
+        };
+        if !is_wanted(*version, job, name, packet) {
+            return Ok(Heard::Dropped);
+        }
+        put(nor, now, asking, job, packet, bytes)?;
+        if usize::from(asking.got().count()) < PACKETS {
+            return Ok(Heard::Took { packet });
+        }
+        self.end_page(nor, now, word)
+    }
+
+    /// Seals the page that is whole, and maintains anew.
+    fn end_page<N: Nor>(&mut self, nor: &mut N, now: u64, word: u32) -> Result<Heard, Stopped>
+        requires moment { now < 2 ^ 62 }
+        requires whole { (m : MoteState) × (s : Store) × (r : Receiving) × (h : Held) × (ps : Packets) × IsWhole (N.device nor.old).image self.old m s r h ps }
+        ensures done { IfOk result (λ heard. (m : MoteState) (s : Store) (r : Receiving) (h : Held) (ps : Packets) → IsWhole (N.device nor.old).image self.old m s r h ps
+            → Done (page_ends m r h s now word (page_from ps)) (N.device nor.old) (N.device nor.new) self.new heard) }
+        ensures same_reference { (N.device nor.new).references ≡ (N.device nor.old).references }
+        ensures stopped { OnErr result ((m : MoteState) (s : Store) (r : Receiving) (h : Held) (ps : Packets) → IsWhole (N.device nor.old).image self.old m s r h ps
+            → Stops (page_ends m r h s now word (page_from ps)).trail (N.device nor.old) (N.device nor.new)) }
+    {
+        let maintain = Mode::Maintain(Trickle::new(now, word));
+        let Mode::Receive { job, .. } = mem::replace(&mut self.mode, maintain) else {
+            unreachable!();
+        };
+        let image = job.image();
+        let page = job.page();
+        if seal(nor, &mut self.volume, job)? {
+            Ok(Heard::Sealed { image, page })
+        } else {
+            Ok(Heard::Bad { image, page })
+        }
+    }
+}
+
+/// Whether a packet is missing of the page that a job fills.
+fn is_wanted(version: u32, job: &PageJob, name: PageName, packet: u8) -> bool
+    requires { packet ≤ last_packet }
+    ensures value { (c : List ℕ) (h : Held) (r : Receiving) → IsJob c job.now h r.packets → (outline_told (slot_of job.now)).image ≡ r.image → version ≡ r.version → length h.complete ≡ r.page
+        → result ≡ is_wanted r name.image name.version name.page packet }
+    ensures missing { result ≡ true → set.contains (got_told job.now) packet ≡ false }
+{
+    job.image() == name.image
+        && version == name.version
+        && job.page() == name.page
+        && !job.got().has(packet)
+}
+
+/// Programs a packet that was missing. 1 operation.
+fn put<N: Nor>(
+    nor: &mut N,
+    now: u64,
+    asking: &mut Asking,
+    job: &mut PageJob,
+    packet: u8,
+    bytes: &[u8; PACKET_BYTES],
+) -> Result<(), Stopped>
+    requires moment { now < 2 ^ 62 }
+    requires known { packet < packets }
+    requires missing { set.contains (got_told job.old) packet ≡ false }
+    ensures put { OnOk result ((h : Held) (ps : Packets) → IsJob (N.device nor.old).image job.old h ps
+        → IsJob (N.device nor.new).image job.new h (put_packet ps packet bytes.now)) }
+    ensures asking { OnOk result (asking.new ≡ after_accept asking.old now packet) }
+    ensures same_slot { slot_of job.new ≡ slot_of job.old }
+    ensures ran { OnOk result (Ran 1 (N.device nor.old) (N.device nor.new)) }
+    ensures same_reference { (N.device nor.new).references ≡ (N.device nor.old).references }
+    ensures touches { Touches (sector_of job.old) (sector_of job.old + 1) (N.device nor.old).image (N.device nor.new).image }
+    ensures kept { (h : Held) → IsOpen (N.device nor.old).image (slot_of job.old) h
+        → IsOpen (N.device nor.new).image (slot_of job.old) h }
+    ensures stopped { OnErr result (Halts 1 0 (N.device nor.old) (N.device nor.new)) }
+{
+    job.put(nor, packet, bytes)?;
+    asking.accept(now, packet);
+    Ok(())
+}
+
+/// Makes a page complete that is whole, where it fits: the answer says whether it does. The slot goes back.
+fn seal<N: Nor>(nor: &mut N, volume: &mut Volume, job: PageJob) -> Result<bool, Stopped>
+    requires whole { (q : ℕ) → q < packets → set.contains (got_told job) q ≡ true }
+    requires lent { is_lent volume.old (outline_told (slot_of job)).image ≡ true }
+    ensures sealed { IfOk result (λ fits. (s : Store) (image : ℕ) (h : Held) (ps : Packets) → Mounted (N.device nor.old).image volume.old s → Fills (N.device nor.old).image s image job h ps
+        → (fits ≡ may_seal image h (page_from ps)) × Acted (sealing_trail s image h (page_from ps)) (N.device nor.old) (N.device nor.new) volume.new) }
+    ensures back { OnOk result (is_lent volume.new (outline_told (slot_of job)).image ≡ false) }
+    ensures others { (i : ℕ) → i ≢ (outline_told (slot_of job)).image → is_lent volume.new i ≡ is_lent volume.old i }
+    ensures same_reference { (N.device nor.new).references ≡ (N.device nor.old).references }
+    ensures stopped { OnErr result ((s : Store) (image : ℕ) (h : Held) (ps : Packets) → Mounted (N.device nor.old).image volume.old s → Fills (N.device nor.old).image s image job h ps
+        → Stops (sealing_trail s image h (page_from ps)) (N.device nor.old) (N.device nor.new)) }
+{
+    let (fits, slot) = opened(job.seal(nor)?);
+    volume.put_back(slot);
+    Ok(fits)
+}
+
+/// Whether a page was made complete, and the slot.
+fn opened(sealing: Sealing) -> (bool, OpenSlot)
+    ensures fits { result.0 ≡ is_sealed sealing }
+    ensures slot { result.1 ≡ slot_in sealing }
+{
+    match sealing {
+        Sealing::Sealed(slot) => (true, slot),
+        Sealing::Bad { slot, .. } | Sealing::Unfit { slot } => (false, slot),
+    }
+}

@@ -1,0 +1,140 @@
+//! Requests that are heard: served, merged with what is owed, or noted.
+ghost use Rattle.std.specs.Prelude.{◌≡◌, ◌≢◌, ℕ, List};
+ghost use Rattle.std.specs.FinSet as set;
+ghost use Rattle.dg_frame.specs.Ranges.{PageInRange};
+ghost use Rattle.dg_volume.specs.Store.{Store};
+ghost use Rattle.dg_trickle.specs.Timer.{Timer};
+ghost use Rattle.dg_mote.specs.Model.{MoteState, Maintain, Transmit, Sending};
+ghost use Rattle.dg_mote.specs.Requests.{concerns, can_serve, overheard, to_it, on_request};
+ghost use Rattle.dg_mote.specs.Motes.{IsMote};
+ghost use Rattle.dg_mote.specs.Hearing.{Rests};
+
+use crate::{Heard, Mode, Mote};
+use dg_bits::PageBits;
+use dg_frame::PACKETS;
+use dg_send::Serving;
+
+/// A page of a version of an image.
+#[derive(Clone, Copy)]
+pub(crate) struct PageName {
+    pub image: u8,
+    pub version: u32,
+    pub page: u8,
+}
+
+impl Mote {
+    /// A request of these packets of a page was heard, which is made of the mote `to`.
+    pub(crate) fn hear_request(
+        &mut self,
+        now: u64,
+        to: u16,
+        name: PageName,
+        want: PageBits<PACKETS>,
+    ) -> Heard
+        requires range { PageInRange name.image name.version name.page }
+        requires some { want ≢ set.empty }
+        ensures { (c : List ℕ) (m : MoteState) (s : Store) → IsMote c self.old m s
+            → Rests (on_request m s now to name.image name.version name.page want) c s self.new result }
+    {
+        if to == self.id {
+            self.answer_request(now, name, want)
+        } else {
+            self.overhear_request(now, name)
+        }
+    }
+
+    /// Another mote is asked for a page: that is noted where it would be of use here.
+    fn overhear_request(&mut self, now: u64, name: PageName) -> Heard
+        requires { PageInRange name.image name.version name.page }
+        ensures { (c : List ℕ) (m : MoteState) (s : Store) → IsMote c self.old m s
+            → Rests (overheard m s now name.image name.version name.page) c s self.new result }
+    {
+        if !self.concerns(name) {
+            return Heard::Dropped;
+        }
+        self.windows.note_request(now, name.image);
+        Heard::Noted
+    }
+
+    /// This mote is asked for a page.
+    fn answer_request(&mut self, now: u64, name: PageName, want: PageBits<PACKETS>) -> Heard
+        requires range { PageInRange name.image name.version name.page }
+        requires some { want ≢ set.empty }
+        ensures { (c : List ℕ) (m : MoteState) (s : Store) → IsMote c self.old m s
+            → Rests (to_it m.mode m s now name.image name.version name.page want) c s self.new result }
+    {
+        match self.mode {
+            Mode::Maintain(_) => self.serve(now, name, want),
+            Mode::Transmit { .. } => self.serve_more(name, want),
+            Mode::Receive { .. } => Heard::Dropped,
+        }
+    }
+
+    /// Begins to serve a page, where it is kept.
+    fn serve(&mut self, now: u64, name: PageName, want: PageBits<PACKETS>) -> Heard
+        requires range { PageInRange name.image name.version name.page }
+        requires some { want ≢ set.empty }
+        ensures { (c : List ℕ) (m : MoteState) (s : Store) (timer : Timer) → IsMote c self.old m s → m.mode ≡ Maintain timer
+            → Rests (to_it (Maintain timer) m s now name.image name.version name.page want) c s self.new result }
+    {
+        if !self.can_serve(name) {
+            return Heard::Dropped;
+        }
+        self.mode = Mode::Transmit {
+            image: name.image,
+            version: name.version,
+            page: name.page,
+            serving: Serving::new(now, want),
+        };
+        Heard::Serves {
+            image: name.image,
+            page: name.page,
+        }
+    }
+
+    /// Adds what a further request asks for, where it is of the page that is served.
+    fn serve_more(&mut self, name: PageName, want: PageBits<PACKETS>) -> Heard
+        ensures { (c : List ℕ) (m : MoteState) (s : Store) (t : Sending) (now : ℕ) → IsMote c self.old m s → m.mode ≡ Transmit t
+            → Rests (to_it (Transmit t) m s now name.image name.version name.page want) c s self.new result }
+    {
+        let Mode::Transmit {
+            image,
+            version,
+            page,
+            serving,
+        } = &mut self.mode
+        else {
+            return Heard::Dropped;
+        };
+        if *image != name.image || *version != name.version || *page != name.page {
+            return Heard::Dropped;
+        }
+        serving.merge(&want);
+        Heard::Merged
+    }
+
+    /// Whether a page, or a later one of that version, is one that would be of use here.
+    pub(crate) fn concerns(&self, name: PageName) -> bool
+        requires { PageInRange name.image name.version name.page }
+        ensures { (c : List ℕ) (m : MoteState) (s : Store) → IsMote c self.now m s
+            → result ≡ concerns s name.image name.version name.page }
+    {
+        match self.volume.kept(name.image) {
+            Some(kept) if kept.version == name.version => name.page <= kept.done,
+            Some(kept) => kept.version < name.version && name.page == 0,
+            None => name.page == 0,
+        }
+    }
+
+    /// Whether a page is kept.
+    fn can_serve(&self, name: PageName) -> bool
+        requires { PageInRange name.image name.version name.page }
+        ensures { (c : List ℕ) (m : MoteState) (s : Store) → IsMote c self.now m s
+            → result ≡ can_serve s name.image name.version name.page }
+    {
+        match self.volume.kept(name.image) {
+            Some(kept) => kept.version == name.version && name.page < kept.done,
+            None => false,
+        }
+    }
+}

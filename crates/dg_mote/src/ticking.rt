@@ -1,0 +1,229 @@
+//! What a mote does as time passes.
+ghost use Rattle.std.specs.Prelude.{◌≡◌, ℕ, ◌<◌, ◌^◌, None, IfOk, OnOk, OnErr, List, Option, option_map};
+ghost use Rattle.dg_nor.specs.Reads.{ReadEnds};
+ghost use Rattle.dg_frame.specs.Spelling.{frame_of};
+ghost use Rattle.dg_frame.specs.declared.Message.TheVariants as message;
+ghost use Rattle.dg_slot.specs.Layout.{slots, most_pages, packets, page_sector};
+ghost use Rattle.dg_slot.specs.Pages.{packet_in};
+ghost use Rattle.dg_slot.specs.Kept.{Held};
+ghost use Rattle.dg_slot.specs.Jobs.{outline_told, done_told, slot_of};
+ghost use Rattle.dg_volume.specs.Store.{Store};
+ghost use Rattle.dg_volume.specs.Told.{told};
+ghost use Rattle.dg_volume.specs.Stands.{Tells, IsMounted};
+ghost use Rattle.dg_volume.specs.Start.{is_whole, order_waits};
+ghost use Rattle.dg_volume.specs.Acts.{Stops};
+ghost use Rattle.dg_order.specs.Pending.{is_some_version};
+ghost use Rattle.dg_mote.specs.Model.{MoteState, Maintain};
+ghost use Rattle.dg_mote.specs.Ticks.{clears, maintain_tick, mode_tick, tick_of};
+ghost use Rattle.dg_mote.specs.Timely.{Timely};
+ghost use Rattle.dg_mote.specs.Motes.{IsMote, Done, sent_in};
+ghost use Rattle.dg_mote.specs.Shows.{Shows};
+
+use crate::summary::advert_message;
+use crate::{Did, Mode, Mote, Outbox};
+use dg_bits::PageBits;
+use dg_frame::{Message, PACKET_BYTES, PACKETS};
+use dg_nor::{Nor, Stopped};
+use dg_order::pending;
+use dg_recv::Ask;
+use dg_send::Serve;
+use dg_slot::{PageJob, read_packet};
+use dg_trickle::{Act, Trickle};
+use dg_volume::{Kept, Volume};
+
+/// A mote that runs so long clears the count of short starts, in milliseconds.
+const LONG_RUN: u64 = 5_000;
+
+impl Mote {
+    /// Does what is due at this moment, the first that fits.
+    ///
+    /// After five seconds it clears the count of short starts. As it maintains it answers `Restart` where an order waits,
+    /// and sends an advert where its timer fires (Trickle, RFC 6206). As it receives it sends a request where that is due,
+    /// and after eight of them gives the page up. As it transmits it sends the least packet that is owed. A frame is put
+    /// into the outbox exactly where the answer is `Sent`.
+    pub fn tick<N: Nor>(
+        &mut self,
+        nor: &mut N,
+        now: u64,
+        word: u32,
+        out: &mut Outbox,
+    ) -> Result<Did, Stopped>
+        requires mote { (m : MoteState) × (s : Store) × IsMote (N.device nor.old).image self.old m s × Timely m now }
+        requires moment { now < 2 ^ 62 }
+        requires empty { sent_in out.old ≡ None }
+        ensures done { IfOk result (λ did. (m : MoteState) (s : Store) → IsMote (N.device nor.old).image self.old m s
+            → Done (tick_of m s now word) (N.device nor.old) (N.device nor.new) self.new did) }
+        ensures sent { OnOk result ((m : MoteState) (s : Store) → IsMote (N.device nor.old).image self.old m s
+            → sent_in out.new ≡ option_map frame_of (tick_of m s now word).sent) }
+        ensures same_reference { (N.device nor.new).references ≡ (N.device nor.old).references }
+        ensures stopped { OnErr result ((m : MoteState) (s : Store) → IsMote (N.device nor.old).image self.old m s
+            → Stops (tick_of m s now word).trail (N.device nor.old) (N.device nor.new)) }
+        ensures nothing_sent { OnErr result (sent_in out.new ≡ None) }
+    {
+        if self.clears(now) {
+            self.volume.clear_gesture(nor)?;
+            return Ok(Did::Idle);
+        }
+        self.tick_mode(nor, now, word, out)
+    }
+
+    /// Whether it ran long enough to clear the count of short starts, where there are any, and room.
+    fn clears(&self, now: u64) -> bool
+        ensures { (m : MoteState) (s : Store) → self.now.since ≡ m.since → Tells self.now.volume s → result ≡ clears m s now }
+    {
+        self.volume.snapshot().gesture >= 1
+            && now.saturating_sub(self.since) >= LONG_RUN
+            && self.volume.room() >= 1
+    }
+
+    /// Does what its mode asks for.
+    fn tick_mode<N: Nor>(
+        &mut self,
+        nor: &mut N,
+        now: u64,
+        word: u32,
+        out: &mut Outbox,
+    ) -> Result<Did, Stopped>
+        requires mote { (m : MoteState) × (s : Store) × IsMote (N.device nor.old).image self.old m s }
+        requires moment { now < 2 ^ 62 }
+        requires empty { sent_in out.old ≡ None }
+        ensures done { IfOk result (λ did. (m : MoteState) (s : Store) → IsMote (N.device nor.old).image self.old m s
+            → Done (mode_tick m.mode m s now word) (N.device nor.old) (N.device nor.new) self.new did) }
+        ensures sent { OnOk result ((m : MoteState) (s : Store) → IsMote (N.device nor.old).image self.old m s
+            → sent_in out.new ≡ option_map frame_of (mode_tick m.mode m s now word).sent) }
+        ensures same_reference { (N.device nor.new).references ≡ (N.device nor.old).references }
+        ensures stopped { OnErr result ((m : MoteState) (s : Store) → IsMote (N.device nor.old).image self.old m s
+            → Stops (mode_tick m.mode m s now word).trail (N.device nor.old) (N.device nor.new)) }
+        ensures nothing_sent { OnErr result (sent_in out.new ≡ None) }
+    {
+        match &mut self.mode {
+            Mode::Maintain(trickle) => {
+                Ok(maintain(self.id, &self.volume, trickle, now, word, out))
+            }
+            Mode::Receive {
+                version,
+                server,
+                asking,
+                job,
+            } => match asking.next(now) {
+                Ask::Request(want) => {
+                    out.put(&request_message(self.id, *server, *version, job, want));
+                    Ok(Did::Sent)
+                }
+                Ask::GiveUp => {
+                    self.maintain_anew(now, word);
+                    Ok(Did::Idle)
+                }
+                Ask::Wait => Ok(Did::Idle),
+            },
+            Mode::Transmit {
+                image,
+                version,
+                page,
+                serving,
+            } => match serving.next(now) {
+                Serve::Send(packet) => {
+                    let message = packet_message(nor, self.id, *image, *version, *page, packet)?;
+                    out.put(&message);
+                    if serving.left() == 0 {
+                        self.mode = Mode::Maintain(Trickle::new(now, word));
+                    }
+                    Ok(Did::Sent)
+                }
+                Serve::Done | Serve::Wait => Ok(Did::Idle),
+            },
+        }
+    }
+}
+
+/// What it does as it maintains: it asks for a restart where an order waits, and else it ticks its timer, and advertises
+/// where that says so.
+fn maintain(
+    id: u16,
+    volume: &Volume,
+    trickle: &mut Trickle,
+    now: u64,
+    word: u32,
+    out: &mut Outbox,
+) -> Did
+    requires mounted { (c : List ℕ) × IsMounted c volume.now }
+    requires moment { now < 2 ^ 62 }
+    requires empty { sent_in out.old ≡ None }
+    ensures { (m : MoteState) (s : Store) → m.id ≡ id → m.mode ≡ Maintain trickle.old → Tells volume.now s
+        → Shows (maintain_tick m trickle.old s now word) m s (Maintain trickle.new) out.new result }
+{
+    if order_waits(volume) {
+        return Did::Restart;
+    }
+    match trickle.tick(now, word) {
+        Act::Send => {
+            out.put(&advert_message(id, volume));
+            Did::Sent
+        }
+        Act::Quiet | Act::Expired | Act::Nothing => Did::Idle,
+    }
+}
+
+/// A request for packets of the page that is being filled.
+fn request_message(
+    id: u16,
+    server: u16,
+    version: u32,
+    job: &PageJob,
+    want: PageBits<PACKETS>,
+) -> Message
+    ensures { result ≡ message.Request id server (outline_told (slot_of job.now)).image version (done_told (slot_of job.now)) want }
+{
+    Message::Request {
+        source: id,
+        to: server,
+        image: job.image(),
+        version,
+        page: job.page(),
+        want,
+    }
+}
+
+/// The message of a packet as it stands in its slot.
+fn packet_message<N: Nor>(
+    nor: &mut N,
+    id: u16,
+    image: u8,
+    version: u32,
+    page: u8,
+    packet: u8,
+) -> Result<Message, Stopped>
+    requires known_image { image < slots }
+    requires known_page { page < most_pages }
+    requires known_packet { packet < packets }
+    ensures message { IfOk result (λ x. x ≡ message.Packet id image version page packet (packet_in (N.device nor.old).image (page_sector image page) packet)) }
+    ensures ends { ReadEnds result (N.device nor.old) (N.device nor.new) }
+{
+    let mut bytes = [0; PACKET_BYTES];
+    read_packet(nor, image, page, packet, &mut bytes)?;
+    Ok(Message::Packet {
+        source: id,
+        image,
+        version,
+        page,
+        packet,
+        bytes,
+    })
+}
+
+/// Whether an order waits to be started.
+fn order_waits(volume: &Volume) -> bool
+    ensures { (s : Store) → Tells volume.now s → result ≡ order_waits s }
+{
+    let snapshot = volume.snapshot();
+    let whole = whole_version(volume.kept(snapshot.order.image));
+    pending(&snapshot, whole, volume.room())
+}
+
+/// The version that is kept whole, if any.
+fn whole_version(kept: Option<Kept>) -> Option<u32>
+    ensures { (h : Option Held) (version : ℕ) → kept ≡ told h → is_some_version result version ≡ is_whole h version }
+{
+    kept.filter(|kept| kept.done == kept.pages)
+        .map(|kept| kept.version)
+}
