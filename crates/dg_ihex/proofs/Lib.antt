@@ -1,0 +1,11 @@
+mod DigitLemmas
+mod BlockLemmas
+mod CellLemmas
+mod WindowLemmas
+mod FileLemmas
+mod PassedLemmas
+mod WriterLemmas
+mod ReadBackLemmas
+mod LayLemmas
+mod RoundLemmas
+mod FaultLemmas

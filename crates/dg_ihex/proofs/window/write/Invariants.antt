@@ -1,0 +1,7 @@
+-- the rest of the block, written into the cells so far
+use Rattle.std.proofs.Common.{◌≡◌, ◌+◌, drop}
+use Rattle.dg_ihex.specs.Cells.{written}
+use Rattle.dg_ihex.proofs.window.write.Given as goal
+
+abbrev pub invariant-loop-at : goal.invariant-loop-at
+invariant-loop-at l = written l.cells (l.address + l.at) (drop l.at l.bytes) ≡ written l.fn.cells l.address l.bytes

@@ -1,0 +1,10 @@
+pub mod Causes
+pub mod Records
+pub mod Blocks
+pub mod Cells
+pub mod Windows
+pub mod Files
+pub mod Reading
+pub mod Readers
+pub mod Written
+pub mod Laws

@@ -1,0 +1,36 @@
+-- What a reader tells.
+use Rattle.std.specs.Prelude.{◌≡◌, ◌≢◌, ℕ, List, Option, Some, None, Result, Ok, Err}
+use Rattle.dg_ihex.specs.declared.faults.HexCause.{HexCause}
+use Rattle.dg_ihex.specs.declared.faults.HexFileFault.{HexFileFault}
+use Rattle.dg_ihex.specs.declared.faults.HexCause.TheVariants.{Hex, Memory}
+
+-- a refusal is the one that is defined; nothing is claimed where memory ran out
+abbrev pub Refuses : {A : Type 0} → HexCause → Result A HexCause → Type 0
+Refuses Memory defined = Unit {0}
+Refuses cause defined = defined ≡ Err cause
+
+-- what a reader answered is what is defined
+abbrev pub Reads : {A : Type 0} → Result A HexCause → Result A HexCause → Type 0
+Reads (Ok found) defined = defined ≡ Ok found
+Reads (Err cause) defined = Refuses cause defined
+
+-- a refusal of digits
+abbrev pub RefusesDigits : HexCause → Option (List ℕ) → Type 0
+RefusesDigits Memory defined = Unit {0}
+RefusesDigits Hex defined = defined ≡ None
+RefusesDigits cause defined = ⊥
+
+-- a refusal of a line
+abbrev pub RefusesLine : HexCause → Option HexCause → Type 0
+RefusesLine Memory defined = Unit {0}
+RefusesLine cause defined = defined ≡ Some cause
+
+-- what a step answered: nothing is wrong, and a fact holds behind it; or what is wrong
+abbrev pub Steps : {A : Type 0} → Result A HexCause → Option HexCause → Type 0 → Type 0
+Steps (Ok done) defined After = (defined ≡ None) × After
+Steps (Err cause) defined After = RefusesLine cause defined
+
+-- what the reader of a file answered is what the file gives; nothing is claimed where memory ran out
+abbrev pub ReadsFile : {A : Type 0} → (A → List ℕ) → Result A HexFileFault → Result (List ℕ) HexFileFault → Type 0
+ReadsFile view (Ok image) defined = defined ≡ Ok (view image)
+ReadsFile view (Err fault) defined = fault.cause ≢ Memory → defined ≡ Err fault

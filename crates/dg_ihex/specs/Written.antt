@@ -1,0 +1,61 @@
+-- The HEX file of an image.
+use Rattle.std.specs.Prelude.{ℕ, ◌+◌, ◌-◌, ◌*◌, ◌/◌, ◌%◌, ◌==◌, ◌&&◌, nat_lt, if◌then◌else◌, List, [], ◌∷◌, ◌++◌, length, sum, map, take, drop}
+use Rattle.std.specs.Char.{to_ascii_uppercase}
+use Rattle.std.specs.List.{flat_map, range_with_len}
+use Rattle.dg_base.specs.Hexadecimal.{hex_text}
+use Rattle.dg_ihex.specs.declared.record.TheConstants.{SEGMENT}
+use Rattle.dg_ihex.specs.declared.writer.TheConstants.{PIECE}
+
+-- the byte that makes the sum of bytes 0 modulo 256
+abbrev pub checksum_of : List ℕ → ℕ
+checksum_of bytes = (256 - sum bytes % 256) % 256
+
+abbrev pub with_checksum : List ℕ → List ℕ
+with_checksum bytes = bytes ++ checksum_of bytes ∷ []
+
+-- bytes as hex digits in upper case
+abbrev pub upper_hex : List ℕ → List ℕ
+upper_hex bytes = map to_ascii_uppercase (hex_text bytes)
+
+-- a record of a type, with its offset and its data, but for its checksum
+abbrev pub fields_of : ℕ → ℕ → List ℕ → List ℕ
+fields_of kind offset bytes = length bytes ∷ offset / 256 ∷ offset % 256 ∷ kind ∷ bytes
+
+-- the line of a record
+unfoldable pub line_of : ℕ → ℕ → List ℕ → List ℕ
+line_of kind offset bytes = 58 ∷ upper_hex (with_checksum (fields_of kind offset bytes))
+
+abbrev pub data_line : ℕ → List ℕ → List ℕ
+data_line offset bytes = line_of 0 offset bytes
+
+abbrev pub end_line : List ℕ
+end_line = line_of 1 0 []
+
+-- a base, in units of 65,536
+abbrev pub base_line : ℕ → List ℕ
+base_line units = line_of 4 0 (units / 256 ∷ units % 256 ∷ [])
+
+-- how many pieces of 16 bytes there are, of which the last may be shorter, and such a piece
+abbrev pub pieces_of : ℕ → ℕ
+pieces_of n = (n + (PIECE - 1)) / PIECE
+
+abbrev pub piece_at : List ℕ → ℕ → List ℕ
+piece_at bytes k = take PIECE (drop (k * PIECE) bytes)
+
+-- Before each byte whose address is a positive multiple of 65,536 stands the line of a new base.
+abbrev pub base_lines : ℕ → List (List ℕ)
+base_lines k = if k * PIECE % SEGMENT == 0 && nat_lt 0 k then base_line (k * PIECE / SEGMENT) ∷ [] else []
+
+abbrev pub lines_at : List ℕ → ℕ → List (List ℕ)
+lines_at bytes k = base_lines k ++ data_line (k * PIECE % SEGMENT) (piece_at bytes k) ∷ []
+
+abbrev pub written_lines : List ℕ → List (List ℕ)
+written_lines bytes = flat_map (lines_at bytes) (range_with_len 0 (pieces_of (length bytes))) ++ end_line ∷ []
+
+-- a line, ended by LF
+abbrev pub ended_by_feed : List ℕ → List ℕ
+ended_by_feed text = text ++ 10 ∷ []
+
+-- the file
+unfoldable pub written_file : List ℕ → List ℕ
+written_file bytes = flat_map ended_by_feed (written_lines bytes)

@@ -1,0 +1,33 @@
+//! What holds of HEX files by their definition alone.
+ghost use Rattle.std.specs.Prelude.{◌≡◌, ℕ, ◌-◌, ◌<◌, ◌≤◌, List, length, All, slice_get, Some, None, Ok, Err};
+ghost use Rattle.std.specs.Str.Lines.{lines};
+ghost use Rattle.dg_ihex.specs.Blocks.{Block, byte_at, image_of, lowest_of, past_of};
+ghost use Rattle.dg_ihex.specs.Files.{blocks_of, hex_file, records_of};
+ghost use Rattle.dg_ihex.specs.Laws.{IsFirstFault, fault_behind_lines};
+ghost use Rattle.dg_ihex.specs.Written.{written_file};
+ghost use Rattle.dg_ihex.specs.declared.faults.HexFileFault.{HexFileFault};
+ghost use Rattle.dg_ihex.specs.declared.window.TheConstants.{MOST_IMAGE};
+
+/// A file that is written is read again, and gives the image that was written.
+pub fn a_written_file_is_read_again()
+    ensures { (image : List ℕ) → 1 ≤ length image → length image ≤ MOST_IMAGE → All (λ b. b < 256) image
+        → hex_file (written_file image) ≡ Ok image }
+{}
+
+/// A file is refused by its first fault, and one without a fault gives the image of its records.
+pub fn a_refused_file_has_its_first_fault()
+    ensures fault { (bytes : List ℕ) (fault : HexFileFault) → hex_file bytes ≡ Err fault → IsFirstFault (lines bytes) fault }
+    ensures sound { (bytes image : List ℕ) → hex_file bytes ≡ Ok image
+        → (n : ℕ) → n ≤ length (lines bytes) → fault_behind_lines (lines bytes) n ≡ None }
+    ensures image { (bytes image : List ℕ) → hex_file bytes ≡ Ok image → image ≡ image_of (blocks_of (records_of (lines bytes))) }
+{}
+
+/// In an image the lowest address is byte 0. Each byte that is given stands in its place, a byte that is
+/// not given is 0xFF, and the highest address is the last byte.
+pub fn an_image_holds_what_is_given()
+    ensures given { (blocks : List Block) (address byte : ℕ) → byte_at blocks address ≡ Some byte
+        → slice_get (image_of blocks) (address - lowest_of blocks) ≡ Some byte }
+    ensures gap { (blocks : List Block) (address : ℕ) → lowest_of blocks ≤ address → address < past_of blocks
+        → byte_at blocks address ≡ None → slice_get (image_of blocks) (address - lowest_of blocks) ≡ Some 255 }
+    ensures length { (blocks : List Block) → length (image_of blocks) ≡ past_of blocks - lowest_of blocks }
+{}

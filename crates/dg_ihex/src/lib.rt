@@ -1,0 +1,21 @@
+//! Reads and writes Intel HEX files, the file form of images (Intel, "Hexadecimal Object File Format
+//! Specification", revision A).
+#![tactic(auto)]
+
+mod faults;
+mod laws;
+mod reader;
+mod record;
+mod window;
+mod writer;
+
+pub use faults::{HexCause, HexFileFault};
+pub use laws::{
+    a_refused_file_has_its_first_fault, a_written_file_is_read_again, an_image_holds_what_is_given,
+};
+pub use reader::{MOST_TEXT, read_ihex};
+pub use window::MOST_IMAGE;
+pub use writer::write_ihex;
+
+#[cfg(test)]
+mod tests;

@@ -1,0 +1,187 @@
+//! Reads HEX files.
+ghost use Rattle.std.specs.Prelude.{◌≡◌, ℕ, ◌≤◌, ◌≢◌, List, [], ◌∷◌, ◌++◌, length, IfOk, IfErr, false, ⊤};
+ghost use Rattle.dg_ihex.specs.Files.{cause_behind, cause_of, first_cause, hex_file, records_of};
+ghost use Rattle.dg_ihex.specs.Reading.{ReadsFile, Steps};
+ghost use Rattle.dg_ihex.specs.Causes.{out_of_memory};
+ghost use Rattle.dg_ihex.specs.declared.reader.TheConstants.{HIGHEST_BASE};
+
+use crate::faults::{HexCause, HexFileFault};
+use crate::record::{Record, SEGMENT, read_record};
+use crate::window::{MOST_IMAGE, Window};
+use dg_base::next_line;
+use std::alloc::{AllocError, Global};
+
+/// The most bytes of a HEX file that is read.
+pub const MOST_TEXT: usize = 16_777_216;
+
+/// The bytes of a unit of an extended segment address.
+const PARAGRAPH: usize = 16;
+
+/// The highest base, that of the last segment below 2 ^ 32.
+const HIGHEST_BASE: usize = 4_294_901_760;
+
+/// What the records so far say.
+#[derive(Debug, Drop)]
+pub struct Reader {
+    window: Window,
+    base: usize,
+    has_ended: bool,
+
+    ghost based: { base ≤ HIGHEST_BASE },
+}
+
+impl Reader {
+    ghost use Rattle.dg_ihex.specs.Readers.{Stands, TakesLines};
+    ghost use Rattle.dg_ihex.specs.declared.record.Record.{Record};
+    ghost use Rattle.dg_ihex.specs.declared.record.Record.TheVariants as records;
+
+    // A reader before the first record.
+    fn new(alloc: Global) -> Result<Reader, AllocError>
+        ensures { IfOk result (λ reader. Stands reader []) }
+    {
+        Ok(Reader {
+            window: Window::new(alloc)?,
+            base: 0,
+            has_ended: false,
+        })
+    }
+
+    // The next record.
+    fn take(&mut self, next: Record) -> Result<(), HexCause>
+        ensures { (before : List Record) → Stands self.old before
+            → Steps result (cause_behind before next) (Stands self.new (before ++ next ∷ [])) }
+    {
+        match next {
+            Record::Data { offset, bytes } => self.take_data(offset, bytes.as_slice()),
+            Record::End => self.take_end(),
+            Record::Segment(units) => self.take_segment(units),
+            Record::Linear(units) => self.take_linear(units),
+            Record::Start => self.take_start(),
+        }
+    }
+
+    fn take_data(&mut self, offset: u16, bytes: &[u8]) -> Result<(), HexCause>
+        ensures { (before : List Record) → Stands self.old before
+            → Steps result (cause_behind before (records.Data offset bytes.now)) (Stands self.new (before ++ records.Data offset bytes.now ∷ [])) }
+    {
+        if bytes.is_empty() {
+            // Data of no bytes has no address.
+            return self.check_open();
+        }
+        let address = self.base + usize::from(offset);
+        if self.window.overlaps(address, bytes) {
+            return Err(HexCause::Overlap);
+        }
+        if self.window.span_with(address, bytes) > MOST_IMAGE {
+            return Err(HexCause::Span);
+        }
+        self.check_open()?;
+        self.window.give(address, bytes);
+        Ok(())
+    }
+
+    // What is wrong with any record behind the end.
+    fn check_open(&self) -> Result<(), HexCause>
+        ensures { Steps result (first_cause false false self.now.has_ended) ⊤ }
+    {
+        if self.has_ended {
+            return Err(HexCause::End);
+        }
+        Ok(())
+    }
+
+    fn take_end(&mut self) -> Result<(), HexCause>
+        ensures { (before : List Record) → Stands self.old before
+            → Steps result (cause_behind before records.End) (Stands self.new (before ++ records.End ∷ [])) }
+    {
+        self.check_open()?;
+        self.has_ended = true;
+        Ok(())
+    }
+
+    fn take_segment(&mut self, units: u16) -> Result<(), HexCause>
+        ensures { (before : List Record) → Stands self.old before
+            → Steps result (cause_behind before (records.Segment units)) (Stands self.new (before ++ records.Segment units ∷ [])) }
+    {
+        self.check_open()?;
+        self.base = usize::from(units) * PARAGRAPH;
+        Ok(())
+    }
+
+    fn take_linear(&mut self, units: u16) -> Result<(), HexCause>
+        ensures { (before : List Record) → Stands self.old before
+            → Steps result (cause_behind before (records.Linear units)) (Stands self.new (before ++ records.Linear units ∷ [])) }
+    {
+        self.check_open()?;
+        self.base = usize::from(units) * SEGMENT;
+        Ok(())
+    }
+
+    fn take_start(&self) -> Result<(), HexCause>
+        ensures { (before : List Record) → Stands self.now before
+            → Steps result (cause_behind before records.Start) (Stands self.now (before ++ records.Start ∷ [])) }
+    {
+        self.check_open()
+    }
+
+    // The next line.
+    fn take_line(&mut self, alloc: Global, text: &[u8]) -> Result<(), HexCause>
+        ensures { (before : List (List ℕ)) → Stands self.old (records_of before)
+            → Steps result (cause_of before text.now) (Stands self.new (records_of (before ++ text.now ∷ []))) }
+    {
+        if text.is_empty() {
+            return Ok(());
+        }
+        let record = read_record(alloc, text)?;
+        self.take(record)
+    }
+
+    // The lines of a file, each with its number.
+    fn take_lines(&mut self, alloc: Global, bytes: &[u8]) -> Result<u32, HexFileFault>
+        requires room { length bytes.now ≤ MOST_TEXT }
+        requires first { Stands self.old [] }
+        ensures { TakesLines bytes.now result self.new }
+    {
+        let mut from = 0;
+        let mut line = 1;
+        while from < bytes.len() {
+            let (end, next) = next_line(bytes, from);
+            if let Err(cause) = self.take_line(alloc, &bytes[from..end]) {
+                return Err(fault_at(line, cause));
+            }
+            line += 1;
+            from = next;
+        }
+        Ok(line)
+    }
+}
+
+// A fault in a line. Want of memory is told at line 0.
+fn fault_at(line: u32, cause: HexCause) -> HexFileFault
+    ensures memory { cause ≡ HexCause.Memory → result ≡ out_of_memory }
+    ensures fault { cause ≢ HexCause.Memory → result ≡ record { line = line; cause = cause } }
+{
+    if cause == HexCause::Memory {
+        return HexFileFault { line: 0, cause };
+    }
+    HexFileFault { line, cause }
+}
+
+/// The image of a HEX file.
+///
+/// A line ends at LF, or at CR and LF, and a blank line says nothing. The image begins at the lowest
+/// address that a record gives a byte, and ends at the highest; what lies between and is not given
+/// is 0xFF. Where something is wrong, the first line with something wrong is told, and what is first
+/// wrong there.
+pub fn read_ihex(alloc: Global, bytes: &[u8]) -> Result<Vec<u8>, HexFileFault>
+    requires { length bytes.now ≤ MOST_TEXT }
+    ensures read { ReadsFile (λ image. image.items) result (hex_file bytes.now) }
+    ensures memory { IfErr result (λ fault. fault.cause ≡ HexCause.Memory → fault.line ≡ 0) }
+{
+    let mut reader = Reader::new(alloc)?;
+    let line = reader.take_lines(alloc, bytes)?;
+    if !reader.has_ended {
+        return Err(fault_at(line, HexCause::End));
+    }
+    Ok(reader.window.image(alloc)?)
+}

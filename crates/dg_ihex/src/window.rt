@@ -1,0 +1,132 @@
+//! The bytes that records gave, by their addresses.
+ghost use Rattle.std.specs.Prelude.{◌≡◌, ℕ, None, slice_index_or, ◌+◌, ◌-◌, ◌≤◌, ◌<◌, ◌^◌, List, ◌++◌, [], ◌∷◌, false, length, min, max, IfOk};
+ghost use Rattle.dg_ihex.specs.Blocks.{Block, byte_at, image_of, overlaps, span_of};
+ghost use Rattle.dg_ihex.specs.Cells.{written};
+ghost use Rattle.dg_ihex.specs.declared.window.TheConstants.{MOST_IMAGE, NO_ADDRESS};
+
+use std::alloc::{AllocError, Global};
+
+/// The most bytes of an image.
+pub const MOST_IMAGE: usize = 1_048_576;
+
+/// An address above all addresses.
+const NO_ADDRESS: usize = 4_294_967_296;
+
+/// The byte at addresses that no record gives: what an erased chip has.
+const GAP: u8 = 0xff;
+
+/// Bytes at addresses of which no two are further apart than an image is long. So these differ
+/// modulo the length of an image, and the byte at an address is kept there.
+#[derive(Debug, Drop)]
+pub struct Window {
+    cells: Vec<Option<u8>>,
+    // The lowest address, and the one behind the highest.
+    lowest: usize,
+    past: usize,
+
+    ghost whole: { cells.len ≡ MOST_IMAGE },
+    ghost low: { lowest ≤ NO_ADDRESS },
+}
+
+impl Window {
+    ghost use Rattle.dg_ihex.specs.Windows.{Holds};
+
+    /// A window with no bytes.
+    pub fn new(alloc: Global) -> Result<Window, AllocError>
+        ensures { IfOk result (λ window. Holds window []) }
+    {
+        Ok(Window {
+            cells: blank(alloc, MOST_IMAGE)?,
+            lowest: NO_ADDRESS,
+            past: 0,
+        })
+    }
+
+    // The byte at an address, if one was given.
+    fn byte_at(&self, address: usize) -> Option<u8>
+        ensures { (blocks : List Block) → Holds self.now blocks → result ≡ byte_at blocks address }
+    {
+        if address < self.lowest {
+            return None;
+        }
+        if address >= self.past {
+            return None;
+        }
+        self.cells[address % MOST_IMAGE]
+    }
+
+    /// Whether a block has an address that was given before.
+    pub fn overlaps(&self, address: usize, bytes: &[u8]) -> bool
+        requires { address < NO_ADDRESS }
+        ensures { (blocks : List Block) → Holds self.now blocks
+            → result ≡ overlaps blocks (record { address = address; bytes = bytes.now }) }
+    {
+        for at in address..address + bytes.len() {
+            if self.byte_at(at).is_some() {
+                return true;
+            }
+        }
+        false
+    }
+
+    /// How far the addresses reach with a block.
+    pub fn span_with(&self, address: usize, bytes: &[u8]) -> usize
+        requires { address < NO_ADDRESS }
+        ensures { (blocks : List Block) → Holds self.now blocks
+            → result ≡ span_of (blocks ++ record { address = address; bytes = bytes.now } ∷ []) }
+    {
+        let past = self.past.max(address + bytes.len());
+        past.saturating_sub(self.lowest.min(address))
+    }
+
+    /// Gives the bytes of a block.
+    pub fn give(&mut self, address: usize, bytes: &[u8])
+        requires { address < NO_ADDRESS }
+        ensures { (blocks : List Block) → Holds self.old blocks
+            → let block : Block = record { address = address; bytes = bytes.now } in
+            overlaps blocks block ≡ false → span_of (blocks ++ block ∷ []) ≤ MOST_IMAGE
+            → Holds self.new (blocks ++ block ∷ []) }
+    {
+        self.lowest = self.lowest.min(address);
+        self.past = self.past.max(address + bytes.len());
+        write(&mut self.cells, address, bytes);
+    }
+
+    /// The image from the lowest address to the highest.
+    pub fn image(&self, alloc: Global) -> Result<Vec<u8>, AllocError>
+        ensures { (blocks : List Block) → Holds self.now blocks → IfOk result (λ image. image.items ≡ image_of blocks) }
+    {
+        let mut image = vec![in alloc; GAP; self.past.saturating_sub(self.lowest)]?;
+        self.fill(&mut image);
+        Ok(image)
+    }
+
+    // Writes the bytes from the lowest address on.
+    fn fill(&self, image: &mut [u8])
+        ensures { (blocks : List Block) → Holds self.now blocks → length image.old ≡ span_of blocks → image.new ≡ image_of blocks }
+    {
+        for at in 0..image.len() {
+            image[at] = self.byte_at(self.lowest + at).unwrap_or(GAP);
+        }
+    }
+}
+
+// Cells with no byte in them.
+fn blank(alloc: Global, count: usize) -> Result<Vec<Option<u8>>, AllocError>
+    ensures count { IfOk result (λ cells. cells.len ≡ count) }
+    ensures blank { IfOk result (λ cells. (cell : ℕ) → slice_index_or cells.items cell None ≡ None) }
+{
+    let cells = vec![in alloc; None; count]?;
+    Ok(cells)
+}
+
+// Writes the bytes of a block into their cells.
+fn write(cells: &mut [Option<u8>], address: usize, bytes: &[u8])
+    requires fits { address < NO_ADDRESS }
+    requires whole { length cells.old ≡ MOST_IMAGE }
+    ensures { cells.new ≡ written cells.old address bytes.now }
+{
+    for at in 0..bytes.len() {
+        cells[(address + at) % MOST_IMAGE] = Some(bytes[at]);
+    }
+}
