@@ -17,20 +17,22 @@ use Rattle.dg_cli.specs.Items.{lacking, lacking_by, motes_in}
 use Rattle.dg_world.specs.Worlds.{IsWorld}
 use Rattle.dg_world.specs.declared.world.World.{World as KeptWorld}
 use Rattle.dg_cli.specs.Playing.{InWorld}
-use Rattle.dg_script.specs.Script.{Script, script_from, end_fault, is_event, motes_at}
+use Rattle.dg_script.specs.Places.{first_place, fault_at_end}
+use Rattle.dg_script.specs.Script.{Script, script_from, end_fault, numbered}
+use Rattle.dg_script.specs.declared.fault.LineFault.{LineFault}
+use Rattle.dg_script.specs.declared.fault.LineFault.TheVariants.{Place as place_fault, Cut as cut_fault}
 use Rattle.dg_script.specs.Report.{report_text}
 use Rattle.dg_rules.specs.World.{World}
 use Rattle.dg_rules.specs.Runs.{Played}
 use Rattle.dg_cli.specs.Boards.{WorldStands, BoardsStand, BoardStopped}
-use Rattle.dg_cli.specs.Ending.{Ending, Ends, NoBoards, TooManyEvents, FaultAt, Over, events_in, LinesInLimits, by_fault, by_events, by_boards, ending_from, ending_line, status_of, up_to, whole_lines, used, is_over, script_of, ending_of, InLimits}
+use Rattle.dg_cli.specs.Ending.{Ending, Ends, NoBoards, TooManyEvents, FaultAt, Over, events_in, is_event, LinesInLimits, by_fault, by_events, by_boards, ending_from, ending_line, status_of, up_to, whole_lines, used, is_over, script_of, ending_of, InLimits}
 use Rattle.dg_cli.specs.Outcome.{IsFront, played_text, IsWholeReport, StopsAt, Wrote, Boards, IsCaused}
 use Rattle.dg_cli.specs.Replaying.{StopEnds, Reached, PlayedFront, HasFew, LinesAnswer, ReadyToEnd, EndsWith, FinishesWith, ScriptReplayed}
-use Rattle.dg_script.specs.declared.events.Event.{Event}
+use Rattle.dg_base.specs.declared.events.Event.{Event}
 use Rattle.dg_cli.specs.declared.player.Player.{Player}
-use Rattle.dg_script.specs.declared.line.Place.{Place}
-use Rattle.dg_script.specs.declared.line.Place.TheVariants.{First, Second, Later, AfterCut}
+use Rattle.dg_script.specs.declared.place.Place.{Place}
 use Rattle.dg_script.specs.declared.line.Line.{Line}
-use Rattle.dg_script.specs.declared.line.Line.TheVariants.{Nothing, Motes, Golden, Image, Cut, Happens}
+use Rattle.dg_script.specs.declared.line.Line.TheVariants.{Nothing, Motes, Golden, Boards as BoardsLine, Link, Image, Cut, Happens, Round, Sweeps}
 use Rattle.dg_cli.specs.declared.stop.Stop.{Stop}
 use Rattle.dg_cli.specs.declared.stop.Stop.TheVariants.{Memory, BadInput, WriteFault, FlashFault, TooMany, NoBoard, NoImage}
 use Rattle.dg_cli.proofs.ReplayLemmas.{all_done}
@@ -39,21 +41,21 @@ wrote_whole : (e : Ending) (done rest : List Line) (played : List Played) (last 
 wrote_whole Ends done rest played last text whole = whole
 wrote_whole (NoBoards m b) done rest played last text whole = whole
 wrote_whole TooManyEvents done rest played last text whole = whole
-wrote_whole (FaultAt line) done rest played last text whole = whole
+wrote_whole (FaultAt line f) done rest played last text whole = whole
 wrote_whole Over done rest played last text whole = whole
 
 boards_of : (e : Ending) (done rest : List Line) (last : Option World) (initial now : List Device) → BoardsStand last initial now → Boards (status_of e) done rest last initial now
 boards_of Ends done rest last initial now stand = stand
 boards_of (NoBoards m b) done rest last initial now stand = stand
 boards_of TooManyEvents done rest last initial now stand = stand
-boards_of (FaultAt line) done rest last initial now stand = stand
+boards_of (FaultAt line f) done rest last initial now stand = stand
 boards_of Over done rest last initial now stand = stand
 
 caused_by : (e : Ending) (r w b : Type 0) → IsCaused (status_of e) e r w b
 caused_by Ends r w b = refl
 caused_by (NoBoards m k) r w b = refl
 caused_by TooManyEvents r w b = refl
-caused_by (FaultAt line) r w b = refl
+caused_by (FaultAt line f) r w b = refl
 caused_by Over r w b = refl
 
 -- the end of the report was written, or a front of it, or memory ran out
@@ -140,8 +142,8 @@ few_ending : (over : Bool) (script : Script) (initial : List Device) → HasFew 
 few_ending over script initial few = few_events (length initial) over script few.boards_enough few.events
 
 -- a line outside the grammar ends the script
-fault_ending : (over : Bool) (script : Script) (initial : List Device) (line : ℕ) → HasFew script initial → script.fault ≡ Some line → ending_from (length initial) over script ≡ FaultAt line
-fault_ending over script initial line few fault = few_ending over script initial few ∙ ap (λ (f : Option ℕ). by_fault over f) fault
+fault_ending : (over : Bool) (script : Script) (initial : List Device) (line : ℕ) (fault : LineFault) → HasFew script initial → script.fault ≡ Some (line, fault) → ending_from (length initial) over script ≡ FaultAt line fault
+fault_ending over script initial line fault few is = few_ending over script initial few ∙ ap (λ (f : Option (ℕ × LineFault)). by_fault over f) is
 
 lacking_behind : (boards motes : ℕ) (xs more : List Line) → boards < motes → lacking boards xs ≡ None → lacking boards (xs ++ Motes motes ∷ more) ≡ Some motes
 unfolding lacking
@@ -155,10 +157,14 @@ lacking_behind boards motes (x ∷ xs) more short none = through x (lacking boar
     through : (l : Line) (rest later : Option ℕ) → lacking_by boards l rest ≡ None → (rest ≡ None → later ≡ Some motes) → lacking_by boards l later ≡ Some motes
     through Nothing rest later e f = f e
     through (Motes n) rest later e f = by_test (nat_lt boards n) n rest later e f
-    through (Golden golden) rest later e f = f e
-    through (Image image) rest later e f = f e
+    through (Golden name used content) rest later e f = f e
+    through BoardsLine rest later e f = f e
+    through (Link a b) rest later e f = f e
+    through (Image image version name content) rest later e f = f e
     through (Cut cut) rest later e f = f e
     through (Happens event) rest later e f = f e
+    through (Round a b) rest later e f = f e
+    through (Sweeps n) rest later e f = f e
 
 board_ending : (over : Bool) (script : Script) (initial : List Device) (motes : ℕ) (done more : List Line) → length initial < motes → lacking (length initial) done ≡ None → done ++ Motes motes ∷ more ≡ script.lines → ending_from (length initial) over script ≡ NoBoards motes (length initial)
 board_ending over script initial motes done more short none lines =
@@ -189,10 +195,10 @@ pub stopped_ends : (stop : Stop) (result : Status) (script : Script) (ends over 
 stopped_ends Memory result script ends over initial now before mid after failed later worse spread widen f (same, told) =
     subst (λ (s : Status). ScriptReplayed s script (ending_from (length initial) over script) initial now before after worse) (sym same)
     (front_only script (ending_from (length initial) over script) initial now before after worse (subst (λ (o : Option (List ℕ)). PlayedFront script initial now before o) (sym told) f))
-stopped_ends (BadInput line) result script ends over initial now before mid after failed later worse spread widen f done =
-    let e = fault_ending over script initial line f.there.3 f.there.1 in
-    let ready : ReadyToEnd script (FaultAt line) (ending_line (FaultAt line)) initial now before mid = record { done = f.done; rest = f.rest; played = f.played; last = f.last; front = f.front; told = f.told; boards = f.there.2; all = f.there.0; line = refl; limits = f.limits } in
-    subst (λ (x : Ending). ScriptReplayed result script x initial now before after worse) (sym e) (ended result script (FaultAt line) _ initial now before mid after later worse widen ready done)
+stopped_ends (BadInput line fault) result script ends over initial now before mid after failed later worse spread widen f done =
+    let e = fault_ending over script initial line fault f.there.3 f.there.1 in
+    let ready : ReadyToEnd script (FaultAt line fault) (ending_line (FaultAt line fault)) initial now before mid = record { done = f.done; rest = f.rest; played = f.played; last = f.last; front = f.front; told = f.told; boards = f.there.2; all = f.there.0; line = refl; limits = f.limits } in
+    subst (λ (x : Ending). ScriptReplayed result script x initial now before after worse) (sym e) (ended result script (FaultAt line fault) _ initial now before mid after later worse widen ready done)
 stopped_ends WriteFault result script ends over initial now before mid after failed later worse spread widen (rose, f) (same, told) =
     subst (λ (s : Status). ScriptReplayed s script (ending_from (length initial) over script) initial now before after worse) (sym same)
     (front_cut script (ending_from (length initial) over script) initial now before after worse (spread rose) (subst (λ (o : Option (List ℕ)). PlayedFront script initial now before o) (sym told) f))
@@ -251,24 +257,18 @@ pub over_ends : (result : Status) (script : Script) (n : ℕ) (p : Player) (init
     → Reached false script [] n p initial now before mid → EndsWith result status.TooLong (ending_line Over) mid after failed → ScriptReplayed result script (ending_from (length initial) true script) initial now before after worse
 over_ends result script n p initial now before mid after failed worse spread r done =
     let e : ending_from (length initial) true script ≡ Over =
-    few_ending true script initial (few_done false script n p initial now before mid r) ∙ ap (λ (f : Option ℕ). by_fault true f) (sym (fault_done false script n p initial now before mid r)) in
+    few_ending true script initial (few_done false script n p initial now before mid r) ∙ ap (λ (f : Option (ℕ × LineFault)). by_fault true f) (sym (fault_done false script n p initial now before mid r)) in
     let ready : ReadyToEnd script Over (ending_line Over) initial now before mid = record { done = r.done; rest = []; played = r.played; last = r.last; front = front_done false script n p initial now before mid r; told = r.told; boards = r.stood.boards; all = refl; line = refl; limits = record { boards_enough = r.boards_enough; few_events = r.few } } in
     subst (λ (x : Ending). ScriptReplayed result script x initial now before after worse) (sym e) (ended result script Over _ initial now before mid after failed worse spread ready done)
 
-pub end_fault_at : (place : Place) (n : ℕ) → (place ≡ Later (motes_at place) → ⊥) → end_fault true place n ≡ Some n
-end_fault_at First n other = refl
-end_fault_at (Second motes) n other = refl
-end_fault_at (Later motes) n other = absurd (other refl)
-end_fault_at (AfterCut motes) n other = refl
-
--- a script that ends before its second line
-pub short_ends : (result : Status) (script : Script) (n : ℕ) (p : Player) (initial now : List Device) (before mid after : Option (List ℕ)) (failed worse : Type 0) → (failed → worse) → (p.place ≡ Later (motes_at p.place) → ⊥)
-    → Reached true script [] n p initial now before mid → EndsWith result status.BadInput (ending_line (FaultAt n)) mid after failed → ScriptReplayed result script (ending_from (length initial) false script) initial now before after worse
-short_ends result script n p initial now before mid after failed worse spread early r done =
-    let fault : script.fault ≡ Some n = sym (fault_done true script n p initial now before mid r) ∙ end_fault_at p.place n early in
-    let e = fault_ending false script initial n (few_done true script n p initial now before mid r) fault in
-    let ready : ReadyToEnd script (FaultAt n) (ending_line (FaultAt n)) initial now before mid = record { done = r.done; rest = []; played = r.played; last = r.last; front = front_done true script n p initial now before mid r; told = r.told; boards = r.stood.boards; all = refl; line = refl; limits = record { boards_enough = r.boards_enough; few_events = r.few } } in
-    subst (λ (x : Ending). ScriptReplayed result script x initial now before after worse) (sym e) (ended result script (FaultAt n) _ initial now before mid after failed worse spread ready done)
+-- a script that ends before its second line, or behind a cut
+pub short_ends : (result : Status) (script : Script) (n : ℕ) (fault : LineFault) (p : Player) (initial now : List Device) (before mid after : Option (List ℕ)) (failed worse : Type 0) → (failed → worse) → fault_at_end p.place ≡ Some fault
+    → Reached true script [] n p initial now before mid → EndsWith result status.BadInput (ending_line (FaultAt n fault)) mid after failed → ScriptReplayed result script (ending_from (length initial) false script) initial now before after worse
+short_ends result script n fault p initial now before mid after failed worse spread early r done =
+    let is : script.fault ≡ Some (n, fault) = sym (fault_done true script n p initial now before mid r) ∙ ap (λ (o : Option LineFault). numbered n o) early in
+    let e = fault_ending false script initial n fault (few_done true script n p initial now before mid r) is in
+    let ready : ReadyToEnd script (FaultAt n fault) (ending_line (FaultAt n fault)) initial now before mid = record { done = r.done; rest = []; played = r.played; last = r.last; front = front_done true script n p initial now before mid r; told = r.told; boards = r.stood.boards; all = refl; line = refl; limits = record { boards_enough = r.boards_enough; few_events = r.few } } in
+    subst (λ (x : Ending). ScriptReplayed result script x initial now before after worse) (sym e) (ended result script (FaultAt n fault) _ initial now before mid after failed worse spread ready done)
 
 -- a player that is behind the second line has a world
 finish_as : (result : Status) (script : Script) (w : World) (done : List Line) (played : List Played) (initial new : List Device) (before mid after : Option (List ℕ)) (failed worse : Type 0) → (failed → worse)
@@ -291,7 +291,7 @@ finish_as result script w done played initial new before mid after failed worse 
     } in
     subst (λ (s : Status). ScriptReplayed s script Ends initial new before after worse) (sym same) made
 
-kept_world : (p : Player) (v : KeptWorld) (last : Option World) (initial now : List Device) → p.world ≡ Some v → InWorld p last now → BoardsStand last initial now → (w : World) × (last ≡ Some w) × IsWorld v now w × WorldStands w initial now × (length w.sites ≡ motes_at p.place)
+kept_world : (p : Player) (v : KeptWorld) (last : Option World) (initial now : List Device) → p.world ≡ Some v → InWorld p last now → BoardsStand last initial now → (w : World) × (last ≡ Some w) × IsWorld v now w × WorldStands w initial now × (length w.sites ≡ p.place.motes)
 kept_world p v None initial now is kept stands = absurd (let e : Some v ≡ None = sym is ∙ kept.0 in cc)
 kept_world p v (Some w) initial now is kept stands = (w, refl, subst (λ (x : KeptWorld). IsWorld x now w) (same_kept kept.0 v (sym kept.1 ∙ is)) kept.2, stands, kept.3)
   where
@@ -299,15 +299,15 @@ kept_world p v (Some w) initial now is kept stands = (w, refl, subst (λ (x : Ke
     same_kept a b e = cc
 
 -- a script that ended
-pub script_ends : (result : Status) (script : Script) (n : ℕ) (p : Player) (v : KeptWorld) (initial now new : List Device) (before mid after : Option (List ℕ)) (failed worse : Type 0) → (failed → worse) → (k : ℕ) → p.place ≡ Later k → p.world ≡ Some v
+pub script_ends : (result : Status) (script : Script) (n : ℕ) (p : Player) (v : KeptWorld) (initial now new : List Device) (before mid after : Option (List ℕ)) (failed worse : Type 0) → (failed → worse) → fault_at_end p.place ≡ None → p.world ≡ Some v
     → (r : Reached true script [] n p initial now before mid) → ((w : World) → IsWorld v now w → WorldStands w initial now → FinishesWith result w initial new mid after failed)
     → ScriptReplayed result script (ending_from (length initial) false script) initial new before after worse
-script_ends result script n p v initial now new before mid after failed worse spread k later has r finishes =
+script_ends result script n p v initial now new before mid after failed worse spread none has r finishes =
     let world = kept_world p v r.last initial now has r.stood.world r.stood.boards in
     let w = world.0 in
-    let fault : script.fault ≡ None = sym (fault_done true script n p initial now before mid r) ∙ ap (λ (at : Place). end_fault true at n) later in
+    let fault : script.fault ≡ None = sym (fault_done true script n p initial now before mid r) ∙ ap (λ (o : Option LineFault). numbered n o) none in
     let e : ending_from (length initial) false script ≡ Ends =
-    few_ending false script initial (few_done true script n p initial now before mid r) ∙ ap (λ (f : Option ℕ). by_fault false f) fault in
+    few_ending false script initial (few_done true script n p initial now before mid r) ∙ ap (λ (f : Option (ℕ × LineFault)). by_fault false f) fault in
     let front = subst (λ (o : Option World). IsFront script r.done [] r.played o) world.1 (front_done true script n p initial now before mid r) in
     subst (λ (x : Ending). ScriptReplayed result script x initial new before after worse) (sym e)
     (finish_as result script w r.done r.played initial new before mid after failed worse spread front (record { boards_enough = r.boards_enough; few_events = r.few }) (sym r.stood.motes ∙ sym world.4) r.told (finishes w world.2 world.3))
@@ -390,13 +390,13 @@ at_ended result script over n p initial now new before mid after worse is r ends
     let P : Bool → Type 0 = λ b. Reached (not b) script [] n p initial now before mid → ScriptReplayed result script (ending_from (length initial) b script) initial new before after worse in
     subst P (sym is) ends r
 
-script_used : (text cells : List ℕ) (over : Bool) → over ≡ is_over text → cells ≡ used text → script_from (not over) First 1 (lines cells) ≡ script_of text
+script_used : (text cells : List ℕ) (over : Bool) → over ≡ is_over text → cells ≡ used text → script_from (not over) first_place 1 (lines cells) ≡ script_of text
 unfolding script_of
-script_used text cells over is same = ap (λ (b : Bool). script_from (not b) First 1 (lines cells)) is ∙ ap (λ (xs : List ℕ). script_from (not (is_over text)) First 1 (lines xs)) same
+script_used text cells over is same = ap (λ (b : Bool). script_from (not b) first_place 1 (lines cells)) is ∙ ap (λ (xs : List ℕ). script_from (not (is_over text)) first_place 1 (lines xs)) same
 
 -- what was played of the bytes that are used is what was played of the input
 pub replayed_as : (result : Status) (text cells : List ℕ) (over : Bool) (n m : ℕ) (initial now : List Device) (before after : Option (List ℕ)) (worse : Type 0) → over ≡ is_over text → cells ≡ used text → n ≡ m
-    → ScriptReplayed result (script_from (not over) First 1 (lines cells)) (ending_from n over (script_from (not over) First 1 (lines cells))) initial now before after worse
+    → ScriptReplayed result (script_from (not over) first_place 1 (lines cells)) (ending_from n over (script_from (not over) first_place 1 (lines cells))) initial now before after worse
     → ScriptReplayed result (script_of text) (ending_of m text) initial now before after worse
 replayed_as result text cells over n m initial now before after worse is same count r =
     let script = script_used text cells over is same in
@@ -410,4 +410,12 @@ pub in_limits : (n : ℕ) (input : List ℕ) → InLimits n input → ending_of 
 in_limits n input limits =
     few_events n (is_over input) (script_of input) limits.boards_enough limits.events
     ∙ ap (λ (b : Bool). by_fault b (script_of input).fault) (over_not input limits.bytes)
-    ∙ ap (λ (f : Option ℕ). by_fault false f) limits.grammar
+    ∙ ap (λ (f : Option (ℕ × LineFault)). by_fault false f) limits.grammar
+
+-- a script that may end keeps a world
+pub ended_ready : (place : Place) → fault_at_end place ≡ None → place.ready ≡ true
+ended_ready place e = ready_by place.ready place.cut e
+  where
+    ready_by : (ready cut : Bool) → (if not ready then Some place_fault else if cut then Some cut_fault else None) ≡ None → ready ≡ true
+    ready_by true cut e = refl
+    ready_by false cut e = absurd (let f : Some place_fault ≡ None = e in cc)

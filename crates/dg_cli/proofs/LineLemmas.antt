@@ -1,6 +1,6 @@
 -- What is known of a replay behind each kind of line.
-use Rattle.std.proofs.Common.{◌≡◌, ℕ, ◌+◌, ◌-◌, ◌<◌, ◌≤◌, inl, inr, Bool, true, false, if◌then◌else◌, List, [], ◌∷◌, length, replicate, get_or, refl, append-nil, ap, sym, ◌∙◌, subst, arith}
-use Rattle.std.specs.Prelude.{Option, Some, None, Result, Ok, Err, IfSome, nat_lt, slice_get, slice_index_or}
+use Rattle.std.proofs.Common.{◌≡◌, ℕ, ◌+◌, ◌-◌, ◌<◌, ◌≤◌, Bool, true, false, if◌then◌else◌, List, [], ◌∷◌, length, replicate, get_or, refl, append-nil, ap, sym, ◌∙◌, subst, arith, eqb-true}
+use Rattle.std.specs.Prelude.{Option, Some, None, Result, Ok, Err, OnOk, IfSome, nat_lt, slice_get, slice_index_or}
 use Rattle.std.proofs.lemmas.Bool.Decides.{nat_tests}
 use Rattle.std.proofs.lemmas.List.{length-map, length-replicate, get_or-replicate}
 use Rattle.dg_nor.specs.Device.{Device, Endures}
@@ -8,17 +8,16 @@ use Rattle.dg_nor.specs.Fuse.{beneath_of}
 use Rattle.dg_object.specs.Object.{Row}
 use Rattle.dg_volume.specs.Store.{Store, fresh, golden_row}
 use Rattle.dg_volume.specs.Stands.{Stands}
-use Rattle.dg_script.specs.Script.{motes_at, FitsCut, FitsEvent, declared_row, AllowedAt}
-use Rattle.dg_script.specs.declared.events.Event.{Event}
-use Rattle.dg_script.specs.declared.events.Event.TheVariants.{Tick, Reset, Inject, Order}
-use Rattle.dg_script.specs.declared.events.Cut.{Cut as CutOfPower}
-use Rattle.dg_script.specs.declared.line.Golden.{Golden as GoldenImage}
-use Rattle.dg_script.specs.declared.line.Image.{Image as DeclaredImage}
-use Rattle.dg_script.specs.declared.line.Place.{Place}
-use Rattle.dg_script.specs.declared.line.Place.TheVariants.{First, Second, Later, AfterCut}
+use Rattle.dg_script.specs.Fitting.{FitsCut, FitsEvent, StandsAt, IsPlayedEvent, declared_row}
+use Rattle.dg_script.specs.Places.{place_after}
+use Rattle.dg_base.specs.declared.events.Event.{Event}
+use Rattle.dg_base.specs.declared.events.Event.TheVariants.{Tick, Hear, Last, Reset, Inject, Order, Frame}
+use Rattle.dg_base.specs.declared.events.Cut.{Cut as CutOfPower}
+use Rattle.dg_script.specs.declared.place.Place.{Place}
 use Rattle.dg_script.specs.declared.line.Line.{Line}
 use Rattle.dg_script.specs.declared.line.Line.TheVariants.{Nothing, Motes, Golden, Image, Cut, Happens}
 use Rattle.dg_script.specs.declared.report.Report.{Report}
+use Rattle.dg_rules.specs.Sizes.{most_motes}
 use Rattle.dg_rules.specs.World.{World, Site, first_world, off_site, no_site}
 use Rattle.dg_rules.specs.Events.{mote_of}
 use Rattle.dg_rules.specs.Steps.{EndsRun}
@@ -29,71 +28,91 @@ use Rattle.dg_world.specs.Applied.{OneBoard, FlashAt}
 use Rattle.dg_world.specs.Formatted.{FirstBoards, FormatStops}
 use Rattle.dg_world.specs.declared.world.World.{World as KeptWorld}
 use Rattle.dg_world.specs.declared.format.FormatStopped.{FormatStopped}
-use Rattle.dg_cli.specs.Items.{beginning_of, cut_behind, motes_in, golden_world}
+use Rattle.dg_script.specs.Items.{cut_behind}
+use Rattle.dg_cli.specs.Items.{motes_in, golden_world}
 use Rattle.dg_cli.specs.Boards.{BoardsEndure, WorldStands, StoppedIn}
 use Rattle.dg_cli.specs.Ending.{events_in}
-use Rattle.dg_cli.specs.Playing.{is_behind_golden, Counted, Seated, Stood, PlayedLine, DeclaredNow, DeclaredAs, HappenedAs, PlayedAs}
+use Rattle.dg_cli.specs.Playing.{Counted, Seated, InWorld, Passed, Stood, PlayedLine, LacksBoards, DeclaredNow, DeclaredAs, HappenedAs, PlayedAs}
 use Rattle.dg_cli.specs.declared.player.Player.{Player}
 use Rattle.dg_cli.specs.declared.stop.Stop.{Stop}
 use Rattle.dg_cli.specs.declared.stop.Stop.TheVariants.{Memory, BadInput, WriteFault, FlashFault, TooMany, NoBoard, NoImage}
-use Rattle.dg_cli.proofs.PlayLemmas.{stood_next, silent_runs, one_runs, golden_runs, declared_same, step_counts}
+use Rattle.dg_cli.proofs.PlayLemmas.{unplayed, false_not, event_at, no_world, in_world_as, seated_as, stood_next, silent_runs, one_runs, golden_runs, declared_same, step_counts}
 use Rattle.dg_cli.proofs.BoardLemmas.{boards_through, caused_through, there}
 
 some_is : {A : Type 0} (x y : A) → Some x ≡ Some y → x ≡ y
 some_is x y e = cc
 
-false_not : {A : Type 0} (b : Bool) → b ≡ true → b ≡ false → A
-false_not b holds fails = absurd (let e : true ≡ false = sym holds ∙ fails in cc)
-
 -- ---- lines that say nothing to the motes
 
-pub nothing_played : (p : Player) (done : List Line) (w : Option World) (told : List Report) (initial now : List Device) → Stood p done w initial now → PlayedLine p done w Nothing told told initial now
-nothing_played p done w told initial now s =
+pub nothing_played : (p q : Player) (done : List Line) (w : Option World) (told : List Report) (initial now : List Device) → Passed p q Nothing → Stood p done w initial now → PlayedLine q done w Nothing told told initial now
+nothing_played p q done w told initial now at s =
+    let motes = ap (λ (x : Place). x.motes) at.place in
+    let ready = ap (λ (x : Place). x.ready) at.place in
     record {
       world = w;
       reports = [];
       told_now = sym (append-nil told);
       runs = silent_runs done Nothing w refl refl refl;
-      stood = stood_next p p done Nothing w initial now s.seats s.cut s.cut_fits s.motes s.world s.boards;
+      stood = stood_next p q done Nothing w initial now at.place s.motes (seated_as p.place q.place (length now) motes s.seats) (at.cut ∙ s.cut)
+          (subst (λ (o : Option CutOfPower). IfSome o FitsCut) (sym at.cut) s.cut_fits) (in_world_as p q w now at.world motes ready s.world) s.boards;
       boards_enough = refl;
     }
 
 not_below : (n m : ℕ) → m ≤ n → nat_lt n m ≡ false
 not_below n m h = grind (arith, nat_tests)
 
-pub motes_played : (p : Player) (done : List Line) (w : Option World) (motes : ℕ) (told : List Report) (initial now : List Device) → p.place ≡ First → Counted motes (length now) → Stood p done w initial now
-    → PlayedLine (record p { place = Second motes }) done w (Motes motes) told told initial now
-motes_played p done None motes told initial now first counted s =
+no_motes : (p : Player) (w : Option World) (now : List Device) → p.place.motes ≡ 0 → InWorld p w now → p.place.ready ≡ false
+no_motes p None now none k = k.1
+no_motes p (Some w) now none k = absurd (omega (arith, none, k.5))
+
+pub motes_played : (p q : Player) (done : List Line) (w : Option World) (motes : ℕ) (told : List Report) (initial now : List Device) → p.place.motes ≡ 0 → Passed p q (Motes motes) → Counted motes (length now) → Stood p done w initial now
+    → PlayedLine q done w (Motes motes) told told initial now
+motes_played p q done w motes told initial now none at counted s =
+    let unready = no_motes p w now none s.world in
+    let kept = no_world p w now unready s.world in
+    motes_first p q done motes told initial now at counted unready (subst (λ (o : Option World). Stood p done o initial now) kept.0 s) (sym kept.0)
+  where
+    motes_first : (p q : Player) (done : List Line) (motes : ℕ) (told : List Report) (initial now : List Device) → Passed p q (Motes motes) → Counted motes (length now) → p.place.ready ≡ false → Stood p done None initial now
+        → {w : Option World} → None ≡ w → PlayedLine q done w (Motes motes) told told initial now
+    motes_first p q done motes told initial now at counted unready s {w} e =
+        let many : q.place.motes ≡ motes = ap (λ (x : Place). x.motes) at.place in
+        let ready : q.place.ready ≡ p.place.ready = ap (λ (x : Place). x.ready) at.place in
+        let made : PlayedLine q done None (Motes motes) told told initial now = record {
+          world = None;
+          reports = [];
+          told_now = sym (append-nil told);
+          runs = silent_runs done (Motes motes) None refl refl refl;
+          stood = stood_next p q done (Motes motes) None initial now at.place s.motes (λ some. subst (λ (n : ℕ). Counted n (length now)) (sym many) counted) (at.cut ∙ s.cut)
+              (subst (λ (o : Option CutOfPower). IfSome o FitsCut) (sym at.cut) s.cut_fits) (at.world ∙ s.world.0, ready ∙ unready) s.boards;
+          boards_enough = ap (λ (b : Bool). if b then Some motes else None) (not_below (length initial) motes (subst (λ (ds : List Device). motes ≤ length ds) s.boards counted.2));
+        } in
+        subst (λ (o : Option World). PlayedLine q done o (Motes motes) told told initial now) e made
+
+lacking_boards : (p : Player) (done : List Line) (w : Option World) (motes boards : ℕ) (initial now : List Device) → p.place.motes ≡ 0 → boards ≡ length now → boards < motes → Stood p done w initial now → LacksBoards (Motes motes) motes boards initial now now
+lacking_boards p done None motes boards initial now none count short s = record { is_motes = refl; have = count ∙ ap (λ (ds : List Device). length ds) s.boards; missing = short; same = refl }
+lacking_boards p done (Some w) motes boards initial now none count short s = absurd (omega (arith, none, s.world.5))
+
+pub motes_as : (r : Result (Unit {0}) Stop) (p q : Player) (done : List Line) (w : Option World) (motes boards : ℕ) (told : List Report) (initial now : List Device) → StandsAt p.place (Motes motes) → Passed p q (Motes motes) → (1 ≤ motes) × (motes ≤ most_motes) → boards ≡ length now
+    → OnOk r (motes ≤ boards) → ((stop : Stop) → r ≡ Err stop → (stop ≡ NoBoard motes boards) × (boards < motes)) → Stood p done w initial now → PlayedAs r q done w (Motes motes) told told initial now now
+motes_as (Ok u) p q done w motes boards told initial now stands at fits count enough missing s =
+    motes_played p q done w motes told initial now (eqb-true p.place.motes 0 stands.fits) at (fits.0, fits.1, subst (λ (n : ℕ). motes ≤ n) count enough) s
+motes_as (Err stop) p q done w motes boards told initial now stands at fits count enough missing s =
+    let m = missing stop refl in
+    let P : Stop → Type 0 = λ x. PlayedAs (Err x) q done w (Motes motes) told told initial now now in
+    subst P (sym m.0) (lacking_boards p done w motes boards initial now (eqb-true p.place.motes 0 stands.fits) count m.1 s)
+
+pub cut_played : (p q : Player) (done : List Line) (w : Option World) (cut : CutOfPower) (told : List Report) (initial now : List Device) → FitsCut cut → q.place ≡ place_after p.place (Cut cut) → q.cut ≡ Some cut → q.world ≡ p.world → Stood p done w initial now
+    → PlayedLine q done w (Cut cut) told told initial now
+cut_played p q done w cut told initial now fits place has world s =
+    let motes = ap (λ (x : Place). x.motes) place in
+    let ready = ap (λ (x : Place). x.ready) place in
     record {
-      world = None;
+      world = w;
       reports = [];
       told_now = sym (append-nil told);
-      runs = silent_runs done (Motes motes) None refl refl refl;
-      stood = stood_next p (record p { place = Second motes }) done (Motes motes) None initial now counted s.cut s.cut_fits refl (s.world.0, refl) s.boards;
-      boards_enough = ap (λ (b : Bool). if b then Some motes else None) (not_below (length initial) motes (subst (λ (ds : List Device). motes ≤ length ds) s.boards counted.2));
-    }
-motes_played p done (Some w) motes told initial now first counted s = false_not (is_behind_golden p.place) s.world.4 (ap is_behind_golden first)
-
-later_seats : (place : Place) (boards : ℕ) → place ≡ Later (motes_at place) → Seated place boards → Counted (motes_at place) boards
-later_seats place boards is seats = subst (λ (at : Place). Seated at boards) is seats
-
-pub cut_played : (p q : Player) (done : List Line) (w : Option World) (cut : CutOfPower) (told : List Report) (initial now : List Device) → p.place ≡ Later (motes_at p.place) → FitsCut cut
-    → q.place ≡ AfterCut (motes_at p.place) → q.cut ≡ Some cut → q.world ≡ p.world → Stood p done w initial now → PlayedLine q done w (Cut cut) told told initial now
-cut_played p q done None cut told initial now later fits place has world s = false_not (is_behind_golden p.place) (ap is_behind_golden later) s.world.1
-cut_played p q done (Some w) cut told initial now later fits place has world s =
-    let k = s.world in
-    record {
-      world = Some w;
-      reports = [];
-      told_now = sym (append-nil told);
-      runs = silent_runs done (Cut cut) (Some w) refl refl refl;
-      stood = stood_next p q done (Cut cut) (Some w) initial now
-          (subst (λ (at : Place). Seated at (length now)) (sym place) (later_seats p.place (length now) later s.seats))
-          has
-          (subst (λ (o : Option CutOfPower). IfSome o FitsCut) (sym has) fits)
-          (ap motes_at place ∙ s.motes)
-          (k.0, world ∙ k.1, k.2, k.3 ∙ sym (ap motes_at place), ap is_behind_golden place)
-          s.boards;
+      runs = silent_runs done (Cut cut) w refl refl refl;
+      stood = stood_next p q done (Cut cut) w initial now place s.motes (seated_as p.place q.place (length now) motes s.seats) has (subst (λ (o : Option CutOfPower). IfSome o FitsCut) (sym has) fits)
+          (in_world_as p q w now world motes ready s.world) s.boards;
       boards_enough = refl;
     }
 
@@ -106,37 +125,35 @@ endured motes initial old new first others =
       endures = subst (λ (ds : List Device). (m : ℕ) (a b : Device) → slice_get ds m ≡ Some a → slice_get new m ≡ Some b → Endures (beneath_of a) (beneath_of b)) first others.endures;
     }
 
-pub golden_played : (p q : Player) (done : List Line) (w : Option World) (motes : ℕ) (golden : GoldenImage) (v : KeptWorld) (told : List Report) (initial old new : List Device)
-    → p.place ≡ Second motes → Counted motes (length old) → q.place ≡ Later motes → q.cut ≡ p.cut → q.world ≡ Some v
-    → ((m : ℕ) (d : Device) → m < motes → slice_get new m ≡ Some d → Stands d.image (fresh golden.name golden.content golden.used))
+pub golden_played : (p q : Player) (done : List Line) (w : Option World) (name : List ℕ) (used : ℕ) (content : List ℕ) (motes : ℕ) (v : KeptWorld) (told : List Report) (initial old new : List Device)
+    → p.place.ready ≡ false → motes ≡ p.place.motes → Counted motes (length old) → q.place ≡ place_after p.place (Golden name used content) → q.cut ≡ p.cut → q.world ≡ Some v
+    → ((m : ℕ) (d : Device) → m < motes → slice_get new m ≡ Some d → Stands d.image (fresh name content used))
     → ((m : ℕ) (d : Device) → m < motes → slice_get old m ≡ Some d → d.stopped ≡ false) → FirstBoards motes old new
     → ((boards : List Device) (stores : List Store) (table : List Row) → length stores ≡ motes → motes ≤ length boards
     → ((m : ℕ) (d : Device) → m < motes → slice_get boards m ≡ Some d → Stands d.image (slice_index_or stores m no_site.store)) → IsWorld v boards (first_world table stores))
-    → Stood p done w initial old → PlayedLine q done w (Golden golden) told told initial new
-golden_played p q done (Some w) motes golden v told initial old new second counted place cut world formatted awake others begins s = false_not (is_behind_golden p.place) s.world.4 (ap is_behind_golden second)
-golden_played p q done None motes golden v told initial old new second counted place cut world formatted awake others begins s =
+    → Stood p done w initial old → PlayedLine q done w (Golden name used content) told told initial new
+golden_played p q done (Some w) name used content motes v told initial old new unready count counted place cut world formatted awake others begins s = false_not p.place.ready s.world.4 unready
+golden_played p q done None name used content motes v told initial old new unready count counted place cut world formatted awake others begins s =
     let first : old ≡ initial = s.boards in
-    let chip : Store = fresh golden.name golden.content golden.used in
+    let chip : Store = fresh name content used in
     let stores : List Store = replicate motes chip in
-    let z : World = golden_world motes golden in
+    let z : World = golden_world motes name used content in
     let enough : motes ≤ length new = omega (arith, counted.2, others.count) in
-    let seated : Counted motes (length new) = (counted.0, counted.1, enough) in
     let stores_there : (m : ℕ) (d : Device) → m < motes → slice_get new m ≡ Some d → Stands d.image (slice_index_or stores m no_site.store) =
     λ m d within is. subst (λ (x : Store). Stands d.image x) (sym (get_or-replicate motes m chip no_site.store within)) (formatted m d within is) in
-    let is_world : IsWorld v new z = begins new stores (golden_row golden.name golden.content ∷ []) (length-replicate motes chip) enough stores_there in
+    let is_world : IsWorld v new z = begins new stores (golden_row name content ∷ []) (length-replicate motes chip) enough stores_there in
     let many : length z.sites ≡ motes = length-map stores off_site ∙ length-replicate motes chip in
-    let here : motes ≡ (beginning_of done).motes = sym (ap motes_at second) ∙ s.motes in
+    let same : q.place.motes ≡ motes = ap (λ (x : Place). x.motes) place ∙ sym count in
     record {
       world = Some z;
       reports = [];
       told_now = sym (append-nil told);
-      runs = golden_runs done golden motes here;
-      stood = stood_next p q done (Golden golden) (Some z) initial new
-          (subst (λ (at : Place). Seated at (length new)) (sym place) seated)
+      runs = golden_runs done name used content motes (count ∙ s.motes);
+      stood = stood_next p q done (Golden name used content) (Some z) initial new place s.motes
+          (λ some. subst (λ (n : ℕ). Counted n (length new)) (sym same) (counted.0, counted.1, enough))
           (cut ∙ s.cut)
           (subst (λ (o : Option CutOfPower). IfSome o FitsCut) (sym cut) s.cut_fits)
-          (ap motes_at place ∙ here)
-          (v, world, is_world, many ∙ sym (ap motes_at place), ap is_behind_golden place)
+          (v, world, is_world, many ∙ sym same, ap (λ (x : Place). x.ready) place, subst (λ (n : ℕ). 0 < n) (sym same) counted.0)
           (record {
             all = endured motes initial old new first others;
             stands = λ m d within is. (is_world.sites m d within is).stands;
@@ -147,12 +164,12 @@ golden_played p q done None motes golden v told initial old new second counted p
     }
 
 -- formatting stopped
-pub golden_stopped : (p : Player) (done : List Line) (w : Option World) (motes : ℕ) (golden : GoldenImage) (e : FormatStopped) (initial old new : List Device) → p.place ≡ Second motes
-    → FirstBoards motes old new → FormatStops e.board motes (fresh golden.name golden.content golden.used) old new → Stood p done w initial old → Unit {0} × StoppedIn done (Golden golden ∷ []) w initial new
-golden_stopped p done (Some w) motes golden e initial old new second others stops s = false_not (is_behind_golden p.place) s.world.4 (ap is_behind_golden second)
-golden_stopped p done None motes golden e initial old new second others stops s =
+pub golden_stopped : (p : Player) (done : List Line) (w : Option World) (name : List ℕ) (used : ℕ) (content : List ℕ) (motes : ℕ) (e : FormatStopped) (initial old new : List Device) → p.place.ready ≡ false → motes ≡ p.place.motes
+    → FirstBoards motes old new → FormatStops e.board motes (fresh name content used) old new → Stood p done w initial old → Unit {0} × StoppedIn done (Golden name used content ∷ []) w initial new
+golden_stopped p done (Some w) name used content motes e initial old new unready count others stops s = false_not p.place.ready s.world.4 unready
+golden_stopped p done None name used content motes e initial old new unready count others stops s =
     let first : old ≡ initial = s.boards in
-    let here : motes ≡ motes_in done = sym (ap motes_at second) ∙ s.motes in (
+    let here : motes ≡ motes_in done = count ∙ s.motes in (
       tt,
       record {
         stopped = record {
@@ -176,28 +193,29 @@ golden_stopped p done None motes golden e initial old new second others stops s 
 
 -- ---- images
 
-pub image_played : (r : Result (Unit {0}) Stop) (p q : Player) (done : List Line) (w : Option World) (image : DeclaredImage) (v v2 : KeptWorld) (told_before told : List Report) (initial now : List Device)
-    → p.place ≡ Later (motes_at p.place) → p.world ≡ Some v → q.place ≡ p.place → q.cut ≡ p.cut → q.world ≡ Some v2
-    → DeclaredAs r v v2 image told_before told → Stood p done w initial now → PlayedAs r q done w (Image image) told_before told initial now now
-image_played r p q done None image v v2 told_before told initial now later has place cut world declared s = false_not (is_behind_golden p.place) (ap is_behind_golden later) s.world.1
-image_played (Ok u) p q done (Some w) image v v2 told_before told initial now later has place cut world declared s =
+pub image_played : (r : Result (Unit {0}) Stop) (p q : Player) (done : List Line) (w : Option World) (image version : ℕ) (name content : List ℕ) (v v2 : KeptWorld) (told_before told : List Report) (initial now : List Device)
+    → p.place.ready ≡ true → p.world ≡ Some v → q.place ≡ place_after p.place (Image image version name content) → q.cut ≡ p.cut → q.world ≡ Some v2
+    → DeclaredAs r v v2 (declared_row image version name content) told_before told → Stood p done w initial now → PlayedAs r q done w (Image image version name content) told_before told initial now now
+image_played r p q done None image version name content v v2 told_before told initial now later has place cut world declared s = false_not p.place.ready later s.world.1
+image_played (Ok u) p q done (Some w) image version name content v v2 told_before told initial now later has place cut world declared s =
     let k = s.world in
     let kept : IsWorld v now w = subst (λ (x : KeptWorld). IsWorld x now w) (some_is k.0 v (sym k.1 ∙ has)) k.2 in
-    let d : DeclaredNow v v2 image told_before told now w = declared now w kept in
-    let same = declared_same w d.world (declared_row image) d.reports d.step in
-    let none : d.world.events ≡ w.events + events_in (Image image ∷ []) = omega (arith, same.events) in
+    let row = declared_row image version name content in
+    let d : DeclaredNow v v2 row told_before told now w = declared now w kept in
+    let same = declared_same w d.world row d.reports d.step in
+    let none : d.world.events ≡ w.events + events_in (Image image version name content ∷ []) = omega (arith, same.events) in
     let b = s.boards in
+    let motes : q.place.motes ≡ p.place.motes = ap (λ (x : Place). x.motes) place in
     record {
       world = Some d.world;
       reports = d.reports;
       told_now = d.told_now;
-      runs = one_runs done (Image image) w d.world (runs.Declares (declared_row image)) d.reports refl refl d.step none;
-      stood = stood_next p q done (Image image) (Some d.world) initial now
-          (subst (λ (at : Place). Seated at (length now)) (sym place) s.seats)
+      runs = one_runs done (Image image version name content) w d.world (runs.Declares row) d.reports refl refl d.step none;
+      stood = stood_next p q done (Image image version name content) (Some d.world) initial now place s.motes
+          (seated_as p.place q.place (length now) motes s.seats)
           (cut ∙ s.cut)
           (subst (λ (o : Option CutOfPower). IfSome o FitsCut) (sym cut) s.cut_fits)
-          (ap motes_at place ∙ s.motes)
-          (v2, world, d.kept, ap (λ (xs : List Site). length xs) same.sites ∙ k.3 ∙ sym (ap motes_at place), ap is_behind_golden place ∙ k.4)
+          (v2, world, d.kept, ap (λ (xs : List Site). length xs) same.sites ∙ k.3 ∙ sym motes, ap (λ (x : Place). x.ready) place ∙ k.4, subst (λ (n : ℕ). 0 < n) (sym motes) k.5)
           (record {
             all = b.all;
             stands = λ m x within is. (d.kept.sites m x within is).stands;
@@ -206,29 +224,24 @@ image_played (Ok u) p q done (Some w) image v v2 told_before told initial now la
           });
       boards_enough = refl;
     }
-image_played (Err Memory) p q done (Some w) image v v2 told_before told initial now later has place cut world declared s = refl
-image_played (Err (NoBoard motes boards)) p q done (Some w) image v v2 told_before told initial now later has place cut world declared s = absurd declared
-image_played (Err FlashFault) p q done (Some w) image v v2 told_before told initial now later has place cut world declared s = absurd declared
-image_played (Err TooMany) p q done (Some w) image v v2 told_before told initial now later has place cut world declared s = absurd declared
-image_played (Err NoImage) p q done (Some w) image v v2 told_before told initial now later has place cut world declared s = absurd declared
-image_played (Err (BadInput n)) p q done (Some w) image v v2 told_before told initial now later has place cut world declared s = absurd declared
-image_played (Err WriteFault) p q done (Some w) image v v2 told_before told initial now later has place cut world declared s = absurd declared
+image_played (Err Memory) p q done (Some w) image version name content v v2 told_before told initial now later has place cut world declared s = refl
+image_played (Err (NoBoard motes boards)) p q done (Some w) image version name content v v2 told_before told initial now later has place cut world declared s = absurd declared
+image_played (Err FlashFault) p q done (Some w) image version name content v v2 told_before told initial now later has place cut world declared s = absurd declared
+image_played (Err TooMany) p q done (Some w) image version name content v v2 told_before told initial now later has place cut world declared s = absurd declared
+image_played (Err NoImage) p q done (Some w) image version name content v v2 told_before told initial now later has place cut world declared s = absurd declared
+image_played (Err (BadInput n fault)) p q done (Some w) image version name content v v2 told_before told initial now later has place cut world declared s = absurd declared
+image_played (Err WriteFault) p q done (Some w) image version name content v v2 told_before told initial now later has place cut world declared s = absurd declared
 
 -- ---- events
 
-event_place : (place : Place) (event : Event) → AllowedAt place (Happens event) → is_behind_golden place ≡ true
-event_place place event (inl is) = ap is_behind_golden is
-event_place place event (inr is) = ap is_behind_golden is
-
-event_seats : (place : Place) (event : Event) (boards : ℕ) → AllowedAt place (Happens event) → Seated place boards → Counted (motes_at place) boards
-event_seats place event boards (inl is) seats = subst (λ (at : Place). Seated at boards) is seats
-event_seats place event boards (inr is) seats = subst (λ (at : Place). Seated at boards) is seats
-
-event_mote : (event : Event) (motes : ℕ) → FitsEvent motes event → mote_of event < motes
-event_mote (Tick mote dt word) motes fits = fits
-event_mote (Reset mote dt word) motes fits = fits
-event_mote (Inject mote image version dt word) motes fits = fits.0
-event_mote (Order mote number image version dt word) motes fits = fits.0
+event_mote : (event : Event) (motes : ℕ) → FitsEvent motes event → IsPlayedEvent event → mote_of event < motes
+event_mote (Tick mote dt word) motes fits played = fits.0
+event_mote (Hear mote dt word frame) motes fits played = unplayed played
+event_mote (Last from to dt word) motes fits played = unplayed played
+event_mote (Reset mote dt word) motes fits played = fits.0
+event_mote (Inject mote image version dt word) motes fits played = fits.0
+event_mote (Order mote number image version dt word) motes fits played = fits.0
+event_mote (Frame mote dt word bytes) motes fits played = unplayed played
 
 other_than : (m n k : ℕ) → n < k → k ≤ m → m ≡ n → ⊥
 other_than m n k low high e = omega arith
@@ -272,40 +285,42 @@ flash_next u event done cut board initial old new waits within count f b =
     }
 
 pub event_played : (r : Result (Unit {0}) Stop) (p q : Player) (done : List Line) (w : Option World) (event : Event) (v v2 : KeptWorld) (told_before told : List Report) (initial old new : List Device)
-    → AllowedAt p.place (Happens event) → FitsEvent (motes_at p.place) event → p.world ≡ Some v → q.place ≡ Later (motes_at p.place) → q.cut ≡ None → q.world ≡ Some v2
-    → ((u : World) → IsWorld v old u → HappenedAs r u (record { event = event; cut = p.cut }) v2 old new told_before told) → Stood p done w initial old
+    → StandsAt p.place (Happens event) → FitsEvent p.place.motes event → IsPlayedEvent event → p.world ≡ Some v → q.place ≡ place_after p.place (Happens event) → q.cut ≡ None → q.world ≡ Some v2
+    → (waits : Option CutOfPower) → waits ≡ p.cut → ((u : World) → IsWorld v old u → HappenedAs r u (record { event = event; cut = waits }) v2 old new told_before told) → Stood p done w initial old
     → PlayedAs r q done w (Happens event) told_before told initial old new
-event_played r p q done None event v v2 told_before told initial old new allowed fits has place cut world happened s = false_not (is_behind_golden p.place) (event_place p.place event allowed) s.world.1
-event_played r p q done (Some w) event v v2 told_before told initial old new allowed fits has place cut world happened s =
-    by_result r (happened w kept)
+event_played r p q done None event v v2 told_before told initial old new allowed fits plays has place cut world waits same_cut happened s = false_not p.place.ready (event_at p.place event allowed).0 s.world.1
+event_played r p q done (Some w) event v v2 told_before told initial old new allowed fits plays has place cut world waits same_cut happened s =
+    by_result r (subst (λ (o : Option CutOfPower). HappenedAs r w (record { event = event; cut = o }) v2 old new told_before told) same_cut (happened w kept))
   where
     kept : IsWorld v old w
     kept = subst (λ (x : KeptWorld). IsWorld x old w) (some_is s.world.0 v (sym s.world.1 ∙ has)) s.world.2
 
+    same : q.place.motes ≡ p.place.motes
+    same = ap (λ (x : Place). x.motes) place
+
     by_result : (r : Result (Unit {0}) Stop) → HappenedAs r w (record { event = event; cut = p.cut }) v2 old new told_before told → PlayedAs r q done (Some w) (Happens event) told_before told initial old new
     by_result (Ok u) a =
         let counts = step_counts w a.world (record { event = event; cut = p.cut }) a.reports a.step in
-        let many : length a.world.sites ≡ motes_at p.place = counts.sites ∙ s.world.3 in
-        let within : mote_of event < length w.sites = subst (λ (n : ℕ). mote_of event < n) (sym s.world.3) (event_mote event (motes_at p.place) fits) in
-        let seated = event_seats p.place event (length new) allowed (subst (λ (n : ℕ). Seated p.place n) (sym a.boards.count) s.seats) in
+        let many : length a.world.sites ≡ p.place.motes = counts.sites ∙ s.world.3 in
+        let within : mote_of event < length w.sites = subst (λ (n : ℕ). mote_of event < n) (sym s.world.3) (event_mote event p.place.motes fits plays) in
+        let seats : Seated p.place (length new) = subst (λ (n : ℕ). Seated p.place n) (sym a.boards.count) s.seats in
         record {
           world = Some a.world;
           reports = a.reports;
           told_now = a.told_now;
           runs = one_runs done (Happens event) w a.world (runs.Happens (record { event = event; cut = p.cut })) a.reports
               (ap (λ (o : Option CutOfPower). runs.Happens (record { event = event; cut = o }) ∷ []) s.cut) refl a.step counts.events;
-          stood = stood_next p q done (Happens event) (Some a.world) initial new
-              (subst (λ (at : Place). Seated at (length new)) (sym place) seated)
+          stood = stood_next p q done (Happens event) (Some a.world) initial new place s.motes
+              (seated_as p.place q.place (length new) same seats)
               cut
               (subst (λ (o : Option CutOfPower). IfSome o FitsCut) (sym cut) tt)
-              (ap motes_at place ∙ s.motes)
-              (v2, world, a.stood, many ∙ sym (ap motes_at place), ap is_behind_golden place)
+              (v2, world, a.stood, many ∙ sym same, ap (λ (x : Place). x.ready) place ∙ s.world.4, subst (λ (n : ℕ). 0 < n) (sym same) s.world.5)
               (stands_next w a.world v2 (mote_of event) initial old new within counts.sites a.stood a.boards s.boards);
           boards_enough = refl;
         }
     by_result (Err Memory) a = a
     by_result (Err FlashFault) a =
-        let here : mote_of event < motes_in done = subst (λ (n : ℕ). mote_of event < n) s.motes (event_mote event (motes_at p.place) fits) in
+        let here : mote_of event < motes_in done = subst (λ (n : ℕ). mote_of event < n) s.motes (event_mote event p.place.motes fits plays) in
         (tt, flash_next w event done p.cut a.0 initial old new s.cut here (sym s.motes ∙ sym s.world.3) a.1 s.boards)
     by_result (Err TooMany) a = record { event = event; happens = refl; world = w; is_world = refl; full = a.0; same = a.1 }
     by_result (Err NoImage) a =
@@ -318,5 +333,5 @@ event_played r p q done (Some w) event v v2 told_before told initial old new all
           ends = subst (λ (o : Option CutOfPower). EndsRun w (record { event = event; cut = o }) a.world) s.cut a.ends;
         }
     by_result (Err (NoBoard motes boards)) a = absurd a
-    by_result (Err (BadInput n)) a = absurd a
+    by_result (Err (BadInput n fault)) a = absurd a
     by_result (Err WriteFault) a = absurd a

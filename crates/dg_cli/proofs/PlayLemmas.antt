@@ -1,16 +1,21 @@
 -- What the lines of a script do to a replay.
-use Rattle.std.proofs.Common.{◌≡◌, ℕ, ◌+◌, Bool, true, false, if◌then◌else◌, List, [], ◌∷◌, ◌++◌, length, refl, append-nil, append_assoc, ap, sym, ◌∙◌, subst, arith}
+use Rattle.std.proofs.Common.{◌≡◌, ℕ, ◌+◌, ◌<◌, ◌&&◌, not, Bool, true, false, if◌then◌else◌, List, [], ◌∷◌, ◌++◌, length, refl, append-nil, append_assoc, ap, sym, ◌∙◌, subst, arith}
+use Rattle.std.proofs.lemmas.Bool.Decides.{nat_tests}
 use Rattle.std.specs.Prelude.{Option, Some, None, IfSome, nat_lt}
 use Rattle.dg_nor.specs.Device.{Device}
 use Rattle.dg_object.specs.Object.{Row}
 use Rattle.dg_volume.specs.Table.{row_at}
-use Rattle.dg_script.specs.Script.{motes_at, FitsCut}
+use Rattle.dg_script.specs.Fitting.{FitsCut, StandsAt, verb_of_event}
+use Rattle.dg_script.specs.Verbs.{is_second, is_later, stands}
+use Rattle.dg_script.specs.Places.{place_after}
+use Rattle.dg_script.specs.declared.place.Place.{Place}
 use Rattle.dg_script.specs.Report.{report_text}
-use Rattle.dg_script.specs.declared.events.Cut.{Cut as CutOfPower}
-use Rattle.dg_script.specs.declared.events.Step.{Step}
-use Rattle.dg_script.specs.declared.line.Golden.{Golden as GoldenImage}
+use Rattle.dg_base.specs.declared.events.Cut.{Cut as CutOfPower}
+use Rattle.dg_base.specs.declared.events.Step.{Step}
+use Rattle.dg_base.specs.declared.events.Event.{Event}
+use Rattle.dg_base.specs.declared.events.Event.TheVariants.{Tick, Hear, Last, Reset, Inject, Order, Frame}
 use Rattle.dg_script.specs.declared.line.Line.{Line}
-use Rattle.dg_script.specs.declared.line.Line.TheVariants.{Nothing, Motes, Golden, Image, Cut, Happens}
+use Rattle.dg_script.specs.declared.line.Line.TheVariants.{Nothing, Motes, Golden, Boards, Link, Image, Cut, Happens, Round, Sweeps}
 use Rattle.dg_script.specs.declared.report.Report.{Report}
 use Rattle.dg_script.specs.declared.report.Report.TheVariants as report
 use Rattle.dg_rules.specs.World.{World, counted}
@@ -19,11 +24,12 @@ use Rattle.dg_rules.specs.Events.{Does, Refuses, Goes, Deed, does, mote_of, dt_o
 use Rattle.dg_rules.specs.Steps.{WorldStep, DeclareStep, StepDoes, Ended, declared_as, blows}
 use Rattle.dg_rules.specs.Runs.{Item, Played, Plays, ItemStep}
 use Rattle.dg_rules.proofs.SiteLemmas.{site_count}
-use Rattle.dg_cli.specs.Items.{cut_by, item_by, cut_behind, items_behind, Beginning, begin_by, begin_behind, beginning_of, golden_world, lacking_by}
+use Rattle.dg_script.specs.Items.{cut_by, cut_behind}
+use Rattle.dg_cli.specs.Items.{item_by, items_behind, Beginning, begin_by, begin_behind, beginning_of, golden_world}
 use Rattle.dg_cli.specs.Boards.{BoardsStand}
 use Rattle.dg_cli.specs.Ending.{events_in}
 use Rattle.dg_cli.specs.Outcome.{RunsTo}
-use Rattle.dg_cli.specs.Playing.{is_behind_golden, Seated, InWorld, Stood, CountsEvents, LineRuns}
+use Rattle.dg_cli.specs.Playing.{Counted, Seated, InWorld, Stood, CountsEvents, LineRuns}
 use Rattle.dg_cli.specs.declared.player.Player.{Player}
 
 -- ---- one line behind others
@@ -45,29 +51,30 @@ unfolding begin_behind
 begin_next b [] line = refl
 begin_next b (l ∷ done) line = begin_next (begin_by b l) done line
 
-lacking_through : (boards : ℕ) (l : Line) (rest more : Option ℕ) → (lacking_by boards l rest ≡ None → rest ≡ None → more ≡ None) → lacking_by boards l rest ≡ None → rest ≡ None
-lacking_through boards Nothing rest more f e = e
-lacking_through boards (Motes n) rest more f e = by_test (nat_lt boards n) e
-  where
-    by_test : (b : Bool) → (if b then Some n else rest) ≡ None → rest ≡ None
-    by_test true e = cc
-    by_test false e = e
-lacking_through boards (Golden golden) rest more f e = e
-lacking_through boards (Image image) rest more f e = e
-lacking_through boards (Cut cut) rest more f e = e
-lacking_through boards (Happens event) rest more f e = e
-
 -- ---- what lines add to a run
 
+-- how many motes there are behind a line
+motes_next : (place : Place) (b : Beginning) (line : Line) → place.motes ≡ b.motes → (place_after place line).motes ≡ (begin_by b line).motes
+motes_next place b Nothing e = e
+motes_next place b (Motes n) e = refl
+motes_next place b (Golden name used content) e = e
+motes_next place b Boards e = e
+motes_next place b (Link x y) e = e
+motes_next place b (Image image version name content) e = e
+motes_next place b (Cut cut) e = e
+motes_next place b (Happens event) e = e
+motes_next place b (Round x y) e = e
+motes_next place b (Sweeps n) e = e
+
 pub stood_next : (p q : Player) (done : List Line) (line : Line) (v : Option World) (initial now : List Device)
-    → Seated q.place (length now) → q.cut ≡ cut_by (cut_behind None done) line → IfSome q.cut FitsCut → motes_at q.place ≡ (begin_by (beginning_of done) line).motes
+    → q.place ≡ place_after p.place line → p.place.motes ≡ (beginning_of done).motes → Seated q.place (length now) → q.cut ≡ cut_by (cut_behind None done) line → IfSome q.cut FitsCut
     → InWorld q v now → BoardsStand v initial now → Stood q (done ++ line ∷ []) v initial now
-stood_next p q done line v initial now seats cut fits motes world boards =
+stood_next p q done line v initial now place motes seats cut fits world boards =
     record {
       seats = seats;
       cut = cut ∙ sym (cut_next None done line);
       cut_fits = fits;
-      motes = motes ∙ ap (λ (b : Beginning). b.motes) (sym (begin_next _ done line));
+      motes = ap (λ (at : Place). at.motes) place ∙ motes_next p.place (beginning_of done) line motes ∙ ap (λ (b : Beginning). b.motes) (sym (begin_next _ done line));
       world = world;
       boards = boards;
     }
@@ -121,15 +128,15 @@ plays_none : (w v : World) (played : List Played) → played ≡ [] → w ≡ v 
 unfolding Plays
 plays_none w v played none same = subst (λ (ps : List Played). Plays w (ps ++ []) v) (sym none) same
 
-pub golden_runs : (done : List Line) (golden : GoldenImage) (motes : ℕ) → motes ≡ (beginning_of done).motes → LineRuns done (Golden golden) None (Some (golden_world motes golden)) []
-golden_runs done golden motes is =
+pub golden_runs : (done : List Line) (name : List ℕ) (used : ℕ) (content : List ℕ) (motes : ℕ) → motes ≡ (beginning_of done).motes → LineRuns done (Golden name used content) None (Some (golden_world motes name used content)) []
+golden_runs done name used content motes is =
     record {
       more = [];
       items = refl;
       run = λ played r. (
-        golden_world motes golden,
+        golden_world motes name used content,
         refl,
-        plays_none (golden_world (beginning_of done).motes golden) (golden_world motes golden) played (none_played (beginning_of done).world played r) (ap (λ (n : ℕ). golden_world n golden) (sym is)),
+        plays_none (golden_world (beginning_of done).motes name used content) (golden_world motes name used content) played (none_played (beginning_of done).world played r) (ap (λ (n : ℕ). golden_world n name used content) (sym is)),
       );
       text = refl;
       events = λ n c. sym (none_counted n c);
@@ -181,14 +188,61 @@ step_counts w v x reports step = does_counts (does w x.event) w x v reports step
 
 -- ---- places
 
-false_not : {A : Type 0} (b : Bool) → b ≡ true → b ≡ false → A
+pub false_not : {A : Type 0} (b : Bool) → b ≡ true → b ≡ false → A
 false_not b holds fails = absurd (let e : true ≡ false = sym holds ∙ fails in cc)
 
--- a world is kept exactly behind golden
-pub no_world : (p : Player) (w : Option World) (now : List Device) → is_behind_golden p.place ≡ false → InWorld p w now → (w ≡ None) × (p.world ≡ None)
-no_world p None now before kept = (refl, kept.0)
-no_world p (Some w) now before (v, is, world, count, behind) = false_not (is_behind_golden p.place) behind before
+-- what is not played does not come
+pub unplayed : {A : Type 0} → false ≡ true → A
+unplayed e = absurd (let f : false ≡ true = e in cc)
 
-pub some_world : (p : Player) (w : Option World) (now : List Device) → is_behind_golden p.place ≡ true → InWorld p w now → (u : World) × (w ≡ Some u)
-some_world p None now behind kept = false_not (is_behind_golden p.place) behind kept.1
+both_true : (a b : Bool) → (a && b) ≡ true → (a ≡ true) × (b ≡ true)
+both_true true b e = (refl, e)
+both_true false b e = absurd (let f : false ≡ true = e in cc)
+
+not_true : (b : Bool) → not b ≡ true → b ≡ false
+not_true true e = absurd (let f : false ≡ true = e in cc)
+not_true false e = refl
+
+pub above : (n m : ℕ) → nat_lt n m ≡ true → n < m
+above n m h = grind (arith, nat_tests)
+
+pub later_at : (place : Place) → is_later place ≡ true → (place.ready ≡ true) × (0 < place.motes)
+later_at place e = let b = both_true (nat_lt 0 place.motes) place.ready e in (b.1, above 0 place.motes b.0)
+
+pub second_at : (place : Place) → is_second place ≡ true → (place.ready ≡ false) × (0 < place.motes)
+second_at place e = let b = both_true (nat_lt 0 place.motes) (not place.ready) e in (not_true place.ready b.1, above 0 place.motes b.0)
+
+event_stands : (event : Event) (place : Place) → stands (verb_of_event event) place ≡ true → is_later place ≡ true
+event_stands (Tick mote dt word) place h = h
+event_stands (Hear mote dt word frame) place h = h
+event_stands (Last from to dt word) place h = h
+event_stands (Reset mote dt word) place h = h
+event_stands (Inject mote image version dt word) place h = h
+event_stands (Order mote number image version dt word) place h = h
+event_stands (Frame mote dt word bytes) place h = h
+
+pub golden_at : (place : Place) (name : List ℕ) (used : ℕ) (content : List ℕ) → StandsAt place (Golden name used content) → (place.ready ≡ false) × (0 < place.motes)
+golden_at place name used content h = second_at place h.fits
+
+pub image_at : (place : Place) (image version : ℕ) (name content : List ℕ) → StandsAt place (Image image version name content) → (place.ready ≡ true) × (0 < place.motes)
+image_at place image version name content h = later_at place h.fits
+
+pub event_at : (place : Place) (event : Event) → StandsAt place (Happens event) → (place.ready ≡ true) × (0 < place.motes)
+event_at place event h = later_at place (event_stands event place h.fits)
+
+-- a world is kept exactly behind golden
+pub no_world : (p : Player) (w : Option World) (now : List Device) → p.place.ready ≡ false → InWorld p w now → (w ≡ None) × (p.world ≡ None)
+no_world p None now before kept = (refl, kept.0)
+no_world p (Some w) now before k = false_not p.place.ready k.4 before
+
+pub some_world : (p : Player) (w : Option World) (now : List Device) → p.place.ready ≡ true → InWorld p w now → (u : World) × (w ≡ Some u)
+some_world p None now behind kept = false_not p.place.ready behind kept.1
 some_world p (Some w) now behind kept = (w, refl)
+
+-- a player that keeps the same world, where there are as many motes
+pub in_world_as : (p q : Player) (w : Option World) (now : List Device) → q.world ≡ p.world → q.place.motes ≡ p.place.motes → q.place.ready ≡ p.place.ready → InWorld p w now → InWorld q w now
+in_world_as p q None now world motes ready k = (world ∙ k.0, ready ∙ k.1)
+in_world_as p q (Some w) now world motes ready k = (k.0, world ∙ k.1, k.2, k.3 ∙ sym motes, ready ∙ k.4, subst (λ (n : ℕ). 0 < n) (sym motes) k.5)
+
+pub seated_as : (p q : Place) (boards : ℕ) → q.motes ≡ p.motes → Seated p boards → Seated q boards
+seated_as p q boards motes seats = subst (λ (n : ℕ). 0 < n → Counted n boards) (sym motes) seats

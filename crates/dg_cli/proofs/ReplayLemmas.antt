@@ -1,5 +1,5 @@
 -- What the steps of a replay do, line by line.
-use Rattle.std.proofs.Common.{◌≡◌, ◌⊎◌, inl, inr, ℕ, ◌+◌, ◌≤◌, Bool, true, false, List, [], ◌∷◌, ◌++◌, length, map, take, drop, refl, append-nil, append_assoc, ap, sym, ◌∙◌, subst, arith}
+use Rattle.std.proofs.Common.{◌≡◌, ◌≢◌, ◌⊎◌, inl, inr, ℕ, ◌+◌, ◌≤◌, Bool, true, false, List, [], ◌∷◌, ◌++◌, length, map, take, drop, refl, append-nil, append_assoc, ap, sym, ◌∙◌, subst, arith}
 use Rattle.std.specs.Prelude.{Option, Some, None, Result, Ok, Err, OnOk, OnErr, IfSome, nat_lt, if◌then◌else◌}
 use Rattle.std.proofs.lemmas.List.{take-append-drop, map-append}
 use Rattle.std.proofs.lemmas.List.Sums.{sum_by-append}
@@ -7,28 +7,33 @@ use Rattle.std.proofs.lemmas.Grind.{flat_map-append}
 use Rattle.dg_base.proofs.OutsideLemmas.{Puts-join, Puts-nil}
 use Rattle.dg_base.specs.Outside.{Puts, PutsFront}
 use Rattle.dg_nor.specs.Device.{Device}
-use Rattle.dg_script.specs.Script.{Script, script_from, with_line, line_of, place_after, FitsCut, motes_at}
+use Rattle.dg_script.specs.Fitting.{FitsCut}
+use Rattle.dg_script.specs.Lines.{line_of}
+use Rattle.dg_script.specs.Places.{first_place, place_after}
+use Rattle.dg_script.specs.Script.{Script, script_from, with_line}
 use Rattle.dg_script.specs.Report.{report_text}
 use Rattle.dg_script.specs.declared.report.Report.{Report}
-use Rattle.dg_script.specs.declared.events.Cut.{Cut as CutOfPower}
-use Rattle.dg_script.specs.declared.line.Place.{Place}
-use Rattle.dg_script.specs.declared.line.Place.TheVariants.{First}
+use Rattle.dg_base.specs.declared.events.Cut.{Cut as CutOfPower}
+use Rattle.dg_script.specs.declared.fault.LineFault.{LineFault}
+use Rattle.dg_script.specs.declared.fault.LineFault.TheVariants as line_fault
+use Rattle.dg_script.specs.declared.place.Place.{Place}
 use Rattle.dg_script.specs.declared.line.Line.{Line}
-use Rattle.dg_script.specs.declared.line.Line.TheVariants.{Nothing, Motes, Golden, Image, Cut, Happens}
+use Rattle.dg_script.specs.declared.line.Line.TheVariants.{Nothing, Motes, Golden, Boards, Link, Image, Cut, Happens, Round, Sweeps}
 use Rattle.dg_rules.specs.Sizes.{most_events}
 use Rattle.dg_rules.specs.World.{World}
 use Rattle.dg_rules.specs.Runs.{Item, Played}
-use Rattle.dg_cli.specs.Items.{items_of, items_behind, cut_behind, begin_behind, Beginning, beginning_of, lacking, lacking_by, no_beginning}
+use Rattle.dg_script.specs.Items.{cut_behind}
+use Rattle.dg_cli.specs.Items.{items_of, items_behind, begin_behind, Beginning, beginning_of, lacking, lacking_by, no_beginning}
 use Rattle.dg_cli.specs.Boards.{BoardsStand, StoppedIn}
 use Rattle.dg_cli.specs.Ending.{events_in, LinesInLimits}
 use Rattle.dg_cli.specs.Outcome.{IsFront, RunsTo, item_played, played_text}
-use Rattle.dg_cli.specs.Playing.{InWorld, Seated, is_behind_golden, Stood, Ready, CountsEvents, PlayedLine, PlayedAs, LacksImage}
-use Rattle.dg_cli.specs.Replaying.{TextPlayed, TextTold, TextCut, NothingDone, TextAnswer, Reached, PlayedFront, PlayedUpTo, HasFew, LinesAnswer}
+use Rattle.dg_cli.specs.Playing.{InWorld, Stood, Ready, CountsEvents, PlayedLine, PlayedAs, LacksImage}
+use Rattle.dg_cli.specs.Replaying.{StopsAtLine, TextPlayed, TextTold, TextCut, NothingDone, TextAnswer, Reached, PlayedFront, PlayedUpTo, HasFew, LinesAnswer}
 use Rattle.dg_cli.specs.declared.player.Player.{Player}
 use Rattle.dg_cli.specs.declared.stop.Stop.{Stop}
 use Rattle.dg_cli.specs.declared.stop.Stop.TheVariants.{Memory, BadInput, WriteFault, FlashFault, TooMany, NoBoard, NoImage}
 use Rattle.dg_cli.proofs.PlayLemmas.{items_next, begin_next}
-use Rattle.dg_cli.proofs.GoldenLemmas.{script_fits, lacking_none}
+use Rattle.dg_cli.proofs.GoldenLemmas.{IsBehind, script_fits, lacking_none}
 
 -- ---- one line
 
@@ -47,12 +52,12 @@ neither s failed memory write (inl m) = other_stop s Memory m memory
 neither s failed memory write (inr f) = other_stop s WriteFault f.0 write
 
 abbrev text_played : (text : List ℕ) (p q : Player) (done : List Line) (w : Option World) (initial now : List Device) (line : Line) (reports : List Report)
-    → line_of p.place text ≡ Some line → PlayedLine q done w line [] reports initial now → q.place ≡ place_after p.place line → TextPlayed text p q done w initial now
+    → line_of p.place text ≡ Ok line → PlayedLine q done w line [] reports initial now → q.place ≡ place_after p.place line → TextPlayed text p q done w initial now
 text_played text p q done w initial now line reports spelled to behind = record { line = line; spelled = spelled; reports = reports; to = to; behind = behind }
 
 -- a line was played, and what it reports was told, or a front of it
 pub told_as : (r : Result (Unit {0}) Stop) (text : List ℕ) (number : ℕ) (p q : Player) (done : List Line) (w : Option World) (initial old new : List Device) (before after : Option (List ℕ)) (failed : Type 0) (line : Line) (reports : List Report)
-    → line_of p.place text ≡ Some line → PlayedLine q done w line [] reports initial new → q.place ≡ place_after p.place line
+    → line_of p.place text ≡ Ok line → PlayedLine q done w line [] reports initial new → q.place ≡ place_after p.place line
     → OnOk r (Puts before after (report_text reports)) → OnErr r (PutsFront before after (report_text reports)) → OnErr r ((r ≡ Err Memory) ⊎ ((r ≡ Err WriteFault) × failed))
     → TextAnswer r text number p q done w initial old new before after failed
 told_as (Ok u) text number p q done w initial old new before after failed line reports spelled to behind ok cut cause =
@@ -64,36 +69,70 @@ told_as (Err WriteFault) text number p q done w initial old new before after fai
       | inl m ↦ absurd (other_stop WriteFault Memory m (λ e. cc))
       | inr f ↦ (f.1, record { played = text_played text p q done w initial new line reports spelled to behind; told = cut })
     ]
-told_as (Err (BadInput n)) text number p q done w initial old new before after failed line reports spelled to behind ok cut cause = absurd (neither (BadInput n) failed (λ e. cc) (λ e. cc) cause)
+told_as (Err (BadInput n f)) text number p q done w initial old new before after failed line reports spelled to behind ok cut cause = absurd (neither (BadInput n f) failed (λ e. cc) (λ e. cc) cause)
 told_as (Err FlashFault) text number p q done w initial old new before after failed line reports spelled to behind ok cut cause = absurd (neither FlashFault failed (λ e. cc) (λ e. cc) cause)
 told_as (Err TooMany) text number p q done w initial old new before after failed line reports spelled to behind ok cut cause = absurd (neither TooMany failed (λ e. cc) (λ e. cc) cause)
 told_as (Err (NoBoard m b)) text number p q done w initial old new before after failed line reports spelled to behind ok cut cause = absurd (neither (NoBoard m b) failed (λ e. cc) (λ e. cc) cause)
 told_as (Err NoImage) text number p q done w initial old new before after failed line reports spelled to behind ok cut cause = absurd (neither NoImage failed (λ e. cc) (λ e. cc) cause)
 
 -- a line was not played
+-- a line was not read
+pub not_read_as : (stop : Stop) (text : List ℕ) (number : ℕ) (fault : LineFault) (p q : Player) (done : List Line) (w : Option World) (initial now : List Device) (before : Option (List ℕ)) (failed : Type 0)
+    → (known : (fault ≡ line_fault.Memory) ⊎ (fault ≢ line_fault.Memory)) → StopsAtLine stop number fault → (fault ≢ line_fault.Memory → line_of p.place text ≡ Err fault) → TextAnswer (Err stop) text number p q done w initial now now before before failed
+not_read_as stop text number fault p q done w initial now before failed (inl memory) at read =
+    let P : Stop → Type 0 = λ x. TextAnswer (Err x) text number p q done w initial now now before before failed in
+    subst P (sym (at.memory memory)) (inl (record { boards = refl; told = refl }))
+not_read_as stop text number fault p q done w initial now before failed (inr other) at read =
+    let P : Stop → Type 0 = λ x. TextAnswer (Err x) text number p q done w initial now now before before failed in
+    subst P (sym (at.other other)) (refl, read other, record { boards = refl; told = refl })
+
+pub memory_or : (fault : LineFault) → (fault ≡ line_fault.Memory) ⊎ (fault ≢ line_fault.Memory)
+memory_or line_fault.Memory = inl refl
+memory_or line_fault.Verb = inr (λ e. cc)
+memory_or line_fault.Few = inr (λ e. cc)
+memory_or line_fault.Many = inr (λ e. cc)
+memory_or line_fault.Number = inr (λ e. cc)
+memory_or line_fault.Mote = inr (λ e. cc)
+memory_or line_fault.Image = inr (λ e. cc)
+memory_or line_fault.Version = inr (λ e. cc)
+memory_or line_fault.Name = inr (λ e. cc)
+memory_or line_fault.Content = inr (λ e. cc)
+memory_or line_fault.Mask = inr (λ e. cc)
+memory_or line_fault.Place = inr (λ e. cc)
+memory_or line_fault.Cut = inr (λ e. cc)
+memory_or line_fault.Long = inr (λ e. cc)
+
+-- memory ran out before a line was played
+pub memory_as : (stop : Stop) (text : List ℕ) (number : ℕ) (p q : Player) (done : List Line) (w : Option World) (initial now : List Device) (before : Option (List ℕ)) (failed : Type 0)
+    → ◌≡◌ {A = Result (Unit {0}) Stop} (Err stop) (Err Memory) → TextAnswer (Err stop) text number p q done w initial now now before before failed
+memory_as stop text number p q done w initial now before failed is =
+    let same : stop ≡ Memory = cc in
+    let P : Stop → Type 0 = λ x. TextAnswer (Err x) text number p q done w initial now now before before failed in
+    subst P (sym same) (inl (record { boards = refl; told = refl }))
+
 pub not_played_as : (stop : Stop) (text : List ℕ) (number : ℕ) (p q : Player) (done : List Line) (w : Option World) (initial old new : List Device) (before : Option (List ℕ)) (failed : Type 0) (line : Line) (told_before told : List Report)
-    → line_of p.place text ≡ Some line → PlayedAs (Err stop) q done w line told_before told initial old new → TextAnswer (Err stop) text number p q done w initial old new before before failed
+    → line_of p.place text ≡ Ok line → PlayedAs (Err stop) q done w line told_before told initial old new → TextAnswer (Err stop) text number p q done w initial old new before before failed
 not_played_as Memory text number p q done w initial old new before failed line told_before told spelled played = inl (record { boards = played; told = refl })
 not_played_as (NoBoard m b) text number p q done w initial old new before failed line told_before told spelled played = (record { line = line; spelled = spelled; stopped = played }, refl)
 not_played_as FlashFault text number p q done w initial old new before failed line told_before told spelled played = (record { line = line; spelled = spelled; stopped = played }, refl)
 not_played_as TooMany text number p q done w initial old new before failed line told_before told spelled played = (record { line = line; spelled = spelled; stopped = played }, refl)
 not_played_as NoImage text number p q done w initial old new before failed line told_before told spelled played = record { line = line; spelled = spelled; stopped = played }
-not_played_as (BadInput n) text number p q done w initial old new before failed line told_before told spelled played = absurd played
+not_played_as (BadInput n f) text number p q done w initial old new before failed line told_before told spelled played = absurd played
 not_played_as WriteFault text number p q done w initial old new before failed line told_before told spelled played = absurd played
 
 -- ---- lines, one after the other
 
 -- the script behind a line that is read
-script_line : (ends : Bool) (place : Place) (n : ℕ) (text : List ℕ) (texts : List (List ℕ)) (line : Line) → line_of place text ≡ Some line
+script_line : (ends : Bool) (place : Place) (n : ℕ) (text : List ℕ) (texts : List (List ℕ)) (line : Line) → line_of place text ≡ Ok line
     → script_from ends place n (text ∷ texts)
     ≡ record { lines = line ∷ (script_from ends (place_after place line) (n + 1) texts).lines; fault = (script_from ends (place_after place line) (n + 1) texts).fault }
 unfolding script_from
-script_line ends place n text texts line spelled = ap (λ (o : Option Line). with_line o (λ l. script_from ends (place_after place l) (n + 1) texts) n) spelled
+script_line ends place n text texts line spelled = ap (λ (o : Result Line LineFault). with_line o (λ l. script_from ends (place_after place l) (n + 1) texts) n) spelled
 
 -- and one that ends at a line that is not
-script_fault : (ends : Bool) (place : Place) (n : ℕ) (text : List ℕ) (texts : List (List ℕ)) → line_of place text ≡ None → script_from ends place n (text ∷ texts) ≡ record { lines = []; fault = Some n }
+script_fault : (ends : Bool) (place : Place) (n : ℕ) (text : List ℕ) (texts : List (List ℕ)) (fault : LineFault) → line_of place text ≡ Err fault → script_from ends place n (text ∷ texts) ≡ record { lines = []; fault = Some (n, fault) }
 unfolding script_from
-script_fault ends place n text texts spelled = ap (λ (o : Option Line). with_line o (λ l. script_from ends (place_after place l) (n + 1) texts) n) spelled
+script_fault ends place n text texts fault spelled = ap (λ (o : Result Line LineFault). with_line o (λ l. script_from ends (place_after place l) (n + 1) texts) n) spelled
 
 played_text-more : (ps qs : List Played) → played_text (ps ++ qs) ≡ played_text ps ++ played_text qs
 played_text-more ps qs = flat_map-append (λ (q : Played). report_text q.reports) ps qs
@@ -138,18 +177,22 @@ lacking_append boards (l ∷ done) more none one = through l (lacking boards don
     through : (l : Line) (rest more : Option ℕ) → lacking_by boards l rest ≡ None → (rest ≡ None → more ≡ None) → lacking_by boards l more ≡ None
     through Nothing rest more e f = f e
     through (Motes n) rest more e f = by_test (nat_lt boards n) n rest more e f
-    through (Golden golden) rest more e f = f e
-    through (Image image) rest more e f = f e
+    through (Golden name used content) rest more e f = f e
+    through Boards rest more e f = f e
+    through (Link a b) rest more e f = f e
+    through (Image image version name content) rest more e f = f e
     through (Cut cut) rest more e f = f e
     through (Happens event) rest more e f = f e
+    through (Round a b) rest more e f = f e
+    through (Sweeps n) rest more e f = f e
 
 lacking_next : (boards : ℕ) (done : List Line) (line : Line) → lacking boards done ≡ None → lacking_by boards line None ≡ None → lacking boards (done ++ line ∷ []) ≡ None
 unfolding lacking
 lacking_next boards done line none one = lacking_append boards done (line ∷ []) none one
 
-behind_world : (p : Player) (w : Option World) (u : World) (now : List Device) → w ≡ Some u → InWorld p w now → is_behind_golden p.place ≡ true
-behind_world p None u now is kept = cc
-behind_world p (Some w) u now is kept = kept.4
+behind_world : (p : Player) (w : Option World) (u : World) (now : List Device) → w ≡ Some u → InWorld p w now → IsBehind p.place
+behind_world p None u now is kept = absurd (let e : None ≡ Some u = is in cc)
+behind_world p (Some w) u now is kept = record { ready = kept.4; some = kept.5 }
 
 few_counted : (w : Option World) (p : Player) (n : ℕ) (now : List Device) → CountsEvents w n → InWorld p w now → n ≤ most_events
 few_counted None p n now counted kept = omega (arith, counted)
@@ -282,16 +325,16 @@ stopped_more done line more w initial now s = record { stopped = s.stopped; ther
 
 -- a stop at a line, behind the front that was reached
 pub stopped_at : (stop : Stop) (ends : Bool) (script : Script) (texts : List (List ℕ)) (text : List ℕ) (n : ℕ) (p q : Player) (initial old now : List Device) (before mid after : Option (List ℕ)) (failed worse : Type 0) → (failed → worse)
-    → (r : Reached ends script (text ∷ texts) n p initial old before mid) → ((line : Line) → line_of p.place text ≡ Some line → LacksImage (cut_behind None r.done) r.last line → ⊥) → TextAnswer (Err stop) text n p q r.done r.last initial old now mid after failed
+    → (r : Reached ends script (text ∷ texts) n p initial old before mid) → ((line : Line) → line_of p.place text ≡ Ok line → LacksImage (cut_behind None r.done) r.last line → ⊥) → TextAnswer (Err stop) text n p q r.done r.last initial old now mid after failed
     → LinesAnswer (Err stop) ends script initial now before after worse
 stopped_at Memory ends script texts text n p q initial old now before mid after failed worse spread r found (inl none) = front_kept ends script (text ∷ texts) n p initial old now before mid after r none
 stopped_at Memory ends script texts text n p q initial old now before mid after failed worse spread r found (inr cut) = front_of_report ends script texts text n p q initial old now before mid after r cut
-stopped_at (BadInput line) ends script texts text n p q initial old now before mid after failed worse spread r found (same, spelled, none) =
-    let bad = script_fault ends p.place n text texts spelled in
+stopped_at (BadInput line fault) ends script texts text n p q initial old now before mid after failed worse spread r found (same, spelled, none) =
+    let bad = script_fault ends p.place n text texts fault spelled in
     let rest : (script_from ends p.place n (text ∷ texts)).lines ≡ [] = ap (λ (s : Script). s.lines) bad in
     reached_up_to ends script texts text n p initial old before mid after _ r none.told (
       rest,
-      sym r.fault ∙ ap (λ (s : Script). s.fault) bad ∙ ap (λ (k : ℕ). Some k) (sym same),
+      sym r.fault ∙ ap (λ (s : Script). s.fault) bad ∙ ap (λ (k : ℕ). Some (k, fault)) (sym same),
       subst (λ (ds : List Device). BoardsStand r.last initial ds) (sym none.boards) r.stood.boards,
       all_done ends script (text ∷ texts) n p initial old before mid r rest,
     )
@@ -305,7 +348,7 @@ stopped_at FlashFault ends script texts text n p q initial old now before mid af
     )
 stopped_at TooMany ends script texts text n p q initial old now before mid after failed worse spread r found (t, told) =
     let m = t.stopped in
-    let spelled = t.spelled ∙ ap (λ (l : Line). Some l) m.happens in
+    let spelled = t.spelled ∙ ap (λ (l : Line). Ok l) m.happens in
     reached_up_to ends script texts text n p initial old before mid after _ r told (
       record { events = full_events r.last m.world (events_in r.done) m.is_world r.events m.full; event = m.event; more = _; next = ap (λ (s : Script). s.lines) (script_line ends p.place n text texts (Happens m.event) spelled) },
       subst (λ (ds : List Device). BoardsStand r.last initial ds) (sym m.same) r.stood.boards,
@@ -315,7 +358,7 @@ stopped_at TooMany ends script texts text n p q initial old now before mid after
     )
 stopped_at (NoBoard motes boards) ends script texts text n p q initial old now before mid after failed worse spread r found (t, told) =
     let m = t.stopped in
-    let spelled = t.spelled ∙ ap (λ (l : Line). Some l) m.is_motes in
+    let spelled = t.spelled ∙ ap (λ (l : Line). Ok l) m.is_motes in
     reached_up_to ends script texts text n p initial old before mid after _ r told (
       (m.have, m.missing),
       (_, ap (λ (s : Script). s.lines) (script_line ends p.place n text texts (Motes motes) spelled)),
@@ -325,8 +368,8 @@ stopped_at (NoBoard motes boards) ends script texts text n p q initial old now b
 stopped_at NoImage ends script texts text n p q initial old now before mid after failed worse spread r found t = absurd (found t.line t.spelled t.stopped)
 
 -- the first line of the script is reached at once
-pub reached_first : (ends : Bool) (texts : List (List ℕ)) (p : Player) (initial : List Device) (before : Option (List ℕ)) → p.place ≡ First → p.cut ≡ None → p.world ≡ None
-    → Reached ends (script_from ends First 1 texts) texts 1 p initial initial before before
+pub reached_first : (ends : Bool) (texts : List (List ℕ)) (p : Player) (initial : List Device) (before : Option (List ℕ)) → p.place ≡ first_place → p.cut ≡ None → p.world ≡ None
+    → Reached ends (script_from ends first_place 1 texts) texts 1 p initial initial before before
 unfolding cut_behind items_behind begin_behind lacking
 reached_first ends texts p initial before place cut world =
     record {
@@ -339,11 +382,11 @@ reached_first ends texts p initial before place cut world =
       run = (refl, refl);
       told = Puts-nil before;
       stood = record {
-        seats = subst (λ (at : Place). Seated at (length initial)) (sym place) tt;
+        seats = λ some. absurd (omega (arith, some, ap (λ (at : Place). at.motes) place));
         cut = cut;
         cut_fits = subst (λ (o : Option CutOfPower). IfSome o FitsCut) (sym cut) tt;
-        motes = ap motes_at place;
-        world = (world, ap is_behind_golden place);
+        motes = ap (λ (at : Place). at.motes) place;
+        world = (world, ap (λ (at : Place). at.ready) place);
         boards = refl;
       };
       events = refl;

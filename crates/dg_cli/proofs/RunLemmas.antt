@@ -19,7 +19,7 @@ use Rattle.dg_script.specs.Script.{Script}
 use Rattle.dg_rules.specs.World.{World}
 use Rattle.dg_cli.specs.Ending.{Ending, Ends, ending_of, status_of, script_of, is_over, LinesInLimits, InLimits}
 use Rattle.dg_script.specs.declared.line.Line.{Line}
-use Rattle.dg_script.specs.declared.line.Place.TheVariants.{First}
+use Rattle.dg_script.specs.Places.{first_place}
 use Rattle.dg_cli.specs.Outcome.{IsFront, Wrote, IsSettled, NextIsWhole, ReadEnough, IsCaused, Replayed}
 use Rattle.dg_cli.specs.Replaying.{ScriptReplayed}
 use Rattle.dg_cli.specs.Outcome.{RunsTo}
@@ -238,10 +238,10 @@ no_run None played r = r.0
 no_run (Some w) played (v, is, plays) = absurd (let e : None ≡ Some v = is in cc)
 
 promised : (P : List Played → Option World → Type 0) → P [] None → ((name bytes : List ℕ) (used motes : ℕ) (played : List Played) (v : World) → PlaysGolden name bytes used motes played v → P played (Some v))
-    → (spells : Script) (done rest : List Line) (played : List Played) (last : Option World) → LinesFit First spells.lines → IsFront spells done rest played last → P played last
+    → (spells : Script) (done rest : List Line) (played : List Played) (last : Option World) → LinesFit first_place spells.lines → IsFront spells done rest played last → P played last
 promised P none law spells done rest played None fit f = subst (λ (ps : List Played). P ps None) (sym (no_run (beginning_of done).world played f.run)) none
 promised P none law spells done rest played (Some v) fit f =
-    let g = golden_run done played v (front_fits First done rest (subst (LinesFit First) (sym f.lines) fit)) f.items f.run in
+    let g = golden_run done played v (front_fits first_place done rest (subst (LinesFit first_place) (sym f.lines) fit)) f.items f.run in
     law g.name g.bytes g.used (beginning_of done).motes played v g.plays
 
 pub holds_of_worlds : (P : List Played → Option World → Type 0) → P [] None → ((name bytes : List ℕ) (used motes : ℕ) (played : List Played) (v : World) → PlaysGolden name bytes used motes played v → P played (Some v))

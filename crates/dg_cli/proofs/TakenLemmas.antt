@@ -1,21 +1,23 @@
 -- What the bytes that were taken tell of an input that goes on behind them.
-use Rattle.std.proofs.Common.{◌≡◌, inl, inr, ℕ, ◌<◌, Bool, true, false, List, [], ◌∷◌, ◌++◌, length, take, length-append, append_assoc, refl, ap, sym, ◌∙◌, subst, arith}
+use Rattle.std.proofs.Common.{◌≡◌, ℕ, ◌<◌, Bool, true, false, List, [], ◌∷◌, ◌++◌, length, take, length-append, append_assoc, refl, ap, sym, ◌∙◌, subst, arith}
 use Rattle.std.specs.Prelude.{Option, Some, None, nat_lt, if◌then◌else◌, not}
 use Rattle.std.specs.Str.Lines.{lines}
 use Rattle.std.proofs.lemmas.List.{take-append-le}
 use Rattle.dg_nor.specs.Device.{Device}
-use Rattle.dg_script.specs.Script.{Script, script_from, motes_at}
-use Rattle.dg_script.specs.declared.line.Place.{Place}
-use Rattle.dg_script.specs.declared.line.Place.TheVariants.{First, Second, Later, AfterCut}
+use Rattle.dg_script.specs.Places.{first_place, place_after}
+use Rattle.dg_script.specs.Script.{Script, script_from}
+use Rattle.dg_script.specs.declared.fault.LineFault.{LineFault}
+use Rattle.dg_script.specs.declared.place.Place.{Place}
 use Rattle.dg_script.specs.declared.line.Line.{Line}
-use Rattle.dg_script.specs.declared.line.Line.TheVariants.{Nothing, Motes, Golden, Image, Cut, Happens}
+use Rattle.dg_script.specs.declared.line.Line.TheVariants.{Nothing, Motes, Golden, Boards, Link, Image, Cut, Happens, Round, Sweeps}
 use Rattle.dg_rules.specs.Sizes.{most_events}
 use Rattle.dg_cli.specs.Items.{Beginning, begin_by, begin_behind, motes_in, lacking}
 use Rattle.dg_cli.specs.Boards.{BoardStopped}
 use Rattle.dg_cli.specs.Ending.{Ends, TooManyEvents, whole_lines, used, is_over, script_of, events_in, by_fault, by_events, by_boards, ending_from, ending_of}
 use Rattle.dg_cli.specs.Outcome.{IsSettled, AreWhole, NextIsWhole, StopsAt}
 use Rattle.dg_cli.proofs.EndLemmas.{is_over-true, over_more}
-use Rattle.dg_cli.proofs.GoldenLemmas.{LinesFit, script_fits, front_fits}
+use Rattle.dg_cli.proofs.GoldenLemmas.{LinesFit, script_fits, front_fits, not_first}
+use Rattle.dg_cli.proofs.PlayLemmas.{unplayed, second_at, later_at, event_at}
 
 -- ---- more bytes than are used
 
@@ -37,8 +39,8 @@ over_used input more over =
 over_script : (input more : List ℕ) → is_over input ≡ true → script_of (input ++ more) ≡ script_of input
 unfolding script_of
 over_script input more over =
-    ap (λ (b : Bool). script_from (not b) First 1 (lines (used (input ++ more)))) (still_over input more over ∙ sym over)
-    ∙ ap (λ (xs : List ℕ). script_from (not (is_over input)) First 1 (lines xs)) (over_used input more over)
+    ap (λ (b : Bool). script_from (not b) first_place 1 (lines (used (input ++ more)))) (still_over input more over ∙ sym over)
+    ∙ ap (λ (xs : List ℕ). script_from (not (is_over input)) first_place 1 (lines xs)) (over_used input more over)
 
 pub over_settled : (boards : ℕ) (input : List ℕ) → is_over input ≡ true → IsSettled boards input
 over_settled boards input over = λ more.
@@ -53,11 +55,11 @@ pub none_whole : (input : List ℕ) → AreWhole input []
 none_whole input = λ more. ((script_of (input ++ more)).lines, refl)
 
 -- a script that is too long does not end by itself
-not_fault_ends : (fault : Option ℕ) → by_fault true fault ≡ Ends → ⊥
+not_fault_ends : (fault : Option (ℕ × LineFault)) → by_fault true fault ≡ Ends → ⊥
 not_fault_ends None e = cc
 not_fault_ends (Some n) e = cc
 
-not_events_end : (b : Bool) (fault : Option ℕ) → (if b then TooManyEvents else by_fault true fault) ≡ Ends → ⊥
+not_events_end : (b : Bool) (fault : Option (ℕ × LineFault)) → (if b then TooManyEvents else by_fault true fault) ≡ Ends → ⊥
 not_events_end true fault e = cc
 not_events_end false fault e = not_fault_ends fault e
 
@@ -74,37 +76,48 @@ over_next boards input done (line ∷ rest) over front stops = over_whole input 
 
 -- ---- how many motes there are
 
-counted_stays : (b : Beginning) (place : Place) (lines : List Line) → (place ≡ First → ⊥) → LinesFit place lines → (begin_behind b lines).motes ≡ b.motes
+counted_stays : (b : Beginning) (place : Place) (lines : List Line) → 0 < place.motes → LinesFit place lines → (begin_behind b lines).motes ≡ b.motes
 unfolding LinesFit begin_behind
-counted_stays b place [] known h = refl
-counted_stays b place (Nothing ∷ lines) known h = counted_stays b place lines known h.2
-counted_stays b place (Motes n ∷ lines) known h = absurd (known h.0)
-counted_stays b place (Golden golden ∷ lines) known h = counted_stays (begin_by b (Golden golden)) (Later (motes_at place)) lines (λ e. cc) h.2
-counted_stays b place (Image image ∷ lines) known h = counted_stays b (Later (motes_at place)) lines (λ e. cc) h.2
-counted_stays b place (Cut c ∷ lines) known h = counted_stays b (AfterCut (motes_at place)) lines (λ e. cc) h.2
-counted_stays b place (Happens event ∷ lines) known h = counted_stays b (Later (motes_at place)) lines (λ e. cc) h.2
+counted_stays b place [] some h = refl
+counted_stays b place (Nothing ∷ lines) some h = counted_stays b place lines some h.3
+counted_stays b place (Motes n ∷ lines) some h = not_first place n some h.0
+counted_stays b place (Golden name used content ∷ lines) some h = counted_stays (begin_by b (Golden name used content)) (place_after place (Golden name used content)) lines some h.3
+counted_stays b place (Boards ∷ lines) some h = unplayed h.2
+counted_stays b place (Link x y ∷ lines) some h = unplayed h.2
+counted_stays b place (Image image version name content ∷ lines) some h = counted_stays b place lines some h.3
+counted_stays b place (Cut c ∷ lines) some h = counted_stays b (place_after place (Cut c)) lines some h.3
+counted_stays b place (Happens event ∷ lines) some h = counted_stays b (place_after place (Happens event)) lines some h.3
+counted_stays b place (Round x y ∷ lines) some h = unplayed h.2
+counted_stays b place (Sweeps n ∷ lines) some h = unplayed h.2
+
+none_yet : {A : Type 0} → 0 < first_place.motes → A
+none_yet some = absurd (omega (arith, some))
 
 -- the first lines of a script that say how many motes there are say it of the whole script
-counted_once : (done rest : List Line) → LinesFit First (done ++ rest) → 0 < motes_in done → motes_in (done ++ rest) ≡ motes_in done
+counted_once : (done rest : List Line) → LinesFit first_place (done ++ rest) → 0 < motes_in done → motes_in (done ++ rest) ≡ motes_in done
 unfolding LinesFit begin_behind
 counted_once [] rest h some = absurd (omega (arith, some))
-counted_once (Nothing ∷ done) rest h some = counted_once done rest h.2 some
+counted_once (Nothing ∷ done) rest h some = counted_once done rest h.3 some
 counted_once (Motes n ∷ done) rest h some =
-    counted_stays (record { motes = n; world = None }) (Second n) (done ++ rest) (λ e. cc) h.2
-    ∙ sym (counted_stays (record { motes = n; world = None }) (Second n) done (λ e. cc) (front_fits (Second n) done rest h.2))
-counted_once (Golden golden ∷ done) rest h some = absurd (let e : First ≡ Second 0 = h.0 in cc)
-counted_once (Image image ∷ done) rest h some = absurd (let e : First ≡ Later 0 = h.0 in cc)
-counted_once (Cut c ∷ done) rest h some = absurd (let e : First ≡ Later 0 = h.0 in cc)
-counted_once (Happens event ∷ done) rest (inl e, f, g) some = absurd (let k : First ≡ Later 0 = e in cc)
-counted_once (Happens event ∷ done) rest (inr e, f, g) some = absurd (let k : First ≡ AfterCut 0 = e in cc)
+    let there : Place = place_after first_place (Motes n) in
+    counted_stays (record { motes = n; world = None }) there (done ++ rest) (omega (arith, h.1)) h.3
+    ∙ sym (counted_stays (record { motes = n; world = None }) there done (omega (arith, h.1)) (front_fits there done rest h.3))
+counted_once (Golden name used content ∷ done) rest h some = none_yet (second_at first_place h.0.fits).1
+counted_once (Boards ∷ done) rest h some = unplayed h.2
+counted_once (Link x y ∷ done) rest h some = unplayed h.2
+counted_once (Image image version name content ∷ done) rest h some = none_yet (later_at first_place h.0.fits).1
+counted_once (Cut c ∷ done) rest h some = none_yet (later_at first_place h.0.fits).1
+counted_once (Happens event ∷ done) rest h some = none_yet (event_at first_place event h.0).1
+counted_once (Round x y ∷ done) rest h some = unplayed h.2
+counted_once (Sweeps n ∷ done) rest h some = unplayed h.2
 
-pub script_of_fits : (input : List ℕ) → LinesFit First (script_of input).lines
+pub script_of_fits : (input : List ℕ) → LinesFit first_place (script_of input).lines
 unfolding script_of
-script_of_fits input = script_fits _ First 1 _
+script_of_fits input = script_fits _ first_place 1 _
 
 -- a board that stopped behind the first lines of a script is one that the script uses
 pub stopped_of_script : (input : List ℕ) (done rest : List Line) (old new : List Device) → done ++ rest ≡ (script_of input).lines → BoardStopped (motes_in done) old new → BoardStopped (motes_in (script_of input).lines) old new
 stopped_of_script input done rest old new lines s =
     let some : 0 < motes_in done = omega (arith, s.known) in
-    let same : motes_in (done ++ rest) ≡ motes_in done = counted_once done rest (subst (LinesFit First) (sym lines) (script_of_fits input)) some in
+    let same : motes_in (done ++ rest) ≡ motes_in done = counted_once done rest (subst (LinesFit first_place) (sym lines) (script_of_fits input)) some in
     subst (λ (n : ℕ). BoardStopped n old new) (sym same ∙ ap motes_in lines) s

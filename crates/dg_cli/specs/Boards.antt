@@ -6,15 +6,15 @@ use Rattle.dg_nor.specs.Fuse.{beneath_of}
 use Rattle.dg_nor.specs.Trail.{Trail, operations, MayLeave}
 use Rattle.dg_volume.specs.Store.{Store, IsNear, fresh}
 use Rattle.dg_volume.specs.Stands.{Stands}
-use Rattle.dg_script.specs.declared.events.Cut.{Cut as CutOfPower}
-use Rattle.dg_script.specs.declared.events.Event.{Event}
-use Rattle.dg_script.specs.declared.line.Golden.{Golden as GoldenImage}
+use Rattle.dg_base.specs.declared.events.Cut.{Cut as CutOfPower}
+use Rattle.dg_base.specs.declared.events.Event.{Event}
 use Rattle.dg_script.specs.declared.line.Line.{Line}
 use Rattle.dg_script.specs.declared.line.Line.TheVariants.{Golden, Happens}
 use Rattle.dg_rules.specs.World.{World, store_at}
 use Rattle.dg_rules.specs.Events.{does, mote_of}
 use Rattle.dg_world.specs.Turns.{trail_of}
-use Rattle.dg_cli.specs.Items.{cut_behind, motes_in}
+use Rattle.dg_script.specs.Items.{cut_behind}
+use Rattle.dg_cli.specs.Items.{motes_in}
 
 -- No count of a board fell, and a board is stopped only where it was, or where its count rose.
 pub record BoardsEndure (old new : List Device) : Type 0 where
@@ -53,10 +53,10 @@ pub record OthersStand (w : World) (board : ℕ) (old new : List Device) : Type 
   pub came : (m : ℕ) (d : Device) → m < length w.sites → slice_get old m ≡ Some d → d.stopped ≡ false
   pub others : (m : ℕ) → length w.sites ≤ m → slice_get new m ≡ slice_get old m
 
--- The boards before this one stand for golden alone, and did not come stopped. Those behind it are as before.
-pub record OthersFormatted (golden : GoldenImage) (board : ℕ) (old new : List Device) : Type 0 where
+-- The boards before this one stand for the store, and did not come stopped. Those behind it are as before.
+pub record OthersFormatted (chip : Store) (board : ℕ) (old new : List Device) : Type 0 where
   pub all : BoardsEndure old new
-  pub stands : (m : ℕ) (d : Device) → m < board → slice_get new m ≡ Some d → Stands d.image (fresh golden.name golden.content golden.used)
+  pub stands : (m : ℕ) (d : Device) → m < board → slice_get new m ≡ Some d → Stands d.image chip
   pub came : (m : ℕ) (d : Device) → m < board → slice_get old m ≡ Some d → d.stopped ≡ false
   pub others : (m : ℕ) → board < m → slice_get new m ≡ slice_get old m
 
@@ -75,7 +75,7 @@ pub record EventStops (w : World) (event : Event) (cut : Option CutOfPower) (boa
 
 -- Where a board stopped in a line, before which a cut may wait: in formatting, or in an event. No other line uses a board.
 abbrev pub LineStops : Option CutOfPower → Line → Option World → (board : ℕ) → List ℕ → (old new : List Device) → Type 0
-LineStops cut (Golden golden) None board image old new = OthersFormatted golden board old new
+LineStops cut (Golden name used content) None board image old new = OthersFormatted (fresh name content used) board old new
 LineStops cut (Happens event) (Some w) board image old new = EventStops w event cut board image old new
 LineStops cut line last board image old new = ⊥
 

@@ -5,9 +5,12 @@ use Rattle.std.specs.Fmt.{decimal}
 use Rattle.std.specs.Str.Lines.{lines}
 use Rattle.dg_base.specs.declared.answers.Status.{Status}
 use Rattle.dg_base.specs.declared.answers.Status.TheVariants.{Done, BadInput, TooLong, TooMany, NoBoard}
-use Rattle.dg_script.specs.Script.{Script, script_from, is_event}
+use Rattle.dg_script.specs.Faults.{fault_name}
+use Rattle.dg_script.specs.Places.{first_place}
+use Rattle.dg_script.specs.Script.{Script, script_from}
 use Rattle.dg_script.specs.declared.line.Line.{Line}
-use Rattle.dg_script.specs.declared.line.Place.TheVariants.{First}
+use Rattle.dg_script.specs.declared.line.Line.TheVariants.{Happens}
+use Rattle.dg_script.specs.declared.fault.LineFault.{LineFault}
 use Rattle.dg_rules.specs.Sizes.{most_events}
 use Rattle.dg_cli.specs.Items.{lacking}
 
@@ -31,22 +34,26 @@ used input = if is_over input then whole_lines (take 16777216 input) else input
 
 -- the script that an input spells
 unfoldable pub script_of : List ℕ → Script
-script_of input = script_from (not (is_over input)) First 1 (lines (used input))
+script_of input = script_from (not (is_over input)) first_place 1 (lines (used input))
 
 -- how a script ends
 pub data Ending : Type 0 where
   Ends : Ending
   NoBoards : (motes boards : ℕ) → Ending
   TooManyEvents : Ending
-  FaultAt : (line : ℕ) → Ending
+  FaultAt : (line : ℕ) (fault : LineFault) → Ending
   Over : Ending
+
+abbrev pub is_event : Line → Bool
+is_event (Happens event) = true
+is_event _ = false
 
 -- how many events there are among lines
 abbrev pub events_in : List Line → ℕ
 events_in lines = count_by is_event lines
 
-abbrev pub by_fault : Bool → Option ℕ → Ending
-by_fault over (Some line) = FaultAt line
+abbrev pub by_fault : Bool → Option (ℕ × LineFault) → Ending
+by_fault over (Some at) = FaultAt at.0 at.1
 by_fault true None = Over
 by_fault false None = Ends
 
@@ -81,7 +88,7 @@ abbrev pub status_of : Ending → Status
 status_of Ends = Done
 status_of (NoBoards motes boards) = NoBoard
 status_of TooManyEvents = TooMany
-status_of (FaultAt line) = BadInput
+status_of (FaultAt line fault) = BadInput
 status_of Over = TooLong
 
 -- the last line of an ending, empty where it has none
@@ -89,7 +96,7 @@ abbrev pub ending_line : Ending → List ℕ
 ending_line Ends = []
 ending_line (NoBoards motes boards) = codes "noboard " ++ decimal motes ++ 32 ∷ decimal boards ++ 10 ∷ []
 ending_line TooManyEvents = codes "toomany" ++ 10 ∷ []
-ending_line (FaultAt line) = codes "line " ++ decimal line ++ codes " verb" ++ 10 ∷ []
+ending_line (FaultAt line fault) = codes "line " ++ decimal line ++ 32 ∷ fault_name fault ++ 10 ∷ []
 ending_line Over = codes "toolong" ++ 10 ∷ []
 
 -- the line that is written where the words are no command

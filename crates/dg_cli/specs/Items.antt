@@ -1,36 +1,27 @@
 -- What the lines of a script say of its run: where it begins, and its items.
 use Rattle.std.specs.Prelude.{ℕ, nat_lt, if◌then◌else◌, List, [], ◌∷◌, ◌++◌, replicate, Option, Some, None}
 use Rattle.dg_volume.specs.Store.{fresh, golden_row}
-use Rattle.dg_script.specs.Script.{declared_row}
-use Rattle.dg_script.specs.declared.events.Cut.{Cut as CutOfPower}
-use Rattle.dg_script.specs.declared.line.Golden.{Golden as GoldenImage}
+use Rattle.dg_base.specs.declared.events.Cut.{Cut as CutOfPower}
+use Rattle.dg_script.specs.Fitting.{declared_row}
+use Rattle.dg_script.specs.Items.{cut_by}
 use Rattle.dg_script.specs.declared.line.Line.{Line}
-use Rattle.dg_script.specs.declared.line.Line.TheVariants.{Nothing, Motes, Golden, Image, Cut, Happens}
+use Rattle.dg_script.specs.declared.line.Line.TheVariants.{Nothing, Motes, Golden, Boards, Link, Image, Cut, Happens, Round, Sweeps}
 use Rattle.dg_rules.specs.World.{World, first_world}
 use Rattle.dg_rules.specs.Runs.{Item}
 use Rattle.dg_rules.specs.Runs as runs
 
--- the cut that waits behind a line
-abbrev pub cut_by : Option CutOfPower → Line → Option CutOfPower
-cut_by cut Nothing = cut
-cut_by cut (Motes n) = cut
-cut_by cut (Golden golden) = cut
-cut_by cut (Image image) = cut
-cut_by cut (Cut c) = Some c
-cut_by cut (Happens event) = None
-
--- the item of a line, where a cut may wait for it
+-- The item of a line, where a cut may wait for it. Boards that keep a volume, links, rounds and sweeps are not played yet.
 abbrev pub item_by : Option CutOfPower → Line → List Item
 item_by cut Nothing = []
 item_by cut (Motes n) = []
-item_by cut (Golden golden) = []
-item_by cut (Image image) = runs.Declares (declared_row image) ∷ []
+item_by cut (Golden name used content) = []
+item_by cut Boards = []
+item_by cut (Link a b) = []
+item_by cut (Image image version name content) = runs.Declares (declared_row image version name content) ∷ []
 item_by cut (Cut c) = []
 item_by cut (Happens event) = runs.Happens (record { event = event; cut = cut }) ∷ []
-
-unfoldable pub cut_behind : Option CutOfPower → List Line → Option CutOfPower
-cut_behind cut [] = cut
-cut_behind cut (line ∷ lines) = cut_behind (cut_by cut line) lines
+item_by cut (Round a b) = []
+item_by cut (Sweeps n) = []
 
 unfoldable pub items_behind : Option CutOfPower → List Line → List Item
 items_behind cut [] = []
@@ -46,17 +37,20 @@ pub record Beginning : Type 0 where
   pub world : Option World
 
 -- the world in which so many motes begin, whose boards are formatted with golden
-abbrev pub golden_world : ℕ → GoldenImage → World
-golden_world motes golden =
-    first_world (golden_row golden.name golden.content ∷ []) (replicate motes (fresh golden.name golden.content golden.used))
+abbrev pub golden_world : (motes : ℕ) → (name : List ℕ) → (used : ℕ) → (content : List ℕ) → World
+golden_world motes name used content = first_world (golden_row name content ∷ []) (replicate motes (fresh name content used))
 
 abbrev pub begin_by : Beginning → Line → Beginning
 begin_by b Nothing = b
 begin_by b (Motes n) = record b { motes = n }
-begin_by b (Golden golden) = record b { world = Some (golden_world b.motes golden) }
-begin_by b (Image image) = b
+begin_by b (Golden name used content) = record b { world = Some (golden_world b.motes name used content) }
+begin_by b Boards = b
+begin_by b (Link x y) = b
+begin_by b (Image image version name content) = b
 begin_by b (Cut c) = b
 begin_by b (Happens event) = b
+begin_by b (Round x y) = b
+begin_by b (Sweeps n) = b
 
 unfoldable pub begin_behind : Beginning → List Line → Beginning
 begin_behind b [] = b
@@ -76,10 +70,14 @@ motes_in lines = (beginning_of lines).motes
 abbrev pub lacking_by : ℕ → Line → Option ℕ → Option ℕ
 lacking_by boards Nothing rest = rest
 lacking_by boards (Motes n) rest = if nat_lt boards n then Some n else rest
-lacking_by boards (Golden golden) rest = rest
-lacking_by boards (Image image) rest = rest
+lacking_by boards (Golden name used content) rest = rest
+lacking_by boards Boards rest = rest
+lacking_by boards (Link a b) rest = rest
+lacking_by boards (Image image version name content) rest = rest
 lacking_by boards (Cut c) rest = rest
 lacking_by boards (Happens event) rest = rest
+lacking_by boards (Round a b) rest = rest
+lacking_by boards (Sweeps n) rest = rest
 
 -- the motes of the first such line
 unfoldable pub lacking : ℕ → List Line → Option ℕ

@@ -7,9 +7,10 @@ use Rattle.dg_base.specs.declared.answers.Status.{Status}
 use Rattle.dg_base.specs.declared.answers.Status.TheVariants.{Done, Memory, Usage, BadInput, ReadFault, WriteFault, FlashFault, TooLong, TooMany, NoBoard}
 use Rattle.dg_nor.specs.Device.{Device}
 use Rattle.dg_script.specs.Report.{report_text}
-use Rattle.dg_script.specs.Script.{Script, UsesBoard}
+use Rattle.dg_script.specs.Fitting.{UsesBoard}
+use Rattle.dg_script.specs.Script.{Script}
 use Rattle.dg_script.specs.declared.line.Line.{Line}
-use Rattle.dg_script.specs.declared.events.Event.{Event}
+use Rattle.dg_base.specs.declared.events.Event.{Event}
 use Rattle.dg_script.specs.declared.line.Line.TheVariants.{Motes, Happens}
 use Rattle.dg_rules.specs.Sizes.{most_events}
 use Rattle.dg_rules.specs.World.{World}
@@ -43,7 +44,7 @@ closing Ends (Some w) = report_text (final_lines w)
 closing Ends None = []
 closing (NoBoards motes boards) w = ending_line (NoBoards motes boards)
 closing TooManyEvents w = ending_line TooManyEvents
-closing (FaultAt line) w = ending_line (FaultAt line)
+closing (FaultAt line fault) w = ending_line (FaultAt line fault)
 closing Over w = ending_line Over
 
 -- a million events were played, and the next line is an event
@@ -58,7 +59,7 @@ abbrev pub CameTo : Ending → (done rest : List Line) → Type 0
 CameTo (NoBoards motes boards) done rest = (more : List Line) × (rest ≡ Motes motes ∷ more)
 CameTo TooManyEvents done rest = AtTooMany done rest
 CameTo Ends done rest = rest ≡ []
-CameTo (FaultAt line) done rest = rest ≡ []
+CameTo (FaultAt line fault) done rest = rest ≡ []
 CameTo Over done rest = rest ≡ []
 
 -- the report of the script, up to its end

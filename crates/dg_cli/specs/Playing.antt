@@ -1,14 +1,14 @@
 -- What playing one line does.
-use Rattle.std.specs.Prelude.{◌≡◌, ℕ, ◌+◌, ◌<◌, ◌≤◌, Bool, true, false, List, [], ◌∷◌, ◌++◌, length, map, Option, Some, None, slice_get, IfSome, OnOk, Result, Ok, Err}
+use Rattle.std.specs.Prelude.{◌≡◌, ℕ, ◌+◌, ◌<◌, ◌≤◌, true, false, List, [], ◌∷◌, ◌++◌, length, map, Option, Some, None, slice_get, IfSome, OnOk, Result, Ok, Err}
 use Rattle.dg_nor.specs.Device.{Device}
-use Rattle.dg_script.specs.Script.{motes_at, FitsCut, UsesBoard, declared_row}
+use Rattle.dg_object.specs.Object.{Row}
+use Rattle.dg_script.specs.Fitting.{FitsCut, FitsLine, StandsAt, IsPlayed, UsesBoard}
+use Rattle.dg_script.specs.Places.{place_after}
 use Rattle.dg_script.specs.Report.{report_text}
-use Rattle.dg_script.specs.declared.events.Event.{Event}
-use Rattle.dg_script.specs.declared.events.Cut.{Cut as CutOfPower}
-use Rattle.dg_script.specs.declared.events.Step.{Step}
-use Rattle.dg_script.specs.declared.line.Image.{Image as DeclaredImage}
-use Rattle.dg_script.specs.declared.line.Place.{Place}
-use Rattle.dg_script.specs.declared.line.Place.TheVariants.{First, Second, Later, AfterCut}
+use Rattle.dg_base.specs.declared.events.Event.{Event}
+use Rattle.dg_base.specs.declared.events.Cut.{Cut as CutOfPower}
+use Rattle.dg_base.specs.declared.events.Step.{Step}
+use Rattle.dg_script.specs.declared.place.Place.{Place}
 use Rattle.dg_script.specs.declared.line.Line.{Line}
 use Rattle.dg_script.specs.declared.line.Line.TheVariants.{Motes, Happens}
 use Rattle.dg_script.specs.declared.report.Report.{Report}
@@ -16,28 +16,21 @@ use Rattle.dg_rules.specs.Sizes.{most_motes, most_events}
 use Rattle.dg_rules.specs.World.{World}
 use Rattle.dg_rules.specs.Steps.{EndsRun, DeclareStep}
 use Rattle.dg_rules.specs.Runs.{Played}
-use Rattle.dg_volume.specs.Store.{fresh}
+use Rattle.dg_volume.specs.Store.{Store}
 use Rattle.dg_volume.specs.Stands.{Stands}
 use Rattle.dg_world.specs.Formatted.{FirstBoards, FormatStops}
 use Rattle.dg_world.specs.declared.format.FormatStopped.{FormatStopped}
-use Rattle.dg_script.specs.declared.line.Golden.{Golden as GoldenImage}
 use Rattle.dg_world.specs.Worlds.{IsWorld}
 use Rattle.dg_world.specs.Applied.{Applied, FlashAt, Ended}
 use Rattle.dg_world.specs.declared.world.World.{World as KeptWorld}
 use Rattle.dg_cli.specs.Boards.{BoardsStand, StoppedIn}
-use Rattle.dg_cli.specs.Items.{item_by, begin_by, beginning_of, cut_behind, lacking_by}
+use Rattle.dg_script.specs.Items.{cut_behind}
+use Rattle.dg_cli.specs.Items.{item_by, begin_by, beginning_of, motes_in, lacking_by}
 use Rattle.dg_cli.specs.Ending.{events_in}
 use Rattle.dg_cli.specs.Outcome.{item_played, played_text, RunsTo}
 use Rattle.dg_cli.specs.declared.player.Player.{Player}
 use Rattle.dg_cli.specs.declared.stop.Stop.{Stop}
 use Rattle.dg_cli.specs.declared.stop.Stop.TheVariants.{Memory, BadInput, WriteFault, FlashFault, TooMany, NoBoard, NoImage}
-
--- the boards are formatted before the lines at this place
-abbrev pub is_behind_golden : Place → Bool
-is_behind_golden First = false
-is_behind_golden (Second motes) = false
-is_behind_golden (Later motes) = true
-is_behind_golden (AfterCut motes) = true
 
 -- there are so many motes, and so many boards
 abbrev pub Counted : ℕ → ℕ → Type 0
@@ -45,22 +38,19 @@ Counted motes boards = (1 ≤ motes) × (motes ≤ most_motes) × (motes ≤ boa
 
 -- there are boards for the motes
 abbrev pub Seated : Place → ℕ → Type 0
-Seated First boards = Unit {0}
-Seated (Second motes) boards = Counted motes boards
-Seated (Later motes) boards = Counted motes boards
-Seated (AfterCut motes) boards = Counted motes boards
+Seated place boards = 0 < place.motes → Counted place.motes boards
 
 -- the world that is kept is this one, None before the boards are formatted
 abbrev pub InWorld : Player → Option World → List Device → Type 0
-InWorld p None boards = (p.world ≡ None) × (is_behind_golden p.place ≡ false)
-InWorld p (Some w) boards = (v : KeptWorld) × (p.world ≡ Some v) × IsWorld v boards w × (length w.sites ≡ motes_at p.place) × (is_behind_golden p.place ≡ true)
+InWorld p None boards = (p.world ≡ None) × (p.place.ready ≡ false)
+InWorld p (Some w) boards = (v : KeptWorld) × (p.world ≡ Some v) × IsWorld v boards w × (length w.sites ≡ p.place.motes) × (p.place.ready ≡ true) × (0 < p.place.motes)
 
 -- The player and the boards, which were `initial` when the replay began, stand for this world, behind these lines.
 pub record Stood (p : Player) (done : List Line) (w : Option World) (initial now : List Device) : Type 0 where
   pub seats : Seated p.place (length now)
   pub cut : p.cut ≡ cut_behind None done
   pub cut_fits : IfSome p.cut FitsCut
-  pub motes : motes_at p.place ≡ (beginning_of done).motes
+  pub motes : p.place.motes ≡ motes_in done
   pub world : InWorld p w now
   pub boards : BoardsStand w initial now
 
@@ -70,6 +60,21 @@ pub record Ready (p : Player) (boards : List Device) : Type 0 where
   pub cut_fits : IfSome p.cut FitsCut
   pub world : Option World
   pub kept : InWorld p world boards
+
+-- The place of a player went on behind a line, and nothing else.
+pub record Passed (p q : Player) (line : Line) : Type 0 where
+  pub place : q.place ≡ place_after p.place line
+  pub cut : q.cut ≡ p.cut
+  pub world : q.world ≡ p.world
+
+-- A line may be played, behind which the place went on already.
+pub record MayPlay (line : Line) (q : Player) (boards : List Device) : Type 0 where
+  pub before : Player
+  pub passed : Passed before q line
+  pub ready : Ready before boards
+  pub stands : StandsAt before.place line
+  pub fits : FitsLine before.place.motes line
+  pub played : IsPlayed line
 
 -- so many events were counted
 abbrev pub CountsEvents : Option World → ℕ → Type 0
@@ -126,33 +131,33 @@ PlayedAs (Err (NoBoard motes boards)) q done w line told_before told initial old
 PlayedAs (Err FlashFault) q done w line told_before told initial old new = UsesBoard line × StoppedIn done (line ∷ []) w initial new
 PlayedAs (Err TooMany) q done w line told_before told initial old new = IsOneTooMany w line old new
 PlayedAs (Err NoImage) q done w line told_before told initial old new = LacksImage (cut_behind None done) w line
-PlayedAs (Err (BadInput n)) q done w line told_before told initial old new = ⊥
+PlayedAs (Err (BadInput n fault)) q done w line told_before told initial old new = ⊥
 PlayedAs (Err WriteFault) q done w line told_before told initial old new = ⊥
 
 -- what formatting the boards of so many motes answers
-pub record FormattedAs (result : Result (Unit {0}) FormatStopped) (motes : ℕ) (golden : GoldenImage) (old new : List Device) : Type 0 where
-  pub formatted : OnOk result ((m : ℕ) (d : Device) → m < motes → slice_get new m ≡ Some d → Stands d.image (fresh golden.name golden.content golden.used))
+pub record FormattedAs (result : Result (Unit {0}) FormatStopped) (motes : ℕ) (chip : Store) (old new : List Device) : Type 0 where
+  pub formatted : OnOk result ((m : ℕ) (d : Device) → m < motes → slice_get new m ≡ Some d → Stands d.image chip)
   pub awake : OnOk result ((m : ℕ) (d : Device) → m < motes → slice_get old m ≡ Some d → d.stopped ≡ false)
   pub others : FirstBoards motes old new
-  pub stopped : (e : FormatStopped) → result ≡ Err e → FormatStops e.board motes (fresh golden.name golden.content golden.used) old new
+  pub stopped : (e : FormatStopped) → result ≡ Err e → FormatStops e.board motes chip old new
 
 -- what declaring an image answers
-pub record DeclaredNow (v v2 : KeptWorld) (image : DeclaredImage) (told_before told : List Report) (boards : List Device) (w : World) : Type 0 where
+pub record DeclaredNow (v v2 : KeptWorld) (row : Row) (told_before told : List Report) (boards : List Device) (w : World) : Type 0 where
   pub world : World
   pub reports : List Report
-  pub step : DeclareStep w (declared_row image) world reports
+  pub step : DeclareStep w row world reports
   pub kept : IsWorld v2 boards world
   pub told_now : told ≡ told_before ++ reports
 
-abbrev pub DeclaredAs : Result (Unit {0}) Stop → (old new : KeptWorld) → DeclaredImage → (told_before told : List Report) → Type 0
-DeclaredAs (Ok u) v v2 image told_before told = (boards : List Device) (w : World) → IsWorld v boards w → DeclaredNow v v2 image told_before told boards w
-DeclaredAs (Err Memory) v v2 image told_before told = Unit {0}
-DeclaredAs (Err (NoBoard motes boards)) v v2 image told_before told = ⊥
-DeclaredAs (Err FlashFault) v v2 image told_before told = ⊥
-DeclaredAs (Err TooMany) v v2 image told_before told = ⊥
-DeclaredAs (Err NoImage) v v2 image told_before told = ⊥
-DeclaredAs (Err (BadInput n)) v v2 image told_before told = ⊥
-DeclaredAs (Err WriteFault) v v2 image told_before told = ⊥
+abbrev pub DeclaredAs : Result (Unit {0}) Stop → (old new : KeptWorld) → Row → (told_before told : List Report) → Type 0
+DeclaredAs (Ok u) v v2 row told_before told = (boards : List Device) (w : World) → IsWorld v boards w → DeclaredNow v v2 row told_before told boards w
+DeclaredAs (Err Memory) v v2 row told_before told = Unit {0}
+DeclaredAs (Err (NoBoard motes boards)) v v2 row told_before told = ⊥
+DeclaredAs (Err FlashFault) v v2 row told_before told = ⊥
+DeclaredAs (Err TooMany) v v2 row told_before told = ⊥
+DeclaredAs (Err NoImage) v v2 row told_before told = ⊥
+DeclaredAs (Err (BadInput n fault)) v v2 row told_before told = ⊥
+DeclaredAs (Err WriteFault) v v2 row told_before told = ⊥
 
 -- what an event answers
 abbrev pub HappenedAs : Result (Unit {0}) Stop → World → Step → KeptWorld → (old new : List Device) → (told_before told : List Report) → Type 0
@@ -162,5 +167,5 @@ HappenedAs (Err FlashFault) w x v old new told_before told = (board : ℕ) × Fl
 HappenedAs (Err TooMany) w x v old new told_before told = (w.events ≡ most_events) × (new ≡ old)
 HappenedAs (Err NoImage) w x v old new told_before told = Ended w x old new
 HappenedAs (Err (NoBoard motes boards)) w x v old new told_before told = ⊥
-HappenedAs (Err (BadInput n)) w x v old new told_before told = ⊥
+HappenedAs (Err (BadInput n fault)) w x v old new told_before told = ⊥
 HappenedAs (Err WriteFault) w x v old new told_before told = ⊥

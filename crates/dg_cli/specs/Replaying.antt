@@ -1,8 +1,13 @@
 -- What the steps of a replay do, line by line.
-use Rattle.std.specs.Prelude.{◌≡◌, ◌⊎◌, ℕ, ◌<◌, ◌≤◌, Bool, List, [], ◌∷◌, ◌++◌, length, map, Option, Some, None, Result, Ok, Err}
+use Rattle.std.specs.Prelude.{◌≡◌, ◌≢◌, ◌⊎◌, ℕ, ◌<◌, ◌≤◌, Bool, List, [], ◌∷◌, ◌++◌, length, map, Option, Some, None, Result, Ok, Err}
 use Rattle.dg_base.specs.Outside.{Puts, PutsFront}
 use Rattle.dg_nor.specs.Device.{Device}
-use Rattle.dg_script.specs.Script.{Script, script_from, line_of, place_after, UsesBoard}
+use Rattle.dg_script.specs.Fitting.{UsesBoard}
+use Rattle.dg_script.specs.Lines.{line_of}
+use Rattle.dg_script.specs.Places.{place_after}
+use Rattle.dg_script.specs.Script.{Script, script_from}
+use Rattle.dg_script.specs.declared.fault.LineFault.{LineFault}
+use Rattle.dg_script.specs.declared.fault.LineFault.TheVariants as line_fault
 use Rattle.dg_script.specs.Report.{report_text}
 use Rattle.dg_base.specs.declared.answers.Status.{Status}
 use Rattle.dg_base.specs.declared.answers.Status.TheVariants as status
@@ -11,7 +16,8 @@ use Rattle.dg_rules.specs.World.{World}
 use Rattle.dg_rules.specs.Changes.{final_lines}
 use Rattle.dg_rules.specs.Runs.{Played}
 use Rattle.dg_cli.specs.Boards.{BoardsStand, BoardStopped, StoppedIn}
-use Rattle.dg_cli.specs.Items.{items_of, beginning_of, motes_in, lacking, cut_behind}
+use Rattle.dg_script.specs.Items.{cut_behind}
+use Rattle.dg_cli.specs.Items.{items_of, beginning_of, motes_in, lacking}
 use Rattle.dg_cli.specs.Ending.{Ending, NoBoards, TooManyEvents, FaultAt, events_in, LinesInLimits, ending_line}
 use Rattle.dg_cli.specs.Outcome.{CameTo, AtTooMany, closing, Wrote, Boards, IsCaused, IsFront, RunsTo, item_played, played_text}
 use Rattle.dg_cli.specs.Playing.{Stood, CountsEvents, PlayedLine, IsOneTooMany, LacksBoards, LacksImage}
@@ -25,7 +31,7 @@ use Rattle.dg_cli.specs.declared.stop.Stop.TheVariants.{Memory, BadInput, WriteF
 -- The line that a text spells was played, from a player and boards that stand for world w behind some lines.
 pub record TextPlayed (text : List ℕ) (p q : Player) (done : List Line) (w : Option World) (initial now : List Device) : Type 0 where
   pub line : Line
-  pub spelled : line_of p.place text ≡ Some line
+  pub spelled : line_of p.place text ≡ Ok line
   pub reports : List Report
   pub to : PlayedLine q done w line [] reports initial now
   pub behind : q.place ≡ place_after p.place line
@@ -48,14 +54,19 @@ pub record NothingDone (old new : List Device) (before after : Option (List ℕ)
 -- a line was read, and not played
 pub record TextStopped (text : List ℕ) (p : Player) (P : Line → Type 0) : Type 0 where
   pub line : Line
-  pub spelled : line_of p.place text ≡ Some line
+  pub spelled : line_of p.place text ≡ Ok line
   pub stopped : P line
+
+-- why a replay ends at a line that was not read
+pub record StopsAtLine (stop : Stop) (line : ℕ) (fault : LineFault) : Type 0 where
+  pub memory : fault ≡ line_fault.Memory → stop ≡ Memory
+  pub other : fault ≢ line_fault.Memory → stop ≡ BadInput line fault
 
 -- what playing a text answers, from player p and world w behind some lines
 abbrev pub TextAnswer : Result (Unit {0}) Stop → (text : List ℕ) → ℕ → (p q : Player) → List Line → Option World → (initial old new : List Device) → (before after : Option (List ℕ)) → (write_failed : Type 0) → Type 0
 TextAnswer (Ok u) text number p q done w initial old new before after failed = TextTold text p q done w initial new before after
 TextAnswer (Err Memory) text number p q done w initial old new before after failed = NothingDone old new before after ⊎ TextCut text p q done w initial new before after
-TextAnswer (Err (BadInput line)) text number p q done w initial old new before after failed = (line ≡ number) × (line_of p.place text ≡ None) × NothingDone old new before after
+TextAnswer (Err (BadInput line fault)) text number p q done w initial old new before after failed = (line ≡ number) × (line_of p.place text ≡ Err fault) × NothingDone old new before after
 TextAnswer (Err WriteFault) text number p q done w initial old new before after failed = failed × TextCut text p q done w initial new before after
 TextAnswer (Err FlashFault) text number p q done w initial old new before after failed = TextStopped text p (λ line. UsesBoard line × StoppedIn done (line ∷ []) w initial new) × (after ≡ before)
 TextAnswer (Err TooMany) text number p q done w initial old new before after failed = TextStopped text p (λ line. IsOneTooMany w line old new) × (after ≡ before)
@@ -112,7 +123,7 @@ pub record HasFew (script : Script) (initial : List Device) : Type 0 where
 abbrev pub LinesAnswer : Result (Player × ℕ) Stop → Bool → Script → (initial now : List Device) → (before after : Option (List ℕ)) → (write_failed : Type 0) → Type 0
 LinesAnswer (Ok reached) ends script initial now before after failed = Reached ends script [] reached.1 reached.0 initial now before after
 LinesAnswer (Err Memory) ends script initial now before after failed = PlayedFront script initial now before after
-LinesAnswer (Err (BadInput line)) ends script initial now before after failed = PlayedUpTo script initial before after (λ done rest last. (rest ≡ []) × (script.fault ≡ Some line) × BoardsStand last initial now × HasFew script initial)
+LinesAnswer (Err (BadInput line fault)) ends script initial now before after failed = PlayedUpTo script initial before after (λ done rest last. (rest ≡ []) × (script.fault ≡ Some (line, fault)) × BoardsStand last initial now × HasFew script initial)
 LinesAnswer (Err WriteFault) ends script initial now before after failed = failed × PlayedFront script initial now before after
 LinesAnswer (Err FlashFault) ends script initial now before after failed = PlayedUpTo script initial before after (λ done rest last. ((line : Line) × (more : List Line) × (rest ≡ line ∷ more) × UsesBoard line) × StoppedIn done rest last initial now)
 LinesAnswer (Err TooMany) ends script initial now before after failed = PlayedUpTo script initial before after (λ done rest last. AtTooMany done rest × BoardsStand last initial now × (lacking (length initial) script.lines ≡ None))
@@ -143,7 +154,7 @@ EndsWith result wanted piece before after failed =
 -- how a replay that stopped ends
 abbrev pub StopEnds : Stop → Status → (before after : Option (List ℕ)) → (write_failed : Type 0) → Type 0
 StopEnds Memory result before after failed = (result ≡ status.Memory) × (after ≡ before)
-StopEnds (BadInput line) result before after failed = EndsWith result status.BadInput (ending_line (FaultAt line)) before after failed
+StopEnds (BadInput line fault) result before after failed = EndsWith result status.BadInput (ending_line (FaultAt line fault)) before after failed
 StopEnds WriteFault result before after failed = (result ≡ status.WriteFault) × (after ≡ before)
 StopEnds FlashFault result before after failed = (result ≡ status.FlashFault) × (after ≡ before)
 StopEnds TooMany result before after failed = EndsWith result status.TooMany (ending_line TooManyEvents) before after failed

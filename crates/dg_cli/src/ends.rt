@@ -14,7 +14,6 @@ use crate::replay::play_lines;
 use crate::stop::Stop;
 use dg_base::{Sink, Status};
 use dg_nor::Nor;
-use dg_script::Place;
 use std::alloc::Global;
 
 /// The status of a replay that stopped, whose last line is written where it has one.
@@ -25,7 +24,7 @@ fn end_at_stop<K: Sink>(alloc: Global, out: &mut K, stop: Stop) -> Status
 {
     match stop {
         Stop::Memory => Status::Memory,
-        Stop::BadInput { line } => end_at_line(alloc, out, line),
+        Stop::BadInput { line, fault } => end_at_line(alloc, out, line, fault),
         Stop::WriteFault => Status::WriteFault,
         Stop::FlashFault => Status::FlashFault,
         Stop::TooMany => end_with(out, b"toomany\n", Status::TooMany),
@@ -86,14 +85,12 @@ fn end_script<K: Sink, N: Nor>(
     if over {
         return end_with(out, b"toolong\n", Status::TooLong);
     }
-    match player.place {
-        Place::Later { .. } => match &player.world {
+    match player.place.end_fault() {
+        Some(fault) => end_at_line(alloc, out, number, fault),
+        None => match &player.world {
             Some(world) => finish(alloc, world, boards, out),
             None => unreachable!(),
         },
-        Place::First => end_at_line(alloc, out, number),
-        Place::Second { .. } => end_at_line(alloc, out, number),
-        Place::AfterCut { .. } => end_at_line(alloc, out, number),
     }
 }
 

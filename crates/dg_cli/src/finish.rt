@@ -13,7 +13,7 @@ ghost use Rattle.dg_cli.specs.Replaying.{EndsWith, FinishesWith};
 use crate::replay::push_reports;
 use dg_base::{Sink, Status, WriteFailed, push_u32};
 use dg_nor::Nor;
-use dg_script::Report;
+use dg_script::{LineFault, Report};
 use dg_world::{World, WorldFault};
 use std::alloc::{AllocError, Global};
 
@@ -31,22 +31,25 @@ pub fn end_with<K: Sink>(out: &mut K, piece: &[u8], status: Status) -> Status
     }
 }
 
-fn push_bad_line(piece: &mut Vec<u8>, line: u32) -> Result<(), AllocError>
-    ensures { OnOk result (piece.new.items ≡ piece.old.items ++ ending_line (FaultAt line)) }
+fn push_bad_line(piece: &mut Vec<u8>, line: u32, fault: LineFault) -> Result<(), AllocError>
+    ensures { OnOk result (piece.new.items ≡ piece.old.items ++ ending_line (FaultAt line fault)) }
 {
     piece.extend_from_slice(b"line ")?;
     push_u32(piece, line)?;
-    piece.extend_from_slice(b" verb\n")
+    piece.push(b' ')?;
+    piece.extend_from_slice(fault.name().as_bytes())?;
+    piece.push(b'\n')?;
+    Ok(())
 }
 
-/// Ends a replay at a line outside the grammar.
-pub fn end_at_line<K: Sink>(alloc: Global, out: &mut K, line: u32) -> Status
-    ensures ends { EndsWith result Status.BadInput (ending_line (FaultAt line)) (K.written out.old) (K.written out.new) (Rose (K.faults out.old) (K.faults out.new)) }
+/// Ends a replay at a line that has a fault.
+pub fn end_at_line<K: Sink>(alloc: Global, out: &mut K, line: u32, fault: LineFault) -> Status
+    ensures ends { EndsWith result Status.BadInput (ending_line (FaultAt line fault)) (K.written out.old) (K.written out.new) (Rose (K.faults out.old) (K.faults out.new)) }
     ensures counts { K.faults out.old ≤ K.faults out.new }
     ensures unfailed { result ≢ Status.WriteFault → K.faults out.new ≡ K.faults out.old }
 {
     let mut piece = Vec::new(alloc);
-    match push_bad_line(&mut piece, line) {
+    match push_bad_line(&mut piece, line, fault) {
         Ok(()) => end_with(out, &piece, Status::BadInput),
         Err(AllocError) => Status::Memory,
     }

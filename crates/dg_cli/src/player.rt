@@ -1,16 +1,18 @@
 //! Plays the lines of a script over its world.
-ghost use Rattle.std.specs.Prelude.{◌≡◌, ◌<◌, ◌≤◌, ◌∷◌, [], ℕ, List, Option, Some, None, Err, map, length, OnOk, OnErr, IfOk};
+ghost use Rattle.std.specs.Prelude.{◌≡◌, ◌<◌, ◌≤◌, ◌∷◌, [], ℕ, true, false, List, Option, Some, None, Err, map, length, OnOk, OnErr, IfOk};
 ghost use Rattle.dg_nor.specs.Device.{Device};
-ghost use Rattle.dg_script.specs.Script.{IsGolden, IsDeclared, FitsCut, FitsEvent, FitsLine, AllowedAt, motes_at, place_after};
+ghost use Rattle.dg_object.specs.Object.{row_of};
+ghost use Rattle.dg_volume.specs.Store.{fresh};
+ghost use Rattle.dg_script.specs.Fitting.{StandsAt, FitsLine, IsGolden, IsDeclared};
 ghost use Rattle.dg_rules.specs.World.{World as RuleWorld};
-ghost use Rattle.dg_cli.specs.Playing.{Stood, Ready, Counted, PlayedAs, FormattedAs, DeclaredAs, HappenedAs};
 ghost use Rattle.dg_rules.specs.Ranges.{StepFits};
 ghost use Rattle.dg_world.specs.Worlds.{IsWorld};
-ghost use Rattle.dg_script.specs.declared.line.Place.TheVariants.{First, Second, Later, AfterCut};
+ghost use Rattle.dg_cli.specs.Playing.{Stood, Passed, MayPlay, Counted, PlayedAs, FormattedAs, DeclaredAs, HappenedAs};
 
 use crate::stop::Stop;
+use dg_base::{Bytes, Cut, Key, Step};
 use dg_nor::Nor;
-use dg_script::{Cut, Event, Golden, Image, Line, Place, Report, Step};
+use dg_script::{Line, Place, Report};
 use dg_world::{DeclareFault, FormatStopped, World, WorldFault, format_boards};
 use std::alloc::{AllocError, Global};
 
@@ -25,12 +27,9 @@ pub struct Player {
 }
 
 /// There are so many motes, for which boards are needed.
-fn play_motes<N: Nor>(player: &mut Player, motes: u8, boards: &Vec<N>) -> Result<(), Stop>
-    requires fits { FitsLine 0 (Line.Motes motes) }
-    ensures played { (done : List Line) (w : Option RuleWorld) (initial : List Device) (told : List Report) → AllowedAt player.old.place (Line.Motes motes)
-        → Stood player.old done w initial (map N.device boards.now.items)
-        → PlayedAs result player.new done w (Line.Motes motes) told told initial (map N.device boards.now.items) (map N.device boards.now.items) }
-    ensures place { OnOk result (player.new.place ≡ Second motes) }
+fn play_motes<N: Nor>(motes: u8, boards: &Vec<N>) -> Result<(), Stop>
+    ensures enough { OnOk result (motes ≤ length boards.now.items) }
+    ensures missing { (stop : Stop) → result ≡ Err stop → (stop ≡ Stop.NoBoard motes (length boards.now.items)) × (length boards.now.items < motes) }
 {
     let have = boards.len();
     if have < usize::from(motes) {
@@ -39,52 +38,64 @@ fn play_motes<N: Nor>(player: &mut Player, motes: u8, boards: &Vec<N>) -> Result
             boards: have as u32,
         });
     }
-    player.place = Place::Second { motes };
     Ok(())
 }
 
 /// Formats the boards of the motes with golden.
-fn format_first<N: Nor>(boards: &mut [N], motes: u8, golden: &Golden) -> Result<(), FormatStopped>
-    requires fits { IsGolden golden.now }
+fn format_first<N: Nor>(
+    boards: &mut [N],
+    motes: u8,
+    name: &Bytes,
+    used: u32,
+    content: &Bytes,
+) -> Result<(), FormatStopped>
+    requires fits { IsGolden name.now used content.now }
     requires counted { Counted motes (length boards.old) }
-    ensures { FormattedAs result motes golden.now (map N.device boards.old) (map N.device boards.new) }
+    ensures { FormattedAs result motes (fresh name.now content.now used) (map N.device boards.old) (map N.device boards.new) }
 {
-    let name = golden.name.as_slice();
-    let content = golden.content.as_slice();
-    format_boards(boards, motes, name, content, golden.used)
+    let name = name.as_slice();
+    let content = content.as_slice();
+    format_boards(boards, motes, name, content, used)
 }
 
 /// The same over a vector of boards.
-fn format<N: Nor>(boards: &mut Vec<N>, motes: u8, golden: &Golden) -> Result<(), FormatStopped>
-    requires fits { IsGolden golden.now }
+fn format<N: Nor>(
+    boards: &mut Vec<N>,
+    motes: u8,
+    name: &Bytes,
+    used: u32,
+    content: &Bytes,
+) -> Result<(), FormatStopped>
+    requires fits { IsGolden name.now used content.now }
     requires counted { Counted motes (length boards.old.items) }
-    ensures { FormattedAs result motes golden.now (map N.device boards.old.items) (map N.device boards.new.items) }
+    ensures { FormattedAs result motes (fresh name.now content.now used) (map N.device boards.old.items) (map N.device boards.new.items) }
 {
-    format_first(boards.as_mut_slice(), motes, golden)
+    format_first(boards.as_mut_slice(), motes, name, used, content)
 }
 
 /// There is golden, with which the boards of the motes are formatted.
 fn play_golden<N: Nor>(
     alloc: Global,
     player: &mut Player,
-    golden: &Golden,
-    motes: u8,
+    name: &Bytes,
+    used: u32,
+    content: &Bytes,
     boards: &mut Vec<N>,
 ) -> Result<(), Stop>
-    requires fits { IsGolden golden.now }
-    requires counted { Counted motes (length boards.old.items) }
-    ensures played { (done : List Line) (w : Option RuleWorld) (initial : List Device) (told : List Report) → player.old.place ≡ Second motes
-        → Stood player.old done w initial (map N.device boards.old.items)
-        → PlayedAs result player.new done w (Line.Golden golden.now) told told initial (map N.device boards.old.items) (map N.device boards.new.items) }
-    ensures place { OnOk result (player.new.place ≡ Later motes) }
+    requires fits { IsGolden name.now used content.now }
+    requires counted { Counted player.old.place.motes (length boards.old.items) }
+    ensures played { (p : Player) (done : List Line) (w : Option RuleWorld) (initial : List Device) (told : List Report) → Passed p player.old (Line.Golden name.now used content.now)
+        → p.place.ready ≡ false → Stood p done w initial (map N.device boards.old.items)
+        → PlayedAs result player.new done w (Line.Golden name.now used content.now) told told initial (map N.device boards.old.items) (map N.device boards.new.items) }
+    ensures place { player.new.place ≡ player.old.place }
 {
+    let motes = player.place.motes;
     let world = match World::new(alloc, motes) {
         Ok(world) => world,
         Err(AllocError) => return Err(Stop::Memory),
     };
-    match format(boards, motes, golden) {
+    match format(boards, motes, name, used, content) {
         Ok(()) => {
-            player.place = Place::Later { motes };
             player.world = Some(world);
             Ok(())
         }
@@ -93,18 +104,21 @@ fn play_golden<N: Nor>(
 }
 
 /// Declares an image.
-fn play_image(world: &mut World, image: Image, reports: &mut Vec<Report>) -> Result<(), Stop>
-    requires fits { IsDeclared image }
-    ensures declared { DeclaredAs result world.old world.new image reports.old.items reports.new.items }
+fn play_image(
+    world: &mut World,
+    key: Key,
+    name: Bytes,
+    content: Bytes,
+    reports: &mut Vec<Report>,
+) -> Result<(), Stop>
+    requires fits { IsDeclared key.image key.version name content }
+    ensures declared { DeclaredAs result world.old world.new (row_of key.image key.version name content) reports.old.items reports.new.items }
 {
-    let (number, version) = (image.image, image.version);
-    match world.declare(number, version, image.name, image.content) {
+    let Key { image, version } = key;
+    match world.declare(image, version, name, content) {
         Ok(()) => Ok(()),
         Err(DeclareFault::Memory) => Err(Stop::Memory),
-        Err(DeclareFault::Taken) => match reports.push(Report::Taken {
-            image: number,
-            version,
-        }) {
+        Err(DeclareFault::Taken) => match reports.push(Report::Taken { image, version }) {
             Ok(()) => Ok(()),
             Err(_) => Err(Stop::Memory),
         },
@@ -132,7 +146,7 @@ fn play_event<N: Nor>(
     }
 }
 
-/// Plays a line that was read. What it reports is appended.
+/// Plays a line that was read, behind which the player's place went on. What it reports is appended.
 pub fn play_line<N: Nor>(
     alloc: Global,
     line: Line,
@@ -140,37 +154,42 @@ pub fn play_line<N: Nor>(
     boards: &mut Vec<N>,
     reports: &mut Vec<Report>,
 ) -> Result<(), Stop>
-    requires ready { Ready player.old (map N.device boards.old.items) }
-    requires allowed { AllowedAt player.old.place line }
-    requires fits { FitsLine (motes_at player.old.place) line }
-    ensures played { (done : List Line) (w : Option RuleWorld) (initial : List Device) → Stood player.old done w initial (map N.device boards.old.items)
+    requires may { MayPlay line player.old (map N.device boards.old.items) }
+    ensures played { (p : Player) (done : List Line) (w : Option RuleWorld) (initial : List Device) → Passed p player.old line → StandsAt p.place line → FitsLine p.place.motes line → Stood p done w initial (map N.device boards.old.items)
         → PlayedAs result player.new done w line reports.old.items reports.new.items initial (map N.device boards.old.items) (map N.device boards.new.items) }
-    ensures place { OnOk result (player.new.place ≡ place_after player.old.place line) }
+    ensures place { player.new.place ≡ player.old.place }
 {
-    let place = player.place.after(&line);
     match line {
         Line::Nothing => Ok(()),
-        Line::Motes { motes } => play_motes(player, motes, boards),
-        Line::Golden(golden) => {
-            let motes = player.place.motes();
-            play_golden(alloc, player, &golden, motes, boards)
-        }
-        Line::Image(image) => match &mut player.world {
-            Some(world) => play_image(world, image, reports),
+        Line::Motes(motes) => play_motes(motes, boards),
+        Line::Golden {
+            name,
+            used,
+            content,
+        } => play_golden(alloc, player, &name, used, &content, boards),
+        Line::Image {
+            image,
+            version,
+            name,
+            content,
+        } => match &mut player.world {
+            Some(world) => play_image(world, Key { image, version }, name, content, reports),
             None => unreachable!(),
         },
         Line::Cut(cut) => {
-            player.place = place;
             player.cut = Some(cut);
             Ok(())
         }
         Line::Happens(event) => {
-            player.place = place;
             let cut = player.cut.take();
             match &mut player.world {
                 Some(world) => play_event(world, &Step { event, cut }, boards, reports),
                 None => unreachable!(),
             }
         }
+        Line::Boards => unreachable!(),
+        Line::Link(_, _) => unreachable!(),
+        Line::Round(_, _) => unreachable!(),
+        Line::Sweeps(_) => unreachable!(),
     }
 }

@@ -1,23 +1,25 @@
 //! Replays a script over boards.
-ghost use Rattle.std.specs.Prelude.{◌≡◌, ◌≢◌, ◌⊎◌, ◌≤◌, ◌++◌, ℕ, Bool, List, Option, Some, map, length, OnOk, OnErr, Err};
+ghost use Rattle.std.specs.Prelude.{◌≡◌, ◌≢◌, ◌⊎◌, ◌≤◌, ◌++◌, ℕ, Bool, List, Option, Ok, map, length, OnOk, OnErr, Err};
 ghost use Rattle.std.specs.Str.Lines.{lines};
 ghost use Rattle.dg_words.specs.Counts.{Rose};
 ghost use Rattle.dg_base.specs.Outside.{Puts, PutsFront};
 ghost use Rattle.dg_nor.specs.Device.{Device};
-ghost use Rattle.dg_script.specs.Script.{script_from, line_of, motes_at, AllowedAt, FitsLine};
+ghost use Rattle.dg_script.specs.Fitting.{StandsAt, FitsLine, IsPlayed};
+ghost use Rattle.dg_script.specs.Lines.{line_of};
+ghost use Rattle.dg_script.specs.Places.{first_place};
+ghost use Rattle.dg_script.specs.Script.{script_from};
 ghost use Rattle.dg_script.specs.Report.{report_text};
 ghost use Rattle.dg_rules.specs.World.{World};
-ghost use Rattle.dg_cli.specs.Playing.{Stood, Ready};
-ghost use Rattle.dg_cli.specs.Replaying.{TextAnswer, LinesAnswer};
+ghost use Rattle.dg_cli.specs.Playing.{Stood, Ready, Passed, MayPlay};
+ghost use Rattle.dg_cli.specs.Replaying.{StopsAtLine, TextAnswer, LinesAnswer};
 ghost use Rattle.dg_script.specs.declared.line.Line.{Line};
-ghost use Rattle.dg_script.specs.declared.line.Place.TheVariants.{First};
 
 use crate::player::{Player, play_line};
 use crate::stop::Stop;
 use dg_base::{Sink, WriteFailed, next_line};
 use dg_nor::Nor;
 use dg_rules::scripts_with_golden;
-use dg_script::{Line, LineFault, Place, Report, push_report, read_line};
+use dg_script::{Line, LineFault, Place, Report, read_line, write_report};
 use std::alloc::{AllocError, Global};
 
 /// The buffers of a line: what it reports, and its text.
@@ -46,7 +48,7 @@ pub fn push_reports(piece: &mut Vec<u8>, reports: &[Report]) -> Result<(), Alloc
     ensures { OnOk result (piece.new.items ≡ piece.old.items ++ report_text reports.now) }
 {
     for report in reports {
-        push_report(piece, report)?;
+        write_report(report, piece)?;
     }
     Ok(())
 }
@@ -69,6 +71,41 @@ fn tell<K: Sink>(out: &mut K, piece: &mut Vec<u8>, reports: &[Report]) -> Result
     }
 }
 
+/// The player's place goes on behind a line.
+fn go_on(player: &mut Player, line: &Line) -> Result<(), Stop>
+    ensures ok { OnOk result (Passed player.old player.new line.now) }
+    ensures err { OnErr result (result ≡ Err Stop.Memory) }
+{
+    match player.place.pass(line) {
+        Ok(()) => Ok(()),
+        Err(AllocError) => Err(Stop::Memory),
+    }
+}
+
+/// Plays a line behind which the player's place went on, and writes what it reports.
+fn play_passed<K: Sink, N: Nor>(
+    alloc: Global,
+    line: Line,
+    player: &mut Player,
+    boards: &mut Vec<N>,
+    out: &mut K,
+    told: &mut Told,
+) -> Result<(), Stop>
+    requires may { MayPlay line player.old (map N.device boards.old.items) }
+    ensures played { (p : Player) (done : List Line) (w : Option World) (initial : List Device) (text : List ℕ) (number : ℕ) → line_of p.place text ≡ Ok line
+        → Passed p player.old line → StandsAt p.place line → FitsLine p.place.motes line → Stood p done w initial (map N.device boards.old.items)
+        → TextAnswer result text number p player.new done w initial (map N.device boards.old.items) (map N.device boards.new.items)
+        (K.written out.old) (K.written out.new) (Rose (K.faults out.old) (K.faults out.new)) }
+    ensures counts { K.faults out.old ≤ K.faults out.new }
+    ensures unfailed { result ≢ Err Stop.WriteFault → K.faults out.new ≡ K.faults out.old }
+{
+    told.reports.clear();
+    match play_line(alloc, line, player, boards, &mut told.reports) {
+        Ok(()) => tell(out, &mut told.piece, &told.reports),
+        Err(stop) => Err(stop),
+    }
+}
+
 /// Plays a line that was read, and writes what it reports.
 fn play_read<K: Sink, N: Nor>(
     alloc: Global,
@@ -79,20 +116,30 @@ fn play_read<K: Sink, N: Nor>(
     told: &mut Told,
 ) -> Result<(), Stop>
     requires ready { Ready player.old (map N.device boards.old.items) }
-    requires allowed { AllowedAt player.old.place line }
-    requires fits { FitsLine (motes_at player.old.place) line }
-    ensures played { (done : List Line) (w : Option World) (initial : List Device) (text : List ℕ) (number : ℕ) → line_of player.old.place text ≡ Some line
+    requires stands { StandsAt player.old.place line }
+    requires fits { FitsLine player.old.place.motes line }
+    requires may { IsPlayed line }
+    ensures played { (done : List Line) (w : Option World) (initial : List Device) (text : List ℕ) (number : ℕ) → line_of player.old.place text ≡ Ok line
         → Stood player.old done w initial (map N.device boards.old.items)
         → TextAnswer result text number player.old player.new done w initial (map N.device boards.old.items) (map N.device boards.new.items)
         (K.written out.old) (K.written out.new) (Rose (K.faults out.old) (K.faults out.new)) }
     ensures counts { K.faults out.old ≤ K.faults out.new }
     ensures unfailed { result ≢ Err Stop.WriteFault → K.faults out.new ≡ K.faults out.old }
 {
-    told.reports.clear();
-    match play_line(alloc, line, player, boards, &mut told.reports) {
-        Ok(()) => tell(out, &mut told.piece, &told.reports),
+    match go_on(player, &line) {
+        Ok(()) => play_passed(alloc, line, player, boards, out, told),
         Err(stop) => Err(stop),
     }
+}
+
+/// Why a replay ends at a line that was not read.
+fn stop_at(line: u32, fault: LineFault) -> Stop
+    ensures { StopsAtLine result line fault }
+{
+    if fault == LineFault::Memory {
+        return Stop::Memory;
+    }
+    Stop::BadInput { line, fault }
 }
 
 /// Reads the text of line `number`, plays it and writes what it reports.
@@ -112,10 +159,9 @@ fn play_text<K: Sink, N: Nor>(
     ensures counts { K.faults out.old ≤ K.faults out.new }
     ensures unfailed { result ≢ Err Stop.WriteFault → K.faults out.new ≡ K.faults out.old }
 {
-    match read_line(alloc, text, player.place) {
+    match read_line(alloc, text, &player.place) {
         Ok(line) => play_read(alloc, line, player, boards, out, told),
-        Err(LineFault::Memory) => Err(Stop::Memory),
-        Err(LineFault::Verb) => Err(Stop::BadInput { line: number }),
+        Err(fault) => Err(stop_at(number, fault)),
     }
 }
 
@@ -128,14 +174,14 @@ pub fn play_lines<K: Sink, N: Nor>(
     out: &mut K,
 ) -> Result<(Player, u32), Stop>
     requires { length text.now ≤ 16777217 }
-    ensures answer { (ends : Bool) → LinesAnswer result ends (script_from ends First 1 (lines text.now)) (map N.device boards.old.items) (map N.device boards.new.items)
+    ensures answer { (ends : Bool) → LinesAnswer result ends (script_from ends first_place 1 (lines text.now)) (map N.device boards.old.items) (map N.device boards.new.items)
         (K.written out.old) (K.written out.new) (Rose (K.faults out.old) (K.faults out.new)) }
     ensures counts { K.faults out.old ≤ K.faults out.new }
     ensures unfailed { result ≢ Err Stop.WriteFault → K.faults out.new ≡ K.faults out.old }
 {
     scripts_with_golden();
     let mut player = Player {
-        place: Place::First,
+        place: Place::first(alloc),
         cut: None,
         world: None,
     };

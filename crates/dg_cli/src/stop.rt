@@ -1,10 +1,12 @@
 //! Why a replay ends before its script does.
 
+use dg_script::LineFault;
+
 #[derive(Clone, Copy, Debug, PartialEq, Eq)]
 pub enum Stop {
     Memory,
     /// This line is outside the grammar.
-    BadInput { line: u32 },
+    BadInput { line: u32, fault: LineFault },
     WriteFault,
     FlashFault,
     /// A million events were played, and the line is one more.

@@ -26,9 +26,9 @@ use Rattle.dg_rules.specs.Events.{Deed, Does, Refuses, Goes, does, mote_of, dt_o
 use Rattle.dg_rules.specs.Steps.{blows, StepDoes, WorldStep, DeclareStep, declared_as}
 use Rattle.dg_rules.specs.Ranges.{EventFits, StepFits}
 use Rattle.dg_rules.specs.Premises.{IsDeclared, WorldAgrees, WorldTimely, MayDeclare, KeepsAgreement}
-use Rattle.dg_script.specs.declared.events.Event.{Event}
-use Rattle.dg_script.specs.declared.events.Event.TheVariants.{Tick, Reset, Inject, Order as OrderEvent}
-use Rattle.dg_script.specs.declared.events.Step.{Step}
+use Rattle.dg_base.specs.declared.events.Event.{Event}
+use Rattle.dg_base.specs.declared.events.Event.TheVariants.{Tick, Hear, Last, Reset, Inject, Order as OrderEvent, Frame}
+use Rattle.dg_base.specs.declared.events.Step.{Step}
 use Rattle.dg_script.specs.declared.report.Report.{Report}
 use Rattle.dg_rules.proofs.ThroughLemmas.{Through-map, Through-both, Through-each, agrees_room}
 use Rattle.dg_rules.proofs.TableLemmas.{row_at-key, row_at-each, row_at-own, row_at-with_row, row_at-added, row_at-of_with_row, row_at-of_push, all_push, IsTable-with_row, same_some}
@@ -202,6 +202,9 @@ event_through laws w agrees e fits = does_through w (does w e) (agrees_does laws
 
 mote_within : (n : ℕ) (e : Event) → EventFits n e → mote_of e < n
 mote_within n (Tick m dt word) fits = fits
+mote_within n (Hear m dt word frame) fits = absurd fits
+mote_within n (Last from to dt word) fits = absurd fits
+mote_within n (Frame m dt word bytes) fits = absurd fits
 mote_within n (Reset m dt word) fits = fits
 mote_within n (Inject m image version dt word) fits = fits.0
 mote_within n (OrderEvent m number image version dt word) fits = fits.0

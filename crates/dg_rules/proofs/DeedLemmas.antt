@@ -28,9 +28,9 @@ use Rattle.dg_rules.specs.Ranges.{EventFits, StepFits}
 use Rattle.dg_rules.specs.Premises.{WorldAgrees}
 use Rattle.dg_rules.specs.Legal.{MayInject, CutHolding, LegalInject, IsOn, MayStart, MayRestart, CutStart, LegalAt, LegalStep, taking}
 use Rattle.dg_rules.specs.Promises.{LegalDoes}
-use Rattle.dg_script.specs.declared.events.Event.{Event}
-use Rattle.dg_script.specs.declared.events.Event.TheVariants.{Tick, Reset, Inject, Order as OrderEvent}
-use Rattle.dg_script.specs.declared.events.Step.{Step}
+use Rattle.dg_base.specs.declared.events.Event.{Event}
+use Rattle.dg_base.specs.declared.events.Event.TheVariants.{Tick, Reset, Inject, Order as OrderEvent}
+use Rattle.dg_base.specs.declared.events.Step.{Step}
 use Rattle.dg_script.specs.declared.report.Report.{Report}
 use Rattle.dg_rules.proofs.ThroughLemmas.{Through-map, Through-each}
 use Rattle.dg_rules.proofs.SiteLemmas.{each_site, small_at, small_there, small_other, small_count}

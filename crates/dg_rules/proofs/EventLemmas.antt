@@ -17,9 +17,9 @@ use Rattle.dg_volume.specs.Table.{row_at, with_row}
 use Rattle.dg_rules.specs.World.{World, Site, Running, site, store_at, with_site, counted, off_site}
 use Rattle.dg_rules.specs.Events.{Deed, Does, Refuses, does, mote_of, dt_of, starts, acts, goes_on, clears, ticks, inject_unless, inject_row, order_unless}
 use Rattle.dg_rules.specs.Steps.{Ended, before_cut}
-use Rattle.dg_script.specs.declared.events.Event.{Event}
-use Rattle.dg_script.specs.declared.events.Event.TheVariants.{Tick, Reset, Inject, Order as OrderEvent}
-use Rattle.dg_script.specs.declared.events.Step.{Step}
+use Rattle.dg_base.specs.declared.events.Event.{Event}
+use Rattle.dg_base.specs.declared.events.Event.TheVariants.{Tick, Hear, Last, Reset, Inject, Order as OrderEvent, Frame}
+use Rattle.dg_base.specs.declared.events.Step.{Step}
 use Rattle.dg_script.specs.declared.report.Cause.{Cause}
 use Rattle.dg_script.specs.declared.report.Cause.TheVariants as cause
 use Rattle.dg_script.specs.declared.report.Report.{Report}
@@ -64,6 +64,9 @@ module _
   pub does_cases : (e : Event) → P e (does w e)
   unfolding does
   does_cases (Tick m dt word) = tick_case m dt word (site w m).runs refl
+  does_cases (Hear m dt word frame) = refused (Hear m dt word frame) cause.Frame
+  does_cases (Last from to dt word) = refused (Last from to dt word) cause.Frame
+  does_cases (Frame m dt word bytes) = refused (Frame m dt word bytes) cause.Frame
   does_cases (Reset m dt word) = resetting m dt word
   does_cases (Inject m image version dt word) =
       cond_both (image == 0) (Refuses cause.Reserved) (inject_row w m (row_at w.declared image version)) (P (Inject m image version dt word))

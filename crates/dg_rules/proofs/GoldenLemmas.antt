@@ -22,8 +22,8 @@ use Rattle.dg_rules.specs.Events.{Does, Refuses, Goes, does, mote_of, dt_of, run
 use Rattle.dg_rules.specs.Steps.{blows, StepDoes, WorldStep, EndsRun}
 use Rattle.dg_rules.specs.Ranges.{EventFits, StepFits}
 use Rattle.dg_rules.specs.Golden.{KeepsGoldenRow, WorldKeepsGolden, FindsImage}
-use Rattle.dg_script.specs.declared.events.Event.{Event}
-use Rattle.dg_script.specs.declared.events.Step.{Step}
+use Rattle.dg_base.specs.declared.events.Event.{Event}
+use Rattle.dg_base.specs.declared.events.Step.{Step}
 use Rattle.dg_script.specs.declared.report.Report.{Report}
 use Rattle.dg_rules.proofs.ThroughLemmas.{Through-map}
 use Rattle.dg_rules.proofs.SiteLemmas.{each_site}

@@ -11,9 +11,9 @@ use Rattle.dg_rules.specs.Steps.{blows}
 use Rattle.dg_rules.specs.Legal.{MayInject, CutHolding, LegalInject, LegalOrder, LegalTick, LegalReset, LegalAt, off_after}
 use Rattle.dg_rules.specs.Runs.{Item, Declares, Happens, Played}
 use Rattle.dg_rules.specs.Promises.{LegalDoes, LegalItem, IsLegal, IsKeptIn, Replaces, IsBlown, KeepsItem, KeepsAll, GoldenStays}
-use Rattle.dg_script.specs.declared.events.Event.{Event}
-use Rattle.dg_script.specs.declared.events.Event.TheVariants.{Tick, Reset, Inject, Order as OrderEvent}
-use Rattle.dg_script.specs.declared.events.Step.{Step}
+use Rattle.dg_base.specs.declared.events.Event.{Event}
+use Rattle.dg_base.specs.declared.events.Event.TheVariants.{Tick, Hear, Last, Reset, Inject, Order as OrderEvent, Frame}
+use Rattle.dg_base.specs.declared.events.Step.{Step}
 use Rattle.dg_rules.proofs.TableLemmas.{row_at-key}
 
 same_holding : (a b : Holding) → Some a ≡ Some b → a ≡ b
@@ -98,6 +98,9 @@ order_holds blew order old new mid i legal is =
     ∙ ⊎_elim (λ kept. ap (λ (x : SmallMote). holds x i) kept) (λ stays. ap (λ (x : SmallMote). holds x i) stays.1) legal.change
 
 at_mote : (declared table : List Row) (blew : Bool) (e : Event) (old new : SmallMote) (after : List Row) (i : ℕ) (h : Holding) → LegalAt declared table blew e old new after → holds old i ≡ Some h → After e blew i h (holds new i)
+at_mote declared table blew (Hear m dt word frame) old new after i h legal had = absurd legal
+at_mote declared table blew (Last from to dt word) old new after i h legal had = absurd legal
+at_mote declared table blew (Frame m dt word bytes) old new after i h legal had = absurd legal
 at_mote declared table blew (Tick m dt word) old new after i h legal had = inl (kept_itself (holds new i) h (tick_holds table blew old new i legal.1 ∙ had))
 at_mote declared table blew (Reset m dt word) old new after i h legal had = inl (kept_itself (holds new i) h (reset_holds table blew old new i legal.0 ∙ had))
 at_mote declared table blew (OrderEvent m number image version dt word) old new after i h legal had =
@@ -142,6 +145,9 @@ keeps_all past p legal = keeps_item p.item p.before p.after legal
 -- ---- golden
 
 golden_at : (declared table : List Row) (blew : Bool) (e : Event) (old new : SmallMote) (after : List Row) → LegalAt declared table blew e old new after → holds new 0 ≡ holds old 0
+golden_at declared table blew (Hear m dt word frame) old new after legal = absurd legal
+golden_at declared table blew (Last from to dt word) old new after legal = absurd legal
+golden_at declared table blew (Frame m dt word bytes) old new after legal = absurd legal
 golden_at declared table blew (Tick m dt word) old new after legal = tick_holds table blew old new 0 legal.1
 golden_at declared table blew (Reset m dt word) old new after legal = reset_holds table blew old new 0 legal.0
 golden_at declared table blew (OrderEvent m number image version dt word) old new after legal = order_holds blew (record { number = number; image = image; version = version }) old new legal.0 0 legal.1 legal.2

@@ -10,7 +10,7 @@ use Rattle.dg_rules.specs.Runs.{Played, Plays, EachAfter}
 use Rattle.dg_rules.specs.Premises.{WorldAgrees, PlayedFits, LeavesAgreement, AllOff}
 use Rattle.dg_rules.specs.Promises.{IsLegal, KeepsAll, StartsRow}
 use Rattle.dg_rules.specs.Golden.{PlaysGolden, FindsImage}
-use Rattle.dg_script.specs.declared.events.Event.{Event}
+use Rattle.dg_base.specs.declared.events.Event.{Event}
 use Rattle.dg_rules.proofs.AgreementLemmas.{Laws}
 use Rattle.dg_rules.proofs.GoldenLemmas.{finds_image}
 use Rattle.dg_rules.proofs.KeepLemmas.{keeps_all}

@@ -13,7 +13,7 @@ use Rattle.dg_rules.specs.Events.{does}
 use Rattle.dg_rules.specs.Ranges.{EventFits}
 use Rattle.dg_rules.specs.Premises.{WorldAgrees}
 use Rattle.dg_rules.specs.Promises.{RunsRow, StartsDoes}
-use Rattle.dg_script.specs.declared.events.Event.{Event}
+use Rattle.dg_base.specs.declared.events.Event.{Event}
 use Rattle.dg_rules.proofs.TableLemmas.{row_at-each}
 use Rattle.dg_rules.proofs.BootLemmas.{boot_start}
 use Rattle.dg_rules.proofs.EventLemmas.{does_cases}

@@ -20,8 +20,8 @@ use Rattle.dg_rules.specs.Premises.{WorldAgrees, ItemFits, PlayedFits, ItemInRan
 use Rattle.dg_rules.specs.Golden.{KeepsGoldenRow, WorldKeepsGolden}
 use Rattle.dg_rules.specs.Promises.{IsLegal, LegalItem, KeepsAll, StartsRow, StartsItem}
 use Rattle.dg_rules.specs.Runs.{Item, Declares, Happens, Played, ItemStep, Plays}
-use Rattle.dg_script.specs.declared.events.Event.{Event}
-use Rattle.dg_script.specs.declared.events.Step.{Step}
+use Rattle.dg_base.specs.declared.events.Event.{Event}
+use Rattle.dg_base.specs.declared.events.Step.{Step}
 use Rattle.dg_script.specs.declared.report.Report.{Report}
 use Rattle.dg_rules.proofs.ThroughLemmas.{Through-each}
 use Rattle.dg_rules.proofs.TableLemmas.{row_at-own, row_at-cons, row_at-of_with_row, row_at-push, IsTable-one, not_none}

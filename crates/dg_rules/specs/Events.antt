@@ -16,8 +16,8 @@ use Rattle.dg_volume.specs.Table.{row_at, with_row}
 use Rattle.dg_rules.specs.Sizes.{short_start}
 use Rattle.dg_rules.specs.World.{World, Running, site, store_at}
 use Rattle.dg_base.specs.declared.events.Key.{Key}
-use Rattle.dg_script.specs.declared.events.Event.{Event}
-use Rattle.dg_script.specs.declared.events.Event.TheVariants.{Tick, Reset, Inject, Order as OrderEvent}
+use Rattle.dg_base.specs.declared.events.Event.{Event}
+use Rattle.dg_base.specs.declared.events.Event.TheVariants.{Tick, Hear, Last, Reset, Inject, Order as OrderEvent, Frame}
 use Rattle.dg_script.specs.declared.report.Cause.{Cause}
 use Rattle.dg_script.specs.declared.report.Cause.TheVariants as cause
 
@@ -36,12 +36,18 @@ pub data Does : Type 0 where
 -- the mote at which an event is, and its step of time
 abbrev pub mote_of : Event → ℕ
 mote_of (Tick mote dt word) = mote
+mote_of (Hear mote dt word frame) = mote
+mote_of (Last from to dt word) = to
+mote_of (Frame mote dt word bytes) = mote
 mote_of (Reset mote dt word) = mote
 mote_of (Inject mote image version dt word) = mote
 mote_of (OrderEvent mote number image version dt word) = mote
 
 abbrev pub dt_of : Event → ℕ
 dt_of (Tick mote dt word) = dt
+dt_of (Hear mote dt word frame) = dt
+dt_of (Last from to dt word) = dt
+dt_of (Frame mote dt word bytes) = dt
 dt_of (Reset mote dt word) = dt
 dt_of (Inject mote image version dt word) = dt
 dt_of (OrderEvent mote number image version dt word) = dt
@@ -114,8 +120,12 @@ order_unless None w m order = acts w m (order_trail (store_at w m) order) w.tabl
 
 -- ---- every event
 
+-- Motes do not hear frames yet.
 unfoldable pub does : World → Event → Does
 does w (Tick m dt word) = ticks w m (site w m).runs (w.moment + dt)
+does w (Hear m dt word frame) = Refuses cause.Frame
+does w (Last from to dt word) = Refuses cause.Frame
+does w (Frame m dt word bytes) = Refuses cause.Frame
 does w (Reset m dt word) = starts w (boot kind.Power (store_at w m)) (w.moment + dt)
 does w (Inject m image version dt word) = if image == 0 then Refuses cause.Reserved else inject_row w m (row_at w.declared image version)
 does w (OrderEvent m number image version dt word) =

@@ -6,8 +6,8 @@ use Rattle.dg_volume.specs.Sizes.{golden_version}
 use Rattle.dg_volume.specs.Table.{row_at, with_row}
 use Rattle.dg_rules.specs.Small.{Holding, SmallMote, Small, mote_in, holds, whole}
 use Rattle.dg_base.specs.declared.events.Key.{Key}
-use Rattle.dg_script.specs.declared.events.Event.{Event}
-use Rattle.dg_script.specs.declared.events.Event.TheVariants.{Tick, Reset, Inject, Order as OrderEvent}
+use Rattle.dg_base.specs.declared.events.Event.{Event}
+use Rattle.dg_base.specs.declared.events.Event.TheVariants.{Tick, Hear, Last, Reset, Inject, Order as OrderEvent, Frame}
 
 -- ---- one mote
 
@@ -96,6 +96,9 @@ LegalReset table true old new = CutStart (MayStart table old) old new
 
 -- What an event that is not refused may change at its mote. A cut that blew makes the mote off.
 abbrev pub LegalAt : List Row → List Row → Bool → Event → SmallMote → SmallMote → List Row → Type 0
+LegalAt declared table blew (Hear m dt word frame) old new after = ⊥
+LegalAt declared table blew (Last from to dt word) old new after = ⊥
+LegalAt declared table blew (Frame m dt word bytes) old new after = ⊥
 LegalAt declared table blew (Tick m dt word) old new after = IsOn old × LegalTick table blew old new × (after ≡ table)
 LegalAt declared table blew (Reset m dt word) old new after = LegalReset table blew old new × (after ≡ table)
 LegalAt declared table blew (Inject m image version dt word) old new after =

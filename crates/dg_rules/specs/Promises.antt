@@ -10,9 +10,9 @@ use Rattle.dg_rules.specs.Steps.{blows}
 use Rattle.dg_rules.specs.Small.{Holding, small, mote_in, holds}
 use Rattle.dg_rules.specs.Legal.{LegalStep}
 use Rattle.dg_rules.specs.Runs.{Item, Declares, Happens, Played}
-use Rattle.dg_script.specs.declared.events.Event.{Event}
-use Rattle.dg_script.specs.declared.events.Event.TheVariants.{Tick, Reset, Inject, Order as OrderEvent}
-use Rattle.dg_script.specs.declared.events.Step.{Step}
+use Rattle.dg_base.specs.declared.events.Event.{Event}
+use Rattle.dg_base.specs.declared.events.Event.TheVariants.{Tick, Hear, Last, Reset, Inject, Order as OrderEvent, Frame}
+use Rattle.dg_base.specs.declared.events.Step.{Step}
 
 -- ---- legality
 
@@ -40,6 +40,9 @@ IsKeptIn (Some k) h = (h.version < k.version) ⊎ ((h.version ≡ k.version) × 
 abbrev pub Replaces : Event → ℕ → Holding → Type 0
 Replaces (Inject m image version dt word) i h = (image ≡ i) × (h.version < version)
 Replaces (Tick m dt word) i h = ⊥
+Replaces (Hear m dt word frame) i h = ⊥
+Replaces (Last from to dt word) i h = ⊥
+Replaces (Frame m dt word bytes) i h = ⊥
 Replaces (Reset m dt word) i h = ⊥
 Replaces (OrderEvent m number image version dt word) i h = ⊥
 

@@ -2,14 +2,17 @@
 use Rattle.std.specs.Prelude.{ℕ, ◌<◌, ◌≤◌, length, IfSome}
 use Rattle.dg_nor.specs.Sizes.{sector_size}
 use Rattle.dg_volume.specs.Sizes.{images}
-use Rattle.dg_script.specs.declared.events.Cut.{Cut}
-use Rattle.dg_script.specs.declared.events.Event.{Event}
-use Rattle.dg_script.specs.declared.events.Event.TheVariants.{Tick, Reset, Inject, Order as OrderEvent}
-use Rattle.dg_script.specs.declared.events.Step.{Step}
+use Rattle.dg_base.specs.declared.events.Cut.{Cut}
+use Rattle.dg_base.specs.declared.events.Event.{Event}
+use Rattle.dg_base.specs.declared.events.Event.TheVariants.{Tick, Hear, Last, Reset, Inject, Order as OrderEvent, Frame}
+use Rattle.dg_base.specs.declared.events.Step.{Step}
 
--- of a world with so many motes
+-- Of a world with so many motes. Motes do not hear frames yet: no such event is played.
 abbrev pub EventFits : ℕ → Event → Type 0
 EventFits motes (Tick mote dt word) = mote < motes
+EventFits motes (Hear mote dt word frame) = ⊥
+EventFits motes (Last from to dt word) = ⊥
+EventFits motes (Frame mote dt word bytes) = ⊥
 EventFits motes (Reset mote dt word) = mote < motes
 EventFits motes (Inject mote image version dt word) = (mote < motes) × (image < images) × (1 ≤ version)
 EventFits motes (OrderEvent mote number image version dt word) = (mote < motes) × (1 ≤ number) × (image < images) × (1 ≤ version)

@@ -3,7 +3,7 @@ use Rattle.std.specs.Prelude.{◌≡◌, List, [], ◌∷◌}
 use Rattle.dg_object.specs.Object.{Row}
 use Rattle.dg_rules.specs.World.{World}
 use Rattle.dg_rules.specs.Steps.{WorldStep, DeclareStep}
-use Rattle.dg_script.specs.declared.events.Step.{Step}
+use Rattle.dg_base.specs.declared.events.Step.{Step}
 use Rattle.dg_script.specs.declared.report.Report.{Report}
 
 -- what a run is made of: a row is declared, or an event is stepped

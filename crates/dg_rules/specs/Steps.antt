@@ -7,8 +7,8 @@ use Rattle.dg_volume.specs.Table.{row_at}
 use Rattle.dg_rules.specs.World.{World, Running, store_at, with_site, counted}
 use Rattle.dg_rules.specs.Changes.{changes, start_line, declared_lines}
 use Rattle.dg_rules.specs.Events.{Deed, Does, Refuses, Goes, does, mote_of, dt_of}
-use Rattle.dg_script.specs.declared.events.Cut.{Cut}
-use Rattle.dg_script.specs.declared.events.Step.{Step}
+use Rattle.dg_base.specs.declared.events.Cut.{Cut}
+use Rattle.dg_base.specs.declared.events.Step.{Step}
 use Rattle.dg_script.specs.declared.report.Report.{Report}
 use Rattle.dg_script.specs.declared.report.Report.TheVariants.{Off, Refused}
 

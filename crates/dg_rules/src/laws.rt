@@ -14,8 +14,8 @@ ghost use Rattle.dg_rules.specs.Promises.{IsLegal, KeepsAll, GoldenStays, Starts
 ghost use Rattle.dg_rules.specs.Ranges.{EventFits, StepFits};
 ghost use Rattle.dg_rules.specs.Premises.{WorldAgrees, WorldTimely, MayDeclare, PlayedFits, KeepsAgreement, LeavesAgreement, AllOff};
 ghost use Rattle.dg_rules.specs.Golden.{WorldKeepsGolden, FindsImage, PlaysGolden};
-ghost use Rattle.dg_script.specs.declared.events.Event.{Event};
-ghost use Rattle.dg_script.specs.declared.events.Step.{Step};
+ghost use Rattle.dg_base.specs.declared.events.Event.{Event};
+ghost use Rattle.dg_base.specs.declared.events.Step.{Step};
 ghost use Rattle.dg_script.specs.declared.report.Report.{Report};
 
 use dg_volume::{a_whole_image_is_sound, trails_keep_agreement};

@@ -3,8 +3,8 @@
 
 mod laws;
 
-pub use dg_base::Key;
-pub use dg_script::{Cause, Cut, Event, Report, Step};
+pub use dg_base::{Cut, Event, Key, Step};
+pub use dg_script::{Cause, Report};
 pub use laws::{
     agreement_is_kept, every_step_is_legal, golden_is_found, scripts_with_golden,
     versions_do_not_fall, what_a_cut_leaves_agrees, what_starts_is_a_row,

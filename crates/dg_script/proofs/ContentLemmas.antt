@@ -13,7 +13,7 @@ use Rattle.dg_base.proofs.HexLemmas.{hex_bytes-some}
 use Rattle.dg_script.specs.Sizes.{most_content}
 use Rattle.dg_script.specs.Words.{same, halves_of}
 use Rattle.dg_script.specs.Contents.{generated, generated_byte, generated_of, content_of}
-use Rattle.dg_script.proofs.OptionLemmas.{bound, guarded_some, behind_test}
+use Rattle.dg_script.proofs.ResultLemmas.{bound_some, kept_some, behind_test}
 
 -- Digits that are odd in number, or of which one is no digit, write no bytes.
 refused : (digits : List ℕ) (o : Option (List ℕ)) → hex_bytes digits ≡ o → (length digits % 2 ≡ 1) ⊎ Any (λ c. is_hex_digit c ≡ false) digits → o ≡ None
@@ -76,10 +76,10 @@ hex_are_bytes digits bytes h k =
 pub generated_of_bytes : (fields bytes : List ℕ) → generated_of fields ≡ Some bytes → AreBytes bytes
 unfolding generated_of
 generated_of_bytes fields bytes h =
-    let halves = bound (halves_of fields) _ bytes h in
-    let len = bound (number_of halves.0.0) _ bytes halves.2 in
-    let seed = bound (number_of halves.0.1) _ bytes len.2 in
-    let here = guarded_some (nat_le len.0 most_content) (generated len.0 seed.0) bytes seed.2 in
+    let halves = bound_some (halves_of fields) _ bytes h in
+    let len = bound_some (number_of halves.0.0) _ bytes halves.2 in
+    let seed = bound_some (number_of halves.0.1) _ bytes len.2 in
+    let here = kept_some (nat_le len.0 most_content) (generated len.0 seed.0) bytes seed.2 in
     subst AreBytes here.1 (generated_bytes len.0 seed.0)
 
 one_of_two : (test : Bool) (a b : Option (List ℕ)) (bytes : List ℕ) → (if test then a else b) ≡ Some bytes → (a ≡ Some bytes) ⊎ (b ≡ Some bytes)
@@ -99,7 +99,7 @@ contents_are_bytes word bytes h =
 small_by : (t : Bool) (v n : ℕ) → (if t && nat_lt v (2 ^ 32) then Some v else None) ≡ Some n → n < 2 ^ 32
 small_by false v n h = cc
 small_by true v n h =
-    let here = guarded_some (nat_lt v (2 ^ 32)) v n h in
+    let here = kept_some (nat_lt v (2 ^ 32)) v n h in
     subst (λ (m : ℕ). m < 2 ^ 32) here.1 (ltb-true _ _ here.0)
 
 pub number_fits : (word : List ℕ) (n : ℕ) → number_of word ≡ Some n → n < 2 ^ 32

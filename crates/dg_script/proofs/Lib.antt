@@ -1,5 +1,8 @@
 pub mod WordLemmas
+pub mod ResultLemmas
 pub mod PieceLemmas
-pub mod OptionLemmas
 pub mod ContentLemmas
-pub mod ScriptLemmas
+pub mod LineLemmas
+pub mod FrontLemmas
+pub mod ReadsBackLemmas
+pub mod SpelledLemmas

@@ -1,16 +1,19 @@
 -- Names, contents and masks.
-use Rattle.std.specs.Prelude.{ℕ, ◌+◌, ◌*◌, ◌/◌, ◌%◌, nat_le, ◌&&◌, if◌then◌else◌, List, length, take, drop, codes, Option, None}
+use Rattle.std.specs.Prelude.{ℕ, ◌+◌, ◌*◌, ◌/◌, ◌%◌, nat_le, ◌&&◌, if◌then◌else◌, List, length, take, drop, codes, Option, None, Result}
 use Rattle.dg_words.specs.Lists.{tabulate}
 use Rattle.dg_base.specs.Numbers.{number_of}
 use Rattle.dg_base.specs.Hexadecimal.{hex_bytes}
 use Rattle.dg_base.specs.Texts.{spells_name}
 use Rattle.dg_base.specs.declared.events.TheConstants.{LONGEST_MASK}
-use Rattle.dg_script.specs.Options.{◌>>=◌, guarded}
+use Rattle.dg_script.specs.Results.{◌>>?◌, kept_if, ◌>>=◌, guarded, or_fault}
+use Rattle.dg_script.specs.declared.fault.LineFault.{LineFault}
+use Rattle.dg_script.specs.declared.fault.LineFault.TheVariants.{Name, Content, Mask}
 use Rattle.dg_script.specs.Sizes.{most_content}
 use Rattle.dg_script.specs.Words.{same, halves_of}
 
-unfoldable pub name_of : List ℕ → Option (List ℕ)
-name_of word = guarded (spells_name word) word
+-- the bytes of a name
+unfoldable pub name_of : List ℕ → Result (List ℕ) LineFault
+name_of word = guarded (spells_name word) Name word
 
 -- byte j of those that a seed makes
 abbrev pub generated_byte : (seed j : ℕ) → ℕ
@@ -23,7 +26,7 @@ generated len seed = tabulate len (generated_byte seed)
 -- a length and a seed, with a colon between them
 unfoldable pub generated_of : List ℕ → Option (List ℕ)
 generated_of fields =
-    halves_of fields >>= λ h. number_of h.0 >>= λ len. number_of h.1 >>= λ seed. guarded (nat_le len most_content) (generated len seed)
+    halves_of fields >>? λ h. number_of h.0 >>? λ len. number_of h.1 >>? λ seed. kept_if (nat_le len most_content) (generated len seed)
 
 -- a content is `hex:` and digits, or `gen:`, a length and a seed
 unfoldable pub content_of : List ℕ → Option (List ℕ)
@@ -33,12 +36,13 @@ content_of word =
     else None
 
 -- bytes that are not too few or too many
-abbrev pub sized : (least most : ℕ) → List ℕ → Option (List ℕ)
-sized least most bytes = guarded (nat_le least (length bytes) && nat_le (length bytes) most) bytes
+abbrev pub sized : (fault : LineFault) → (least most : ℕ) → List ℕ → Result (List ℕ) LineFault
+sized fault least most bytes = guarded (nat_le least (length bytes) && nat_le (length bytes) most) fault bytes
 
-unfoldable pub sized_content : (least most : ℕ) → List ℕ → Option (List ℕ)
-sized_content least most word = content_of word >>= sized least most
+-- a content of an allowed length
+unfoldable pub sized_content : (least most : ℕ) → List ℕ → Result (List ℕ) LineFault
+sized_content least most word = or_fault Content (content_of word) >>= sized Content least most
 
 -- the digits of 1 to 2,048 bytes
-unfoldable pub mask_of : List ℕ → Option (List ℕ)
-mask_of word = hex_bytes word >>= sized 1 LONGEST_MASK
+unfoldable pub mask_of : List ℕ → Result (List ℕ) LineFault
+mask_of word = or_fault Mask (hex_bytes word) >>= sized Mask 1 LONGEST_MASK

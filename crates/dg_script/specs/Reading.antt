@@ -1,13 +1,9 @@
--- What a reader answers for a line that spells something, or nothing.
-use Rattle.std.specs.Prelude.{◌≡◌, Option, Some, None, Result, Ok, Err}
-use Rattle.dg_script.specs.declared.line.LineFault.{LineFault}
-use Rattle.dg_script.specs.declared.line.LineFault.TheVariants.{Memory, Verb}
+-- What a reader answers for a text that spells something, or has a fault.
+use Rattle.std.specs.Prelude.{◌≡◌, ◌≢◌, Result, Ok, Err}
+use Rattle.dg_script.specs.declared.fault.LineFault.{LineFault}
+use Rattle.dg_script.specs.declared.fault.LineFault.TheVariants.{Memory}
 
--- A reader answers what is spelled, and `Verb` exactly where nothing is, unless memory ran out.
-abbrev pub Fails : {A : Type 0} → LineFault → Option A → Type 0
-Fails Memory spelled = Unit {0}
-Fails Verb spelled = spelled ≡ None
-
-abbrev pub Reads : {A : Type 0} → Result A LineFault → Option A → Type 0
-Reads (Ok x) spelled = spelled ≡ Some x
-Reads (Err e) spelled = Fails e spelled
+-- A reader answers what is spelled, or the fault, unless memory ran out.
+abbrev pub Reads : {A : Type 0} → Result A LineFault → Result A LineFault → Type 0
+Reads (Ok x) spelled = spelled ≡ Ok x
+Reads (Err fault) spelled = fault ≢ Memory → spelled ≡ Err fault

@@ -1,6 +1,10 @@
 -- The words of a line, and the words of the program.
-use Rattle.std.specs.Prelude.{ℕ, ◌==◌, nat_eq, Bool, if◌then◌else◌, List, [], ◌∷◌, Option, Some, None}
+use Rattle.std.specs.Prelude.{ℕ, ◌==◌, nat_eq, Bool, if◌then◌else◌, List, [], ◌∷◌, ◌++◌, Option, Some, None, Result, Ok, Err}
 use Rattle.std.specs.Cmp.Lexicographic.{pointwise}
+use Rattle.std.specs.List.{flat_map}
+use Rattle.dg_script.specs.Results.{each_as}
+use Rattle.dg_script.specs.declared.fault.LineFault.{LineFault}
+use Rattle.dg_script.specs.declared.fault.LineFault.TheVariants.{Few, Many}
 
 -- the bytes up to the first space, and the words behind it
 pub record Split : Type 0 where
@@ -36,46 +40,52 @@ unfoldable pub halves_of : List ℕ → Option (List ℕ × List ℕ)
 halves_of [] = None
 halves_of (c ∷ cs) = if c == 58 then Some ([], cs) else onto_half c (halves_of cs)
 
--- exactly one word, exactly two, and exactly three
-abbrev pub one_of : List (List ℕ) → Option (List ℕ)
-one_of [] = None
-one_of (a ∷ []) = Some a
-one_of (a ∷ b ∷ more) = None
+-- words, each behind a space
+abbrev pub behind_spaces : List (List ℕ) → List ℕ
+behind_spaces ws = flat_map (λ w. 32 ∷ w) ws
 
-abbrev pub two_of : List (List ℕ) → Option (List ℕ × List ℕ)
-two_of [] = None
-two_of (a ∷ []) = None
-two_of (a ∷ b ∷ []) = Some (a, b)
-two_of (a ∷ b ∷ c ∷ more) = None
+-- words with one space between them
+abbrev pub spaced : List (List ℕ) → List ℕ
+spaced [] = []
+spaced (w ∷ ws) = w ++ behind_spaces ws
 
-abbrev pub three_of : List (List ℕ) → Option (List ℕ × List ℕ × List ℕ)
-three_of [] = None
-three_of (a ∷ []) = None
-three_of (a ∷ b ∷ []) = None
-three_of (a ∷ b ∷ c ∷ []) = Some (a, b, c)
-three_of (a ∷ b ∷ c ∷ d ∷ more) = None
+-- Exactly one field, exactly two, and so on. Fewer and more are told.
+abbrev pub one_of : List (List ℕ) → Result (List ℕ) LineFault
+one_of [] = Err Few
+one_of (a ∷ []) = Ok a
+one_of (a ∷ b ∷ more) = Err Many
 
--- exactly four words, five, and six
-abbrev pub four_from : List ℕ → Option (List ℕ × List ℕ × List ℕ) → Option (List ℕ × List ℕ × List ℕ × List ℕ)
-four_from a None = None
-four_from a (Some t) = Some (a, t.0, t.1, t.2)
+abbrev pub two_from : List ℕ → Result (List ℕ) LineFault → Result (List ℕ × List ℕ) LineFault
+two_from a rest = each_as (λ b. (a, b)) rest
 
-abbrev pub four_of : List (List ℕ) → Option (List ℕ × List ℕ × List ℕ × List ℕ)
-four_of [] = None
+abbrev pub two_of : List (List ℕ) → Result (List ℕ × List ℕ) LineFault
+two_of [] = Err Few
+two_of (a ∷ more) = two_from a (one_of more)
+
+abbrev pub three_from : List ℕ → Result (List ℕ × List ℕ) LineFault → Result (List ℕ × List ℕ × List ℕ) LineFault
+three_from a rest = each_as (λ t. (a, t.0, t.1)) rest
+
+abbrev pub three_of : List (List ℕ) → Result (List ℕ × List ℕ × List ℕ) LineFault
+three_of [] = Err Few
+three_of (a ∷ more) = three_from a (two_of more)
+
+abbrev pub four_from : List ℕ → Result (List ℕ × List ℕ × List ℕ) LineFault → Result (List ℕ × List ℕ × List ℕ × List ℕ) LineFault
+four_from a rest = each_as (λ t. (a, t.0, t.1, t.2)) rest
+
+abbrev pub four_of : List (List ℕ) → Result (List ℕ × List ℕ × List ℕ × List ℕ) LineFault
+four_of [] = Err Few
 four_of (a ∷ more) = four_from a (three_of more)
 
-abbrev pub five_from : List ℕ → Option (List ℕ × List ℕ × List ℕ × List ℕ) → Option (List ℕ × List ℕ × List ℕ × List ℕ × List ℕ)
-five_from a None = None
-five_from a (Some t) = Some (a, t.0, t.1, t.2, t.3)
+abbrev pub five_from : List ℕ → Result (List ℕ × List ℕ × List ℕ × List ℕ) LineFault → Result (List ℕ × List ℕ × List ℕ × List ℕ × List ℕ) LineFault
+five_from a rest = each_as (λ t. (a, t.0, t.1, t.2, t.3)) rest
 
-abbrev pub five_of : List (List ℕ) → Option (List ℕ × List ℕ × List ℕ × List ℕ × List ℕ)
-five_of [] = None
+abbrev pub five_of : List (List ℕ) → Result (List ℕ × List ℕ × List ℕ × List ℕ × List ℕ) LineFault
+five_of [] = Err Few
 five_of (a ∷ more) = five_from a (four_of more)
 
-abbrev pub six_from : List ℕ → Option (List ℕ × List ℕ × List ℕ × List ℕ × List ℕ) → Option (List ℕ × List ℕ × List ℕ × List ℕ × List ℕ × List ℕ)
-six_from a None = None
-six_from a (Some t) = Some (a, t.0, t.1, t.2, t.3, t.4)
+abbrev pub six_from : List ℕ → Result (List ℕ × List ℕ × List ℕ × List ℕ × List ℕ) LineFault → Result (List ℕ × List ℕ × List ℕ × List ℕ × List ℕ × List ℕ) LineFault
+six_from a rest = each_as (λ t. (a, t.0, t.1, t.2, t.3, t.4)) rest
 
-abbrev pub six_of : List (List ℕ) → Option (List ℕ × List ℕ × List ℕ × List ℕ × List ℕ × List ℕ)
-six_of [] = None
+abbrev pub six_of : List (List ℕ) → Result (List ℕ × List ℕ × List ℕ × List ℕ × List ℕ × List ℕ) LineFault
+six_of [] = Err Few
 six_of (a ∷ more) = six_from a (five_of more)

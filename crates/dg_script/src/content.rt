@@ -1,11 +1,12 @@
 //! Names, contents and masks.
-ghost use Rattle.std.specs.Prelude.{◌≡◌, ◌≤◌, Some, length};
+ghost use Rattle.std.specs.Prelude.{◌≡◌, ◌≤◌, Ok, Some, IfOk, length};
 ghost use Rattle.dg_base.specs.Hexadecimal.{hex_bytes};
 ghost use Rattle.dg_script.specs.Sizes.{most_content};
+ghost use Rattle.dg_script.specs.Results.{or_fault};
 ghost use Rattle.dg_script.specs.Contents.{generated, generated_of, content_of, sized, sized_content, mask_of, name_of};
 ghost use Rattle.dg_script.specs.Reading.{Reads};
 
-use crate::line::LineFault;
+use crate::fault::LineFault;
 use crate::words::halves;
 use dg_base::{Bytes, HexFault, LONGEST_MASK, is_name, parse_hex, parse_u32};
 use std::alloc::{AllocError, Global};
@@ -19,7 +20,7 @@ pub fn name(alloc: Global, word: &[u8]) -> Result<Bytes, LineFault>
     ensures { Reads result (name_of word.now) }
 {
     if !is_name(word) {
-        return Err(LineFault::Verb);
+        return Err(LineFault::Name);
     }
     match Vec::from_slice(alloc, word) {
         Ok(name) => Ok(Bytes::new(name)),
@@ -27,16 +28,16 @@ pub fn name(alloc: Global, word: &[u8]) -> Result<Bytes, LineFault>
     }
 }
 
-// The bytes that digits write.
+// The bytes that digits write, or the fault of other digits.
 #[tactic(auto, using(crate::proofs::ContentLemmas::refusals))]
-fn digits(alloc: Global, digits: &[u8]) -> Result<Bytes, LineFault>
-    ensures { Reads result (hex_bytes digits.now) }
+fn digits(alloc: Global, digits: &[u8], fault: LineFault) -> Result<Bytes, LineFault>
+    ensures { Reads result (or_fault fault (hex_bytes digits.now)) }
 {
     match parse_hex(alloc, digits) {
         Ok(bytes) => Ok(Bytes::new(bytes)),
         Err(HexFault::Memory) => Err(LineFault::Memory),
-        Err(HexFault::Odd) => Err(LineFault::Verb),
-        Err(HexFault::Digit) => Err(LineFault::Verb),
+        Err(HexFault::Odd) => Err(fault),
+        Err(HexFault::Digit) => Err(fault),
     }
 }
 
@@ -53,7 +54,7 @@ fn fill(seed: u32, into: &mut [u8])
 // So many bytes that a seed makes.
 fn generate(alloc: Global, length: u32, seed: u32) -> Result<Bytes, LineFault>
     requires { length ≤ most_content }
-    ensures { Reads result (Some (generated length seed)) }
+    ensures { Reads result (Ok (generated length seed)) }
 {
     match vec![in alloc; 0; length as usize] {
         Ok(mut bytes) => {
@@ -67,19 +68,19 @@ fn generate(alloc: Global, length: u32, seed: u32) -> Result<Bytes, LineFault>
 // The bytes that a length and a seed, with a colon between them, write.
 #[tactic(auto, unfolding(crate::specs::Contents::generated_of))]
 fn generated(alloc: Global, fields: &[u8]) -> Result<Bytes, LineFault>
-    ensures { Reads result (generated_of fields.now) }
+    ensures { Reads result (or_fault LineFault.Content (generated_of fields.now)) }
 {
     let Some((length, seed)) = halves(fields) else {
-        return Err(LineFault::Verb);
+        return Err(LineFault::Content);
     };
     let Some(length) = parse_u32(length) else {
-        return Err(LineFault::Verb);
+        return Err(LineFault::Content);
     };
     let Some(seed) = parse_u32(seed) else {
-        return Err(LineFault::Verb);
+        return Err(LineFault::Content);
     };
     if length as usize > MOST_CONTENT {
-        return Err(LineFault::Verb);
+        return Err(LineFault::Content);
     }
     generate(alloc, length, seed)
 }
@@ -87,27 +88,29 @@ fn generated(alloc: Global, fields: &[u8]) -> Result<Bytes, LineFault>
 // The bytes of a content.
 #[tactic(auto, unfolding(crate::specs::Contents::content_of))]
 fn content(alloc: Global, word: &[u8]) -> Result<Bytes, LineFault>
-    ensures { Reads result (content_of word.now) }
+    ensures { Reads result (or_fault LineFault.Content (content_of word.now)) }
 {
     if let Some(hex) = word.strip_prefix(b"hex:") {
-        return digits(alloc, hex);
+        return digits(alloc, hex, LineFault::Content);
     }
     match word.strip_prefix(b"gen:") {
         Some(fields) => generated(alloc, fields),
-        None => Err(LineFault::Verb),
+        None => Err(LineFault::Content),
     }
 }
 
-// Bytes that are not too few or too many.
-fn sized(bytes: Bytes, least: usize, most: usize) -> Result<Bytes, LineFault>
-    ensures { Reads result (sized least most bytes) }
+// Bytes that are not too few or too many, or the fault of others.
+fn sized(bytes: Bytes, least: usize, most: usize, fault: LineFault) -> Result<Bytes, LineFault>
+    ensures read { Reads result (sized fault least most bytes) }
+    ensures low { IfOk result (λ b. least ≤ length b) }
+    ensures high { IfOk result (λ b. length b ≤ most) }
 {
     let length = bytes.as_slice().len();
     if length < least {
-        return Err(LineFault::Verb);
+        return Err(fault);
     }
     if length > most {
-        return Err(LineFault::Verb);
+        return Err(fault);
     }
     Ok(bytes)
 }
@@ -120,17 +123,20 @@ pub fn sized_content(
     least: usize,
     most: usize,
 ) -> Result<Bytes, LineFault>
-    ensures { Reads result (sized_content least most word.now) }
+    ensures read { Reads result (sized_content least most word.now) }
+    ensures high { IfOk result (λ b. length b ≤ most) }
 {
     let bytes = content(alloc, word)?;
-    sized(bytes, least, most)
+    sized(bytes, least, most, LineFault::Content)
 }
 
-/// The bytes of a mask.
+/// The bytes of a mask, 1 to 2,048.
 #[tactic(auto, unfolding(crate::specs::Contents::mask_of))]
 pub fn mask(alloc: Global, word: &[u8]) -> Result<Bytes, LineFault>
-    ensures { Reads result (mask_of word.now) }
+    ensures read { Reads result (mask_of word.now) }
+    ensures low { IfOk result (λ b. 1 ≤ length b) }
+    ensures high { IfOk result (λ b. length b ≤ LONGEST_MASK) }
 {
-    let bytes = digits(alloc, word)?;
-    sized(bytes, 1, LONGEST_MASK)
+    let bytes = digits(alloc, word, LineFault::Mask)?;
+    sized(bytes, 1, LONGEST_MASK, LineFault::Mask)
 }

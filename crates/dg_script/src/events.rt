@@ -1,59 +1,138 @@
-//! What happens to motes, and cuts of their power.
+//! Reads the lines of events.
+ghost use Rattle.std.specs.Prelude.{◌≡◌};
+ghost use Rattle.dg_script.specs.Words.{words_of};
+ghost use Rattle.dg_script.specs.Lines.{tick_of, hear_of, last_of, reset_of, inject_of, order_of, frame_of};
+ghost use Rattle.dg_script.specs.Reading.{Reads};
 
-use dg_base::Bytes;
+use crate::content::sized_content;
+use crate::fault::LineFault;
+use crate::fields::{any_image_number, counted, mote, number, other_mote, version};
+use crate::line::Line;
+use crate::place::Place;
+use crate::verbs::Verb;
+use crate::words::{five_words, four_words, six_words, three_words};
+use dg_base::{Event, FrameBytes, LONGEST_FRAME};
+use std::alloc::Global;
 
-/// One event at one mote. `dt` is the time since the event before it, in milliseconds, and `word`
-/// stands for a random draw.
-#[derive(Clone, Copy, Debug, PartialEq, Eq)]
-pub enum Event {
-    /// Time passes.
-    Tick {
-        /// The mote at which it passes.
-        mote: u8,
-        dt: u32,
-        word: u32,
-    },
-    /// A mote drops what it runs, and its chip is started.
-    Reset {
-        /// The mote that is reset.
-        mote: u8,
-        dt: u32,
-        word: u32,
-    },
-    /// A version of an image is injected into a mote.
-    Inject {
-        /// The mote that is to keep it.
-        mote: u8,
-        image: u8,
-        version: u32,
-        dt: u32,
-        word: u32,
-    },
-    /// A mote is ordered to start a version of an image.
-    Order {
-        /// The mote that is to keep the order.
-        mote: u8,
-        /// The number of the order. A mote keeps the order with the largest number.
-        number: u32,
-        image: u8,
-        version: u32,
-        dt: u32,
-        word: u32,
-    },
+/// `tick M DT WORD`
+#[tactic(auto, unfolding(crate::specs::Lines::tick_of))]
+pub fn tick_line(fields: &[u8], place: &Place) -> Result<Line, LineFault>
+    ensures { result ≡ tick_of place.now (words_of fields.now) }
+{
+    let (at, dt, word) = three_words(fields)?;
+    Verb::Tick.stand(place)?;
+    let mote = mote(at, place.motes)?;
+    let dt = number(dt)?;
+    let word = number(word)?;
+    Ok(Line::Happens(Event::Tick { mote, dt, word }))
 }
 
-/// A cut of a mote's power in one of an event's flash operations.
-#[derive(Debug, Drop)]
-pub struct Cut {
-    /// The number of the program or erase that is interrupted, counted from 1.
-    pub after: u32,
-    /// What the interrupted operation leaves, repeated over its bytes: 1 to 2,048 bytes.
-    pub mask: Bytes,
+/// `hear M DT WORD K`
+#[tactic(auto, unfolding(crate::specs::Lines::hear_of))]
+pub fn hear_line(fields: &[u8], place: &Place) -> Result<Line, LineFault>
+    ensures { result ≡ hear_of place.now (words_of fields.now) }
+{
+    let (at, dt, word, frame) = four_words(fields)?;
+    Verb::Hear.stand(place)?;
+    let mote = mote(at, place.motes)?;
+    let dt = number(dt)?;
+    let word = number(word)?;
+    let frame = counted(frame)?;
+    Ok(Line::Happens(Event::Hear {
+        mote,
+        dt,
+        word,
+        frame,
+    }))
 }
 
-/// An event, and the cut in it, if there is one.
-#[derive(Debug, Drop)]
-pub struct Step {
-    pub event: Event,
-    pub cut: Option<Cut>,
+/// `last A B DT WORD`
+#[tactic(auto, unfolding(crate::specs::Lines::last_of))]
+pub fn last_line(fields: &[u8], place: &Place) -> Result<Line, LineFault>
+    ensures { result ≡ last_of place.now (words_of fields.now) }
+{
+    let (from, to, dt, word) = four_words(fields)?;
+    Verb::Last.stand(place)?;
+    let from = mote(from, place.motes)?;
+    let to = other_mote(to, place.motes, from)?;
+    let dt = number(dt)?;
+    let word = number(word)?;
+    Ok(Line::Happens(Event::Last { from, to, dt, word }))
+}
+
+/// `reset M DT WORD`
+#[tactic(auto, unfolding(crate::specs::Lines::reset_of))]
+pub fn reset_line(fields: &[u8], place: &Place) -> Result<Line, LineFault>
+    ensures { result ≡ reset_of place.now (words_of fields.now) }
+{
+    let (at, dt, word) = three_words(fields)?;
+    Verb::Reset.stand(place)?;
+    let mote = mote(at, place.motes)?;
+    let dt = number(dt)?;
+    let word = number(word)?;
+    Ok(Line::Happens(Event::Reset { mote, dt, word }))
+}
+
+/// `inject M I V DT WORD`
+#[tactic(auto, unfolding(crate::specs::Lines::inject_of))]
+pub fn inject_line(fields: &[u8], place: &Place) -> Result<Line, LineFault>
+    ensures { result ≡ inject_of place.now (words_of fields.now) }
+{
+    let (at, image, number_of_version, dt, word) = five_words(fields)?;
+    Verb::Inject.stand(place)?;
+    let mote = mote(at, place.motes)?;
+    let image = any_image_number(image)?;
+    let version = version(number_of_version)?;
+    let dt = number(dt)?;
+    let word = number(word)?;
+    Ok(Line::Happens(Event::Inject {
+        mote,
+        image,
+        version,
+        dt,
+        word,
+    }))
+}
+
+/// `order M K I V DT WORD`
+#[tactic(auto, unfolding(crate::specs::Lines::order_of))]
+pub fn order_line(fields: &[u8], place: &Place) -> Result<Line, LineFault>
+    ensures { result ≡ order_of place.now (words_of fields.now) }
+{
+    let (at, order, image, number_of_version, dt, word) = six_words(fields)?;
+    Verb::Order.stand(place)?;
+    let mote = mote(at, place.motes)?;
+    let order = version(order)?;
+    let image = any_image_number(image)?;
+    let version = version(number_of_version)?;
+    let dt = number(dt)?;
+    let word = number(word)?;
+    Ok(Line::Happens(Event::Order {
+        mote,
+        number: order,
+        image,
+        version,
+        dt,
+        word,
+    }))
+}
+
+/// `frame M DT WORD CONTENT`
+#[tactic(auto, unfolding(crate::specs::Lines::frame_of))]
+pub fn frame_line(alloc: Global, fields: &[u8], place: &Place) -> Result<Line, LineFault>
+    ensures { Reads result (frame_of place.now (words_of fields.now)) }
+{
+    let (at, dt, word, content) = four_words(fields)?;
+    Verb::Frame.stand(place)?;
+    let mote = mote(at, place.motes)?;
+    let dt = number(dt)?;
+    let word = number(word)?;
+    let content = sized_content(alloc, content, 0, LONGEST_FRAME)?;
+    let bytes = FrameBytes::new(content.as_slice());
+    Ok(Line::Happens(Event::Frame {
+        mote,
+        dt,
+        word,
+        bytes,
+    }))
 }

@@ -3,14 +3,24 @@
 
 mod content;
 mod events;
+mod fault;
+mod fields;
 mod laws;
 mod line;
+mod place;
+mod reading;
 mod report;
-mod script;
+mod settings;
+mod spelling;
+mod verbs;
 mod words;
+mod writing;
 
-pub use events::{Cut, Event, Step};
-pub use laws::words_are_pieces;
-pub use line::{Golden, Image, Line, LineFault, Place};
-pub use report::{Cause, Report, push_report};
-pub use script::read_line;
+pub use fault::LineFault;
+pub use laws::{what_is_spelled_fits, words_are_pieces};
+pub use line::Line;
+pub use place::Place;
+pub use reading::read_line;
+pub use report::{Cause, Report, write_report};
+pub use words::words_lie_between_spaces;
+pub use writing::write_line;

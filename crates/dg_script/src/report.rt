@@ -1,9 +1,11 @@
 //! The lines of a report.
-ghost use Rattle.std.specs.Prelude.{◌≡◌, ◌∷◌, ◌++◌, [], OnOk};
-ghost use Rattle.dg_script.specs.Report.{numbers, cause_text, mote_text, said_of, report_line};
+ghost use Rattle.std.specs.Prelude.{◌≡◌, ◌∷◌, ◌++◌, [], ◌≤◌, length, OnOk, OnErr, decimal, codes};
+ghost use Rattle.dg_script.specs.Words.{spaced};
+ghost use Rattle.dg_script.specs.Spelling.{IsFrontOf};
+ghost use Rattle.dg_script.specs.Report.{cause_words, report_words, report_line};
 ghost use Rattle.dg_script.specs.declared.report.Report.TheVariants.{Start};
 
-use dg_base::{push_hex, push_u32};
+use crate::spelling::{Field, push_line};
 use std::alloc::AllocError;
 
 /// Why an event was refused.
@@ -67,6 +69,29 @@ pub enum Report {
     Off {
         mote: u8,
     },
+    /// A mote sent what it has.
+    SentAdvert {
+        mote: u8,
+    },
+    /// A mote asked another for so many packets of a page.
+    SentRequest {
+        mote: u8,
+        /// The mote that is asked.
+        to: u16,
+        image: u8,
+        version: u32,
+        page: u8,
+        /// How many packets are asked for.
+        count: u8,
+    },
+    /// A mote sent a packet of a page.
+    SentData {
+        mote: u8,
+        image: u8,
+        version: u32,
+        page: u8,
+        packet: u8,
+    },
     /// An event at a mote was refused.
     Refused {
         mote: u8,
@@ -99,90 +124,90 @@ pub enum Report {
     },
 }
 
-// Appends numbers, each behind a space.
-fn push_numbers(out: &mut Vec<u8>, ns: &[u32]) -> Result<(), AllocError>
-    ensures { OnOk result (out.new.items ≡ out.old.items ++ numbers ns.now) }
+// Appends the line of a refusal that tells no number.
+fn push_refusal(out: &mut Vec<u8>, mote: u8, why: &[u8]) -> Result<(), AllocError>
+    ensures ok { OnOk result (out.new.items ≡ out.old.items ++ (spaced (codes "no" ∷ decimal mote ∷ why.now ∷ []) ++ 10 ∷ [])) }
+    ensures err { OnErr result (IsFrontOf out.new.items (out.old.items ++ (spaced (codes "no" ∷ decimal mote ∷ why.now ∷ []) ++ 10 ∷ []))) }
+    ensures kept { length out.old.items ≤ length out.new.items }
 {
-    for n in ns {
-        out.push(b' ')?;
-        push_u32(out, *n)?;
-    }
-    Ok(())
+    push_line(
+        out,
+        b"no",
+        &[Field::Number(u32::from(mote)), Field::Word(why)],
+    )
 }
 
-// Appends a word, and numbers behind it.
-fn push_with(out: &mut Vec<u8>, word: &[u8], ns: &[u32]) -> Result<(), AllocError>
-    ensures { OnOk result (out.new.items ≡ out.old.items ++ word.now ++ numbers ns.now) }
+// Appends the line of a refusal that tells a number.
+fn push_counted(out: &mut Vec<u8>, mote: u8, why: &[u8], number: u32) -> Result<(), AllocError>
+    ensures ok { OnOk result (out.new.items ≡ out.old.items ++ (spaced (codes "no" ∷ decimal mote ∷ why.now ∷ decimal number ∷ []) ++ 10 ∷ [])) }
+    ensures err { OnErr result (IsFrontOf out.new.items (out.old.items ++ (spaced (codes "no" ∷ decimal mote ∷ why.now ∷ decimal number ∷ []) ++ 10 ∷ []))) }
+    ensures kept { length out.old.items ≤ length out.new.items }
 {
-    out.extend_from_slice(word)?;
-    push_numbers(out, ns)
+    push_line(
+        out,
+        b"no",
+        &[
+            Field::Number(u32::from(mote)),
+            Field::Word(why),
+            Field::Number(number),
+        ],
+    )
 }
 
-// Appends why an event was refused.
-fn push_cause(out: &mut Vec<u8>, cause: Cause) -> Result<(), AllocError>
-    ensures { OnOk result (out.new.items ≡ out.old.items ++ cause_text cause) }
+// Appends the line of a refused event.
+fn push_refused(out: &mut Vec<u8>, mote: u8, cause: Cause) -> Result<(), AllocError>
+    ensures ok { OnOk result (out.new.items ≡ out.old.items ++ (spaced (codes "no" ∷ decimal mote ∷ cause_words cause) ++ 10 ∷ [])) }
+    ensures err { OnErr result (IsFrontOf out.new.items (out.old.items ++ (spaced (codes "no" ∷ decimal mote ∷ cause_words cause) ++ 10 ∷ []))) }
+    ensures kept { length out.old.items ≤ length out.new.items }
 {
     match cause {
-        Cause::Off => out.extend_from_slice(b" off"),
-        Cause::Frame => out.extend_from_slice(b" frame"),
-        Cause::Link => out.extend_from_slice(b" link"),
-        Cause::Image => out.extend_from_slice(b" image"),
-        Cause::Empty => out.extend_from_slice(b" empty"),
-        Cause::TooLarge { length } => push_with(out, b" toolarge", &[length]),
-        Cause::Reserved => out.extend_from_slice(b" reserved"),
-        Cause::Stale { version } => push_with(out, b" stale", &[version]),
-        Cause::Taken => out.extend_from_slice(b" taken"),
-        Cause::Worn { room } => push_with(out, b" worn", &[room]),
-        Cause::OldOrder { number } => push_with(out, b" oldorder", &[number]),
+        Cause::Off => push_refusal(out, mote, b"off"),
+        Cause::Frame => push_refusal(out, mote, b"frame"),
+        Cause::Link => push_refusal(out, mote, b"link"),
+        Cause::Image => push_refusal(out, mote, b"image"),
+        Cause::Empty => push_refusal(out, mote, b"empty"),
+        Cause::TooLarge { length } => push_counted(out, mote, b"toolarge", length),
+        Cause::Reserved => push_refusal(out, mote, b"reserved"),
+        Cause::Stale { version } => push_counted(out, mote, b"stale", version),
+        Cause::Taken => push_refusal(out, mote, b"taken"),
+        Cause::Worn { room } => push_counted(out, mote, b"worn", room),
+        Cause::OldOrder { number } => push_counted(out, mote, b"oldorder", number),
     }
 }
 
-// Appends the text of a line on what was started.
+// Appends the line of what was started.
 fn push_start(
     out: &mut Vec<u8>,
     mote: u8,
     image: u8,
     version: u32,
-    length: u32,
+    size: u32,
     crc: u16,
 ) -> Result<(), AllocError>
-    ensures { OnOk result (out.new.items ≡ out.old.items ++ said_of (Start mote image version length crc)) }
+    ensures ok { OnOk result (out.new.items ≡ out.old.items ++ (spaced (report_words (Start mote image version size crc)) ++ 10 ∷ [])) }
+    ensures err { OnErr result (IsFrontOf out.new.items (out.old.items ++ (spaced (report_words (Start mote image version size crc)) ++ 10 ∷ []))) }
+    ensures kept { length out.old.items ≤ length out.new.items }
 {
-    let ns = [u32::from(mote), u32::from(image), version, length];
-    push_with(out, b"start", &ns)?;
-    out.push(b' ')?;
-    push_hex(out, &crc.to_be_bytes())
+    let crc = crc.to_be_bytes();
+    push_line(
+        out,
+        b"start",
+        &[
+            Field::Number(u32::from(mote)),
+            Field::Number(u32::from(image)),
+            Field::Number(version),
+            Field::Number(size),
+            Field::Digits(&crc),
+        ],
+    )
 }
 
-// Appends the text of a line on a version of an image that a mote keeps.
-fn push_kept(
-    out: &mut Vec<u8>,
-    word: &[u8],
-    mote: u8,
-    image: u8,
-    version: u32,
-    pages: u8,
-) -> Result<(), AllocError>
-    ensures { OnOk result (out.new.items ≡ out.old.items ++ word.now ++ numbers (mote ∷ image ∷ version ∷ pages ∷ [])) }
-{
-    let ns = [u32::from(mote), u32::from(image), version, u32::from(pages)];
-    push_with(out, word, &ns)
-}
-
-// Appends the text of a line on what a mote runs at the end.
-fn push_mote(out: &mut Vec<u8>, mote: u8, runs: Option<(u8, u32)>) -> Result<(), AllocError>
-    ensures { OnOk result (out.new.items ≡ out.old.items ++ mote_text mote runs) }
-{
-    push_with(out, b"mote", &[u32::from(mote)])?;
-    match runs {
-        Some((image, version)) => push_with(out, b" on", &[u32::from(image), version]),
-        None => out.extend_from_slice(b" off"),
-    }
-}
-
-// Appends the text of a line, without its line end.
-fn push_said(out: &mut Vec<u8>, report: &Report) -> Result<(), AllocError>
-    ensures { OnOk result (out.new.items ≡ out.old.items ++ said_of report.now) }
+/// Appends the line of a report and LF. Without memory some front of these was appended.
+#[tactic(auto, unfolding(crate::specs::Report::report_line))]
+pub fn write_report(report: &Report, out: &mut Vec<u8>) -> Result<(), AllocError>
+    ensures ok { OnOk result (out.new.items ≡ out.old.items ++ report_line report.now) }
+    ensures err { OnErr result (IsFrontOf out.new.items (out.old.items ++ (report_line report.now))) }
+    ensures kept { length out.old.items ≤ length out.new.items }
 {
     match *report {
         Report::Order {
@@ -190,22 +215,39 @@ fn push_said(out: &mut Vec<u8>, report: &Report) -> Result<(), AllocError>
             number,
             image,
             version,
-        } => push_with(
+        } => push_line(
             out,
             b"order",
-            &[u32::from(mote), number, u32::from(image), version],
+            &[
+                Field::Number(u32::from(mote)),
+                Field::Number(number),
+                Field::Number(u32::from(image)),
+                Field::Number(version),
+            ],
         ),
-        Report::Lost { mote, image } => push_with(
+        Report::Lost { mote, image } => push_line(
             out,
             b"none",
-            &[u32::from(mote), u32::from(image)],
+            &[
+                Field::Number(u32::from(mote)),
+                Field::Number(u32::from(image)),
+            ],
         ),
         Report::Have {
             mote,
             image,
             version,
             pages,
-        } => push_kept(out, b"have", mote, image, version, pages),
+        } => push_line(
+            out,
+            b"have",
+            &[
+                Field::Number(u32::from(mote)),
+                Field::Number(u32::from(image)),
+                Field::Number(version),
+                Field::Number(u32::from(pages)),
+            ],
+        ),
         Report::Start {
             mote,
             image,
@@ -213,37 +255,95 @@ fn push_said(out: &mut Vec<u8>, report: &Report) -> Result<(), AllocError>
             length,
             crc,
         } => push_start(out, mote, image, version, length, crc),
-        Report::Off { mote } => push_with(out, b"off", &[u32::from(mote)]),
-        Report::Refused { mote, cause } => {
-            push_with(out, b"no", &[u32::from(mote)])?;
-            push_cause(out, cause)
-        }
-        Report::Taken { image, version } => {
-            push_with(out, b"no image", &[u32::from(image), version])?;
-            out.extend_from_slice(b" taken")
-        }
-        Report::End { events } => push_with(out, b"end", &[events]),
+        Report::Off { mote } => push_line(out, b"off", &[Field::Number(u32::from(mote))]),
+        Report::SentAdvert { mote } => push_line(
+            out,
+            b"sent",
+            &[Field::Number(u32::from(mote)), Field::Word(b"advert")],
+        ),
+        Report::SentRequest {
+            mote,
+            to,
+            image,
+            version,
+            page,
+            count,
+        } => push_line(
+            out,
+            b"sent",
+            &[
+                Field::Number(u32::from(mote)),
+                Field::Word(b"request"),
+                Field::Number(u32::from(to)),
+                Field::Number(u32::from(image)),
+                Field::Number(version),
+                Field::Number(u32::from(page)),
+                Field::Number(u32::from(count)),
+            ],
+        ),
+        Report::SentData {
+            mote,
+            image,
+            version,
+            page,
+            packet,
+        } => push_line(
+            out,
+            b"sent",
+            &[
+                Field::Number(u32::from(mote)),
+                Field::Word(b"data"),
+                Field::Number(u32::from(image)),
+                Field::Number(version),
+                Field::Number(u32::from(page)),
+                Field::Number(u32::from(packet)),
+            ],
+        ),
+        Report::Refused { mote, cause } => push_refused(out, mote, cause),
+        Report::Taken { image, version } => push_line(
+            out,
+            b"no",
+            &[
+                Field::Word(b"image"),
+                Field::Number(u32::from(image)),
+                Field::Number(version),
+                Field::Word(b"taken"),
+            ],
+        ),
+        Report::End { events } => push_line(out, b"end", &[Field::Number(events)]),
         Report::MoteOn {
             mote,
             image,
             version,
-        } => push_mote(out, mote, Some((image, version))),
-        Report::MoteOff { mote } => push_mote(out, mote, None),
+        } => push_line(
+            out,
+            b"mote",
+            &[
+                Field::Number(u32::from(mote)),
+                Field::Word(b"on"),
+                Field::Number(u32::from(image)),
+                Field::Number(version),
+            ],
+        ),
+        Report::MoteOff { mote } => push_line(
+            out,
+            b"mote",
+            &[Field::Number(u32::from(mote)), Field::Word(b"off")],
+        ),
         Report::Kept {
             mote,
             image,
             version,
             pages,
-        } => push_kept(out, b"kept", mote, image, version, pages),
+        } => push_line(
+            out,
+            b"kept",
+            &[
+                Field::Number(u32::from(mote)),
+                Field::Number(u32::from(image)),
+                Field::Number(version),
+                Field::Number(u32::from(pages)),
+            ],
+        ),
     }
-}
-
-/// Appends a line and its line end. Without memory `out` may end with a part of the line.
-#[tactic(auto, unfolding(crate::specs::Report::report_line))]
-pub fn push_report(out: &mut Vec<u8>, report: &Report) -> Result<(), AllocError>
-    ensures { OnOk result (out.new.items ≡ out.old.items ++ report_line report.now) }
-{
-    push_said(out, report)?;
-    out.push(b'\n')?;
-    Ok(())
 }

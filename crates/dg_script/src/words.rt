@@ -1,6 +1,9 @@
 //! The words of a line.
-ghost use Rattle.std.specs.Prelude.{◌≡◌, ◌≢◌, ℕ, ◌<◌, ◌≤◌, ◌∷◌, [], length, drop, slice_index, IfNone, IfSome, option_map};
+ghost use Rattle.std.specs.Prelude.{◌≡◌, ◌≢◌, ℕ, ◌<◌, ◌≤◌, ◌∷◌, [], length, drop, slice_index, IfNone, IfSome, option_map, List, All, ◌++◌};
+ghost use Rattle.dg_script.specs.Results.{each_as};
 ghost use Rattle.dg_script.specs.Words.{words_of, halves_of, one_of, two_of, three_of, four_of, five_of, six_of};
+
+use crate::fault::LineFault;
 
 // How many spaces the text begins with.
 #[tactic(auto, using(crate::proofs::WordLemmas::words_after_space))]
@@ -55,65 +58,78 @@ pub fn next_word(text: &[u8]) -> Option<(&[u8], &[u8])>
     Some(text.split_at(length_before(text, b' ')))
 }
 
-/// The only word of a text.
-pub fn one_word(text: &[u8]) -> Option<&[u8]>
-    ensures { option_map (λ a. a.now) result ≡ one_of (words_of text.now) }
+/// The only word of a text. There may be fewer words or more.
+pub fn one_word(text: &[u8]) -> Result<&[u8], LineFault>
+    ensures { each_as (λ a. a.now) result ≡ one_of (words_of text.now) }
 {
-    let (first, rest) = next_word(text)?;
+    let Some((first, rest)) = next_word(text) else {
+        return Err(LineFault::Few);
+    };
     if next_word(rest).is_some() {
-        return None;
+        return Err(LineFault::Many);
     }
-    Some(first)
+    Ok(first)
 }
 
-/// The words of a text that has two.
-pub fn two_words(text: &[u8]) -> Option<(&[u8], &[u8])>
-    ensures { option_map (λ t. (t.0.now, t.1.now)) result ≡ two_of (words_of text.now) }
+/// The words of a text that has two. There may be fewer words or more.
+pub fn two_words(text: &[u8]) -> Result<(&[u8], &[u8]), LineFault>
+    ensures { each_as (λ t. (t.0.now, t.1.now)) result ≡ two_of (words_of text.now) }
 {
-    let (first, rest) = next_word(text)?;
-    let (second, rest) = next_word(rest)?;
-    if next_word(rest).is_some() {
-        return None;
-    }
-    Some((first, second))
+    let Some((first, rest)) = next_word(text) else {
+        return Err(LineFault::Few);
+    };
+    let second = one_word(rest)?;
+    Ok((first, second))
 }
 
-/// The words of a text that has three.
-pub fn three_words(text: &[u8]) -> Option<(&[u8], &[u8], &[u8])>
-    ensures { option_map (λ t. (t.0.now, t.1.now, t.2.now)) result ≡ three_of (words_of text.now) }
+/// The words of a text that has three. There may be fewer words or more.
+pub fn three_words(text: &[u8]) -> Result<(&[u8], &[u8], &[u8]), LineFault>
+    ensures { each_as (λ t. (t.0.now, t.1.now, t.2.now)) result ≡ three_of (words_of text.now) }
 {
-    let (first, rest) = next_word(text)?;
-    let (second, rest) = next_word(rest)?;
-    let (third, rest) = next_word(rest)?;
-    if next_word(rest).is_some() {
-        return None;
-    }
-    Some((first, second, third))
+    let Some((first, rest)) = next_word(text) else {
+        return Err(LineFault::Few);
+    };
+    let (second, third) = two_words(rest)?;
+    Ok((first, second, third))
 }
 
-/// The words of a text that has four.
-pub fn four_words(text: &[u8]) -> Option<(&[u8], &[u8], &[u8], &[u8])>
-    ensures { option_map (λ t. (t.0.now, t.1.now, t.2.now, t.3.now)) result ≡ four_of (words_of text.now) }
+/// The words of a text that has four. There may be fewer words or more.
+pub fn four_words(text: &[u8]) -> Result<(&[u8], &[u8], &[u8], &[u8]), LineFault>
+    ensures { each_as (λ t. (t.0.now, t.1.now, t.2.now, t.3.now)) result ≡ four_of (words_of text.now) }
 {
-    let (first, rest) = next_word(text)?;
+    let Some((first, rest)) = next_word(text) else {
+        return Err(LineFault::Few);
+    };
     let (second, third, fourth) = three_words(rest)?;
-    Some((first, second, third, fourth))
+    Ok((first, second, third, fourth))
 }
 
-/// The words of a text that has five.
-pub fn five_words(text: &[u8]) -> Option<(&[u8], &[u8], &[u8], &[u8], &[u8])>
-    ensures { option_map (λ t. (t.0.now, t.1.now, t.2.now, t.3.now, t.4.now)) result ≡ five_of (words_of text.now) }
+/// The words of a text that has five. There may be fewer words or more.
+pub fn five_words(text: &[u8]) -> Result<(&[u8], &[u8], &[u8], &[u8], &[u8]), LineFault>
+    ensures { each_as (λ t. (t.0.now, t.1.now, t.2.now, t.3.now, t.4.now)) result ≡ five_of (words_of text.now) }
 {
-    let (first, rest) = next_word(text)?;
+    let Some((first, rest)) = next_word(text) else {
+        return Err(LineFault::Few);
+    };
     let (second, third, fourth, fifth) = four_words(rest)?;
-    Some((first, second, third, fourth, fifth))
+    Ok((first, second, third, fourth, fifth))
 }
 
-/// The words of a text that has six.
-pub fn six_words(text: &[u8]) -> Option<(&[u8], &[u8], &[u8], &[u8], &[u8], &[u8])>
-    ensures { option_map (λ t. (t.0.now, t.1.now, t.2.now, t.3.now, t.4.now, t.5.now)) result ≡ six_of (words_of text.now) }
+/// The words of a text that has six. There may be fewer words or more.
+pub fn six_words(text: &[u8]) -> Result<(&[u8], &[u8], &[u8], &[u8], &[u8], &[u8]), LineFault>
+    ensures { each_as (λ t. (t.0.now, t.1.now, t.2.now, t.3.now, t.4.now, t.5.now)) result ≡ six_of (words_of text.now) }
 {
-    let (first, rest) = next_word(text)?;
+    let Some((first, rest)) = next_word(text) else {
+        return Err(LineFault::Few);
+    };
     let (second, third, fourth, fifth, sixth) = five_words(rest)?;
-    Some((first, second, third, fourth, fifth, sixth))
+    Ok((first, second, third, fourth, fifth, sixth))
 }
+
+/// The words of a text are its pieces between spaces that are not empty: bytes without a space are one word, and
+/// a space parts the words before it from those behind it.
+pub fn words_lie_between_spaces()
+    ensures none { words_of [] ≡ [] }
+    ensures one { (word : List ℕ) → 0 < length word → All (λ c. c ≢ 32) word → words_of word ≡ word ∷ [] }
+    ensures parts { (before behind : List ℕ) → words_of (before ++ 32 ∷ behind) ≡ words_of before ++ words_of behind }
+{}

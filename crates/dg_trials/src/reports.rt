@@ -1,6 +1,6 @@
 //! The text of report lines.
 
-use dg_script::{Cause, Report, push_report};
+use dg_script::{Cause, Report, write_report};
 use std::test::Fail;
 
 /// Reports of what a mote keeps and runs, and their lines.
@@ -83,7 +83,7 @@ const REFUSED: [(Cause, &str); 8] = [
 fn reports_are_told(rt: HostRuntime) -> Result<(), Fail> {
     for (report, wanted) in TOLD {
         let mut out = Vec::new(rt.alloc());
-        push_report(&mut out, &report)?;
+        write_report(&report, &mut out)?;
         assert_eq!(rt; out.as_slice(), wanted.as_bytes(), "{report:?}");
     }
     Ok(())
@@ -93,7 +93,7 @@ fn reports_are_told(rt: HostRuntime) -> Result<(), Fail> {
 fn refusals_are_told(rt: HostRuntime) -> Result<(), Fail> {
     for (cause, wanted) in REFUSED {
         let mut out = Vec::new(rt.alloc());
-        push_report(&mut out, &Report::Refused { mote: 0, cause })?;
+        write_report(&Report::Refused { mote: 0, cause }, &mut out)?;
         assert_eq!(rt; out.as_slice(), wanted.as_bytes(), "{cause:?}");
     }
     Ok(())

@@ -82,7 +82,7 @@ fn scripts_have_their_reports(rt: HostRuntime) -> Result<(), Fail> {
             Status::Done,
             b"end 0\nmote 0 off\n",
         ),
-        (b"", Status::BadInput, b"line 1 verb\n"),
+        (b"", Status::BadInput, b"line 1 place\n"),
         (
             b"motes 1\ngolden base 0 hex:41\nreset 0 0 0\nrese",
             Status::BadInput,

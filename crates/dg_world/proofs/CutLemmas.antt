@@ -14,7 +14,7 @@ use Rattle.dg_volume.specs.Store.{IsNear}
 use Rattle.dg_volume.specs.Stands.{Stands}
 use Rattle.dg_rules.specs.World.{World as RuleWorld, store_at}
 use Rattle.dg_rules.specs.Events.{Does, Refuses, Goes}
-use Rattle.dg_script.specs.declared.events.Cut.{Cut as PowerCut}
+use Rattle.dg_base.specs.declared.events.Cut.{Cut as PowerCut}
 use Rattle.dg_world.specs.Turns.{trail_of, Tells, Went, StoppedOn, TurnEnds}
 use Rattle.dg_world.specs.Cuts.{ended, IsWhole, IsBlown, PlayEnds, Played}
 use Rattle.dg_world.specs.declared.shown.Shown.{Shown}

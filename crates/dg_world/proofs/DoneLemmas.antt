@@ -16,10 +16,10 @@ use Rattle.dg_rules.specs.Events.{Deed, Does, Refuses, Goes, does, mote_of, dt_o
 use Rattle.dg_rules.specs.Steps.{blows, before_cut, done_world, cut_world, done_reports, Ended as StepEnded, StepDoes, WorldStep}
 use Rattle.dg_rules.specs.Changes.{changes}
 use Rattle.dg_rules.specs.Ranges.{EventFits}
-use Rattle.dg_script.specs.declared.events.Cut.{Cut as PowerCut}
-use Rattle.dg_script.specs.declared.events.Event.{Event}
-use Rattle.dg_script.specs.declared.events.Event.TheVariants.{Tick, Reset, Inject, Order as OrderEvent}
-use Rattle.dg_script.specs.declared.events.Step.{Step}
+use Rattle.dg_base.specs.declared.events.Cut.{Cut as PowerCut}
+use Rattle.dg_base.specs.declared.events.Event.{Event}
+use Rattle.dg_base.specs.declared.events.Event.TheVariants.{Tick, Hear, Last, Reset, Inject, Order as OrderEvent, Frame}
+use Rattle.dg_base.specs.declared.events.Step.{Step}
 use Rattle.dg_script.specs.declared.report.Cause.{Cause}
 use Rattle.dg_script.specs.declared.report.Report.{Report}
 use Rattle.dg_script.specs.declared.report.Report.TheVariants.{Off, Refused as RefusedLine}
@@ -183,6 +183,9 @@ step_halts NoImage w x now a b told p = record { ends = (p.ends, refl); endures 
 -- the mote of a step that fits is one of the world
 pub event_mote : (motes : ℕ) (event : Event) → EventFits motes event → mote_of event < motes
 event_mote motes (Tick m dt word) fits = fits
+event_mote motes (Hear m dt word frame) fits = absurd fits
+event_mote motes (Last from to dt word) fits = absurd fits
+event_mote motes (Frame m dt word bytes) fits = absurd fits
 event_mote motes (Reset m dt word) fits = fits
 event_mote motes (Inject m image version dt word) fits = fits.0
 event_mote motes (OrderEvent m number image version dt word) fits = fits.0

@@ -10,8 +10,8 @@ use Rattle.dg_volume.specs.Table.{row_at}
 use Rattle.dg_volume.specs.declared.volume.Kind.TheVariants as kind
 use Rattle.dg_rules.specs.World.{World as RuleWorld, site, store_at}
 use Rattle.dg_rules.specs.Events.{Refuses, starts, ticks, inject_row, order_unless, does, mote_of, dt_of}
-use Rattle.dg_script.specs.declared.events.Event.{Event}
-use Rattle.dg_script.specs.declared.events.Event.TheVariants.{Tick, Reset, Inject, Order as OrderEvent}
+use Rattle.dg_base.specs.declared.events.Event.{Event}
+use Rattle.dg_base.specs.declared.events.Event.TheVariants.{Tick, Reset, Inject, Order as OrderEvent}
 use Rattle.dg_script.specs.declared.report.Cause.TheVariants as cause
 use Rattle.dg_world.specs.Images.{Declares}
 use Rattle.dg_world.specs.Worlds.{MoteStands}

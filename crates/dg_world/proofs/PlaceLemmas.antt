@@ -17,7 +17,7 @@ use Rattle.dg_rules.specs.World.{World as RuleWorld, Site, no_site, site, store_
 use Rattle.dg_rules.specs.Events.{does, mote_of, dt_of}
 use Rattle.dg_rules.specs.Steps.{cut_world}
 use Rattle.dg_rules.specs.Ranges.{StepFits}
-use Rattle.dg_script.specs.declared.events.Step.{Step}
+use Rattle.dg_base.specs.declared.events.Step.{Step}
 use Rattle.dg_script.specs.declared.report.Report.{Report}
 use Rattle.dg_object.specs.Object.{Row}
 use Rattle.dg_world.specs.Images.{Declares}

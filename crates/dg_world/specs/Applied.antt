@@ -11,7 +11,7 @@ use Rattle.dg_volume.specs.Start.{Runs}
 use Rattle.dg_rules.specs.World.{World as RuleWorld, store_at}
 use Rattle.dg_rules.specs.Events.{Deed, Goes, does, mote_of}
 use Rattle.dg_rules.specs.Steps.{WorldStep, EndsRun, blows}
-use Rattle.dg_script.specs.declared.events.Step.{Step}
+use Rattle.dg_base.specs.declared.events.Step.{Step}
 use Rattle.dg_script.specs.declared.report.Report.{Report}
 use Rattle.dg_world.specs.declared.turn.Halt.{Halt}
 use Rattle.dg_world.specs.declared.turn.Halt.TheVariants.{Stopped, NotAVolume, NoImage}

@@ -10,7 +10,7 @@ use Rattle.dg_volume.specs.Start.{Runs}
 use Rattle.dg_rules.specs.World.{World as RuleWorld, Site}
 use Rattle.dg_rules.specs.Events.{Deed, Goes, does, mote_of, dt_of}
 use Rattle.dg_rules.specs.Steps.{WorldStep, blows}
-use Rattle.dg_script.specs.declared.events.Step.{Step}
+use Rattle.dg_base.specs.declared.events.Step.{Step}
 use Rattle.dg_rules.specs.Changes.{changes}
 use Rattle.dg_script.specs.declared.report.Report.{Report}
 use Rattle.dg_script.specs.declared.report.Report.TheVariants.{Off}

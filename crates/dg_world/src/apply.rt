@@ -87,6 +87,9 @@ fn mote_at(event: &Event) -> u8
 {
     match event {
         Event::Tick { mote, .. }
+        | Event::Hear { mote, .. }
+        | Event::Last { to: mote, .. }
+        | Event::Frame { mote, .. }
         | Event::Reset { mote, .. }
         | Event::Inject { mote, .. }
         | Event::Order { mote, .. } => *mote,
@@ -99,6 +102,9 @@ fn dt_at(event: &Event) -> u32
 {
     match event {
         Event::Tick { dt, .. }
+        | Event::Hear { dt, .. }
+        | Event::Last { dt, .. }
+        | Event::Frame { dt, .. }
         | Event::Reset { dt, .. }
         | Event::Inject { dt, .. }
         | Event::Order { dt, .. } => *dt,

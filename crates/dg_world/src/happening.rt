@@ -247,6 +247,7 @@ pub(crate) fn happen<N: Nor>(
 {
     match event {
         Event::Tick { .. } => tick(runs, now, board),
+        Event::Hear { .. } | Event::Last { .. } | Event::Frame { .. } => unreachable!(),
         Event::Reset { .. } => restart(board, Kind::Power),
         Event::Inject { image, version, .. } => {
             let key = Key {

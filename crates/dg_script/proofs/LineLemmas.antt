@@ -1,0 +1,442 @@
+-- What is known of lines that were read.
+use Rattle.std.proofs.Common.{◌≡◌, ◌≢◌, ℕ, ◌-◌, ◌<◌, ◌≤◌, ◌^◌, ◌==◌, ◌&&◌, not, nat_le, nat_lt, Bool, true, false, List, length, Result, Ok, Err, IfOk, refl, sym, ap, subst, arith}
+use Rattle.std.specs.Coded.{le_prop}
+use Rattle.std.proofs.lemmas.Bool.{leb-true, le-leb, ltb-true, eqb-false, not-true}
+use Rattle.std.proofs.lemmas.Bool.Decides.{nat_tests}
+use Rattle.dg_words.specs.Cells.{AreBytes}
+use Rattle.dg_base.specs.Numbers.{number_of}
+use Rattle.dg_base.specs.Hexadecimal.{hex_bytes}
+use Rattle.dg_base.specs.Texts.{spells_name}
+use Rattle.dg_base.specs.declared.events.TheConstants.{LONGEST_FRAME, LONGEST_MASK}
+use Rattle.dg_base.specs.declared.events.Event.TheVariants.{Tick, Hear, Last, Reset, Inject, Order, Frame}
+use Rattle.dg_base.specs.declared.events.Cut.{Cut as CutOfPower}
+use Rattle.dg_object.specs.Sizes.{most_bytes, slots}
+use Rattle.dg_script.specs.Sizes.{most_motes, most_used, most_sweeps, most_number, most_content}
+use Rattle.dg_script.specs.Results.{allowed_if, or_fault}
+use Rattle.dg_script.specs.Words.{one_of, two_of, three_of, four_of, five_of, six_of}
+use Rattle.dg_script.specs.Contents.{name_of, content_of, sized, sized_content, mask_of}
+use Rattle.dg_script.specs.Verbs.{is_played, stands, follows, standing, verb_of}
+use Rattle.dg_script.specs.Places.{is_linked}
+use Rattle.dg_script.specs.Fields.{number_in, ranged_in, motes_in, mote_in, other_in, image_in, any_image_in, version_in, counted_in, used_in, sweeps_in}
+use Rattle.dg_script.specs.Lines.{motes_of, golden_of, none_of, boards_of, link_of, image_of, tick_of, hear_of, last_of, reset_of, inject_of, order_of, frame_of, most_by, at_most, cut_with, cut_of, round_of, sweeps_of, fields_of, played_verb}
+use Rattle.dg_script.specs.Fitting.{StandsBy, StandsAt, FitsLine, IsTimed, IsCounted, IsVersion, AreTwo, IsPlayed}
+use Rattle.dg_script.specs.Reading.{Reads}
+use Rattle.dg_script.specs.declared.fault.LineFault.{LineFault}
+use Rattle.dg_script.specs.declared.fault.LineFault.TheVariants as fault
+use Rattle.dg_script.specs.declared.line.Line.{Line}
+use Rattle.dg_script.specs.declared.line.Line.TheVariants.{Motes, Golden, Boards, Link, Image, Cut, Happens, Round, Sweeps}
+use Rattle.dg_script.specs.declared.place.Place.{Place}
+use Rattle.dg_script.specs.declared.verbs.Verb.{Verb}
+use Rattle.dg_script.specs.declared.verbs.Verb.TheVariants as verb
+use Rattle.dg_script.proofs.ResultLemmas.{bound, guarded_ok, or_fault_ok, tested}
+use Rattle.dg_script.proofs.ContentLemmas.{contents_are_bytes, hex_are_bytes, number_fits}
+
+same_of_ok : {A : Type 0} (x y : A) (r s : Result A LineFault) → r ≡ Ok x → s ≡ Ok y → r ≡ s → x ≡ y
+same_of_ok x y r s p q h = cc
+
+-- ---- cuts
+
+most_by-ok : (low high : ℕ) (holds : Bool) (e : nat_le low high ≡ holds) (fault : LineFault) (p : low ≤ high) → most_by low high holds e fault ≡ Ok p
+most_by-ok low high true e fault p = ap (λ (q : low ≤ high). Ok q) (le_prop (leb-true low high e) p)
+most_by-ok low high false e fault p = let yes_it_is : nat_le low high ≡ true = le-leb low high p in cc
+
+at_most-ok : (low high : ℕ) (fault : LineFault) (p : low ≤ high) → at_most low high fault ≡ Ok p
+at_most-ok low high fault p = most_by-ok low high (nat_le low high) refl fault p
+
+pub cut_with-ok : (cut : CutOfPower) → cut_with cut.after cut.mask ≡ Ok cut
+unfolding cut_with
+cut_with-ok cut =
+    rw (at_most-ok 1 cut.after fault.Number cut.numbered, at_most-ok 1 (length cut.mask) fault.Mask cut.some, at_most-ok (length cut.mask) LONGEST_MASK fault.Mask cut.within) refl
+
+-- a cut whose fields are read
+pub cut_of-read : (place : Place) (fields : List (List ℕ)) (operation digits : List ℕ) (cut : CutOfPower) → two_of fields ≡ Ok (operation, digits) → standing verb.Cut place ≡ Ok (tt {0})
+    → counted_in operation ≡ Ok cut.after → mask_of digits ≡ Ok cut.mask → cut_of place fields ≡ Ok (Cut cut)
+unfolding cut_of
+cut_of-read place fields operation digits cut words stands after mask = rw (words, stands, after, mask, cut_with-ok cut) refl
+
+cut_with-is : (after : ℕ) (mask : List ℕ) (cut : CutOfPower) → cut_with after mask ≡ Ok cut → (cut.after ≡ after) × (cut.mask ≡ mask)
+unfolding cut_with
+cut_with-is after mask cut h =
+    let numbered = bound (at_most 1 after fault.Number) _ cut h in
+    let some = bound (at_most 1 (length mask) fault.Mask) _ cut numbered.2 in
+    let within = bound (at_most (length mask) LONGEST_MASK fault.Mask) _ cut some.2 in
+    let made : CutOfPower = record { after = after; mask = mask; numbered = numbered.0; some = some.0; within = within.0 } in
+    let e : made ≡ cut = cc in
+    (ap (λ (x : CutOfPower). x.after) (sym e), ap (λ (x : CutOfPower). x.mask) (sym e))
+
+-- ---- fields
+
+number_in-fits : (word : List ℕ) (n : ℕ) → number_in word ≡ Ok n → n < 2 ^ 32
+unfolding number_in
+number_in-fits word n h = number_fits word n (or_fault_ok fault.Number (number_of word) n h)
+
+within : (least n most : ℕ) → (nat_le least n && nat_le n most) ≡ true → (least ≤ n) × (n ≤ most)
+within least n most h = (grind (arith, nat_tests), grind (arith, nat_tests))
+
+ranged_in-within : (fault : LineFault) (least most : ℕ) (word : List ℕ) (n : ℕ) → ranged_in fault least most word ≡ Ok n → (least ≤ n) × (n ≤ most)
+unfolding ranged_in
+ranged_in-within fault least most word n h =
+    let read = bound (number_in word) _ n h in
+    tested (nat_le least read.0 && nat_le read.0 most) fault read.0 n (λ m. (least ≤ m) × (m ≤ most)) read.2 (within least read.0 most)
+
+mote_in-below : (motes : ℕ) (word : List ℕ) (n : ℕ) → mote_in motes word ≡ Ok n → n < motes
+unfolding mote_in
+mote_in-below motes word n h =
+    let read = bound (number_in word) _ n h in
+    tested (nat_lt read.0 motes) fault.Mote read.0 n (λ m. m < motes) read.2 (ltb-true read.0 motes)
+
+other_in-other : (motes mote : ℕ) (word : List ℕ) (n : ℕ) → other_in motes mote word ≡ Ok n → (n < motes) × (n ≢ mote)
+unfolding other_in
+other_in-other motes mote word n h =
+    let read = bound (mote_in motes word) _ n h in
+    let below = mote_in-below motes word read.0 read.1 in
+    tested (not (read.0 == mote)) fault.Mote read.0 n (λ m. (m < motes) × (m ≢ mote)) read.2 (λ other. (below, eqb-false read.0 mote (not-true _ other)))
+
+name_of-name : (word name : List ℕ) → name_of word ≡ Ok name → spells_name name ≡ true
+unfolding name_of
+name_of-name word name h = tested (spells_name word) fault.Name word name (λ n. spells_name n ≡ true) h (λ here. here)
+
+-- bytes have their sizes
+sized-within : (fault : LineFault) (least most : ℕ) (bytes kept : List ℕ) → sized fault least most bytes ≡ Ok kept → (bytes ≡ kept) × (least ≤ length kept) × (length kept ≤ most)
+sized-within fault least most bytes kept h =
+    let here = guarded_ok (nat_le least (length bytes) && nat_le (length bytes) most) fault bytes kept h in
+    let P : List ℕ → Type 0 = λ b. (least ≤ length b) × (length b ≤ most) in
+    let there = subst P here.1 (within least (length bytes) most here.0) in
+    (here.1, there.0, there.1)
+
+record IsContent (least most : ℕ) (content : List ℕ) : Type 0 where
+  low : least ≤ length content
+  high : length content ≤ most
+  bytes : AreBytes content
+
+sized_content-is : (least most : ℕ) (word bytes : List ℕ) → sized_content least most word ≡ Ok bytes → IsContent least most bytes
+unfolding sized_content
+sized_content-is least most word bytes h =
+    let read = bound (or_fault fault.Content (content_of word)) _ bytes h in
+    let size = sized-within fault.Content least most read.0 bytes read.2 in
+    record { low = size.1; high = size.2; bytes = subst AreBytes size.0 (contents_are_bytes word read.0 (or_fault_ok fault.Content (content_of word) read.0 read.1)) }
+
+mask_of-bytes : (word bytes : List ℕ) → mask_of word ≡ Ok bytes → AreBytes bytes
+unfolding mask_of
+mask_of-bytes word bytes h =
+    let read = bound (or_fault fault.Mask (hex_bytes word)) _ bytes h in
+    let size = sized-within fault.Mask 1 LONGEST_MASK read.0 bytes read.2 in
+    subst AreBytes size.0 (hex_are_bytes word read.0 (or_fault_ok fault.Mask (hex_bytes word) read.0 read.1))
+
+-- ---- lines
+
+-- a line of this verb stands at its place, its fields are in their ranges, and it is played if the verb is
+record Known (v : Verb) (place : Place) (line : Line) : Type 0 where
+  stood : StandsAt place line
+  fitting : FitsLine place.motes line
+  playing : is_played v ≡ true → IsPlayed line
+
+standing-by : (v : Verb) (place : Place) (u : Unit {0}) → standing v place ≡ Ok u → StandsBy v place
+unfolding standing
+standing-by v place u h =
+    let stood = bound (allowed_if (stands v place) fault.Place) _ u h in
+    let fits = guarded_ok (stands v place) fault.Place (tt {0}) stood.0 stood.1 in
+    let behind = guarded_ok (follows v place) fault.Cut (tt {0}) u stood.2 in
+    record { fits = fits.0; behind = behind.0 }
+
+timed : (dt word : List ℕ) (d w : ℕ) → number_in dt ≡ Ok d → number_in word ≡ Ok w → IsTimed d w
+timed dt word d w e f = record { dt = number_in-fits dt d e; word = number_in-fits word w f }
+
+counted : (word : List ℕ) (n : ℕ) → counted_in word ≡ Ok n → IsCounted n
+counted word n h = let here = ranged_in-within fault.Number 1 most_number word n h in record { counted = here.0; fits = omega (arith, here.1) }
+
+numbered : (word : List ℕ) (n : ℕ) → version_in word ≡ Ok n → IsCounted n
+numbered word n h = let here = ranged_in-within fault.Version 1 most_number word n h in record { counted = here.0; fits = omega (arith, here.1) }
+
+version_known : (image word : List ℕ) (i v : ℕ) → any_image_in image ≡ Ok i → version_in word ≡ Ok v → IsVersion i v
+version_known image word i v e f =
+    let here = ranged_in-within fault.Image 0 (slots - 1) image i e in
+    let there = ranged_in-within fault.Version 1 most_number word v f in
+    record { image = omega (arith, here.1); version = there.0; version_fits = omega (arith, there.1) }
+
+two : (motes : ℕ) (first second : List ℕ) (a b : ℕ) → mote_in motes first ≡ Ok a → other_in motes a second ≡ Ok b → AreTwo motes a b
+two motes first second a b e f = let other = other_in-other motes a second b f in record { first = mote_in-below motes first a e; second = other.0; other = other.1 }
+
+motes_known : (place : Place) (fields : List (List ℕ)) (line : Line) → motes_of place fields ≡ Ok line → Known verb.Motes place line
+unfolding motes_of
+motes_known place fields line h =
+    let t = bound (one_of fields) _ line h in
+    let u = bound (standing verb.Motes place) _ line t.2 in
+    let n = bound (motes_in t.0) _ line u.2 in
+    let here : Motes n.0 ≡ line = cc in
+    let P : Line → Type 0 = λ l. Known verb.Motes place l in
+    subst P here (record { stood = standing-by verb.Motes place u.0 u.1; fitting = ranged_in-within fault.Mote 1 most_motes t.0 n.0 n.1; playing = λ p. p })
+
+golden_known : (place : Place) (fields : List (List ℕ)) (line : Line) → golden_of place fields ≡ Ok line → Known verb.Golden place line
+unfolding golden_of
+golden_known place fields line h =
+    let t = bound (three_of fields) _ line h in
+    let u = bound (standing verb.Golden place) _ line t.2 in
+    let name = bound (name_of t.0.0) _ line u.2 in
+    let used = bound (used_in t.0.1) _ line name.2 in
+    let content = bound (sized_content 1 most_bytes t.0.2) _ line used.2 in
+    let size = sized_content-is 1 most_bytes t.0.2 content.0 content.1 in
+    let spent = ranged_in-within fault.Number 0 most_used t.0.1 used.0 used.1 in
+    let here : Golden name.0 used.0 content.0 ≡ line = cc in
+    let P : Line → Type 0 = λ l. Known verb.Golden place l in
+    subst P here (record {
+      stood = standing-by verb.Golden place u.0 u.1;
+      fitting = record { name = name_of-name t.0.0 name.0 name.1; used = spent.1; some = size.low; fits = size.high; bytes = size.bytes };
+      playing = λ p. p;
+    })
+
+boards_known : (place : Place) (fields : List (List ℕ)) (line : Line) → boards_of place fields ≡ Ok line → Known verb.Boards place line
+unfolding boards_of
+boards_known place fields line h =
+    let t = bound (none_of fields) _ line h in
+    let u = bound (standing verb.Boards place) _ line t.2 in
+    let here : Boards ≡ line = cc in
+    let P : Line → Type 0 = λ l. Known verb.Boards place l in
+    subst P here (record { stood = standing-by verb.Boards place u.0 u.1; fitting = tt; playing = λ p. p })
+
+link_known : (place : Place) (fields : List (List ℕ)) (line : Line) → link_of place fields ≡ Ok line → Known verb.Link place line
+unfolding link_of
+link_known place fields line h =
+    let t = bound (two_of fields) _ line h in
+    let u = bound (standing verb.Link place) _ line t.2 in
+    let a = bound (mote_in place.motes t.0.0) _ line u.2 in
+    let b = bound (other_in place.motes a.0 t.0.1) _ line a.2 in
+    let new = guarded_ok (not (is_linked place.links a.0 b.0)) fault.Place (Link a.0 b.0) line b.2 in
+    let P : Line → Type 0 = λ l. Known verb.Link place l in
+    subst P new.1 (record {
+      stood = (standing-by verb.Link place u.0 u.1, not-true _ new.0);
+      fitting = two place.motes t.0.0 t.0.1 a.0 b.0 a.1 b.1;
+      playing = λ p. p;
+    })
+
+image_known : (place : Place) (fields : List (List ℕ)) (line : Line) → image_of place fields ≡ Ok line → Known verb.Image place line
+unfolding image_of
+image_known place fields line h =
+    let t = bound (four_of fields) _ line h in
+    let u = bound (standing verb.Image place) _ line t.2 in
+    let image = bound (image_in t.0.0) _ line u.2 in
+    let version = bound (version_in t.0.1) _ line image.2 in
+    let name = bound (name_of t.0.2) _ line version.2 in
+    let content = bound (sized_content 0 most_content t.0.3) _ line name.2 in
+    let number = ranged_in-within fault.Image 1 (slots - 1) t.0.0 image.0 image.1 in
+    let some = ranged_in-within fault.Version 1 most_number t.0.1 version.0 version.1 in
+    let size = sized_content-is 0 most_content t.0.3 content.0 content.1 in
+    let here : Image image.0 version.0 name.0 content.0 ≡ line = cc in
+    let P : Line → Type 0 = λ l. Known verb.Image place l in
+    subst P here (record {
+      stood = standing-by verb.Image place u.0 u.1;
+      fitting = record {
+        image = number.0;
+        image_fits = omega (arith, number.1);
+        version = some.0;
+        version_fits = omega (arith, some.1);
+        name = name_of-name t.0.2 name.0 name.1;
+        fits = size.high;
+        bytes = size.bytes;
+      };
+      playing = λ p. p;
+    })
+
+tick_known : (place : Place) (fields : List (List ℕ)) (line : Line) → tick_of place fields ≡ Ok line → Known verb.Tick place line
+unfolding tick_of
+tick_known place fields line h =
+    let t = bound (three_of fields) _ line h in
+    let u = bound (standing verb.Tick place) _ line t.2 in
+    let mote = bound (mote_in place.motes t.0.0) _ line u.2 in
+    let dt = bound (number_in t.0.1) _ line mote.2 in
+    let word = bound (number_in t.0.2) _ line dt.2 in
+    let here : Happens (Tick mote.0 dt.0 word.0) ≡ line = cc in
+    let P : Line → Type 0 = λ l. Known verb.Tick place l in
+    subst P here (record {
+      stood = standing-by verb.Tick place u.0 u.1;
+      fitting = (mote_in-below place.motes t.0.0 mote.0 mote.1, timed t.0.1 t.0.2 dt.0 word.0 dt.1 word.1);
+      playing = λ p. p;
+    })
+
+hear_known : (place : Place) (fields : List (List ℕ)) (line : Line) → hear_of place fields ≡ Ok line → Known verb.Hear place line
+unfolding hear_of
+hear_known place fields line h =
+    let t = bound (four_of fields) _ line h in
+    let u = bound (standing verb.Hear place) _ line t.2 in
+    let mote = bound (mote_in place.motes t.0.0) _ line u.2 in
+    let dt = bound (number_in t.0.1) _ line mote.2 in
+    let word = bound (number_in t.0.2) _ line dt.2 in
+    let frame = bound (counted_in t.0.3) _ line word.2 in
+    let here : Happens (Hear mote.0 dt.0 word.0 frame.0) ≡ line = cc in
+    let P : Line → Type 0 = λ l. Known verb.Hear place l in
+    subst P here (record {
+      stood = standing-by verb.Hear place u.0 u.1;
+      fitting = (mote_in-below place.motes t.0.0 mote.0 mote.1, timed t.0.1 t.0.2 dt.0 word.0 dt.1 word.1, counted t.0.3 frame.0 frame.1);
+      playing = λ p. p;
+    })
+
+last_known : (place : Place) (fields : List (List ℕ)) (line : Line) → last_of place fields ≡ Ok line → Known verb.Last place line
+unfolding last_of
+last_known place fields line h =
+    let t = bound (four_of fields) _ line h in
+    let u = bound (standing verb.Last place) _ line t.2 in
+    let a = bound (mote_in place.motes t.0.0) _ line u.2 in
+    let b = bound (other_in place.motes a.0 t.0.1) _ line a.2 in
+    let dt = bound (number_in t.0.2) _ line b.2 in
+    let word = bound (number_in t.0.3) _ line dt.2 in
+    let here : Happens (Last a.0 b.0 dt.0 word.0) ≡ line = cc in
+    let P : Line → Type 0 = λ l. Known verb.Last place l in
+    subst P here (record {
+      stood = standing-by verb.Last place u.0 u.1;
+      fitting = (two place.motes t.0.0 t.0.1 a.0 b.0 a.1 b.1, timed t.0.2 t.0.3 dt.0 word.0 dt.1 word.1);
+      playing = λ p. p;
+    })
+
+reset_known : (place : Place) (fields : List (List ℕ)) (line : Line) → reset_of place fields ≡ Ok line → Known verb.Reset place line
+unfolding reset_of
+reset_known place fields line h =
+    let t = bound (three_of fields) _ line h in
+    let u = bound (standing verb.Reset place) _ line t.2 in
+    let mote = bound (mote_in place.motes t.0.0) _ line u.2 in
+    let dt = bound (number_in t.0.1) _ line mote.2 in
+    let word = bound (number_in t.0.2) _ line dt.2 in
+    let here : Happens (Reset mote.0 dt.0 word.0) ≡ line = cc in
+    let P : Line → Type 0 = λ l. Known verb.Reset place l in
+    subst P here (record {
+      stood = standing-by verb.Reset place u.0 u.1;
+      fitting = (mote_in-below place.motes t.0.0 mote.0 mote.1, timed t.0.1 t.0.2 dt.0 word.0 dt.1 word.1);
+      playing = λ p. p;
+    })
+
+inject_known : (place : Place) (fields : List (List ℕ)) (line : Line) → inject_of place fields ≡ Ok line → Known verb.Inject place line
+unfolding inject_of
+inject_known place fields line h =
+    let t = bound (five_of fields) _ line h in
+    let u = bound (standing verb.Inject place) _ line t.2 in
+    let mote = bound (mote_in place.motes t.0.0) _ line u.2 in
+    let image = bound (any_image_in t.0.1) _ line mote.2 in
+    let version = bound (version_in t.0.2) _ line image.2 in
+    let dt = bound (number_in t.0.3) _ line version.2 in
+    let word = bound (number_in t.0.4) _ line dt.2 in
+    let here : Happens (Inject mote.0 image.0 version.0 dt.0 word.0) ≡ line = cc in
+    let P : Line → Type 0 = λ l. Known verb.Inject place l in
+    subst P here (record {
+      stood = standing-by verb.Inject place u.0 u.1;
+      fitting = (mote_in-below place.motes t.0.0 mote.0 mote.1, version_known t.0.1 t.0.2 image.0 version.0 image.1 version.1, timed t.0.3 t.0.4 dt.0 word.0 dt.1 word.1);
+      playing = λ p. p;
+    })
+
+order_known : (place : Place) (fields : List (List ℕ)) (line : Line) → order_of place fields ≡ Ok line → Known verb.Order place line
+unfolding order_of
+order_known place fields line h =
+    let t = bound (six_of fields) _ line h in
+    let u = bound (standing verb.Order place) _ line t.2 in
+    let mote = bound (mote_in place.motes t.0.0) _ line u.2 in
+    let number = bound (version_in t.0.1) _ line mote.2 in
+    let image = bound (any_image_in t.0.2) _ line number.2 in
+    let version = bound (version_in t.0.3) _ line image.2 in
+    let dt = bound (number_in t.0.4) _ line version.2 in
+    let word = bound (number_in t.0.5) _ line dt.2 in
+    let order : Line = Happens (Order mote.0 number.0 image.0 version.0 dt.0 word.0) in
+    let here : order ≡ line = same_of_ok order line _ _ refl refl word.2 in
+    let P : Line → Type 0 = λ l. Known verb.Order place l in
+    subst P here (record {
+      stood = standing-by verb.Order place u.0 u.1;
+      fitting = (mote_in-below place.motes t.0.0 mote.0 mote.1, numbered t.0.1 number.0 number.1, version_known t.0.2 t.0.3 image.0 version.0 image.1 version.1, timed t.0.4 t.0.5 dt.0 word.0 dt.1 word.1);
+      playing = λ p. p;
+    })
+
+frame_known : (place : Place) (fields : List (List ℕ)) (line : Line) → frame_of place fields ≡ Ok line → Known verb.Frame place line
+unfolding frame_of
+frame_known place fields line h =
+    let t = bound (four_of fields) _ line h in
+    let u = bound (standing verb.Frame place) _ line t.2 in
+    let mote = bound (mote_in place.motes t.0.0) _ line u.2 in
+    let dt = bound (number_in t.0.1) _ line mote.2 in
+    let word = bound (number_in t.0.2) _ line dt.2 in
+    let content = bound (sized_content 0 LONGEST_FRAME t.0.3) _ line word.2 in
+    let size = sized_content-is 0 LONGEST_FRAME t.0.3 content.0 content.1 in
+    let here : Happens (Frame mote.0 dt.0 word.0 content.0) ≡ line = cc in
+    let P : Line → Type 0 = λ l. Known verb.Frame place l in
+    subst P here (record {
+      stood = standing-by verb.Frame place u.0 u.1;
+      fitting = (mote_in-below place.motes t.0.0 mote.0 mote.1, timed t.0.1 t.0.2 dt.0 word.0 dt.1 word.1, record { few = size.high; bytes = size.bytes });
+      playing = λ p. p;
+    })
+
+cut_known : (place : Place) (fields : List (List ℕ)) (line : Line) → cut_of place fields ≡ Ok line → Known verb.Cut place line
+unfolding cut_of
+cut_known place fields line h =
+    let t = bound (two_of fields) _ line h in
+    let u = bound (standing verb.Cut place) _ line t.2 in
+    let after = bound (counted_in t.0.0) _ line u.2 in
+    let mask = bound (mask_of t.0.1) _ line after.2 in
+    let cut = bound (cut_with after.0 mask.0) _ line mask.2 in
+    let is = cut_with-is after.0 mask.0 cut.0 cut.1 in
+    let count = counted t.0.0 after.0 after.1 in
+    let here : Cut cut.0 ≡ line = cc in
+    let P : Line → Type 0 = λ l. Known verb.Cut place l in
+    subst P here (record {
+      stood = standing-by verb.Cut place u.0 u.1;
+      fitting = record {
+        counted = cut.0.numbered;
+        fits = omega (arith, is.0, count.fits);
+        some = cut.0.some;
+        few = cut.0.within;
+        bytes = subst AreBytes (sym is.1) (mask_of-bytes t.0.1 mask.0 mask.1);
+      };
+      playing = λ p. p;
+    })
+
+round_known : (place : Place) (fields : List (List ℕ)) (line : Line) → round_of place fields ≡ Ok line → Known verb.Round place line
+unfolding round_of
+round_known place fields line h =
+    let t = bound (two_of fields) _ line h in
+    let u = bound (standing verb.Round place) _ line t.2 in
+    let a = bound (mote_in place.motes t.0.0) _ line u.2 in
+    let b = bound (other_in place.motes a.0 t.0.1) _ line a.2 in
+    let here : Round a.0 b.0 ≡ line = cc in
+    let P : Line → Type 0 = λ l. Known verb.Round place l in
+    subst P here (record { stood = standing-by verb.Round place u.0 u.1; fitting = two place.motes t.0.0 t.0.1 a.0 b.0 a.1 b.1; playing = λ p. p })
+
+sweeps_known : (place : Place) (fields : List (List ℕ)) (line : Line) → sweeps_of place fields ≡ Ok line → Known verb.Sweeps place line
+unfolding sweeps_of
+sweeps_known place fields line h =
+    let t = bound (one_of fields) _ line h in
+    let u = bound (standing verb.Sweeps place) _ line t.2 in
+    let n = bound (sweeps_in t.0) _ line u.2 in
+    let here : Sweeps n.0 ≡ line = cc in
+    let P : Line → Type 0 = λ l. Known verb.Sweeps place l in
+    subst P here (record { stood = standing-by verb.Sweeps place u.0 u.1; fitting = ranged_in-within fault.Number 1 most_sweeps t.0 n.0 n.1; playing = λ p. p })
+
+fields_known : (v : Verb) (place : Place) (fields : List (List ℕ)) (line : Line) → fields_of v place fields ≡ Ok line → Known v place line
+fields_known verb.Motes place fields line h = motes_known place fields line h
+fields_known verb.Golden place fields line h = golden_known place fields line h
+fields_known verb.Boards place fields line h = boards_known place fields line h
+fields_known verb.Link place fields line h = link_known place fields line h
+fields_known verb.Image place fields line h = image_known place fields line h
+fields_known verb.Tick place fields line h = tick_known place fields line h
+fields_known verb.Hear place fields line h = hear_known place fields line h
+fields_known verb.Last place fields line h = last_known place fields line h
+fields_known verb.Reset place fields line h = reset_known place fields line h
+fields_known verb.Inject place fields line h = inject_known place fields line h
+fields_known verb.Order place fields line h = order_known place fields line h
+fields_known verb.Frame place fields line h = frame_known place fields line h
+fields_known verb.Cut place fields line h = cut_known place fields line h
+fields_known verb.Round place fields line h = round_known place fields line h
+fields_known verb.Sweeps place fields line h = sweeps_known place fields line h
+
+-- the verb of a line that is read is played
+pub played_verb-plays : (word : List ℕ) (v : Verb) → played_verb word ≡ Ok v → is_played v ≡ true
+unfolding played_verb
+played_verb-plays word v h =
+    let read = bound (or_fault fault.Verb (verb_of word)) _ v h in
+    tested (is_played read.0) fault.Verb read.0 v (λ x. is_played x ≡ true) read.2 (λ here. here)
+
+-- what is known of a line of a verb that is played
+pub read_stands : (v : Verb) (place : Place) (fields : List (List ℕ)) (r : Result Line LineFault) → Reads r (fields_of v place fields) → IfOk r (StandsAt place)
+read_stands v place fields (Ok line) h = (fields_known v place fields line h).stood
+read_stands v place fields (Err e) h = tt
+
+pub read_fits : (v : Verb) (place : Place) (fields : List (List ℕ)) (r : Result Line LineFault) → Reads r (fields_of v place fields) → IfOk r (FitsLine place.motes)
+read_fits v place fields (Ok line) h = (fields_known v place fields line h).fitting
+read_fits v place fields (Err e) h = tt
+
+pub read_plays : (v : Verb) (place : Place) (fields : List (List ℕ)) (r : Result Line LineFault) → is_played v ≡ true → Reads r (fields_of v place fields) → IfOk r IsPlayed
+read_plays v place fields (Ok line) plays h = (fields_known v place fields line h).playing plays
+read_plays v place fields (Err e) plays h = tt

@@ -1,0 +1,153 @@
+-- What is known of lines that were read, and where they may stand.
+use Rattle.std.specs.Prelude.{◌≡◌, ◌≢◌, ℕ, ◌<◌, ◌≤◌, ◌^◌, IsTrue, true, false, length, List}
+use Rattle.dg_words.specs.Cells.{AreBytes}
+use Rattle.dg_base.specs.Texts.{spells_name}
+use Rattle.dg_base.specs.declared.events.TheConstants.{LONGEST_FRAME, LONGEST_MASK}
+use Rattle.dg_base.specs.declared.events.Event.{Event}
+use Rattle.dg_base.specs.declared.events.Event.TheVariants.{Tick, Hear, Last, Reset, Inject, Order, Frame}
+use Rattle.dg_base.specs.declared.events.Cut.{Cut as CutOfPower}
+use Rattle.dg_object.specs.Sizes.{most_bytes, slots}
+use Rattle.dg_object.specs.Object.{Row, row_of}
+use Rattle.dg_script.specs.Sizes.{most_motes, most_used, most_content, most_sweeps}
+use Rattle.dg_script.specs.Verbs.{is_played, stands, follows}
+use Rattle.dg_script.specs.Places.{is_linked}
+use Rattle.dg_script.specs.declared.line.Line.{Line}
+use Rattle.dg_script.specs.declared.line.Line.TheVariants.{Nothing, Motes, Golden, Boards, Link, Image, Cut, Happens, Round, Sweeps}
+use Rattle.dg_script.specs.declared.place.Place.{Place}
+use Rattle.dg_script.specs.declared.verbs.Verb.{Verb}
+use Rattle.dg_script.specs.declared.verbs.Verb.TheVariants as verb
+
+-- a golden image has a name, and 1 to 70,656 bytes
+pub record IsGolden (called : List ℕ) (spent : ℕ) (content : List ℕ) : Type 0 where
+  pub name : IsTrue (spells_name called)
+  pub used : spent ≤ most_used
+  pub some : 1 ≤ length content
+  pub fits : length content ≤ most_bytes
+  pub bytes : AreBytes content
+
+-- an image that is declared has a number from 1 to 3, a version and a name
+pub record IsDeclared (i v : ℕ) (called content : List ℕ) : Type 0 where
+  pub image : 1 ≤ i
+  pub image_fits : i < slots
+  pub version : 1 ≤ v
+  pub version_fits : v < 2 ^ 32
+  pub name : IsTrue (spells_name called)
+  pub fits : length content ≤ most_content
+  pub bytes : AreBytes content
+
+-- a cut is in a numbered operation, and leaves 1 to 2,048 bytes
+pub record FitsCut (cut : CutOfPower) : Type 0 where
+  pub counted : 1 ≤ cut.after
+  pub fits : cut.after < 2 ^ 32
+  pub some : 1 ≤ length cut.mask
+  pub few : length cut.mask ≤ LONGEST_MASK
+  pub bytes : AreBytes cut.mask
+
+-- what each event has besides its own numbers
+pub record IsTimed (d w : ℕ) : Type 0 where
+  pub dt : d < 2 ^ 32
+  pub word : w < 2 ^ 32
+
+-- two different ones of so many motes
+pub record AreTwo (motes a b : ℕ) : Type 0 where
+  pub first : a < motes
+  pub second : b < motes
+  pub other : b ≢ a
+
+-- an image, from 0 to 3, and a version of it
+pub record IsVersion (i v : ℕ) : Type 0 where
+  pub image : i < slots
+  pub version : 1 ≤ v
+  pub version_fits : v < 2 ^ 32
+
+pub record IsCounted (n : ℕ) : Type 0 where
+  pub counted : 1 ≤ n
+  pub fits : n < 2 ^ 32
+
+pub record IsFrame (content : List ℕ) : Type 0 where
+  pub few : length content ≤ LONGEST_FRAME
+  pub bytes : AreBytes content
+
+-- an event is at one of so many motes
+abbrev pub FitsEvent : ℕ → Event → Type 0
+FitsEvent motes (Tick mote dt word) = (mote < motes) × IsTimed dt word
+FitsEvent motes (Hear mote dt word frame) = (mote < motes) × IsTimed dt word × IsCounted frame
+FitsEvent motes (Last from to dt word) = AreTwo motes from to × IsTimed dt word
+FitsEvent motes (Reset mote dt word) = (mote < motes) × IsTimed dt word
+FitsEvent motes (Inject mote image version dt word) = (mote < motes) × IsVersion image version × IsTimed dt word
+FitsEvent motes (Order mote number image version dt word) = (mote < motes) × IsCounted number × IsVersion image version × IsTimed dt word
+FitsEvent motes (Frame mote dt word bytes) = (mote < motes) × IsTimed dt word × IsFrame bytes
+
+-- the fields of a line are in their ranges, where there are so many motes
+abbrev pub FitsLine : ℕ → Line → Type 0
+FitsLine motes Nothing = Unit {0}
+FitsLine motes (Motes n) = (1 ≤ n) × (n ≤ most_motes)
+FitsLine motes (Golden name used content) = IsGolden name used content
+FitsLine motes Boards = Unit {0}
+FitsLine motes (Link a b) = AreTwo motes a b
+FitsLine motes (Image image version name content) = IsDeclared image version name content
+FitsLine motes (Cut cut) = FitsCut cut
+FitsLine motes (Happens event) = FitsEvent motes event
+FitsLine motes (Round a b) = AreTwo motes a b
+FitsLine motes (Sweeps n) = (1 ≤ n) × (n ≤ most_sweeps)
+
+-- the verb of an event
+abbrev pub verb_of_event : Event → Verb
+verb_of_event (Tick mote dt word) = verb.Tick
+verb_of_event (Hear mote dt word frame) = verb.Hear
+verb_of_event (Last from to dt word) = verb.Last
+verb_of_event (Reset mote dt word) = verb.Reset
+verb_of_event (Inject mote image version dt word) = verb.Inject
+verb_of_event (Order mote number image version dt word) = verb.Order
+verb_of_event (Frame mote dt word bytes) = verb.Frame
+
+-- a line of this verb is played, and stands at its place
+pub record StandsBy (verb : Verb) (place : Place) : Type 0 where
+  pub fits : stands verb place ≡ true
+  pub behind : follows verb place ≡ true
+
+abbrev pub StandsAt : Place → Line → Type 0
+StandsAt place Nothing = Unit {0}
+StandsAt place (Motes n) = StandsBy verb.Motes place
+StandsAt place (Golden name used content) = StandsBy verb.Golden place
+StandsAt place Boards = StandsBy verb.Boards place
+StandsAt place (Link a b) = StandsBy verb.Link place × (is_linked place.links a b ≡ false)
+StandsAt place (Image image version name content) = StandsBy verb.Image place
+StandsAt place (Cut cut) = StandsBy verb.Cut place
+StandsAt place (Happens event) = StandsBy (verb_of_event event) place
+StandsAt place (Round a b) = StandsBy verb.Round place
+StandsAt place (Sweeps n) = StandsBy verb.Sweeps place
+
+-- an event is one of those that are played
+abbrev pub IsPlayedEvent : Event → Type 0
+IsPlayedEvent event = IsTrue (is_played (verb_of_event event))
+
+-- a line is one of those that are played
+abbrev pub IsPlayed : Line → Type 0
+IsPlayed Nothing = Unit {0}
+IsPlayed (Motes n) = IsTrue (is_played verb.Motes)
+IsPlayed (Golden name used content) = IsTrue (is_played verb.Golden)
+IsPlayed Boards = IsTrue (is_played verb.Boards)
+IsPlayed (Link a b) = IsTrue (is_played verb.Link)
+IsPlayed (Image image version name content) = IsTrue (is_played verb.Image)
+IsPlayed (Cut cut) = IsTrue (is_played verb.Cut)
+IsPlayed (Happens event) = IsPlayedEvent event
+IsPlayed (Round a b) = IsTrue (is_played verb.Round)
+IsPlayed (Sweeps n) = IsTrue (is_played verb.Sweeps)
+
+-- a line that is played on a board
+abbrev pub UsesBoard : Line → Type 0
+UsesBoard Nothing = ⊥
+UsesBoard (Motes n) = ⊥
+UsesBoard (Golden name used content) = Unit {0}
+UsesBoard Boards = Unit {0}
+UsesBoard (Link a b) = ⊥
+UsesBoard (Image image version name content) = ⊥
+UsesBoard (Cut cut) = ⊥
+UsesBoard (Happens event) = Unit {0}
+UsesBoard (Round a b) = Unit {0}
+UsesBoard (Sweeps n) = Unit {0}
+
+-- the row that an `image` line declares
+abbrev pub declared_row : (image version : ℕ) (name content : List ℕ) → Row
+declared_row image version name content = row_of image version name content

@@ -1,0 +1,36 @@
+-- Where a line stands, and how that changes behind it.
+use Rattle.std.specs.Prelude.{ℕ, ◌==◌, ◌&&◌, ◌||◌, not, Bool, true, false, if◌then◌else◌, List, [], ◌∷◌, ◌++◌, Option, Some, None}
+use Rattle.std.specs.List.{list_any}
+use Rattle.dg_script.specs.declared.fault.LineFault.{LineFault}
+use Rattle.dg_script.specs.declared.fault.LineFault.TheVariants as fault
+use Rattle.dg_script.specs.declared.line.Line.{Line}
+use Rattle.dg_script.specs.declared.line.Line.TheVariants.{Nothing, Motes, Golden, Boards, Link, Image, Cut, Happens, Round, Sweeps}
+use Rattle.dg_script.specs.declared.place.Place.{Place}
+
+-- before the first line
+abbrev pub first_place : Place
+first_place = record { motes = 0; ready = false; events = false; cut = false; links = [] }
+
+-- the place behind a line
+abbrev pub place_after : Place → Line → Place
+place_after place Nothing = place
+place_after place (Motes motes) = record place { motes = motes }
+place_after place (Golden name used content) = record place { ready = true }
+place_after place Boards = record place { ready = true }
+place_after place (Link a b) = record place { links = place.links ++ (a, b) ∷ [] }
+place_after place (Image image version name content) = place
+place_after place (Cut cut) = record place { cut = true }
+place_after place (Happens event) = record place { events = true; cut = false }
+place_after place (Round a b) = record place { events = true }
+place_after place (Sweeps n) = record place { events = true }
+
+-- a link joins two motes, in either order
+abbrev pub joins : (a b : ℕ) → (ℕ × ℕ) → Bool
+joins a b link = (link.0 == a && link.1 == b) || (link.0 == b && link.1 == a)
+
+abbrev pub is_linked : List (ℕ × ℕ) → (a b : ℕ) → Bool
+is_linked links a b = list_any (joins a b) links
+
+-- the fault of an input that ends here, if it may not: its second line is missing, or the event behind a cut
+abbrev pub fault_at_end : Place → Option LineFault
+fault_at_end place = if not place.ready then Some fault.Place else if place.cut then Some fault.Cut else None

@@ -1,0 +1,73 @@
+-- The text by which a line is written.
+use Rattle.std.specs.Prelude.{◌≡◌, ℕ, ◌≤◌, List, [], ◌∷◌, ◌++◌, length, take, codes}
+use Rattle.std.specs.List.{flat_map}
+use Rattle.std.specs.Fmt.{decimal}
+use Rattle.dg_base.specs.Hexadecimal.{hex_text}
+use Rattle.dg_base.specs.declared.events.Event.{Event}
+use Rattle.dg_base.specs.declared.events.Event.TheVariants.{Tick, Hear, Last, Reset, Inject, Order, Frame}
+use Rattle.dg_script.specs.Sizes.{most_written}
+use Rattle.dg_script.specs.Words.{spaced}
+use Rattle.dg_script.specs.declared.line.Line.{Line}
+use Rattle.dg_script.specs.declared.line.Line.TheVariants.{Nothing, Motes, Golden, Boards, Link, Image, Cut, Happens, Round, Sweeps}
+use Rattle.dg_script.specs.declared.spelling.Field.{Field}
+use Rattle.dg_script.specs.declared.spelling.Field.TheVariants as field
+
+-- a content as hex digits
+abbrev pub content_text : List ℕ → List ℕ
+content_text bytes = codes "hex:" ++ hex_text bytes
+
+-- the text of a field
+abbrev pub field_text : Field → List ℕ
+field_text (field.Word word) = word.now
+field_text (field.Number n) = decimal n
+field_text (field.Digits bytes) = hex_text bytes.now
+field_text (field.Content bytes) = content_text bytes.now
+
+-- fields, each behind a space
+abbrev pub fields_text : List Field → List ℕ
+fields_text fields = flat_map (λ f. 32 ∷ field_text f) fields
+
+-- the words of an event's line
+abbrev pub event_words : Event → List (List ℕ)
+event_words (Tick mote dt word) = codes "tick" ∷ decimal mote ∷ decimal dt ∷ decimal word ∷ []
+event_words (Hear mote dt word frame) = codes "hear" ∷ decimal mote ∷ decimal dt ∷ decimal word ∷ decimal frame ∷ []
+event_words (Last from to dt word) = codes "last" ∷ decimal from ∷ decimal to ∷ decimal dt ∷ decimal word ∷ []
+event_words (Reset mote dt word) = codes "reset" ∷ decimal mote ∷ decimal dt ∷ decimal word ∷ []
+event_words (Inject mote image version dt word) = codes "inject" ∷ decimal mote ∷ decimal image ∷ decimal version ∷ decimal dt ∷ decimal word ∷ []
+event_words (Order mote number image version dt word) =
+    codes "order" ∷ decimal mote ∷ decimal number ∷ decimal image ∷ decimal version ∷ decimal dt ∷ decimal word ∷ []
+event_words (Frame mote dt word bytes) = codes "frame" ∷ decimal mote ∷ decimal dt ∷ decimal word ∷ content_text bytes ∷ []
+
+-- the words of a line
+abbrev pub line_words : Line → List (List ℕ)
+line_words Nothing = []
+line_words (Motes n) = codes "motes" ∷ decimal n ∷ []
+line_words (Golden name used content) = codes "golden" ∷ name ∷ decimal used ∷ content_text content ∷ []
+line_words Boards = codes "boards" ∷ []
+line_words (Link a b) = codes "link" ∷ decimal a ∷ decimal b ∷ []
+line_words (Image image version name content) = codes "image" ∷ decimal image ∷ decimal version ∷ name ∷ content_text content ∷ []
+line_words (Cut cut) = codes "cut" ∷ decimal cut.after ∷ hex_text cut.mask ∷ []
+line_words (Happens event) = event_words event
+line_words (Round a b) = codes "round" ∷ decimal a ∷ decimal b ∷ []
+line_words (Sweeps n) = codes "sweeps" ∷ decimal n ∷ []
+
+-- the text of a line, without its line end
+unfoldable pub line_text : Line → List ℕ
+line_text line = spaced (line_words line)
+
+-- a line's content has at most so many bytes that the line can be read again: that of any line but `image` has
+abbrev pub IsShort : Line → Type 0
+IsShort Nothing = Unit {0}
+IsShort (Motes n) = Unit {0}
+IsShort (Golden name used content) = Unit {0}
+IsShort Boards = Unit {0}
+IsShort (Link a b) = Unit {0}
+IsShort (Image image version name content) = length content ≤ most_written
+IsShort (Cut cut) = Unit {0}
+IsShort (Happens event) = Unit {0}
+IsShort (Round a b) = Unit {0}
+IsShort (Sweeps n) = Unit {0}
+
+-- some bytes are a front of others
+abbrev pub IsFrontOf : (front whole : List ℕ) → Type 0
+IsFrontOf front whole = take (length front) whole ≡ front

@@ -1,0 +1,113 @@
+-- The table of the verbs: the word of each, where its lines stand, and whether they are played.
+use Rattle.std.specs.Prelude.{ℕ, ◌==◌, nat_lt, ◌&&◌, not, Bool, true, false, if◌then◌else◌, List, [], ◌∷◌, codes, Option, Some, None, Result}
+use Rattle.dg_script.specs.Results.{◌>>=◌, allowed_if}
+use Rattle.dg_script.specs.Words.{same}
+use Rattle.dg_script.specs.declared.fault.LineFault.{LineFault}
+use Rattle.dg_script.specs.declared.fault.LineFault.TheVariants as fault
+use Rattle.dg_script.specs.declared.place.Place.{Place}
+use Rattle.dg_script.specs.declared.verbs.Verb.{Verb}
+use Rattle.dg_script.specs.declared.verbs.Verb.TheVariants.{Motes, Golden, Boards, Link, Image, Tick, Hear, Last, Reset, Inject, Order, Frame, Cut, Round, Sweeps}
+use Rattle.dg_script.specs.declared.verbs.TheConstants.{PLAYS_BOARDS, PLAYS_LINK, PLAYS_HEAR, PLAYS_LAST, PLAYS_FRAME, PLAYS_ROUND, PLAYS_SWEEPS}
+
+abbrev pub word_of : Verb → List ℕ
+word_of Motes = codes "motes"
+word_of Golden = codes "golden"
+word_of Boards = codes "boards"
+word_of Link = codes "link"
+word_of Image = codes "image"
+word_of Tick = codes "tick"
+word_of Hear = codes "hear"
+word_of Last = codes "last"
+word_of Reset = codes "reset"
+word_of Inject = codes "inject"
+word_of Order = codes "order"
+word_of Frame = codes "frame"
+word_of Cut = codes "cut"
+word_of Round = codes "round"
+word_of Sweeps = codes "sweeps"
+
+-- whether lines of a verb are played: a line that is not yet is told as one of an unknown verb
+abbrev pub is_played : Verb → Bool
+is_played Motes = true
+is_played Golden = true
+is_played Boards = PLAYS_BOARDS
+is_played Link = PLAYS_LINK
+is_played Image = true
+is_played Tick = true
+is_played Hear = PLAYS_HEAR
+is_played Last = PLAYS_LAST
+is_played Reset = true
+is_played Inject = true
+is_played Order = true
+is_played Frame = PLAYS_FRAME
+is_played Cut = true
+is_played Round = PLAYS_ROUND
+is_played Sweeps = PLAYS_SWEEPS
+
+-- the verbs of events, one of which follows a cut
+abbrev pub is_event_verb : Verb → Bool
+is_event_verb Motes = false
+is_event_verb Golden = false
+is_event_verb Boards = false
+is_event_verb Link = false
+is_event_verb Image = false
+is_event_verb Tick = true
+is_event_verb Hear = true
+is_event_verb Last = true
+is_event_verb Reset = true
+is_event_verb Inject = true
+is_event_verb Order = true
+is_event_verb Frame = true
+is_event_verb Cut = false
+is_event_verb Round = false
+is_event_verb Sweeps = false
+
+-- The first line that says something is `motes`, and the second is `golden` or `boards`. These come once. Links come before the first event, round or sweep.
+abbrev pub is_second : Place → Bool
+is_second place = nat_lt 0 place.motes && not place.ready
+
+abbrev pub is_later : Place → Bool
+is_later place = nat_lt 0 place.motes && place.ready
+
+abbrev pub stands : Verb → Place → Bool
+stands Motes place = place.motes == 0
+stands Golden place = is_second place
+stands Boards place = is_second place
+stands Link place = is_later place && not place.events
+stands Image place = is_later place
+stands Tick place = is_later place
+stands Hear place = is_later place
+stands Last place = is_later place
+stands Reset place = is_later place
+stands Inject place = is_later place
+stands Order place = is_later place
+stands Frame place = is_later place
+stands Cut place = is_later place
+stands Round place = is_later place
+stands Sweeps place = is_later place
+
+-- no cut waits, or this is the event for which it waits
+abbrev pub follows : Verb → Place → Bool
+follows verb place = if place.cut then is_event_verb verb else true
+
+-- a line of the verb stands at its place, which is told before what follows a cut
+unfoldable pub standing : Verb → Place → Result (Unit {0}) LineFault
+standing verb place = allowed_if (stands verb place) fault.Place >>= λ u. allowed_if (follows verb place) fault.Cut
+
+-- the verb of a word
+abbrev pub verb_among : List Verb → List ℕ → Option Verb
+verb_among [] word = None
+verb_among (verb ∷ verbs) word = if same word (word_of verb) then Some verb else verb_among verbs word
+
+abbrev pub event_verb_of : List ℕ → Option Verb
+event_verb_of = verb_among (Tick ∷ Last ∷ Hear ∷ Frame ∷ Reset ∷ Inject ∷ Order ∷ [])
+
+abbrev pub other_verb_of : List ℕ → Option Verb
+other_verb_of = verb_among (Round ∷ Sweeps ∷ Cut ∷ Image ∷ Link ∷ Golden ∷ Boards ∷ Motes ∷ [])
+
+abbrev pub or_else : Option Verb → Option Verb → Option Verb
+or_else (Some verb) other = Some verb
+or_else None other = other
+
+unfoldable pub verb_of : List ℕ → Option Verb
+verb_of word = or_else (event_verb_of word) (other_verb_of word)

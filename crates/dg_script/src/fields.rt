@@ -1,0 +1,121 @@
+//! The fields of lines.
+ghost use Rattle.std.specs.Prelude.{◌≡◌, ◌≤◌, ◌<◌, ◌^◌, IfOk};
+ghost use Rattle.dg_script.specs.Fields.{number_in, ranged_in, motes_in, mote_in, other_in, image_in, any_image_in, version_in, counted_in, used_in, sweeps_in};
+
+use crate::fault::LineFault;
+use dg_base::parse_u32;
+use dg_object::SLOTS;
+
+/// The most motes of a script.
+const MOST_MOTES: u32 = 16;
+
+/// The most commits that are told as spent.
+const MOST_USED: u32 = 520_223;
+
+/// The most sweeps of one line.
+const MOST_SWEEPS: u32 = 1_000;
+
+/// A number.
+#[tactic(auto, unfolding(crate::specs::Fields::number_in))]
+pub fn number(word: &[u8]) -> Result<u32, LineFault>
+    ensures { result ≡ number_in word.now }
+{
+    match parse_u32(word) {
+        Some(number) => Ok(number),
+        None => Err(LineFault::Number),
+    }
+}
+
+// A number from least to most, which has a fault outside of them.
+#[tactic(auto, unfolding(crate::specs::Fields::ranged_in))]
+fn ranged(word: &[u8], least: u32, most: u32, fault: LineFault) -> Result<u32, LineFault>
+    ensures read { result ≡ ranged_in fault least most word.now }
+    ensures low { IfOk result (λ n. least ≤ n) }
+    ensures high { IfOk result (λ n. n ≤ most) }
+{
+    let number = number(word)?;
+    if number < least {
+        return Err(fault);
+    }
+    if number > most {
+        return Err(fault);
+    }
+    Ok(number)
+}
+
+/// How many motes there are, 1 to 16.
+pub fn motes(word: &[u8]) -> Result<u8, LineFault>
+    ensures { result ≡ motes_in word.now }
+{
+    let motes = ranged(word, 1, MOST_MOTES, LineFault::Mote)?;
+    Ok(motes as u8)
+}
+
+/// One of so many motes.
+#[tactic(auto, unfolding(crate::specs::Fields::mote_in))]
+pub fn mote(word: &[u8], motes: u8) -> Result<u8, LineFault>
+    ensures { result ≡ mote_in motes word.now }
+{
+    let number = number(word)?;
+    if number >= u32::from(motes) {
+        return Err(LineFault::Mote);
+    }
+    Ok(number as u8)
+}
+
+/// One of so many motes, but not `mote`.
+#[tactic(auto, unfolding(crate::specs::Fields::other_in))]
+pub fn other_mote(word: &[u8], motes: u8, first: u8) -> Result<u8, LineFault>
+    ensures { result ≡ other_in motes first word.now }
+{
+    let other = mote(word, motes)?;
+    if other == first {
+        return Err(LineFault::Mote);
+    }
+    Ok(other)
+}
+
+/// The number of an image that can be declared, 1 to 3.
+pub fn image_number(word: &[u8]) -> Result<u8, LineFault>
+    ensures { result ≡ image_in word.now }
+{
+    let image = ranged(word, 1, SLOTS as u32 - 1, LineFault::Image)?;
+    Ok(image as u8)
+}
+
+/// The number of an image, 0 to 3.
+pub fn any_image_number(word: &[u8]) -> Result<u8, LineFault>
+    ensures { result ≡ any_image_in word.now }
+{
+    let image = ranged(word, 0, SLOTS as u32 - 1, LineFault::Image)?;
+    Ok(image as u8)
+}
+
+/// A version, or the number of an order, from 1 on.
+pub fn version(word: &[u8]) -> Result<u32, LineFault>
+    ensures { result ≡ version_in word.now }
+{
+    ranged(word, 1, u32::MAX, LineFault::Version)
+}
+
+/// The number of a frame or of an operation, from 1 on.
+pub fn counted(word: &[u8]) -> Result<u32, LineFault>
+    ensures read { result ≡ counted_in word.now }
+    ensures some { IfOk result (λ n. 1 ≤ n) }
+{
+    ranged(word, 1, u32::MAX, LineFault::Number)
+}
+
+/// How many commits are told as spent, up to 520,223.
+pub fn used(word: &[u8]) -> Result<u32, LineFault>
+    ensures { result ≡ used_in word.now }
+{
+    ranged(word, 0, MOST_USED, LineFault::Number)
+}
+
+/// How many sweeps, 1 to 1,000.
+pub fn sweeps(word: &[u8]) -> Result<u32, LineFault>
+    ensures { result ≡ sweeps_in word.now }
+{
+    ranged(word, 1, MOST_SWEEPS, LineFault::Number)
+}

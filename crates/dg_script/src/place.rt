@@ -1,0 +1,103 @@
+//! Where a line stands.
+ghost use Rattle.std.specs.Prelude.{◌≡◌, ℕ, List, OnOk, OnErr};
+ghost use Rattle.dg_script.specs.Places.{first_place, place_after, fault_at_end, is_linked, joins};
+
+use crate::fault::LineFault;
+use crate::line::Line;
+use dg_base::Pairs;
+use std::alloc::{AllocError, Global};
+
+/// Where a line stands: what the lines before it said decides which line may come.
+#[derive(Debug, Drop)]
+pub struct Place {
+    /// How many motes there are, 0 before the first line says it.
+    pub motes: u8,
+    /// Whether the second line was read, which formats the boards or uses them as they are.
+    pub ready: bool,
+    /// Whether an event, a round or a sweep was read.
+    pub events: bool,
+    /// Whether a cut waits for its event.
+    pub cut: bool,
+    /// The links so far.
+    pub links: Pairs,
+}
+
+impl Place {
+    /// The place of the first line.
+    pub fn first(alloc: Global) -> Place
+        ensures { result ≡ first_place }
+    {
+        Place {
+            motes: 0,
+            ready: false,
+            events: false,
+            cut: false,
+            links: Pairs::new(Vec::new(alloc)),
+        }
+    }
+
+    /// Goes on to the place behind a line. Without memory nothing changes.
+    pub fn pass(&mut self, line: &Line) -> Result<(), AllocError>
+        ensures ok { OnOk result (self.new ≡ place_after self.old line.now) }
+        ensures err { OnErr result (self.new ≡ self.old) }
+    {
+        match line {
+            Line::Nothing => Ok(()),
+            Line::Motes(motes) => {
+                self.motes = *motes;
+                Ok(())
+            }
+            Line::Golden { .. } => {
+                self.ready = true;
+                Ok(())
+            }
+            Line::Boards => {
+                self.ready = true;
+                Ok(())
+            }
+            Line::Link(a, b) => self.links.push((*a, *b)),
+            Line::Image { .. } => Ok(()),
+            Line::Cut(_) => {
+                self.cut = true;
+                Ok(())
+            }
+            Line::Happens(_) => {
+                self.events = true;
+                self.cut = false;
+                Ok(())
+            }
+            Line::Round(_, _) => {
+                self.events = true;
+                Ok(())
+            }
+            Line::Sweeps(_) => {
+                self.events = true;
+                Ok(())
+            }
+        }
+    }
+
+    /// The fault of an input that ends here: its second line is missing, or the event behind a cut.
+    pub fn end_fault(&self) -> Option<LineFault>
+        ensures { result ≡ fault_at_end self.now }
+    {
+        if !self.ready {
+            return Some(LineFault::Place);
+        }
+        if self.cut { Some(LineFault::Cut) } else { None }
+    }
+
+    /// Whether there is a link between two motes.
+    pub(crate) fn is_linked(&self, a: u8, b: u8) -> bool
+        ensures { result ≡ is_linked self.now.links a b }
+    {
+        self.links.as_slice().iter().any(|link| joins(*link, a, b))
+    }
+}
+
+// Whether a link joins two motes, in either order.
+fn joins(link: (u8, u8), a: u8, b: u8) -> bool
+    ensures { result ≡ joins a b link }
+{
+    (link.0 == a && link.1 == b) || (link.0 == b && link.1 == a)
+}

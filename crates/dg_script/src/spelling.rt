@@ -1,0 +1,78 @@
+//! Writes lines of fields.
+ghost use Rattle.std.specs.Prelude.{◌≡◌, ◌∷◌, ◌++◌, [], ◌≤◌, length, OnOk, OnErr};
+ghost use Rattle.dg_script.specs.Spelling.{content_text, field_text, fields_text, IsFrontOf};
+
+use dg_base::{push_hex, push_u32};
+use std::alloc::AllocError;
+
+/// A field of a line.
+#[derive(Clone, Copy)]
+pub enum Field<'a> {
+    /// Bytes as they are.
+    Word(&'a [u8]),
+    /// A number in decimal.
+    Number(u32),
+    /// Bytes as hex digits.
+    Digits(&'a [u8]),
+    /// Bytes as a content.
+    Content(&'a [u8]),
+}
+
+// Appends a content.
+fn push_content(out: &mut Vec<u8>, bytes: &[u8]) -> Result<(), AllocError>
+    ensures ok { OnOk result (out.new.items ≡ out.old.items ++ content_text bytes.now) }
+    ensures err { OnErr result (IsFrontOf out.new.items (out.old.items ++ (content_text bytes.now))) }
+    ensures kept { length out.old.items ≤ length out.new.items }
+{
+    out.extend_from_slice(b"hex:")?;
+    push_hex(out, bytes)
+}
+
+// Appends a field.
+#[tactic(auto, using(crate::proofs::FrontLemmas::front_none))]
+fn push_field(out: &mut Vec<u8>, field: Field) -> Result<(), AllocError>
+    ensures ok { OnOk result (out.new.items ≡ out.old.items ++ field_text field.entry) }
+    ensures err { OnErr result (IsFrontOf out.new.items (out.old.items ++ (field_text field.entry))) }
+    ensures kept { length out.old.items ≤ length out.new.items }
+{
+    match field {
+        Field::Word(word) => out.extend_from_slice(word),
+        Field::Number(number) => push_u32(out, number),
+        Field::Digits(bytes) => push_hex(out, bytes),
+        Field::Content(bytes) => push_content(out, bytes),
+    }
+}
+
+// Appends a field behind a space.
+fn push_behind(out: &mut Vec<u8>, field: Field) -> Result<(), AllocError>
+    ensures ok { OnOk result (out.new.items ≡ out.old.items ++ 32 ∷ field_text field.entry) }
+    ensures err { OnErr result (IsFrontOf out.new.items (out.old.items ++ (32 ∷ field_text field.entry))) }
+    ensures kept { length out.old.items ≤ length out.new.items }
+{
+    out.push(b' ')?;
+    push_field(out, field)
+}
+
+// Appends fields, each behind a space.
+fn push_fields(out: &mut Vec<u8>, fields: &[Field]) -> Result<(), AllocError>
+    ensures ok { OnOk result (out.new.items ≡ out.old.items ++ fields_text fields.now) }
+    ensures err { OnErr result (IsFrontOf out.new.items (out.old.items ++ (fields_text fields.now))) }
+    ensures kept { length out.old.items ≤ length out.new.items }
+{
+    for field in fields {
+        push_behind(out, *field)?;
+    }
+    Ok(())
+}
+
+/// Appends a word, the fields behind it, and LF. Without memory some front of them was appended.
+pub fn push_line(out: &mut Vec<u8>, word: &[u8], fields: &[Field]) -> Result<(), AllocError>
+    ensures ok { OnOk result (out.new.items ≡ out.old.items ++ (word.now ++ fields_text fields.now ++ 10 ∷ [])) }
+    ensures err { OnErr result (IsFrontOf out.new.items (out.old.items ++ (word.now ++ fields_text fields.now ++ 10 ∷ []))) }
+    ensures kept { length out.old.items ≤ length out.new.items }
+{
+    out.extend_from_slice(word)?;
+    push_fields(out, fields)?;
+    out.push(b'\n')?;
+    Ok(())
+}
