@@ -110,7 +110,7 @@ names_row rows table i e range honest some =
 
 -- ---- no packets
 
-none_in : (q : ℕ) → packet no_packets q ≡ None
+pub none_in : (q : ℕ) → packet no_packets q ≡ None
 unfolding no_packets
 none_in q = nothing packets q
   where
@@ -119,16 +119,16 @@ none_in q = nothing packets q
     nothing (suc n) zero = refl
     nothing (suc n) (suc q) = nothing n q
 
-no_places : length no_packets ≡ packets
+pub no_places : length no_packets ≡ packets
 unfolding no_packets
 no_places = length-replicate {A = Option (List ℕ)} packets None
 
-none_came : set.len (came no_packets) ≡ 0
+pub none_came : set.len (came no_packets) ≡ 0
 none_came =
     ap set.len (same_numbers (came no_packets) set.empty (λ q. came_has no_packets q ∙ ap (λ o. is_some o && nat_lt q packets) (none_in q) ∙ sym (contains-none q)))
     ∙ set.len-empty nat_cmp
 
-no_packet : (q : ℕ) (bytes : List ℕ) → packet no_packets q ≡ Some bytes → ⊥
+pub no_packet : (q : ℕ) (bytes : List ℕ) → packet no_packets q ≡ Some bytes → ⊥
 no_packet q bytes e = let none : packet no_packets q ≡ None = none_in q in cc
 
 -- ---- what is promised below

@@ -4,13 +4,15 @@ use Rattle.std.specs.Prelude.{◌==◌, nat_lt, nat_le}
 use Rattle.std.specs.FinSet as set
 use Rattle.std.specs.Ordering.{nat_cmp}
 use Rattle.std.proofs.lemmas.Bool.{and_parts, false≢true}
+use Rattle.std.proofs.Math.ListN.{length-set}
 use Rattle.std.proofs.lemmas.List.Elements.{All-get_or}
 use Rattle.std.proofs.lemmas.Bool.Decides.{nat_tests}
 use Rattle.dg_nor.specs.Chip.{Touches}
 use Rattle.dg_nor.specs.Device.{Device, Ran, Halts}
 use Rattle.dg_nor.specs.Trail.{Trail, last, last_of, delayed, rest_of, joined, resting}
 use Rattle.dg_nor.proofs.ChipLemmas.{Touches_wider}
-use Rattle.dg_nor.proofs.TrailLemmas.{last-resting, last-joined, EachWorks-resting, Halted-joined_second}
+use Rattle.dg_nor.proofs.DeviceLemmas.{Ran-none}
+use Rattle.dg_nor.proofs.TrailLemmas.{last-resting, last-joined, EachWorks-resting, EachWorks-joined, Halted-joined_second}
 use Rattle.dg_trickle.specs.Timer.{Timer}
 use Rattle.dg_recv.specs.Reception.{Reception}
 use Rattle.dg_recv.specs.Steps.{begun}
@@ -30,17 +32,12 @@ use Rattle.dg_volume.specs.Sizes.{images}
 use Rattle.dg_volume.specs.Store.{Store, held, IsNear}
 use Rattle.dg_volume.specs.Stands.{Stands, Mounted, NothingLent, is_lent}
 use Rattle.dg_volume.specs.Changes.{is_version, order_refusal, stale_or_worn, take_refusal}
+use Rattle.dg_volume.specs.Ends.{taken}
 use Rattle.dg_volume.specs.Acts.{Acted, Stops}
 use Rattle.dg_volume.specs.Trails.{BeginsAt, order_trail, take_trail, done_of}
 use Rattle.dg_volume.specs.declared.volume.TakeFault.{TakeFault}
 use Rattle.dg_volume.specs.declared.volume.TakeFault.TheVariants as take_fault
 use Rattle.dg_volume.specs.declared.volume.Volume.{Volume}
-use Rattle.dg_volume.proofs.ActLemmas.{acted_none, acted_then, stops_first}
-use Rattle.dg_volume.proofs.BeginLemmas.{begins_resting, begins_committing, begins_joined, take_begins}
-use Rattle.dg_volume.proofs.BehindLemmas.{told_but, slot_same}
-use Rattle.dg_volume.proofs.InjectLemmas.{take_held}
-use Rattle.dg_volume.proofs.PagedLemmas.{fill_stops}
-use Rattle.dg_volume.proofs.TakeLemmas.{rest_acted}
 use Rattle.dg_mote.specs.Model.{MoteState, Mode, Maintain, came}
 use Rattle.dg_mote.specs.Summary.{no_entry, entry_for, is_own, ahead_of, ahead_in}
 use Rattle.dg_mote.specs.Adverts.{outline, heed_trail, ask_trail, asks, asking, noting, by_ahead, behind, advert_heard}
@@ -50,6 +47,9 @@ use Rattle.dg_mote.specs.declared.mote.Heard.TheVariants as heard
 use Rattle.dg_mote.specs.declared.mote.Mote.{Mote}
 use Rattle.dg_mote.specs.declared.mote.Mode.{Mode as ModeValue}
 use Rattle.dg_mote.specs.declared.mote.Mode.TheVariants as value
+use Rattle.dg_mote.proofs.LentLemmas.{SlotStays, FillingStops, TakeEnds, TakenHeld, TakeBegins, rest_acted, acted_then, stops_first}
+use Rattle.dg_mote.proofs.ModeLemmas.{mounted_but}
+use Rattle.dg_mote.proofs.BeginLemmas.{resting_begins}
 use Rattle.dg_mote.proofs.CameLemmas.{came_has}
 use Rattle.dg_mote.proofs.ServeLemmas.{chosen, passed}
 
@@ -71,14 +71,6 @@ order_free s order e =
     let better : s.order.number < order.number = grind (arith, nat_tests) in
     let room : 1 ≤ s.room = grind (arith, nat_tests) in
     passed (nat_le order.number s.order.number) _ _ (grind (arith, nat_tests)) ∙ passed (s.room == 0) _ _ (grind (arith, nat_tests))
-
-pub heed_begins : (s : Store) (order : Order) → BeginsAt s (heed_trail s order)
-unfolding heed_trail
-heed_begins s order = by_test (is_heeded s order)
-  where
-    by_test : (b : Bool) → BeginsAt s (cond b (order_trail s order) (resting s 0))
-    by_test true = begins_committing s _
-    by_test false = begins_resting s 0
 
 -- ---- a slot that is opened
 
@@ -123,7 +115,7 @@ opened_kept s i e a w o may is m image open_by =
     let keeps = keeps_version_of s i e may is in
     let trail : resting s 0 ≡ slot_trail s i e = sym (chosen (is_version (held s i) e.version) _ _ is) in
     let Both : Trail Store → Type 0 = λ t. Acted t a a w × Opened a.image (last t) i e o in
-    subst Both trail (acted_none s a w m, subst (λ (x : Store). Opened a.image x i e o) (sym (last-resting s 0)) (record { of_image = image; kept = keeps.kept; held_here = keeps.held_here; version = keeps.version; more = keeps.more; stands = open_by keeps.kept keeps.held_here }))
+    subst Both trail (rest_acted s 0 a a w m (Ran-none a), subst (λ (x : Store). Opened a.image x i e o) (sym (last-resting s 0)) (record { of_image = image; kept = keeps.kept; held_here = keeps.held_here; version = keeps.version; more = keeps.more; stands = open_by keeps.kept keeps.held_here }))
 
 taking_by : (s : Store) (i : ℕ) (e : Entry) (o : Option Held) → is_version o e.version ≡ false → ahead_of e o ≡ true → is_version o e.version || nat_le 2 s.room ≡ true → stale_or_worn o e.version s ≡ None
 taking_by s i e None none ahead free =
@@ -145,13 +137,16 @@ take_free s i e may none =
     let some = may.not_golden in
     passed (i == 0) _ _ (grind (arith, nat_tests)) ∙ taking_by s i e (held s i) none may.ahead may.free
 
-pub opened_taken : (s : Store) (i : ℕ) (e : Entry) (a b : Device) (w : Volume) (o : OpenSlot) → MayTake s i e → is_version (held s i) e.version ≡ false → Acted (take_trail s (outline i e)) a b w → outline_told o ≡ outline i e → IsOpen b.image o (held_begun (outline i e))
+pub opened_taken : TakeEnds → TakenHeld → (s : Store) (i : ℕ) (e : Entry) (a b : Device) (w : Volume) (o : OpenSlot) → MayTake s i e → is_version (held s i) e.version ≡ false → Acted (take_trail s (outline i e)) a b w → outline_told o ≡ outline i e → IsOpen b.image o (held_begun (outline i e))
     → Acted (slot_trail s i e) a b w × Opened b.image (last (slot_trail s i e)) i e o
-opened_taken s i e a b w o may none acted same opened =
+opened_taken ends begun_held s i e a b w o may none acted same opened =
     let p = outline i e in
     let trail : take_trail s p ≡ slot_trail s i e = sym (passed (is_version (held s i) e.version) _ _ none) in
     let Both : Trail Store → Type 0 = λ t. Acted t a b w × Opened b.image (last t) i e o in
-    subst Both trail (acted, record { of_image = ap (λ (x : Outline). x.image) same; kept = held_begun p; held_here = take_held b.image w s p may.known acted.mounted; version = refl; more = omega (arith, may.tells.pages); stands = opened })
+    let count : length (taken s p).kept ≡ images = subst (λ (x : Store). length x.kept ≡ images) (ends s p) acted.mounted.stands.contains.count in
+    let kept : length s.kept ≡ images = sym (length-set s.kept i (Some (held_begun p))) ∙ count in
+    let here : held (last (take_trail s p)) i ≡ Some (held_begun p) = ap (λ (x : Store). held x i) (ends s p) ∙ begun_held s p (omega (arith, kept, may.known)) in
+    subst Both trail (acted, record { of_image = ap (λ (x : Outline). x.image) same; kept = held_begun p; held_here = here; version = refl; more = omega (arith, may.tells.pages); stands = opened })
 
 pub taken_stops : (s : Store) (i : ℕ) (e : Entry) (a b : Device) → is_version (held s i) e.version ≡ false → Stops (take_trail s (outline i e)) a b → Stops (slot_trail s i e) a b
 taken_stops s i e a b none stops = subst (λ (t : Trail Store). Stops t a b) (sym (passed (is_version (held s i) e.version) _ _ none)) stops
@@ -181,33 +176,33 @@ pub record Erased (c d : List ℕ) (w : Volume) (x : Store) (i : ℕ) (h : Held)
   pub keeps : KeepsImage d i h
   pub mounted : Mounted d w x
 
-pub erased_in : (c d : List ℕ) (w : Volume) (x : Store) (i : ℕ) (e : Entry) (o : OpenSlot) → 1 ≤ i → i < images → (opened : Opened c x i e o) → Mounted c w x → PageErased c d o → Erased c d w x i opened.kept
-erased_in c d w x i e o low known opened m erased =
+pub erased_in : SlotStays → (c d : List ℕ) (w : Volume) (x : Store) (i : ℕ) (e : Entry) (o : OpenSlot) → 1 ≤ i → i < images → (opened : Opened c x i e o) → Mounted c w x → PageErased c d o → Erased c d w x i opened.kept
+erased_in stays c d w x i e o low known opened m erased =
     let h = opened.kept in
     let j = (outline_told o).image in
     let k = page_sector j (done_told o) in
     let wide : Touches (header_sector j) (slot_end j) c d = Touches_wider k (k + 1) (header_sector j) (slot_end j) erased.touches (omega arith) (omega (arith, opened.stands.opens.done, opened.more, opened.stands.keeps.header.most)) in
     let touches : Touches (header_sector i) (slot_end i) c d = subst (λ (n : ℕ). Touches (header_sector n) (slot_end n) c d) opened.of_image wide in
     let keeps : KeepsImage d i h = subst (λ (n : ℕ). KeepsImage d n h) opened.of_image (erased.kept h opened.stands).keeps in
-    record { touches = touches; keeps = keeps; mounted = slot_same (λ n. ⊥) c d w x i h low known opened.held_here touches keeps m }
+    record { touches = touches; keeps = keeps; mounted = stays c d w x i h low known opened.held_here touches keeps m }
 
-pub ask_begun : (s : Store) (i : ℕ) (e : Entry) (a b d : Device) (w : Volume) (o : OpenSlot) (job : PageJob) → MayTake s i e → Acted (slot_trail s i e) a b w → (opened : Opened b.image (last (slot_trail s i e)) i e o) → PageErased b.image d.image o → Ran 1 b d → slot_of job ≡ o
+pub ask_begun : SlotStays → (s : Store) (i : ℕ) (e : Entry) (a b d : Device) (w : Volume) (o : OpenSlot) (job : PageJob) → MayTake s i e → Acted (slot_trail s i e) a b w → (opened : Opened b.image (last (slot_trail s i e)) i e o) → PageErased b.image d.image o → Ran 1 b d → slot_of job ≡ o
     → ((h : Held) → IsOpen b.image o h → IsJob d.image job h no_packets) → Acted (ask_trail s i e) a d w × Begun d.image (last (ask_trail s i e)) i e job
-ask_begun s i e a b d w o job may acted opened erased ran same begins =
+ask_begun stays s i e a b d w o job may acted opened erased ran same begins =
     let t = slot_trail s i e in
     let x = last t in
-    let inside = erased_in b.image d.image w x i e o may.not_golden may.known opened acted.mounted erased in
+    let inside = erased_in stays b.image d.image w x i e o may.not_golden may.known opened acted.mounted erased in
     let whole : Acted (joined t (resting x 1)) a d w = acted_then t (resting x 1) a b d w w refl acted (rest_acted x 1 b d w inside.mounted ran) in
     let ends : last (joined t (resting x 1)) ≡ x = last-joined t (resting x 1) refl ∙ last-resting x 1 in
     let begun_here : Begun d.image x i e job = record { of_image = ap (λ (p : OpenSlot). (outline_told p).image) same ∙ opened.of_image; kept = opened.kept; held_here = opened.held_here; version = opened.version; stands = begins opened.kept opened.stands } in
     subst (λ (u : Trail Store). Acted u a d w × Begun d.image (last u) i e job) (sym (ask_is s i e)) (whole, subst (λ (y : Store). Begun d.image y i e job) (sym ends) begun_here)
 
-pub ask_stops_then : (s : Store) (i : ℕ) (e : Entry) (a b d : Device) (w : Volume) (o : OpenSlot) → MayTake s i e → Acted (slot_trail s i e) a b w → Opened b.image (last (slot_trail s i e)) i e o → PageErased b.image d.image o → Halts 1 0 b d → Stops (ask_trail s i e) a d
-ask_stops_then s i e a b d w o may acted opened erased halts =
+pub ask_stops_then : SlotStays → FillingStops → (s : Store) (i : ℕ) (e : Entry) (a b d : Device) (w : Volume) (o : OpenSlot) → MayTake s i e → Acted (slot_trail s i e) a b w → Opened b.image (last (slot_trail s i e)) i e o → PageErased b.image d.image o → Halts 1 0 b d → Stops (ask_trail s i e) a d
+ask_stops_then stays stops_by s i e a b d w o may acted opened erased halts =
     let t = slot_trail s i e in
     let x = last t in
-    let inside = erased_in b.image d.image w x i e o may.not_golden may.known opened acted.mounted erased in
-    let stops : Stops (resting x 1) b d = fill_stops 1 0 b d w x i opened.kept may.not_golden may.known opened.held_here inside.touches inside.keeps (told_but b.image w x i acted.mounted) halts in
+    let inside = erased_in stays b.image d.image w x i e o may.not_golden may.known opened acted.mounted erased in
+    let stops : Stops (resting x 1) b d = stops_by 1 0 b d w x i opened.kept may.not_golden may.known opened.held_here inside.touches inside.keeps (mounted_but b.image w x acted.mounted) halts in
     subst (λ (u : Trail Store). Stops u a d) (sym (ask_is s i e)) (Halted-joined_second Stands IsNear t (resting x 1) refl acted.ran stops)
 
 -- ---- the mote asks
@@ -297,26 +292,30 @@ follows_asking m timer s now word source i entries e own found is can =
 
 -- ---- an advert that is weighed
 
-slot_begins : (s : Store) (i : ℕ) (e : Entry) → BeginsAt s (slot_trail s i e)
-slot_begins s i e = by_version (is_version (held s i) e.version)
+slot_begins : TakeBegins → (s : Store) (i : ℕ) (e : Entry) → BeginsAt s (slot_trail s i e)
+slot_begins takes s i e = by_version (is_version (held s i) e.version)
   where
     by_version : (b : Bool) → BeginsAt s (cond b (resting s 0) (take_trail s (outline i e)))
-    by_version true = begins_resting s 0
-    by_version false = take_begins s (outline i e)
+    by_version true = resting_begins s 0
+    by_version false = takes s (outline i e)
 
-ask_begins : (s : Store) (i : ℕ) (e : Entry) → BeginsAt s (ask_trail s i e)
-ask_begins s i e = subst (BeginsAt s) (sym (ask_is s i e)) (begins_joined s (slot_trail s i e) (resting (last (slot_trail s i e)) 1) (slot_begins s i e) (EachWorks-resting (last (slot_trail s i e)) 1))
+ask_begins : TakeBegins → (s : Store) (i : ℕ) (e : Entry) → BeginsAt s (ask_trail s i e)
+unfolding joined
+ask_begins takes s i e =
+    let t = slot_trail s i e in
+    let first = slot_begins takes s i e in
+    subst (BeginsAt s) (sym (ask_is s i e)) (record { first = first.first; works = EachWorks-joined t (resting (last t) 1) first.works (EachWorks-resting (last t) 1) })
 
 noting_begins : (m : MoteState) (timer : Timer) (s : Store) (now word : ℕ) (own : Bool) → BeginsAt s (noting m timer s now word own).trail
-noting_begins m timer s now word true = begins_resting s 0
-noting_begins m timer s now word false = begins_resting s 0
+noting_begins m timer s now word true = resting_begins s 0
+noting_begins m timer s now word false = resting_begins s 0
 
-pub follow_begins : (o : Option ℕ) (m : MoteState) (timer : Timer) (s : Store) (now word source : ℕ) (entries : List Entry) (own : Bool) → BeginsAt s (by_ahead o m timer s now word source entries own).trail
-follow_begins None m timer s now word source entries own = noting_begins m timer s now word own
-follow_begins (Some i) m timer s now word source entries own = by_test (asks m s now i (entry_for entries i))
+pub follow_begins : TakeBegins → (o : Option ℕ) (m : MoteState) (timer : Timer) (s : Store) (now word source : ℕ) (entries : List Entry) (own : Bool) → BeginsAt s (by_ahead o m timer s now word source entries own).trail
+follow_begins takes None m timer s now word source entries own = noting_begins m timer s now word own
+follow_begins takes (Some i) m timer s now word source entries own = by_test (asks m s now i (entry_for entries i))
   where
     by_test : (b : Bool) → BeginsAt s (cond b (asking m s now word source i (entry_for entries i)) (noting m timer s now word own)).trail
-    by_test true = ask_begins s i (entry_for entries i)
+    by_test true = ask_begins takes s i (entry_for entries i)
     by_test false = noting_begins m timer s now word own
 
 maintains_still : (c d : List ℕ) (v w : Volume) (s t : Store) (timer : Timer) (x : ModeValue) → NothingLent w → ModeStands c v s x (Maintain timer) → ModeStands d w t x (Maintain timer)

@@ -18,7 +18,7 @@ use Rattle.dg_recv.specs.declared.TheConstants.{NEXT_WAIT}
 use Rattle.dg_trickle.specs.Timer.{Timer}
 use Rattle.dg_trickle.specs.Steps.{started}
 use Rattle.dg_slot.specs.Layout.{packets, header_sector, slot_end}
-use Rattle.dg_slot.specs.Kept.{Held, KeepsImage, kept_crc}
+use Rattle.dg_slot.specs.Kept.{Held, with_page, KeepsImage, kept_crc}
 use Rattle.dg_slot.specs.Fits.{may_seal, first_fits}
 use Rattle.dg_slot.specs.Jobs.{Opens, IsOpen, IsJob, Packets, packet, put_packet, page_from, outline_told, slot_of, got_told, sector_of, slot_in, Seals}
 use Rattle.dg_slot.specs.declared.states.OpenSlot.{OpenSlot}
@@ -33,10 +33,6 @@ use Rattle.dg_volume.specs.Changes.{paged}
 use Rattle.dg_volume.specs.Acts.{Acted, Stops}
 use Rattle.dg_volume.specs.Trails.{BeginsAt, sealing_trail}
 use Rattle.dg_volume.specs.declared.volume.Volume.{Volume}
-use Rattle.dg_volume.proofs.ActLemmas.{stops_first}
-use Rattle.dg_volume.proofs.BehindLemmas.{told_but, slot_same}
-use Rattle.dg_volume.proofs.TakeLemmas.{rest_acted}
-use Rattle.dg_volume.proofs.PagedLemmas.{page_mounted, fill_stops}
 use Rattle.dg_mote.specs.Model.{MoteState, Mode, Receive, Receiving, came, reception, maintains, Turn}
 use Rattle.dg_mote.specs.Adverts.{behind}
 use Rattle.dg_mote.specs.Packets.{accepted, seal_by, takes}
@@ -47,6 +43,8 @@ use Rattle.dg_mote.specs.declared.mote.Heard.TheVariants as heard
 use Rattle.dg_mote.specs.declared.mote.Mote.{Mote}
 use Rattle.dg_mote.specs.declared.mote.Mode.{Mode as ModeValue}
 use Rattle.dg_mote.specs.declared.mote.Mode.TheVariants as value
+use Rattle.dg_mote.proofs.LentLemmas.{SlotStays, Filling, FillingStops, PageCounts, PageHeld, rest_acted, stops_first}
+use Rattle.dg_mote.proofs.ModeLemmas.{mounted_but}
 use Rattle.dg_mote.proofs.CameLemmas.{came_has, came_few, came_all}
 use Rattle.dg_mote.proofs.ServeLemmas.{chosen, passed}
 
@@ -182,19 +180,19 @@ pub record InSlot (c : List ℕ) (v : Volume) (s : Store) (job : PageJob) (r : R
   pub keeps : (h : Held) → IsOpen c (slot_of job) h → KeepsImage d r.image h
   pub mounted : Mounted d v s
 
-pub in_slot : (c d : List ℕ) (v : Volume) (s : Store) (job : PageJob) (r : Receiving) → Receives c v s job r → Mounted c v s → Touches (sector_of job) (sector_of job + 1) c d → ((h : Held) → IsOpen c (slot_of job) h → IsOpen d (slot_of job) h) → InSlot c v s job r d
-in_slot c d v s job r receives m touches kept =
+pub in_slot : SlotStays → (c d : List ℕ) (v : Volume) (s : Store) (job : PageJob) (r : Receiving) → Receives c v s job r → Mounted c v s → Touches (sector_of job) (sector_of job + 1) c d → ((h : Held) → IsOpen c (slot_of job) h → IsOpen d (slot_of job) h) → InSlot c v s job r d
+in_slot stays c d v s job r receives m touches kept =
     let i = (outline_told (slot_of job)).image in
     let stands = receives.stands in
     let wide : Touches (header_sector i) (slot_end i) c d = Touches_wider (sector_of job) (sector_of job + 1) (header_sector i) (slot_end i) touches (omega arith) (omega (arith, stands.slot.opens.done, stands.more, stands.slot.keeps.header.most)) in
     let here : Touches (header_sector r.image) (slot_end r.image) c d = subst (λ (n : ℕ). Touches (header_sector n) (slot_end n) c d) receives.image wide in
     let known : r.image < images = omega (arith, slot_known job, receives.image) in
     let keeps : (h : Held) → IsOpen c (slot_of job) h → KeepsImage d r.image h = λ h o. subst (λ (n : ℕ). KeepsImage d n h) receives.image (kept h o).keeps in
-    record { known = known; touches = here; keeps = keeps; mounted = slot_same (λ n. ⊥) c d v s r.image receives.kept receives.not_golden known receives.held_here here (keeps receives.kept stands.slot) m }
+    record { known = known; touches = here; keeps = keeps; mounted = stays c d v s r.image receives.kept receives.not_golden known receives.held_here here (keeps receives.kept stands.slot) m }
 
-pub put_stops : (a b : Device) (v : Volume) (s : Store) (job : PageJob) (r : Receiving) → Receives a.image v s job r → Mounted a.image v s → InSlot a.image v s job r b.image → Halts 1 0 a b → Stops (resting s 1) a b
-put_stops a b v s job r receives m inside halts =
-    fill_stops 1 0 a b v s r.image receives.kept receives.not_golden inside.known receives.held_here inside.touches (inside.keeps receives.kept receives.stands.slot) (told_but a.image v s r.image m) halts
+pub put_stops : FillingStops → (a b : Device) (v : Volume) (s : Store) (job : PageJob) (r : Receiving) → Receives a.image v s job r → Mounted a.image v s → InSlot a.image v s job r b.image → Halts 1 0 a b → Stops (resting s 1) a b
+put_stops stops a b v s job r receives m inside halts =
+    stops 1 0 a b v s r.image receives.kept receives.not_golden inside.known receives.held_here inside.touches (inside.keeps receives.kept receives.stands.slot) (mounted_but a.image v s m) halts
 
 -- ---- by the code's mode
 
@@ -319,28 +317,29 @@ pub record Sealed (s : Store) (i : ℕ) (h : Held) (page : List ℕ) (a b : Devi
   pub fits_is : fits ≡ may_seal i h page
   pub acted : Acted (sealing_trail s i h page) a b w
 
-stays_acted : (s : Store) (a b : Device) (w : Volume) → Mounted b.image w s → Ran 0 a b → Acted (resting s 0) a b w
-stays_acted s a b w mounted ran = rest_acted s 0 a b w mounted ran
-
-unsealed : (o : OpenSlot) (a b : Device) (v w : Volume) (s : Store) (i : ℕ) (job : PageJob) (h : Held) (ps : Packets) → Mounted a.image v s → Fills a.image s i job h ps → Touches (header_sector i) (slot_end i) a.image b.image → outline_told o ≡ outline_told (slot_of job)
+unsealed : Filling → (o : OpenSlot) (a b : Device) (v w : Volume) (s : Store) (i : ℕ) (job : PageJob) (h : Held) (ps : Packets) → Mounted a.image v s → Fills a.image s i job h ps → Touches (header_sector i) (slot_end i) a.image b.image → outline_told o ≡ outline_told (slot_of job)
     → may_seal i h (page_from ps) ≡ false → IsOpen b.image o h → Ran 0 a b → ((t : Store) (g : Held) → MountedBut (λ j. j ≡ (outline_told o).image) b.image v t → held t (outline_told o).image ≡ Some g → Opens o g → Mounted b.image w t)
     → Sealed s i h (page_from ps) a b w false
-unsealed o a b v w s i job h ps m fills touches same unfit opened ran back =
+unsealed filling o a b v w s i job h ps m fills touches same unfit opened ran back =
     let known : i < images = omega (arith, slot_known job, fills.of_image) in
     let image : (outline_told o).image ≡ i = ap (λ (p : Outline). p.image) same ∙ fills.of_image in
     let keeps : KeepsImage b.image i h = subst (λ (n : ℕ). KeepsImage b.image n h) image opened.keeps in
-    let still : MountedBut (λ j. j ≡ i) b.image v s = slot_same (λ j. j ≡ i) a.image b.image v s i h fills.not_golden known fills.held_here touches keeps (told_but a.image v s i m) in
+    let still : MountedBut (λ j. j ≡ i) b.image v s = filling a.image b.image v s i h fills.not_golden known fills.held_here touches keeps (mounted_but a.image v s m) in
     let mounted : Mounted b.image w s = back s h (subst (λ (n : ℕ). MountedBut (λ j. j ≡ n) b.image v s) (sym image) still) (ap (held s) image ∙ fills.held_here) opened.opens in
-    record { fits_is = sym unfit; acted = subst (λ (t : Trail Store). Acted t a b w) (sym (passed (may_seal i h (page_from ps)) _ _ unfit)) (stays_acted s a b w mounted ran) }
+    record { fits_is = sym unfit; acted = subst (λ (t : Trail Store). Acted t a b w) (sym (passed (may_seal i h (page_from ps)) _ _ unfit)) (rest_acted s 0 a b w mounted ran) }
 
-pub sealed_ends : (answer : Sealing) (a b : Device) (v w : Volume) (s : Store) (i : ℕ) (job : PageJob) (h : Held) (ps : Packets) → Mounted a.image v s → Fills a.image s i job h ps → Touches (header_sector i) (slot_end i) a.image b.image → outline_told (slot_in answer) ≡ outline_told (slot_of job)
+pub sealed_ends : Filling → PageCounts → PageHeld → (answer : Sealing) (a b : Device) (v w : Volume) (s : Store) (i : ℕ) (job : PageJob) (h : Held) (ps : Packets) → Mounted a.image v s → Fills a.image s i job h ps → Touches (header_sector i) (slot_end i) a.image b.image → outline_told (slot_in answer) ≡ outline_told (slot_of job)
     → Seals i h (page_from ps) a b answer → ((t : Store) (g : Held) → MountedBut (λ j. j ≡ (outline_told (slot_in answer)).image) b.image v t → held t (outline_told (slot_in answer)).image ≡ Some g → Opens (slot_in answer) g → Mounted b.image w t)
     → Sealed s i h (page_from ps) a b w (is_sealed answer)
-sealed_ends (sealing.Sealed o) a b v w s i job h ps m fills touches same seals back =
+sealed_ends filling counts held_more (sealing.Sealed o) a b v w s i job h ps m fills touches same seals back =
     let page = page_from ps in
     let known : i < images = omega (arith, slot_known job, fills.of_image) in
     let image : (outline_told o).image ≡ i = ap (λ (p : Outline). p.image) same ∙ fills.of_image in
-    let mounted : Mounted b.image w (paged i page s) = page_mounted a.image b.image v w s i h page o fills.not_golden known image fills.held_here touches seals.1 m back in
+    let t = paged i page s in
+    let keeps : KeepsImage b.image i (with_page h page) = subst (λ (n : ℕ). KeepsImage b.image n (with_page h page)) image seals.1.keeps in
+    let but : MountedBut (λ j. j ≡ i) b.image v t = counts a.image b.image v s i h page fills.not_golden known fills.held_here touches keeps (mounted_but a.image v s m) in
+    let kept : held t i ≡ Some (with_page h page) = held_more s i h page (omega (arith, m.stands.contains.count)) fills.held_here in
+    let mounted : Mounted b.image w t = back t (with_page h page) (subst (λ (n : ℕ). MountedBut (λ j. j ≡ n) b.image v t) (sym image) but) (ap (held t) image ∙ kept) seals.1.opens in
     record {
       fits_is = sym seals.0;
       acted = subst (λ (t : Trail Store). Acted t a b w) (sym (chosen (may_seal i h page) _ _ seals.0)) (record {
@@ -348,10 +347,10 @@ sealed_ends (sealing.Sealed o) a b v w s i job h ps m fills touches same seals b
         mounted = subst (Mounted b.image w) (sym (last-stepping s 1 (paged i page s))) mounted;
       });
     }
-sealed_ends (sealing.Bad kept found o) a b v w s i job h ps m fills touches same seals back =
-    unsealed o a b v w s i job h ps m fills touches same (unfit_by (page_from ps) i found kept h seals.0 seals.1 seals.2) seals.3 seals.4.ran back
-sealed_ends (sealing.Unfit o) a b v w s i job h ps m fills touches same seals back =
-    unsealed o a b v w s i job h ps m fills touches same seals.1 seals.2 seals.3.ran back
+sealed_ends filling counts held_more (sealing.Bad kept found o) a b v w s i job h ps m fills touches same seals back =
+    unsealed filling o a b v w s i job h ps m fills touches same (unfit_by (page_from ps) i found kept h seals.0 seals.1 seals.2) seals.3 seals.4.ran back
+sealed_ends filling counts held_more (sealing.Unfit o) a b v w s i job h ps m fills touches same seals back =
+    unsealed filling o a b v w s i job h ps m fills touches same seals.1 seals.2 seals.3.ran back
 
 -- ---- how it ends
 

@@ -13,6 +13,7 @@ pub mod SealLemmas
 pub mod TimelyLemmas
 pub mod HereLemmas
 pub mod ServeLemmas
+pub mod LentLemmas
 pub mod ModeLemmas
 pub mod FillLemmas
 pub mod AskLemmas
@@ -29,3 +30,12 @@ pub mod SaidLemmas
 pub mod QuietLemmas
 pub mod SuppressLemmas
 pub mod RulesLemmas
+pub mod ComeLemmas
+pub mod ChangeLemmas
+pub mod RoundTicks
+pub mod RoundRestart
+pub mod RoundServe
+pub mod RoundDrain
+pub mod RoundAdvert
+pub mod RoundTake
+pub mod RoundAsk

@@ -62,7 +62,7 @@ timer_same t now m = (IsRunning-same t m.0, m.1)
 timer_other : (t : Timer) (now word : ℕ) → ModeTimely (Maintain t) now → ModeTimely (Maintain (after_other t now word)) now
 timer_other t now word m = (IsRunning-other t now word m.0, cond_both (nat_lt SHORTEST t.interval) _ t (λ x. x.begin ≤ now) (λ _. omega arith) (λ _. m.1))
 
-timer_ticks : (t : Timer) (now word : ℕ) → ModeTimely (Maintain t) now → ModeTimely (Maintain (after_tick t now word)) now
+pub timer_ticks : (t : Timer) (now word : ℕ) → ModeTimely (Maintain t) now → ModeTimely (Maintain (after_tick t now word)) now
 timer_ticks t now word m = (
   IsRunning-tick t now word m.0,
   cond_both (is_due t now) _ _ (λ (x : Timer). x.begin ≤ now) (λ _. m.1) (λ _. cond_both (is_over t now) _ t (λ (x : Timer). x.begin ≤ now) (λ _. omega arith) (λ _. m.1)),

@@ -12,6 +12,9 @@ pub mod Agreement
 pub mod Well
 pub mod Speaking
 pub mod Rules
+pub mod Spots
+pub mod Drained
+pub mod Completing
 pub mod Motes
 pub mod Hearing
 pub mod Shows

@@ -27,7 +27,10 @@ use dg_object::Profile;
 use dg_order::better;
 use dg_recv::Asking;
 use dg_slot::{OpenSlot, PageJob};
-use dg_volume::{Kept, OrderFault, TakeFault, Volume};
+use dg_volume::{
+    Kept, OrderFault, TakeFault, Volume, a_lent_slot_is_filled, acts_end, trails_begin,
+    what_stands_behind_the_commits,
+};
 
 /// The commits of a taking.
 const TAKE_COMMITS: u32 = 2;
@@ -83,6 +86,7 @@ impl Mote {
         ensures stopped { OnErr result ((m : MoteState) (s : Store) (timer : Timer) → IsMote (N.device nor.old).image self.old m s → m.mode ≡ Maintain timer
             → Stops (advert_heard m timer s now word source entries.now order.now).trail (N.device nor.old) (N.device nor.new)) }
     {
+        trails_begin();
         let same = would_say(&self.volume, entries, order);
         heed(nor, &mut self.volume, order)?;
         self.follow(nor, now, word, source, entries, same)
@@ -318,6 +322,8 @@ fn begin_page<N: Nor>(
     ensures stopped { OnErr result ((s : Store) → Mounted (N.device nor.old).image volume.old s → MayTake s image entry
         → Stops (ask_trail s image entry) (N.device nor.old) (N.device nor.new)) }
 {
+    what_stands_behind_the_commits();
+    a_lent_slot_is_filled();
     let slot = open(nor, volume, image, entry)?;
     slot.begin_page(nor)
 }
@@ -342,6 +348,7 @@ fn open<N: Nor>(
     if keeps_version(volume.kept(image), entry.version) {
         return Ok(volume.slot(image).unwrap());
     }
+    acts_end();
     let profile = Profile {
         image,
         version: entry.version,

@@ -11,6 +11,7 @@ mod mote;
 mod outbox;
 mod packets;
 mod requests;
+mod rounds;
 mod rules;
 mod summary;
 mod ticking;
@@ -21,8 +22,13 @@ pub use laws::{
 };
 pub use mote::{Did, Heard, Mode, Mote};
 pub use outbox::Outbox;
+pub use rounds::{
+    a_drained_mote_advertises, a_drained_mote_asks, a_drained_mote_serves, a_mote_drains,
+    a_page_comes,
+};
 pub use rules::{
-    a_frame_is_heard_in_silence, a_restart_is_for_the_order, an_equal_advert_keeps_a_mote_silent,
+    a_frame_is_heard_in_silence, a_page_comes_in_frames, a_restart_is_for_the_order,
+    an_advert_changes_one_image, an_equal_advert_keeps_a_mote_silent,
     an_overheard_frame_keeps_a_mote_from_asking, pages_are_handed_on_before_the_image_is_whole,
     requests_are_sets,
 };

@@ -27,7 +27,7 @@ use dg_nor::{Nor, Stopped};
 use dg_recv::Asking;
 use dg_slot::{OpenSlot, PageJob, Sealing};
 use dg_trickle::Trickle;
-use dg_volume::Volume;
+use dg_volume::{Volume, a_lent_slot_is_filled, what_stands_behind_the_commits};
 use std::mem;
 
 impl Mote {
@@ -91,6 +91,8 @@ impl Mote {
         ensures stopped { OnErr result ((m : MoteState) (s : Store) (r : Receiving) → IsMote (N.device nor.old).image self.old m s → m.mode ≡ Receive r
             → Stops (on_packet (Receive r) m s now word name.image name.version name.page packet bytes.now).trail (N.device nor.old) (N.device nor.new)) }
     {
+        what_stands_behind_the_commits();
+        a_lent_slot_is_filled();
         let Mode::Receive {
             version,
             asking,
@@ -187,6 +189,7 @@ fn seal<N: Nor>(nor: &mut N, volume: &mut Volume, job: PageJob) -> Result<bool, 
     ensures stopped { OnErr result ((s : Store) (image : ℕ) (h : Held) (ps : Packets) → Mounted (N.device nor.old).image volume.old s → Fills (N.device nor.old).image s image job h ps
         → Stops (sealing_trail s image h (page_from ps)) (N.device nor.old) (N.device nor.new)) }
 {
+    a_lent_slot_is_filled();
     let (fits, slot) = opened(job.seal(nor)?);
     volume.put_back(slot);
     Ok(fits)

@@ -2,7 +2,8 @@ use Rattle.std.proofs.Common.{◌≡◌, Err, sym, ap, subst, ◌∙◌}
 use Rattle.dg_nor.specs.Trail.{Trail}
 use Rattle.dg_volume.specs.Store.{Store}
 use Rattle.dg_volume.specs.Acts.{Acted, Stops}
-use Rattle.dg_volume.proofs.ActLemmas.{acted_none}
+use Rattle.dg_nor.proofs.DeviceLemmas.{Ran-none}
+use Rattle.dg_mote.proofs.LentLemmas.{rest_acted}
 use Rattle.dg_mote.proofs.AskLemmas.{heeded, unheeded, order_free}
 use Rattle.dg_mote.proofs.adverts.heed.Goals as goal
 
@@ -10,7 +11,7 @@ pub returns-then-not-heeds-clause-acted : goal.returns-then-not-heeds-clause-act
 returns-then-not-heeds-clause-acted g c s m =
     let a = g.N.Nor.device c.args.nor.now in
     let e = sym (c.heeds.ensures s m.tells) ∙ c.if-not-heeds.true in
-    subst (λ (t : Trail Store). Acted t a a c.args.volume.now) (sym (unheeded s c.args.order.now e)) (acted_none s a c.args.volume.now m)
+    subst (λ (t : Trail Store). Acted t a a c.args.volume.now) (sym (unheeded s c.args.order.now e)) (rest_acted s 0 a a c.args.volume.now m (Ran-none a))
 
 pub unreachable-requires : goal.unreachable-requires
 unreachable-requires g c =

@@ -58,7 +58,7 @@ returns-in-Ok-clause-opened g c s m may =
     let i = c.args.image in
     let e = sym (c.keeps_version.ensures (held s i) (c.kept.ensures ∙ m.tells.kept i may.known (λ x. x))) ∙ c.if-keeps_version.false in
     let open_now = c.in-Ok.ensures.open in
-    opened_taken s i c.args.entry a b c.take.new.self c.in-Ok.slot may e (c.in-Ok.ensures.acted s m) open_now.0 open_now.1
+    opened_taken c.acts_end.ensures.take c.acts_end.ensures.begun s i c.args.entry a b c.take.new.self c.in-Ok.slot may e (c.in-Ok.ensures.acted s m) open_now.0 open_now.1
 
 pub returns-in-Err-Stopped-clause-stopped : goal.returns-in-Err-Stopped-clause-stopped
 returns-in-Err-Stopped-clause-stopped g c s m may =

@@ -19,7 +19,7 @@ returns-in_err-heed-clause-stopped g c = OnErr_from c.from_residual.result (λ m
     let t = heed_trail s c.args.order.now in
     let rest = by_ahead (ahead_in c.args.entries.now (last t)) m timer (last t) c.args.now c.args.word c.args.source c.args.entries.now c.would_say-same.result in
     subst (λ (x : Turn Heard). Stops x.trail a b) (sym (advert_is m timer s c.args.now c.args.word c.args.source c.args.entries.now c.args.order.now c.would_say-same.result (c.would_say-same.ensures s is.mounted.tells)))
-    (stops_before t rest a b (follow_begins (ahead_in c.args.entries.now (last t)) m timer (last t) c.args.now c.args.word c.args.source c.args.entries.now c.would_say-same.result) (c.in_err-heed.ensures.stopped s is.mounted)))
+    (stops_before t rest a b (follow_begins c.trails_begin.ensures.take (ahead_in c.args.entries.now (last t)) m timer (last t) c.args.now c.args.word c.args.source c.args.entries.now c.would_say-same.result) (c.in_err-heed.ensures.stopped s is.mounted)))
 
 pub follow-requires-clause-mote : goal.follow-requires-clause-mote
 follow-requires-clause-mote g c =
@@ -41,7 +41,7 @@ returns-clause-done g c = if_ok c.follow.result c.follow.ensures.done (λ answer
     let rest = by_ahead (ahead_in c.args.entries.now (last t)) m timer (last t) c.args.now c.args.word c.args.source c.args.entries.now c.would_say-same.result in
     let acted = c.in_ok-heed.ensures.acted s is.mounted in
     let now_is = heed_mote a b c.args.self.now c.heed.new.volume m s timer c.args.order.now is mode acted c.heed.ensures.lent in
-    let begins = follow_begins (ahead_in c.args.entries.now (last t)) m timer (last t) c.args.now c.args.word c.args.source c.args.entries.now c.would_say-same.result in
+    let begins = follow_begins c.trails_begin.ensures.take (ahead_in c.args.entries.now (last t)) m timer (last t) c.args.now c.args.word c.args.source c.args.entries.now c.would_say-same.result in
     subst (λ (x : Turn Heard). Done x a d c.follow.new.self answer) (sym (advert_is m timer s c.args.now c.args.word c.args.source c.args.entries.now c.args.order.now c.would_say-same.result (c.would_say-same.ensures s is.mounted.tells)))
     (done_behind t rest a b d c.follow.new.self answer (sym begins.first) acted.ran (done m (last t) timer now_is mode)))
 
@@ -54,6 +54,6 @@ returns-clause-stopped g c = on_err c.follow.result c.follow.ensures.stopped (λ
     let rest = by_ahead (ahead_in c.args.entries.now (last t)) m timer (last t) c.args.now c.args.word c.args.source c.args.entries.now c.would_say-same.result in
     let acted = c.in_ok-heed.ensures.acted s is.mounted in
     let now_is = heed_mote a b c.args.self.now c.heed.new.volume m s timer c.args.order.now is mode acted c.heed.ensures.lent in
-    let begins = follow_begins (ahead_in c.args.entries.now (last t)) m timer (last t) c.args.now c.args.word c.args.source c.args.entries.now c.would_say-same.result in
+    let begins = follow_begins c.trails_begin.ensures.take (ahead_in c.args.entries.now (last t)) m timer (last t) c.args.now c.args.word c.args.source c.args.entries.now c.would_say-same.result in
     subst (λ (x : Turn Heard). Stops x.trail a d) (sym (advert_is m timer s c.args.now c.args.word c.args.source c.args.entries.now c.args.order.now c.would_say-same.result (c.would_say-same.ensures s is.mounted.tells)))
     (stops_behind t rest a b d (sym begins.first) acted.ran (stopped m (last t) timer now_is mode)))

@@ -1,0 +1,383 @@
+-- The ticks of a round drain a mote: each lowers what is still to be done by one.
+use Rattle.std.proofs.Common.{◌≡◌, ◌≢◌, ◌⊎◌, ℕ, zero, suc, ◌+◌, ◌-◌, ◌*◌, ◌≤◌, ◌<◌, Bool, true, false, not, ◌&&◌, cond, eqb, leb, ltb, List, length, Option, Some, None, IfSome, min, nat_cmp, get_or, MatchOption, refl, sym, ap, subst, ◌∙◌, inl, inr, arith}
+use Rattle.std.proofs.lemmas.Bool.{eqb-true, le-leb, lt-leb, leb-true, le-ltb, and_parts, cases_Bool, cases_lt, both_ways}
+use Rattle.std.proofs.lemmas.List.{take_all}
+use Rattle.std.specs.Cmp.{nat_cmp_total}
+use Rattle.std.specs.FinSet as set
+use Rattle.std.specs.FinMap as map
+use Rattle.dg_words.proofs.ListLemmas.{length-tabulate}
+use Rattle.dg_nor.specs.Trail.{last_of, resting}
+use Rattle.dg_bits.specs.Sets.{Numbers, IsLeast, least}
+use Rattle.dg_bits.specs.SetLaws.{least_cases}
+use Rattle.dg_trickle.specs.Timer.{Timer}
+use Rattle.dg_trickle.specs.Steps.{IsRunning, started, begun as begun_timer, after_tick, act_of, is_due, is_over}
+use Rattle.dg_trickle.specs.declared.TheConstants.{LONGEST_INTERVAL}
+use Rattle.dg_quiet.specs.Noted.{Noted, Moments, is_past}
+use Rattle.dg_quiet.specs.declared.TheConstants.{REQUEST_QUIET, PACKET_QUIET}
+use Rattle.dg_recv.specs.Steps.{ask_of, after_ask, missing}
+use Rattle.dg_recv.specs.declared.Ask.TheVariants as ask
+use Rattle.dg_recv.specs.declared.TheConstants.{REQUESTS, NEXT_WAIT}
+use Rattle.dg_recv.specs.Reception.{Reception}
+use Rattle.dg_send.specs.declared.TheConstants.{GAP}
+use Rattle.dg_object.specs.Object.{Row, object, profile}
+use Rattle.dg_slot.specs.Layout.{packets}
+use Rattle.dg_slot.specs.Kept.{Held}
+use Rattle.dg_volume.specs.Store.{Store, held}
+use Rattle.dg_volume.specs.Changes.{gesture_cleared}
+use Rattle.dg_volume.specs.Trails.{clear_trail}
+use Rattle.dg_volume.specs.Start.{order_waits, is_whole, is_set_to, pages_sound, held_sound, sound}
+use Rattle.dg_volume.specs.Ends.{order_started}
+use Rattle.dg_volume.specs.Agreement.{Agrees, KeepsRow}
+use Rattle.dg_volume.specs.RowLaws.{SoundRows}
+use Rattle.dg_mote.specs.Sizes.{long_run}
+use Rattle.dg_mote.specs.Model.{Mode, Maintain, Receive, Transmit, Receiving, Sending, begun, maintains, reception}
+use Rattle.dg_mote.specs.Ticks.{clears, mode_tick, maintain_by, receive_by, tick_of}
+use Rattle.dg_mote.specs.Timely.{ModeTimely}
+use Rattle.dg_mote.specs.Agreement.{ModeAgrees}
+use Rattle.dg_mote.specs.Well.{EffectIsWell}
+use Rattle.dg_mote.specs.Spots.{Spot, SpotIsWell, pace, tick_at, ticked, after_ticks}
+use Rattle.dg_mote.specs.Drained.{Drained, spare_room, HasRoom}
+use Rattle.dg_mote.specs.Completing.{drain_ticks, IsDrained}
+use Rattle.dg_mote.specs.declared.mote.Did.TheVariants.{Idle, Restart}
+use Rattle.dg_mote.proofs.CameLemmas.{len_below}
+use Rattle.dg_mote.proofs.RoundTicks.{ticked_by, tick_by_mode, ticks_maintain, asks_now, ticked_well}
+use Rattle.dg_mote.proofs.RoundServe.{ticked_served, served}
+use Rattle.dg_mote.proofs.RoundRestart.{OrderLaws, restarts, waits_none}
+
+-- ---- what is still to be done
+
+abbrev one_if : Bool → ℕ
+one_if b = cond b 1 0
+
+abbrev timer_debt : Timer → ℕ
+timer_debt t = cond (eqb t.count 0) 0 (cond t.fired 1 2)
+
+abbrev mode_debt : Mode → ℕ
+mode_debt (Maintain t) = timer_debt t
+mode_debt (Receive r) = 1 + (REQUESTS - r.tries)
+mode_debt (Transmit t) = set.len t.owed.left
+
+unfoldable debt : Spot → ℕ
+debt x = (one_if (leb 1 x.store.gesture) + mode_debt x.mote.mode) + one_if (order_waits x.store)
+
+-- ---- the timer
+
+timer_falls_by : (t : Timer) (now : ℕ) (fired : Bool) → t.fired ≡ fired → IsRunning t → t.begin + pace ≤ now → timer_debt (after_tick t now 0) ≤ timer_debt t - 1
+timer_falls_by t now false f r h =
+    let due : is_due t now ≡ true = λ i. not (f i) && le-leb (t.begin + t.t) now (omega (arith, r.before_end, r.longest)) i in
+    let e : timer_debt (after_tick t now 0) ≡ cond (eqb t.count 0) 0 1 = ap (λ b. timer_debt (cond b (record t { fired = true }) (cond (is_over t now) (begun_timer (min (2 * t.interval) LONGEST_INTERVAL) now 0) t))) due in
+    let d : timer_debt t ≡ cond (eqb t.count 0) 0 2 = ap (λ b. cond (eqb t.count 0) 0 (cond b 1 2)) f in
+    rw (e, d) (less (eqb t.count 0))
+  where
+    less : (b : Bool) → cond b 0 1 ≤ cond b 0 2 - 1
+    less true = omega arith
+    less false = omega arith
+timer_falls_by t now true f r h =
+    let due : is_due t now ≡ false = λ i. not (f i) && leb (t.begin + t.t) now in
+    let over : is_over t now ≡ true = λ i. f i && le-leb (t.begin + t.interval) now (omega (arith, r.longest)) i in
+    let next : Timer = begun_timer (min (2 * t.interval) LONGEST_INTERVAL) now 0 in
+    let e : timer_debt (after_tick t now 0) ≡ 0 =
+    ap (λ b. timer_debt (cond b (record t { fired = true }) (cond (is_over t now) next t))) due ∙ ap (λ b. timer_debt (cond b next t)) over in
+    rw e (omega arith)
+
+-- ---- what a tick leaves
+
+-- nothing was noted after that moment
+abbrev MomentsPast : Moments → ℕ → Type 0
+MomentsPast ms last = (image moment : ℕ) → map.get ms image ≡ Some moment → moment ≤ last
+
+abbrev NotedBy : Noted → ℕ → Type 0
+NotedBy n last = MomentsPast n.requests last × MomentsPast n.packets last
+
+past_none : (last : ℕ) → MomentsPast map.empty last
+past_none last image moment e = let none : map.get (map.empty {K = ℕ} {X = ℕ} {R = nat_cmp}) image ≡ None = map.get-empty nat_cmp image in cc
+
+-- n ticks lower the debt by as much, and keep the rest
+record Paid (n : ℕ) (x y : Spot) : Type 0 where
+  debt : spare_room ≤ y.store.room → debt y ≤ debt x - n
+  kept : y.store.kept ≡ x.store.kept
+  room : y.store.room ≤ x.store.room
+  noted : (last : ℕ) → NotedBy x.mote.noted last → NotedBy y.mote.noted last
+
+-- ---- short starts are cleared
+
+ticks_clear : (x : Spot) (now : ℕ) → clears x.mote x.store now ≡ true → ticked x now ≡ record { store = gesture_cleared x.store; mote = x.mote }
+unfolding tick_of last_of
+ticks_clear x now e =
+    ticked_by x now (record { mote = x.mote; trail = clear_trail x.store; sent = None; answer = Idle })
+    (ap (λ b. cond b (record { mote = x.mote; trail = clear_trail x.store; sent = None; answer = Idle }) (mode_tick x.mote.mode x.mote x.store now 0)) e)
+
+abbrev waits_with : Store → Bool → Bool
+waits_with s room = not (eqb s.order.number 0) && (not s.waived && (is_whole (held s s.order.image) s.order.version && (not (is_set_to s.app s.order.image s.order.version) && room)))
+
+pays_clear : (x : Spot) (now : ℕ) → clears x.mote x.store now ≡ true → Paid 1 x (ticked x now)
+unfolding debt
+pays_clear x now e =
+    let parts = and_parts (leb 1 x.store.gesture && leb (x.mote.since + long_run) now) (leb 1 x.store.room) e in
+    let some = (and_parts (leb 1 x.store.gesture) (leb (x.mote.since + long_run) now) parts.0).0 in
+    let y : Spot = record { store = gesture_cleared x.store; mote = x.mote } in
+    subst (Paid 1 x) (sym (ticks_clear x now e)) (record {
+      debt = λ h.
+          let same : order_waits y.store ≡ order_waits x.store =
+          ap (waits_with x.store) (le-leb 2 (x.store.room - 1) (omega (arith, h)) ∙ sym (le-leb 2 x.store.room (omega (arith, h)))) in
+          let before : one_if (leb 1 x.store.gesture) ≡ 1 = ap one_if some in
+          rw (same, before) (omega arith);
+      kept = refl;
+      room = omega arith;
+      noted = λ last p. p;
+    })
+
+-- ---- none are, or there is no room to
+
+abbrev Calm : Store → Type 0
+Calm s = (leb 1 s.gesture ≡ false) ⊎ (s.room ≡ 0)
+
+calm_by : (g room : ℕ) (late : Bool) → late ≡ true → ((leb 1 g && late) && leb 1 room) ≡ false → (leb 1 g ≡ false) ⊎ (room ≡ 0)
+calm_by zero room late l e = inl refl
+calm_by (suc g) zero late l e = inr refl
+calm_by (suc g) (suc room) late l e = absurd (both_ways ((leb 1 (suc g) && late) && leb 1 (suc room)) e (λ i. (le-leb 1 (suc g) (omega arith) i && l i) && le-leb 1 (suc room) (omega arith) i))
+
+calm : (x : Spot) (now : ℕ) → x.mote.since + long_run ≤ now → clears x.mote x.store now ≡ false → Calm x.store
+calm x now old e = calm_by x.store.gesture x.store.room (leb (x.mote.since + long_run) now) (le-leb (x.mote.since + long_run) now old) e
+
+no_start : (g : ℕ) → leb 1 g ≡ false → g ≡ 0
+no_start zero e = refl
+no_start (suc g) e = absurd (both_ways (leb 1 (suc g)) e (le-leb 1 (suc g) (omega arith)))
+
+-- ---- the store stays, and the mode goes on
+
+pays_mode : (x : Spot) (now : ℕ) (mode next : Mode) → x.mote.mode ≡ mode → mode_debt next ≤ mode_debt mode - 1
+    → ticked x now ≡ record { store = x.store; mote = record x.mote { mode = next } } → (1 ≤ mode_debt mode) ⊎ (order_waits x.store ≡ false) → Calm x.store → Paid 1 x (ticked x now)
+unfolding debt
+pays_mode x now mode next is less same some calm =
+    subst (Paid 1 x) (sym same) (record {
+      debt = λ h.
+          let m : mode_debt x.mote.mode ≡ mode_debt mode = ap mode_debt is in
+          let g : leb 1 x.store.gesture ≡ false = elim calm [ inl e ↦ e | inr e ↦ absurd (omega (arith, h, e)) ] in
+          rw (m, g) (elim some [
+            | inl one ↦ omega (arith, less, one)
+            | inr none ↦ rw none (omega (arith, less))
+          ]);
+      kept = refl;
+      room = omega arith;
+      noted = λ last p. p;
+    })
+
+-- ---- an order is started
+
+waits_parts : (s : Store) → order_waits s ≡ true → (is_whole (held s s.order.image) s.order.version ≡ true) × (leb 2 s.room ≡ true)
+waits_parts s e =
+    let a = and_parts (not (eqb s.order.number 0)) _ e in
+    let b = and_parts (not s.waived) _ a.1 in
+    let c = and_parts (is_whole (held s s.order.image) s.order.version) _ b.1 in
+    let d = and_parts (not (is_set_to s.app s.order.image s.order.version)) (leb 2 s.room) c.1 in
+    (c.0, d.1)
+
+-- what is kept whole is sound
+whole_sound : (table : List Row) → SoundRows table → (image version : ℕ) (o : Option Held) → IfSome o (KeepsRow table image) → is_whole o version ≡ true → held_sound o ≡ true
+whole_sound table sound_rows image version None k e = cc
+whole_sound table sound_rows image version (Some h) k e =
+    let full = (and_parts (eqb h.version version) (eqb (length h.complete) h.pages) e).1 in
+    let count : length (object k.row) ≡ length h.complete = length-tabulate (profile k.row).pages _ ∙ sym k.pages ∙ sym (eqb-true (length h.complete) h.pages full) in
+    let all : h.complete ≡ object k.row = k.first ∙ take_all (length h.complete) (object k.row) (omega (arith, count)) in
+    (λ i. pages_sound (k.crc i) (all i)) ∙ sound_rows image h.version k.row k.in_table
+
+module _ (laws : OrderLaws) (table : List Row) (sound_rows : SoundRows table) where
+  pays_restart : (x : Spot) (now : ℕ) (t : Timer) → Agrees table x.store → Calm x.store → clears x.mote x.store now ≡ false → x.mote.mode ≡ Maintain t → order_waits x.store ≡ true → Paid 1 x (ticked x now)
+  unfolding debt
+  pays_restart x now t agrees calm none is waits =
+      let parts = waits_parts x.store waits in
+      let room = leb-true 2 x.store.room parts.1 in
+      let g0 : leb 1 x.store.gesture ≡ false = elim calm [ inl e ↦ e | inr e ↦ absurd (omega (arith, room, e)) ] in
+      let image = x.store.order.image in
+      let fine : sound x.store image ≡ true = whole_sound table sound_rows image x.store.order.version (held x.store image) (agrees.kept image) parts.0 in
+      let y : Spot = record { store = order_started x.store; mote = begun x.mote.id now 0 } in
+      let same : ticked x now ≡ y =
+      restarts laws x now (tick_by_mode x now (Maintain t) none is
+      ∙ ap (λ b. cond b (record { mote = x.mote; trail = resting x.store 0; sent = None; answer = Restart }) (maintain_by (act_of t now) (record x.mote { mode = Maintain (after_tick t now 0) }) x.store)) waits)
+      (no_start x.store.gesture g0) waits fine in
+      subst (Paid 1 x) (sym same) (record {
+        debt = λ h. rw (g0, waits_none x.store, waits) (omega arith);
+        kept = refl;
+        room = omega arith;
+        noted = λ last p. (past_none last, past_none last);
+      })
+
+  pays_maintain : (x : Spot) (now : ℕ) (t : Timer) → Agrees table x.store → Calm x.store → clears x.mote x.store now ≡ false → x.mote.mode ≡ Maintain t → IsRunning t → t.begin + pace ≤ now → Paid 1 x (ticked x now)
+  pays_maintain x now t agrees calm none is runs late =
+      elim (cases_Bool (order_waits x.store)) [
+        | inl waits ↦ pays_restart x now t agrees calm none is waits
+        | inr rests ↦ pays_mode x now (Maintain t) (Maintain (after_tick t now 0)) is (timer_falls_by t now t.fired refl runs late) (ticks_maintain x now t none is rests) (inr rests) calm
+      ]
+
+-- ---- it asks
+
+pays_receive : (x : Spot) (now : ℕ) (r : Receiving) → Calm x.store → clears x.mote x.store now ≡ false → x.mote.mode ≡ Receive r → r.due ≤ now → Paid 1 x (ticked x now)
+unfolding last_of
+pays_receive x now r calm none is late = elim (cases_lt r.tries REQUESTS) [
+  | inl few ↦
+      pays_mode x now (Receive r) (Receive (record r { tries = r.tries + 1; due = now + NEXT_WAIT })) is (omega (arith, few))
+      (ticked_by x now (receive_by (ask.Request (missing (reception r))) x.mote r x.store now 0)
+      (tick_by_mode x now (Receive r) none is ∙ ap (λ a. receive_by a x.mote r x.store now 0) (asks_now r now late few))
+      ∙ ap (λ (a : Reception). record { store = x.store; mote = record x.mote { mode = Receive (record r { tries = a.tries; due = a.due }) } }) (counted few))
+      (inl (omega arith)) calm
+  | inr enough ↦
+      pays_mode x now (Receive r) (Maintain (started now 0)) is (omega arith)
+      (ticked_by x now (receive_by ask.GiveUp x.mote r x.store now 0)
+      (tick_by_mode x now (Receive r) none is ∙ ap (λ a. receive_by a x.mote r x.store now 0) (given_up enough)))
+      (inl (omega arith)) calm
+]
+  where
+    due : ltb now r.due ≡ false
+    due = le-ltb now r.due late
+
+    counted : r.tries < REQUESTS → after_ask (reception r) now ≡ record (reception r) { tries = r.tries + 1; due = now + NEXT_WAIT }
+    counted few =
+        let next : Reception = record (reception r) { tries = r.tries + 1; due = now + NEXT_WAIT } in
+        ap (λ b. cond b (reception r) (cond (leb REQUESTS r.tries) (reception r) next)) due ∙ ap (λ b. cond b (reception r) next) (lt-leb REQUESTS r.tries few)
+
+    given_up : REQUESTS ≤ r.tries → ask_of (reception r) now ≡ ask.GiveUp
+    given_up enough =
+        ap (λ b. cond b ask.Wait (cond (leb REQUESTS r.tries) ask.GiveUp (ask.Request (missing (reception r))))) due
+        ∙ ap (λ b. cond b ask.GiveUp (ask.Request (missing (reception r)))) (le-leb REQUESTS r.tries enough)
+
+-- ---- it serves
+
+record HasLeast (s : Numbers) : Type 0 where
+  q : ℕ
+  is_least : least s ≡ Some q
+  member : set.contains s q ≡ true
+
+has_least : (s : Numbers) → set.len s ≢ 0 → HasLeast s
+has_least s some = by_cases (least s) refl (least_cases s)
+  where
+    by_cases : (o : Option ℕ) → least s ≡ o → MatchOption o (s ≡ set.empty) (IsLeast s) → HasLeast s
+    by_cases None e none = absurd (some (ap set.len none ∙ set.len-empty nat_cmp))
+    by_cases (Some q) e l = record { q = q; is_least = e; member = l.member }
+
+pays_transmit : (x : Spot) (now : ℕ) (t : Sending) → Calm x.store → clears x.mote x.store now ≡ false → x.mote.mode ≡ Transmit t → set.len t.owed.left ≢ 0 → t.owed.due ≤ now → Paid 1 x (ticked x now)
+pays_transmit x now t calm none is some due = elim (cases_Bool (eqb (set.len left) 0)) [
+  | inl over ↦ pays_mode x now (Transmit t) (Maintain (started now 0)) is (omega arith) (same ∙ ap after over) (inl one) calm
+  | inr more ↦ pays_mode x now (Transmit t) (Transmit serving) is (omega (arith, fewer)) (same ∙ ap after more) (inl one) calm
+]
+  where
+    first : HasLeast t.owed.left
+    first = has_least t.owed.left some
+
+    left : Numbers
+    left = set.remove t.owed.left first.q
+
+    serving : Sending
+    serving = record t { owed = record { left = left; due = now + GAP } }
+
+    after : Bool → Spot
+    after b = record { store = x.store; mote = cond b (maintains x.mote now 0) (record x.mote { mode = Transmit serving }) }
+
+    one : 1 ≤ set.len t.owed.left
+    one = omega (arith, some)
+
+    fewer : set.len left ≡ set.len t.owed.left - 1
+    fewer = set.len-remove nat_cmp_total t.owed.left first.q ∙ ap (λ b. cond b (set.len t.owed.left - 1) (set.len t.owed.left)) first.member
+
+    same : ticked x now ≡ record { store = x.store; mote = served x.mote t now (record { left = left; due = now + GAP }) }
+    same = ticked_served x now first.q t is none first.is_least due
+
+-- ---- any tick
+
+module _ (laws : OrderLaws) (table : List Row) (sound_rows : SoundRows table) (stays : (x : Spot) (now : ℕ) → SpotIsWell table x now → EffectIsWell table (tick_at x now) now) (later : (x : Spot) (now then : ℕ) → now ≤ then → SpotIsWell table x now → SpotIsWell table x then) where
+  pays_by : (x : Spot) (now : ℕ) (mode : Mode) → Agrees table x.store → Calm x.store → clears x.mote x.store (now + pace) ≡ false → x.mote.mode ≡ mode → ModeAgrees table x.store mode → ModeTimely mode now → Paid 1 x (ticked x (now + pace))
+  pays_by x now (Maintain t) agrees calm none is own timely = pays_maintain laws table sound_rows x (now + pace) t agrees calm none is timely.0 (omega (arith, timely.1))
+  pays_by x now (Receive r) agrees calm none is own timely = pays_receive x (now + pace) r calm none is (omega (arith, timely))
+  pays_by x now (Transmit t) agrees calm none is own timely = pays_transmit x (now + pace) t calm none is own.owed (omega (arith, timely.0))
+
+  pays : (x : Spot) (now : ℕ) → SpotIsWell table x now → Paid 1 x (ticked x (now + pace))
+  pays x now w = elim (cases_Bool (clears x.mote x.store (now + pace))) [
+    | inl e ↦ pays_clear x (now + pace) e
+    | inr none ↦ pays_by x now x.mote.mode w.store.agrees (calm x (now + pace) (omega (arith, w.timely.since)) none) none refl w.mode w.timely.mode
+  ]
+
+  next_well : (x : Spot) (now : ℕ) → SpotIsWell table x now → SpotIsWell table (ticked x (now + pace)) (now + pace)
+  next_well x now w = ticked_well table x (now + pace) (stays x (now + pace) (later x now (now + pace) (omega arith) w))
+
+  -- ---- n ticks
+
+  all_well : (n : ℕ) (x : Spot) (now : ℕ) → SpotIsWell table x now → SpotIsWell table (after_ticks n x now) (now + n * pace)
+  unfolding after_ticks
+  all_well zero x now w = subst (SpotIsWell table x) (omega arith) w
+  all_well (suc n) x now w = subst (SpotIsWell table (after_ticks n (ticked x (now + pace)) (now + pace))) (omega arith) (all_well n (ticked x (now + pace)) (now + pace) (next_well x now w))
+
+  pays_all : (n : ℕ) (x : Spot) (now : ℕ) → SpotIsWell table x now → Paid n x (after_ticks n x now)
+  unfolding after_ticks
+  pays_all zero x now w = record { debt = λ h. omega arith; kept = refl; room = omega arith; noted = λ last p. p }
+  pays_all (suc n) x now w =
+      let one = pays x now w in
+      let rest = pays_all n (ticked x (now + pace)) (now + pace) (next_well x now w) in
+      record {
+        debt = λ h. omega (arith, rest.debt h, one.debt (omega (arith, h, rest.room)));
+        kept = rest.kept ∙ one.kept;
+        room = omega (arith, rest.room, one.room);
+        noted = λ last p. rest.noted last (one.noted last p);
+      }
+
+  -- ---- enough of them
+
+  few_debts : (mode : Mode) (now : ℕ) → ModeTimely mode now → mode_debt mode ≤ packets
+  few_debts (Maintain t) now m = at_most (eqb t.count 0) t.fired
+    where
+      at_most : (b f : Bool) → cond b 0 (cond f 1 2) ≤ packets
+      at_most true f = omega arith
+      at_most false true = omega arith
+      at_most false false = omega arith
+  few_debts (Receive r) now m = omega arith
+  few_debts (Transmit t) now m = len_below packets t.owed.left m.1
+
+  one_at_most : (b : Bool) → one_if b ≤ 1
+  one_at_most true = omega arith
+  one_at_most false = omega arith
+
+  debt_few : (x : Spot) (now : ℕ) → SpotIsWell table x now → debt x ≤ drain_ticks
+  unfolding debt
+  debt_few x now w = omega (arith, few_debts x.mote.mode now w.timely.mode, one_at_most (leb 1 x.store.gesture), one_at_most (order_waits x.store))
+
+  none_if : (b : Bool) → one_if b ≤ 0 → b ≡ false
+  none_if true h = absurd (omega arith)
+  none_if false h = refl
+
+  settled : (mode : Mode) (s : Store) → ModeAgrees table s mode → mode_debt mode ≤ 0 → (t : Timer) × (mode ≡ Maintain t) × (t.count ≡ 0)
+  settled (Maintain t) s m h = (t, refl, count_of (eqb t.count 0) refl t.fired h)
+    where
+      count_of : (b : Bool) → eqb t.count 0 ≡ b → (f : Bool) → cond b 0 (cond f 1 2) ≤ 0 → t.count ≡ 0
+      count_of true e f h = eqb-true t.count 0 e
+      count_of false e true h = absurd (omega arith)
+      count_of false e false h = absurd (omega arith)
+  settled (Receive r) s m h = absurd (omega (arith, h))
+  settled (Transmit t) s m h = absurd (m.owed (omega (arith, h)))
+
+  over_by : (o : Option ℕ) (last quiet later : ℕ) → last + quiet ≤ later → ((moment : ℕ) → o ≡ Some moment → moment ≤ last) → is_past o quiet later ≡ true
+  over_by None last quiet later h p = refl
+  over_by (Some m) last quiet later h p = le-leb (m + quiet) later (omega (arith, h, p m refl))
+
+  is_drained : (x : Spot) (now last : ℕ) → SpotIsWell table x now → debt x ≤ 0 → last + pace ≤ now → NotedBy x.mote.noted last → Drained x now
+  unfolding debt
+  is_drained x now last w none h noted =
+      let s = settled x.mote.mode x.store w.mode (omega (arith, none)) in
+      record {
+        timer = s.0;
+        maintains = s.1;
+        unheard = s.2;
+        gesture = no_start x.store.gesture (none_if (leb 1 x.store.gesture) (omega (arith, none)));
+        order = none_if (order_waits x.store) (omega (arith, none));
+        windows = λ later i from. λ k.
+            over_by (map.get x.mote.noted.requests i) last REQUEST_QUIET later (omega (arith, h, from)) (noted.0 i) k
+            && over_by (map.get x.mote.noted.packets i) last PACKET_QUIET later (omega (arith, h, from)) (noted.1 i) k;
+      }
+
+  pub drains : (x : Spot) (now : ℕ) → SpotIsWell table x now → HasRoom (after_ticks drain_ticks x now) → IsDrained table x now
+  drains x now w room =
+      let p = pays_all drain_ticks x now w in
+      let well = all_well drain_ticks x now w in
+      record {
+        drained = is_drained (after_ticks drain_ticks x now) (now + drain_ticks * pace) now well (omega (arith, p.debt room, debt_few x now w)) (omega arith) (p.noted now (w.timely.requests, w.timely.packets_noted));
+        well = well;
+        kept = λ i. ap (λ k. get_or k i None) p.kept;
+      }
