@@ -141,7 +141,8 @@ takes_stopped m r h s now word q bytes a b here stops =
     (λ other. subst Goal (sym (takes_part m r s now word q bytes (omega (arith, came_few ps, other)))) stops)
     (cases_eq (set.len (came ps)) packets)
 
-came_put : (ps : Packets) (q : ℕ) (bytes : List ℕ) → q < packets → length ps ≡ packets → came (put_packet ps q bytes) ≡ set.insert (came ps) q
+-- with one more
+pub came_put : (ps : Packets) (q : ℕ) (bytes : List ℕ) → q < packets → length ps ≡ packets → came (put_packet ps q bytes) ≡ set.insert (came ps) q
 came_put ps q bytes known count = same_numbers _ _ (λ k.
     came_has (put_packet ps q bytes) k
     ∙ ⊎_elim (here k) (beside k) (cases_eq k q)

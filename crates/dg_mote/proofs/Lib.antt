@@ -39,3 +39,4 @@ pub mod RoundDrain
 pub mod RoundAdvert
 pub mod RoundTake
 pub mod RoundAsk
+pub mod RoundFresh

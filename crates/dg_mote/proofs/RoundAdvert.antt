@@ -1,5 +1,5 @@
 -- A drained mote sends its advert within three ticks, and stays drained.
-use Rattle.std.proofs.Common.{◌≡◌, ℕ, ◌+◌, ◌*◌, ◌≤◌, min, Bool, true, false, not, ◌&&◌, cond, leb, ltb, List, Option, Some, None, refl, sym, ap, subst, ◌∙◌, arith}
+use Rattle.std.proofs.Common.{◌≡◌, ℕ, zero, suc, ◌+◌, ◌*◌, ◌≤◌, min, Bool, true, false, not, ◌&&◌, cond, leb, ltb, List, Option, Some, None, refl, sym, ap, subst, ◌∙◌, arith}
 use Rattle.std.proofs.lemmas.Bool.{le-leb, lt-ltb}
 use Rattle.dg_nor.specs.Trail.{resting}
 use Rattle.dg_trickle.specs.Timer.{Timer}
@@ -20,7 +20,7 @@ use Rattle.dg_mote.specs.Spots.{Spot, SpotIsWell, pace, tick_at, ticked, after_t
 use Rattle.dg_mote.specs.Drained.{Drained}
 use Rattle.dg_quiet.specs.Noted.{may_ask}
 use Rattle.dg_mote.specs.Agreement.{ModeAgrees}
-use Rattle.dg_mote.specs.Completing.{Advertises}
+use Rattle.dg_mote.specs.Completing.{advert_ticks, Rests, Advertises}
 use Rattle.dg_mote.specs.declared.mote.Did.{Did}
 use Rattle.dg_mote.specs.declared.mote.Did.TheVariants.{Restart}
 use Rattle.dg_mote.proofs.TimelyLemmas.{timely_later, timer_ticks}
@@ -104,59 +104,82 @@ one_tick x now t c =
           ap (λ (s : Timer). s.fired) both.1 ∙ sym (ap not f),
         )
 
+-- ---- a drained mote that ticks
+
+record Stays (table : List Row) (x : Spot) (now : ℕ) (t : Timer) : Type 0 where
+  drained : Drained (ticked x (now + pace)) (now + pace)
+  well : SpotIsWell table (ticked x (now + pace)) (now + pace)
+  store : (ticked x (now + pace)).store ≡ x.store
+  id : (ticked x (now + pace)).mote.id ≡ x.mote.id
+  sent : (tick_at x (now + pace)).sent ≡ cond t.fired None (Some (advert_of x.mote.id x.store))
+  turned : drained.timer.fired ≡ not t.fired
+
+stays : (table : List Row) (x : Spot) (now : ℕ) → SpotIsWell table x now → (d : Drained x now) → Stays table x now d.timer
+stays table x now w d =
+    let runs : ModeTimely (Maintain d.timer) now = subst (λ k. ModeTimely k now) d.maintains w.timely.mode in
+    let one = one_tick x now d.timer (record { maintains = d.maintains; unheard = d.unheard; gesture = d.gesture; order = d.order; runs = runs.0; begun = runs.1 }) in
+    let u = after_tick d.timer (now + pace) 0 in
+    let y = ticked x (now + pace) in
+    let t = timely_later x.mote now (now + pace) (omega arith) w.timely in
+    record {
+      drained = record {
+        timer = u;
+        maintains = one.calm.maintains;
+        unheard = one.calm.unheard;
+        gesture = one.calm.gesture;
+        order = one.calm.order;
+        windows = λ later i from. ap (λ (m : MoteState). may_ask m.noted later i) one.mote ∙ d.windows later i (omega (arith, from));
+      };
+      well = record {
+        store = subst (StoreIsWell table) (sym one.store) w.store;
+        mode = subst (λ k. ModeAgrees table y.store k) (sym one.calm.maintains) tt;
+        timely = subst (λ m. Timely m (now + pace)) (sym one.mote) (record { since = t.since; requests = t.requests; packets_noted = t.packets_noted; mode = (one.calm.runs, one.calm.begun) });
+      };
+      store = one.store;
+      id = ap (λ (m : MoteState). m.id) one.mote;
+      sent = one.sent;
+      turned = one.turned;
+    }
+
+pub rests : (table : List Row) (x : Spot) (now n : ℕ) → SpotIsWell table x now → Drained x now → Rests table x now n
+unfolding after_ticks
+rests table x now zero w d = record { drained = subst (Drained x) (omega arith) d; well = subst (SpotIsWell table x) (omega arith) w; store = refl; id = refl }
+rests table x now (suc n) w d =
+    let one = stays table x now w d in
+    let y = ticked x (now + pace) in
+    let more = rests table y (now + pace) n one.well one.drained in
+    record {
+      drained = subst (Drained (after_ticks n y (now + pace))) (omega arith) more.drained;
+      well = subst (SpotIsWell table (after_ticks n y (now + pace))) (omega arith) more.well;
+      store = more.store ∙ one.store;
+      id = more.id ∙ one.id;
+    }
+
+-- ---- in three ticks
+
 newest_of_two : (f : Bool) (a : Message) (before : Option Message) → newer_of (cond (not f) None (Some a)) (newer_of (cond f None (Some a)) before) ≡ Some a
 newest_of_two true a before = refl
 newest_of_two false a before = refl
 
-settle : (table : List Row) (x y : Spot) (now later : ℕ) (u : Timer) → Calm y later u → y.store ≡ x.store → y.mote ≡ record x.mote { mode = Maintain u } → now ≤ later → SpotIsWell table x now → Drained x now
-    → Drained y later × SpotIsWell table y later
-settle table x y now later u c store mote h w d =
-    let t = timely_later x.mote now later h w.timely in (
-      record {
-        timer = u;
-        maintains = c.maintains;
-        unheard = c.unheard;
-        gesture = c.gesture;
-        order = c.order;
-        windows = λ after i from. ap (λ (m : MoteState). may_ask m.noted after i) mote ∙ d.windows after i (omega (arith, h, from));
-      },
-      record {
-        store = subst (StoreIsWell table) (sym store) w.store;
-        mode = subst (λ k. ModeAgrees table y.store k) (sym c.maintains) tt;
-        timely = subst (λ m. Timely m later) (sym mote) (record { since = t.since; requests = t.requests; packets_noted = t.packets_noted; mode = (c.runs, c.begun) });
-      },
-    )
-
 pub advertises : (table : List Row) (x : Spot) (now : ℕ) → SpotIsWell table x now → Drained x now → Advertises table x now
-unfolding after_ticks last_sent
+unfolding last_sent
 advertises table x now w d =
-    let timely : ModeTimely (Maintain d.timer) now = subst (λ k. ModeTimely k now) d.maintains w.timely.mode in
-    let c0 : Calm x now d.timer = record { maintains = d.maintains; unheard = d.unheard; gesture = d.gesture; order = d.order; runs = timely.0; begun = timely.1 } in
-    let one = one_tick x now d.timer c0 in
-    let x1 = ticked x (now + pace) in
-    let t1 = after_tick d.timer (now + pace) 0 in
-    let two = one_tick x1 (now + pace) t1 one.calm in
-    let x2 = ticked x1 (now + pace + pace) in
-    let t2 = after_tick t1 (now + pace + pace) 0 in
-    let three = one_tick x2 (now + pace + pace) t2 two.calm in
-    let x3 = ticked x2 (now + pace + pace + pace) in
-    let t3 = after_tick t2 (now + pace + pace + pace) 0 in
-    let store : x3.store ≡ x.store = three.store ∙ two.store ∙ one.store in
-    let mote1 : x1.mote.id ≡ x.mote.id = ap (λ (m : MoteState). m.id) one.mote in
-    let mote2 : x2.mote.id ≡ x.mote.id = ap (λ (m : MoteState). m.id) two.mote ∙ mote1 in
-    let id : x3.mote.id ≡ x.mote.id = ap (λ (m : MoteState). m.id) three.mote ∙ mote2 in
-    let said1 : Some (advert_of x1.mote.id x1.store) ≡ Some (advert_of x.mote.id x.store) = λ i. Some (advert_of (mote1 i) (one.store i)) in
-    let said2 : Some (advert_of x2.mote.id x2.store) ≡ Some (advert_of x.mote.id x.store) = λ i. Some (advert_of (mote2 i) ((two.store ∙ one.store) i)) in
-    let f2 : t2.fired ≡ not t1.fired = two.turned in
-    let motes : x3.mote ≡ record x.mote { mode = Maintain t3 } =
-    three.mote ∙ ap (λ (m : MoteState). record m { mode = Maintain t3 }) (two.mote ∙ ap (λ (m : MoteState). record m { mode = Maintain t2 }) one.mote) in
-    let both = settle table x x3 now (now + pace + pace + pace) t3 three.calm store motes (omega arith) w d in
+    let one = stays table x now w d in
+    let y = ticked x (now + pace) in
+    let two = stays table y (now + pace) one.well one.drained in
+    let three = stays table (ticked y (now + pace + pace)) (now + pace + pace) two.well two.drained in
+    let all = rests table x now advert_ticks w d in
+    let own = advert_of x.mote.id x.store in
+    let first = one.drained.timer.fired in
+    let said : cond first None (Some (advert_of y.mote.id y.store)) ≡ cond first None (Some own) = λ i. cond first None (Some (advert_of (one.id i) (one.store i))) in
+    let then : cond two.drained.timer.fired None (Some (advert_of (ticked y (now + pace + pace)).mote.id (ticked y (now + pace + pace)).store)) ≡ cond (not first) None (Some own) =
+    λ i. cond (two.turned i) None (Some (advert_of ((two.id ∙ one.id) i) ((two.store ∙ one.store) i))) in
     record {
-      drained = subst (Drained x3) (omega arith) both.0;
-      well = subst (SpotIsWell table x3) (omega arith) both.1;
-      store = store;
-      id = id;
+      drained = all.drained;
+      well = all.well;
+      store = all.store;
+      id = all.id;
       sent = λ before.
-          (λ i. newer_of ((three.sent ∙ (λ j. cond (f2 j) None (said2 j))) i) (newer_of ((two.sent ∙ ap (cond t1.fired None) said1) i) (newer_of (tick_at x (now + pace)).sent before)))
-          ∙ newest_of_two t1.fired (advert_of x.mote.id x.store) (newer_of (tick_at x (now + pace)).sent before);
+          (λ i. newer_of ((three.sent ∙ then) i) (newer_of ((two.sent ∙ said) i) (newer_of (tick_at x (now + pace)).sent before)))
+          ∙ newest_of_two first own (newer_of (tick_at x (now + pace)).sent before);
     }

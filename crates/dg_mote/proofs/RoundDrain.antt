@@ -22,11 +22,11 @@ use Rattle.dg_send.specs.declared.TheConstants.{GAP}
 use Rattle.dg_object.specs.Object.{Row, object, profile}
 use Rattle.dg_slot.specs.Layout.{packets}
 use Rattle.dg_slot.specs.Kept.{Held}
-use Rattle.dg_volume.specs.Store.{Store, held}
+use Rattle.dg_volume.specs.Store.{App, Store, held}
 use Rattle.dg_volume.specs.Changes.{gesture_cleared}
 use Rattle.dg_volume.specs.Trails.{clear_trail}
 use Rattle.dg_volume.specs.Start.{order_waits, is_whole, is_set_to, pages_sound, held_sound, sound}
-use Rattle.dg_volume.specs.Ends.{order_started}
+use Rattle.dg_volume.specs.Ends.{order_started, blank_commits}
 use Rattle.dg_volume.specs.Agreement.{Agrees, KeepsRow}
 use Rattle.dg_volume.specs.RowLaws.{SoundRows}
 use Rattle.dg_mote.specs.Sizes.{long_run}
@@ -37,12 +37,12 @@ use Rattle.dg_mote.specs.Agreement.{ModeAgrees}
 use Rattle.dg_mote.specs.Well.{EffectIsWell}
 use Rattle.dg_mote.specs.Spots.{Spot, SpotIsWell, pace, tick_at, ticked, after_ticks}
 use Rattle.dg_mote.specs.Drained.{Drained, spare_room, HasRoom}
-use Rattle.dg_mote.specs.Completing.{drain_ticks, IsDrained}
+use Rattle.dg_mote.specs.Completing.{drain_ticks, tick_commits, IsDrained}
 use Rattle.dg_mote.specs.declared.mote.Did.TheVariants.{Idle, Restart}
 use Rattle.dg_mote.proofs.CameLemmas.{len_below}
 use Rattle.dg_mote.proofs.RoundTicks.{ticked_by, tick_by_mode, ticks_maintain, asks_now, ticked_well}
 use Rattle.dg_mote.proofs.RoundServe.{ticked_served, served}
-use Rattle.dg_mote.proofs.RoundRestart.{OrderLaws, restarts, waits_none}
+use Rattle.dg_mote.proofs.RoundRestart.{OrderLaws, restarts, and_none, waits_none}
 
 -- ---- what is still to be done
 
@@ -59,6 +59,10 @@ mode_debt (Transmit t) = set.len t.owed.left
 
 unfoldable debt : Spot → ℕ
 debt x = (one_if (leb 1 x.store.gesture) + mode_debt x.mote.mode) + one_if (order_waits x.store)
+
+-- the commits that are still to be made
+abbrev promised : Store → ℕ
+promised s = one_if (leb 1 s.gesture) + 2 * one_if (order_waits s)
 
 -- ---- the timer
 
@@ -92,11 +96,13 @@ NotedBy n last = MomentsPast n.requests last × MomentsPast n.packets last
 past_none : (last : ℕ) → MomentsPast map.empty last
 past_none last image moment e = let none : map.get (map.empty {K = ℕ} {X = ℕ} {R = nat_cmp}) image ≡ None = map.get-empty nat_cmp image in cc
 
--- n ticks lower the debt by as much, and keep the rest
+-- n ticks lower the debt by as much, make no other commits, and keep the rest
 record Paid (n : ℕ) (x y : Spot) : Type 0 where
   debt : spare_room ≤ y.store.room → debt y ≤ debt x - n
   kept : y.store.kept ≡ x.store.kept
+  id : y.mote.id ≡ x.mote.id
   room : y.store.room ≤ x.store.room
+  spent : x.store.room + promised y.store ≤ y.store.room + promised x.store
   noted : (last : ℕ) → NotedBy x.mote.noted last → NotedBy y.mote.noted last
 
 -- ---- short starts are cleared
@@ -109,6 +115,20 @@ ticks_clear x now e =
 
 abbrev waits_with : Store → Bool → Bool
 waits_with s room = not (eqb s.order.number 0) && (not s.waived && (is_whole (held s s.order.image) s.order.version && (not (is_set_to s.app s.order.image s.order.version) && room)))
+
+and_false : (b : Bool) → (b && false) ≡ false
+and_false true = refl
+and_false false = refl
+
+-- with less room no more waits
+waits_less : (s : Store) (a b : Bool) → (a ≡ true → b ≡ true) → one_if (waits_with s a) ≤ one_if (waits_with s b)
+waits_less s true b h = subst (λ c. one_if (waits_with s true) ≤ one_if (waits_with s c)) (sym (h refl)) (omega arith)
+waits_less s false b h =
+    let some = not (eqb s.order.number 0) in
+    let kept = is_whole (held s s.order.image) s.order.version in
+    let none : waits_with s false ≡ false = ap (λ c. some && (not s.waived && (kept && c))) (and_false (not (is_set_to s.app s.order.image s.order.version))) ∙ and_none some (not s.waived) kept in
+    let zero : one_if (waits_with s false) ≡ 0 = ap one_if none in
+    omega (arith, zero)
 
 pays_clear : (x : Spot) (now : ℕ) → clears x.mote x.store now ≡ true → Paid 1 x (ticked x now)
 unfolding debt
@@ -123,7 +143,13 @@ pays_clear x now e =
           let before : one_if (leb 1 x.store.gesture) ≡ 1 = ap one_if some in
           rw (same, before) (omega arith);
       kept = refl;
+      id = refl;
       room = omega arith;
+      spent =
+          let before : one_if (leb 1 x.store.gesture) ≡ 1 = ap one_if some in
+          let fewer : one_if (order_waits y.store) ≤ one_if (order_waits x.store) =
+          waits_less x.store (leb 2 (x.store.room - 1)) (leb 2 x.store.room) (λ h. le-leb 2 x.store.room (omega (arith, leb-true 2 (x.store.room - 1) h))) in
+          omega (arith, before, fewer, leb-true 1 x.store.room parts.1);
       noted = λ last p. p;
     })
 
@@ -159,7 +185,9 @@ pays_mode x now mode next is less same some calm =
             | inr none ↦ rw none (omega (arith, less))
           ]);
       kept = refl;
+      id = refl;
       room = omega arith;
+      spent = omega arith;
       noted = λ last p. p;
     })
 
@@ -182,6 +210,10 @@ whole_sound table sound_rows image version (Some h) k e =
     let all : h.complete ≡ object k.row = k.first ∙ take_all (length h.complete) (object k.row) (omega (arith, count)) in
     (λ i. pages_sound (k.crc i) (all i)) ∙ sound_rows image h.version k.row k.in_table
 
+blank_few : (app : Option App) → blank_commits app ≤ 1
+blank_few None = omega arith
+blank_few (Some a) = omega arith
+
 module _ (laws : OrderLaws) (table : List Row) (sound_rows : SoundRows table) where
   pays_restart : (x : Spot) (now : ℕ) (t : Timer) → Agrees table x.store → Calm x.store → clears x.mote x.store now ≡ false → x.mote.mode ≡ Maintain t → order_waits x.store ≡ true → Paid 1 x (ticked x now)
   unfolding debt
@@ -199,7 +231,9 @@ module _ (laws : OrderLaws) (table : List Row) (sound_rows : SoundRows table) wh
       subst (Paid 1 x) (sym same) (record {
         debt = λ h. rw (g0, waits_none x.store, waits) (omega arith);
         kept = refl;
+        id = refl;
         room = omega arith;
+        spent = let none = ap one_if (waits_none x.store) in let one = ap one_if waits in omega (arith, none, one, room, blank_few x.store.app);
         noted = λ last p. (past_none last, past_none last);
       })
 
@@ -308,14 +342,16 @@ module _ (laws : OrderLaws) (table : List Row) (sound_rows : SoundRows table) (s
 
   pays_all : (n : ℕ) (x : Spot) (now : ℕ) → SpotIsWell table x now → Paid n x (after_ticks n x now)
   unfolding after_ticks
-  pays_all zero x now w = record { debt = λ h. omega arith; kept = refl; room = omega arith; noted = λ last p. p }
+  pays_all zero x now w = record { debt = λ h. omega arith; kept = refl; id = refl; room = omega arith; spent = omega arith; noted = λ last p. p }
   pays_all (suc n) x now w =
       let one = pays x now w in
       let rest = pays_all n (ticked x (now + pace)) (now + pace) (next_well x now w) in
       record {
         debt = λ h. omega (arith, rest.debt h, one.debt (omega (arith, h, rest.room)));
         kept = rest.kept ∙ one.kept;
+        id = rest.id ∙ one.id;
         room = omega (arith, rest.room, one.room);
+        spent = omega (arith, rest.spent, one.spent);
         noted = λ last p. rest.noted last (one.noted last p);
       }
 
@@ -372,6 +408,9 @@ module _ (laws : OrderLaws) (table : List Row) (sound_rows : SoundRows table) (s
             && over_by (map.get x.mote.noted.packets i) last PACKET_QUIET later (omega (arith, h, from)) (noted.1 i) k;
       }
 
+  pub spends : (x : Spot) (now n : ℕ) → SpotIsWell table x now → x.store.room ≤ (after_ticks n x now).store.room + tick_commits
+  spends x now n w = omega (arith, (pays_all n x now w).spent, one_at_most (leb 1 x.store.gesture), one_at_most (order_waits x.store))
+
   pub drains : (x : Spot) (now : ℕ) → SpotIsWell table x now → HasRoom (after_ticks drain_ticks x now) → IsDrained table x now
   drains x now w room =
       let p = pays_all drain_ticks x now w in
@@ -380,4 +419,5 @@ module _ (laws : OrderLaws) (table : List Row) (sound_rows : SoundRows table) (s
         drained = is_drained (after_ticks drain_ticks x now) (now + drain_ticks * pace) now well (omega (arith, p.debt room, debt_few x now w)) (omega arith) (p.noted now (w.timely.requests, w.timely.packets_noted));
         well = well;
         kept = λ i. ap (λ k. get_or k i None) p.kept;
+        id = p.id;
       }

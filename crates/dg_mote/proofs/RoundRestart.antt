@@ -60,7 +60,7 @@ module _ (laws : OrderLaws) where
 
 -- ---- then none waits
 
-and_none : (a b c : Bool) → (a && (b && (c && false))) ≡ false
+pub and_none : (a b c : Bool) → (a && (b && (c && false))) ≡ false
 and_none true true true = refl
 and_none true true false = refl
 and_none true false c = refl

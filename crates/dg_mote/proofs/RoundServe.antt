@@ -80,7 +80,7 @@ from_some k h = ne_eqb (set.len (from k)) 0 (λ e. both_ways (set.contains (from
 abbrev sending : (image version page : ℕ) → Owed → Sending
 sending image version page owed = record { image = image; version = version; page = page; owed = owed }
 
-pub tick_sends : (x : Spot) (now q : ℕ) (t : Sending) → x.mote.mode ≡ Transmit t → clears x.mote x.store now ≡ false → least t.owed.left ≡ Some q → t.owed.due ≤ now
+tick_sends : (x : Spot) (now q : ℕ) (t : Sending) → x.mote.mode ≡ Transmit t → clears x.mote x.store now ≡ false → least t.owed.left ≡ Some q → t.owed.due ≤ now
     → tick_at x now ≡ on (sends (serving x.mote t now 0) x.store (Packet x.mote.id t.image t.version t.page q (stored x.store t q)))
 unfolding tick_effect
 tick_sends x now q t is g l due =
@@ -151,7 +151,7 @@ module _ (image version page : ℕ) where
   later_by n now m = ap (λ t. maintains m t 0) (omega arith)
 
   -- n ticks send the packets from k on, in order
-  pub serves_from : (n k : ℕ) (x : Spot) (now : ℕ) → k + suc n ≡ packets → Owes k x now image version page
+  serves_from : (n k : ℕ) (x : Spot) (now : ℕ) → k + suc n ≡ packets → Owes k x now image version page
       → SendsEach (map (told x) (range_with_len k (suc n))) x now × (after_ticks (suc n) x now ≡ record { store = x.store; mote = maintains x.mote (now + suc n * pace) 0 })
   unfolding after_ticks SendsEach
   serves_from zero k x now e o =

@@ -1,15 +1,14 @@
 -- A mote that asks takes the packets of a page in order, and has one page more.
-use Rattle.std.proofs.Common.{◌≡◌, ◌≢◌, ℕ, zero, suc, ◌+◌, ◌*◌, ◌<◌, Bool, true, false, not, ◌&&◌, cond, eqb, ltb, List, [], length, map, take, get_or, Some, None, is_some, refl, sym, ap, subst, ◌∙◌, inl, inr, arith}
-use Rattle.std.proofs.lemmas.Bool.{eq-eqb, ne_eqb, le-ltb, lt-ltb, cases_eq}
-use Rattle.std.proofs.lemmas.Bool.Decides.{nat_tests}
+use Rattle.std.proofs.Common.{◌≡◌, ◌≢◌, ℕ, zero, suc, ◌+◌, ◌*◌, ◌<◌, Bool, true, false, not, ◌&&◌, cond, eqb, ltb, List, [], length, map, take, get_or, Some, None, is_some, refl, sym, ap, subst, ◌∙◌, arith}
+use Rattle.std.proofs.lemmas.Bool.{eq-eqb, ne_eqb, le-ltb, lt-ltb}
 use Rattle.std.proofs.lemmas.Option.{same_Some}
-use Rattle.std.proofs.lemmas.List.{get_or-set_same, get_or-set_other, length-set}
+use Rattle.std.proofs.lemmas.List.{length-set}
 use Rattle.std.specs.List.{range_with_len}
 use Rattle.std.specs.Ordering.{nat_cmp}
 use Rattle.std.specs.Cmp.{nat_cmp_total}
 use Rattle.std.specs.FinSet as set
 use Rattle.dg_bits.specs.Sets.{below}
-use Rattle.dg_bits.specs.SetLaws.{same_numbers, contains-below, below_more, below_none}
+use Rattle.dg_bits.specs.SetLaws.{contains-below, below_more, below_none}
 use Rattle.dg_nor.specs.Trail.{last_of, joined, delayed, resting, stepping}
 use Rattle.dg_object.specs.Object.{Row, object, profile}
 use Rattle.dg_slot.specs.Layout.{packets, page_size}
@@ -36,12 +35,13 @@ use Rattle.dg_mote.specs.declared.mote.Heard.TheVariants.{Took, Sealed, Bad}
 use Rattle.dg_mote.proofs.RowLemmas.{keeps_row, same_row}
 use Rattle.dg_mote.proofs.CameLemmas.{came_has}
 use Rattle.dg_mote.proofs.PacketLemmas.{AreOf, put_are_of, makes_page}
+use Rattle.dg_mote.proofs.FillLemmas.{came_put}
 use Rattle.dg_mote.proofs.AdvertLemmas.{no_places, none_came, no_packet}
 use Rattle.dg_mote.proofs.RoundTicks.{spot_of}
 
 -- ---- the packets that came
 
-pub len_of_below : (n : ℕ) → set.len (below n) ≡ n
+len_of_below : (n : ℕ) → set.len (below n) ≡ n
 len_of_below zero = ap set.len below_none ∙ set.len-empty nat_cmp
 len_of_below (suc n) =
     let e : suc n ≡ n + 1 = omega arith in
@@ -66,19 +66,7 @@ missing_next ps n h are =
 
 -- with it the first n + 1 came
 came_next : (ps : Packets) (n : ℕ) (bytes : List ℕ) → n < packets → length ps ≡ packets → came ps ≡ below n → came (put_packet ps n bytes) ≡ below (n + 1)
-came_next ps n bytes h places are = same_numbers _ _ (λ k. elim (cases_eq k n) [
-  | inl e ↦
-      came_has (put_packet ps n bytes) k
-      ∙ (λ i. is_some ((ap (packet (put_packet ps n bytes)) e ∙ get_or-set_same ps n (Some bytes) None (omega (arith, places, h))) i) && lt-ltb k packets (omega (arith, e, h)) i)
-      ∙ sym (contains-below (n + 1) k ∙ lt-ltb k (n + 1) (omega (arith, e)))
-  | inr other ↦
-      came_has (put_packet ps n bytes) k
-      ∙ ap (λ o. is_some o && ltb k packets) (get_or-set_other ps n k (Some bytes) None other)
-      ∙ sym (came_has ps k) ∙ ap (λ s. set.contains s k) are ∙ contains-below n k ∙ same_side k other ∙ sym (contains-below (n + 1) k)
-])
-  where
-    same_side : (k : ℕ) → (k ≡ n → ⊥) → ltb k n ≡ ltb k (n + 1)
-    same_side k other = grind (arith, nat_tests)
+came_next ps n bytes h places are = came_put ps n bytes h places ∙ ap (λ s. set.insert s n) are ∙ below_more n
 
 -- ---- a packet is heard
 

@@ -23,7 +23,7 @@ use Rattle.dg_mote.specs.Adverts.{dropped}
 use Rattle.dg_mote.specs.Agreement.{Serves}
 use Rattle.dg_mote.specs.Requests.{can_serve, is_served, to_it}
 use Rattle.dg_mote.specs.Motes.{IsMote, Transmits, ModeStands, Done}
-use Rattle.dg_mote.specs.Hearing.{Rests}
+use Rattle.dg_mote.specs.Hearing.{Rests, StaysIf}
 use Rattle.dg_mote.specs.declared.mote.Heard.{Heard}
 use Rattle.dg_mote.specs.declared.mote.Heard.TheVariants as heard
 use Rattle.dg_mote.specs.declared.mote.Mote.{Mote}
@@ -164,3 +164,22 @@ on_err (Err e) p f = f p
 pub if_ok3 : {T E : Type 0} {P Q S : T → Type 0} {R : Type 0} (r : Result T E) → IfOk r P → IfOk r Q → OnOk r R → ((x : T) → P x → Q x → R → S x) → IfOk r S
 if_ok3 (Ok x) p q o f = f x p q o
 if_ok3 (Err e) p q o f = tt
+
+-- ---- frames that are refused or dropped
+
+never_dropped : (P : Type 0) (answer : Heard) → StaysIf answer ⊥ → StaysIf answer P
+never_dropped P (heard.Refused fault) stays = absurd stays
+never_dropped P heard.Dropped stays = absurd stays
+never_dropped P heard.Noted stays = tt
+never_dropped P heard.Same stays = tt
+never_dropped P heard.Other stays = tt
+never_dropped P (heard.Asks image page) stays = tt
+never_dropped P (heard.Serves image page) stays = tt
+never_dropped P heard.Merged stays = tt
+never_dropped P (heard.Took packet) stays = tt
+never_dropped P (heard.Sealed image page) stays = tt
+never_dropped P (heard.Bad image page) stays = tt
+
+pub not_dropped : {E : Type 0} (P : Type 0) (r : Result Heard E) → IfOk r (λ answer. StaysIf answer ⊥) → IfOk r (λ answer. StaysIf answer P)
+not_dropped P (Ok answer) stays = never_dropped P answer stays
+not_dropped P (Err e) stays = tt

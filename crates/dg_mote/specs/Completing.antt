@@ -7,13 +7,13 @@ use Rattle.dg_object.specs.Object.{Row, object}
 use Rattle.dg_slot.specs.Layout.{packets}
 use Rattle.dg_slot.specs.Kept.{Held}
 use Rattle.dg_slot.specs.Jobs.{no_packets}
-use Rattle.dg_volume.specs.Store.{Store, held}
+use Rattle.dg_volume.specs.Store.{Store, held, fresh}
 use Rattle.dg_volume.specs.Changes.{paged}
 use Rattle.dg_volume.specs.Table.{row_at, IsTable}
 use Rattle.dg_volume.specs.Agreement.{Agrees}
 use Rattle.dg_frame.specs.declared.Message.{Message}
 use Rattle.dg_frame.specs.declared.Message.TheVariants.{Request, Packet}
-use Rattle.dg_mote.specs.Model.{Receive, Receiving, maintains}
+use Rattle.dg_mote.specs.Model.{Receive, Receiving, begun, maintains}
 use Rattle.dg_mote.specs.Summary.{advert_of, entries_of, ahead_in}
 use Rattle.dg_mote.specs.Ticks.{packet_of}
 use Rattle.dg_mote.specs.Spots.{Spot, SpotIsWell, pace, ticked, tick_at, after_ticks, last_sent, hears, hears_all}
@@ -28,15 +28,39 @@ drain_ticks = 50
 abbrev pub advert_ticks : ℕ
 advert_ticks = 3
 
--- it is drained then, and keeps what it kept
+-- it is drained then, keeps what it kept, and has the same id
 pub record IsDrained (table : List Row) (x : Spot) (now : ℕ) : Type 0 where
   pub drained : Drained (after_ticks drain_ticks x now) (now + drain_ticks * pace)
   pub well : SpotIsWell table (after_ticks drain_ticks x now) (now + drain_ticks * pace)
   pub kept : SameKept x.store (after_ticks drain_ticks x now).store
+  pub id : (after_ticks drain_ticks x now).mote.id ≡ x.mote.id
 
 -- A well mote, whatever it was doing, is drained in so many ticks, where it has room at their end.
 abbrev pub DrainLaw : Type 0
 DrainLaw = (table : List Row) (x : Spot) (now : ℕ) → IsTable table → SpotIsWell table x now → HasRoom (after_ticks drain_ticks x now) → IsDrained table x now
+
+-- the commits that ticks may take: one clears the short starts, and two start the order
+abbrev pub tick_commits : ℕ
+tick_commits = 3
+
+-- A well mote that only ticks takes no more, however often it does. So it has room at the end where it has that much more at first.
+abbrev pub SpendLaw : Type 0
+SpendLaw = (table : List Row) (x : Spot) (now n : ℕ) → IsTable table → SpotIsWell table x now → x.store.room ≤ (after_ticks n x now).store.room + tick_commits
+
+-- it stays drained over the same store
+pub record Rests (table : List Row) (x : Spot) (now n : ℕ) : Type 0 where
+  pub drained : Drained (after_ticks n x now) (now + n * pace)
+  pub well : SpotIsWell table (after_ticks n x now) (now + n * pace)
+  pub store : (after_ticks n x now).store ≡ x.store
+  pub id : (after_ticks n x now).mote.id ≡ x.mote.id
+
+-- So does a drained mote that only ticks, however often it does.
+abbrev pub RestLaw : Type 0
+RestLaw = (table : List Row) (x : Spot) (now n : ℕ) → SpotIsWell table x now → Drained x now → Rests table x now n
+
+-- a mote that has just started, over a chip that was formatted with so many commits told as spent
+abbrev pub fresh_spot : (name bytes : List ℕ) → (used id now word : ℕ) → Spot
+fresh_spot name bytes used id now word = record { store = fresh name bytes used; mote = begun id now word }
 
 -- ---- telling
 
@@ -48,6 +72,7 @@ pub record Advertises (table : List Row) (x : Spot) (now : ℕ) : Type 0 where
   pub id : (after_ticks advert_ticks x now).mote.id ≡ x.mote.id
   pub sent : (before : Option Message) → last_sent advert_ticks x now before ≡ Some (advert_of x.mote.id x.store)
 
+-- A well and drained mote tells what it keeps in so many ticks.
 abbrev pub AdvertLaw : Type 0
 AdvertLaw = (table : List Row) (x : Spot) (now : ℕ) → SpotIsWell table x now → Drained x now → Advertises table x now
 
@@ -103,6 +128,7 @@ pub record Requested (x y : Spot) (now image : ℕ) (kept : Held) (server : ℕ)
   pub id_is : y.mote.id ≡ x.mote.id
   pub sent : (tick_at x (now + pace)).sent ≡ Some (Request x.mote.id server image kept.version (length kept.complete) (below packets))
 
+-- A mote that has begun to ask sends its request in the next tick.
 abbrev pub RequestLaw : Type 0
 RequestLaw = (x : Spot) (now server image : ℕ) (kept : Held) → (a : AsksPage x image kept) → a.r.server ≡ server → a.r.tries ≡ 0 → a.r.due ≤ now + NEXT_WAIT → x.store.gesture ≡ 0
     → Requested x (ticked x (now + pace)) now image kept server

@@ -22,7 +22,7 @@ use Rattle.dg_mote.specs.Summary.{ahead_of}
 use Rattle.dg_mote.specs.Adverts.{outline}
 use Rattle.dg_mote.specs.Motes.{IsMote}
 use Rattle.dg_mote.specs.declared.mote.Heard.{Heard}
-use Rattle.dg_mote.specs.declared.mote.Heard.TheVariants.{Sealed, Bad}
+use Rattle.dg_mote.specs.declared.mote.Heard.TheVariants.{Refused, Dropped, Sealed, Bad}
 use Rattle.dg_mote.specs.declared.mote.Mote.{Mote}
 use Rattle.dg_mote.specs.declared.mote.Mode.TheVariants as value
 
@@ -31,6 +31,12 @@ pub record Rests (turn : Turn Heard) (c : List ℕ) (s : Store) (v : Mote) (answ
   pub trail : turn.trail ≡ resting s 0
   pub mote : IsMote c v turn.mote s
   pub answers : answer ≡ turn.answer
+
+-- where a frame is refused or dropped, this holds
+abbrev pub StaysIf : Heard → Type 0 → Type 0
+StaysIf (Refused fault) P = P
+StaysIf Dropped P = P
+StaysIf answer P = Unit {0}
 
 -- ---- a page that is whole
 

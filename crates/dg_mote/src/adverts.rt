@@ -16,7 +16,7 @@ ghost use Rattle.dg_mote.specs.Model.{MoteState, Maintain};
 ghost use Rattle.dg_mote.specs.Summary.{entry_by, same_entry, same_order, entry_for, is_own, ahead_of, ahead_in};
 ghost use Rattle.dg_mote.specs.Adverts.{heed_trail, ask_trail, asks, asking, noting, by_ahead, advert_heard, on_advert};
 ghost use Rattle.dg_mote.specs.Motes.{IsMote, Done};
-ghost use Rattle.dg_mote.specs.Hearing.{Rests, MayTake, slot_trail, Opened, Begun};
+ghost use Rattle.dg_mote.specs.Hearing.{Rests, StaysIf, MayTake, slot_trail, Opened, Begun};
 
 use crate::summary::entry_of;
 use crate::{Heard, Mode, Mote};
@@ -55,6 +55,7 @@ impl Mote {
         requires order { OrderInRange order.now }
         ensures done { IfOk result (λ heard. (m : MoteState) (s : Store) → IsMote (N.device nor.old).image self.old m s
             → Done (on_advert m.mode m s now word source entries.now order.now) (N.device nor.old) (N.device nor.new) self.new heard) }
+        ensures unchanged { IfOk result (λ heard. StaysIf heard ((N.device nor.new ≡ N.device nor.old) × (self.new ≡ self.old))) }
         ensures same_reference { (N.device nor.new).references ≡ (N.device nor.old).references }
         ensures stopped { OnErr result ((m : MoteState) (s : Store) → IsMote (N.device nor.old).image self.old m s
             → Stops (on_advert m.mode m s now word source entries.now order.now).trail (N.device nor.old) (N.device nor.new)) }
@@ -82,6 +83,7 @@ impl Mote {
         requires order { OrderInRange order.now }
         ensures done { IfOk result (λ heard. (m : MoteState) (s : Store) (timer : Timer) → IsMote (N.device nor.old).image self.old m s → m.mode ≡ Maintain timer
             → Done (advert_heard m timer s now word source entries.now order.now) (N.device nor.old) (N.device nor.new) self.new heard) }
+        ensures not_dropped { IfOk result (λ heard. StaysIf heard ⊥) }
         ensures same_reference { (N.device nor.new).references ≡ (N.device nor.old).references }
         ensures stopped { OnErr result ((m : MoteState) (s : Store) (timer : Timer) → IsMote (N.device nor.old).image self.old m s → m.mode ≡ Maintain timer
             → Stops (advert_heard m timer s now word source entries.now order.now).trail (N.device nor.old) (N.device nor.new)) }
@@ -107,6 +109,7 @@ impl Mote {
         requires entries { All EntryInRange entries.now }
         ensures done { IfOk result (λ heard. (m : MoteState) (s : Store) (timer : Timer) → IsMote (N.device nor.old).image self.old m s → m.mode ≡ Maintain timer
             → Done (by_ahead (ahead_in entries.now s) m timer s now word source entries.now same) (N.device nor.old) (N.device nor.new) self.new heard) }
+        ensures not_dropped { IfOk result (λ heard. StaysIf heard ⊥) }
         ensures same_reference { (N.device nor.new).references ≡ (N.device nor.old).references }
         ensures stopped { OnErr result ((m : MoteState) (s : Store) (timer : Timer) → IsMote (N.device nor.old).image self.old m s → m.mode ≡ Maintain timer
             → Stops (by_ahead (ahead_in entries.now s) m timer s now word source entries.now same).trail (N.device nor.old) (N.device nor.new)) }
@@ -132,12 +135,14 @@ impl Mote {
 
     /// Notes that an equal or another advert was heard.
     fn note_advert(&mut self, same: bool, now: u64, word: u32) -> Heard
+        requires mote { (c : List ℕ) × (m : MoteState) × (s : Store) × (timer : Timer) × IsMote c self.old m s × (m.mode ≡ Maintain timer) }
         requires moment { now < 2 ^ 62 }
-        ensures { (c : List ℕ) (m : MoteState) (s : Store) (timer : Timer) → IsMote c self.old m s → m.mode ≡ Maintain timer
+        ensures rests { (c : List ℕ) (m : MoteState) (s : Store) (timer : Timer) → IsMote c self.old m s → m.mode ≡ Maintain timer
             → Rests (noting m timer s now word same) c s self.new result }
+        ensures not_dropped { StaysIf result ⊥ }
     {
         let Mode::Maintain(trickle) = &mut self.mode else {
-            return Heard::Dropped;
+            unreachable!();
         };
         if same {
             trickle.heard_same();
@@ -162,6 +167,7 @@ impl Mote {
         requires moment { now < 2 ^ 62 }
         ensures done { IfOk result (λ heard. (m : MoteState) (s : Store) (timer : Timer) → IsMote (N.device nor.old).image self.old m s → m.mode ≡ Maintain timer → MayTake s image entry
             → Done (asking m s now word source image entry) (N.device nor.old) (N.device nor.new) self.new heard) }
+        ensures not_dropped { IfOk result (λ heard. StaysIf heard ⊥) }
         ensures same_reference { (N.device nor.new).references ≡ (N.device nor.old).references }
         ensures stopped { OnErr result ((m : MoteState) (s : Store) (timer : Timer) → IsMote (N.device nor.old).image self.old m s → m.mode ≡ Maintain timer → MayTake s image entry
             → Stops (ask_trail s image entry) (N.device nor.old) (N.device nor.new)) }

@@ -7,6 +7,7 @@ ghost use Rattle.dg_mote.specs.Model.{MoteState};
 ghost use Rattle.dg_mote.specs.Hears.{source_of, by_message, heard_of};
 ghost use Rattle.dg_mote.specs.Timely.{Timely};
 ghost use Rattle.dg_mote.specs.Motes.{IsMote, Done};
+ghost use Rattle.dg_mote.specs.Hearing.{StaysIf};
 
 use crate::requests::PageName;
 use crate::{Heard, Mote};
@@ -34,6 +35,8 @@ impl Mote {
         requires moment { now < 2 ^ 62 }
         ensures done { IfOk result (λ heard. (m : MoteState) (s : Store) → IsMote (N.device nor.old).image self.old m s
             → Done (heard_of m s now word bytes.now) (N.device nor.old) (N.device nor.new) self.new heard) }
+        // a frame that is refused or dropped changes nothing
+        ensures unchanged { IfOk result (λ heard. StaysIf heard ((N.device nor.new ≡ N.device nor.old) × (self.new ≡ self.old))) }
         ensures same_reference { (N.device nor.new).references ≡ (N.device nor.old).references }
         ensures stopped { OnErr result ((m : MoteState) (s : Store) → IsMote (N.device nor.old).image self.old m s
             → Stops (heard_of m s now word bytes.now).trail (N.device nor.old) (N.device nor.new)) }
@@ -57,6 +60,7 @@ impl Mote {
         requires range { IsInRange message }
         ensures done { IfOk result (λ heard. (m : MoteState) (s : Store) → IsMote (N.device nor.old).image self.old m s
             → Done (by_message (Ok message) m s now word) (N.device nor.old) (N.device nor.new) self.new heard) }
+        ensures unchanged { IfOk result (λ heard. StaysIf heard ((N.device nor.new ≡ N.device nor.old) × (self.new ≡ self.old))) }
         ensures same_reference { (N.device nor.new).references ≡ (N.device nor.old).references }
         ensures stopped { OnErr result ((m : MoteState) (s : Store) → IsMote (N.device nor.old).image self.old m s
             → Stops (by_message (Ok message) m s now word).trail (N.device nor.old) (N.device nor.new)) }

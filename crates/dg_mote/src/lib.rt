@@ -23,8 +23,8 @@ pub use laws::{
 pub use mote::{Did, Heard, Mode, Mote};
 pub use outbox::Outbox;
 pub use rounds::{
-    a_drained_mote_advertises, a_drained_mote_asks, a_drained_mote_serves, a_mote_drains,
-    a_page_comes,
+    a_drained_mote_advertises, a_drained_mote_asks, a_drained_mote_rests, a_drained_mote_serves,
+    a_fresh_mote_is_drained, a_mote_drains, a_page_comes, ticks_take_few_commits,
 };
 pub use rules::{
     a_frame_is_heard_in_silence, a_page_comes_in_frames, a_restart_is_for_the_order,

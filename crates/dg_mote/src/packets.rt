@@ -18,7 +18,7 @@ ghost use Rattle.dg_volume.specs.Trails.{sealing_trail};
 ghost use Rattle.dg_mote.specs.Model.{MoteState, Maintain, Receive, Receiving};
 ghost use Rattle.dg_mote.specs.Packets.{is_wanted, on_packet};
 ghost use Rattle.dg_mote.specs.Motes.{IsMote, Receives, Done};
-ghost use Rattle.dg_mote.specs.Hearing.{Rests, Fills, is_sealed, IsWhole, page_ends};
+ghost use Rattle.dg_mote.specs.Hearing.{Rests, StaysIf, Fills, is_sealed, IsWhole, page_ends};
 
 use crate::requests::PageName;
 use crate::{Heard, Mode, Mote};
@@ -47,6 +47,7 @@ impl Mote {
         requires in_page { packet ≤ last_packet }
         ensures done { IfOk result (λ heard. (m : MoteState) (s : Store) → IsMote (N.device nor.old).image self.old m s
             → Done (on_packet m.mode m s now word name.image name.version name.page packet bytes.now) (N.device nor.old) (N.device nor.new) self.new heard) }
+        ensures unchanged { IfOk result (λ heard. StaysIf heard ((N.device nor.new ≡ N.device nor.old) × (self.new ≡ self.old))) }
         ensures same_reference { (N.device nor.new).references ≡ (N.device nor.old).references }
         ensures stopped { OnErr result ((m : MoteState) (s : Store) → IsMote (N.device nor.old).image self.old m s
             → Stops (on_packet m.mode m s now word name.image name.version name.page packet bytes.now).trail (N.device nor.old) (N.device nor.new)) }
@@ -61,8 +62,9 @@ impl Mote {
     /// A page is sent to another mote: that is noted where it would be of use here.
     fn overhear_packet(&mut self, now: u64, name: PageName) -> Heard
         requires { PageInRange name.image name.version name.page }
-        ensures { (c : List ℕ) (m : MoteState) (s : Store) (timer : Timer) (word packet : ℕ) (bytes : List ℕ) → IsMote c self.old m s
+        ensures rests { (c : List ℕ) (m : MoteState) (s : Store) (timer : Timer) (word packet : ℕ) (bytes : List ℕ) → IsMote c self.old m s
             → Rests (on_packet (Maintain timer) m s now word name.image name.version name.page packet bytes) c s self.new result }
+        ensures unchanged { StaysIf result (self.new ≡ self.old) }
     {
         if !self.concerns(name) {
             return Heard::Dropped;
@@ -87,6 +89,7 @@ impl Mote {
         requires in_page { packet ≤ last_packet }
         ensures done { IfOk result (λ heard. (m : MoteState) (s : Store) (r : Receiving) → IsMote (N.device nor.old).image self.old m s → m.mode ≡ Receive r
             → Done (on_packet (Receive r) m s now word name.image name.version name.page packet bytes.now) (N.device nor.old) (N.device nor.new) self.new heard) }
+        ensures unchanged { IfOk result (λ heard. StaysIf heard ((N.device nor.new ≡ N.device nor.old) × (self.new ≡ self.old))) }
         ensures same_reference { (N.device nor.new).references ≡ (N.device nor.old).references }
         ensures stopped { OnErr result ((m : MoteState) (s : Store) (r : Receiving) → IsMote (N.device nor.old).image self.old m s → m.mode ≡ Receive r
             → Stops (on_packet (Receive r) m s now word name.image name.version name.page packet bytes.now).trail (N.device nor.old) (N.device nor.new)) }
@@ -118,6 +121,7 @@ impl Mote {
         requires whole { (m : MoteState) × (s : Store) × (r : Receiving) × (h : Held) × (ps : Packets) × IsWhole (N.device nor.old).image self.old m s r h ps }
         ensures done { IfOk result (λ heard. (m : MoteState) (s : Store) (r : Receiving) (h : Held) (ps : Packets) → IsWhole (N.device nor.old).image self.old m s r h ps
             → Done (page_ends m r h s now word (page_from ps)) (N.device nor.old) (N.device nor.new) self.new heard) }
+        ensures not_dropped { IfOk result (λ heard. StaysIf heard ⊥) }
         ensures same_reference { (N.device nor.new).references ≡ (N.device nor.old).references }
         ensures stopped { OnErr result ((m : MoteState) (s : Store) (r : Receiving) (h : Held) (ps : Packets) → IsWhole (N.device nor.old).image self.old m s r h ps
             → Stops (page_ends m r h s now word (page_from ps)).trail (N.device nor.old) (N.device nor.new)) }

@@ -7,7 +7,7 @@ ghost use Rattle.dg_trickle.specs.Timer.{Timer};
 ghost use Rattle.dg_mote.specs.Model.{MoteState, Maintain, Transmit, Sending};
 ghost use Rattle.dg_mote.specs.Requests.{concerns, can_serve, overheard, to_it, on_request};
 ghost use Rattle.dg_mote.specs.Motes.{IsMote};
-ghost use Rattle.dg_mote.specs.Hearing.{Rests};
+ghost use Rattle.dg_mote.specs.Hearing.{Rests, StaysIf};
 
 use crate::{Heard, Mode, Mote};
 use dg_bits::PageBits;
@@ -33,8 +33,9 @@ impl Mote {
     ) -> Heard
         requires range { PageInRange name.image name.version name.page }
         requires some { want ≢ set.empty }
-        ensures { (c : List ℕ) (m : MoteState) (s : Store) → IsMote c self.old m s
+        ensures rests { (c : List ℕ) (m : MoteState) (s : Store) → IsMote c self.old m s
             → Rests (on_request m s now to name.image name.version name.page want) c s self.new result }
+        ensures unchanged { StaysIf result (self.new ≡ self.old) }
     {
         if to == self.id {
             self.answer_request(now, name, want)
@@ -46,8 +47,9 @@ impl Mote {
     /// Another mote is asked for a page: that is noted where it would be of use here.
     fn overhear_request(&mut self, now: u64, name: PageName) -> Heard
         requires { PageInRange name.image name.version name.page }
-        ensures { (c : List ℕ) (m : MoteState) (s : Store) → IsMote c self.old m s
+        ensures rests { (c : List ℕ) (m : MoteState) (s : Store) → IsMote c self.old m s
             → Rests (overheard m s now name.image name.version name.page) c s self.new result }
+        ensures unchanged { StaysIf result (self.new ≡ self.old) }
     {
         if !self.concerns(name) {
             return Heard::Dropped;
@@ -60,8 +62,9 @@ impl Mote {
     fn answer_request(&mut self, now: u64, name: PageName, want: PageBits<PACKETS>) -> Heard
         requires range { PageInRange name.image name.version name.page }
         requires some { want ≢ set.empty }
-        ensures { (c : List ℕ) (m : MoteState) (s : Store) → IsMote c self.old m s
+        ensures rests { (c : List ℕ) (m : MoteState) (s : Store) → IsMote c self.old m s
             → Rests (to_it m.mode m s now name.image name.version name.page want) c s self.new result }
+        ensures unchanged { StaysIf result (self.new ≡ self.old) }
     {
         match self.mode {
             Mode::Maintain(_) => self.serve(now, name, want),
@@ -74,8 +77,9 @@ impl Mote {
     fn serve(&mut self, now: u64, name: PageName, want: PageBits<PACKETS>) -> Heard
         requires range { PageInRange name.image name.version name.page }
         requires some { want ≢ set.empty }
-        ensures { (c : List ℕ) (m : MoteState) (s : Store) (timer : Timer) → IsMote c self.old m s → m.mode ≡ Maintain timer
+        ensures rests { (c : List ℕ) (m : MoteState) (s : Store) (timer : Timer) → IsMote c self.old m s → m.mode ≡ Maintain timer
             → Rests (to_it (Maintain timer) m s now name.image name.version name.page want) c s self.new result }
+        ensures unchanged { StaysIf result (self.new ≡ self.old) }
     {
         if !self.can_serve(name) {
             return Heard::Dropped;
@@ -94,8 +98,9 @@ impl Mote {
 
     /// Adds what a further request asks for, where it is of the page that is served.
     fn serve_more(&mut self, name: PageName, want: PageBits<PACKETS>) -> Heard
-        ensures { (c : List ℕ) (m : MoteState) (s : Store) (t : Sending) (now : ℕ) → IsMote c self.old m s → m.mode ≡ Transmit t
+        ensures rests { (c : List ℕ) (m : MoteState) (s : Store) (t : Sending) (now : ℕ) → IsMote c self.old m s → m.mode ≡ Transmit t
             → Rests (to_it (Transmit t) m s now name.image name.version name.page want) c s self.new result }
+        ensures unchanged { StaysIf result (self.new ≡ self.old) }
     {
         let Mode::Transmit {
             image,

@@ -1,6 +1,13 @@
 //! What a round of ticks and frames does at each of its two motes. These functions do nothing: their contracts are the
 //! laws.
-ghost use Rattle.dg_mote.specs.Completing.{DrainLaw, AdvertLaw, AskLaw, RequestLaw, ServeLaw, TakeLaw};
+ghost use Rattle.std.specs.Prelude.{◌≡◌, ℕ, ◌+◌, ◌≤◌, List, Some};
+ghost use Rattle.dg_object.specs.Object.{Row};
+ghost use Rattle.dg_volume.specs.Sizes.{golden_version, most_room};
+ghost use Rattle.dg_volume.specs.Store.{golden_row};
+ghost use Rattle.dg_volume.specs.Table.{row_at};
+ghost use Rattle.dg_mote.specs.Spots.{SpotIsWell, after_ticks};
+ghost use Rattle.dg_mote.specs.Drained.{Drained, spare_room, HasRoom};
+ghost use Rattle.dg_mote.specs.Completing.{DrainLaw, SpendLaw, RestLaw, fresh_spot, AdvertLaw, AskLaw, RequestLaw, ServeLaw, TakeLaw};
 
 use crate::laws::a_mote_stays_well;
 use dg_slot::a_page_is_its_packets;
@@ -16,6 +23,35 @@ pub fn a_mote_drains()
     a_table_holds_sound_rows();
     starts_end();
     trails_begin();
+}
+
+/// A mote that only ticks makes no more than three commits, however often it does: one clears the count of short starts,
+/// and two start the order. So one that has room for six has room for three after any number of ticks.
+pub fn ticks_take_few_commits()
+    ensures { SpendLaw }
+{
+    a_mote_stays_well();
+    a_table_holds_sound_rows();
+    starts_end();
+    trails_begin();
+}
+
+/// A drained mote that only ticks stays drained over the same store.
+pub fn a_drained_mote_rests()
+    ensures { RestLaw }
+{}
+
+/// A mote that has just started over a chip that was formatted is drained, and agrees with each table that has its
+/// golden image. Where the chip was formatted with room for three commits, it has that room after any number of ticks.
+/// So such motes are what the laws of a round ask for.
+pub fn a_fresh_mote_is_drained()
+    ensures well { (table : List Row) (name bytes : List ℕ) (used id now word : ℕ) → row_at table 0 golden_version ≡ Some (golden_row name bytes) → SpotIsWell table (fresh_spot name bytes used id now word) now }
+    ensures drained { (name bytes : List ℕ) (used id now word : ℕ) → Drained (fresh_spot name bytes used id now word) now }
+    ensures room { (table : List Row) (name bytes : List ℕ) (used id now word n : ℕ) → row_at table 0 golden_version ≡ Some (golden_row name bytes) → used + spare_room ≤ most_room
+        → HasRoom (after_ticks n (fresh_spot name bytes used id now word) now) }
+{
+    a_mote_stays_well();
+    a_drained_mote_rests();
 }
 
 /// A drained mote tells what it keeps within three ticks more, and stays drained over the same store.

@@ -12,7 +12,7 @@ returns-in_default-clause-done g c m s timer is mode =
     let a = g.N.Nor.device c.args.nor.now in
     let v = c.note_advert.new.self in
     let e = follows_none m timer s c.args.now c.args.word c.args.source c.args.entries.now c.args.same (sym (c.first_ahead.ensures.least s is.mounted.tells) ∙ c.in_default.is) in
-    subst (λ (t : Turn Heard). Done t a a v c.note_advert.result) (sym e) (rests_done _ a s v c.note_advert.result (c.note_advert.ensures a.image m s timer is mode))
+    subst (λ (t : Turn Heard). Done t a a v c.note_advert.result) (sym e) (rests_done _ a s v c.note_advert.result (c.note_advert.ensures.rests a.image m s timer is mode))
 
 pub returns-then-not-may_ask-clause-done : goal.returns-then-not-may_ask-clause-done
 returns-then-not-may_ask-clause-done g c m s timer is mode =
@@ -21,7 +21,7 @@ returns-then-not-may_ask-clause-done g c m s timer is mode =
     let note = c.note_advert-then-not-may_ask in
     let cannot = sym (c.may_ask.ensures a.image m s is) ∙ c.if-not-may_ask.true in
     let e = follows_noted m timer s c.args.now c.args.word c.args.source x.image c.args.entries.now c.entry_for-entry.result c.args.same (sym (x.ensures.least s is.mounted.tells)) c.entry_for-entry.ensures cannot in
-    subst (λ (t : Turn Heard). Done t a a note.new.self note.result) (sym e) (rests_done _ a s note.new.self note.result (note.ensures a.image m s timer is mode))
+    subst (λ (t : Turn Heard). Done t a a note.new.self note.result) (sym e) (rests_done _ a s note.new.self note.result (note.ensures.rests a.image m s timer is mode))
 
 pub ask-requires-clause-mote : goal.ask-requires-clause-mote
 ask-requires-clause-mote g c =

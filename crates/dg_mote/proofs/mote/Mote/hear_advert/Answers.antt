@@ -1,11 +1,11 @@
-use Rattle.std.proofs.Common.{sym, subst}
+use Rattle.std.proofs.Common.{◌≡◌, sym, subst}
 use Rattle.dg_volume.specs.Acts.{Stops}
 use Rattle.dg_mote.specs.Model.{Mode}
 use Rattle.dg_mote.specs.Adverts.{on_advert}
 use Rattle.dg_mote.specs.Motes.{Done}
 use Rattle.dg_mote.specs.declared.mote.Heard.TheVariants as heard
 use Rattle.dg_mote.proofs.HereLemmas.{maintains_here, receives_here, transmits_here}
-use Rattle.dg_mote.proofs.ServeLemmas.{dropped_done, if_ok, on_err}
+use Rattle.dg_mote.proofs.ServeLemmas.{dropped_done, if_ok, on_err, not_dropped}
 use Rattle.dg_mote.proofs.mote.Mote.hear_advert.Goals as goal
 
 pub weigh_advert-requires-clause-mote : goal.weigh_advert-requires-clause-mote
@@ -39,3 +39,6 @@ returns-in-Transmit-clause-done g c m s is =
     let a = g.N.Nor.device c.args.nor.now in
     let here = transmits_here a.image c.args.self.now m s x.image x.version x.page x.serving is x.is in
     subst (λ (y : Mode). Done (on_advert y m s c.args.now c.args.word c.args.source c.args.entries.now c.args.order.now) a a c.args.self.now heard.Dropped) (sym here.is) (dropped_done a c.args.self.now m s is)
+
+pub returns-in-Maintain-clause-unchanged : goal.returns-in-Maintain-clause-unchanged
+returns-in-Maintain-clause-unchanged g c = not_dropped ((g.N.Nor.device c.weigh_advert.new.nor ≡ g.N.Nor.device c.args.nor.now) × (c.weigh_advert.new.self ≡ c.args.self.now)) c.weigh_advert.result c.weigh_advert.ensures.not_dropped

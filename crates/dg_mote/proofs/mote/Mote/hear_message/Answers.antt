@@ -50,7 +50,7 @@ returns-in-Request-clause-done g c m s is =
     let v = c.hear_request.new.self in
     let e = other_source _ (source_of c.args.message) _ m.id c.source.ensures is.id c.if-source-self.false in
     subst (λ (t : Turn Heard). Done t a a v c.hear_request.result) (sym (passed (source_of c.args.message == m.id) (dropped m s) (on_message m s c.args.now c.args.word c.args.message) e))
-    (subst (λ (y : Message). Done (on_message m s c.args.now c.args.word y) a a v c.hear_request.result) (sym c.in-Request.is) (rests_done (on_request m s c.args.now x.to x.image x.version x.page x.want) a s v c.hear_request.result (c.hear_request.ensures a.image m s is)))
+    (subst (λ (y : Message). Done (on_message m s c.args.now c.args.word y) a a v c.hear_request.result) (sym c.in-Request.is) (rests_done (on_request m s c.args.now x.to x.image x.version x.page x.want) a s v c.hear_request.result (c.hear_request.ensures.rests a.image m s is)))
 
 pub returns-in-Packet-clause-done : goal.returns-in-Packet-clause-done
 returns-in-Packet-clause-done g c = if_ok c.hear_packet.result c.hear_packet.ensures.done (λ answer done m s is.

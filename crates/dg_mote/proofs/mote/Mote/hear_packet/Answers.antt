@@ -21,7 +21,7 @@ returns-in-Maintain-clause-done g c m s is =
     let a = g.N.Nor.device c.args.nor.now in
     let here = maintains_here a.image c.args.self.now m s c.in-Maintain.field-0 is c.in-Maintain.is in
     subst (λ (x : Mode). Done (on_packet x m s c.args.now c.args.word n.image n.version n.page c.args.packet c.args.bytes.now) a a c.overhear_packet.new.self c.overhear_packet.result) (sym here.is)
-    (rests_done _ a s c.overhear_packet.new.self c.overhear_packet.result (c.overhear_packet.ensures a.image m s c.in-Maintain.field-0 c.args.word c.args.packet c.args.bytes.now is))
+    (rests_done _ a s c.overhear_packet.new.self c.overhear_packet.result (c.overhear_packet.ensures.rests a.image m s c.in-Maintain.field-0 c.args.word c.args.packet c.args.bytes.now is))
 
 pub returns-in-Receive-clause-done : goal.returns-in-Receive-clause-done
 returns-in-Receive-clause-done g c = if_ok c.take_packet.result c.take_packet.ensures.done (λ answer done m s is.

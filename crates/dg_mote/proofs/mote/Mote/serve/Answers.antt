@@ -8,8 +8,8 @@ use Rattle.dg_mote.specs.declared.mote.Mode.TheVariants as value
 use Rattle.dg_mote.proofs.ServeLemmas.{serving_now}
 use Rattle.dg_mote.proofs.mote.Mote.serve.Goals as goal
 
-pub returns : goal.returns
-returns c d m s timer is mode =
+pub returns-clause-rests : goal.returns-clause-rests
+returns-clause-rests c d m s timer is mode =
     let i = c.args.name.image in
     let version = c.args.name.version in
     let page = c.args.name.page in

@@ -11,8 +11,8 @@ use Rattle.dg_mote.proofs.ServeLemmas.{serving_more, serving_other}
 use Rattle.dg_mote.proofs.mote.Mote.serve_more.Goals as goal
 use Rattle.dg_mote.proofs.mote.Mote.serve_more.Goals.{then-image-name-via-then-image-name, then-image-name-via-else-image-name+then-version-name, then-image-name-via-else-image-name+else-version-name+then-page-name}
 
-pub returns-then-image-name : goal.returns-then-image-name
-returns-then-image-name c d m s t now is mode =
+pub returns-then-image-name-clause-rests : goal.returns-then-image-name-clause-rests
+returns-then-image-name-clause-rests c d m s t now is mode =
     let x = c.in-Transmit in
     let i = c.args.name.image in
     let version = c.args.name.version in
@@ -26,8 +26,8 @@ returns-then-image-name c d m s t now is mode =
       | then-image-name-via-else-image-name+else-version-name+then-page-name w ↦ subst P (sym w.self-is) (other (inr (inr w.if-page-name.true)))
     ]
 
-pub returns : goal.returns
-returns c d m s t now is mode =
+pub returns-clause-rests : goal.returns-clause-rests
+returns-clause-rests c d m s t now is mode =
     let x = c.in-Transmit in
     let i = c.args.name.image in
     let version = c.args.name.version in

@@ -17,7 +17,7 @@ use Rattle.dg_mote.specs.declared.mote.Heard.TheVariants as heard
 use Rattle.dg_mote.specs.declared.mote.Mote.{Mote}
 use Rattle.dg_mote.specs.declared.mote.Mode.{Mode as ModeValue}
 use Rattle.dg_mote.specs.declared.mote.Mode.TheVariants as value
-use Rattle.dg_mote.proofs.ServeLemmas.{chosen, passed, dropped_done, if_ok, on_err}
+use Rattle.dg_mote.proofs.ServeLemmas.{chosen, passed, dropped_done, if_ok, on_err, not_dropped}
 use Rattle.dg_mote.proofs.FillLemmas.{asks_this, in_slot, put_stops, takes_stopped, takes_part, takes_whole, took_done, made_whole, ends_begin, done_behind, stops_behind}
 use Rattle.dg_mote.proofs.mote.Mote.take_packet.Goals as goal
 
@@ -152,3 +152,6 @@ returns-clause-stopped g c = on_err c.end_page.result c.end_page.ensures.stopped
     let same = last-resting s 1 ∙ sym (ends_begin m r h s c.args.now c.args.word page).first in
     subst (λ (t : Turn Heard). Stops t.trail a d) (sym turn)
     (stops_behind (resting s 1) ends a b d same ran (stopped m s r h ps made.whole)))
+
+pub returns-clause-unchanged : goal.returns-clause-unchanged
+returns-clause-unchanged g c = not_dropped ((g.N.Nor.device c.end_page.new.nor ≡ g.N.Nor.device c.args.nor.now) × (c.end_page.new.self ≡ c.args.self.now)) c.end_page.result c.end_page.ensures.not_dropped
