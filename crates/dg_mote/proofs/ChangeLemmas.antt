@@ -1,243 +1,359 @@
--- What an advert may change of a store.
-use Rattle.std.proofs.Common.{◌≡◌, ◌⊎◌, ℕ, ◌<◌, ◌≤◌, Bool, true, false, ◌&&◌, List, length, Option, Some, None, Result, Ok, refl, sym, ap, subst, ◌∙◌, inl, inr, ⊎_elim, arith}
-use Rattle.std.specs.Prelude.{◌==◌, nat_le, nat_lt, slice_index_or}
-use Rattle.std.proofs.Math.ListN.{length-set}
-use Rattle.std.proofs.lemmas.Bool.{cond_both, cases_eq, and_parts, or_cases, eqb-true, eqb-false, ltb-true}
-use Rattle.std.proofs.lemmas.List.{get_or-set_same, get_or-set_other}
-use Rattle.dg_nor.specs.Trail.{Trail, last, last_of, joined, resting}
+-- What ticks and frames change of what the chip keeps.
+use Rattle.std.proofs.Common.{◌≡◌, ◌⊎◌, ℕ, ◌<◌, ◌≤◌, Bool, true, false, ◌&&◌, ◌||◌, List, Option, Some, None, is_some, Result, Ok, refl, sym, ap, subst, ◌∙◌, inl, inr, ⊎_elim, arith, ltb-true, leb-true, eqb-true}
+use Rattle.std.specs.Prelude.{◌==◌, nat_lt, nat_le, slice_set, slice_index_or}
+use Rattle.std.specs.FinSet as set
+use Rattle.std.proofs.lemmas.Bool.{cond_both, cases_eq, and_parts, eqb-false}
+use Rattle.std.proofs.lemmas.List.{get_or-set_other, set-set, set-get_or}
+use Rattle.dg_nor.specs.Trail.{Trail, last, joined, resting, stepping}
 use Rattle.dg_nor.specs.Through.{Through}
 use Rattle.dg_nor.proofs.TrailLemmas.{last-joined, last-resting}
 use Rattle.dg_nor.proofs.ThroughLemmas.{Through-joined, Through-resting, Through-stepping, Through-last}
 use Rattle.dg_trickle.specs.Timer.{Timer}
+use Rattle.dg_trickle.specs.Steps.{act_of, after_tick}
+use Rattle.dg_trickle.specs.declared.Act.{Act}
+use Rattle.dg_trickle.specs.declared.Act.TheVariants as act
+use Rattle.dg_recv.specs.Steps.{ask_of}
+use Rattle.dg_recv.specs.declared.Ask.{Ask}
+use Rattle.dg_recv.specs.declared.Ask.TheVariants as ask
+use Rattle.dg_send.specs.Steps.{serve_of}
+use Rattle.dg_send.specs.declared.Serve.{Serve}
+use Rattle.dg_send.specs.declared.Serve.TheVariants as serve
+use Rattle.dg_bits.specs.Sets.{Numbers}
 use Rattle.dg_control.specs.Store.{commit_operations}
 use Rattle.dg_control.specs.declared.snapshot.Order.{Order}
 use Rattle.dg_object.specs.Object.{Outline}
+use Rattle.dg_slot.specs.Layout.{packets}
 use Rattle.dg_slot.specs.Kept.{Held, held_begun}
-use Rattle.dg_volume.specs.Sizes.{images}
+use Rattle.dg_slot.specs.Jobs.{packet, put_packet, page_from}
+use Rattle.dg_slot.specs.Fits.{may_seal}
 use Rattle.dg_volume.specs.Store.{Store, held}
-use Rattle.dg_volume.specs.Changes.{spent, keeping, ordered, is_version}
+use Rattle.dg_volume.specs.Changes.{spent, keeping, paged, ordered, gesture_cleared, is_version}
+use Rattle.dg_volume.specs.Trails.{committing, order_trail, drop_by, drop_trail, open_trail, take_trail, BeginsAt}
 use Rattle.dg_volume.specs.Ends.{taken}
-use Rattle.dg_volume.specs.Trails.{BeginsAt, committing, order_trail, clear_trail, drop_by, drop_trail, open_trail, take_trail}
-use Rattle.dg_frame.specs.Sizes.{frame_images}
-use Rattle.dg_frame.specs.declared.Entry.{Entry}
-use Rattle.dg_mote.specs.Model.{MoteState, Mode, Maintain, Receive, Transmit, Turn}
-use Rattle.dg_mote.specs.Summary.{entry_for, is_own, ahead_of, ahead_in}
-use Rattle.dg_mote.specs.Adverts.{outline, heed_trail, ask_trail, asks, asking, noting, by_ahead, advert_heard, on_advert, dropped}
-use Rattle.dg_mote.specs.Hears.{by_message, heard_of}
+use Rattle.dg_volume.specs.Start.{order_waits}
 use Rattle.dg_frame.specs.Grammar.{message_of}
-use Rattle.dg_frame.specs.declared.Message.{Message}
-use Rattle.dg_frame.specs.declared.Message.TheVariants.{Advert}
+use Rattle.dg_frame.specs.declared.Entry.{Entry}
 use Rattle.dg_frame.specs.declared.FrameFault.{FrameFault}
-use Rattle.dg_mote.specs.Rules.{IsOlder, AdvertMayMake}
+use Rattle.dg_frame.specs.declared.Message.{Message}
+use Rattle.dg_frame.specs.declared.Message.TheVariants.{Advert, Request, Packet}
+use Rattle.dg_mote.specs.Model.{MoteState, Mode, Maintain, Receive, Transmit, Receiving, Sending, came, reception, Turn}
+use Rattle.dg_mote.specs.Summary.{entry_for, is_own, ahead_of, ahead_in}
+use Rattle.dg_mote.specs.Ticks.{clears, maintain_by, receive_by, transmit_by, mode_tick, tick_of}
+use Rattle.dg_mote.specs.Adverts.{outline, heed_trail, ask_trail, asks, noting, by_ahead, advert_heard, on_advert}
+use Rattle.dg_mote.specs.Requests.{concerns, can_serve, is_served, to_it}
+use Rattle.dg_mote.specs.Packets.{is_wanted, seal_by, on_packet}
+use Rattle.dg_mote.specs.Hears.{by_message, heard_of}
+use Rattle.dg_mote.specs.Changes.{MayClear, IsBehind, HeedsAdvert, Completes}
+use Rattle.dg_mote.specs.declared.mote.Did.{Did}
 use Rattle.dg_mote.specs.declared.mote.Heard.{Heard}
-use Rattle.dg_mote.proofs.ReadLemmas.{IsWellRead, well_read}
-use Rattle.dg_mote.proofs.BeginLemmas.{ahead_begins}
+use Rattle.dg_mote.proofs.AdvertLemmas.{is_ahead}
+use Rattle.dg_mote.proofs.PacketLemmas.{wanted}
 use Rattle.dg_mote.proofs.KeepLemmas.{through_then}
-use Rattle.dg_mote.proofs.AdvertLemmas.{IsAhead, is_ahead, some_page}
+use Rattle.dg_mote.proofs.CameLemmas.{came_all}
 
--- what is promised below of a take
-pub record TakeEnds : Type 0 where
-  pub end : (s : Store) (p : Outline) → last (take_trail s p) ≡ taken s p
-  pub order : (s : Store) (o : Order) → BeginsAt s (order_trail s o)
-  pub clear : (s : Store) → BeginsAt s (clear_trail s)
-  pub take : (s : Store) (p : Outline) → BeginsAt s (take_trail s p)
+joined_first : (t u : Trail Store) → (joined t u).first ≡ t.first
+unfolding joined
+joined_first t u = refl
 
--- a version that is ahead, and is not the kept one, is newer
-newer_by : (e : Entry) (o : Option Held) → ahead_of e o ≡ true → is_version o e.version ≡ false → IsOlder o e.version
-newer_by e None ahead other = tt
-newer_by e (Some h) ahead other =
-    ⊎_elim (λ newer. ltb-true h.version e.version newer)
-    (λ same.
-    let a = and_parts ((e.version == h.version) && (e.pages == h.pages) && (e.crc == h.crc)) (nat_lt (length h.complete) e.have) same in
-    let b = and_parts ((e.version == h.version) && (e.pages == h.pages)) (e.crc == h.crc) a.0 in
-    let c = and_parts (e.version == h.version) (e.pages == h.pages) b.0 in
-    absurd (eqb-false h.version e.version other (sym (eqb-true e.version h.version c.0))))
-    (or_cases (nat_lt h.version e.version) _ (and_parts (nat_le 1 e.have) _ ahead).1)
+-- ---- ticks
 
-module _ (s : Store) (places : length s.kept ≡ images) (entries : List Entry) (count : length entries ≡ frame_images) (order : Order) where
-  abbrev May : Store → Type 0
-  May t = AdvertMayMake s entries order t
+abbrev Rests : {A : Type 0} → Store → Turn A → Type 0
+Rests s step = step.trail ≡ resting s 0
 
-  -- the order alone
-  record Heeds (t : Store) : Type 0 where
-    kept : t.kept ≡ s.kept
-    app : t.app ≡ s.app
-    order_change : (t.order ≡ s.order) ⊎ ((t.order ≡ order) × (s.order.number < order.number))
+maintain_rests : (a : Act) (m : MoteState) (s : Store) → Rests s (maintain_by a m s)
+maintain_rests act.Send m s = refl
+maintain_rests act.Quiet m s = refl
+maintain_rests act.Expired m s = refl
+maintain_rests act.Nothing m s = refl
 
-  heeds_may : (t : Store) → Heeds t → May t
-  heeds_may t h = record {
+receive_rests : (a : Ask) (m : MoteState) (r : Receiving) (s : Store) (now word : ℕ) → Rests s (receive_by a m r s now word)
+receive_rests (ask.Request want) m r s now word = refl
+receive_rests ask.GiveUp m r s now word = refl
+receive_rests ask.Wait m r s now word = refl
+
+transmit_rests : (a : Serve) (m : MoteState) (t : Sending) (s : Store) (now word : ℕ) → Rests s (transmit_by a m t s now word)
+transmit_rests (serve.Send q) m t s now word = refl
+transmit_rests serve.Done m t s now word = refl
+transmit_rests serve.Wait m t s now word = refl
+
+mode_rests : (mode : Mode) (m : MoteState) (s : Store) (now word : ℕ) → Rests s (mode_tick mode m s now word)
+mode_rests (Maintain timer) m s now word = cond_both (order_waits s) _ _ (Rests s) (λ _. refl) (λ _. maintain_rests (act_of timer now) (record m { mode = Maintain (after_tick timer now word) }) s)
+mode_rests (Receive r) m s now word = receive_rests (ask_of (reception r) now) m r s now word
+mode_rests (Transmit t) m s now word = transmit_rests (serve_of t.owed now) m t s now word
+
+pub tick_clears : (m : MoteState) (s : Store) (now word : ℕ) → Through (MayClear s) (tick_of m s now word).trail
+unfolding tick_of
+tick_clears m s now word =
+    cond_both (clears m s now) _ _ (λ (step : Turn Did). Through (MayClear s) step.trail)
+    (λ _. Through-stepping (MayClear s) s (commit_operations s.room) (gesture_cleared s) (inl refl) (inr refl))
+    (λ _. subst (Through (MayClear s)) (sym (mode_rests m.mode m s now word)) (Through-resting (MayClear s) s 0 (inl refl)))
+
+-- ---- requests
+
+to_it_rests : (mode : Mode) (m : MoteState) (s : Store) (now image version page : ℕ) (want : Numbers) → Rests s (to_it mode m s now image version page want)
+to_it_rests (Maintain timer) m s now image version page want = cond_both (can_serve s image version page) _ _ (λ (step : Turn Heard). Rests s step) (λ _. refl) (λ _. refl)
+to_it_rests (Transmit t) m s now image version page want = cond_both (is_served t image version page) _ _ (λ (step : Turn Heard). Rests s step) (λ _. refl) (λ _. refl)
+to_it_rests (Receive r) m s now image version page want = refl
+
+request_by_rests : (m : MoteState) (s : Store) (now word source to image version page : ℕ) (want : Numbers) → Rests s (by_message (Ok (Request source to image version page want)) m s now word)
+request_by_rests m s now word source to image version page want =
+    cond_both (source == m.id) _ _ (λ (step : Turn Heard). Rests s step) (λ _. refl)
+    (λ _. cond_both (to == m.id) _ _ (λ (step : Turn Heard). Rests s step) (λ _. to_it_rests m.mode m s now image version page want)
+    (λ _. cond_both (concerns s image version page) _ _ (λ (step : Turn Heard). Rests s step) (λ _. refl) (λ _. refl)))
+
+pub request_rests : (m : MoteState) (s : Store) (now word : ℕ) (bytes : List ℕ) (source to image version page : ℕ) (want : Numbers)
+    → message_of bytes ≡ Ok (Request source to image version page want) → (heard_of m s now word bytes).trail ≡ resting s 0
+unfolding heard_of
+request_rests m s now word bytes source to image version page want is =
+    subst (λ (r : Result Message FrameFault). Rests s (by_message r m s now word)) (sym is) (request_by_rests m s now word source to image version page want)
+
+-- ---- packets
+
+module _ (m : MoteState) (s : Store) (image version page q : ℕ) where
+  abbrev Turns : Store → Type 0
+  Turns t = (t ≡ s) ⊎ Completes m.mode image version page q s t
+
+  rests_turns : (n : ℕ) → Through Turns (resting s n)
+  rests_turns n = Through-resting Turns s n (inl refl)
+
+  all_came : (r : Receiving) (bytes : List ℕ) → set.len (came (put_packet r.packets q bytes)) ≡ packets → (p : ℕ) → p < packets → (is_some (packet r.packets p) ≡ true) ⊎ (p ≡ q)
+  all_came r bytes full p low =
+      ⊎_elim (λ same. inr same)
+      (λ other. inl (let c = came_all (put_packet r.packets q bytes) full p low in
+      sym (ap is_some (get_or-set_other r.packets q p (Some bytes) None other)) ∙ ap is_some c.1))
+      (cases_eq p q)
+
+  seal_turns : (o : Option Held) (r : Receiving) (now word : ℕ) (content : List ℕ) → Completes m.mode image version page q s (paged r.image content s) → Through Turns (seal_by o m r s now word content).trail
+  seal_turns None r now word content all = rests_turns 0
+  seal_turns (Some h) r now word content all =
+      cond_both (may_seal r.image h content) _ _ (λ (step : Turn Heard). Through Turns step.trail)
+      (λ _. Through-joined Turns (resting s 1) (stepping s 1 (paged r.image content s)) (rests_turns 1) (Through-stepping Turns s 1 (paged r.image content s) (inl refl) (inr all)))
+      (λ _. rests_turns 1)
+
+  packet_turns : (mode : Mode) (now word : ℕ) (bytes : List ℕ) → m.mode ≡ mode → Through Turns (on_packet mode m s now word image version page q bytes).trail
+  packet_turns (Receive r) now word bytes is =
+      let ps = put_packet r.packets q bytes in
+      cond_both (is_wanted r image version page q) _ _ (λ (step : Turn Heard). Through Turns step.trail)
+      (λ w. let known = wanted r image version page q w in
+      cond_both (set.len (came ps) == packets) _ _ (λ (step : Turn Heard). Through Turns step.trail)
+      (λ full. seal_turns (held s r.image) r now word (page_from ps)
+      (record {
+        r = r;
+        receives = is;
+        image_is = known.image_is;
+        version_is = known.version_is;
+        page_is = known.page_is;
+        all = all_came r bytes (eqb-true (set.len (came ps)) packets full);
+        content = page_from ps;
+        paged_is = ap (λ (i : ℕ). paged i (page_from ps) s) known.image_is;
+      }))
+      (λ _. rests_turns 1))
+      (λ _. rests_turns 0)
+  packet_turns (Maintain timer) now word bytes is = cond_both (concerns s image version page) _ _ (λ (step : Turn Heard). Through Turns step.trail) (λ _. rests_turns 0) (λ _. rests_turns 0)
+  packet_turns (Transmit t) now word bytes is = rests_turns 0
+
+  packet_by_turns : (now word source : ℕ) (bytes : List ℕ) → Through Turns (by_message (Ok (Packet source image version page q bytes)) m s now word).trail
+  packet_by_turns now word source bytes =
+      cond_both (source == m.id) _ _ (λ (step : Turn Heard). Through Turns step.trail) (λ _. rests_turns 0) (λ _. packet_turns m.mode now word bytes refl)
+
+pub packet_completes : (m : MoteState) (s : Store) (now word : ℕ) (bytes : List ℕ) (source image version page q : ℕ) (content : List ℕ)
+    → message_of bytes ≡ Ok (Packet source image version page q content) → Through (λ t. (t ≡ s) ⊎ Completes m.mode image version page q s t) (heard_of m s now word bytes).trail
+unfolding heard_of
+packet_completes m s now word bytes source image version page q content is =
+    subst (λ (r : Result Message FrameFault). Through (Turns m s image version page q) (by_message r m s now word).trail) (sym is) (packet_by_turns m s image version page q now word source content)
+
+-- ---- adverts
+
+module _ (ends : (s : Store) (p : Outline) → last (take_trail s p) ≡ taken s p) (begins : (s : Store) (p : Outline) → BeginsAt s (take_trail s p)) (entries : List Entry) (order : Order) (s : Store) where
+  abbrev Heeds : Bool → Store → Type 0
+  Heeds stopped t = HeedsAdvert entries order stopped s t
+
+  -- the order is heeded, and nothing else changes
+  record Heeded (u : Store) : Type 0 where
+    pub order_is : (u.order ≡ s.order) ⊎ ((u.order ≡ order) × (s.order.number < order.number))
+    pub kept : u.kept ≡ s.kept
+    pub app : u.app ≡ s.app
+    pub gesture : u.gesture ≡ s.gesture
+    pub room : u.room ≤ s.room
+
+  heeded_heeds : (stopped : Bool) (u : Store) → Heeded u → Heeds stopped u
+  heeded_heeds stopped u h = record {
+    order_is = h.order_is;
+    image = 1;
+    not_golden = omega arith;
+    here = held s 1;
+    kept = h.kept ∙ sym (set-get_or s.kept 1 None);
+    change = inl refl;
     app = h.app;
-    order_change = h.order_change;
-    image = 0;
-    others = λ j _. ap (λ (xs : List (Option Held)). slice_index_or xs j None) h.kept;
-    change = inl (ap (λ (xs : List (Option Held)). slice_index_or xs 0 None) h.kept);
+    gesture = h.gesture;
+    room = h.room;
   }
 
-  heeded : Through Heeds (heed_trail s order)
+  heed_way : Through Heeded (heed_trail s order)
   unfolding heed_trail
-  heeded =
-      let now : Heeds s = record { kept = refl; app = refl; order_change = inl refl } in
-      cond_both (nat_lt s.order.number order.number && nat_le 1 s.room) _ _ (Through Heeds)
-      (λ better. Through-stepping Heeds s (commit_operations s.room) (ordered s order) now
-      (record { kept = refl; app = refl; order_change = inr (refl, ltb-true s.order.number order.number (and_parts (nat_lt s.order.number order.number) (nat_le 1 s.room) better).0) }))
-      (λ _. Through-resting Heeds s 0 now)
+  heed_way =
+      let same : Heeded s = record { order_is = inl refl; kept = refl; app = refl; gesture = refl; room = omega arith } in
+      cond_both (nat_lt s.order.number order.number && nat_le 1 s.room) (order_trail s order) (resting s 0) (Through Heeded)
+      (λ may. let low = ltb-true s.order.number order.number (and_parts (nat_lt s.order.number order.number) (nat_le 1 s.room) may).0 in
+      Through-stepping Heeded s (commit_operations s.room) (ordered s order) same
+      (record { order_is = inr (refl, low); kept = refl; app = refl; gesture = refl; room = omega arith }))
+      (λ _. Through-resting Heeded s 0 same)
 
-  -- one image more
-  module _ (t : Store) (h : Heeds t) (i : ℕ) (low : 1 ≤ i) (high : i < images) (some : 1 ≤ (entry_for entries i).have) (older : IsOlder (held s i) (entry_for entries i).version) where
-    abbrev p : Outline
-    p = outline i (entry_for entries i)
+  -- ---- one image is begun anew
 
-    abbrev given_up : Store
-    given_up = keeping i None (spent t)
+  module _ (u : Store) (h : Heeded u) (i : ℕ) (low : 1 ≤ i) (behind : IsBehind (entry_for entries i) (held s i)) where
+    abbrev P : Outline
+    P = outline i (entry_for entries i)
 
-    fewer : May given_up
-    fewer = record {
-      app = h.app;
-      order_change = h.order_change;
+    takes_to : (stopped : Bool) (t : Store) (here : Option Held) → t.kept ≡ slice_set u.kept i here → t.order ≡ u.order → t.app ≡ u.app → t.gesture ≡ u.gesture → t.room ≤ u.room
+        → (here ≡ Some (held_begun P)) ⊎ ((stopped ≡ true) × (here ≡ None)) → Heeds stopped t
+    takes_to stopped t here kept order_is app gesture room how = record {
+      order_is = subst (λ (o : Order). (o ≡ s.order) ⊎ ((o ≡ order) × (s.order.number < order.number))) (sym order_is) h.order_is;
       image = i;
-      others = λ j other. get_or-set_other t.kept i j None None other ∙ ap (λ (xs : List (Option Held)). slice_index_or xs j None) h.kept;
-      change = inr (low, some, older, inl (get_or-set_same t.kept i None None (omega (arith, high, ap length h.kept, places))));
+      not_golden = low;
+      here = here;
+      kept = kept ∙ ap (λ (xs : List (Option Held)). slice_set xs i here) h.kept;
+      change = inr (behind, how);
+      app = app ∙ h.app;
+      gesture = gesture ∙ h.gesture;
+      room = omega (arith, room, h.room);
     }
 
-    begun_on : May (keeping i (Some (held_begun p)) (spent t))
-    begun_on = record {
-      app = h.app;
-      order_change = h.order_change;
-      image = i;
-      others = λ j other. get_or-set_other t.kept i j (Some (held_begun p)) None other ∙ ap (λ (xs : List (Option Held)). slice_index_or xs j None) h.kept;
-      change = inr (low, some, older, inr (get_or-set_same t.kept i (Some (held_begun p)) None (omega (arith, high, ap length h.kept, places))));
-    }
+    -- after the first commit, if any
+    record Dropped (t : Store) : Type 0 where
+      pub kept : (t.kept ≡ u.kept) ⊎ (t.kept ≡ slice_set u.kept i None)
+      pub order_is : t.order ≡ u.order
+      pub app : t.app ≡ u.app
+      pub gesture : t.gesture ≡ u.gesture
+      pub room : t.room ≤ u.room
 
-    begun_after : May (keeping i (Some (held_begun p)) (spent given_up))
-    begun_after = record {
-      app = h.app;
-      order_change = h.order_change;
-      image = i;
-      others = λ j other. get_or-set_other given_up.kept i j (Some (held_begun p)) None other ∙ get_or-set_other t.kept i j None None other ∙ ap (λ (xs : List (Option Held)). slice_index_or xs j None) h.kept;
-      change = inr (low, some, older, inr (get_or-set_same given_up.kept i (Some (held_begun p)) None (omega (arith, high, ap length h.kept, places, length-set t.kept i None))));
-    }
+    drop_way : (o : Option Held) → Through Dropped (drop_by o u i)
+    drop_way None = Through-resting Dropped u 0 (record { kept = inl refl; order_is = refl; app = refl; gesture = refl; room = omega arith })
+    drop_way (Some old) =
+        Through-stepping Dropped u (commit_operations u.room) (keeping i None (spent u)) (record { kept = inl refl; order_is = refl; app = refl; gesture = refl; room = omega arith })
+        (record { kept = inr refl; order_is = refl; app = refl; gesture = refl; room = omega arith })
 
-    opens : (x : Store) → May x → May (keeping i (Some (held_begun p)) (spent x)) → Through May (open_trail x p)
-    opens x now next =
-        Through-joined May (resting x 2) (committing x (keeping i (Some (held_begun p)) (spent x))) (Through-resting May x 2 now)
-        (Through-stepping May x (commit_operations x.room) (keeping i (Some (held_begun p)) (spent x)) now next)
+    dropped_heeds : (t : Store) → Dropped t → Heeds true t
+    dropped_heeds t d =
+        ⊎_elim
+        (λ same. heeded_heeds true t (record {
+          order_is = subst (λ (o : Order). (o ≡ s.order) ⊎ ((o ≡ order) × (s.order.number < order.number))) (sym d.order_is) h.order_is;
+          kept = same ∙ h.kept;
+          app = d.app ∙ h.app;
+          gesture = d.gesture ∙ h.gesture;
+          room = omega (arith, d.room, h.room);
+        }))
+        (λ gone. takes_to true t None gone d.order_is d.app d.gesture d.room (inr (refl, refl)))
+        d.kept
 
-    take_by : (o : Option Held) → Through May (joined (drop_by o t i) (open_trail (last (drop_by o t i)) p))
-    unfolding last_of
-    take_by None = Through-joined May (resting t 0) (open_trail t p) (Through-resting May t 0 (heeds_may t h)) (opens t (heeds_may t h) begun_on)
-    take_by (Some k) =
-        Through-joined May (committing t given_up) (open_trail given_up p) (Through-stepping May t (commit_operations t.room) given_up (heeds_may t h) fewer) (opens given_up fewer begun_after)
+    begun_heeds : (t : Store) → Dropped t → Heeds true (keeping i (Some (held_begun P)) (spent t))
+    begun_heeds t d =
+        takes_to true (keeping i (Some (held_begun P)) (spent t)) (Some (held_begun P))
+        (⊎_elim (λ same. ap (λ (xs : List (Option Held)). slice_set xs i (Some (held_begun P))) same)
+        (λ gone. ap (λ (xs : List (Option Held)). slice_set xs i (Some (held_begun P))) gone ∙ set-set u.kept i None (Some (held_begun P))) d.kept)
+        d.order_is d.app d.gesture (let less = d.room in omega (arith, less)) (inl refl)
 
-    take_may : Through May (take_trail t p)
+    open_way : (t : Store) → Dropped t → Through (Heeds true) (open_trail t P)
+    open_way t d =
+        let next = keeping i (Some (held_begun P)) (spent t) in
+        Through-joined (Heeds true) (resting t 2) (committing t next) (Through-resting (Heeds true) t 2 (dropped_heeds t d))
+        (Through-stepping (Heeds true) t (commit_operations t.room) next (dropped_heeds t d) (begun_heeds t d))
+
+    take_way : Through (Heeds true) (take_trail u P)
     unfolding take_trail drop_trail
-    take_may = take_by (held t i)
+    take_way =
+        let t = drop_by (held u i) u i in
+        let first = drop_way (held u i) in
+        Through-joined (Heeds true) t (open_trail (last t) P) (through_then Dropped (Heeds true) dropped_heeds t first) (open_way (last t) (Through-last Dropped t first))
 
-  ask_may : (t : Store) → Heeds t → (i : ℕ) → IsAhead entries t i → Through May (ask_trail t i (entry_for entries i))
+    taken_heeds : Heeds false (taken u P)
+    taken_heeds = takes_to false (taken u P) (Some (held_begun P)) refl refl refl refl (omega arith) (inl refl)
+
+  -- ---- the whole advert
+
+  -- the rest of it begins at this store, and goes on and ends so
+  record Goes (u : Store) (t : Trail Store) : Type 0 where
+    pub first : t.first ≡ u
+    pub way : Through (Heeds true) t
+    pub ends_so : Heeds false (last t)
+
+  rests_goes : (u : Store) (n : ℕ) → Heeded u → Goes u (resting u n)
+  unfolding Rattle.dg_nor.specs.Trail.last_of
+  rests_goes u n h = record { first = refl; way = Through-resting (Heeds true) u n (heeded_heeds true u h); ends_so = heeded_heeds false u h }
+
+  noting_goes : (own : Bool) (m : MoteState) (timer : Timer) (u : Store) (now word : ℕ) → Heeded u → Goes u (noting m timer u now word own).trail
+  noting_goes true m timer u now word h = rests_goes u 0 h
+  noting_goes false m timer u now word h = rests_goes u 0 h
+
+  is_behind : (e : Entry) (o : Option Held) → ahead_of e o ≡ true → is_version o e.version ≡ false → IsBehind e o
+  is_behind e None ahead other = record { some = leb-true 1 e.have ahead; older = tt }
+  is_behind e (Some k) ahead other =
+      let parts = and_parts (nat_le 1 e.have) _ ahead in
+      record {
+        some = leb-true 1 e.have parts.0;
+        older = ⊎_elim (λ less. ltb-true k.version e.version less)
+            (λ same. absurd (eqb-false k.version e.version other (sym (eqb-true e.version k.version (and_parts (e.version == k.version) _ (and_parts _ _ (and_parts _ _ same).0).0).0))))
+            (either (nat_lt k.version e.version) _ parts.1);
+      }
+    where
+      either : (a b : Bool) → (a || b) ≡ true → (a ≡ true) ⊎ (b ≡ true)
+      either true b e = inl refl
+      either false b e = inr e
+
+  ask_goes : (u : Store) (i : ℕ) → Heeded u → 1 ≤ i → ahead_of (entry_for entries i) (held u i) ≡ true → Goes u (ask_trail u i (entry_for entries i))
   unfolding ask_trail
-  ask_may t h i ahead =
+  ask_goes u i h low ahead =
       let e = entry_for entries i in
-      let u = take_trail t (outline i e) in
-      cond_both (is_version (held t i) e.version) (resting t 1) (joined u (resting (last u) 1)) (Through May) (λ _. Through-resting May t 1 (heeds_may t h))
+      let p = outline i e in
+      let t = take_trail u p in
+      let same : held u i ≡ held s i = ap (λ (xs : List (Option Held)). slice_index_or xs i None) h.kept in
+      cond_both (is_version (held u i) e.version) (resting u 1) (joined t (resting (last t) 1)) (Goes u)
+      (λ _. rests_goes u 1 h)
       (λ other.
-      let older = subst (λ (xs : List (Option Held)). IsOlder (slice_index_or xs i None) e.version) h.kept (newer_by e (held t i) ahead.ahead other) in
-      let way = take_may t h i ahead.low (omega (arith, ahead.high, count)) (some_page e (held t i) ahead.ahead) older in
-      Through-joined May u (resting (last u) 1) way (Through-resting May (last u) 1 (Through-last May u way)))
+      let behind : IsBehind e (held s i) = subst (IsBehind e) same (is_behind e (held u i) ahead other) in
+      let way = take_way u h i low behind in
+      let at : last (joined t (resting (last t) 1)) ≡ taken u p = last-joined t (resting (last t) 1) refl ∙ last-resting (last t) 1 ∙ ends u p in
+      record {
+        first = joined_first t (resting (last t) 1) ∙ (begins u p).first;
+        way = Through-joined (Heeds true) t (resting (last t) 1) way (Through-resting (Heeds true) (last t) 1 (Through-last (Heeds true) t way));
+        ends_so = subst (Heeds false) (sym at) (taken_heeds u h i low behind);
+      })
 
-  noting_may : (own : Bool) (m : MoteState) (timer : Timer) (t : Store) (now word : ℕ) → Heeds t → Through May (noting m timer t now word own).trail
-  noting_may true m timer t now word h = Through-resting May t 0 (heeds_may t h)
-  noting_may false m timer t now word h = Through-resting May t 0 (heeds_may t h)
+  ahead_goes : (o : Option ℕ) (m : MoteState) (timer : Timer) (u : Store) (now word source : ℕ) (own : Bool) → Heeded u
+      → ((i : ℕ) → o ≡ Some i → (1 ≤ i) × (ahead_of (entry_for entries i) (held u i) ≡ true)) → Goes u (by_ahead o m timer u now word source entries own).trail
+  ahead_goes None m timer u now word source own h known = noting_goes own m timer u now word h
+  ahead_goes (Some i) m timer u now word source own h known =
+      let k = known i refl in
+      cond_both (asks m u now i (entry_for entries i)) _ _ (λ (step : Turn Heard). Goes u step.trail)
+      (λ _. ask_goes u i h k.0 k.1) (λ _. noting_goes own m timer u now word h)
 
-  ahead_may : (o : Option ℕ) (m : MoteState) (timer : Timer) (t : Store) (now word source : ℕ) (own : Bool) → Heeds t → ahead_in entries t ≡ o → Through May (by_ahead o m timer t now word source entries own).trail
-  ahead_may None m timer t now word source own h is = noting_may own m timer t now word h
-  ahead_may (Some i) m timer t now word source own h is =
-      cond_both (asks m t now i (entry_for entries i)) (asking m t now word source i (entry_for entries i)) (noting m timer t now word own) (λ (x : Turn Heard). Through May x.trail)
-      (λ _. ask_may t h i (is_ahead entries t i is)) (λ _. noting_may own m timer t now word h)
+  -- it goes so, and ends so
+  abbrev Both : Turn Heard → Type 0
+  Both step = Through (Heeds true) step.trail × Heeds false (last step.trail)
 
-  start_may : May s
-  start_may = heeds_may s (record { kept = refl; app = refl; order_change = inl refl })
+  same_both : Through (Heeds true) (resting s 0) × Heeds false (last (resting s 0))
+  same_both = let g = rests_goes s 0 (record { order_is = inl refl; kept = refl; app = refl; gesture = refl; room = omega arith }) in (g.way, g.ends_so)
 
-  pub advert_may : (mode : Mode) (m : MoteState) (now word source : ℕ) → Through May (on_advert mode m s now word source entries order).trail
+  advert_both : (m : MoteState) (timer : Timer) (now word source : ℕ) → Both (advert_heard m timer s now word source entries order)
   unfolding advert_heard
-  advert_may (Maintain timer) m now word source =
+  advert_both m timer now word source =
       let t = heed_trail s order in
-      Through-joined May t _ (through_then Heeds May heeds_may t heeded) (ahead_may (ahead_in entries (last t)) m timer (last t) now word source (is_own entries order s) (Through-last Heeds t heeded) refl)
-  advert_may (Receive r) m now word source = Through-resting May s 0 start_may
-  advert_may (Transmit t) m now word source = Through-resting May s 0 start_may
+      let u = last t in
+      let rest = by_ahead (ahead_in entries u) m timer u now word source entries (is_own entries order s) in
+      let g = ahead_goes (ahead_in entries u) m timer u now word source (is_own entries order s) (Through-last Heeded t heed_way) (λ i e. let a = is_ahead entries u i e in (a.low, a.ahead)) in (
+        Through-joined (Heeds true) t rest.trail (through_then Heeded (Heeds true) (heeded_heeds true) t heed_way) g.way,
+        subst (Heeds false) (sym (last-joined t rest.trail (sym g.first))) g.ends_so,
+      )
 
--- ---- at the end nothing is given up
+  on_advert_both : (mode : Mode) (m : MoteState) (now word source : ℕ) → Both (on_advert mode m s now word source entries order)
+  on_advert_both (Maintain timer) m now word source = advert_both m timer now word source
+  on_advert_both (Receive r) m now word source = same_both
+  on_advert_both (Transmit t) m now word source = same_both
 
-abbrev GivesNothingUp : Store → Store → Type 0
-GivesNothingUp s t = (i : ℕ) → held t i ≡ None → held s i ≡ None
+  advert_by_both : (m : MoteState) (now word source : ℕ) → Both (by_message (Ok (Advert source entries order)) m s now word)
+  advert_by_both m now word source = cond_both (source == m.id) _ _ Both (λ _. same_both) (λ _. on_advert_both m.mode m now word source)
 
-same_gives : (s t : Store) → t.kept ≡ s.kept → GivesNothingUp s t
-same_gives s t same i none = ap (λ (xs : List (Option Held)). slice_index_or xs i None) (sym same) ∙ none
-
-taken_gives : (s : Store) (p : Outline) → p.image < length s.kept → GivesNothingUp s (taken s p)
-taken_gives s p high i none =
-    elim (cases_eq i p.image) [
-      | inl here ↦
-          let there : held (taken s p) i ≡ Some (held_begun p) = ap (held (taken s p)) here ∙ get_or-set_same s.kept p.image (Some (held_begun p)) None high in
-          cc
-      | inr other ↦ sym (get_or-set_other s.kept p.image i (Some (held_begun p)) None other) ∙ none
-    ]
-
-heed_same : (s : Store) (order : Order) → (last (heed_trail s order)).kept ≡ s.kept
-unfolding heed_trail last_of
-heed_same s order = cond_both (nat_lt s.order.number order.number && nat_le 1 s.room) (order_trail s order) (resting s 0) (λ (t : Trail Store). (last t).kept ≡ s.kept) (λ _. refl) (λ _. refl)
-
-module _ (laws : TakeEnds) (s : Store) (places : length s.kept ≡ images) (entries : List Entry) (count : length entries ≡ frame_images) where
-  ask_gives : (t : Store) → t.kept ≡ s.kept → (i : ℕ) → i ≤ length entries → GivesNothingUp s (last (ask_trail t i (entry_for entries i)))
-  unfolding ask_trail last_of
-  ask_gives t same i high =
-      let e = entry_for entries i in
-      let u = take_trail t (outline i e) in
-      cond_both (is_version (held t i) e.version) (resting t 1) (joined u (resting (last u) 1)) (λ (x : Trail Store). GivesNothingUp s (last x)) (λ _. same_gives s t same)
-      (λ _ j none.
-      let ends : last (joined u (resting (last u) 1)) ≡ taken t (outline i e) = last-joined u (resting (last u) 1) refl ∙ last-resting (last u) 1 ∙ laws.end t (outline i e) in
-      same_gives s t same j (taken_gives t (outline i e) (omega (arith, high, count, places, ap length same)) j (ap (λ (x : Store). held x j) (sym ends) ∙ none)))
-
-  noting_gives : (own : Bool) (m : MoteState) (timer : Timer) (t : Store) (now word : ℕ) → t.kept ≡ s.kept → GivesNothingUp s (last (noting m timer t now word own).trail)
-  unfolding last_of
-  noting_gives true m timer t now word same = same_gives s t same
-  noting_gives false m timer t now word same = same_gives s t same
-
-  ahead_gives : (o : Option ℕ) (m : MoteState) (timer : Timer) (t : Store) (now word source : ℕ) (own : Bool) → t.kept ≡ s.kept → ahead_in entries t ≡ o → GivesNothingUp s (last (by_ahead o m timer t now word source entries own).trail)
-  ahead_gives None m timer t now word source own same is = noting_gives own m timer t now word same
-  ahead_gives (Some i) m timer t now word source own same is =
-      cond_both (asks m t now i (entry_for entries i)) (asking m t now word source i (entry_for entries i)) (noting m timer t now word own) (λ (x : Turn Heard). GivesNothingUp s (last x.trail))
-      (λ _. ask_gives t same i (is_ahead entries t i is).high) (λ _. noting_gives own m timer t now word same)
-
-  pub advert_gives : (mode : Mode) (m : MoteState) (now word source : ℕ) (order : Order) → GivesNothingUp s (last (on_advert mode m s now word source entries order).trail)
-  unfolding advert_heard last_of
-  advert_gives (Maintain timer) m now word source order =
-      let t = heed_trail s order in
-      let step = by_ahead (ahead_in entries (last t)) m timer (last t) now word source entries (is_own entries order s) in
-      let begins = ahead_begins laws.order laws.clear laws.take (ahead_in entries (last t)) m timer (last t) now word source entries (is_own entries order s) in
-      subst (GivesNothingUp s) (sym (last-joined t step.trail (sym begins.first))) (ahead_gives (ahead_in entries (last t)) m timer (last t) now word source (is_own entries order s) (heed_same s order) refl)
-  advert_gives (Receive r) m now word source order = same_gives s s refl
-  advert_gives (Transmit t) m now word source order = same_gives s s refl
-
--- ---- frames
-
-shape_of : (r : Result Message FrameFault) (source : ℕ) (entries : List Entry) (order : Order) → IsWellRead r → r ≡ Ok (Advert source entries order) → length entries ≡ frame_images
-shape_of r source entries order well e = (subst IsWellRead e well).1
-
-advert_by : (m : MoteState) (s : Store) (now word : ℕ) (bytes : List ℕ) (source : ℕ) (entries : List Entry) (order : Order) (P : Trail Store → Type 0) → message_of bytes ≡ Ok (Advert source entries order) → P (resting s 0) → P (on_advert m.mode m s now word source entries order).trail
-    → P (heard_of m s now word bytes).trail
-unfolding heard_of
-advert_by m s now word bytes source entries order P e none heard =
-    subst (λ (r : Result Message FrameFault). P (by_message r m s now word).trail) (sym e)
-    (cond_both (source == m.id) (dropped m s) (on_advert m.mode m s now word source entries order) (λ (x : Turn Heard). P x.trail) (λ _. none) (λ _. heard))
-
-pub advert_changes : (m : MoteState) (s : Store) (now word : ℕ) (bytes : List ℕ) (source : ℕ) (entries : List Entry) (order : Order) → length s.kept ≡ images → message_of bytes ≡ Ok (Advert source entries order)
-    → Through (AdvertMayMake s entries order) (heard_of m s now word bytes).trail
-advert_changes m s now word bytes source entries order places e =
-    let count = shape_of (message_of bytes) source entries order (well_read bytes) e in
-    advert_by m s now word bytes source entries order (Through (AdvertMayMake s entries order)) e (Through-resting (AdvertMayMake s entries order) s 0 (start_may s places entries count order)) (advert_may s places entries count order m.mode m now word source)
-
-pub advert_ends : TakeEnds → (m : MoteState) (s : Store) (now word : ℕ) (bytes : List ℕ) (source : ℕ) (entries : List Entry) (order : Order) → length s.kept ≡ images → message_of bytes ≡ Ok (Advert source entries order)
-    → GivesNothingUp s (last (heard_of m s now word bytes).trail)
-unfolding last_of
-advert_ends laws m s now word bytes source entries order places e =
-    let count = shape_of (message_of bytes) source entries order (well_read bytes) e in
-    advert_by m s now word bytes source entries order (λ (t : Trail Store). GivesNothingUp s (last t)) e (same_gives s s refl) (advert_gives laws s places entries count m.mode m now word source order)
+  pub advert_heeds : (m : MoteState) (now word : ℕ) (bytes : List ℕ) (source : ℕ) → message_of bytes ≡ Ok (Advert source entries order)
+      → Through (HeedsAdvert entries order true s) (heard_of m s now word bytes).trail × HeedsAdvert entries order false s (last (heard_of m s now word bytes).trail)
+  unfolding heard_of
+  advert_heeds m now word bytes source is = subst (λ (r : Result Message FrameFault). Both (by_message r m s now word)) (sym is) (advert_by_both m now word source)

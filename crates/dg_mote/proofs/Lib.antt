@@ -30,7 +30,6 @@ pub mod SaidLemmas
 pub mod QuietLemmas
 pub mod SuppressLemmas
 pub mod RulesLemmas
-pub mod ComeLemmas
 pub mod ChangeLemmas
 pub mod RoundTicks
 pub mod RoundRestart
@@ -40,3 +39,4 @@ pub mod RoundAdvert
 pub mod RoundTake
 pub mod RoundAsk
 pub mod RoundFresh
+pub mod ReceivingLemmas

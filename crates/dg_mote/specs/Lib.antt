@@ -11,6 +11,7 @@ pub mod Timely
 pub mod Agreement
 pub mod Well
 pub mod Speaking
+pub mod Changes
 pub mod Rules
 pub mod Spots
 pub mod Drained

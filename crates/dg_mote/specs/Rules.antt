@@ -1,24 +1,18 @@
 -- The rules of asking and serving in the words of Deluge, and what happens to a mote in a row.
-use Rattle.std.specs.Prelude.{◌≡◌, ◌≢◌, ◌⊎◌, ◌↔◌, true, false, ℕ, ◌+◌, ◌<◌, ◌≤◌, List, [], ◌∷◌, length, Option, Some, None, is_some, Ok}
+use Rattle.std.specs.Prelude.{◌≡◌, ◌≢◌, ◌⊎◌, ◌↔◌, true, false, ℕ, ◌+◌, ◌<◌, ◌≤◌, List, [], ◌∷◌, length, Option, Some, None}
 use Rattle.std.specs.List.{AllByRecursion}
 use Rattle.std.specs.FinSet as set
 use Rattle.dg_bits.specs.Sets.{Numbers}
-use Rattle.dg_nor.specs.Trail.{Trail, last, joined, resting, stepping}
+use Rattle.dg_nor.specs.Trail.{last}
 use Rattle.dg_trickle.specs.Timer.{Timer}
-use Rattle.dg_control.specs.declared.snapshot.Order.{Order}
-use Rattle.dg_slot.specs.Kept.{Held, held_begun}
+use Rattle.dg_slot.specs.Kept.{Held}
 use Rattle.dg_slot.specs.Layout.{packets}
 use Rattle.dg_slot.specs.Jobs.{packet}
 use Rattle.dg_volume.specs.Store.{Store, held}
-use Rattle.dg_volume.specs.Changes.{paged}
 use Rattle.dg_volume.specs.Start.{order_waits}
-use Rattle.dg_frame.specs.Grammar.{message_of}
-use Rattle.dg_frame.specs.declared.Entry.{Entry}
 use Rattle.dg_frame.specs.declared.Message.{Message}
 use Rattle.dg_frame.specs.declared.Message.TheVariants.{Advert, Request, Packet}
 use Rattle.dg_mote.specs.Model.{MoteState, Mode, Maintain, Receive, Transmit, Receiving}
-use Rattle.dg_mote.specs.Summary.{entry_for}
-use Rattle.dg_mote.specs.Adverts.{outline}
 use Rattle.dg_mote.specs.Ticks.{clears, tick_of}
 use Rattle.dg_mote.specs.Hears.{heard_of}
 
@@ -46,41 +40,6 @@ pub record AsksFor (m : MoteState) (source to image version page : ℕ) (want : 
   pub version_is : version ≡ r.version
   pub page_is : page ≡ r.page
   pub missing : (q : ℕ) → (set.contains want q ≡ true) ↔ ((q < packets) × (packet r.packets q ≡ None))
-
--- it has this packet of the page that it asks for
-abbrev pub HasPacket : Mode → (image version page q : ℕ) → Type 0
-HasPacket (Maintain timer) image version page q = ⊥
-HasPacket (Receive r) image version page q = (r.image ≡ image) × (r.version ≡ version) × (r.page ≡ page) × (is_some (packet r.packets q) ≡ true)
-HasPacket (Transmit t) image version page q = ⊥
-
--- a frame brings this packet
-abbrev pub Brings : List ℕ → (image version page q : ℕ) → Type 0
-Brings bytes image version page q = (source : ℕ) × (content : List ℕ) × (message_of bytes ≡ Ok (Packet source image version page q content))
-
--- With this frame all packets of the page that it asks for are there, and the page is made complete.
-pub record Completes (m : MoteState) (s : Store) (bytes : List ℕ) (image page : ℕ) (trail : Trail Store) : Type 0 where
-  pub version : ℕ
-  pub all : (q : ℕ) → q < packets → HasPacket m.mode image version page q ⊎ Brings bytes image version page q
-  pub content : List ℕ
-  pub way : trail ≡ joined (resting s 1) (stepping s 1 (paged image content s))
-
--- ---- adverts
-
--- nothing is kept, or an older version
-abbrev pub IsOlder : Option Held → ℕ → Type 0
-IsOlder None version = Unit {0}
-IsOlder (Some h) version = h.version < version
-
--- What an advert may change of a store: its order is kept where its number is larger, and of one image, of which it
--- tells a page of a newer version, what was kept is given up, and the new version is begun.
-pub record AdvertMayMake (s : Store) (entries : List Entry) (order : Order) (t : Store) : Type 0 where
-  pub app : t.app ≡ s.app
-  pub order_change : (t.order ≡ s.order) ⊎ ((t.order ≡ order) × (s.order.number < order.number))
-  pub image : ℕ
-  pub others : (j : ℕ) → j ≢ image → held t j ≡ held s j
-  pub change : (held t image ≡ held s image)
-      ⊎ ((1 ≤ image) × (1 ≤ (entry_for entries image).have) × IsOlder (held s image) (entry_for entries image).version
-      × ((held t image ≡ None) ⊎ (held t image ≡ Some (held_begun (outline image (entry_for entries image))))))
 
 -- ---- restarts
 

@@ -5,6 +5,7 @@
 #![tactic(auto)]
 
 mod adverts;
+mod changes;
 mod hearing;
 mod laws;
 mod mote;
@@ -16,6 +17,7 @@ mod rules;
 mod summary;
 mod ticking;
 
+pub use changes::{packets_come_in_frames, what_a_mote_may_change};
 pub use laws::{
     a_mote_buffers_little, a_mote_keeps_agreement, a_mote_stays_timely, a_mote_stays_well,
     steps_begin, what_is_sent_is_read,
@@ -27,8 +29,7 @@ pub use rounds::{
     a_fresh_mote_is_drained, a_mote_drains, a_page_comes, ticks_take_few_commits,
 };
 pub use rules::{
-    a_frame_is_heard_in_silence, a_page_comes_in_frames, a_restart_is_for_the_order,
-    an_advert_changes_one_image, an_equal_advert_keeps_a_mote_silent,
+    a_frame_is_heard_in_silence, a_restart_is_for_the_order, an_equal_advert_keeps_a_mote_silent,
     an_overheard_frame_keeps_a_mote_from_asking, pages_are_handed_on_before_the_image_is_whole,
     requests_are_sets,
 };

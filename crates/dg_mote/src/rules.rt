@@ -3,7 +3,6 @@ ghost use Rattle.std.specs.Prelude.{◌≡◌, ◌≢◌, ◌⊎◌, ◌↔◌, 
 ghost use Rattle.std.specs.List.{AllByRecursion};
 ghost use Rattle.std.specs.FinSet as set;
 ghost use Rattle.dg_nor.specs.Trail.{last, resting};
-ghost use Rattle.dg_nor.specs.Through.{Through};
 ghost use Rattle.dg_bits.specs.Sets.{Numbers};
 ghost use Rattle.dg_trickle.specs.Timer.{Timer};
 ghost use Rattle.dg_trickle.specs.Steps.{after_same};
@@ -12,7 +11,6 @@ ghost use Rattle.dg_quiet.specs.Noted.{with_request, with_packet};
 ghost use Rattle.dg_send.specs.Steps.{begun};
 ghost use Rattle.dg_control.specs.declared.snapshot.Order.{Order};
 ghost use Rattle.dg_slot.specs.Kept.{Held};
-ghost use Rattle.dg_volume.specs.Sizes.{images};
 ghost use Rattle.dg_volume.specs.Store.{Store, held};
 ghost use Rattle.dg_frame.specs.Sizes.{frame_images};
 ghost use Rattle.dg_frame.specs.Grammar.{message_of};
@@ -23,11 +21,9 @@ ghost use Rattle.dg_mote.specs.Model.{MoteState, Maintain, Transmit, Sending};
 ghost use Rattle.dg_mote.specs.Summary.{entry_for, entries_of, advert_of, is_own};
 ghost use Rattle.dg_mote.specs.Ticks.{tick_of};
 ghost use Rattle.dg_mote.specs.Hears.{heard_of};
-ghost use Rattle.dg_mote.specs.Rules.{IsOfUse, HasPage, AsksFor, HasPacket, Brings, Completes, AdvertMayMake, MayRestart, Happens, Hears, sent_in, AllBetween, IsSilent, NoRequest, AsksNotFor, HappenIn};
+ghost use Rattle.dg_mote.specs.Rules.{IsOfUse, HasPage, AsksFor, MayRestart, Happens, Hears, sent_in, AllBetween, IsSilent, NoRequest, AsksNotFor, HappenIn};
 ghost use Rattle.dg_mote.specs.declared.mote.Did.TheVariants as did;
 ghost use Rattle.dg_mote.specs.declared.mote.Heard.TheVariants as heard;
-
-use dg_volume::{acts_end, trails_begin};
 
 /// A mote that hears its own summary told by another sends nothing in the rest of that interval of its timer, whatever
 /// it hears meanwhile (RFC 6206, section 4.2, steps 3 and 4, with a redundancy of 1).
@@ -92,32 +88,6 @@ pub fn pages_are_handed_on_before_the_image_is_whole()
     ensures refused { (m : MoteState) (s : Store) (timer : Timer) (now word : ℕ) (bytes : List ℕ) (source image version page : ℕ) (want : Numbers)
         → message_of bytes ≡ Ok (message.Request source m.id image version page want) → source ≢ m.id → m.mode ≡ Maintain timer → (HasPage s image version page → ⊥)
         → heard_of m s now word bytes ≡ record { mote = m; trail = resting s 0; sent = None; answer = heard.Dropped } }
-{}
-
-/// An advert changes no more of a store than its order and one image, of which it tells a page of a newer version: what
-/// was kept of it is given up, and the new version is begun, also where a stop comes between. At the end nothing is
-/// given up.
-pub fn an_advert_changes_one_image()
-    ensures way { (m : MoteState) (s : Store) (now word : ℕ) (bytes : List ℕ) (source : ℕ) (entries : List Entry) (order : Order) → length s.kept ≡ images
-        → message_of bytes ≡ Ok (message.Advert source entries order) → Through (AdvertMayMake s entries order) (heard_of m s now word bytes).trail }
-    ensures ends { (m : MoteState) (s : Store) (now word : ℕ) (bytes : List ℕ) (source : ℕ) (entries : List Entry) (order : Order) → length s.kept ≡ images
-        → message_of bytes ≡ Ok (message.Advert source entries order) → (i : ℕ) → held (last (heard_of m s now word bytes).trail) i ≡ None → held s i ≡ None }
-{
-    trails_begin();
-    acts_end();
-}
-
-/// A page is sealed only once each of its packets came in a frame, and a mote that was started has none: ticks bring no
-/// packet, and a frame brings the one that it spells. No other frame than an advert changes the store.
-pub fn a_page_comes_in_frames()
-    ensures ticked { (m : MoteState) (s : Store) (now word image version page q : ℕ) → HasPacket (tick_of m s now word).mote.mode image version page q → HasPacket m.mode image version page q }
-    ensures heard { (m : MoteState) (s : Store) (now word : ℕ) (bytes : List ℕ) (image version page q : ℕ) → HasPacket (heard_of m s now word bytes).mote.mode image version page q
-        → HasPacket m.mode image version page q ⊎ Brings bytes image version page q }
-    ensures sealed { (m : MoteState) (s : Store) (now word : ℕ) (bytes : List ℕ) (image page : ℕ) → (heard_of m s now word bytes).answer ≡ heard.Sealed image page
-        → Completes m s bytes image page (heard_of m s now word bytes).trail }
-    ensures unsealed { (m : MoteState) (s : Store) (now word : ℕ) (bytes : List ℕ)
-        → ((source : ℕ) (entries : List Entry) (order : Order) → message_of bytes ≡ Ok (message.Advert source entries order) → ⊥)
-        → ((n : ℕ) × ((heard_of m s now word bytes).trail ≡ resting s n)) ⊎ ((image : ℕ) × (page : ℕ) × ((heard_of m s now word bytes).answer ≡ heard.Sealed image page)) }
 {}
 
 /// A tick answers Restart exactly where the mote maintains, no short starts are to be cleared and the order waits.

@@ -1,58 +1,103 @@
 -- Steps and declarations keep agreement with the table.
-use Rattle.std.proofs.Common.{◌≡◌, ℕ, ◌<◌, ◌≤◌, ◌+◌, Bool, List, length, Option, Some, None, IfSome, refl, sym, ap, subst, ◌∙◌, ⊎_elim, arith, ltb-false}
+use Rattle.std.proofs.Common.{◌≡◌, ℕ, ◌<◌, ◌≤◌, ◌+◌, ◌^◌, Bool, true, false, List, length, Option, Some, None, IfSome, IfOk, Result, Ok, Err, refl, sym, ap, subst, ◌∙◌, inr, ⊎_elim, arith, ltb-false}
+use Rattle.std.specs.List.{AllByRecursion}
 use Rattle.std.proofs.lemmas.Bool.{cond_both}
 use Rattle.std.proofs.lemmas.Bool.Decides.{nat_tests}
-use Rattle.std.proofs.lemmas.Option.{IfSome_then}
 use Rattle.std.proofs.lemmas.List.{length-set}
 use Rattle.std.specs.Prelude.{◌==◌, nat_lt}
+use Rattle.dg_words.specs.Cells.{AreBytes}
+use Rattle.dg_nor.specs.Trail.{Trail, last}
 use Rattle.dg_nor.specs.Through.{Through}
-use Rattle.dg_nor.proofs.ThroughLemmas.{Through-resting, Through-stepping, Through-last}
+use Rattle.dg_nor.proofs.ThroughLemmas.{Through-stepping, Through-last}
 use Rattle.dg_control.specs.Store.{commit_operations}
 use Rattle.dg_control.specs.declared.snapshot.Order.{Order}
 use Rattle.dg_object.specs.Object.{Row, IsRow}
 use Rattle.dg_slot.specs.Layout.{most_bytes}
-use Rattle.dg_volume.specs.Sizes.{images, golden_version}
-use Rattle.dg_volume.specs.Store.{Store, held}
-use Rattle.dg_volume.specs.Changes.{inject_refusal, ordered, gesture_cleared}
-use Rattle.dg_volume.specs.Trails.{order_trail, inject_trail, clear_trail}
+use Rattle.dg_volume.specs.Sizes.{images}
+use Rattle.dg_volume.specs.Store.{Store}
+use Rattle.dg_volume.specs.Changes.{inject_refusal, ordered}
+use Rattle.dg_volume.specs.Trails.{order_trail, inject_trail}
 use Rattle.dg_volume.specs.Start.{Runs, boot}
+use Rattle.dg_volume.specs.Ends.{OnTheWay, Boots}
 use Rattle.dg_volume.specs.Table.{row_at, with_row, IsTable}
 use Rattle.dg_volume.specs.Agreement.{Agrees}
 use Rattle.dg_volume.specs.declared.volume.Kind.{Kind}
+use Rattle.dg_volume.specs.declared.volume.Kind.TheVariants as kind
 use Rattle.dg_volume.specs.declared.volume.InjectFault.{InjectFault}
 use Rattle.dg_volume.specs.declared.volume.InjectFault.TheVariants.{Empty, TooLarge}
-use Rattle.dg_rules.specs.World.{World, Site, Running, site, store_at, counted}
-use Rattle.dg_rules.specs.Events.{Deed, Does, Refuses, Goes, does, mote_of, dt_of, key_of, running_by}
-use Rattle.dg_rules.specs.Steps.{blows, StepDoes, WorldStep, DeclareStep, declared_as}
+use Rattle.dg_frame.specs.Grammar.{message_of}
+use Rattle.dg_frame.specs.Spelling.{frame_of, FitsTypes}
+use Rattle.dg_frame.specs.declared.FrameFault.{FrameFault}
+use Rattle.dg_frame.specs.declared.Message.{Message}
+use Rattle.dg_mote.specs.Model.{MoteState, begun, maintains, Turn}
+use Rattle.dg_mote.specs.Ticks.{tick_of}
+use Rattle.dg_mote.specs.Hears.{heard_of}
+use Rattle.dg_mote.specs.Agreement.{IsHonest, HonestMessage}
+use Rattle.dg_mote.specs.Timely.{Timely}
+use Rattle.dg_mote.specs.Well.{StoreIsWell, IsWell, TurnIsWell, SendsHonest}
+use Rattle.dg_mote.specs.Speaking.{OrderFits, Speaks, TurnSpeaks, IsSaid}
+use Rattle.dg_rules.specs.Sizes.{most_motes}
+use Rattle.dg_rules.specs.World.{World, Site, Running, Sent, site, store_at, counted, off_site}
+use Rattle.dg_rules.specs.Events.{Deed, Does, Refuses, Goes, does, mote_of, dt_of, key_of, reloaded}
+use Rattle.dg_rules.specs.Steps.{blows, and_sent, StepDoes, WorldStep, DeclareStep, declared_as}
 use Rattle.dg_rules.specs.Ranges.{EventFits, StepFits}
-use Rattle.dg_rules.specs.Premises.{IsDeclared, WorldAgrees, WorldTimely, MayDeclare, KeepsAgreement}
+use Rattle.dg_rules.specs.Premises.{IsDeclared, LinkFits, RunsWell, SiteIsWell, SentIsWell, WorldAgrees, HonestEvent, MayDeclare}
 use Rattle.dg_base.specs.declared.events.Event.{Event}
 use Rattle.dg_base.specs.declared.events.Event.TheVariants.{Tick, Hear, Last, Reset, Inject, Order as OrderEvent, Frame}
 use Rattle.dg_base.specs.declared.events.Step.{Step}
 use Rattle.dg_script.specs.declared.report.Report.{Report}
-use Rattle.dg_rules.proofs.ThroughLemmas.{Through-map, Through-both, Through-each, agrees_room}
-use Rattle.dg_rules.proofs.TableLemmas.{row_at-key, row_at-each, row_at-own, row_at-with_row, row_at-added, row_at-of_with_row, row_at-of_push, all_push, IsTable-with_row, same_some}
-use Rattle.dg_rules.proofs.SiteLemmas.{each_site}
-use Rattle.dg_rules.proofs.StartLemmas.{OnWay, boot_way}
+use Rattle.dg_rules.proofs.ThroughLemmas.{Through-map, Through-both}
+use Rattle.dg_rules.proofs.TableLemmas.{row_at-key, row_at-each, row_at-own, row_at-with_row, row_at-added, row_at-of_with_row, row_at-of_push, IsTable-with_row, same_some}
+use Rattle.dg_rules.proofs.SiteLemmas.{each_site, site_count}
 use Rattle.dg_rules.proofs.InjectLemmas.{OnInject, inject_way, refused_not}
-use Rattle.dg_rules.proofs.EventLemmas.{order_of, does_cases, EndsAs, ends_as}
+use Rattle.dg_rules.proofs.WiderLemmas.{Wider, wider_same, agrees_wider, site_wider, sent_wider, all_map, all_pushed}
+use Rattle.dg_rules.proofs.EventLemmas.{order_of, running_by, starts, goes_on, hears, RestartLaws, does_cases, EndsAs, ended_world, sent_unless, ends_as}
 
 -- what is known of volumes
-pub record Laws : Type 0 where
+pub record VolumeLaws : Type 0 where
   pub orders : (table : List Row) (s : Store) (order : Order) → Agrees table s → Through (Agrees table) (order_trail s order)
-  pub clears : (table : List Row) (s : Store) → Agrees table s → Through (Agrees table) (clear_trail s)
   pub injects : (table : List Row) (s : Store) (row : Row) → row.image < length s.kept → row_at table row.image row.version ≡ Some row → Agrees table s → Through (Agrees table) (inject_trail s row)
   pub boots : (table : List Row) (kind : Kind) (s : Store) → Agrees table s → Through (Agrees table) (boot kind s).trail
+  pub ends : (kind : Kind) (s : Store) → Boots s (boot kind s)
 
-abbrev pub IsGood : List Row → Store → Type 0
-IsGood table s = Agrees table s × (length s.kept ≡ images)
+-- what is known of a mote and of frames
+pub record MoteLaws : Type 0 where
+  pub restarts : RestartLaws
+  pub begins : (table : List Row) (s : Store) (id now word : ℕ) → StoreIsWell table s → IsWell table (begun id now word) s now
+  pub later : (table : List Row) (m : MoteState) (s : Store) (now then : ℕ) → now ≤ then → IsWell table m s now → IsWell table m s then
+  pub reloads : (table : List Row) (m : MoteState) (s : Store) (now word : ℕ) → Timely m now → StoreIsWell table s → IsWell table (maintains m now word) s now
+  pub ticks : (table : List Row) (m : MoteState) (s : Store) (now word : ℕ) → IsWell table m s now → TurnIsWell table (tick_of m s now word) now
+  pub hears : (table : List Row) (m : MoteState) (s : Store) (now word : ℕ) (bytes : List ℕ) → IsTable table → IsHonest table bytes → IsWell table m s now → TurnIsWell table (heard_of m s now word bytes) now
+  pub says : (table : List Row) (m : MoteState) (s : Store) (now word : ℕ) → IsTable table → IsWell table m s now → Speaks m s → IfSome (tick_of m s now word).sent (IsSaid m.id)
+  pub speaks_first : (s : Store) (id now word : ℕ) → id < 2 ^ 16 → OrderFits s.order → Speaks (begun id now word) s
+  pub speaks_ticked : (m : MoteState) (s : Store) (now word : ℕ) → Speaks m s → TurnSpeaks m.id (tick_of m s now word)
+  pub speaks_heard : (m : MoteState) (s : Store) (now word : ℕ) (bytes : List ℕ) → IfOk (message_of bytes) FitsTypes → Speaks m s → TurnSpeaks m.id (heard_of m s now word bytes)
+  pub bytes_fit : (b : List ℕ) (m : Message) → AreBytes b → message_of b ≡ Ok m → FitsTypes m
+
+pub record Laws : Type 0 where
+  pub volume : VolumeLaws
+  pub mote : MoteLaws
 
 abbrev pub SameRows : List Row → List Row → Type 0
 SameRows table known = (image version : ℕ) (row declared : Row) → row_at table image version ≡ Some row → row_at known image version ≡ Some declared → row ≡ declared
 
+-- a store that agrees, and whose order fits into a frame
+pub record IsGood (table : List Row) (s : Store) : Type 0 where
+  pub well : StoreIsWell table s
+  pub order : OrderFits s.order
+
+-- room is no part of it
+good_room : (table : List Row) (s : Store) (room : ℕ) → IsGood table s → IsGood table (record s { room = room })
+good_room table s room g = record { well = record { places = g.well.places; agrees = record { golden = g.well.agrees.golden; kept = g.well.agrees.kept; app = g.well.agrees.app } }; order = g.order }
+
+through_good : (table : List Row) (t : Trail Store) → Through (StoreIsWell table) t → Through (λ s. OrderFits s.order) t → Through (IsGood table) t
+through_good table t well order =
+    Through-map (λ s. StoreIsWell table s × OrderFits s.order) (IsGood table) (λ s both. record { well = both.0; order = both.1 }) t
+    (Through-both (StoreIsWell table) (λ s. OrderFits s.order) t well order)
+
 -- ---- a row that is injected
 
-pub refused_row : (s : Store) (row : Row) → inject_refusal s row ≡ None → (1 ≤ length row.bytes) × (length row.bytes ≤ most_bytes)
+refused_row : (s : Store) (row : Row) → inject_refusal s row ≡ None → (1 ≤ length row.bytes) × (length row.bytes ≤ most_bytes)
 refused_row s row e =
     let P : Option InjectFault → Type 0 = λ o. o ≡ None → (1 ≤ length row.bytes) × (length row.bytes ≤ most_bytes) in
     cond_both (length row.bytes == 0) (Some Empty) _ P (λ _ f. absurd (fault_none Empty f))
@@ -63,7 +108,7 @@ refused_row s row e =
     fault_none : (x : InjectFault) → Some x ≡ None → ⊥
     fault_none x f = cc
 
-pub is_row : (s : Store) (row : Row) → IsDeclared row → inject_refusal s row ≡ None → IsRow row
+is_row : (s : Store) (row : Row) → IsDeclared row → inject_refusal s row ≡ None → IsRow row
 is_row s row d fits =
     let size = refused_row s row fits in
     record {
@@ -76,231 +121,348 @@ is_row s row d fits =
       bytes = d.bytes;
     }
 
--- more rows are no harm
-pub agrees_wider : (table more : List Row) (s : Store) → ((image version : ℕ) (row : Row) → row_at table image version ≡ Some row → row_at more image version ≡ Some row) → Agrees table s → Agrees more s
-agrees_wider table more s f a = record {
-  golden = (a.golden.0, f 0 golden_version a.golden.0 a.golden.1, a.golden.2);
-  kept = λ i. IfSome_then (held s i) (a.kept i) (λ h k. record { row = k.row; in_table = f i h.version k.row k.in_table; pages = k.pages; crc = k.crc; first = k.first });
-  app = IfSome_then s.app a.app (λ app h. record { row = h.row; in_table = f app.image app.version h.row h.in_table; pages = h.pages });
-}
+-- ---- what an event does at mote m, dt milliseconds later
 
--- ---- what an event does
-
-pub record AgreesDeed (w : World) (d : Deed) : Type 0 where
+pub record AgreesDeed (w : World) (m dt : ℕ) (d : Deed) : Type 0 where
   pub table : IsTable d.table
   pub same : SameRows d.table w.declared
-  pub wider : (s : Store) → Agrees w.table s → Agrees d.table s
-  pub good : Through (IsGood d.table) d.trail
+  pub wider : Wider w.table d.table
+  pub way : Through (IsGood d.table) d.trail
+  pub mote : (runs : Option Running) → d.runs ≡ Some runs → IfSome runs (RunsWell d.table m (w.moment + dt) (last d.trail))
+  pub sent : IfSome d.sent (λ message. SentIsWell d.table (record { by = m; bytes = frame_of message }))
 
-abbrev pub AgreesDoes : World → Does → Type 0
-AgreesDoes w (Refuses why) = Unit {0}
-AgreesDoes w (Goes d) = AgreesDeed w d
+abbrev pub AgreesDoes : World → (m dt : ℕ) → Does → Type 0
+AgreesDoes w m dt (Refuses why) = Unit {0}
+AgreesDoes w m dt (Goes d) = AgreesDeed w m dt d
 
-module _ (laws : Laws) (w : World) (agrees : WorldAgrees w) where
-  -- over the same table
-  same_table : (d : Deed) → d.table ≡ w.table → Through (IsGood w.table) d.trail → AgreesDeed w d
-  same_table d is good = record {
-    table = subst IsTable (sym is) agrees.table;
-    same = subst (λ (t : List Row). SameRows t w.declared) (sym is) agrees.same;
-    wider = λ s a. subst (λ (t : List Row). Agrees t s) (sym is) a;
-    good = subst (λ (t : List Row). Through (IsGood t) d.trail) (sym is) good;
-  }
+pub same_running : (a b : Option Running) → Some a ≡ Some b → a ≡ b
+same_running a b e = cc
 
-  clear_good : (m : ℕ) → m < length w.sites → Through (IsGood w.table) (clear_trail (store_at w m))
-  clear_good m within =
-      let s = store_at w m in
-      let old = agrees.stores m within in
-      Through-both (Agrees w.table) (λ t. length t.kept ≡ images) (clear_trail s) (laws.clears w.table s old.0)
-      (Through-stepping (λ t. length t.kept ≡ images) s (commit_operations s.room) (gesture_cleared s) old.1 old.1)
+pub if_each : {A : Type 0} (P Q R : A → Type 0) (o : Option A) → ((x : A) → P x → Q x → R x) → IfSome o P → IfSome o Q → IfSome o R
+if_each P Q R None f p q = tt
+if_each P Q R (Some x) f p q = f x p q
 
-  order_good : (m : ℕ) (order : Order) → m < length w.sites → Through (IsGood w.table) (order_trail (store_at w m) order)
-  order_good m order within =
-      let s = store_at w m in
-      let old = agrees.stores m within in
-      Through-both (Agrees w.table) (λ t. length t.kept ≡ images) (order_trail s order) (laws.orders w.table s order old.0)
-      (Through-stepping (λ t. length t.kept ≡ images) s (commit_operations s.room) (ordered s order) old.1 old.1)
+pub running_at : (P : Running → Type 0) (o : Option Running) (r : Running) → o ≡ Some r → IfSome o P → P r
+running_at P o r is all = subst (λ (x : Option Running). IfSome x P) is all
 
-  boot_good : (m : ℕ) (k : Kind) → m < length w.sites → Through (IsGood w.table) (boot k (store_at w m)).trail
-  boot_good m k within =
-      let s = store_at w m in
-      let old = agrees.stores m within in
-      Through-both (Agrees w.table) (λ t. length t.kept ≡ images) (boot k s).trail (laws.boots w.table k s old.0)
-      (Through-map (OnWay s (boot k s).runs) (λ t. length t.kept ≡ images) (λ t way. ap length way.kept ∙ old.1) (boot k s).trail (boot_way k s))
+-- ---- a row that is declared and injected
 
+module _ (w : World) (agrees : WorldAgrees w) where
   -- a row that is declared and not refused
   pub record Injected (m image version : ℕ) (row : Row) : Type 0 where
     pub declared : IsDeclared row
     pub image_is : row.image ≡ image
     pub version_is : row.version ≡ version
-    pub same : (r : Row) → row_at w.table row.image row.version ≡ Some r → r ≡ row
     pub in_table : row_at (with_row w.table row) row.image row.version ≡ Some row
     pub within : row.image < length (store_at w m).kept
+    pub wider : Wider w.table (with_row w.table row)
     pub agrees_more : Agrees (with_row w.table row) (store_at w m)
 
   pub injected : (m image version : ℕ) (row : Row) → m < length w.sites → row_at w.declared image version ≡ Some row → Injected m image version row
-  injected m image version row here known =
+  injected m image version row low known =
       let d = row_at-each IsDeclared w.declared image version row agrees.rows known in
       let key = row_at-key w.declared image version row known in
       let own = row_at-own w.declared image version row known in
-      let same : (r : Row) → row_at w.table row.image row.version ≡ Some r → r ≡ row = λ r e. agrees.same row.image row.version r row e own in
-      let old = agrees.stores m here in
+      let old = agrees.sites m low in
+      let wider : Wider w.table (with_row w.table row) = λ i v r e. row_at-with_row w.table row r i v e in
       record {
         declared = d;
         image_is = key.0;
         version_is = key.1;
-        same = same;
-        in_table = row_at-added w.table row same;
-        within = let low = d.image in let count = old.1 in omega (arith, low, count);
-        agrees_more = agrees_wider w.table (with_row w.table row) (store_at w m) (λ i v r e. row_at-with_row w.table row r i v e) old.0;
+        in_table = row_at-added w.table row (λ r e. agrees.same row.image row.version r row e own);
+        within = let few = d.image in let count = old.store.places in omega (arith, few, count);
+        wider = wider;
+        agrees_more = agrees_wider w.table (with_row w.table row) wider (store_at w m) old.store.agrees;
       }
 
-  inject_deed : (m image version : ℕ) (row : Row) (d : Deed) → m < length w.sites → row_at w.declared image version ≡ Some row → inject_refusal (store_at w m) row ≡ None
-      → d.table ≡ with_row w.table row → d.trail ≡ inject_trail (store_at w m) row → AgreesDeed w d
-  inject_deed m image version row d here known fits table_is trail_is =
+-- ---- events
+
+module _ (laws : Laws) (w : World) (agrees : WorldAgrees w) where
+  -- what is known of a mote of the world and of its store
+  here : (m : ℕ) → m < length w.sites → IsGood w.table (store_at w m)
+  here m low = let x = agrees.sites m low in record { well = x.store; order = x.order }
+
+  runs_here : (m : ℕ) (r : Running) → m < length w.sites → (site w m).runs ≡ Some r → RunsWell w.table m w.moment (store_at w m) r
+  runs_here m r low is = running_at (RunsWell w.table m w.moment (store_at w m)) (site w m).runs r is (agrees.sites m low).runs
+
+  well_now : (m dt : ℕ) (r : Running) → m < length w.sites → (site w m).runs ≡ Some r → IsWell w.table r.mote (store_at w m) (w.moment + dt)
+  well_now m dt r low is = laws.mote.later w.table r.mote (store_at w m) w.moment (w.moment + dt) (omega arith) (runs_here m r low is).well
+
+  small_id : (m : ℕ) → m < length w.sites → m < 2 ^ 16
+  small_id m low = let few = agrees.few in omega (arith, low, few)
+
+  -- over the same table
+  same_table : (m dt : ℕ) (d : Deed) → d.table ≡ w.table → Through (IsGood w.table) d.trail
+      → ((runs : Option Running) → d.runs ≡ Some runs → IfSome runs (RunsWell w.table m (w.moment + dt) (last d.trail)))
+      → IfSome d.sent (λ message. SentIsWell w.table (record { by = m; bytes = frame_of message })) → AgreesDeed w m dt d
+  same_table m dt d is way mote sent = record {
+    table = subst IsTable (sym is) agrees.table;
+    same = subst (λ (t : List Row). SameRows t w.declared) (sym is) agrees.same;
+    wider = subst (λ (t : List Row). Wider w.table t) (sym is) (wider_same w.table);
+    way = subst (λ (t : List Row). Through (IsGood t) d.trail) (sym is) way;
+    mote = λ runs e. subst (λ (t : List Row). IfSome runs (RunsWell t m (w.moment + dt) (last d.trail))) (sym is) (mote runs e);
+    sent = subst (λ (t : List Row). IfSome d.sent (λ message. SentIsWell t (record { by = m; bytes = frame_of message }))) (sym is) sent;
+  }
+
+  -- ---- starts
+
+  boot_way : (k : Kind) (s : Store) → IsGood w.table s → Through (IsGood w.table) (boot k s).trail
+  boot_way k s g =
+      let b = boot k s in
+      let way = (laws.volume.ends k s).way in
+      through_good w.table b.trail
+      (Through-map (λ t. Agrees w.table t × OnTheWay s b.runs t) (StoreIsWell w.table) (λ t both. record { places = ap length both.1.kept ∙ g.well.places; agrees = both.0 }) b.trail
+      (Through-both (Agrees w.table) (OnTheWay s b.runs) b.trail (laws.volume.boots w.table k s g.well.agrees) way))
+      (Through-map (OnTheWay s b.runs) (λ t. OrderFits t.order) (λ t on. subst OrderFits (sym on.order) g.order) b.trail way)
+
+  started_well : (m id now word : ℕ) (s : Store) (o : Option Runs) (runs : Option Running) → id ≡ m → m < 2 ^ 16 → IsGood w.table s → running_by o id now word ≡ Some runs
+      → IfSome runs (RunsWell w.table m now s)
+  started_well m id now word s None runs is low g e = absurd cc
+  started_well m id now word s (Some r) runs is low g e =
+      subst (λ (o : Option Running). IfSome o (RunsWell w.table m now s)) (same_running (Some (record { key = key_of r; mote = begun id now word })) runs e)
+      (record {
+        id = is;
+        well = laws.mote.begins w.table s id now word g.well;
+        speaks = laws.mote.speaks_first s id now word (subst (λ (n : ℕ). n < 2 ^ 16) (sym is) low) g.order;
+      })
+
+  start_agrees : (k : Kind) (m dt id word : ℕ) → m < length w.sites → id ≡ m → AgreesDoes w m dt (starts w (boot k (store_at w m)) id (w.moment + dt) word)
+  start_agrees k m dt id word low is =
+      let b = boot k (store_at w m) in
+      let way = boot_way k (store_at w m) (here m low) in
+      same_table m dt _ refl way
+      (λ runs e. started_well m id (w.moment + dt) word (last b.trail) b.runs runs is (small_id m low) (Through-last (IsGood w.table) b.trail way) e) tt
+
+  -- ---- steps of a mote
+
+  turn_agrees : {A : Type 0} (m dt : ℕ) (r : Running) (step : Turn A) (sent : Option Message) → r.mote.id ≡ m → TurnIsWell w.table step (w.moment + dt) → TurnSpeaks r.mote.id step
+      → IfSome sent (λ message. SentIsWell w.table (record { by = m; bytes = frame_of message })) → AgreesDoes w m dt (goes_on w step.trail sent r.key step.mote)
+  turn_agrees m dt r step sent id well speaks told =
+      same_table m dt _ refl (through_good w.table step.trail well.way speaks.way)
+      (λ runs e. subst (λ (o : Option Running). IfSome o (RunsWell w.table m (w.moment + dt) (last step.trail))) (same_running (Some (record { key = r.key; mote = step.mote })) runs e)
+      (record { id = speaks.id_is ∙ id; well = well.mote; speaks = speaks.mote }))
+      told
+
+  said_well : (m id : ℕ) (sent : Option Message) → id ≡ m → IfSome sent (IsSaid id) → SendsHonest w.table sent → IfSome sent (λ message. SentIsWell w.table (record { by = m; bytes = frame_of message }))
+  said_well m id sent is said honest =
+      if_each (IsSaid id) (λ message. HonestMessage w.table (Ok message)) (λ message. SentIsWell w.table (record { by = m; bytes = frame_of message })) sent
+      (λ message a b. record { message = message; spelled = a.is_read; fits = a.fits; source = a.source ∙ is; honest = b }) said honest
+
+  tick_agrees : (m dt word : ℕ) (r : Running) → (site w m).runs ≡ Some r → m < length w.sites
+      → AgreesDoes w m dt (let step = tick_of r.mote (store_at w m) (w.moment + dt) word in goes_on w step.trail step.sent r.key step.mote)
+  tick_agrees m dt word r is low =
       let s = store_at w m in
-      let i = injected m image version row here known in
-      let more = with_row w.table row in
-      let count = (agrees.stores m here).1 in
-      let good : Through (IsGood more) (inject_trail s row) =
-      Through-both (Agrees more) (λ t. length t.kept ≡ images) (inject_trail s row) (laws.injects more s row i.within i.in_table i.agrees_more)
-      (Through-map (OnInject s row) (λ t. length t.kept ≡ images) (λ t way. ap length way.kept ∙ length-set s.kept row.image way.here ∙ count) (inject_trail s row)
-      (inject_way more s row i.in_table i.within i.agrees_more fits)) in
-      let low = (refused_not s row fits).0 in
-      record {
-        table = subst IsTable (sym table_is) (IsTable-with_row w.table row agrees.table (is_row s row i.declared fits) low);
-        same = subst (λ (t : List Row). SameRows t w.declared) (sym table_is) (λ im ve r declared e known2. same_more im ve r declared e known2);
-        wider = λ t a. subst (λ (x : List Row). Agrees x t) (sym table_is) (agrees_wider w.table more t (λ im ve r e. row_at-with_row w.table row r im ve e) a);
-        good = subst (Through (IsGood d.table)) (sym trail_is) (subst (λ (t : List Row). Through (IsGood t) (inject_trail s row)) (sym table_is) good);
-      }
+      let now = w.moment + dt in
+      let step = tick_of r.mote s now word in
+      let known = runs_here m r low is in
+      let well = laws.mote.ticks w.table r.mote s now word (well_now m dt r low is) in
+      turn_agrees m dt r step step.sent known.id well (laws.mote.speaks_ticked r.mote s now word known.speaks)
+      (said_well m r.mote.id step.sent known.id (laws.mote.says w.table r.mote s now word agrees.table (well_now m dt r low is) known.speaks) well.sent)
+
+  hear_agrees : (m dt word : ℕ) (bytes : List ℕ) (r : Running) → (site w m).runs ≡ Some r → m < length w.sites → IsHonest w.table bytes → IfOk (message_of bytes) FitsTypes
+      → AgreesDoes w m dt (hears w m (w.moment + dt) word bytes r)
+  hear_agrees m dt word bytes r is low honest fits =
+      let s = store_at w m in
+      let now = w.moment + dt in
+      let known = runs_here m r low is in
+      turn_agrees m dt r (heard_of r.mote s now word bytes) None known.id
+      (laws.mote.hears w.table r.mote s now word bytes agrees.table honest (well_now m dt r low is))
+      (laws.mote.speaks_heard r.mote s now word bytes fits known.speaks) tt
+
+  -- a frame that was sent
+  sent_honest : (f : Sent) → SentIsWell w.table f → IsHonest w.table f.bytes
+  sent_honest f well = subst (HonestMessage w.table) (sym well.spelled) well.honest
+
+  sent_fits : (f : Sent) → SentIsWell w.table f → IfOk (message_of f.bytes) FitsTypes
+  sent_fits f well = subst (λ (r : Result Message FrameFault). IfOk r FitsTypes) (sym well.spelled) well.fits
+
+  -- one from outside
+  bytes_fit : (bytes : List ℕ) → AreBytes bytes → (r : Result Message FrameFault) → message_of bytes ≡ r → IfOk r FitsTypes
+  bytes_fit bytes are (Err fault) is = tt
+  bytes_fit bytes are (Ok message) is = laws.mote.bytes_fit bytes message are is
+
+  -- ---- orders and injections
+
+  reloads_well : (m dt word : ℕ) (table : List Row) (s : Store) (runs : Option Running) → m < length w.sites → IsGood table s → Some (reloaded (site w m).runs (w.moment + dt) word) ≡ Some runs
+      → IfSome runs (RunsWell table m (w.moment + dt) s)
+  reloads_well m dt word table s runs low g e =
+      subst (λ (o : Option Running). IfSome o (RunsWell table m (w.moment + dt) s)) (same_running (reloaded (site w m).runs (w.moment + dt) word) runs e)
+      (each (site w m).runs refl)
     where
-      same_more : SameRows (with_row w.table row) w.declared
-      same_more im ve r declared e known2 =
-          ⊎_elim
-          (λ new. new.0 ∙ same_some row declared (sym (row_at-own w.declared image version row known) ∙ ap (λ n. row_at w.declared n row.version) new.1 ∙ ap (row_at w.declared im) new.2 ∙ known2))
-          (λ old. agrees.same im ve r declared old known2)
-          (row_at-of_with_row w.table row r im ve e)
+      each : (o : Option Running) → (site w m).runs ≡ o → IfSome (reloaded o (w.moment + dt) word) (RunsWell table m (w.moment + dt) s)
+      each None is = tt
+      each (Some r) is =
+          let known = runs_here m r low is in
+          record {
+            id = known.id;
+            well = laws.mote.reloads table r.mote s (w.moment + dt) word (well_now m dt r low is).timely g.well;
+            speaks = record { id = known.speaks.id; server = tt; order = g.order };
+          }
 
-  pub agrees_does : (e : Event) → EventFits (length w.sites) e → AgreesDoes w (does w e)
+  order_fits : (number image version : ℕ) → 1 ≤ number → number < 2 ^ 32 → image < images → 1 ≤ version → version < 2 ^ 32 → OrderFits (order_of number image version)
+  order_fits number image version some small known first fits = record {
+    in_range = inr (record { number = some; image = omega (arith, known); version = first });
+    number = small;
+    version = fits;
+  }
+
+  order_agrees : (m number image version dt word : ℕ) → m < length w.sites → OrderFits (order_of number image version)
+      → AgreesDoes w m dt (Goes (record { trail = order_trail (store_at w m) (order_of number image version); table = w.table; started = None; sent = None; runs = Some (reloaded (site w m).runs (w.moment + dt) word) }))
+  order_agrees m number image version dt word low fits =
+      let s = store_at w m in
+      let order = order_of number image version in
+      let old = here m low in
+      let t = order_trail s order in
+      let places = Through-stepping (λ x. length x.kept ≡ images) s (commit_operations s.room) (ordered s order) old.well.places old.well.places in
+      let way : Through (IsGood w.table) t =
+      through_good w.table t
+      (Through-map (λ x. Agrees w.table x × (length x.kept ≡ images)) (StoreIsWell w.table) (λ x both. record { places = both.1; agrees = both.0 }) t
+      (Through-both (Agrees w.table) (λ x. length x.kept ≡ images) t (laws.volume.orders w.table s order old.well.agrees) places))
+      (Through-stepping (λ x. OrderFits x.order) s (commit_operations s.room) (ordered s order) old.order fits) in
+      same_table m dt _ refl way (λ runs e. reloads_well m dt word w.table (last t) runs low (Through-last (IsGood w.table) t way) e) tt
+
+  -- ---- injections
+
+  inject_same : (image version : ℕ) (row : Row) → row_at w.declared image version ≡ Some row → SameRows (with_row w.table row) w.declared
+  inject_same image version row known im ve r declared e known2 =
+      ⊎_elim
+      (λ new. new.0 ∙ same_some row declared (sym (row_at-own w.declared image version row known) ∙ ap (λ n. row_at w.declared n row.version) new.1 ∙ ap (row_at w.declared im) new.2 ∙ known2))
+      (λ old. agrees.same im ve r declared old known2)
+      (row_at-of_with_row w.table row r im ve e)
+
+  inject_agrees : (m image version dt word : ℕ) (row : Row) → m < length w.sites → row_at w.declared image version ≡ Some row → inject_refusal (store_at w m) row ≡ None
+      → AgreesDoes w m dt (Goes (record { trail = inject_trail (store_at w m) row; table = with_row w.table row; started = None; sent = None; runs = Some (reloaded (site w m).runs (w.moment + dt) word) }))
+  inject_agrees m image version dt word row low known fits =
+      let s = store_at w m in
+      let i = injected w agrees m image version row low known in
+      let more = with_row w.table row in
+      let old = here m low in
+      let t = inject_trail s row in
+      let on = inject_way more s row i.in_table i.within i.agrees_more fits in
+      let way : Through (IsGood more) t =
+      through_good more t
+      (Through-map (λ x. Agrees more x × OnInject s row x) (StoreIsWell more)
+      (λ x both. record { places = ap length both.1.kept ∙ length-set s.kept row.image both.1.here ∙ old.well.places; agrees = both.0 }) t
+      (Through-both (Agrees more) (OnInject s row) t (laws.volume.injects more s row i.within i.in_table i.agrees_more) on))
+      (Through-map (OnInject s row) (λ x. OrderFits x.order) (λ x o. subst OrderFits (sym o.order) old.order) t on) in
+      record {
+        table = IsTable-with_row w.table row agrees.table (is_row s row i.declared fits) (refused_not s row fits).0;
+        same = inject_same image version row known;
+        wider = i.wider;
+        way = way;
+        mote = λ runs e. reloads_well m dt word more (last t) runs low (Through-last (IsGood more) t way) e;
+        sent = tt;
+      }
+
+  -- ---- every event
+
+  pub agrees_does : (e : Event) → EventFits (length w.sites) e → HonestEvent w.table e → AgreesDoes w (mote_of e) (dt_of e) (does w e)
   agrees_does =
-      does_cases w (λ e D. EventFits (length w.sites) e → AgreesDoes w D)
-      (λ e why fits. tt)
-      (λ m dt word r on fits. same_table _ refl (clear_good m fits))
-      (λ m dt word r on waits fits. same_table _ refl (boot_good m _ fits))
-      (λ m dt word r on fits. same_table _ refl (Through-resting (IsGood w.table) (store_at w m) 0 (agrees.stores m fits)))
-      (λ m dt word fits. same_table _ refl (boot_good m _ fits))
-      (λ m image version dt word row known none fits. inject_deed m image version row _ fits.0 known none refl refl)
-      (λ m number image version dt word none fits. same_table _ refl (order_good m (order_of number image version) fits.0))
-
-does_through : (w : World) (D : Does) → AgreesDoes w D → KeepsAgreement D
-does_through w (Refuses why) a = tt
-does_through w (Goes d) a = Through-map (IsGood d.table) (Agrees d.table) (λ s good. good.0) d.trail a.good
-
-pub event_through : (laws : Laws) (w : World) (agrees : WorldAgrees w) (e : Event) → EventFits (length w.sites) e → KeepsAgreement (does w e)
-event_through laws w agrees e fits = does_through w (does w e) (agrees_does laws w agrees e fits)
+      does_cases laws.mote.restarts w (SentIsWell w.table) agrees.sent (λ e D. EventFits (length w.sites) e → HonestEvent w.table e → AgreesDoes w (mote_of e) (dt_of e) D)
+      (λ e why fits honest. tt)
+      (λ m dt word r is fits honest. tick_agrees m dt word r is fits)
+      (λ m dt word r is waits fits honest. start_agrees kind.Order m dt r.mote.id word fits (runs_here m r fits is).id)
+      (λ m dt word fits honest. start_agrees kind.Power m dt m word fits refl)
+      (λ m dt word number f r is at q fits honest. hear_agrees m dt word f.bytes r is fits.0 (sent_honest f q) (sent_fits f q))
+      (λ from m dt word f r is at q fits honest. hear_agrees m dt word f.bytes r is fits.1 (sent_honest f q) (sent_fits f q))
+      (λ m dt word bytes r is fits honest. hear_agrees m dt word bytes r is fits.0 honest (bytes_fit bytes fits.2 (message_of bytes) refl))
+      (λ m image version dt word row known none fits honest. inject_agrees m image version dt word row fits.0 known none)
+      (λ m number image version dt word none fits honest. order_agrees m number image version dt word fits.0 (order_fits number image version fits.1 fits.2 fits.3 fits.4 fits.5))
 
 -- ---- steps
 
 mote_within : (n : ℕ) (e : Event) → EventFits n e → mote_of e < n
 mote_within n (Tick m dt word) fits = fits
-mote_within n (Hear m dt word frame) fits = absurd fits
-mote_within n (Last from to dt word) fits = absurd fits
-mote_within n (Frame m dt word bytes) fits = absurd fits
+mote_within n (Hear m dt word number) fits = fits.0
+mote_within n (Last from m dt word) fits = fits.1
 mote_within n (Reset m dt word) fits = fits
 mote_within n (Inject m image version dt word) fits = fits.0
 mote_within n (OrderEvent m number image version dt word) fits = fits.0
+mote_within n (Frame m dt word bytes) fits = fits.0
 
 pub step_within : (w : World) (x : Step) → StepFits (length w.sites) x → mote_of x.event < length w.sites
 step_within w x fits = mote_within (length w.sites) x.event fits.event
 
+-- a frame more was sent
+sent_agrees : (u : World) (m : ℕ) (o : Option Message) → IfSome o (λ message. SentIsWell u.table (record { by = m; bytes = frame_of message })) → WorldAgrees u → WorldAgrees (and_sent u m o)
+sent_agrees u m None is a = a
+sent_agrees u m (Some message) is a = record {
+  few = a.few;
+  table = a.table;
+  rows = a.rows;
+  same = a.same;
+  links = a.links;
+  sites = a.sites;
+  sent = all_pushed (SentIsWell u.table) u.sent (record { by = m; bytes = frame_of message }) a.sent is;
+}
+
+unless_cut : (P : Message → Type 0) (b : Bool) (d : Deed) → IfSome d.sent P → IfSome (sent_unless b d) P
+unless_cut P true d p = tt
+unless_cut P false d p = p
+
 module _ (laws : Laws) (w : World) (x : Step) (v : World) (reports : List Report) (agrees : WorldAgrees w) (fits : StepFits (length w.sites) x) where
-  deed_agrees : (d : Deed) → AgreesDeed w d → StepDoes (Goes d) w x v reports → WorldAgrees v
+  deed_agrees : (d : Deed) → AgreesDeed w (mote_of x.event) (dt_of x.event) d → StepDoes (Goes d) w x v reports → WorldAgrees v
   deed_agrees d g does_it =
       let m = mote_of x.event in
+      let now = w.moment + dt_of x.event in
       let mid : World = record (counted w (dt_of x.event)) { table = d.table } in
-      let P : Bool → Site → Type 0 = λ b y. IsGood d.table y.store in
+      let here = Through-last (IsGood d.table) d.trail g.way in
+      let P : Bool → Site → Type 0 = λ b y. SiteIsWell d.table m now y in
+      let off : (s : Store) → IsGood d.table s → SiteIsWell d.table m now (off_site s) = λ s good. record { store = good.well; order = good.order; runs = tt } in
       let end : EndsAs P (blows x.cut d.trail) w x d v =
-      ends_as P (λ s room good. (agrees_room d.table s room good.0, good.1)) w x d v reports (λ runs _. Through-last (IsGood d.table) d.trail g.good) g.good (blows x.cut d.trail) does_it in
-      subst WorldAgrees (sym end.1)
-      (record {
+      ends_as P (λ s room y. off (record s { room = room }) (good_room d.table s room (record { well = y.store; order = y.order }))) w x d v reports
+      (λ runs e. record { store = here.well; order = here.order; runs = g.mote runs e })
+      (Through-map (IsGood d.table) (λ s. SiteIsWell d.table m now (off_site s)) off d.trail g.way) (blows x.cut d.trail) does_it in
+      let within = step_within w x fits in
+      let count : length (ended_world w x d end.0).sites ≡ length w.sites = site_count mid m end.0 in
+      let moved : WorldAgrees (ended_world w x d end.0) = record {
+        few = subst (λ (n : ℕ). n ≤ most_motes) (sym count) agrees.few;
         table = g.table;
         rows = agrees.rows;
         same = g.same;
-        stores = each_site (λ y. IsGood d.table y.store) mid m end.0 (step_within w x fits) end.2 (λ j low. (g.wider (store_at w j) (agrees.stores j low).0, (agrees.stores j low).1));
-      })
+        links = subst (λ (n : ℕ). AllByRecursion (LinkFits n) w.links) (sym count) agrees.links;
+        sites = each_site (λ k y. SiteIsWell d.table k now y) mid m end.0 within end.2 (λ k less _. site_wider w.table d.table g.wider (laws.mote.later w.table) k w.moment now (site w k) (omega arith) (agrees.sites k less));
+        sent = all_map (SentIsWell w.table) (SentIsWell d.table) (sent_wider w.table d.table g.wider) w.sent agrees.sent;
+      } in
+      subst WorldAgrees (sym end.1)
+      (sent_agrees (ended_world w x d end.0) m (sent_unless (blows x.cut d.trail) d)
+      (unless_cut (λ message. SentIsWell d.table (record { by = m; bytes = frame_of message })) (blows x.cut d.trail) d g.sent) moved)
 
-  does_agrees : (D : Does) → AgreesDoes w D → StepDoes D w x v reports → WorldAgrees v
-  does_agrees (Refuses why) g did = subst WorldAgrees (sym did.0) (record { table = agrees.table; rows = agrees.rows; same = agrees.same; stores = agrees.stores })
+  does_agrees : (D : Does) → AgreesDoes w (mote_of x.event) (dt_of x.event) D → StepDoes D w x v reports → WorldAgrees v
+  does_agrees (Refuses why) g did =
+      subst WorldAgrees (sym did.0)
+      (record {
+        few = agrees.few;
+        table = agrees.table;
+        rows = agrees.rows;
+        same = agrees.same;
+        links = agrees.links;
+        sites = λ j low. site_wider w.table w.table (wider_same w.table) (laws.mote.later w.table) j w.moment (w.moment + dt_of x.event) (site w j) (omega arith) (agrees.sites j low);
+        sent = agrees.sent;
+      })
   does_agrees (Goes d) g did = deed_agrees d g did
 
-  pub step_agrees : WorldStep w x v reports → WorldAgrees v
+  pub step_agrees : HonestEvent w.table x.event → WorldStep w x v reports → WorldAgrees v
   unfolding WorldStep
-  step_agrees did = does_agrees (does w x.event) (agrees_does laws w agrees x.event fits.event) did
+  step_agrees honest did = does_agrees (does w x.event) (agrees_does laws w agrees x.event fits.event honest) did
 
 -- ---- declarations
 
 declared_agrees : (w : World) (row : Row) (o : Option Row) → row_at w.declared row.image row.version ≡ o → MayDeclare w row → WorldAgrees w → WorldAgrees (declared_as o w row)
 declared_agrees w row (Some kept) is may agrees = agrees
 declared_agrees w row None is may agrees = record {
+  few = agrees.few;
   table = agrees.table;
-  rows = all_push IsDeclared w.declared row agrees.rows may.row_fits;
+  rows = all_pushed IsDeclared w.declared row agrees.rows may.row_fits;
   same = λ image version r known e f.
       ⊎_elim
       (λ old. agrees.same image version r known e old)
       (λ new. may.same is r (ap (λ i. row_at w.table i row.version) new.2 ∙ ap (row_at w.table image) new.3 ∙ e) ∙ sym new.1)
       (row_at-of_push w.declared row known image version f);
-  stores = agrees.stores;
+  links = agrees.links;
+  sites = agrees.sites;
+  sent = agrees.sent;
 }
 
 pub declare_agrees : (w v : World) (row : Row) (reports : List Report) → WorldAgrees w → MayDeclare w row → DeclareStep w row v reports → WorldAgrees v
 declare_agrees w v row reports agrees may did = subst WorldAgrees (sym did.world) (declared_agrees w row (row_at w.declared row.image row.version) refl may agrees)
-
--- ---- moments
-
-abbrev IsTimelyAt : ℕ → Option Running → Type 0
-IsTimelyAt now runs = IfSome runs (λ r. r.since ≤ now)
-
-timely_later : (now later : ℕ) (o : Option Running) → now ≤ later → IsTimelyAt now o → IsTimelyAt later o
-timely_later now later o low t = IfSome_then o t (λ r h. omega (arith, h, low))
-
-abbrev TimelyDoes : World → Event → Does → Type 0
-TimelyDoes w e (Refuses why) = Unit {0}
-TimelyDoes w e (Goes d) = (runs : Option Running) → d.runs ≡ Some runs → IsTimelyAt (w.moment + dt_of e) runs
-
-same_running : (a b : Option Running) → Some a ≡ Some b → a ≡ b
-same_running a b e = cc
-
-module _ (w : World) (timely : WorldTimely w) where
-  on_timely : (m dt : ℕ) (runs : Option Running) → m < length w.sites → ◌≡◌ {A = Option (Option Running)} (Some (site w m).runs) (Some runs) → IsTimelyAt (w.moment + dt) runs
-  on_timely m dt runs here e = subst (IsTimelyAt (w.moment + dt)) (same_running (site w m).runs runs e) (timely_later w.moment (w.moment + dt) (site w m).runs (omega arith) (timely m here))
-
-  start_timely : (b : Option Runs) (now : ℕ) (runs : Option Running) → running_by b now ≡ Some runs → IsTimelyAt now runs
-  start_timely None now runs e = absurd cc
-  start_timely (Some r) now runs e = subst (IsTimelyAt now) (same_running (Some (record { key = key_of r; since = now })) runs e) (omega arith)
-
-  timely_does : (e : Event) → EventFits (length w.sites) e → TimelyDoes w e (does w e)
-  timely_does =
-      does_cases w (λ e D. EventFits (length w.sites) e → TimelyDoes w e D)
-      (λ e why fits. tt)
-      (λ m dt word r on fits runs e. on_timely m dt runs fits e)
-      (λ m dt word r on waits fits runs e. start_timely (boot _ (store_at w m)).runs (w.moment + dt) runs e)
-      (λ m dt word r on fits runs e. on_timely m dt runs fits e)
-      (λ m dt word fits runs e. start_timely (boot _ (store_at w m)).runs (w.moment + dt) runs e)
-      (λ m image version dt word row known none fits runs e. on_timely m dt runs fits.0 e)
-      (λ m number image version dt word none fits runs e. on_timely m dt runs fits.0 e)
-
-  -- the other motes
-  later_timely : (dt j : ℕ) → j < length w.sites → IsTimelyAt (w.moment + dt) (site w j).runs
-  later_timely dt j low = timely_later w.moment (w.moment + dt) (site w j).runs (omega arith) (timely j low)
-
-  deed_timely : (x : Step) (v : World) (reports : List Report) (D : Does) → StepFits (length w.sites) x → TimelyDoes w x.event D → StepDoes D w x v reports → WorldTimely v
-  deed_timely x v reports (Refuses why) fits t did = subst WorldTimely (sym did.0) (later_timely (dt_of x.event))
-  deed_timely x v reports (Goes d) fits t did =
-      let P : Bool → Site → Type 0 = λ b y. IsTimelyAt (w.moment + dt_of x.event) y.runs in
-      let end : EndsAs P (blows x.cut d.trail) w x d v =
-      ends_as P (λ s room _. tt) w x d v reports t (Through-each (λ s. Unit {0}) (λ s. tt) d.trail) (blows x.cut d.trail) did in
-      subst WorldTimely (sym end.1)
-      (each_site (λ y. IsTimelyAt (w.moment + dt_of x.event) y.runs) (record (counted w (dt_of x.event)) { table = d.table }) (mote_of x.event) end.0 (step_within w x fits) end.2 (later_timely (dt_of x.event)))
-
-  pub step_timely : (x : Step) (v : World) (reports : List Report) → StepFits (length w.sites) x → WorldStep w x v reports → WorldTimely v
-  unfolding WorldStep
-  step_timely x v reports fits did = deed_timely x v reports (does w x.event) fits (timely_does x.event fits.event) did

@@ -3,169 +3,267 @@ use Rattle.std.proofs.Common.{◌≡◌, ◌⊎◌, ℕ, ◌+◌, ◌<◌, Bool,
 use Rattle.std.proofs.lemmas.Bool.{cond_both}
 use Rattle.std.proofs.lemmas.List.{map-set}
 use Rattle.std.specs.Prelude.{nat_le, slice_set}
-use Rattle.dg_nor.specs.Trail.{Trail, last, resting}
+use Rattle.dg_nor.specs.Trail.{Trail, last}
 use Rattle.dg_nor.specs.Through.{Through}
-use Rattle.dg_nor.proofs.ThroughLemmas.{Through-resting, Through-stepping}
+use Rattle.dg_nor.proofs.ThroughLemmas.{Through-stepping, Through-last}
 use Rattle.dg_control.specs.Store.{commit_operations}
 use Rattle.dg_control.specs.declared.snapshot.Order.{Order}
-use Rattle.dg_object.specs.Object.{Row, IsRow}
+use Rattle.dg_object.specs.Object.{Row}
 use Rattle.dg_slot.specs.Kept.{Held}
 use Rattle.dg_volume.specs.Store.{Store, held}
-use Rattle.dg_volume.specs.Changes.{ordered, gesture_cleared, inject_refusal, order_refusal}
-use Rattle.dg_volume.specs.Trails.{order_trail, inject_trail, clear_trail}
+use Rattle.dg_volume.specs.Changes.{ordered, inject_refusal, order_refusal}
+use Rattle.dg_volume.specs.Trails.{order_trail, inject_trail}
 use Rattle.dg_volume.specs.Start.{Runs, boot, order_waits, kept_runs}
 use Rattle.dg_volume.specs.Table.{row_at, with_row}
-use Rattle.dg_volume.specs.RowLaws.{RowLaws}
 use Rattle.dg_volume.specs.declared.volume.Kind.TheVariants as kind
 use Rattle.dg_volume.specs.declared.volume.OrderFault.{OrderFault}
 use Rattle.dg_volume.specs.declared.volume.OrderFault.TheVariants as order_fault
+use Rattle.dg_frame.specs.Grammar.{message_of}
+use Rattle.dg_frame.specs.declared.Message.{Message}
+use Rattle.dg_mote.specs.Model.{MoteState, begun}
+use Rattle.dg_mote.specs.Ticks.{tick_of}
+use Rattle.dg_mote.specs.Hears.{heard_of}
+use Rattle.dg_mote.specs.Changes.{MayClear, IfReceives}
 use Rattle.dg_base.specs.declared.events.Key.{Key}
-use Rattle.dg_rules.specs.World.{World, Site, Running, site, store_at, with_site, counted}
-use Rattle.dg_rules.specs.Small.{Holding, SmallMote, holding, app_key, running_key, small_mote, small, holds, whole}
-use Rattle.dg_rules.specs.Events.{Deed, Does, Refuses, Goes, does, mote_of, dt_of, key_of, running_by, starts, acts, goes_on}
-use Rattle.dg_rules.specs.Steps.{blows, StepDoes, WorldStep}
+use Rattle.dg_rules.specs.World.{World, Site, Running, Sent, site, store_at, counted, frame_at, last_frame}
+use Rattle.dg_rules.specs.Small.{Holding, SmallMote, holding, app_key, running_key, small_mote, Small, small, holds, whole}
+use Rattle.dg_rules.specs.Events.{Deed, Does, Refuses, Goes, does, mote_of, dt_of, key_of, reloaded, acts}
+use Rattle.dg_rules.specs.Steps.{blows, and_sent, StepDoes, WorldStep}
 use Rattle.dg_rules.specs.Ranges.{EventFits, StepFits}
-use Rattle.dg_rules.specs.Premises.{WorldAgrees}
-use Rattle.dg_rules.specs.Legal.{MayInject, CutHolding, LegalInject, IsOn, MayStart, MayRestart, CutStart, LegalAt, LegalStep, taking}
+use Rattle.dg_rules.specs.Premises.{RunsWell, WorldAgrees}
+use Rattle.dg_rules.specs.Legal.{Past, Came, MayInject, CutHolding, LegalInject, IsOn, MayStart, MayRestart, CutStart, LegalFrame, LegalMessage, LegalAt, LegalStep, taking, off_after}
+use Rattle.dg_rules.specs.Past.{brought}
 use Rattle.dg_rules.specs.Promises.{LegalDoes}
 use Rattle.dg_base.specs.declared.events.Event.{Event}
-use Rattle.dg_base.specs.declared.events.Event.TheVariants.{Tick, Reset, Inject, Order as OrderEvent}
+use Rattle.dg_base.specs.declared.events.Event.TheVariants.{Tick, Hear, Last, Reset, Inject, Order as OrderEvent, Frame}
 use Rattle.dg_base.specs.declared.events.Step.{Step}
 use Rattle.dg_script.specs.declared.report.Report.{Report}
 use Rattle.dg_rules.proofs.ThroughLemmas.{Through-map, Through-each}
-use Rattle.dg_rules.proofs.SiteLemmas.{each_site, small_at, small_there, small_other, small_count}
+use Rattle.dg_rules.proofs.SiteLemmas.{small_at, small_there, small_other, small_count}
 use Rattle.dg_rules.proofs.BootLemmas.{IsSettled, boot_start}
 use Rattle.dg_rules.proofs.InjectLemmas.{OnInject, may_inject, inject_way, inject_way_last, inject_whole, refused_not}
-use Rattle.dg_rules.proofs.EventLemmas.{order_of, does_cases, EndsAs, ends_as}
-use Rattle.dg_rules.proofs.AgreementLemmas.{Laws, Injected, injected, step_within}
+use Rattle.dg_rules.proofs.EventLemmas.{order_of, running_by, starts, goes_on, hearing_of, hears, does_cases, all_sent, EndsAs, ended_world, sent_unless, ends_as}
+use Rattle.dg_rules.proofs.AgreementLemmas.{Injected, injected, step_within, same_running, running_at}
+use Rattle.dg_rules.proofs.StepLemmas.{LandsDoes, step_sites}
+use Rattle.dg_rules.proofs.ChangesLemmas.{StepLaws}
 use Rattle.dg_rules.proofs.LegalLemmas.{mote, holds_at, legal_start, chosen_start, cut_start, tick_starts, tick_start, tick_waits}
+use Rattle.dg_rules.proofs.MessageLemmas.{AllThere}
+use Rattle.dg_rules.proofs.HeardLemmas.{IsCalm, calm_settled, tick_calm, clear_small, heard_ends}
 
 -- a mote that is on has no room where its third short start is counted
 abbrev pub WorldSettled : World → Type 0
 WorldSettled w = (m : ℕ) → m < length w.sites → IfSome (site w m).runs (λ r. IsSettled (store_at w m))
 
-pub record LegalDeed (w : World) (m : ℕ) (e : Event) (d : Deed) : Type 0 where
-  pub whole : (runs : Option Running) → d.runs ≡ Some runs → LegalAt w.declared w.table false e (small_mote (site w m)) (mote (last d.trail) runs) d.table
-  pub cut : Through (λ s. LegalAt w.declared w.table true e (small_mote (site w m)) (mote s None) d.table) d.trail
+-- the packets of the page that a mote asks for came to it since its last start
+abbrev pub CameTo : Past → ℕ → Site → Type 0
+CameTo past m x = IfSome x.runs (λ r. IfReceives (AllThere m past) r.mote.mode)
+
+abbrev pub WorldCame : Past → World → Type 0
+WorldCame past w = (m : ℕ) → m < length w.sites → CameTo past m (site w m)
+
+-- what an event may do at mote m that brings this frame
+pub record LegalDeed (past : Past) (w : World) (m : ℕ) (frame : Option (List ℕ)) (e : Event) (d : Deed) : Type 0 where
+  pub whole : (runs : Option Running) → d.runs ≡ Some runs → LegalAt past w.declared w.table false frame e (small_mote (site w m)) (mote (last d.trail) runs) d.table
+  pub cut : Through (λ s. LegalAt past w.declared w.table true frame e (small_mote (site w m)) (mote s None) d.table) d.trail
   pub settled : (runs : Option Running) → d.runs ≡ Some runs → IfSome runs (λ r. IsSettled (last d.trail))
 
-abbrev pub LegalDeedDoes : World → Event → Does → Type 0
-LegalDeedDoes w e (Refuses why) = Unit {0}
-LegalDeedDoes w e (Goes d) = LegalDeed w (mote_of e) e d
-
-same_running : (a b : Option Running) → Some a ≡ Some b → a ≡ b
-same_running a b e = cc
+abbrev pub LegalDeedDoes : Past → World → Event → Does → Type 0
+LegalDeedDoes past w e (Refuses why) = Unit {0}
+LegalDeedDoes past w e (Goes d) = LegalDeed past w (mote_of e) (brought w e) e d
 
 same_runs : (a b : Runs) → Some a ≡ Some b → a ≡ b
 same_runs a b e = cc
 
-if_each : (P : Type 0) (o : Option Running) → P → IfSome o (λ r. P)
-if_each P None p = tt
-if_each P (Some r) p = p
+if_any : (P : Type 0) (o : Option Running) → P → IfSome o (λ r. P)
+if_any P None p = tt
+if_any P (Some r) p = p
 
-if_on : (P Q : Type 0) (o : Option Running) → (P → Q) → IfSome o (λ r. P) → IfSome o (λ r. Q)
-if_on P Q None f p = tt
-if_on P Q (Some r) f p = f p
+if_on : (P Q : Type 0) (old new : Option Running) → (new ≡ None → old ≡ None) → (old ≡ None → new ≡ None) → (P → Q) → IfSome old (λ r. P) → IfSome new (λ r. Q)
+if_on P Q None None a b f p = tt
+if_on P Q None (Some r) a b f p = absurd (let e = b refl in cc)
+if_on P Q (Some q) None a b f p = tt
+if_on P Q (Some q) (Some r) a b f p = f p
 
-started : (o : Option Runs) (now : ℕ) (runs : Option Running) → running_by o now ≡ Some runs → (r : Runs) × (o ≡ Some r) × (runs ≡ Some (record { key = key_of r; since = now }))
-started None now runs e = absurd cc
-started (Some r) now runs e = (r, refl, sym (same_running (Some (record { key = key_of r; since = now })) runs e))
+started : (o : Option Runs) (id now word : ℕ) (runs : Option Running) → running_by o id now word ≡ Some runs → (r : Runs) × (o ≡ Some r) × (runs ≡ Some (record { key = key_of r; mote = begun id now word }))
+started None id now word runs e = absurd cc
+started (Some r) id now word runs e = (r, refl, sym (same_running (Some (record { key = key_of r; mote = begun id now word })) runs e))
 
 larger : (s : Store) (order : Order) → order_refusal s order ≡ None → s.order.number < order.number
 larger s order e =
     cond_both (nat_le order.number s.order.number) (Some (order_fault.OldOrder s.order.number)) _ (λ (o : Option OrderFault). o ≡ None → s.order.number < order.number)
     (λ _ f. cc) (λ low _. leb-false order.number s.order.number low) e
 
+-- a mote goes on under the key that it ran under
+same_key : (t : Store) (a b : Option Running) → running_key a ≡ running_key b → mote t a ≡ mote t b
+same_key t a b e = λ j. record { holdings = (mote t a).holdings; app = (mote t a).app; order = t.order; runs = e j }
+
+reloaded_key : (o : Option Running) (now word : ℕ) → running_key (reloaded o now word) ≡ running_key o
+reloaded_key None now word = refl
+reloaded_key (Some r) now word = refl
+
+reloaded_none : (o : Option Running) (now word : ℕ) → reloaded o now word ≡ None → o ≡ None
+reloaded_none None now word e = refl
+reloaded_none (Some r) now word e = absurd cc
+
+none_reloaded : (o : Option Running) (now word : ℕ) → o ≡ None → reloaded o now word ≡ None
+none_reloaded None now word e = refl
+none_reloaded (Some r) now word e = absurd cc
+
 -- one holding is another
-inject_small : (x : Site) (row : Row) (image : ℕ) (t : Store) (way : OnInject x.store row t) (runs then : Option Running) → row.image ≡ image → runs ≡ then
+inject_small : (x : Site) (row : Row) (image : ℕ) (t : Store) (way : OnInject x.store row t) (runs then : Option Running) → row.image ≡ image → running_key runs ≡ running_key then
     → mote t runs ≡ record (taking (small_mote x) image (option_map holding way.here)) { runs = running_key then }
 inject_small x row image t way runs then image_is runs_is =
     let f : Option Held → Option Holding = option_map holding in
     let h = f way.here in
     let holdings : map f t.kept ≡ slice_set (map f x.store.kept) image h = ap (map f) way.kept ∙ map-set f x.store.kept row.image way.here ∙ ap (λ (i : ℕ). slice_set (map f x.store.kept) i h) image_is in
-    λ j. record { holdings = holdings j; app = option_map app_key (way.app j); order = way.order j; runs = running_key (runs_is j) }
+    λ j. record { holdings = holdings j; app = option_map app_key (way.app j); order = way.order j; runs = runs_is j }
 
-module _ (Agreement : Laws) (laws : (row : Row) → IsRow row → RowLaws row) (w : World) (agrees : WorldAgrees w) (settled : WorldSettled w) where
+module _ (laws : StepLaws) (past : Past) (w : World) (agrees : WorldAgrees w) (settled : WorldSettled w) (came : WorldCame past w) where
   is_on : (m : ℕ) (r : Running) → (site w m).runs ≡ Some r → IsOn (small_mote (site w m))
   is_on m r on = (r.key, ap running_key on)
 
-  -- the store of a mote that goes on
-  goes_settled : (m : ℕ) (t : Store) → m < length w.sites → (IsSettled (store_at w m) → IsSettled t) → (runs : Option Running) → ◌≡◌ {A = Option (Option Running)} (Some (site w m).runs) (Some runs) → IfSome runs (λ r. IsSettled t)
-  goes_settled m t here f runs e =
-      subst (λ (o : Option Running). IfSome o (λ r. IsSettled t)) (same_running (site w m).runs runs e) (if_on (IsSettled (store_at w m)) (IsSettled t) (site w m).runs f (settled m here))
+  settled_here : (m : ℕ) (r : Running) → (site w m).runs ≡ Some r → m < length w.sites → IsSettled (store_at w m)
+  settled_here m r on here = running_at (λ q. IsSettled (store_at w m)) (site w m).runs r on (settled m here)
+
+  one_settled : (r : Running) (runs : Option Running) (t : Store) → IsSettled t → IfSome runs (λ q. IsSettled t)
+  one_settled r runs t s = if_any (IsSettled t) runs s
+
+  -- it goes on with the key that it ran under
+  on_key : (m : ℕ) (r : Running) (n : MoteState) (runs : Option Running) → (site w m).runs ≡ Some r → ◌≡◌ {A = Option (Option Running)} (Some (Some (record { key = r.key; mote = n }))) (Some runs)
+      → running_key runs ≡ running_key (site w m).runs
+  on_key m r n runs on e = ap running_key (sym (same_running (Some (record { key = r.key; mote = n })) runs e)) ∙ sym (ap running_key on)
 
   -- nothing of the small state changes, but that the mote is off
   stays_cut : (may : Key → Type 0) (x : Site) (s : Store) → mote s None ≡ record (small_mote x) { runs = None } → CutStart may (small_mote x) (mote s None)
   stays_cut may x s same = record { app = (small_mote x).app; how = inl refl; change = same }
 
-  clear_legal : (m dt word : ℕ) (r : Running) → (site w m).runs ≡ Some r → m < length w.sites → LegalDeedDoes w (Tick m dt word) (goes_on w m (clear_trail (store_at w m)))
-  unfolding Rattle.dg_nor.specs.Trail.last_of
-  clear_legal m dt word r on here =
-      let s = store_at w m in
-      let t = gesture_cleared s in
+  -- ---- ticks
+
+  tick_legal : (m dt word : ℕ) (r : Running) → (site w m).runs ≡ Some r → m < length w.sites
+      → LegalDeedDoes past w (Tick m dt word) (let step = tick_of r.mote (store_at w m) (w.moment + dt) word in goes_on w step.trail step.sent r.key step.mote)
+  tick_legal m dt word r on here =
+      let x = site w m in
+      let s = x.store in
+      let now = w.moment + dt in
+      let step = tick_of r.mote s now word in
+      let t = step.trail in
+      let way = laws.changes.ticks r.mote s now word in
       record {
-        whole = λ runs e. (is_on m r on, inl (ap (mote t) (sym (same_running (site w m).runs runs e))), refl);
-        cut = Through-stepping (λ q. LegalAt w.declared w.table true (Tick m dt word) (small_mote (site w m)) (mote q None) w.table) s (commit_operations s.room) t
-            (is_on m r on, stays_cut (MayRestart w.table (small_mote (site w m))) (site w m) s refl, refl) (is_on m r on, stays_cut _ (site w m) t refl, refl);
-        settled = λ runs e. if_each (IsSettled t) runs (λ f. absurd (omega (arith, f)));
+        whole = λ runs e. (is_on m r on, inl (clear_small x (last t) runs (Through-last (MayClear s) t way) ∙ same_key s runs x.runs (on_key m r step.mote runs on e)), refl);
+        cut = Through-map (MayClear s) (λ q. LegalAt past w.declared w.table true None (Tick m dt word) (small_mote x) (mote q None) w.table)
+            (λ q may. (is_on m r on, stays_cut (MayRestart w.table (small_mote x)) x q (clear_small x q None may), refl)) t way;
+        settled = λ runs e. one_settled r runs (last t) (calm_settled s (last t) (tick_calm laws.changes r.mote s now word) (settled_here m r on here));
       }
 
-  idle_legal : (m dt word : ℕ) (r : Running) → (site w m).runs ≡ Some r → m < length w.sites → LegalDeedDoes w (Tick m dt word) (goes_on w m (resting (store_at w m) 0))
-  unfolding Rattle.dg_nor.specs.Trail.last_of
-  idle_legal m dt word r on here =
-      let s = store_at w m in
-      record {
-        whole = λ runs e. (is_on m r on, inl (ap (mote s) (sym (same_running (site w m).runs runs e))), refl);
-        cut = Through-resting (λ q. LegalAt w.declared w.table true (Tick m dt word) (small_mote (site w m)) (mote q None) w.table) s 0 (is_on m r on, stays_cut (MayRestart w.table (small_mote (site w m))) (site w m) s refl, refl);
-        settled = goes_settled m s here (λ old. old);
-      }
-
-  settled_here : (m : ℕ) (r : Running) → (site w m).runs ≡ Some r → m < length w.sites → IsSettled (store_at w m)
-  settled_here m r on here = subst (λ (o : Option Running). IfSome o (λ q. IsSettled (store_at w m))) on (settled m here)
-
-  tick_legal : (m dt word : ℕ) (r : Running) → (site w m).runs ≡ Some r → order_waits (store_at w m) ≡ true → m < length w.sites
-      → LegalDeedDoes w (Tick m dt word) (starts w (boot kind.Order (store_at w m)) (w.moment + dt))
-  tick_legal m dt word r on waits here =
+  start_tick_legal : (m dt word : ℕ) (r : Running) → (site w m).runs ≡ Some r → order_waits (store_at w m) ≡ true → m < length w.sites
+      → LegalDeedDoes past w (Tick m dt word) (starts w (boot kind.Order (store_at w m)) r.mote.id (w.moment + dt) word)
+  start_tick_legal m dt word r on waits here =
       let x = site w m in
       let s = x.store in
       let now = w.moment + dt in
       let b = boot kind.Order s in
-      let old = (agrees.stores m here).0 in
+      let ends = laws.ends in
+      let old = (agrees.sites m here).store.agrees in
       let q = kept_runs s s.order.image s.order.version in
+      let n = begun r.mote.id now word in
       let May : Key → Type 0 = MayRestart w.table (small_mote x) in
-      let chosen : b.runs ≡ Some q = tick_starts w.table x old agrees.table laws waits (settled_here m r on here) in
-      let is : (runs : Option Running) → running_by b.runs now ≡ Some runs → Some (record { key = key_of q; since = now }) ≡ runs =
-      λ runs e. same_running (Some (record { key = key_of q; since = now })) runs (ap (λ (o : Option Runs). running_by o now) (sym chosen) ∙ e) in
+      let chosen : b.runs ≡ Some q = tick_starts ends w.table x old agrees.table laws.rows waits (settled_here m r on here) in
+      let is : (runs : Option Running) → running_by b.runs r.mote.id now word ≡ Some runs → Some (record { key = key_of q; mote = n }) ≡ runs =
+      λ runs e. same_running (Some (record { key = key_of q; mote = n })) runs (ap (λ (o : Option Runs). running_by o r.mote.id now word) (sym chosen) ∙ e) in
       record {
         whole = λ runs e.
-            subst (λ (o : Option Running). LegalAt w.declared w.table false (Tick m dt word) (small_mote x) (mote (last b.trail) o) w.table) (is runs e)
-            (is_on m r on, tick_start w.table x old now waits chosen, refl);
-        cut = Through-map (λ t. CutStart May (small_mote x) (mote t None)) (λ t. LegalAt w.declared w.table true (Tick m dt word) (small_mote x) (mote t None) w.table)
+            subst (λ (o : Option Running). LegalAt past w.declared w.table false None (Tick m dt word) (small_mote x) (mote (last b.trail) o) w.table) (is runs e)
+            (is_on m r on, tick_start ends w.table x old n waits chosen, refl);
+        cut = Through-map (λ t. CutStart May (small_mote x) (mote t None)) (λ t. LegalAt past w.declared w.table true None (Tick m dt word) (small_mote x) (mote t None) w.table)
             (λ t c. (is_on m r on, c, refl)) b.trail
-            (cut_start w.table x old kind.Order May (λ c e. subst (λ (y : Runs). May (key_of y)) (same_runs q c (sym chosen ∙ e)) (tick_waits w.table x old waits)));
-        settled = λ runs e. if_each (IsSettled (last b.trail)) runs ((boot_start kind.Order s).settled q chosen);
+            (cut_start ends w.table x old kind.Order May (λ c e. subst (λ (y : Runs). May (key_of y)) (same_runs q c (sym chosen ∙ e)) (tick_waits ends w.table x old waits)));
+        settled = λ runs e. if_any (IsSettled (last b.trail)) runs ((boot_start kind.Order s).settled q chosen);
       }
 
-  reset_legal : (m dt word : ℕ) → m < length w.sites → LegalDeedDoes w (Reset m dt word) (starts w (boot kind.Power (store_at w m)) (w.moment + dt))
+  reset_legal : (m dt word : ℕ) → m < length w.sites → LegalDeedDoes past w (Reset m dt word) (starts w (boot kind.Power (store_at w m)) m (w.moment + dt) word)
   reset_legal m dt word here =
       let x = site w m in
       let s = x.store in
       let now = w.moment + dt in
       let b = boot kind.Power s in
-      let old = (agrees.stores m here).0 in
+      let ends = laws.ends in
+      let old = (agrees.sites m here).store.agrees in
       record {
-        whole = λ runs e. let g = started b.runs now runs e in
-            subst (λ (o : Option Running). LegalAt w.declared w.table false (Reset m dt word) (small_mote x) (mote (last b.trail) o) w.table) (sym g.2)
-            (legal_start w.table x old kind.Power g.0 now g.1, refl);
-        cut = Through-map (λ t. CutStart (MayStart w.table (small_mote x)) (small_mote x) (mote t None)) (λ t. LegalAt w.declared w.table true (Reset m dt word) (small_mote x) (mote t None) w.table)
-            (λ t c. (c, refl)) b.trail (cut_start w.table x old kind.Power (MayStart w.table (small_mote x)) (chosen_start w.table x old kind.Power));
-        settled = λ runs e. let g = started b.runs now runs e in if_each (IsSettled (last b.trail)) runs ((boot_start kind.Power s).settled g.0 g.1);
+        whole = λ runs e. let g = started b.runs m now word runs e in
+            subst (λ (o : Option Running). LegalAt past w.declared w.table false None (Reset m dt word) (small_mote x) (mote (last b.trail) o) w.table) (sym g.2)
+            (legal_start ends w.table x old kind.Power g.0 (begun m now word) g.1, refl);
+        cut = Through-map (λ t. CutStart (MayStart w.table (small_mote x)) (small_mote x) (mote t None)) (λ t. LegalAt past w.declared w.table true None (Reset m dt word) (small_mote x) (mote t None) w.table)
+            (λ t c. (c, refl)) b.trail (cut_start ends w.table x old kind.Power (MayStart w.table (small_mote x)) (chosen_start ends w.table x old kind.Power));
+        settled = λ runs e. let g = started b.runs m now word runs e in if_any (IsSettled (last b.trail)) runs ((boot_start kind.Power s).settled g.0 g.1);
       }
+
+  -- ---- frames
+
+  module _ (m dt word : ℕ) (bytes : List ℕ) (r : Running) (on : (site w m).runs ≡ Some r) (here : m < length w.sites) where
+    abbrev Listener : Site
+    Listener = site w m
+
+    abbrev Now : ℕ
+    Now = w.moment + dt
+
+    abbrev Heard : Trail Store
+    Heard = (heard_of r.mote Listener.store Now word bytes).trail
+
+    -- what an event that brings the frame may change
+    abbrev Brought : Bool → SmallMote → Type 0
+    Brought blew new = IsOn (small_mote Listener) × (mid : SmallMote) × LegalFrame past blew m (Some bytes) (small_mote Listener) mid × (new ≡ off_after blew mid) × (w.table ≡ w.table)
+
+    record Hears : Type 0 where
+      pub whole : (runs : Option Running) → ◌≡◌ {A = Option (Option Running)} (Some (Some (record { key = r.key; mote = (heard_of r.mote Listener.store Now word bytes).mote }))) (Some runs) → Brought false (mote (last Heard) runs)
+      pub cut : Through (λ s. Brought true (mote s None)) Heard
+      pub calm : (runs : Option Running) → IfSome runs (λ q. IsSettled (last Heard))
+
+    hears_legal : Hears
+    hears_legal =
+        let known = running_at (λ q. RunsWell w.table m w.moment Listener.store q) Listener.runs r on (agrees.sites m here).runs in
+        let there = running_at (λ q. IfReceives (AllThere m past) q.mote.mode) Listener.runs r on (came m here) in
+        let ends = heard_ends laws.changes w.table past m Listener r.mote Now word bytes known.well.mode there in
+        let n = (heard_of r.mote Listener.store Now word bytes).mote in
+        record {
+          whole = λ runs e. (is_on m r on, mote (last Heard) Listener.runs, ends.whole.0, same_key (last Heard) runs Listener.runs (on_key m r n runs on e), refl);
+          cut = Through-map (λ t. LegalMessage (Came m bytes past) true m (message_of bytes) (small_mote Listener) (mote t Listener.runs) × IsCalm Listener.store t) (λ s. Brought true (mote s None))
+              (λ t may. (is_on m r on, mote t Listener.runs, may.0, refl, refl)) Heard ends.cut;
+          calm = λ runs. if_any (IsSettled (last Heard)) runs (calm_settled Listener.store (last Heard) ends.whole.1 (settled_here m r on here));
+        }
+
+  hear_legal : (m dt word number : ℕ) (f : Sent) (r : Running) → (site w m).runs ≡ Some r → frame_at w number ≡ Some f → m < length w.sites
+      → LegalDeedDoes past w (Hear m dt word number) (hears w m (w.moment + dt) word f.bytes r)
+  hear_legal m dt word number f r on at here =
+      let h = hears_legal m dt word f.bytes r on here in
+      subst (λ (frame : Option (List ℕ)). LegalDeed past w m frame (Hear m dt word number) (hearing_of w m (w.moment + dt) word f.bytes r)) (sym (ap (option_map (λ (g : Sent). g.bytes)) at))
+      (record { whole = λ runs same. h.whole runs same; cut = h.cut; settled = λ runs same. h.calm runs })
+
+  last_legal : (from m dt word : ℕ) (f : Sent) (r : Running) → (site w m).runs ≡ Some r → last_frame w from ≡ Some f → m < length w.sites
+      → LegalDeedDoes past w (Last from m dt word) (hears w m (w.moment + dt) word f.bytes r)
+  last_legal from m dt word f r on at here =
+      let h = hears_legal m dt word f.bytes r on here in
+      subst (λ (frame : Option (List ℕ)). LegalDeed past w m frame (Last from m dt word) (hearing_of w m (w.moment + dt) word f.bytes r)) (sym (ap (option_map (λ (g : Sent). g.bytes)) at))
+      (record { whole = λ runs same. h.whole runs same; cut = h.cut; settled = λ runs same. h.calm runs })
+
+  frame_legal : (m dt word : ℕ) (bytes : List ℕ) (r : Running) → (site w m).runs ≡ Some r → m < length w.sites → LegalDeedDoes past w (Frame m dt word bytes) (hears w m (w.moment + dt) word bytes r)
+  frame_legal m dt word bytes r on here =
+      let h = hears_legal m dt word bytes r on here in
+      record { whole = λ runs same. h.whole runs same; cut = h.cut; settled = λ runs same. h.calm runs }
 
   -- ---- orders
 
+  -- the store of a mote that goes on with its new volume
+  reload_settled : (m now word : ℕ) (t : Store) (runs : Option Running) → m < length w.sites → (IsSettled (store_at w m) → IsSettled t) → Some (reloaded (site w m).runs now word) ≡ Some runs → IfSome runs (λ r. IsSettled t)
+  reload_settled m now word t runs here f e =
+      let o = (site w m).runs in
+      let is = same_running (reloaded o now word) runs e in
+      if_on (IsSettled (store_at w m)) (IsSettled t) o runs (λ none. reloaded_none o now word (is ∙ none)) (λ none. sym is ∙ none_reloaded o now word none) f (settled m here)
+
+  reload_key : (m now word : ℕ) (runs : Option Running) → Some (reloaded (site w m).runs now word) ≡ Some runs → running_key runs ≡ running_key (site w m).runs
+  reload_key m now word runs e = ap running_key (sym (same_running (reloaded (site w m).runs now word) runs e)) ∙ reloaded_key (site w m).runs now word
+
   order_legal : (m number image version dt word : ℕ) → order_refusal (store_at w m) (order_of number image version) ≡ None → m < length w.sites
-      → LegalDeedDoes w (OrderEvent m number image version dt word) (acts w m (order_trail (store_at w m) (order_of number image version)) w.table)
+      → LegalDeedDoes past w (OrderEvent m number image version dt word) (acts w m (order_trail (store_at w m) (order_of number image version)) w.table (w.moment + dt) word)
   unfolding Rattle.dg_nor.specs.Trail.last_of
   order_legal m number image version dt word none here =
       let s = store_at w m in
@@ -175,11 +273,11 @@ module _ (Agreement : Laws) (laws : (row : Row) → IsRow row → RowLaws row) (
       let more = larger s order none in
       let mid : SmallMote = record (small_mote x) { order = order } in
       record {
-        whole = λ runs e. (mid, record { larger = more; change = inl refl }, ap (mote t) (sym (same_running x.runs runs e)), refl);
-        cut = Through-stepping (λ q. LegalAt w.declared w.table true (OrderEvent m number image version dt word) (small_mote x) (mote q None) w.table) s (commit_operations s.room) t
+        whole = λ runs e. (mid, record { larger = more; change = inl refl }, same_key t runs x.runs (reload_key m (w.moment + dt) word runs e), refl);
+        cut = Through-stepping (λ q. LegalAt past w.declared w.table true None (OrderEvent m number image version dt word) (small_mote x) (mote q None) w.table) s (commit_operations s.room) t
             (small_mote x, record { larger = more; change = inr (refl, refl) }, refl, refl)
             (mid, record { larger = more; change = inl refl }, refl, refl);
-        settled = goes_settled m t here (λ old e. let empty : s.room ≡ 0 = old e in omega (arith, empty));
+        settled = λ runs e. reload_settled m (w.moment + dt) word t runs here (λ old three. let empty : s.room ≡ 0 = old three in omega (arith, empty)) e;
       }
 
   -- ---- injections
@@ -191,8 +289,8 @@ module _ (Agreement : Laws) (laws : (row : Row) → IsRow row → RowLaws row) (
     abbrev More : List Row
     More = with_row w.table row
 
-    fact : Injected Agreement w agrees m image version row
-    fact = injected Agreement w agrees m image version row here known
+    fact : Injected w agrees m image version row
+    fact = injected w agrees m image version row here known
 
     held_old : holds (small_mote Here) image ≡ option_map holding (held Here.store row.image)
     held_old = holds_at Here image ∙ ap (λ (i : ℕ). option_map holding (held Here.store i)) (sym fact.image_is)
@@ -207,10 +305,10 @@ module _ (Agreement : Laws) (laws : (row : Row) → IsRow row → RowLaws row) (
       before = subst (λ (o : Option Holding). MayInject o row) (sym held_old) (may_inject More Here.store row fact.in_table fact.within fact.agrees_more none);
       held = h;
       change = refl;
-      how = ⊎_elim (λ all. inl all) (λ part. inr (part.0, subst (λ (o : Option Holding). CutHolding o row h) (sym held_old) part.1)) how;
+      how = ⊎_elim (λ done. inl done) (λ part. inr (part.0, subst (λ (o : Option Holding). CutHolding o row h) (sym held_old) part.1)) how;
     }
 
-    inject_legal : LegalDeedDoes w (Inject m image version dt word) (acts w m (inject_trail (store_at w m) row) (with_row w.table row))
+    inject_legal : LegalDeedDoes past w (Inject m image version dt word) (acts w m (inject_trail (store_at w m) row) (with_row w.table row) (w.moment + dt) word)
     inject_legal =
         let s = Here.store in
         let t = last (inject_trail s row) in
@@ -219,67 +317,72 @@ module _ (Agreement : Laws) (laws : (row : Row) → IsRow row → RowLaws row) (
           whole = λ runs e. (
             taking (small_mote Here) image (option_map holding way.here),
             inject_is_legal false (option_map holding way.here) (inl (refl, inject_whole More s row fact.in_table fact.within fact.agrees_more none)),
-            inject_small Here row image t way runs Here.runs fact.image_is (sym (same_running Here.runs runs e)),
+            inject_small Here row image t way runs Here.runs fact.image_is (reload_key m (w.moment + dt) word runs e),
           );
-          cut = Through-map (OnInject s row) (λ q. LegalAt w.declared w.table true (Inject m image version dt word) (small_mote Here) (mote q None) More)
+          cut = Through-map (OnInject s row) (λ q. LegalAt past w.declared w.table true None (Inject m image version dt word) (small_mote Here) (mote q None) More)
               (λ q on. (
                 taking (small_mote Here) image (option_map holding on.here),
                 inject_is_legal true (option_map holding on.here) (inr (refl, on.how)),
                 inject_small Here row image q on None None fact.image_is refl,
               ))
               (inject_trail s row) (inject_way More s row fact.in_table fact.within fact.agrees_more none);
-          settled = goes_settled m t here (λ old e. let empty : s.room ≡ 0 = old (sym way.gesture ∙ e) in let less = way.room in omega (arith, empty, less));
+          settled = λ runs e. reload_settled m (w.moment + dt) word t runs here (λ old three. let empty : s.room ≡ 0 = old (sym way.gesture ∙ three) in let less = way.room in omega (arith, empty, less)) e;
         }
 
   -- ---- every event
 
-  pub legal_deed : (e : Event) → EventFits (length w.sites) e → LegalDeedDoes w e (does w e)
+  legal_deed : (e : Event) → EventFits (length w.sites) e → LegalDeedDoes past w e (does w e)
   legal_deed =
-      does_cases w (λ e D. EventFits (length w.sites) e → LegalDeedDoes w e D)
+      does_cases laws.restarts w (λ f. Unit {0}) (all_sent w.sent) (λ e D. EventFits (length w.sites) e → LegalDeedDoes past w e D)
       (λ e why fits. tt)
-      (λ m dt word r on fits. clear_legal m dt word r on fits)
-      (λ m dt word r on waits fits. tick_legal m dt word r on waits fits)
-      (λ m dt word r on fits. idle_legal m dt word r on fits)
+      (λ m dt word r on fits. tick_legal m dt word r on fits)
+      (λ m dt word r on waits fits. start_tick_legal m dt word r on waits fits)
       (λ m dt word fits. reset_legal m dt word fits)
+      (λ m dt word number f r on at q fits. hear_legal m dt word number f r on at fits.0)
+      (λ from m dt word f r on at q fits. last_legal from m dt word f r on at fits.1)
+      (λ m dt word bytes r on fits. frame_legal m dt word bytes r on fits.0)
       (λ m image version dt word row known none fits. inject_legal m image version dt word row known none fits.0)
       (λ m number image version dt word none fits. order_legal m number image version dt word none fits.0)
 
   -- ---- every step
 
   legal_world : (x : Step) (d : Deed) (y : Site) (blew : Bool) → mote_of x.event < length w.sites
-      → LegalAt w.declared w.table blew x.event (small_mote (site w (mote_of x.event))) (small_mote y) d.table
-      → LegalStep w.declared blew x.event (mote_of x.event) (small w) (small (with_site (record (counted w (dt_of x.event)) { table = d.table }) (mote_of x.event) y))
+      → LegalAt past w.declared w.table blew (brought w x.event) x.event (small_mote (site w (mote_of x.event))) (small_mote y) d.table
+      → LegalStep past w.declared blew (brought w x.event) x.event (mote_of x.event) (small w) (small (ended_world w x d y))
   legal_world x d y blew here there =
       let m = mote_of x.event in
       let mid : World = record (counted w (dt_of x.event)) { table = d.table } in
       record {
-        there = subst₂ (λ (a b : SmallMote). LegalAt w.declared w.table blew x.event a b d.table) (sym (small_at w m)) (sym (small_there mid m y here)) there;
+        there = subst₂ (λ (a b : SmallMote). LegalAt past w.declared w.table blew (brought w x.event) x.event a b d.table) (sym (small_at w m)) (sym (small_there mid m y here)) there;
         others = λ j other. small_other mid m j y other;
         count = small_count mid m y;
       }
 
+  sent_small : (u : World) (m : ℕ) (o : Option Message) → small (and_sent u m o) ≡ small u
+  sent_small u m None = refl
+  sent_small u m (Some message) = refl
+
   module _ (x : Step) (v : World) (reports : List Report) (fits : StepFits (length w.sites) x) where
-    step_legal_by : (D : Does) → LegalDeedDoes w x.event D → StepDoes D w x v reports → LegalDoes D w x v
+    step_legal_by : (D : Does) → LegalDeedDoes past w x.event D → StepDoes D w x v reports → LegalDoes D past w x v
     step_legal_by (Refuses why) g did = ap small did.0
     step_legal_by (Goes d) g did =
         let m = mote_of x.event in
-        let P : Bool → Site → Type 0 = λ b y. LegalAt w.declared w.table b x.event (small_mote (site w m)) (small_mote y) d.table in
-        let end : EndsAs P (blows x.cut d.trail) w x d v = ends_as P (λ s room p. p) w x d v reports g.whole g.cut (blows x.cut d.trail) did in
-        subst (λ (u : World). LegalStep w.declared (blows x.cut d.trail) x.event m (small w) (small u)) (sym end.1)
-        (legal_world x d end.0 (blows x.cut d.trail) (step_within w x fits) end.2)
+        let b = blows x.cut d.trail in
+        let P : Bool → Site → Type 0 = λ b y. LegalAt past w.declared w.table b (brought w x.event) x.event (small_mote (site w m)) (small_mote y) d.table in
+        let end : EndsAs P b w x d v = ends_as P (λ s room p. p) w x d v reports g.whole g.cut b did in
+        subst (λ (u : Small). LegalStep past w.declared b (brought w x.event) x.event m (small w) u)
+        (sym (ap small end.1 ∙ sent_small (ended_world w x d end.0) m (sent_unless b d)))
+        (legal_world x d end.0 b (step_within w x fits) end.2)
 
-    pub step_legal : WorldStep w x v reports → LegalDoes (does w x.event) w x v
+    pub step_legal : WorldStep w x v reports → LegalDoes (does w x.event) past w x v
     unfolding WorldStep
     step_legal did = step_legal_by (does w x.event) (legal_deed x.event fits.event) did
 
-    step_settled_by : (D : Does) → LegalDeedDoes w x.event D → StepDoes D w x v reports → WorldSettled v
-    step_settled_by (Refuses why) g did = subst WorldSettled (sym did.0) settled
-    step_settled_by (Goes d) g did =
-        let P : Bool → Site → Type 0 = λ b y. IfSome y.runs (λ r. IsSettled y.store) in
-        let end : EndsAs P (blows x.cut d.trail) w x d v = ends_as P (λ s room p. tt) w x d v reports g.settled (Through-each (λ s. Unit {0}) (λ s. tt) d.trail) (blows x.cut d.trail) did in
-        subst WorldSettled (sym end.1)
-        (each_site (λ y. IfSome y.runs (λ r. IsSettled y.store)) (record (counted w (dt_of x.event)) { table = d.table }) (mote_of x.event) end.0 (step_within w x fits) end.2 settled)
+    settled_lands : (D : Does) → LegalDeedDoes past w x.event D → LandsDoes (λ b y. IfSome y.runs (λ r. IsSettled y.store)) D
+    settled_lands (Refuses why) g = tt
+    settled_lands (Goes d) g = record { whole = g.settled; cut = Through-each (λ s. Unit {0}) (λ s. tt) d.trail }
 
     pub step_settled : WorldStep w x v reports → WorldSettled v
-    unfolding WorldStep
-    step_settled did = step_settled_by (does w x.event) (legal_deed x.event fits.event) did
+    step_settled did =
+        step_sites w x v reports fits (λ b y. IfSome y.runs (λ r. IsSettled y.store)) (λ j y. IfSome y.runs (λ r. IsSettled y.store)) (λ s room p. tt) (λ b y p. p) settled
+        (settled_lands (does w x.event) (legal_deed x.event fits.event)) did

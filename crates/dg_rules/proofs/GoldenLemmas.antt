@@ -1,43 +1,46 @@
 -- Golden stays, and a start finds it. Nothing here speaks of a table.
-use Rattle.std.proofs.Common.{◌≢◌, ℕ, ◌+◌, ◌<◌, ◌≤◌, Bool, List, [], ◌∷◌, drop, length, Option, Some, None, refl, sym, ap, subst, ◌∙◌, arith}
+use Rattle.std.proofs.Common.{◌≡◌, ◌≢◌, ℕ, ◌+◌, ◌<◌, ◌≤◌, Bool, List, [], ◌∷◌, drop, length, Option, Some, None, IfSome, refl, ap, subst, ◌∙◌}
 use Rattle.std.proofs.lemmas.Bool.{cond_both}
-use Rattle.std.proofs.lemmas.List.{get_or-set_other}
-use Rattle.std.specs.Prelude.{option_map}
+use Rattle.std.specs.Prelude.{option_map, slice_index_or}
 use Rattle.dg_nor.specs.Trail.{last, joined, resting, stepping}
 use Rattle.dg_nor.specs.Through.{Through}
 use Rattle.dg_nor.proofs.ThroughLemmas.{Through-joined, Through-resting, Through-stepping, Through-last}
 use Rattle.dg_control.specs.Store.{commit_operations}
-use Rattle.dg_object.specs.Object.{Row, IsRow, object, profile}
+use Rattle.dg_object.specs.Object.{Row, object, profile}
 use Rattle.dg_slot.specs.Layout.{page_operations}
 use Rattle.dg_slot.specs.Kept.{Held, held_begun, with_page}
 use Rattle.dg_volume.specs.Store.{Store, held}
-use Rattle.dg_volume.specs.Changes.{spent, keeping, paged, is_version, inject_refusal, ordered, gesture_cleared}
-use Rattle.dg_volume.specs.Trails.{committing, drop_by, drop_trail, open_trail, take_trail, fill_trail, inject_by, inject_trail, done_of}
+use Rattle.dg_volume.specs.Changes.{spent, keeping, paged, is_version, inject_refusal, ordered}
+use Rattle.dg_volume.specs.Trails.{committing, drop_by, drop_trail, open_trail, take_trail, fill_trail, inject_by, inject_trail, done_of, order_trail}
 use Rattle.dg_volume.specs.Start.{Runs, boot}
-use Rattle.dg_volume.specs.RowLaws.{RowLaws}
+use Rattle.dg_volume.specs.Ends.{OnTheWay}
 use Rattle.dg_volume.specs.declared.volume.Kind.{Kind}
+use Rattle.dg_volume.specs.declared.volume.Kind.TheVariants as kind
 use Rattle.dg_volume.specs.declared.volume.InjectFault.{InjectFault}
-use Rattle.dg_rules.specs.World.{World, Site, store_at, counted}
-use Rattle.dg_rules.specs.Events.{Does, Refuses, Goes, does, mote_of, dt_of, running_by}
-use Rattle.dg_rules.specs.Steps.{blows, StepDoes, WorldStep, EndsRun}
+use Rattle.dg_mote.specs.Model.{begun}
+use Rattle.dg_mote.specs.Ticks.{tick_of}
+use Rattle.dg_mote.specs.Hears.{heard_of}
+use Rattle.dg_rules.specs.World.{World, Running, Site, site, store_at, off_site}
+use Rattle.dg_rules.specs.Events.{Deed, does, key_of, reloaded}
+use Rattle.dg_rules.specs.Steps.{WorldStep, EndsRun}
 use Rattle.dg_rules.specs.Ranges.{EventFits, StepFits}
-use Rattle.dg_rules.specs.Golden.{KeepsGoldenRow, WorldKeepsGolden, FindsImage}
+use Rattle.dg_rules.specs.Golden.{KeepsGoldenRow, AsksForOthers, SiteKeepsGolden, WorldKeepsGolden, FindsImage}
 use Rattle.dg_base.specs.declared.events.Event.{Event}
 use Rattle.dg_base.specs.declared.events.Step.{Step}
 use Rattle.dg_script.specs.declared.report.Report.{Report}
 use Rattle.dg_rules.proofs.ThroughLemmas.{Through-map}
-use Rattle.dg_rules.proofs.SiteLemmas.{each_site}
-use Rattle.dg_rules.proofs.StartLemmas.{OnWay, boot_way}
 use Rattle.dg_rules.proofs.BootLemmas.{boot_start}
 use Rattle.dg_rules.proofs.InjectLemmas.{refused_not}
-use Rattle.dg_rules.proofs.EventLemmas.{order_of, does_cases, EndsAs, ends_as}
-use Rattle.dg_rules.proofs.AgreementLemmas.{step_within}
+use Rattle.dg_rules.proofs.EventLemmas.{order_of, running_by, starts, goes_on, hears, does_cases, all_sent}
+use Rattle.dg_rules.proofs.AgreementLemmas.{same_running, running_at}
+use Rattle.dg_rules.proofs.StepLemmas.{Lands, LandsDoes, step_sites}
+use Rattle.dg_rules.proofs.ChangesLemmas.{StepLaws, keeps_other, golden_ticked, golden_heard, ticked_asks, heard_asks}
 
 -- ---- an injection of another image
 
 module _ (row : Row) (low : 1 ≤ row.image) where
   keeps_keeping : (s : Store) (o : Option Held) → KeepsGoldenRow s → KeepsGoldenRow (keeping row.image o s)
-  keeps_keeping s o g = record { row = g.row; is_row = g.is_row; whole = get_or-set_other s.kept row.image 0 o None (λ e. absurd (omega (arith, e, low))) ∙ g.whole }
+  keeps_keeping s o g = keeps_other s (keeping row.image o s) row.image o low refl g
 
   keeps_spent : (s : Store) → KeepsGoldenRow s → KeepsGoldenRow (spent s)
   keeps_spent s g = record { row = g.row; is_row = g.is_row; whole = g.whole }
@@ -83,68 +86,108 @@ module _ (row : Row) (low : 1 ≤ row.image) where
   unfolding inject_trail
   golden_inject s g = golden_inject_by s (inject_refusal s row) g
 
-golden_boot_way : (k : Kind) (s : Store) → KeepsGoldenRow s → Through KeepsGoldenRow (boot k s).trail
-golden_boot_way k s g =
-    Through-map (OnWay s (boot k s).runs) KeepsGoldenRow
-    (λ t way. record { row = g.row; is_row = g.is_row; whole = ap (λ (xs : List (Option Held)). Rattle.std.specs.Prelude.slice_index_or xs 0 None) way.kept ∙ g.whole })
-    (boot k s).trail (boot_way k s)
+golden_order : (s : Store) (number image version : ℕ) → KeepsGoldenRow s → Through KeepsGoldenRow (order_trail s (order_of number image version))
+golden_order s number image version g =
+    Through-stepping KeepsGoldenRow s (commit_operations s.room) (ordered s (order_of number image version)) g (record { row = g.row; is_row = g.is_row; whole = g.whole })
+
+golden_room : (s : Store) (room : ℕ) → SiteKeepsGolden (off_site s) → SiteKeepsGolden (off_site (record s { room = room }))
+golden_room s room g = record { kept = record { row = g.kept.row; is_row = g.kept.is_row; whole = g.kept.whole }; asks = tt }
 
 -- ---- every event
 
-abbrev GoldenDoes : Does → Type 0
-GoldenDoes (Refuses why) = Unit {0}
-GoldenDoes (Goes d) = Through KeepsGoldenRow d.trail
+abbrev Golden : Bool → Site → Type 0
+Golden b y = SiteKeepsGolden y
 
-golden_room : (s : Store) (room : ℕ) → KeepsGoldenRow s → KeepsGoldenRow (record s { room = room })
-golden_room s room g = record { row = g.row; is_row = g.is_row; whole = g.whole }
+abbrev AsksOthers : Option Running → Type 0
+AsksOthers runs = IfSome runs (λ r. AsksForOthers r.mote.mode)
 
-module _ (w : World) (golden : WorldKeepsGolden w) where
-  golden_does : (e : Event) → EventFits (length w.sites) e → GoldenDoes (does w e)
+module _ (laws : StepLaws) (w : World) (golden : WorldKeepsGolden w) where
+  golden_boot_way : (k : Kind) (s : Store) → KeepsGoldenRow s → Through KeepsGoldenRow (boot k s).trail
+  golden_boot_way k s g =
+      Through-map (OnTheWay s (boot k s).runs) KeepsGoldenRow
+      (λ t way. record { row = g.row; is_row = g.is_row; whole = ap (λ (xs : List (Option Held)). slice_index_or xs 0 None) way.kept ∙ g.whole })
+      (boot k s).trail (laws.ends k s).way
+
+  lands : (d : Deed) → Through KeepsGoldenRow d.trail → ((runs : Option Running) → d.runs ≡ Some runs → AsksOthers runs) → Lands Golden d
+  lands d way asks = record {
+    whole = λ runs e. record { kept = Through-last KeepsGoldenRow d.trail way; asks = asks runs e };
+    cut = Through-map KeepsGoldenRow (λ s. SiteKeepsGolden (off_site s)) (λ s g. record { kept = g; asks = tt }) d.trail way;
+  }
+
+  asks_here : (m : ℕ) (r : Running) → m < length w.sites → (site w m).runs ≡ Some r → AsksForOthers r.mote.mode
+  asks_here m r low is = running_at (λ q. AsksForOthers q.mote.mode) (site w m).runs r is (golden m low).asks
+
+  one_asks : (r : Running) (runs : Option Running) → AsksForOthers r.mote.mode → ◌≡◌ {A = Option (Option Running)} (Some (Some r)) (Some runs) → AsksOthers runs
+  one_asks r runs asks e = subst AsksOthers (same_running (Some r) runs e) asks
+
+  start_asks : (o : Option Runs) (id now word : ℕ) (runs : Option Running) → running_by o id now word ≡ Some runs → AsksOthers runs
+  start_asks None id now word runs e = absurd cc
+  start_asks (Some r) id now word runs e = one_asks (record { key = key_of r; mote = begun id now word }) runs tt e
+
+  reload_asks : (o runs : Option Running) (now word : ℕ) → Some (reloaded o now word) ≡ Some runs → AsksOthers runs
+  reload_asks o runs now word e = subst AsksOthers (same_running (reloaded o now word) runs e) (each o)
+    where
+      each : (o : Option Running) → AsksOthers (reloaded o now word)
+      each None = tt
+      each (Some r) = tt
+
+  start_lands : (k : Kind) (m id now word : ℕ) → m < length w.sites → LandsDoes Golden (starts w (boot k (store_at w m)) id now word)
+  start_lands k m id now word low = lands _ (golden_boot_way k (store_at w m) (golden m low).kept) (λ runs e. start_asks (boot k (store_at w m)).runs id now word runs e)
+
+  hear_lands : (m now word : ℕ) (bytes : List ℕ) (r : Running) → m < length w.sites → (site w m).runs ≡ Some r → LandsDoes Golden (hears w m now word bytes r)
+  hear_lands m now word bytes r low is =
+      let s = store_at w m in
+      let asks = asks_here m r low is in
+      lands _ (golden_heard laws.changes r.mote s now word (golden m low).kept bytes asks)
+      (λ runs e. one_asks (record { key = r.key; mote = (heard_of r.mote s now word bytes).mote }) runs (heard_asks laws.changes r.mote s now word bytes asks) e)
+
+  tick_lands : (m now word : ℕ) (r : Running) → m < length w.sites → (site w m).runs ≡ Some r
+      → LandsDoes Golden (let step = tick_of r.mote (store_at w m) now word in goes_on w step.trail step.sent r.key step.mote)
+  tick_lands m now word r low is =
+      let s = store_at w m in
+      lands _ (golden_ticked laws.changes r.mote s now word (golden m low).kept)
+      (λ runs e. one_asks (record { key = r.key; mote = (tick_of r.mote s now word).mote }) runs (ticked_asks laws.changes r.mote s now word (asks_here m r low is)) e)
+
+  golden_does : (e : Event) → EventFits (length w.sites) e → LandsDoes Golden (does w e)
   golden_does =
-      does_cases w (λ e D. EventFits (length w.sites) e → GoldenDoes D)
+      does_cases laws.restarts w (λ f. Unit {0}) (all_sent w.sent) (λ e D. EventFits (length w.sites) e → LandsDoes Golden D)
       (λ e why fits. tt)
-      (λ m dt word r on fits. let s = store_at w m in let g = golden m fits in
-      Through-stepping KeepsGoldenRow s (commit_operations s.room) (gesture_cleared s) g (record { row = g.row; is_row = g.is_row; whole = g.whole }))
-      (λ m dt word r on waits fits. golden_boot_way _ (store_at w m) (golden m fits))
-      (λ m dt word r on fits. Through-resting KeepsGoldenRow (store_at w m) 0 (golden m fits))
-      (λ m dt word fits. golden_boot_way _ (store_at w m) (golden m fits))
-      (λ m image version dt word row known none fits. golden_inject row (refused_not (store_at w m) row none).0 (store_at w m) (golden m fits.0))
-      (λ m number image version dt word none fits. let s = store_at w m in let g = golden m fits.0 in
-      Through-stepping KeepsGoldenRow s (commit_operations s.room) (ordered s (order_of number image version)) g (record { row = g.row; is_row = g.is_row; whole = g.whole }))
-
-  golden_step_by : (x : Step) (v : World) (reports : List Report) (D : Does) → StepFits (length w.sites) x → GoldenDoes D → StepDoes D w x v reports → WorldKeepsGolden v
-  golden_step_by x v reports (Refuses why) fits g did = subst WorldKeepsGolden (sym did.0) golden
-  golden_step_by x v reports (Goes d) fits g did =
-      let P : Bool → Site → Type 0 = λ b y. KeepsGoldenRow y.store in
-      let end : EndsAs P (blows x.cut d.trail) w x d v = ends_as P golden_room w x d v reports (λ runs _. Through-last KeepsGoldenRow d.trail g) g (blows x.cut d.trail) did in
-      subst WorldKeepsGolden (sym end.1)
-      (each_site (λ y. KeepsGoldenRow y.store) (record (counted w (dt_of x.event)) { table = d.table }) (mote_of x.event) end.0 (step_within w x fits) end.2 golden)
+      (λ m dt word r is fits. tick_lands m (w.moment + dt) word r fits is)
+      (λ m dt word r is waits fits. start_lands kind.Order m r.mote.id (w.moment + dt) word fits)
+      (λ m dt word fits. start_lands kind.Power m m (w.moment + dt) word fits)
+      (λ m dt word number f r is at q fits. hear_lands m (w.moment + dt) word f.bytes r fits.0 is)
+      (λ from m dt word f r is at q fits. hear_lands m (w.moment + dt) word f.bytes r fits.1 is)
+      (λ m dt word bytes r is fits. hear_lands m (w.moment + dt) word bytes r fits.0 is)
+      (λ m image version dt word row known none fits. lands _ (golden_inject row (refused_not (store_at w m) row none).0 (store_at w m) (golden m fits.0).kept) (λ runs e. reload_asks (site w m).runs runs (w.moment + dt) word e))
+      (λ m number image version dt word none fits. lands _ (golden_order (store_at w m) number image version (golden m fits.0).kept) (λ runs e. reload_asks (site w m).runs runs (w.moment + dt) word e))
 
   pub step_keeps_golden : (x : Step) (v : World) (reports : List Report) → StepFits (length w.sites) x → WorldStep w x v reports → WorldKeepsGolden v
-  unfolding WorldStep
-  step_keeps_golden x v reports fits did = golden_step_by x v reports (does w x.event) fits (golden_does x.event fits.event) did
+  step_keeps_golden x v reports fits did =
+      step_sites w x v reports fits Golden (λ j y. SiteKeepsGolden y) golden_room (λ b y g. g) golden (golden_does x.event fits.event) did
 
   -- ---- a start finds an image
 
-  some_runs : (o : Option Runs) (now : ℕ) → o ≢ None → running_by o now ≢ None
-  some_runs None now found e = found refl
-  some_runs (Some r) now found e = cc
+  some_runs : (o : Option Runs) (id now word : ℕ) → o ≢ None → running_by o id now word ≢ None
+  some_runs None id now word found e = found refl
+  some_runs (Some r) id now word found e = cc
 
-  boot_found : ((row : Row) → IsRow row → RowLaws row) → (m : ℕ) (k : Kind) (now : ℕ) → m < length w.sites → running_by (boot k (store_at w m)).runs now ≢ None
-  boot_found laws m k now here =
-      let g = golden m here in
-      some_runs (boot k (store_at w m)).runs now (λ none. (boot_start k (store_at w m)).found ((laws g.row g.is_row).is_sound (store_at w m) 0 g.whole) none)
+  boot_found : (m id : ℕ) (k : Kind) (now word : ℕ) → m < length w.sites → running_by (boot k (store_at w m)).runs id now word ≢ None
+  boot_found m id k now word low =
+      let g = (golden m low).kept in
+      some_runs (boot k (store_at w m)).runs id now word (λ none. (boot_start k (store_at w m)).found ((laws.rows g.row g.is_row).is_sound (store_at w m) 0 g.whole) none)
 
-  pub finds_image : ((row : Row) → IsRow row → RowLaws row) → (e : Event) → EventFits (length w.sites) e → FindsImage (does w e)
-  finds_image laws =
-      does_cases w (λ e D. EventFits (length w.sites) e → FindsImage D)
+  pub finds_image : (e : Event) → EventFits (length w.sites) e → FindsImage (does w e)
+  finds_image =
+      does_cases laws.restarts w (λ f. Unit {0}) (all_sent w.sent) (λ e D. EventFits (length w.sites) e → FindsImage D)
       (λ e why fits. tt)
-      (λ m dt word r on fits e. cc)
-      (λ m dt word r on waits fits. boot_found laws m _ (w.moment + dt) fits)
-      (λ m dt word r on fits e. cc)
-      (λ m dt word fits. boot_found laws m _ (w.moment + dt) fits)
+      (λ m dt word r is fits e. cc)
+      (λ m dt word r is waits fits. boot_found m r.mote.id kind.Order (w.moment + dt) word fits)
+      (λ m dt word fits. boot_found m m kind.Power (w.moment + dt) word fits)
+      (λ m dt word number f r is at q fits e. cc)
+      (λ from m dt word f r is at q fits e. cc)
+      (λ m dt word bytes r is fits e. cc)
       (λ m image version dt word row known none fits e. cc)
       (λ m number image version dt word none fits e. cc)
 
-  pub goes_on : ((row : Row) → IsRow row → RowLaws row) → (x : Step) (v : World) → StepFits (length w.sites) x → EndsRun w x v → ⊥
-  goes_on laws x v fits ends = subst FindsImage ends.goes (finds_image laws x.event fits.event) ends.none
+  pub goes_on_finding : (x : Step) (v : World) → StepFits (length w.sites) x → EndsRun w x v → ⊥
+  goes_on_finding x v fits ends = subst FindsImage ends.goes (finds_image x.event fits.event) ends.none

@@ -1,20 +1,29 @@
 -- What is legal lets no version fall.
-use Rattle.std.proofs.Common.{◌≡◌, ◌⊎◌, ℕ, ◌<◌, Bool, true, false, List, length, Option, Some, None, refl, sym, ap, subst, ◌∙◌, inl, inr, ⊎_elim, arith}
+use Rattle.std.proofs.Common.{◌≡◌, ◌⊎◌, ℕ, ◌<◌, Bool, true, false, List, length, Option, Some, None, Result, Ok, Err, refl, sym, ap, subst, ◌∙◌, inl, inr, ⊎_elim, arith}
 use Rattle.std.proofs.lemmas.Bool.{cases_eq, cases_lt}
 use Rattle.std.proofs.lemmas.List.{get_or-set_same, get_or-set_other, get_or_past}
 use Rattle.dg_control.specs.declared.snapshot.Order.{Order}
 use Rattle.dg_object.specs.Object.{Row}
+use Rattle.dg_frame.specs.Grammar.{message_of}
+use Rattle.dg_frame.specs.declared.Entry.{Entry}
+use Rattle.dg_frame.specs.declared.FrameFault.{FrameFault}
+use Rattle.dg_frame.specs.declared.Message.{Message}
+use Rattle.dg_frame.specs.declared.Message.TheVariants.{Advert, Request, Packet}
+use Rattle.dg_mote.specs.Summary.{entry_for}
 use Rattle.dg_rules.specs.World.{World}
 use Rattle.dg_rules.specs.Small.{Holding, SmallMote, Small, small, mote_in, holds, whole}
 use Rattle.dg_rules.specs.Events.{Does, Refuses, Goes, does, mote_of}
 use Rattle.dg_rules.specs.Steps.{blows}
-use Rattle.dg_rules.specs.Legal.{MayInject, CutHolding, LegalInject, LegalOrder, LegalTick, LegalReset, LegalAt, off_after}
-use Rattle.dg_rules.specs.Runs.{Item, Declares, Happens, Played}
-use Rattle.dg_rules.specs.Promises.{LegalDoes, LegalItem, IsLegal, IsKeptIn, Replaces, IsBlown, KeepsItem, KeepsAll, GoldenStays}
+use Rattle.dg_rules.specs.Legal.{Past, Came, taking, MayInject, CutHolding, LegalInject, LegalOrder, LegalTick, LegalReset, IsOlder, LegalAdvert, LegalPacket, LegalMessage, LegalFrame, LegalAt, off_after}
+use Rattle.dg_rules.specs.Past.{brought, past_of}
+use Rattle.dg_script.specs.Items.{Item, Declares, Happens}
+use Rattle.dg_rules.specs.Runs.{Played}
+use Rattle.dg_rules.specs.Promises.{LegalDoes, LegalItem, IsLegal, IsKeptIn, NamesNewer, Replaces, IsBlown, KeepsItem, KeepsAll, GoldenStays}
 use Rattle.dg_base.specs.declared.events.Event.{Event}
 use Rattle.dg_base.specs.declared.events.Event.TheVariants.{Tick, Hear, Last, Reset, Inject, Order as OrderEvent, Frame}
 use Rattle.dg_base.specs.declared.events.Step.{Step}
 use Rattle.dg_rules.proofs.TableLemmas.{row_at-key}
+use Rattle.dg_rules.proofs.MessageLemmas.{same_holding_stays}
 
 same_holding : (a b : Holding) → Some a ≡ Some b → a ≡ b
 same_holding a b e = cc
@@ -26,8 +35,8 @@ kept_itself : (o : Option Holding) (h : Holding) → o ≡ Some h → IsKeptIn o
 kept_itself o h e = subst (λ (x : Option Holding). IsKeptIn x h) (sym e) (inr (refl, omega arith))
 
 -- it is kept, or a newer version was replacing it where the cut blew
-abbrev After : Event → Bool → ℕ → Holding → Option Holding → Type 0
-After event blew i h new = IsKeptIn new h ⊎ ((new ≡ None) × Replaces event i h × (blew ≡ true))
+abbrev After : World → Event → Bool → ℕ → Holding → Option Holding → Type 0
+After w event blew i h new = IsKeptIn new h ⊎ ((new ≡ None) × Replaces w event i h × (blew ≡ true))
 
 -- ---- an injection
 
@@ -49,7 +58,7 @@ cut_kept row h (Some new) may how =
     may)
     how
 
-module _ (declared table after : List Row) (blew : Bool) (m image version dt word : ℕ) (old mid : SmallMote) (legal : LegalInject declared table blew image version old mid after) (h : Holding) (had : holds old image ≡ Some h) where
+module _ (w : World) (declared table after : List Row) (blew : Bool) (m image version dt word : ℕ) (old mid : SmallMote) (legal : LegalInject declared table blew image version old mid after) (h : Holding) (had : holds old image ≡ Some h) where
   injected_within : image < length old.holdings
   injected_within =
       ⊎_elim (λ low. low) (λ past. absurd (none_some h (sym (get_or_past old.holdings image None past) ∙ had))) (cases_lt image (length old.holdings))
@@ -60,14 +69,14 @@ module _ (declared table after : List Row) (blew : Bool) (m image version dt wor
   may_here : MayInject (Some h) legal.row
   may_here = subst (λ (o : Option Holding). MayInject o legal.row) had legal.before
 
-  newer : (x : Holding) → x.version < legal.row.version → Replaces (Inject m image version dt word) image x
+  newer : (x : Holding) → x.version < legal.row.version → Replaces w (Inject m image version dt word) image x
   newer x low = let at = (row_at-key declared image version legal.row legal.is_declared).1 in (refl, omega (arith, low, at))
 
-  injected_after : After (Inject m image version dt word) blew image h (holds mid image)
+  injected_after : After w (Inject m image version dt word) blew image h (holds mid image)
   injected_after =
-      subst (After (Inject m image version dt word) blew image h) (sym injected_here)
+      subst (After w (Inject m image version dt word) blew image h) (sym injected_here)
       (⊎_elim
-      (λ all. subst (After (Inject m image version dt word) blew image h) (sym all.1) (inl (whole_kept legal.row h may_here)))
+      (λ all. subst (After w (Inject m image version dt word) blew image h) (sym all.1) (inl (whole_kept legal.row h may_here)))
       (λ part. ⊎_elim
       (λ kept. inl kept)
       (λ lost. inr (lost.0, newer h lost.1, part.0))
@@ -97,36 +106,126 @@ order_holds blew order old new mid i legal is =
     ap (λ (x : SmallMote). holds x i) is ∙ off_holds blew mid i
     ∙ ⊎_elim (λ kept. ap (λ (x : SmallMote). holds x i) kept) (λ stays. ap (λ (x : SmallMote). holds x i) stays.1) legal.change
 
-at_mote : (declared table : List Row) (blew : Bool) (e : Event) (old new : SmallMote) (after : List Row) (i : ℕ) (h : Holding) → LegalAt declared table blew e old new after → holds old i ≡ Some h → After e blew i h (holds new i)
-at_mote declared table blew (Hear m dt word frame) old new after i h legal had = absurd legal
-at_mote declared table blew (Last from to dt word) old new after i h legal had = absurd legal
-at_mote declared table blew (Frame m dt word bytes) old new after i h legal had = absurd legal
-at_mote declared table blew (Tick m dt word) old new after i h legal had = inl (kept_itself (holds new i) h (tick_holds table blew old new i legal.1 ∙ had))
-at_mote declared table blew (Reset m dt word) old new after i h legal had = inl (kept_itself (holds new i) h (reset_holds table blew old new i legal.0 ∙ had))
-at_mote declared table blew (OrderEvent m number image version dt word) old new after i h legal had =
+-- ---- frames
+
+within_holds : (x : SmallMote) (i : ℕ) (h : Holding) → holds x i ≡ Some h → i < length x.holdings
+within_holds x i h had = ⊎_elim (λ low. low) (λ past. absurd (none_some h (sym (get_or_past x.holdings i None past) ∙ had))) (cases_lt i (length x.holdings))
+
+-- what is kept of an image after a frame, where this was kept before
+abbrev Framed : Option (List ℕ) → Bool → ℕ → Holding → Option Holding → Type 0
+Framed frame blew i h new = IsKeptIn new h ⊎ ((new ≡ None) × NamesNewer frame i h × (blew ≡ true))
+
+older_than : (o : Option Holding) (h : Holding) (version : ℕ) → o ≡ Some h → IsOlder o version → h.version < version
+older_than o h version had older = subst (λ (x : Option Holding). IsOlder x version) had older
+
+module _ (bytes : List ℕ) (blew : Bool) (i : ℕ) (h : Holding) (old mid : SmallMote) (had : holds old i ≡ Some h) where
+  framed_stays : mid ≡ old → Framed (Some bytes) blew i h (holds mid i)
+  framed_stays same = inl (kept_itself (holds mid i) h (ap (λ (x : SmallMote). holds x i) same ∙ had))
+
+  framed_advert : (source : ℕ) (entries : List Entry) (order : Order) → message_of bytes ≡ Ok (Advert source entries order) → LegalAdvert blew entries order old mid → Framed (Some bytes) blew i h (holds mid i)
+  framed_advert source entries order is l =
+      ⊎_elim
+      (λ here.
+      let old_here : holds old l.image ≡ Some h = ap (holds old) (sym here) ∙ had in
+      let new_here : holds mid i ≡ l.held =
+      ap (holds mid) here ∙ ap (λ (x : SmallMote). holds x l.image) l.change ∙ get_or-set_same old.holdings l.image l.held None (within_holds old l.image h old_here) in
+      let e = entry_for entries l.image in
+      subst (Framed (Some bytes) blew i h) (sym new_here)
+      (⊎_elim
+      (λ same. inl (kept_itself l.held h (same ∙ old_here)))
+      (λ other.
+      let newer : h.version < e.version = older_than (holds old l.image) h e.version old_here other.1 in
+      ⊎_elim
+      (λ begun. inl (subst (λ (x : Option Holding). IsKeptIn x h) (sym begun) (inl newer)))
+      (λ gone. inr (gone.1, subst (λ (k : ℕ). NamesNewer (Some bytes) k h) (sym here) (source, entries, order, is, other.0, newer), gone.0))
+      other.2)
+      l.held_change))
+      (λ apart. inl (kept_itself (holds mid i) h (ap (λ (x : SmallMote). holds x i) l.change ∙ get_or-set_other old.holdings l.image i l.held None apart ∙ had)))
+      (cases_eq i l.image)
+
+  framed_packet : (past : Past) (m image version page : ℕ) → LegalPacket past m image version page old mid → Framed (Some bytes) blew i h (holds mid i)
+  framed_packet past m image version page l =
+      ⊎_elim
+      (λ here.
+      let old_here : holds old image ≡ Some h = ap (holds old) (sym here) ∙ had in
+      let new_here : holds mid i ≡ l.held = ap (holds mid) here ∙ ap (λ (x : SmallMote). holds x image) l.change ∙ get_or-set_same old.holdings image l.held None (within_holds old image h old_here) in
+      subst (Framed (Some bytes) blew i h) (sym new_here)
+      (⊎_elim
+      (λ same. inl (kept_itself l.held h (same ∙ old_here)))
+      (λ more.
+      let was : h ≡ record { version = version; pages = page } = same_holding h (record { version = version; pages = page }) (sym old_here ∙ more.1) in
+      inl (subst (λ (x : Option Holding). IsKeptIn x h) (sym more.2) (inr (ap (λ (x : Holding). x.version) was, let n = ap (λ (x : Holding). x.pages) was in omega (arith, n)))))
+      l.held_change))
+      (λ apart. inl (kept_itself (holds mid i) h (ap (λ (x : SmallMote). holds x i) l.change ∙ get_or-set_other old.holdings image i l.held None apart ∙ had)))
+      (cases_eq i image)
+
+  framed_by : (past : Past) (m : ℕ) (r : Result Message FrameFault) → message_of bytes ≡ r → LegalMessage past blew m r old mid → Framed (Some bytes) blew i h (holds mid i)
+  framed_by past m (Err fault) is legal = framed_stays legal
+  framed_by past m (Ok (Advert source entries order)) is legal = framed_advert source entries order is legal
+  framed_by past m (Ok (Request source to image version page want)) is legal = framed_stays legal
+  framed_by past m (Ok (Packet source image version page q content)) is legal = framed_packet past m image version page legal
+
+framed : (frame : Option (List ℕ)) (blew : Bool) (i : ℕ) (h : Holding) (past : Past) (m : ℕ) (old mid : SmallMote) → holds old i ≡ Some h → LegalFrame past blew m frame old mid → Framed frame blew i h (holds mid i)
+framed None blew i h past m old mid had legal = absurd legal
+framed (Some bytes) blew i h past m old mid had legal = framed_by bytes blew i h old mid had (Came m bytes past) m (message_of bytes) refl legal
+
+-- the same, where the mote is off behind a cut
+framed_then : (frame : Option (List ℕ)) (blew : Bool) (i : ℕ) (h : Holding) (past : Past) (m : ℕ) (old mid new : SmallMote) → holds old i ≡ Some h → LegalFrame past blew m frame old mid → new ≡ off_after blew mid
+    → Framed frame blew i h (holds new i)
+framed_then frame blew i h past m old mid new had legal is =
+    subst (Framed frame blew i h) (sym (ap (λ (x : SmallMote). holds x i) is ∙ off_holds blew mid i)) (framed frame blew i h past m old mid had legal)
+
+-- golden stays
+golden_message : (past : Past) (blew : Bool) (m : ℕ) (r : Result Message FrameFault) (old mid : SmallMote) → LegalMessage past blew m r old mid → holds mid 0 ≡ holds old 0
+golden_message past blew m (Err fault) old mid legal = ap (λ (x : SmallMote). holds x 0) legal
+golden_message past blew m (Ok (Advert source entries order)) old mid legal =
+    let low = legal.known in ap (λ (x : SmallMote). holds x 0) legal.change ∙ get_or-set_other old.holdings legal.image 0 legal.held None (λ e. absurd (omega (arith, e, low)))
+golden_message past blew m (Ok (Request source to image version page want)) old mid legal = ap (λ (x : SmallMote). holds x 0) legal
+golden_message past blew m (Ok (Packet source image version page q content)) old mid legal =
+    ap (λ (x : SmallMote). holds x 0) legal.change
+    ∙ ⊎_elim
+    (λ same. ap (λ (o : Option Holding). holds (taking old image o) 0) same ∙ ap (λ (x : SmallMote). holds x 0) (sym (same_holding_stays old image)))
+    (λ more. let low = more.0 in get_or-set_other old.holdings image 0 legal.held None (λ e. absurd (omega (arith, e, low))))
+    legal.held_change
+
+golden_frame : (frame : Option (List ℕ)) (past : Past) (blew : Bool) (m : ℕ) (old mid new : SmallMote) → LegalFrame past blew m frame old mid → new ≡ off_after blew mid → holds new 0 ≡ holds old 0
+golden_frame None past blew m old mid new legal is = absurd legal
+golden_frame (Some bytes) past blew m old mid new legal is =
+    ap (λ (x : SmallMote). holds x 0) is ∙ off_holds blew mid 0 ∙ golden_message (Came m bytes past) blew m (message_of bytes) old mid legal
+
+-- ---- every kind of event
+
+at_mote : (past : Past) (w : World) (declared table : List Row) (blew : Bool) (e : Event) (old new : SmallMote) (after : List Row) (i : ℕ) (h : Holding) → LegalAt past declared table blew (brought w e) e old new after → holds old i ≡ Some h
+    → After w e blew i h (holds new i)
+at_mote past w declared table blew (Hear m dt word number) old new after i h legal had = framed_then (brought w (Hear m dt word number)) blew i h past m old legal.1 new had legal.2 legal.3
+at_mote past w declared table blew (Last from m dt word) old new after i h legal had = framed_then (brought w (Last from m dt word)) blew i h past m old legal.1 new had legal.2 legal.3
+at_mote past w declared table blew (Frame m dt word bytes) old new after i h legal had = framed_then (Some bytes) blew i h past m old legal.1 new had legal.2 legal.3
+at_mote past w declared table blew (Tick m dt word) old new after i h legal had = inl (kept_itself (holds new i) h (tick_holds table blew old new i legal.1 ∙ had))
+at_mote past w declared table blew (Reset m dt word) old new after i h legal had = inl (kept_itself (holds new i) h (reset_holds table blew old new i legal.0 ∙ had))
+at_mote past w declared table blew (OrderEvent m number image version dt word) old new after i h legal had =
     inl (kept_itself (holds new i) h (order_holds blew (record { number = number; image = image; version = version }) old new legal.0 i legal.1 legal.2 ∙ had))
-at_mote declared table blew (Inject m image version dt word) old new after i h legal had =
+at_mote past w declared table blew (Inject m image version dt word) old new after i h legal had =
     let e = Inject m image version dt word in
     let mid = legal.0 in
     let at : holds new i ≡ holds mid i = ap (λ (x : SmallMote). holds x i) legal.2 ∙ off_holds blew mid i in
-    subst (After e blew i h) (sym at)
+    subst (After w e blew i h) (sym at)
     (⊎_elim
-    (λ same. subst (λ (n : ℕ). After e blew n h (holds mid n)) (sym same)
-    (injected_after declared table after blew m image version dt word old mid legal.1 h (ap (holds old) (sym same) ∙ had)))
+    (λ same. subst (λ (n : ℕ). After w e blew n h (holds mid n)) (sym same)
+    (injected_after w declared table after blew m image version dt word old mid legal.1 h (ap (holds old) (sym same) ∙ had)))
     (λ other. inl (kept_itself (holds mid i) h (injected_other declared table after blew image version i old mid legal.1 other ∙ had)))
     (cases_eq i image))
 
 -- ---- every item
 
-module _ (w v : World) (x : Step) where
-  keeps_by : (D : Does) → (IsBlown D x → IsBlown (does w x.event) x) → LegalDoes D w x v → KeepsItem (Happens x) w v
-  keeps_by (Refuses why) blown legal m i h had = inl (kept_itself (holds (mote_in (small v) m) i) h (ap (λ (s : Small). holds (mote_in s m) i) legal ∙ had))
-  keeps_by (Goes d) blown legal m i h had =
+module _ (past : Past) (w v : World) (x : Step) where
+  keeps_by : (D : Does) → (IsBlown D x → IsBlown (does w x.event) x) → (loud : Bool) → LegalDoes D past w x v → KeepsItem (Happens x loud) w v
+  keeps_by (Refuses why) blown loud legal m i h had = inl (kept_itself (holds (mote_in (small v) m) i) h (ap (λ (s : Small). holds (mote_in s m) i) legal ∙ had))
+  keeps_by (Goes d) blown loud legal m i h had =
       let new = holds (mote_in (small v) m) i in
       ⊎_elim
       (λ same.
       let here : holds (mote_in (small w) (mote_of x.event)) i ≡ Some h = ap (λ (n : ℕ). holds (mote_in (small w) n) i) (sym same) ∙ had in
-      let after = at_mote w.declared w.table (blows x.cut d.trail) x.event (mote_in (small w) (mote_of x.event)) (mote_in (small v) (mote_of x.event)) v.table i h legal.there here in
+      let after = at_mote past w w.declared w.table (blows x.cut d.trail) x.event (mote_in (small w) (mote_of x.event)) (mote_in (small v) (mote_of x.event)) v.table i h legal.there here in
       let back : holds (mote_in (small v) (mote_of x.event)) i ≡ new = ap (λ (n : ℕ). holds (mote_in (small v) n) i) (sym same) in
       ⊎_elim
       (λ kept. inl (subst (λ (o : Option Holding). IsKeptIn o h) back kept))
@@ -135,39 +234,39 @@ module _ (w v : World) (x : Step) where
       (λ other. inl (kept_itself new h (ap (λ (y : SmallMote). holds y i) (legal.others m other) ∙ had)))
       (cases_eq m (mote_of x.event))
 
-keeps_item : (item : Item) (w v : World) → LegalItem item w v → KeepsItem item w v
-keeps_item (Declares row) w v legal = λ m i h had. kept_itself (holds (mote_in (small v) m) i) h (ap (λ (s : Small). holds (mote_in s m) i) legal ∙ had)
-keeps_item (Happens x) w v legal = keeps_by w v x (does w x.event) (λ b. b) legal
+keeps_item : (past : Past) (item : Item) (w v : World) → LegalItem item past w v → KeepsItem item w v
+keeps_item past (Declares row) w v legal = λ m i h had. kept_itself (holds (mote_in (small v) m) i) h (ap (λ (s : Small). holds (mote_in s m) i) legal ∙ had)
+keeps_item past (Happens x loud) w v legal = keeps_by past w v x (does w x.event) (λ b. b) loud legal
 
 pub keeps_all : (past : List Played) (p : Played) → IsLegal past p → KeepsAll p
-keeps_all past p legal = keeps_item p.item p.before p.after legal
+keeps_all past p legal = keeps_item (past_of past) p.item p.before p.after legal
 
 -- ---- golden
 
-golden_at : (declared table : List Row) (blew : Bool) (e : Event) (old new : SmallMote) (after : List Row) → LegalAt declared table blew e old new after → holds new 0 ≡ holds old 0
-golden_at declared table blew (Hear m dt word frame) old new after legal = absurd legal
-golden_at declared table blew (Last from to dt word) old new after legal = absurd legal
-golden_at declared table blew (Frame m dt word bytes) old new after legal = absurd legal
-golden_at declared table blew (Tick m dt word) old new after legal = tick_holds table blew old new 0 legal.1
-golden_at declared table blew (Reset m dt word) old new after legal = reset_holds table blew old new 0 legal.0
-golden_at declared table blew (OrderEvent m number image version dt word) old new after legal = order_holds blew (record { number = number; image = image; version = version }) old new legal.0 0 legal.1 legal.2
-golden_at declared table blew (Inject m image version dt word) old new after legal =
+golden_at : (past : Past) (frame : Option (List ℕ)) (declared table : List Row) (blew : Bool) (e : Event) (old new : SmallMote) (after : List Row) → LegalAt past declared table blew frame e old new after → holds new 0 ≡ holds old 0
+golden_at past frame declared table blew (Tick m dt word) old new after legal = tick_holds table blew old new 0 legal.1
+golden_at past frame declared table blew (Reset m dt word) old new after legal = reset_holds table blew old new 0 legal.0
+golden_at past frame declared table blew (OrderEvent m number image version dt word) old new after legal = order_holds blew (record { number = number; image = image; version = version }) old new legal.0 0 legal.1 legal.2
+golden_at past frame declared table blew (Hear m dt word number) old new after legal = golden_frame frame past blew m old legal.1 new legal.2 legal.3
+golden_at past frame declared table blew (Last from m dt word) old new after legal = golden_frame frame past blew m old legal.1 new legal.2 legal.3
+golden_at past frame declared table blew (Frame m dt word bytes) old new after legal = golden_frame frame past blew m old legal.1 new legal.2 legal.3
+golden_at past frame declared table blew (Inject m image version dt word) old new after legal =
     let mid = legal.0 in
     let known = legal.1.known in
     ap (λ (x : SmallMote). holds x 0) legal.2 ∙ off_holds blew mid 0 ∙ injected_other declared table after blew image version 0 old mid legal.1 (λ e. absurd (omega (arith, e, known)))
 
-golden_by : (w v : World) (x : Step) (D : Does) → LegalDoes D w x v → (m : ℕ) → holds (mote_in (small v) m) 0 ≡ holds (mote_in (small w) m) 0
-golden_by w v x (Refuses why) legal m = ap (λ (s : Small). holds (mote_in s m) 0) legal
-golden_by w v x (Goes d) legal m =
+golden_by : (past : Past) (w v : World) (x : Step) (D : Does) → LegalDoes D past w x v → (m : ℕ) → holds (mote_in (small v) m) 0 ≡ holds (mote_in (small w) m) 0
+golden_by past w v x (Refuses why) legal m = ap (λ (s : Small). holds (mote_in s m) 0) legal
+golden_by past w v x (Goes d) legal m =
     ⊎_elim
     (λ same. subst (λ (n : ℕ). holds (mote_in (small v) n) 0 ≡ holds (mote_in (small w) n) 0) (sym same)
-    (golden_at w.declared w.table (blows x.cut d.trail) x.event (mote_in (small w) (mote_of x.event)) (mote_in (small v) (mote_of x.event)) v.table legal.there))
+    (golden_at past (brought w x.event) w.declared w.table (blows x.cut d.trail) x.event (mote_in (small w) (mote_of x.event)) (mote_in (small v) (mote_of x.event)) v.table legal.there))
     (λ other. ap (λ (y : SmallMote). holds y 0) (legal.others m other))
     (cases_eq m (mote_of x.event))
 
-golden_item : (item : Item) (w v : World) → LegalItem item w v → (m : ℕ) → holds (mote_in (small v) m) 0 ≡ holds (mote_in (small w) m) 0
-golden_item (Declares row) w v legal m = ap (λ (s : Small). holds (mote_in s m) 0) legal
-golden_item (Happens x) w v legal m = golden_by w v x (does w x.event) legal m
+golden_item : (past : Past) (item : Item) (w v : World) → LegalItem item past w v → (m : ℕ) → holds (mote_in (small v) m) 0 ≡ holds (mote_in (small w) m) 0
+golden_item past (Declares row) w v legal m = ap (λ (s : Small). holds (mote_in s m) 0) legal
+golden_item past (Happens x loud) w v legal m = golden_by past w v x (does w x.event) legal m
 
 pub golden_stays : (past : List Played) (p : Played) → IsLegal past p → GoldenStays p
-golden_stays past p legal = golden_item p.item p.before p.after legal
+golden_stays past p legal = golden_item (past_of past) p.item p.before p.after legal

@@ -11,12 +11,14 @@ use Rattle.dg_nor.proofs.ThroughLemmas.{Through-last}
 use Rattle.dg_object.specs.Object.{Row, IsRow, object, pages_for, page_of_row}
 use Rattle.dg_slot.specs.Kept.{Held}
 use Rattle.dg_volume.specs.Store.{Store, App, held, held_whole}
-use Rattle.dg_volume.specs.Start.{Runs, boot, order_waits, is_whole, kept_runs}
+use Rattle.dg_volume.specs.Start.{Runs, boot, order_waits, is_whole, app_of, kept_runs}
+use Rattle.dg_volume.specs.Ends.{OnTheWay, Boots}
 use Rattle.dg_volume.specs.Table.{row_at, IsTable}
 use Rattle.dg_volume.specs.Agreement.{KeepsRow, Agrees}
 use Rattle.dg_volume.specs.RowLaws.{RowLaws}
 use Rattle.dg_volume.specs.declared.volume.Kind.{Kind}
 use Rattle.dg_volume.specs.declared.volume.Kind.TheVariants as kind
+use Rattle.dg_mote.specs.Model.{MoteState}
 use Rattle.dg_base.specs.declared.events.Key.{Key}
 use Rattle.dg_rules.specs.World.{Site, Running}
 use Rattle.dg_rules.specs.Small.{Holding, SmallMote, holding, app_key, small_mote, holds, whole}
@@ -24,7 +26,6 @@ use Rattle.dg_rules.specs.Events.{key_of}
 use Rattle.dg_rules.specs.Legal.{HoldsWhole, MayStart, MayRestart, LegalStart, LegalTick, CutStart}
 use Rattle.dg_rules.proofs.ThroughLemmas.{Through-map}
 use Rattle.dg_rules.proofs.TableLemmas.{row_at-key, row_at-each}
-use Rattle.dg_rules.proofs.StartLemmas.{OnWay, AppOnWay, boot_way}
 use Rattle.dg_rules.proofs.BootLemmas.{IsWaiting, MayRun, IsSettled, boot_start, order_alone, waits_whole, waits_some}
 
 -- a mote with what runs
@@ -77,7 +78,11 @@ holds_whole table x key o here w = record {
 
 -- ---- starts
 
-module _ (table : List Row) (x : Site) (agrees : Agrees table x.store) where
+-- program memory on the way: as before, blank, or what runs
+abbrev AppOnWay : Option App → Option Runs → Option App → Type 0
+AppOnWay old runs new = (new ≡ old) ⊎ ((new ≡ None) ⊎ ((r : Runs) × (runs ≡ Some r) × (new ≡ Some (app_of r))))
+
+module _ (ends : (k : Kind) (s : Store) → Boots s (boot k s)) (table : List Row) (x : Site) (agrees : Agrees table x.store) where
   abbrev Waits : Runs → Type 0
   Waits r = MayRestart table (small_mote x) (key_of r)
 
@@ -97,11 +102,11 @@ module _ (table : List Row) (x : Site) (agrees : Agrees table x.store) where
       may
 
   -- where the start is not stopped
-  pub legal_start : (k : Kind) (r : Runs) (now : ℕ) → (boot k x.store).runs ≡ Some r → LegalStart table (small_mote x) (mote (last (boot k x.store).trail) (Some (record { key = key_of r; since = now })))
-  legal_start k r now runs =
+  pub legal_start : (k : Kind) (r : Runs) (n : MoteState) → (boot k x.store).runs ≡ Some r → LegalStart table (small_mote x) (mote (last (boot k x.store).trail) (Some (record { key = key_of r; mote = n })))
+  legal_start k r n runs =
       let b = boot k x.store in
       let start = boot_start k x.store in
-      let way = Through-last (OnWay x.store b.runs) b.trail (boot_way k x.store) in
+      let way = Through-last (OnTheWay x.store b.runs) b.trail (ends k x.store).way in
       record {
         key = key_of r;
         app = option_map app_key (last b.trail).app;
@@ -132,13 +137,13 @@ module _ (table : List Row) (x : Site) (agrees : Agrees table x.store) where
   pub cut_start : (k : Kind) (may : Key → Type 0) → ((r : Runs) → (boot k x.store).runs ≡ Some r → may (key_of r)) → Through (λ s. CutStart may (small_mote x) (mote s None)) (boot k x.store).trail
   cut_start k may chosen =
       let b = boot k x.store in
-      Through-map (OnWay x.store b.runs) (λ s. CutStart may (small_mote x) (mote s None))
+      Through-map (OnTheWay x.store b.runs) (λ s. CutStart may (small_mote x) (mote s None))
       (λ s way. record {
         app = option_map app_key s.app;
         how = cut_app k may chosen s.app way.app;
         change = λ i. record { holdings = map (option_map holding) (way.kept i); app = option_map app_key s.app; order = way.order i; runs = None };
       })
-      b.trail (boot_way k x.store)
+      b.trail (ends k x.store).way
 
   -- a tick starts the order's image alone
   pub tick_starts : IsTable table → ((row : Row) → IsRow row → RowLaws row) → order_waits x.store ≡ true → IsSettled x.store
@@ -154,8 +159,8 @@ module _ (table : List Row) (x : Site) (agrees : Agrees table x.store) where
       let o = x.store.order in
       waits_legal (kept_runs x.store o.image o.version) (record { some = waits_some x.store waits; image = refl; version = refl; whole = waits_whole x.store waits })
 
-  pub tick_start : (now : ℕ) → order_waits x.store ≡ true → (boot kind.Order x.store).runs ≡ Some (kept_runs x.store x.store.order.image x.store.order.version)
-      → LegalTick table false (small_mote x) (mote (last (boot kind.Order x.store).trail) (Some (record { key = key_of (kept_runs x.store x.store.order.image x.store.order.version); since = now })))
+  pub tick_start : (n : MoteState) → order_waits x.store ≡ true → (boot kind.Order x.store).runs ≡ Some (kept_runs x.store x.store.order.image x.store.order.version)
+      → LegalTick table false (small_mote x) (mote (last (boot kind.Order x.store).trail) (Some (record { key = key_of (kept_runs x.store x.store.order.image x.store.order.version); mote = n })))
   unfolding legal_start
-  tick_start now waits chosen =
-      inr (legal_start kind.Order (kept_runs x.store x.store.order.image x.store.order.version) now chosen, tick_waits waits)
+  tick_start n waits chosen =
+      inr (legal_start kind.Order (kept_runs x.store x.store.order.image x.store.order.version) n chosen, tick_waits waits)

@@ -4,24 +4,36 @@ use Rattle.std.specs.List.{AllByRecursion}
 use Rattle.dg_rules.specs.World.{World}
 use Rattle.dg_rules.specs.Runs.{Played, ItemStep, Plays, EachAfter}
 
--- what holds before an item that fits, and is kept by it, holds in the end; and what each item has, all have
-module _ (I : World → Type 0) (Fits Has : Played → Type 0) (step : (p : Played) → I p.before → Fits p → ItemStep p.before p.item p.after p.reports → I p.after × Has p) where
-  pub plays : (played : List Played) (w v : World) → Plays w played v → AllByRecursion Fits played → I w → I v × AllByRecursion Has played
-  unfolding Plays
-  plays [] w v run fits i = (subst I run i, tt)
-  plays (p ∷ ps) w v run fits i =
-      let one = step p (subst I (sym run.0) i) fits.0 run.1 in
-      let rest = plays ps p.after v run.2 fits.1 one.0 in
+-- what holds in the end, behind all that was played
+pub record Ended (I : List Played → World → Type 0) (v : World) : Type 0 where
+  pub past : List Played
+  pub holds : I past v
+
+-- what holds before an item that fits, with what was played before it, and is kept by it, holds in the end; and what each item has, all have
+module _ (I : List Played → World → Type 0) (Fits : Played → Type 0) (Has : List Played → Played → Type 0)
+    (step : (past : List Played) (p : Played) → I past p.before → Fits p → ItemStep p.before p.item p.after p.reports → I (p ∷ past) p.after × Has past p) where
+  pub plays : (past played : List Played) (w v : World) → Plays w played v → AllByRecursion Fits played → I past w → Ended I v × EachAfter Has past played
+  unfolding Plays EachAfter
+  plays past [] w v run fits i = (record { past = past; holds = subst (I past) run i }, tt)
+  plays past (p ∷ ps) w v run fits i =
+      let one = step past p (subst (I past) (sym run.0) i) fits.0 run.1 in
+      let rest = plays (p ∷ past) ps p.after v run.2 fits.1 one.0 in
       (rest.0, (one.1, rest.1))
 
-module _ (P : List Played → Played → Type 0) (Has : Played → Type 0) (every : (past : List Played) (p : Played) → Has p → P past p) where
-  -- what holds of each whatever was before it
-  pub each_after : (past played : List Played) → AllByRecursion Has played → EachAfter P past played
+module _ (P Q : List Played → Played → Type 0) (f : (past : List Played) (p : Played) → P past p → Q past p) where
+  -- what follows from what holds of each
+  pub each_then : (past played : List Played) → EachAfter P past played → EachAfter Q past played
   unfolding EachAfter
-  each_after past [] all = tt
-  each_after past (p ∷ ps) all = (every past p all.0, each_after (p ∷ past) ps all.1)
+  each_then past [] each = tt
+  each_then past (p ∷ ps) each = (f past p each.0, each_then (p ∷ past) ps each.1)
 
-module _ (P Has : Played → Type 0) (every : (p : Played) → Has p → P p) where
-  pub all_map : (played : List Played) → AllByRecursion Has played → AllByRecursion P played
-  all_map [] all = tt
-  all_map (p ∷ ps) all = (every p all.0, all_map ps all.1)
+module _ (P : List Played → Played → Type 0) (Q : Played → Type 0) (f : (past : List Played) (p : Played) → P past p → Q p) where
+  -- and does not look back
+  pub all_then : (past played : List Played) → EachAfter P past played → AllByRecursion Q played
+  unfolding EachAfter
+  all_then past [] each = tt
+  all_then past (p ∷ ps) each = (f past p each.0, all_then (p ∷ past) ps each.1)
+
+pub all_both : (P Q : Played → Type 0) (played : List Played) → AllByRecursion P played → AllByRecursion Q played → AllByRecursion (λ p. P p × Q p) played
+all_both P Q [] all both = tt
+all_both P Q (p ∷ ps) all both = ((all.0, both.0), all_both P Q ps all.1 both.1)

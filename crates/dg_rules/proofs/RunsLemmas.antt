@@ -1,5 +1,6 @@
 -- What starts is a row of the table, byte for byte.
-use Rattle.std.proofs.Common.{◌≡◌, ℕ, List, [], Option, Some, None, IfSome, length, refl, ap, ◌∙◌}
+use Rattle.std.proofs.Common.{◌≡◌, ℕ, ◌<◌, List, [], Option, Some, None, IfSome, length, refl, ap, ◌∙◌}
+use Rattle.std.specs.Prelude.{slice_index_or}
 use Rattle.dg_base.specs.Crc.{crc_of}
 use Rattle.dg_object.specs.Object.{Row, IsRow, content}
 use Rattle.dg_volume.specs.Store.{Store}
@@ -8,6 +9,7 @@ use Rattle.dg_volume.specs.Table.{IsTable}
 use Rattle.dg_volume.specs.Agreement.{HoldsRow, Agrees}
 use Rattle.dg_volume.specs.RowLaws.{RowLaws}
 use Rattle.dg_volume.specs.declared.volume.Kind.{Kind}
+use Rattle.dg_volume.specs.declared.volume.Kind.TheVariants as kind
 use Rattle.dg_rules.specs.World.{World, store_at}
 use Rattle.dg_rules.specs.Events.{does}
 use Rattle.dg_rules.specs.Ranges.{EventFits}
@@ -16,7 +18,7 @@ use Rattle.dg_rules.specs.Promises.{RunsRow, StartsDoes}
 use Rattle.dg_base.specs.declared.events.Event.{Event}
 use Rattle.dg_rules.proofs.TableLemmas.{row_at-each}
 use Rattle.dg_rules.proofs.BootLemmas.{boot_start}
-use Rattle.dg_rules.proofs.EventLemmas.{does_cases}
+use Rattle.dg_rules.proofs.EventLemmas.{RestartLaws, does_cases, all_sent}
 
 if_some : {A : Type 0} (P : A → Type 0) (o : Option A) → ((x : A) → o ≡ Some x → P x) → IfSome o P
 if_some P None f = tt
@@ -27,7 +29,7 @@ module _ (laws : (row : Row) → IsRow row → RowLaws row) (table : List Row) (
   runs_row r h =
       let row = h.row in
       let known = laws row (row_at-each IsRow table r.image r.version row is_table.each h.in_table) in
-      let told : runs_length r ≡ length row.bytes = ap (λ (pages : List (List ℕ)). length_in (Rattle.std.specs.Prelude.slice_index_or pages 0 [])) h.pages ∙ known.length_told in
+      let told : runs_length r ≡ length row.bytes = ap (λ (pages : List (List ℕ)). length_in (slice_index_or pages 0 [])) h.pages ∙ known.length_told in
       record {
         row = row;
         in_table = h.in_table;
@@ -39,13 +41,16 @@ module _ (laws : (row : Row) → IsRow row → RowLaws row) (table : List Row) (
   boot_row : (k : Kind) (s : Store) → Agrees table s → IfSome (boot k s).runs (RunsRow table)
   boot_row k s agrees = if_some (RunsRow table) (boot k s).runs (λ r e. runs_row r ((boot_start k s).row table agrees r e))
 
-pub starts_row : ((row : Row) → IsRow row → RowLaws row) → (w : World) → WorldAgrees w → (e : Event) → EventFits (length w.sites) e → StartsDoes (does w e) w.table
-starts_row laws w agrees =
-    does_cases w (λ e D. EventFits (length w.sites) e → StartsDoes D w.table)
+pub starts_row : RestartLaws → ((row : Row) → IsRow row → RowLaws row) → (w : World) → WorldAgrees w → (e : Event) → EventFits (length w.sites) e → StartsDoes (does w e) w.table
+starts_row restarts laws w agrees =
+    let boots : (k : Kind) (m : ℕ) → m < length w.sites → IfSome (boot k (store_at w m)).runs (RunsRow w.table) = λ k m low. boot_row laws w.table agrees.table k (store_at w m) (agrees.sites m low).store.agrees in
+    does_cases restarts w (λ f. Unit {0}) (all_sent w.sent) (λ e D. EventFits (length w.sites) e → StartsDoes D w.table)
     (λ e why fits. tt)
-    (λ m dt word r on fits. tt)
-    (λ m dt word r on waits fits. boot_row laws w.table agrees.table _ (store_at w m) (agrees.stores m fits).0)
-    (λ m dt word r on fits. tt)
-    (λ m dt word fits. boot_row laws w.table agrees.table _ (store_at w m) (agrees.stores m fits).0)
+    (λ m dt word r is fits. tt)
+    (λ m dt word r is waits fits. boots kind.Order m fits)
+    (λ m dt word fits. boots kind.Power m fits)
+    (λ m dt word number f r is at q fits. tt)
+    (λ from m dt word f r is at q fits. tt)
+    (λ m dt word bytes r is fits. tt)
     (λ m image version dt word row known none fits. tt)
     (λ m number image version dt word none fits. tt)

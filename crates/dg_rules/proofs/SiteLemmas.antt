@@ -16,11 +16,11 @@ pub site_count : (w : World) (m : ℕ) (x : Site) → length (with_site w m x).s
 site_count w m x = length-set w.sites m x
 
 -- what holds of the new site and of all that stay holds of each
-pub each_site : (P : Site → Type 0) (w : World) (m : ℕ) (x : Site) → m < length w.sites → P x → ((j : ℕ) → j < length w.sites → P (site w j)) → (j : ℕ) → j < length (with_site w m x).sites → P (site (with_site w m x) j)
+pub each_site : (P : ℕ → Site → Type 0) (w : World) (m : ℕ) (x : Site) → m < length w.sites → P m x → ((j : ℕ) → j < length w.sites → (j ≡ m → ⊥) → P j (site w j)) → (j : ℕ) → j < length (with_site w m x).sites → P j (site (with_site w m x) j)
 each_site P w m x within new old j low =
     ⊎_elim
-    (λ e. subst (λ n. P (site (with_site w m x) n)) (sym e) (subst P (sym (site_there w m x within)) new))
-    (λ other. subst P (sym (site_other w m j x other)) (old j (omega (arith, low, site_count w m x))))
+    (λ e. subst (λ n. P n (site (with_site w m x) n)) (sym e) (subst (P m) (sym (site_there w m x within)) new))
+    (λ other. subst (P j) (sym (site_other w m j x other)) (old j (omega (arith, low, site_count w m x)) other))
     (cases_eq j m)
 
 -- ---- the small state

@@ -1,7 +1,7 @@
 -- Rows of a table, and a table with one row more.
-use Rattle.std.proofs.Common.{◌≡◌, ◌⊎◌, ℕ, ◌≤◌, arith, Bool, true, false, ◌==◌, ◌||◌, List, [], ◌∷◌, ◌++◌, Option, Some, None, refl, sym, ap, subst, ◌∙◌, inl, inr, find, eqb-true, eq-eqb}
+use Rattle.std.proofs.Common.{◌≡◌, ◌⊎◌, ℕ, ◌≤◌, arith, Bool, true, false, ◌==◌, ◌||◌, List, [], ◌∷◌, ◌++◌, Some, None, refl, sym, ap, subst, ◌∙◌, inl, inr, find, eq-eqb}
 use Rattle.std.specs.List.{list_any, AllByRecursion, IsDistinct}
-use Rattle.std.proofs.lemmas.Bool.{cases_Bool, and_parts, and_from, or_parts, cond-true, cond-false}
+use Rattle.std.proofs.lemmas.Bool.{cases_Bool, and_from, or_parts, cond-true, cond-false}
 use Rattle.dg_object.specs.Object.{Row, IsRow}
 pub use Rattle.dg_volume.proofs.TableLemmas.{same_some, not_none, find_here, find_later, key_parts, row_at-key, row_at-each}
 use Rattle.dg_volume.specs.Table.{has_key, same_key, row_at, with_row, IsTable}

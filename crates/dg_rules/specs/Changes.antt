@@ -1,6 +1,7 @@
 -- What is reported of a chip that changed.
-use Rattle.std.specs.Prelude.{ℕ, ◌-◌, ◌==◌, ◌&&◌, Bool, false, if◌then◌else◌, List, [], ◌∷◌, ◌++◌, length, not, Option, Some, None}
+use Rattle.std.specs.Prelude.{ℕ, ◌-◌, ◌==◌, ◌&&◌, Bool, true, false, if◌then◌else◌, List, [], ◌∷◌, ◌++◌, length, not, Option, Some, None}
 use Rattle.std.specs.List.{filter_map, flat_map, range_with_len}
+use Rattle.std.specs.FinSet as set
 use Rattle.dg_control.specs.declared.snapshot.Order.{Order}
 use Rattle.dg_slot.specs.Kept.{Held}
 use Rattle.dg_object.specs.Object.{Row}
@@ -8,8 +9,10 @@ use Rattle.dg_volume.specs.Sizes.{images}
 use Rattle.dg_volume.specs.Store.{Store, held}
 use Rattle.dg_volume.specs.Changes.{same_bytes}
 use Rattle.dg_volume.specs.Start.{Runs, runs_length, runs_crc}
+use Rattle.dg_frame.specs.declared.Message.{Message}
+use Rattle.dg_frame.specs.declared.Message.TheVariants.{Advert, Request, Packet}
 use Rattle.dg_script.specs.declared.report.Report.{Report}
-use Rattle.dg_script.specs.declared.report.Report.TheVariants.{Order as OrderLine, Lost, Have, Start, Taken, End, MoteOn, MoteOff, Kept}
+use Rattle.dg_script.specs.declared.report.Report.TheVariants.{Order as OrderLine, Lost, Have, Start, SentAdvert, SentRequest, SentData, Taken, End, MoteOn, MoteOff, Kept}
 use Rattle.dg_rules.specs.World.{World, Running, Site, site}
 
 abbrev pub same_order : Order → Order → Bool
@@ -38,6 +41,19 @@ changes m old new =
 abbrev pub start_line : ℕ → Option Runs → List Report
 start_line m None = []
 start_line m (Some r) = Start m r.image r.version (runs_length r) (runs_crc r) ∷ []
+
+abbrev pub sent_line : ℕ → Option Message → List Report
+sent_line m None = []
+sent_line m (Some (Advert source entries order)) = SentAdvert m ∷ []
+sent_line m (Some (Request source to image version page want)) = SentRequest m to image version page (set.len want) ∷ []
+sent_line m (Some (Packet source image version page packet bytes)) = SentData m image version page packet ∷ []
+
+-- `sent` lines are told where they are wanted
+abbrev pub is_told : Bool → Report → Bool
+is_told loud (SentAdvert mote) = loud
+is_told loud (SentRequest mote to image version page count) = loud
+is_told loud (SentData mote image version page packet) = loud
+is_told loud report = true
 
 -- ---- declarations
 

@@ -1,32 +1,34 @@
--- What events do: each is refused, or its mote's chip goes through the stores of a trail.
-use Rattle.std.specs.Prelude.{ℕ, ◌+◌, ◌-◌, ◌==◌, ◌&&◌, nat_le, if◌then◌else◌, Bool, List, length, Option, Some, None}
-use Rattle.dg_nor.specs.Trail.{Trail, resting}
+-- What events do by the rules: each is refused, or its mote's chip goes through the stores of a trail.
+use Rattle.std.specs.Prelude.{ℕ, ◌+◌, ◌==◌, if◌then◌else◌, List, length, Option, Some, None, option_map}
+use Rattle.dg_nor.specs.Trail.{Trail}
 use Rattle.dg_object.specs.Object.{Row}
 use Rattle.dg_control.specs.declared.snapshot.Order.{Order}
 use Rattle.dg_volume.specs.Store.{Store}
-use Rattle.dg_volume.specs.Start.{Runs, Boot, boot, order_waits}
-use Rattle.dg_volume.specs.declared.volume.Kind.TheVariants as kind
+use Rattle.dg_volume.specs.Start.{Runs}
 use Rattle.dg_volume.specs.Changes.{inject_refusal, order_refusal}
-use Rattle.dg_volume.specs.Trails.{order_trail, inject_trail, clear_trail}
+use Rattle.dg_volume.specs.Trails.{order_trail, inject_trail}
 use Rattle.dg_volume.specs.declared.volume.InjectFault.{InjectFault}
 use Rattle.dg_volume.specs.declared.volume.InjectFault.TheVariants as inject
 use Rattle.dg_volume.specs.declared.volume.OrderFault.{OrderFault}
 use Rattle.dg_volume.specs.declared.volume.OrderFault.TheVariants as order_fault
+use Rattle.dg_frame.specs.declared.Message.{Message}
+use Rattle.dg_mote.specs.Model.{MoteState, maintains}
+use Rattle.dg_mote.specs.Effects.{Effect, reset_effect, tick_effect, frame_effect}
 use Rattle.dg_volume.specs.Table.{row_at, with_row}
-use Rattle.dg_rules.specs.Sizes.{short_start}
-use Rattle.dg_rules.specs.World.{World, Running, site, store_at}
+use Rattle.dg_rules.specs.World.{World, Running, Sent, site, store_at, linked, frame_at, last_frame}
 use Rattle.dg_base.specs.declared.events.Key.{Key}
 use Rattle.dg_base.specs.declared.events.Event.{Event}
 use Rattle.dg_base.specs.declared.events.Event.TheVariants.{Tick, Hear, Last, Reset, Inject, Order as OrderEvent, Frame}
 use Rattle.dg_script.specs.declared.report.Cause.{Cause}
 use Rattle.dg_script.specs.declared.report.Cause.TheVariants as cause
 
--- What an event does that is not refused, unless its power is cut: the stores on the way, the table then, what was
--- started, and the mote then, None where there was no image to start.
+-- what an event does that is not refused, unless its power is cut: the stores on the way, the table then, what was
+-- started and sent, and the mote then, None where there was no image to start
 pub record Deed : Type 0 where
   pub trail : Trail Store
   pub table : List Row
   pub started : Option Runs
+  pub sent : Option Message
   pub runs : Option (Option Running)
 
 pub data Does : Type 0 where
@@ -38,53 +40,54 @@ abbrev pub mote_of : Event → ℕ
 mote_of (Tick mote dt word) = mote
 mote_of (Hear mote dt word frame) = mote
 mote_of (Last from to dt word) = to
-mote_of (Frame mote dt word bytes) = mote
 mote_of (Reset mote dt word) = mote
 mote_of (Inject mote image version dt word) = mote
 mote_of (OrderEvent mote number image version dt word) = mote
+mote_of (Frame mote dt word bytes) = mote
 
 abbrev pub dt_of : Event → ℕ
 dt_of (Tick mote dt word) = dt
 dt_of (Hear mote dt word frame) = dt
 dt_of (Last from to dt word) = dt
-dt_of (Frame mote dt word bytes) = dt
 dt_of (Reset mote dt word) = dt
 dt_of (Inject mote image version dt word) = dt
 dt_of (OrderEvent mote number image version dt word) = dt
+dt_of (Frame mote dt word bytes) = dt
 
--- ---- starts and ticks
+-- ---- events of the mote itself
 
 abbrev pub key_of : Runs → Key
 key_of r = record { image = r.image; version = r.version }
 
--- what runs from now on, None where there was no image to start
-abbrev pub running_by : Option Runs → ℕ → Option (Option Running)
-running_by None now = None
-running_by (Some r) now = Some (Some (record { key = key_of r; since = now }))
+-- what runs behind an effect: what was started, or what ran before
+abbrev pub runs_by : Option Runs → Option Key → MoteState → Option Running
+runs_by (Some r) old m = Some (record { key = key_of r; mote = m })
+runs_by None (Some key) m = Some (record { key = key; mote = m })
+runs_by None None m = None
 
--- a start: what was on the mote is dropped
-abbrev pub starts : World → Boot → ℕ → Does
-starts w b now = Goes (record { trail = b.trail; table = w.table; started = b.runs; runs = running_by b.runs now })
+abbrev pub of_effect : World → Effect → Option Key → Does
+of_effect w e old = Goes (record { trail = e.trail; table = w.table; started = e.started; sent = e.sent; runs = option_map (runs_by e.started old) e.mote })
 
--- it is done at the mote, which goes on with what it runs
-abbrev pub acts : World → ℕ → Trail Store → List Row → Does
-acts w m t table = Goes (record { trail = t; table = table; started = None; runs = Some (site w m).runs })
+abbrev pub tick_by : World → Store → Option Running → (now word : ℕ) → Does
+tick_by w s None now word = Refuses cause.Off
+tick_by w s (Some r) now word = of_effect w (tick_effect r.mote s now word) (Some r.key)
 
--- the same, over the same table
-abbrev pub goes_on : World → ℕ → Trail Store → Does
-goes_on w m t = acts w m t w.table
+abbrev pub hear_by : World → Store → Option Running → (now word : ℕ) → List ℕ → Does
+hear_by w s None now word bytes = Refuses cause.Off
+hear_by w s (Some r) now word bytes = of_effect w (frame_effect r.mote s now word bytes) (Some r.key)
 
--- it ran long enough for its start to be no short one, and there is room to say so
-abbrev pub clears : Store → (since now : ℕ) → Bool
-clears s since now = nat_le 1 s.gesture && (nat_le short_start (now - since) && nat_le 1 s.room)
+abbrev pub heard_sent : World → ℕ → (now word : ℕ) → Option Sent → Does
+heard_sent w m now word None = Refuses cause.Frame
+heard_sent w m now word (Some f) =
+    if linked w f.by m then hear_by w (store_at w m) (site w m).runs now word f.bytes else Refuses cause.Link
 
--- A tick clears the short starts, or starts the order that waits, or does nothing: the first that fits.
-abbrev pub ticks : World → ℕ → Option Running → ℕ → Does
-ticks w m None now = Refuses cause.Off
-ticks w m (Some r) now =
-    if clears (store_at w m) r.since now then goes_on w m (clear_trail (store_at w m))
-    else if order_waits (store_at w m) then starts w (boot kind.Order (store_at w m)) now
-    else goes_on w m (resting (store_at w m) 0)
+abbrev pub unless_off : Option Running → Does → Does
+unless_off None d = Refuses cause.Off
+unless_off (Some r) d = d
+
+abbrev pub heard_last : World → (from to now word : ℕ) → Option Sent → Does
+heard_last w from to now word None = Refuses cause.Frame
+heard_last w from to now word (Some f) = hear_by w (store_at w to) (site w to).runs now word f.bytes
 
 -- ---- injections and orders
 
@@ -101,33 +104,42 @@ abbrev pub inject_cause : Row → InjectFault → Cause
 inject_cause row inject.TooLarge = cause.TooLarge (length row.bytes)
 inject_cause row fault = cause_of fault
 
-abbrev pub inject_unless : Option InjectFault → World → ℕ → Row → Does
-inject_unless (Some fault) w m row = Refuses (inject_cause row fault)
-inject_unless None w m row = acts w m (inject_trail (store_at w m) row) (with_row w.table row)
+-- a mote that is on goes on with its new volume
+abbrev pub reloaded : Option Running → (now word : ℕ) → Option Running
+reloaded None now word = None
+reloaded (Some r) now word = Some (record r { mote = maintains r.mote now word })
 
-abbrev pub inject_row : World → ℕ → Option Row → Does
-inject_row w m None = Refuses cause.Image
-inject_row w m (Some row) = inject_unless (inject_refusal (store_at w m) row) w m row
+abbrev pub acts : World → ℕ → Trail Store → List Row → (now word : ℕ) → Does
+acts w m t table now word = Goes (record { trail = t; table = table; started = None; sent = None; runs = Some (reloaded (site w m).runs now word) })
+
+abbrev pub inject_unless : Option InjectFault → World → ℕ → Row → (now word : ℕ) → Does
+inject_unless (Some fault) w m row now word = Refuses (inject_cause row fault)
+inject_unless None w m row now word = acts w m (inject_trail (store_at w m) row) (with_row w.table row) now word
+
+abbrev pub inject_row : World → ℕ → Option Row → (now word : ℕ) → Does
+inject_row w m None now word = Refuses cause.Image
+inject_row w m (Some row) now word = inject_unless (inject_refusal (store_at w m) row) w m row now word
 
 abbrev pub order_cause : OrderFault → Cause
 order_cause order_fault.Stopped = cause.Empty
 order_cause (order_fault.Worn room) = cause.Worn room
 order_cause (order_fault.OldOrder kept) = cause.OldOrder kept
 
-abbrev pub order_unless : Option OrderFault → World → ℕ → Order → Does
-order_unless (Some fault) w m order = Refuses (order_cause fault)
-order_unless None w m order = acts w m (order_trail (store_at w m) order) w.table
+abbrev pub order_unless : Option OrderFault → World → ℕ → Order → (now word : ℕ) → Does
+order_unless (Some fault) w m order now word = Refuses (order_cause fault)
+order_unless None w m order now word = acts w m (order_trail (store_at w m) order) w.table now word
 
 -- ---- every event
 
--- Motes do not hear frames yet.
 unfoldable pub does : World → Event → Does
-does w (Tick m dt word) = ticks w m (site w m).runs (w.moment + dt)
-does w (Hear m dt word frame) = Refuses cause.Frame
-does w (Last from to dt word) = Refuses cause.Frame
-does w (Frame m dt word bytes) = Refuses cause.Frame
-does w (Reset m dt word) = starts w (boot kind.Power (store_at w m)) (w.moment + dt)
-does w (Inject m image version dt word) = if image == 0 then Refuses cause.Reserved else inject_row w m (row_at w.declared image version)
+does w (Tick m dt word) = tick_by w (store_at w m) (site w m).runs (w.moment + dt) word
+does w (Hear m dt word frame) = unless_off (site w m).runs (heard_sent w m (w.moment + dt) word (frame_at w frame))
+does w (Last from to dt word) =
+    unless_off (site w to).runs (if linked w from to then heard_last w from to (w.moment + dt) word (last_frame w from) else Refuses cause.Link)
+does w (Reset m dt word) = of_effect w (reset_effect (store_at w m) m (w.moment + dt) word) None
+does w (Inject m image version dt word) =
+    if image == 0 then Refuses cause.Reserved else inject_row w m (row_at w.declared image version) (w.moment + dt) word
 does w (OrderEvent m number image version dt word) =
     let order : Order = record { number = number; image = image; version = version } in
-    order_unless (order_refusal (store_at w m) order) w m order
+    order_unless (order_refusal (store_at w m) order) w m order (w.moment + dt) word
+does w (Frame m dt word bytes) = hear_by w (store_at w m) (site w m).runs (w.moment + dt) word bytes

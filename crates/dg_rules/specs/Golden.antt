@@ -1,12 +1,14 @@
 -- Worlds in which golden is kept whole, and what is found there.
-use Rattle.std.specs.Prelude.{◌≡◌, ◌≢◌, ℕ, ◌<◌, List, [], ◌∷◌, length, replicate, Some, None}
+use Rattle.std.specs.Prelude.{◌≡◌, ◌≢◌, ℕ, ◌<◌, ◌≤◌, List, [], ◌∷◌, length, replicate, Some, None, IfSome}
 use Rattle.std.specs.List.{AllByRecursion}
 use Rattle.dg_object.specs.Object.{Row, IsRow}
 use Rattle.dg_volume.specs.Store.{Store, held, held_whole, golden_row, fresh}
-use Rattle.dg_rules.specs.World.{World, store_at, first_world}
+use Rattle.dg_mote.specs.Model.{Mode, Maintain, Receive, Transmit}
+use Rattle.dg_rules.specs.Sizes.{most_motes}
+use Rattle.dg_rules.specs.World.{World, Site, site, first_world}
 use Rattle.dg_rules.specs.Events.{Does, Refuses, Goes}
 use Rattle.dg_rules.specs.Runs.{Played, Plays}
-use Rattle.dg_rules.specs.Premises.{IsInRange}
+use Rattle.dg_rules.specs.Premises.{LinkFits, IsInRange}
 
 -- image 0 is kept whole, and its pages are the object of a row
 pub record KeepsGoldenRow (s : Store) : Type 0 where
@@ -14,9 +16,20 @@ pub record KeepsGoldenRow (s : Store) : Type 0 where
   pub is_row : IsRow row
   pub whole : held s 0 ≡ Some (held_whole row)
 
--- every mote keeps golden
+-- a mote asks for other images
+abbrev pub AsksForOthers : Mode → Type 0
+AsksForOthers (Maintain timer) = Unit {0}
+AsksForOthers (Receive r) = 1 ≤ r.image
+AsksForOthers (Transmit t) = Unit {0}
+
+-- a mote keeps golden, and does not ask for it
+pub record SiteKeepsGolden (x : Site) : Type 0 where
+  pub kept : KeepsGoldenRow x.store
+  pub asks : IfSome x.runs (λ r. AsksForOthers r.mote.mode)
+
+-- every mote does
 abbrev pub WorldKeepsGolden : World → Type 0
-WorldKeepsGolden w = (m : ℕ) → m < length w.sites → KeepsGoldenRow (store_at w m)
+WorldKeepsGolden w = (m : ℕ) → m < length w.sites → SiteKeepsGolden (site w m)
 
 -- an event that is not refused does not find that there is no image to start
 abbrev pub FindsImage : Does → Type 0
@@ -24,7 +37,9 @@ FindsImage (Refuses why) = Unit {0}
 FindsImage (Goes d) = d.runs ≢ None
 
 -- what is played of a script with golden: so many motes begin with chips that were formatted with it, and every number is in its range
-pub record PlaysGolden (name bytes : List ℕ) (used motes : ℕ) (played : List Played) (v : World) : Type 0 where
+pub record PlaysGolden (name bytes : List ℕ) (used motes : ℕ) (links : List (ℕ × ℕ)) (played : List Played) (v : World) : Type 0 where
   pub is_row : IsRow (golden_row name bytes)
-  pub plays : Plays (first_world (golden_row name bytes ∷ []) (replicate motes (fresh name bytes used))) played v
+  pub plays : Plays (first_world (golden_row name bytes ∷ []) links (replicate motes (fresh name bytes used))) played v
+  pub few : motes ≤ most_motes
+  pub links_fit : AllByRecursion (LinkFits motes) links
   pub ranges : AllByRecursion (IsInRange motes) played

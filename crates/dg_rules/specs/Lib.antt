@@ -6,6 +6,7 @@ pub mod Steps
 pub mod Small
 pub mod Legal
 pub mod Runs
+pub mod Past
 pub mod Promises
 pub mod Ranges
 pub mod Premises

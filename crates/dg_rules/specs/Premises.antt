@@ -1,20 +1,29 @@
--- Worlds that agree with their table, and what may be played.
-use Rattle.std.specs.Prelude.{◌≡◌, ℕ, ◌<◌, ◌≤◌, ◌^◌, IsTrue, length, Some, None, IfSome}
+-- Worlds that agree with their table, and runs over honest frames.
+use Rattle.std.specs.Prelude.{◌≡◌, ◌≢◌, ℕ, ◌<◌, ◌≤◌, ◌^◌, IsTrue, List, length, Some, None, IfSome, Ok}
 use Rattle.std.specs.List.{AllByRecursion}
 use Rattle.dg_words.specs.Cells.{AreBytes}
 use Rattle.dg_base.specs.Texts.{spells_name}
-use Rattle.dg_nor.specs.Through.{Through}
 use Rattle.dg_object.specs.Object.{Row}
 use Rattle.dg_volume.specs.Sizes.{images}
 use Rattle.dg_volume.specs.Table.{row_at, IsTable}
-use Rattle.dg_volume.specs.Agreement.{Agrees}
-use Rattle.dg_rules.specs.Sizes.{most_content}
-use Rattle.dg_rules.specs.World.{World, site, store_at}
-use Rattle.dg_rules.specs.Events.{Does, Refuses, Goes}
+use Rattle.dg_volume.specs.Store.{Store}
+use Rattle.dg_frame.specs.Grammar.{message_of}
+use Rattle.dg_frame.specs.Spelling.{FitsTypes}
+use Rattle.dg_frame.specs.declared.Message.{Message}
+use Rattle.dg_mote.specs.Hears.{source_of}
+use Rattle.dg_mote.specs.Agreement.{IsHonest, HonestMessage}
+use Rattle.dg_mote.specs.Well.{StoreIsWell, IsWell}
+use Rattle.dg_mote.specs.Speaking.{OrderFits, Speaks}
+use Rattle.dg_mote.specs.Timely.{Timely}
+use Rattle.dg_rules.specs.Sizes.{most_motes, most_content}
+use Rattle.dg_rules.specs.World.{World, Running, Site, Sent, site}
 use Rattle.dg_rules.specs.Ranges.{StepFits}
-use Rattle.dg_rules.specs.Runs.{Item, Declares, Happens, Played}
+use Rattle.dg_script.specs.Items.{Item, Declares, Happens}
+use Rattle.dg_rules.specs.Runs.{Played}
+use Rattle.dg_base.specs.declared.events.Event.{Event}
+use Rattle.dg_base.specs.declared.events.Event.TheVariants.{Frame}
 
--- What the script language lets be declared. Only what is injected has bytes, and no more than an image may have.
+-- What the script language lets be declared. Only what is injected has 1 to 70,656 bytes
 pub record IsDeclared (row : Row) : Type 0 where
   pub not_golden : 1 ≤ row.image
   pub image : row.image < images
@@ -24,27 +33,60 @@ pub record IsDeclared (row : Row) : Type 0 where
   pub fits : length row.bytes ≤ most_content
   pub bytes : AreBytes row.bytes
 
--- Every store agrees with the table, and what is declared is the table's.
+-- a mote that is on has the number of its site as its id, agrees, is in time, and can say what it says
+pub record RunsWell (table : List Row) (m now : ℕ) (s : Store) (r : Running) : Type 0 where
+  pub id : r.mote.id ≡ m
+  pub well : IsWell table r.mote s now
+  pub speaks : Speaks r.mote s
+
+pub record SiteIsWell (table : List Row) (m now : ℕ) (x : Site) : Type 0 where
+  pub store : StoreIsWell table x.store
+  pub order : OrderFits x.store.order
+  pub runs : IfSome x.runs (RunsWell table m now x.store)
+
+-- a frame that was sent spells a message of its sender, which is honest, and whose fields fit into a frame
+pub record SentIsWell (table : List Row) (f : Sent) : Type 0 where
+  pub message : Message
+  pub spelled : message_of f.bytes ≡ Ok message
+  pub fits : FitsTypes message
+  pub source : source_of message ≡ f.by
+  pub honest : HonestMessage table (Ok message)
+
+-- two motes are neighbours
+pub record LinkFits (motes : ℕ) (l : ℕ × ℕ) : Type 0 where
+  pub first : l.0 < motes
+  pub second : l.1 < motes
+  pub two : l.0 ≢ l.1
+
+-- Every chip, every mote that is on and every frame that was sent agrees with the table, and what is declared is the table's.
 pub record WorldAgrees (w : World) : Type 0 where
+  pub few : length w.sites ≤ most_motes
   pub table : IsTable w.table
   pub rows : AllByRecursion IsDeclared w.declared
   pub same : (image version : ℕ) (row declared : Row) → row_at w.table image version ≡ Some row → row_at w.declared image version ≡ Some declared → row ≡ declared
-  pub stores : (m : ℕ) → m < length w.sites → Agrees w.table (store_at w m) × (length (store_at w m).kept ≡ images)
+  pub links : AllByRecursion (LinkFits (length w.sites)) w.links
+  pub sites : (m : ℕ) → m < length w.sites → SiteIsWell w.table m w.moment (site w m)
+  pub sent : AllByRecursion (SentIsWell w.table) w.sent
 
--- The motes that are on were started no later than now.
+-- the moments of the motes that are on are not later than the world's
 abbrev pub WorldTimely : World → Type 0
-WorldTimely w = (m : ℕ) → m < length w.sites → IfSome (site w m).runs (λ r. r.since ≤ w.moment)
+WorldTimely w = (m : ℕ) → m < length w.sites → IfSome (site w m).runs (λ r. Timely r.mote w.moment)
 
--- A row may be declared unless its key is in the table with another content and not declared. One whose key is declared
--- with another content may be declared too, and is refused.
+-- a frame that is brought from outside is honest by the table before it
+abbrev pub HonestEvent : List Row → Event → Type 0
+HonestEvent table (Frame mote dt word bytes) = IsHonest table bytes
+HonestEvent table event = Unit {0}
+
+-- A row that may be declared: where its key is in the table and not declared yet, it is the table's row. One whose key is
+-- declared with another content may be declared too, and is refused
 pub record MayDeclare (w : World) (row : Row) : Type 0 where
   pub row_fits : IsDeclared row
   pub same : row_at w.declared row.image row.version ≡ None → (kept : Row) → row_at w.table row.image row.version ≡ Some kept → kept ≡ row
 
--- what is played is in its ranges
+-- what is played is in its ranges, and honest
 abbrev pub ItemFits : Item → World → Type 0
 ItemFits (Declares row) w = MayDeclare w row
-ItemFits (Happens step) w = StepFits (length w.sites) step
+ItemFits (Happens step loud) w = StepFits (length w.sites) step × HonestEvent w.table step.event
 
 abbrev pub PlayedFits : Played → Type 0
 PlayedFits p = ItemFits p.item p.before
@@ -52,15 +94,18 @@ PlayedFits p = ItemFits p.item p.before
 -- the same where nothing is said of the world: of a script with so many motes
 abbrev pub ItemInRange : ℕ → Item → Type 0
 ItemInRange motes (Declares row) = IsDeclared row
-ItemInRange motes (Happens step) = StepFits motes step
+ItemInRange motes (Happens step loud) = StepFits motes step
 
 abbrev pub IsInRange : ℕ → Played → Type 0
 IsInRange motes p = ItemInRange motes p.item
 
--- each store that an event goes through agrees with the table that the event leaves
-abbrev pub KeepsAgreement : Does → Type 0
-KeepsAgreement (Refuses why) = Unit {0}
-KeepsAgreement (Goes d) = Through (Agrees d.table) d.trail
+-- a frame from outside is honest by the table of that moment
+abbrev pub HonestItem : Item → World → Type 0
+HonestItem (Declares row) w = Unit {0}
+HonestItem (Happens step loud) w = HonestEvent w.table step.event
+
+abbrev pub IsHonestThen : Played → Type 0
+IsHonestThen p = HonestItem p.item p.before
 
 abbrev pub LeavesAgreement : Played → Type 0
 LeavesAgreement p = WorldAgrees p.after

@@ -1,15 +1,22 @@
 -- What holds of each item of a run: it is legal, what is kept stays, and what starts is one row of the table, byte for byte.
-use Rattle.std.specs.Prelude.{◌≡◌, ◌⊎◌, ℕ, ◌<◌, ◌≤◌, true, List, length, Option, Some, None, IfSome}
+use Rattle.std.specs.Prelude.{◌≡◌, ◌⊎◌, ℕ, ◌<◌, ◌≤◌, true, List, length, Option, Some, None, IfSome, Ok}
 use Rattle.dg_object.specs.Object.{Row, object}
 use Rattle.dg_base.specs.Crc.{crc_of}
+use Rattle.dg_control.specs.declared.snapshot.Order.{Order}
+use Rattle.dg_frame.specs.Grammar.{message_of}
+use Rattle.dg_frame.specs.declared.Entry.{Entry}
+use Rattle.dg_frame.specs.declared.Message.TheVariants.{Advert}
+use Rattle.dg_mote.specs.Summary.{entry_for}
 use Rattle.dg_volume.specs.Start.{Runs, runs_length, runs_crc}
 use Rattle.dg_volume.specs.Table.{row_at}
 use Rattle.dg_rules.specs.World.{World}
 use Rattle.dg_rules.specs.Events.{Does, Refuses, Goes, does, mote_of}
 use Rattle.dg_rules.specs.Steps.{blows}
 use Rattle.dg_rules.specs.Small.{Holding, small, mote_in, holds}
-use Rattle.dg_rules.specs.Legal.{LegalStep}
-use Rattle.dg_rules.specs.Runs.{Item, Declares, Happens, Played}
+use Rattle.dg_rules.specs.Legal.{Past, LegalStep}
+use Rattle.dg_rules.specs.Past.{brought, past_of}
+use Rattle.dg_script.specs.Items.{Item, Declares, Happens}
+use Rattle.dg_rules.specs.Runs.{Played}
 use Rattle.dg_base.specs.declared.events.Event.{Event}
 use Rattle.dg_base.specs.declared.events.Event.TheVariants.{Tick, Hear, Last, Reset, Inject, Order as OrderEvent, Frame}
 use Rattle.dg_base.specs.declared.events.Step.{Step}
@@ -17,17 +24,18 @@ use Rattle.dg_base.specs.declared.events.Step.{Step}
 -- ---- legality
 
 -- a refused event changes nothing
-abbrev pub LegalDoes : Does → World → Step → World → Type 0
-LegalDoes (Refuses why) w x v = small v ≡ small w
-LegalDoes (Goes d) w x v = LegalStep w.declared (blows x.cut d.trail) x.event (mote_of x.event) (small w) (small v)
+abbrev pub LegalDoes : Does → Past → World → Step → World → Type 0
+LegalDoes (Refuses why) past w x v = small v ≡ small w
+LegalDoes (Goes d) past w x v =
+    LegalStep past w.declared (blows x.cut d.trail) (brought w x.event) x.event (mote_of x.event) (small w) (small v)
 
-abbrev pub LegalItem : Item → World → World → Type 0
-LegalItem (Declares row) w v = small v ≡ small w
-LegalItem (Happens step) w v = LegalDoes (does w step.event) w step v
+abbrev pub LegalItem : Item → Past → World → World → Type 0
+LegalItem (Declares row) past w v = small v ≡ small w
+LegalItem (Happens step loud) past w v = LegalDoes (does w step.event) past w step v
 
--- What was played is legal after what was played before it, the newest first. No event of today looks back.
+-- what was played is legal after what was played before it, the newest first
 abbrev pub IsLegal : List Played → Played → Type 0
-IsLegal past p = LegalItem p.item p.before p.after
+IsLegal past p = LegalItem p.item (past_of past) p.before p.after
 
 -- ---- what is kept stays
 
@@ -36,15 +44,22 @@ abbrev pub IsKeptIn : Option Holding → Holding → Type 0
 IsKeptIn None h = ⊥
 IsKeptIn (Some k) h = (h.version < k.version) ⊎ ((h.version ≡ k.version) × (h.pages ≤ k.pages))
 
--- an injection brings a newer version of the image
-abbrev pub Replaces : Event → ℕ → Holding → Type 0
-Replaces (Inject m image version dt word) i h = (image ≡ i) × (h.version < version)
-Replaces (Tick m dt word) i h = ⊥
-Replaces (Hear m dt word frame) i h = ⊥
-Replaces (Last from to dt word) i h = ⊥
-Replaces (Frame m dt word bytes) i h = ⊥
-Replaces (Reset m dt word) i h = ⊥
-Replaces (OrderEvent m number image version dt word) i h = ⊥
+-- a frame that names a newer version of the image, with at least one page
+abbrev pub NamesNewer : Option (List ℕ) → ℕ → Holding → Type 0
+NamesNewer None i h = ⊥
+NamesNewer (Some bytes) i h =
+    (source : ℕ) × (entries : List Entry) × (order : Order) × (message_of bytes ≡ Ok (Advert source entries order))
+    × (1 ≤ (entry_for entries i).have) × (h.version < (entry_for entries i).version)
+
+-- an injection brings a newer version of the image, or an advert that is heard names one
+abbrev pub Replaces : World → Event → ℕ → Holding → Type 0
+Replaces w (Inject m image version dt word) i h = (image ≡ i) × (h.version < version)
+Replaces w (Hear m dt word frame) i h = NamesNewer (brought w (Hear m dt word frame)) i h
+Replaces w (Last from to dt word) i h = NamesNewer (brought w (Last from to dt word)) i h
+Replaces w (Frame m dt word bytes) i h = NamesNewer (Some bytes) i h
+Replaces w (Tick m dt word) i h = ⊥
+Replaces w (Reset m dt word) i h = ⊥
+Replaces w (OrderEvent m number image version dt word) i h = ⊥
 
 -- the cut of the step blew
 abbrev pub IsBlown : Does → Step → Type 0
@@ -55,13 +70,13 @@ IsBlown (Goes d) x = blows x.cut d.trail ≡ true
 pub record IsReplacing (w : World) (x : Step) (m i : ℕ) (h : Holding) (new : Option Holding) : Type 0 where
   pub none : new ≡ None
   pub at : m ≡ mote_of x.event
-  pub newer : Replaces x.event i h
+  pub newer : Replaces w x.event i h
   pub cut : IsBlown (does w x.event) x
 
 -- No version falls, and a complete page stays unless a newer version of its image replaces it, which a cut may have left half done.
 abbrev pub KeepsItem : Item → World → World → Type 0
 KeepsItem (Declares row) w v = (m i : ℕ) (h : Holding) → holds (mote_in (small w) m) i ≡ Some h → IsKeptIn (holds (mote_in (small v) m) i) h
-KeepsItem (Happens step) w v = (m i : ℕ) (h : Holding) → holds (mote_in (small w) m) i ≡ Some h
+KeepsItem (Happens step loud) w v = (m i : ℕ) (h : Holding) → holds (mote_in (small w) m) i ≡ Some h
     → IsKeptIn (holds (mote_in (small v) m) i) h ⊎ IsReplacing w step m i h (holds (mote_in (small v) m) i)
 
 abbrev pub KeepsAll : Played → Type 0
@@ -87,7 +102,7 @@ StartsDoes (Goes d) table = IfSome d.started (RunsRow table)
 
 abbrev pub StartsItem : Item → World → Type 0
 StartsItem (Declares row) w = Unit {0}
-StartsItem (Happens step) w = StartsDoes (does w step.event) w.table
+StartsItem (Happens step loud) w = StartsDoes (does w step.event) w.table
 
 abbrev pub StartsRow : Played → Type 0
 StartsRow p = StartsItem p.item p.before

@@ -1,15 +1,11 @@
--- Runs: items that follow one another, and what holds of each with those before it.
+-- Runs: steps that follow one another, and what holds of each with those before it.
 use Rattle.std.specs.Prelude.{◌≡◌, List, [], ◌∷◌}
-use Rattle.dg_object.specs.Object.{Row}
+use Rattle.std.specs.List.{filter}
 use Rattle.dg_rules.specs.World.{World}
+use Rattle.dg_rules.specs.Changes.{is_told}
 use Rattle.dg_rules.specs.Steps.{WorldStep, DeclareStep}
-use Rattle.dg_base.specs.declared.events.Step.{Step}
+use Rattle.dg_script.specs.Items.{Item, Declares, Happens}
 use Rattle.dg_script.specs.declared.report.Report.{Report}
-
--- what a run is made of: a row is declared, or an event is stepped
-pub data Item : Type 0 where
-  Declares : (row : Row) → Item
-  Happens : (step : Step) → Item
 
 pub record Played : Type 0 where
   pub item : Item
@@ -20,7 +16,7 @@ pub record Played : Type 0 where
 -- what an item makes of a world, and the lines that are reported of it
 abbrev pub ItemStep : World → Item → World → List Report → Type 0
 ItemStep w (Declares row) v reports = DeclareStep w row v reports
-ItemStep w (Happens step) v reports = WorldStep w step v reports
+ItemStep w (Happens step loud) v reports = (all : List Report) × WorldStep w step v all × (reports ≡ filter (is_told loud) all)
 
 unfoldable pub Plays : World → List Played → World → Type 0
 Plays w [] v = w ≡ v

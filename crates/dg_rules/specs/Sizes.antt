@@ -12,7 +12,3 @@ most_events = 1000000
 -- the bytes of a content that is declared
 abbrev pub most_content : ℕ
 most_content = 1048576
-
--- a start that ran so many milliseconds is no short one
-abbrev pub short_start : ℕ
-short_start = 5000

@@ -4,8 +4,10 @@ use Rattle.dg_nor.specs.Trail.{Trail, operations, last, Leaves}
 use Rattle.dg_object.specs.Object.{Row}
 use Rattle.dg_volume.specs.Store.{Store, IsNear}
 use Rattle.dg_volume.specs.Table.{row_at}
+use Rattle.dg_frame.specs.declared.Message.{Message}
+use Rattle.dg_frame.specs.Spelling.{frame_of}
 use Rattle.dg_rules.specs.World.{World, Running, store_at, with_site, counted}
-use Rattle.dg_rules.specs.Changes.{changes, start_line, declared_lines}
+use Rattle.dg_rules.specs.Changes.{changes, start_line, sent_line, declared_lines}
 use Rattle.dg_rules.specs.Events.{Deed, Does, Refuses, Goes, does, mote_of, dt_of}
 use Rattle.dg_base.specs.declared.events.Cut.{Cut}
 use Rattle.dg_base.specs.declared.events.Step.{Step}
@@ -22,17 +24,22 @@ abbrev pub before_cut : Option Cut → ℕ
 before_cut None = 0
 before_cut (Some cut) = cut.after - 1
 
+-- a frame that was sent gets the next number
+abbrev pub and_sent : World → ℕ → Option Message → World
+and_sent w m None = w
+and_sent w m (Some message) = record w { sent = w.sent ++ record { by = m; bytes = frame_of message } ∷ [] }
+
 -- the world after an event at mote m that was not stopped
 abbrev pub done_world : World → (m dt : ℕ) → Deed → Option Running → World
 done_world w m dt d runs =
-    with_site (record (counted w dt) { table = d.table }) m (record { store = last d.trail; runs = runs })
+    and_sent (with_site (record (counted w dt) { table = d.table }) m (record { store = last d.trail; runs = runs })) m d.sent
 
--- the world after one whose cut left store s: the mote is off
+-- the world after one whose cut left store s: the mote is off, and nothing was sent
 abbrev pub cut_world : World → (m dt : ℕ) → Deed → Store → World
 cut_world w m dt d s = with_site (record (counted w dt) { table = d.table }) m (record { store = s; runs = None })
 
 abbrev pub done_reports : World → ℕ → Deed → List Report
-done_reports w m d = changes m (store_at w m) (last d.trail) ++ start_line m d.started
+done_reports w m d = changes m (store_at w m) (last d.trail) ++ start_line m d.started ++ sent_line m d.sent
 
 -- the event was not stopped: what comes is a function of the world and the event
 abbrev pub IsDone : World → (m dt : ℕ) → Deed → World → List Report → Type 0

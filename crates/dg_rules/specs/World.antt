@@ -1,33 +1,45 @@
--- A world: its motes with their chips, and the images.
-use Rattle.std.specs.Prelude.{ℕ, ◌+◌, List, [], map, slice_index_or, slice_set, Option, None}
+-- A world: its motes with their chips, the images, the links, and the frames that were sent.
+use Rattle.std.specs.Prelude.{ℕ, ◌+◌, ◌-◌, ◌==◌, ◌&&◌, ◌||◌, nat_le, Bool, if◌then◌else◌, List, [], ◌∷◌, map, slice_get, slice_index_or, slice_set, Option, Some, None}
+use Rattle.std.specs.List.{list_any}
 use Rattle.dg_object.specs.Object.{Row}
 use Rattle.dg_volume.specs.Store.{Store, fresh}
+use Rattle.dg_mote.specs.Model.{MoteState}
 use Rattle.dg_base.specs.declared.events.Key.{Key}
 
--- a mote that is on: what it runs, and the moment of its start
+-- a mote that is on: what it runs, and its state
 pub record Running : Type 0 where
   pub key : Key
-  pub since : ℕ
+  pub mote : MoteState
 
 -- what the chip of a mote stands for, and the mote, None where it is off
 pub record Site : Type 0 where
   pub store : Store
   pub runs : Option Running
 
--- The moment in milliseconds, the number of events, the rows that were declared, the table of images, and the motes.
+-- a frame that was sent, and by which mote
+pub record Sent : Type 0 where
+  pub by : ℕ
+  pub bytes : List ℕ
+
+-- The moment in milliseconds, the number of events, the rows that were declared, the table of images, which motes are
+-- neighbours, the frames that were sent, and the motes.
 pub record World : Type 0 where
   pub moment : ℕ
   pub events : ℕ
   pub declared : List Row
   pub table : List Row
+  pub links : List (ℕ × ℕ)
+  -- the first one has number 1
+  pub sent : List Sent
   pub sites : List Site
 
 abbrev pub off_site : Store → Site
 off_site s = record { store = s; runs = None }
 
--- the world in which a run begins: all motes are off
-abbrev pub first_world : List Row → List Store → World
-first_world table stores = record { moment = 0; events = 0; declared = []; table = table; sites = map off_site stores }
+-- the world in which a run begins: all motes are off, and nothing was sent
+abbrev pub first_world : List Row → List (ℕ × ℕ) → List Store → World
+first_world table links stores =
+    record { moment = 0; events = 0; declared = []; table = table; links = links; sent = []; sites = map off_site stores }
 
 -- a chip that no mote has: the answer for a number that is no mote
 abbrev pub no_site : Site
@@ -45,3 +57,17 @@ with_site w m x = record w { sites = slice_set w.sites m x }
 -- an event comes: the moment grows, and it is counted
 abbrev pub counted : World → ℕ → World
 counted w dt = record w { moment = w.moment + dt; events = w.events + 1 }
+
+abbrev pub linked : World → ℕ → ℕ → Bool
+linked w a b = list_any (λ l. ((l.0 == a) && (l.1 == b)) || ((l.0 == b) && (l.1 == a))) w.links
+
+abbrev pub frame_at : World → ℕ → Option Sent
+frame_at w number = if nat_le 1 number then slice_get w.sent (number - 1) else None
+
+abbrev pub last_by : ℕ → List Sent → Option Sent → Option Sent
+last_by m [] found = found
+last_by m (s ∷ ss) found = last_by m ss (if s.by == m then Some s else found)
+
+-- the frame that a mote sent last
+abbrev pub last_frame : World → ℕ → Option Sent
+last_frame w m = last_by m w.sent None

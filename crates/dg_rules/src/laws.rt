@@ -12,28 +12,39 @@ ghost use Rattle.dg_rules.specs.Events.{does};
 ghost use Rattle.dg_rules.specs.Runs.{Played, Plays, EachAfter};
 ghost use Rattle.dg_rules.specs.Promises.{IsLegal, KeepsAll, GoldenStays, StartsDoes, StartsRow};
 ghost use Rattle.dg_rules.specs.Ranges.{EventFits, StepFits};
-ghost use Rattle.dg_rules.specs.Premises.{WorldAgrees, WorldTimely, MayDeclare, PlayedFits, KeepsAgreement, LeavesAgreement, AllOff};
+ghost use Rattle.dg_rules.specs.Premises.{WorldAgrees, WorldTimely, HonestEvent, IsHonestThen, MayDeclare, PlayedFits, LeavesAgreement, AllOff};
 ghost use Rattle.dg_rules.specs.Golden.{WorldKeepsGolden, FindsImage, PlaysGolden};
 ghost use Rattle.dg_base.specs.declared.events.Event.{Event};
 ghost use Rattle.dg_base.specs.declared.events.Step.{Step};
 ghost use Rattle.dg_script.specs.declared.report.Report.{Report};
 
-use dg_volume::{a_whole_image_is_sound, trails_keep_agreement};
+use dg_frame::one_spelling;
+use dg_mote::{
+    a_frame_is_heard_in_silence, a_mote_stays_timely, a_mote_stays_well,
+    a_restart_is_for_the_order, packets_come_in_frames, what_a_mote_may_change,
+    what_is_sent_is_read,
+};
+use dg_volume::{a_start_ends, a_whole_image_is_sound, trails_keep_agreement};
 
 /// A store that a cut leaves on a trail of agreeing stores agrees.
 pub fn what_a_cut_leaves_agrees()
     ensures { (table : List Row) (t : Trail Store) (k : ℕ) (s : Store) → Through (Agrees table) t → Leaves IsNear t k s → Agrees table s }
 {}
 
-/// A world that agrees with its table still does after a step, also a cut one, and after a declaration: each store that
-/// an event goes through agrees. And no mote that is on was started later than now.
+/// A world that agrees with its table still does after a step, also a cut one, where a frame from outside is honest, and
+/// after a declaration. And no moment of a mote that is on is later than the world's, whatever frames come.
 pub fn agreement_is_kept()
-    ensures stepped { (w v : World) (x : Step) (reports : List Report) → WorldAgrees w → StepFits (length w.sites) x → WorldStep w x v reports → WorldAgrees v }
+    ensures stepped { (w v : World) (x : Step) (reports : List Report) → WorldAgrees w → StepFits (length w.sites) x → HonestEvent w.table x.event → WorldStep w x v reports → WorldAgrees v }
     ensures declared { (w v : World) (row : Row) (reports : List Report) → WorldAgrees w → MayDeclare w row → DeclareStep w row v reports → WorldAgrees v }
-    ensures through { (w : World) (e : Event) → WorldAgrees w → EventFits (length w.sites) e → KeepsAgreement (does w e) }
     ensures timely { (w v : World) (x : Step) (reports : List Report) → WorldTimely w → StepFits (length w.sites) x → WorldStep w x v reports → WorldTimely v }
 {
     trails_keep_agreement();
+    a_start_ends();
+    a_mote_stays_well();
+    a_mote_stays_timely();
+    what_is_sent_is_read();
+    a_restart_is_for_the_order();
+    one_spelling();
 }
 
 /// What an event starts is a row of the table, whose length and CRC are told.
@@ -41,16 +52,22 @@ pub fn what_starts_is_a_row()
     ensures { (w : World) (e : Event) → WorldAgrees w → EventFits (length w.sites) e → StartsDoes (does w e) w.table }
 {
     a_whole_image_is_sound();
+    a_restart_is_for_the_order();
 }
 
 /// Where every mote keeps golden whole, each still does after a step, also a cut one, and no event finds that there is no
-/// image to start, so that none ends the run. Whether anything agrees with a table is no matter.
+/// image to start, so that none ends the run. Whether anything agrees with a table, or a frame is honest, is no matter.
 pub fn golden_is_found()
     ensures stepped { (w v : World) (x : Step) (reports : List Report) → WorldKeepsGolden w → StepFits (length w.sites) x → WorldStep w x v reports → WorldKeepsGolden v }
     ensures found { (w : World) (e : Event) → WorldKeepsGolden w → EventFits (length w.sites) e → FindsImage (does w e) }
     ensures goes_on { (w v : World) (x : Step) → WorldKeepsGolden w → StepFits (length w.sites) x → EndsRun w x v → ⊥ }
 {
+    a_start_ends();
     a_whole_image_is_sound();
+    what_a_mote_may_change();
+    packets_come_in_frames();
+    a_frame_is_heard_in_silence();
+    a_restart_is_for_the_order();
 }
 
 /// In a run from a world that agrees with its table and in which no mote is on, each step is legal after those before
@@ -61,8 +78,15 @@ pub fn every_step_is_legal()
     ensures starts { (w v : World) (played : List Played) → WorldAgrees w → AllOff w → Plays w played v → AllByRecursion PlayedFits played → AllByRecursion StartsRow played }
     ensures keeps { (w v : World) (played : List Played) → WorldAgrees w → AllOff w → Plays w played v → AllByRecursion PlayedFits played → AllByRecursion KeepsAll played }
 {
-    trails_keep_agreement();
+    agreement_is_kept();
+    what_starts_is_a_row();
+    versions_do_not_fall();
+    a_start_ends();
     a_whole_image_is_sound();
+    what_a_mote_may_change();
+    packets_come_in_frames();
+    a_frame_is_heard_in_silence();
+    a_restart_is_for_the_order();
 }
 
 /// What is legal lets no version fall, and no complete page be lost, but to a newer version. Golden stays as it is.
@@ -71,15 +95,22 @@ pub fn versions_do_not_fall()
     ensures golden { (past : List Played) (p : Played) → IsLegal past p → GoldenStays p }
 {}
 
-/// A script with golden, over freshly formatted chips: whatever is played of it, each step is legal, versions do not
-/// fall, what starts is a row of the table, the chips agree with the table, and the next event finds an image to start.
+/// A script with golden, over freshly formatted chips. Whatever is played of it, the next event finds an image to start.
+/// Where each frame from outside is honest by the table of its moment, each step is legal, versions do not fall, what
+/// starts is a row of the table, and the chips, the motes that are on and the frames that were sent agree with the table.
 pub fn scripts_with_golden()
-    ensures legal { (name bytes : List ℕ) (used motes : ℕ) (played : List Played) (v : World) → PlaysGolden name bytes used motes played v → EachAfter IsLegal [] played }
-    ensures keeps { (name bytes : List ℕ) (used motes : ℕ) (played : List Played) (v : World) → PlaysGolden name bytes used motes played v → AllByRecursion KeepsAll played }
-    ensures starts { (name bytes : List ℕ) (used motes : ℕ) (played : List Played) (v : World) → PlaysGolden name bytes used motes played v → AllByRecursion StartsRow played }
-    ensures agrees { (name bytes : List ℕ) (used motes : ℕ) (played : List Played) (v : World) → PlaysGolden name bytes used motes played v → AllByRecursion LeavesAgreement played × WorldAgrees v }
-    ensures found { (name bytes : List ℕ) (used motes : ℕ) (played : List Played) (v : World) (e : Event) → PlaysGolden name bytes used motes played v → EventFits motes e → FindsImage (does v e) }
+    ensures legal { (name bytes : List ℕ) (used motes : ℕ) (links : List (ℕ × ℕ)) (played : List Played) (v : World) → PlaysGolden name bytes used motes links played v
+        → AllByRecursion IsHonestThen played → EachAfter IsLegal [] played }
+    ensures keeps { (name bytes : List ℕ) (used motes : ℕ) (links : List (ℕ × ℕ)) (played : List Played) (v : World) → PlaysGolden name bytes used motes links played v
+        → AllByRecursion IsHonestThen played → AllByRecursion KeepsAll played }
+    ensures starts { (name bytes : List ℕ) (used motes : ℕ) (links : List (ℕ × ℕ)) (played : List Played) (v : World) → PlaysGolden name bytes used motes links played v
+        → AllByRecursion IsHonestThen played → AllByRecursion StartsRow played }
+    ensures agrees { (name bytes : List ℕ) (used motes : ℕ) (links : List (ℕ × ℕ)) (played : List Played) (v : World) → PlaysGolden name bytes used motes links played v
+        → AllByRecursion IsHonestThen played → AllByRecursion LeavesAgreement played × WorldAgrees v }
+    ensures found { (name bytes : List ℕ) (used motes : ℕ) (links : List (ℕ × ℕ)) (played : List Played) (v : World) (e : Event) → PlaysGolden name bytes used motes links played v
+        → EventFits motes e → FindsImage (does v e) }
 {
-    trails_keep_agreement();
-    a_whole_image_is_sound();
+    every_step_is_legal();
+    golden_is_found();
+    a_restart_is_for_the_order();
 }

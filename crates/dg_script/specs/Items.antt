@@ -8,17 +8,17 @@ use Rattle.dg_rounds.specs.Rounds.{times, round, sweep}
 use Rattle.dg_script.specs.Fitting.{declared_row}
 use Rattle.dg_script.specs.Places.{first_place, place_after}
 use Rattle.dg_script.specs.declared.line.Line.{Line}
-use Rattle.dg_script.specs.declared.line.Line.TheVariants.{Nothing, Motes, Golden, Boards, Link, Image, Cut, Happens, Round, Sweeps}
+use Rattle.dg_script.specs.declared.line.Line.TheVariants.{Nothing, Motes, Golden, Boards, Link, Image, Cut, Happens as HappensLine, Round, Sweeps}
 use Rattle.dg_script.specs.declared.place.Place.{Place}
 
--- A row is declared, or an event is played. It is quiet where a round or a sweep gave it: then it tells of no frame that it sent.
+-- A row is declared, or an event happens. It is quiet where a round or a sweep gave it: then it tells of no frame that it sent.
 pub data Item : Type 0 where
-  Declares : Row → Item
-  Plays : (step : Step) → (loud : Bool) → Item
+  Declares : (row : Row) → Item
+  Happens : (step : Step) → (loud : Bool) → Item
 
 -- the items of events that a round or a sweep gives
 abbrev pub quietly : List Event → List Item
-quietly events = map (λ e. Plays (record { event = e; cut = None }) false) events
+quietly events = map (λ e. Happens (record { event = e; cut = None }) false) events
 
 -- the cut that waits behind a line
 abbrev pub cut_by : Option CutOfPower → Line → Option CutOfPower
@@ -29,7 +29,7 @@ cut_by cut Boards = cut
 cut_by cut (Link a b) = cut
 cut_by cut (Image image version name content) = cut
 cut_by cut (Cut c) = Some c
-cut_by cut (Happens event) = None
+cut_by cut (HappensLine event) = None
 cut_by cut (Round a b) = cut
 cut_by cut (Sweeps n) = cut
 
@@ -42,7 +42,7 @@ item_by place cut Boards = []
 item_by place cut (Link a b) = []
 item_by place cut (Image image version name content) = Declares (declared_row image version name content) ∷ []
 item_by place cut (Cut c) = []
-item_by place cut (Happens event) = Plays (record { event = event; cut = cut }) true ∷ []
+item_by place cut (HappensLine event) = Happens (record { event = event; cut = cut }) true ∷ []
 item_by place cut (Round a b) = quietly (round a b)
 item_by place cut (Sweeps n) = quietly (times n (sweep place.links))
 

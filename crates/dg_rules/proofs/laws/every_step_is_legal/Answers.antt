@@ -1,22 +1,31 @@
-use Rattle.dg_rules.proofs.PromiseLemmas.{run_legal, run_agrees, run_starts, run_keeps}
+use Rattle.dg_rules.proofs.ChangesLemmas.{StepLaws}
+use Rattle.dg_rules.proofs.SoundLemmas.{RunLaws, run_legal, run_agrees, run_starts, run_keeps}
 use Rattle.dg_rules.proofs.laws.every_step_is_legal.Goals as goal
 
-pub returns-clause-legal : goal.returns-clause-legal
-returns-clause-legal c w v played agrees off run fits =
-    let known = c.trails_keep_agreement.ensures in
-    run_legal (record { orders = known.order; clears = known.clear; injects = known.inject; boots = known.boot }) c.a_whole_image_is_sound.ensures w v played agrees off run fits
-
-pub returns-clause-agrees : goal.returns-clause-agrees
-returns-clause-agrees c w v played agrees off run fits =
-    let known = c.trails_keep_agreement.ensures in
-    run_agrees (record { orders = known.order; clears = known.clear; injects = known.inject; boots = known.boot }) c.a_whole_image_is_sound.ensures w v played agrees off run fits
-
-pub returns-clause-starts : goal.returns-clause-starts
-returns-clause-starts c w v played agrees off run fits =
-    let known = c.trails_keep_agreement.ensures in
-    run_starts (record { orders = known.order; clears = known.clear; injects = known.inject; boots = known.boot }) c.a_whole_image_is_sound.ensures w v played agrees off run fits
-
-pub returns-clause-keeps : goal.returns-clause-keeps
-returns-clause-keeps c w v played agrees off run fits =
-    let known = c.trails_keep_agreement.ensures in
-    run_keeps (record { orders = known.order; clears = known.clear; injects = known.inject; boots = known.boot }) c.a_whole_image_is_sound.ensures w v played agrees off run fits
+pub returns : goal.returns
+returns c =
+    let restart = c.a_restart_is_for_the_order.ensures in
+    let changes = c.what_a_mote_may_change.ensures in
+    let packets = c.packets_come_in_frames.ensures in
+    let steps : StepLaws = record {
+      restarts = record { exactly = restart.exactly; nothing = restart.nothing };
+      changes = record {
+        ticks = changes.ticked;
+        adverts = changes.advert;
+        requests = changes.request;
+        packets = changes.packet;
+        refusals = c.a_frame_is_heard_in_silence.ensures.unchanged;
+        comes_not = packets.ticked;
+        comes = packets.heard;
+      };
+      ends = c.a_start_ends.ensures;
+      rows = c.a_whole_image_is_sound.ensures;
+    } in
+    let agreement = c.agreement_is_kept.ensures in
+    let laws : RunLaws = record { steps = steps; stepped = agreement.stepped; declared = agreement.declared; starts = c.what_starts_is_a_row.ensures; keeps = c.versions_do_not_fall.ensures.versions } in
+    record {
+      legal = λ w v played agrees off run fits. run_legal laws w v played agrees off run fits;
+      agrees = λ w v played agrees off run fits. run_agrees laws w v played agrees off run fits;
+      starts = λ w v played agrees off run fits. run_starts laws w v played agrees off run fits;
+      keeps = λ w v played agrees off run fits. run_keeps laws w v played agrees off run fits;
+    }

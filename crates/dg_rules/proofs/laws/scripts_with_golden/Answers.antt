@@ -1,27 +1,26 @@
-use Rattle.dg_rules.proofs.PromiseLemmas.{script_legal, script_keeps, script_starts, script_agrees, script_found}
+use Rattle.dg_rules.proofs.EventLemmas.{RestartLaws}
+use Rattle.dg_rules.proofs.ScriptLemmas.{Begins, script_agrees, script_off, script_fits, script_ends, script_found}
 use Rattle.dg_rules.proofs.laws.scripts_with_golden.Goals as goal
 
-pub returns-clause-legal : goal.returns-clause-legal
-returns-clause-legal c name bytes used motes played v script =
-    let known = c.trails_keep_agreement.ensures in
-    script_legal (record { orders = known.order; clears = known.clear; injects = known.inject; boots = known.boot }) c.a_whole_image_is_sound.ensures name bytes used motes played v script
-
-pub returns-clause-keeps : goal.returns-clause-keeps
-returns-clause-keeps c name bytes used motes played v script =
-    let known = c.trails_keep_agreement.ensures in
-    script_keeps (record { orders = known.order; clears = known.clear; injects = known.inject; boots = known.boot }) c.a_whole_image_is_sound.ensures name bytes used motes played v script
-
-pub returns-clause-starts : goal.returns-clause-starts
-returns-clause-starts c name bytes used motes played v script =
-    let known = c.trails_keep_agreement.ensures in
-    script_starts (record { orders = known.order; clears = known.clear; injects = known.inject; boots = known.boot }) c.a_whole_image_is_sound.ensures name bytes used motes played v script
-
-pub returns-clause-agrees : goal.returns-clause-agrees
-returns-clause-agrees c name bytes used motes played v script =
-    let known = c.trails_keep_agreement.ensures in
-    script_agrees (record { orders = known.order; clears = known.clear; injects = known.inject; boots = known.boot }) c.a_whole_image_is_sound.ensures name bytes used motes played v script
-
-pub returns-clause-found : goal.returns-clause-found
-returns-clause-found c name bytes used motes played v e script fits =
-    let known = c.trails_keep_agreement.ensures in
-    script_found (record { orders = known.order; clears = known.clear; injects = known.inject; boots = known.boot }) c.a_whole_image_is_sound.ensures name bytes used motes played v script e fits
+pub returns : goal.returns
+returns c =
+    let restart = c.a_restart_is_for_the_order.ensures in
+    let restarts : RestartLaws = record { exactly = restart.exactly; nothing = restart.nothing } in
+    let every = c.every_step_is_legal.ensures in
+    let golden = c.golden_is_found.ensures in
+    record {
+      legal = λ name bytes used motes links played v script honest.
+          every.legal (Begins name bytes used motes links played v script) v played (script_agrees name bytes used motes links played v script) (script_off name bytes used motes links played v script) script.plays
+          (script_fits name bytes used motes links played v script restarts honest);
+      keeps = λ name bytes used motes links played v script honest.
+          every.keeps (Begins name bytes used motes links played v script) v played (script_agrees name bytes used motes links played v script) (script_off name bytes used motes links played v script) script.plays
+          (script_fits name bytes used motes links played v script restarts honest);
+      starts = λ name bytes used motes links played v script honest.
+          every.starts (Begins name bytes used motes links played v script) v played (script_agrees name bytes used motes links played v script) (script_off name bytes used motes links played v script) script.plays
+          (script_fits name bytes used motes links played v script restarts honest);
+      agrees = λ name bytes used motes links played v script honest.
+          let all = every.agrees (Begins name bytes used motes links played v script) v played (script_agrees name bytes used motes links played v script) (script_off name bytes used motes links played v script) script.plays
+          (script_fits name bytes used motes links played v script restarts honest) in
+          (all, script_ends name bytes used motes links played v script all);
+      found = λ name bytes used motes links played v e script fits. script_found name bytes used motes links played v script restarts golden.stepped golden.found e fits;
+    }

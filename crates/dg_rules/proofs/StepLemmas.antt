@@ -1,0 +1,69 @@
+-- What holds of each site after a step: of the mote of its event, and of those that stay.
+use Rattle.std.proofs.Common.{◌≡◌, ℕ, ◌+◌, ◌<◌, Bool, true, false, List, length, Option, Some, None, refl, sym, ap, subst, ◌∙◌}
+use Rattle.dg_nor.specs.Trail.{last}
+use Rattle.dg_nor.specs.Through.{Through}
+use Rattle.dg_volume.specs.Store.{Store}
+use Rattle.dg_frame.specs.declared.Message.{Message}
+use Rattle.dg_rules.specs.World.{World, Site, Running, site, counted, off_site}
+use Rattle.dg_rules.specs.Events.{Deed, Does, Refuses, Goes, does, mote_of, dt_of}
+use Rattle.dg_rules.specs.Steps.{blows, and_sent, Ended, StepDoes, WorldStep}
+use Rattle.dg_rules.specs.Ranges.{StepFits}
+use Rattle.dg_base.specs.declared.events.Step.{Step}
+use Rattle.dg_script.specs.declared.report.Report.{Report}
+use Rattle.dg_rules.proofs.SiteLemmas.{each_site}
+use Rattle.dg_rules.proofs.EventLemmas.{EndsAs, ended_world, sent_unless, ends_as}
+use Rattle.dg_rules.proofs.AgreementLemmas.{step_within}
+
+-- what holds of the mote of an event, by whether its power was cut
+pub record Lands (P : Bool → Site → Type 0) (d : Deed) : Type 0 where
+  pub whole : (runs : Option Running) → d.runs ≡ Some runs → P false (record { store = last d.trail; runs = runs })
+  pub cut : Through (λ s. P true (off_site s)) d.trail
+
+abbrev pub LandsDoes : (Bool → Site → Type 0) → Does → Type 0
+LandsDoes P (Refuses why) = Unit {0}
+LandsDoes P (Goes d) = Lands P d
+
+-- ---- a frame more changes no site
+
+pub sent_sites : (T : ℕ → Site → Type 0) (u : World) (m : ℕ) (o : Option Message) → ((j : ℕ) → j < length u.sites → T j (site u j)) → (j : ℕ) → j < length (and_sent u m o).sites → T j (site (and_sent u m o) j)
+sent_sites T u m None all = all
+sent_sites T u m (Some message) all = all
+
+sent_moment : (u : World) (m : ℕ) (o : Option Message) → (and_sent u m o).moment ≡ u.moment
+sent_moment u m None = refl
+sent_moment u m (Some message) = refl
+
+-- ---- a step
+
+module _ (w : World) (x : Step) (v : World) (reports : List Report) (fits : StepFits (length w.sites) x) where
+  -- P holds where the event is, T of each site then
+  module _ (P : Bool → Site → Type 0) (T : ℕ → Site → Type 0)
+      (closed : (s : Store) (room : ℕ) → P true (off_site s) → P true (off_site (record s { room = room })))
+      (there : (b : Bool) (y : Site) → P b y → T (mote_of x.event) y)
+      (stays : (j : ℕ) → j < length w.sites → T j (site w j)) where
+    sites_by : (D : Does) → LandsDoes P D → StepDoes D w x v reports → (j : ℕ) → j < length v.sites → T j (site v j)
+    sites_by (Refuses why) lands did = subst (λ (u : World). (j : ℕ) → j < length u.sites → T j (site u j)) (sym did.0) stays
+    sites_by (Goes d) lands did =
+        let b = blows x.cut d.trail in
+        let mid : World = record (counted w (dt_of x.event)) { table = d.table } in
+        let end : EndsAs P b w x d v = ends_as P closed w x d v reports lands.whole lands.cut b did in
+        subst (λ (u : World). (j : ℕ) → j < length u.sites → T j (site u j)) (sym end.1)
+        (sent_sites T (ended_world w x d end.0) (mote_of x.event) (sent_unless b d)
+        (each_site T mid (mote_of x.event) end.0 (step_within w x fits) (there b end.0 end.2) (λ j low _. stays j low)))
+
+    pub step_sites : LandsDoes P (does w x.event) → WorldStep w x v reports → (j : ℕ) → j < length v.sites → T j (site v j)
+    unfolding WorldStep
+    step_sites lands did = sites_by (does w x.event) lands did
+
+  moment_by : (D : Does) → StepDoes D w x v reports → v.moment ≡ w.moment + dt_of x.event
+  moment_by (Refuses why) did = ap (λ (u : World). u.moment) did.0
+  moment_by (Goes d) did = ended (blows x.cut d.trail) did
+    where
+      ended : (b : Bool) → Ended b w x d v reports → v.moment ≡ w.moment + dt_of x.event
+      ended true e = ap (λ (u : World). u.moment) e.world
+      ended false e = ap (λ (u : World). u.moment) e.2 ∙ sent_moment (ended_world w x d (record { store = last d.trail; runs = e.0 })) (mote_of x.event) d.sent
+
+  -- the moment is later
+  pub step_moment : WorldStep w x v reports → v.moment ≡ w.moment + dt_of x.event
+  unfolding WorldStep
+  step_moment did = moment_by (does w x.event) did
