@@ -1,5 +1,6 @@
 -- What is known of a replay behind each kind of line.
 use Rattle.std.proofs.Common.{◌≡◌, ℕ, ◌+◌, ◌-◌, ◌<◌, ◌≤◌, Bool, true, false, if◌then◌else◌, List, [], ◌∷◌, length, replicate, get_or, refl, append-nil, ap, sym, ◌∙◌, subst, arith, eqb-true}
+use Rattle.std.specs.List.{filter}
 use Rattle.std.specs.Prelude.{Option, Some, None, Result, Ok, Err, OnOk, IfSome, nat_lt, slice_get, slice_index_or}
 use Rattle.std.proofs.lemmas.Bool.Decides.{nat_tests}
 use Rattle.std.proofs.lemmas.List.{length-map, length-replicate, get_or-replicate}
@@ -15,28 +16,27 @@ use Rattle.dg_base.specs.declared.events.Event.TheVariants.{Tick, Hear, Last, Re
 use Rattle.dg_base.specs.declared.events.Cut.{Cut as CutOfPower}
 use Rattle.dg_script.specs.declared.place.Place.{Place}
 use Rattle.dg_script.specs.declared.line.Line.{Line}
-use Rattle.dg_script.specs.declared.line.Line.TheVariants.{Nothing, Motes, Golden, Image, Cut, Happens}
+use Rattle.dg_script.specs.declared.line.Line.TheVariants.{Nothing, Motes, Golden, Link, Image, Cut, Happens}
 use Rattle.dg_script.specs.declared.report.Report.{Report}
 use Rattle.dg_rules.specs.Sizes.{most_motes}
 use Rattle.dg_rules.specs.World.{World, Site, first_world, off_site, no_site}
 use Rattle.dg_rules.specs.Events.{mote_of}
 use Rattle.dg_rules.specs.Steps.{EndsRun}
-use Rattle.dg_rules.specs.Runs.{Item}
-use Rattle.dg_rules.specs.Runs as runs
+use Rattle.dg_rules.specs.Changes.{is_told}
 use Rattle.dg_world.specs.Worlds.{IsWorld}
 use Rattle.dg_world.specs.Applied.{OneBoard, FlashAt}
 use Rattle.dg_world.specs.Formatted.{FirstBoards, FormatStops}
 use Rattle.dg_world.specs.declared.world.World.{World as KeptWorld}
 use Rattle.dg_world.specs.declared.format.FormatStopped.{FormatStopped}
-use Rattle.dg_script.specs.Items.{cut_behind}
-use Rattle.dg_cli.specs.Items.{motes_in, golden_world}
+use Rattle.dg_script.specs.Items.{Declares, Happens as Happened, cut_behind}
+use Rattle.dg_cli.specs.Items.{motes_in, golden_world, with_link}
 use Rattle.dg_cli.specs.Boards.{BoardsEndure, WorldStands, StoppedIn}
 use Rattle.dg_cli.specs.Ending.{events_in}
-use Rattle.dg_cli.specs.Playing.{Counted, Seated, InWorld, Passed, Stood, PlayedLine, LacksBoards, DeclaredNow, DeclaredAs, HappenedAs, PlayedAs}
+use Rattle.dg_cli.specs.Playing.{Counted, Seated, InWorld, Passed, Stood, PlayedLine, LacksBoards, LinkedAs, DeclaredNow, DeclaredAs, HappenedAs, PlayedAs}
 use Rattle.dg_cli.specs.declared.player.Player.{Player}
 use Rattle.dg_cli.specs.declared.stop.Stop.{Stop}
 use Rattle.dg_cli.specs.declared.stop.Stop.TheVariants.{Memory, BadInput, WriteFault, FlashFault, TooMany, NoBoard, NoImage}
-use Rattle.dg_cli.proofs.PlayLemmas.{unplayed, false_not, event_at, no_world, in_world_as, seated_as, stood_next, silent_runs, one_runs, golden_runs, declared_same, step_counts}
+use Rattle.dg_cli.proofs.PlayLemmas.{false_not, event_at, no_world, in_world_as, seated_as, stood_next, silent_runs, one_runs, golden_runs, link_runs, declared_same, step_counts}
 use Rattle.dg_cli.proofs.BoardLemmas.{boards_through, caused_through, there}
 
 some_is : {A : Type 0} (x y : A) → Some x ≡ Some y → x ≡ y
@@ -52,8 +52,8 @@ nothing_played p q done w told initial now at s =
       world = w;
       reports = [];
       told_now = sym (append-nil told);
-      runs = silent_runs done Nothing w refl refl refl;
-      stood = stood_next p q done Nothing w initial now at.place s.motes (seated_as p.place q.place (length now) motes s.seats) (at.cut ∙ s.cut)
+      runs = silent_runs done Nothing w (λ place. refl) refl refl;
+      stood = stood_next p q done Nothing w initial now at.place s.motes s.early (seated_as p.place q.place (length now) motes s.seats) (at.cut ∙ s.cut)
           (subst (λ (o : Option CutOfPower). IfSome o FitsCut) (sym at.cut) s.cut_fits) (in_world_as p q w now at.world motes ready s.world) s.boards;
       boards_enough = refl;
     }
@@ -81,8 +81,8 @@ motes_played p q done w motes told initial now none at counted s =
           world = None;
           reports = [];
           told_now = sym (append-nil told);
-          runs = silent_runs done (Motes motes) None refl refl refl;
-          stood = stood_next p q done (Motes motes) None initial now at.place s.motes (λ some. subst (λ (n : ℕ). Counted n (length now)) (sym many) counted) (at.cut ∙ s.cut)
+          runs = silent_runs done (Motes motes) None (λ place. refl) refl refl;
+          stood = stood_next p q done (Motes motes) None initial now at.place s.motes s.early (λ some. subst (λ (n : ℕ). Counted n (length now)) (sym many) counted) (at.cut ∙ s.cut)
               (subst (λ (o : Option CutOfPower). IfSome o FitsCut) (sym at.cut) s.cut_fits) (at.world ∙ s.world.0, ready ∙ unready) s.boards;
           boards_enough = ap (λ (b : Bool). if b then Some motes else None) (not_below (length initial) motes (subst (λ (ds : List Device). motes ≤ length ds) s.boards counted.2));
         } in
@@ -110,8 +110,8 @@ cut_played p q done w cut told initial now fits place has world s =
       world = w;
       reports = [];
       told_now = sym (append-nil told);
-      runs = silent_runs done (Cut cut) w refl refl refl;
-      stood = stood_next p q done (Cut cut) w initial now place s.motes (seated_as p.place q.place (length now) motes s.seats) has (subst (λ (o : Option CutOfPower). IfSome o FitsCut) (sym has) fits)
+      runs = silent_runs done (Cut cut) w (λ place. refl) refl refl;
+      stood = stood_next p q done (Cut cut) w initial now place s.motes s.early (seated_as p.place q.place (length now) motes s.seats) has (subst (λ (o : Option CutOfPower). IfSome o FitsCut) (sym has) fits)
           (in_world_as p q w now world motes ready s.world) s.boards;
       boards_enough = refl;
     }
@@ -130,7 +130,7 @@ pub golden_played : (p q : Player) (done : List Line) (w : Option World) (name :
     → ((m : ℕ) (d : Device) → m < motes → slice_get new m ≡ Some d → Stands d.image (fresh name content used))
     → ((m : ℕ) (d : Device) → m < motes → slice_get old m ≡ Some d → d.stopped ≡ false) → FirstBoards motes old new
     → ((boards : List Device) (stores : List Store) (table : List Row) → length stores ≡ motes → motes ≤ length boards
-    → ((m : ℕ) (d : Device) → m < motes → slice_get boards m ≡ Some d → Stands d.image (slice_index_or stores m no_site.store)) → IsWorld v boards (first_world table stores))
+    → ((m : ℕ) (d : Device) → m < motes → slice_get boards m ≡ Some d → Stands d.image (slice_index_or stores m no_site.store)) → IsWorld v boards (first_world table [] stores))
     → Stood p done w initial old → PlayedLine q done w (Golden name used content) told told initial new
 golden_played p q done (Some w) name used content motes v told initial old new unready count counted place cut world formatted awake others begins s = false_not p.place.ready s.world.4 unready
 golden_played p q done None name used content motes v told initial old new unready count counted place cut world formatted awake others begins s =
@@ -149,7 +149,7 @@ golden_played p q done None name used content motes v told initial old new unrea
       reports = [];
       told_now = sym (append-nil told);
       runs = golden_runs done name used content motes (count ∙ s.motes);
-      stood = stood_next p q done (Golden name used content) (Some z) initial new place s.motes
+      stood = stood_next p q done (Golden name used content) (Some z) initial new place s.motes s.early
           (λ some. subst (λ (n : ℕ). Counted n (length new)) (sym same) (counted.0, counted.1, enough))
           (cut ∙ s.cut)
           (subst (λ (o : Option CutOfPower). IfSome o FitsCut) (sym cut) s.cut_fits)
@@ -191,6 +191,37 @@ golden_stopped p done None name used content motes e initial old new unready cou
       },
     )
 
+-- ---- links
+
+pub link_played : (r : Result (Unit {0}) Stop) (p q : Player) (done : List Line) (w : Option World) (a b : ℕ) (v v2 : KeptWorld) (told : List Report) (initial now : List Device)
+    → p.place.ready ≡ true → p.place.events ≡ false → p.world ≡ Some v → q.place ≡ place_after p.place (Link a b) → q.cut ≡ p.cut → q.world ≡ Some v2
+    → LinkedAs r v v2 (a, b) → Stood p done w initial now → PlayedAs r q done w (Link a b) told told initial now now
+link_played r p q done None a b v v2 told initial now later early has place cut world linked s = false_not p.place.ready later s.world.1
+link_played (Ok u) p q done (Some w) a b v v2 told initial now later early has place cut world linked s =
+    let k = s.world in
+    let kept : IsWorld v now w = subst (λ (x : KeptWorld). IsWorld x now w) (some_is k.0 v (sym k.1 ∙ has)) k.2 in
+    let motes : q.place.motes ≡ p.place.motes = ap (λ (x : Place). x.motes) place in
+    let b2 = s.boards in
+    record {
+      world = Some (with_link (a, b) w);
+      reports = [];
+      told_now = sym (append-nil told);
+      runs = link_runs done a b w (s.early early);
+      stood = stood_next p q done (Link a b) (Some (with_link (a, b) w)) initial now place s.motes s.early
+          (seated_as p.place q.place (length now) motes s.seats)
+          (cut ∙ s.cut)
+          (subst (λ (o : Option CutOfPower). IfSome o FitsCut) (sym cut) s.cut_fits)
+          (v2, world, linked.linked now w kept, k.3 ∙ sym motes, ap (λ (x : Place). x.ready) place ∙ k.4, subst (λ (n : ℕ). 0 < n) (sym motes) k.5)
+          (record { all = b2.all; stands = b2.stands; came = b2.came; others = b2.others });
+      boards_enough = refl;
+    }
+link_played (Err stop) p q done (Some w) a b v v2 told initial now later early has place cut world linked s =
+    let is : stop ≡ Memory = err_is stop Memory linked.memory in
+    subst (λ (x : Stop). PlayedAs (Err x) q done (Some w) (Link a b) told told initial now now) (sym is) refl
+  where
+    err_is : (x y : Stop) → ◌≡◌ {A = Result (Unit {0}) Stop} (Err x) (Err y) → x ≡ y
+    err_is x y e = cc
+
 -- ---- images
 
 pub image_played : (r : Result (Unit {0}) Stop) (p q : Player) (done : List Line) (w : Option World) (image version : ℕ) (name content : List ℕ) (v v2 : KeptWorld) (told_before told : List Report) (initial now : List Device)
@@ -210,8 +241,8 @@ image_played (Ok u) p q done (Some w) image version name content v v2 told_befor
       world = Some d.world;
       reports = d.reports;
       told_now = d.told_now;
-      runs = one_runs done (Image image version name content) w d.world (runs.Declares row) d.reports refl refl d.step none;
-      stood = stood_next p q done (Image image version name content) (Some d.world) initial now place s.motes
+      runs = one_runs done (Image image version name content) w d.world (Declares row) d.reports (λ place. refl) refl d.step none;
+      stood = stood_next p q done (Image image version name content) (Some d.world) initial now place s.motes s.early
           (seated_as p.place q.place (length now) motes s.seats)
           (cut ∙ s.cut)
           (subst (λ (o : Option CutOfPower). IfSome o FitsCut) (sym cut) s.cut_fits)
@@ -236,12 +267,12 @@ image_played (Err WriteFault) p q done (Some w) image version name content v v2 
 
 event_mote : (event : Event) (motes : ℕ) → FitsEvent motes event → IsPlayedEvent event → mote_of event < motes
 event_mote (Tick mote dt word) motes fits played = fits.0
-event_mote (Hear mote dt word frame) motes fits played = unplayed played
-event_mote (Last from to dt word) motes fits played = unplayed played
+event_mote (Hear mote dt word frame) motes fits played = fits.0
+event_mote (Last from to dt word) motes fits played = fits.0.second
 event_mote (Reset mote dt word) motes fits played = fits.0
 event_mote (Inject mote image version dt word) motes fits played = fits.0
 event_mote (Order mote number image version dt word) motes fits played = fits.0
-event_mote (Frame mote dt word bytes) motes fits played = unplayed played
+event_mote (Frame mote dt word bytes) motes fits played = fits.0
 
 other_than : (m n k : ℕ) → n < k → k ≤ m → m ≡ n → ⊥
 other_than m n k low high e = omega arith
@@ -306,11 +337,11 @@ event_played r p q done (Some w) event v v2 told_before told initial old new all
         let seats : Seated p.place (length new) = subst (λ (n : ℕ). Seated p.place n) (sym a.boards.count) s.seats in
         record {
           world = Some a.world;
-          reports = a.reports;
+          reports = filter (is_told true) a.reports;
           told_now = a.told_now;
-          runs = one_runs done (Happens event) w a.world (runs.Happens (record { event = event; cut = p.cut })) a.reports
-              (ap (λ (o : Option CutOfPower). runs.Happens (record { event = event; cut = o }) ∷ []) s.cut) refl a.step counts.events;
-          stood = stood_next p q done (Happens event) (Some a.world) initial new place s.motes
+          runs = one_runs done (Happens event) w a.world (Happened (record { event = event; cut = p.cut }) true) (filter (is_told true) a.reports)
+              (λ place. ap (λ (o : Option CutOfPower). Happened (record { event = event; cut = o }) true ∷ []) s.cut) refl (a.reports, a.step, refl) counts.events;
+          stood = stood_next p q done (Happens event) (Some a.world) initial new place s.motes s.early
               (seated_as p.place q.place (length new) same seats)
               cut
               (subst (λ (o : Option CutOfPower). IfSome o FitsCut) (sym cut) tt)

@@ -1,9 +1,8 @@
 -- What the steps of a replay do, line by line.
 use Rattle.std.proofs.Common.{◌≡◌, ◌≢◌, ◌⊎◌, inl, inr, ℕ, ◌+◌, ◌≤◌, Bool, true, false, List, [], ◌∷◌, ◌++◌, length, map, take, drop, refl, append-nil, append_assoc, ap, sym, ◌∙◌, subst, arith}
 use Rattle.std.specs.Prelude.{Option, Some, None, Result, Ok, Err, OnOk, OnErr, IfSome, nat_lt, if◌then◌else◌}
-use Rattle.std.proofs.lemmas.List.{take-append-drop, map-append}
+use Rattle.std.proofs.lemmas.List.{take-append-drop}
 use Rattle.std.proofs.lemmas.List.Sums.{sum_by-append}
-use Rattle.std.proofs.lemmas.Grind.{flat_map-append}
 use Rattle.dg_base.proofs.OutsideLemmas.{Puts-join, Puts-nil}
 use Rattle.dg_base.specs.Outside.{Puts, PutsFront}
 use Rattle.dg_nor.specs.Device.{Device}
@@ -21,18 +20,17 @@ use Rattle.dg_script.specs.declared.line.Line.{Line}
 use Rattle.dg_script.specs.declared.line.Line.TheVariants.{Nothing, Motes, Golden, Boards, Link, Image, Cut, Happens, Round, Sweeps}
 use Rattle.dg_rules.specs.Sizes.{most_events}
 use Rattle.dg_rules.specs.World.{World}
-use Rattle.dg_rules.specs.Runs.{Item, Played}
-use Rattle.dg_script.specs.Items.{cut_behind}
-use Rattle.dg_cli.specs.Items.{items_of, items_behind, begin_behind, Beginning, beginning_of, lacking, lacking_by, no_beginning}
+use Rattle.dg_rules.specs.Runs.{Played}
+use Rattle.dg_script.specs.Items.{cut_behind, items_behind, items_of}
+use Rattle.dg_cli.specs.Items.{begin_behind, beginning_of, lacking, lacking_by}
 use Rattle.dg_cli.specs.Boards.{BoardsStand, StoppedIn}
 use Rattle.dg_cli.specs.Ending.{events_in, LinesInLimits}
 use Rattle.dg_cli.specs.Outcome.{IsFront, RunsTo, item_played, played_text}
-use Rattle.dg_cli.specs.Playing.{InWorld, Stood, Ready, CountsEvents, PlayedLine, PlayedAs, LacksImage}
+use Rattle.dg_cli.specs.Playing.{InWorld, Stood, Ready, CountsEvents, RunsOn, PlayedLine, PlayedAs, LacksImage}
 use Rattle.dg_cli.specs.Replaying.{StopsAtLine, TextPlayed, TextTold, TextCut, NothingDone, TextAnswer, Reached, PlayedFront, PlayedUpTo, HasFew, LinesAnswer}
 use Rattle.dg_cli.specs.declared.player.Player.{Player}
 use Rattle.dg_cli.specs.declared.stop.Stop.{Stop}
 use Rattle.dg_cli.specs.declared.stop.Stop.TheVariants.{Memory, BadInput, WriteFault, FlashFault, TooMany, NoBoard, NoImage}
-use Rattle.dg_cli.proofs.PlayLemmas.{items_next, begin_next}
 use Rattle.dg_cli.proofs.GoldenLemmas.{IsBehind, script_fits, lacking_none}
 
 -- ---- one line
@@ -134,9 +132,6 @@ script_fault : (ends : Bool) (place : Place) (n : ℕ) (text : List ℕ) (texts 
 unfolding script_from
 script_fault ends place n text texts fault spelled = ap (λ (o : Result Line LineFault). with_line o (λ l. script_from ends (place_after place l) (n + 1) texts) n) spelled
 
-played_text-more : (ps qs : List Played) → played_text (ps ++ qs) ≡ played_text ps ++ played_text qs
-played_text-more ps qs = flat_map-append (λ (q : Played). report_text q.reports) ps qs
-
 -- the lines, items and run behind one more line
 record IsNext (ends : Bool) (script : Script) (texts : List (List ℕ)) (n : ℕ) (q : Player) (done : List Line) (played : List Played) (last : Option World) : Type 0 where
   lines : done ++ (script_from ends q.place n texts).lines ≡ script.lines
@@ -147,10 +142,15 @@ record IsNext (ends : Bool) (script : Script) (texts : List (List ℕ)) (n : ℕ
 lines_one : (done : List Line) (line : Line) (rest : List Line) → (done ++ line ∷ []) ++ rest ≡ done ++ line ∷ rest
 lines_one done line rest = append_assoc done (line ∷ []) rest
 
+-- the run behind one more line
+gone_on : (ends : Bool) (script : Script) (texts : List (List ℕ)) (text : List ℕ) (n : ℕ) (p q : Player) (initial old now : List Device) (before mid : Option (List ℕ))
+    → (r : Reached ends script (text ∷ texts) n p initial old before mid) → (t : TextPlayed text p q r.done r.last initial now) → RunsOn r.done t.line t.to.world t.to.reports r.played
+gone_on ends script texts text n p q initial old now before mid r t = t.to.runs.on r.played r.items r.run
+
 next_of : (ends : Bool) (script : Script) (texts : List (List ℕ)) (text : List ℕ) (n : ℕ) (p q : Player) (initial old now : List Device) (before mid : Option (List ℕ))
-    → (r : Reached ends script (text ∷ texts) n p initial old before mid) → (t : TextPlayed text p q r.done r.last initial now)
-    → IsNext ends script texts (n + 1) q (r.done ++ t.line ∷ []) (r.played ++ t.to.runs.more) t.to.world
-next_of ends script texts text n p q initial old now before mid r t =
+    → (r : Reached ends script (text ∷ texts) n p initial old before mid) → (t : TextPlayed text p q r.done r.last initial now) → (on : RunsOn r.done t.line t.to.world t.to.reports r.played)
+    → IsNext ends script texts (n + 1) q (r.done ++ t.line ∷ []) on.now t.to.world
+next_of ends script texts text n p q initial old now before mid r t on =
     let s = script_line ends p.place n text texts t.line t.spelled in
     let at : script_from ends q.place (n + 1) texts ≡ script_from ends (place_after p.place t.line) (n + 1) texts = ap (λ (x : Place). script_from ends x (n + 1) texts) t.behind in
     record {
@@ -158,11 +158,8 @@ next_of ends script texts text n p q initial old now before mid r t =
           ∙ ap (λ (x : Script). r.done ++ t.line ∷ x.lines) at
           ∙ ap (λ (x : Script). r.done ++ x.lines) (sym s) ∙ r.lines;
       fault = ap (λ (x : Script). x.fault) at ∙ ap (λ (x : Script). x.fault) (sym s) ∙ r.fault;
-      items = map-append item_played r.played t.to.runs.more
-          ∙ ap (λ (xs : List Item). xs ++ map item_played t.to.runs.more) r.items
-          ∙ ap (λ (xs : List Item). items_of r.done ++ xs) t.to.runs.items
-          ∙ sym (items_next None r.done t.line);
-      run = subst (λ (b : Beginning). RunsTo b.world (r.played ++ t.to.runs.more) t.to.world) (sym (begin_next no_beginning r.done t.line)) (t.to.runs.run r.played r.run);
+      items = on.items;
+      run = on.run;
     }
 
 pub lacking_append : (boards : ℕ) (done more : List Line) → lacking boards done ≡ None → lacking boards more ≡ None → lacking boards (done ++ more) ≡ None
@@ -220,18 +217,18 @@ pub reached_next : (ends : Bool) (script : Script) (texts : List (List ℕ)) (te
     → (r : Reached ends script (text ∷ texts) n p initial old before mid) → TextTold text p q r.done r.last initial now mid after → Reached ends script texts (n + 1) q initial now before after
 reached_next ends script texts text n p q initial old now before mid after r t =
     let to = t.played.to in
-    let x = next_of ends script texts text n p q initial old now before mid r t.played in
+    let on = gone_on ends script texts text n p q initial old now before mid r t.played in
+    let x = next_of ends script texts text n p q initial old now before mid r t.played on in
     let limits = limits_next ends script texts text n p q initial old now before mid r t.played in
-    let told_now : report_text t.played.reports ≡ played_text to.runs.more = ap report_text to.told_now ∙ sym to.runs.text in
     record {
       done = r.done ++ t.played.line ∷ [];
-      played = r.played ++ to.runs.more;
+      played = on.now;
       last = to.world;
       lines = x.lines;
       fault = x.fault;
       items = x.items;
       run = x.run;
-      told = subst (λ (xs : List ℕ). Puts before after xs) (ap (λ (xs : List ℕ). played_text r.played ++ xs) told_now ∙ sym (played_text-more r.played to.runs.more)) (Puts-join before mid after _ _ r.told t.told);
+      told = subst (λ (xs : List ℕ). Puts before after xs) (ap (λ (xs : List ℕ). played_text r.played ++ xs) (ap report_text to.told_now) ∙ sym on.text) (Puts-join before mid after _ _ r.told t.told);
       stood = to.stood;
       events = counted_next ends script texts text n p q initial old now before mid r t.played;
       few = limits.few_events;
@@ -243,20 +240,20 @@ front_of_report : (ends : Bool) (script : Script) (texts : List (List ℕ)) (tex
     → (r : Reached ends script (text ∷ texts) n p initial old before mid) → TextCut text p q r.done r.last initial now mid after → PlayedFront script initial now before after
 front_of_report ends script texts text n p q initial old now before mid after r t =
     let to = t.played.to in
-    let x = next_of ends script texts text n p q initial old now before mid r t.played in
+    let on = gone_on ends script texts text n p q initial old now before mid r t.played in
+    let x = next_of ends script texts text n p q initial old now before mid r t.played on in
     let report = report_text t.played.reports in
-    let told_now : report ≡ played_text to.runs.more = ap report_text to.told_now ∙ sym to.runs.text in
     let k = t.told.0 in
     record {
       done = r.done ++ t.played.line ∷ [];
       rest = (script_from ends q.place (n + 1) texts).lines;
-      played = r.played ++ to.runs.more;
+      played = on.now;
       last = to.world;
       front = record { lines = x.lines; items = x.items; run = x.run };
       text = played_text r.played ++ take k report;
       more = drop k report;
       told = Puts-join before mid after _ _ r.told t.told.2;
-      whole = append_assoc (played_text r.played) (take k report) (drop k report) ∙ ap (λ (xs : List ℕ). played_text r.played ++ xs) (take-append-drop k report ∙ told_now) ∙ sym (played_text-more r.played to.runs.more);
+      whole = append_assoc (played_text r.played) (take k report) (drop k report) ∙ ap (λ (xs : List ℕ). played_text r.played ++ xs) (take-append-drop k report ∙ ap report_text to.told_now) ∙ sym on.text;
       boards = to.stood.boards;
       limits = limits_next ends script texts text n p q initial old now before mid r t.played;
     }
@@ -386,6 +383,7 @@ reached_first ends texts p initial before place cut world =
         cut = cut;
         cut_fits = subst (λ (o : Option CutOfPower). IfSome o FitsCut) (sym cut) tt;
         motes = ap (λ (at : Place). at.motes) place;
+        early = λ e. tt;
         world = (world, ap (λ (at : Place). at.ready) place);
         boards = refl;
       };

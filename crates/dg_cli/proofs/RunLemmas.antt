@@ -1,6 +1,7 @@
 -- What the top call did.
 use Rattle.std.proofs.Common.{◌≡◌, ◌≢◌, ◌⊎◌, inl, inr, ℕ, ◌<◌, ◌≤◌, Bool, true, false, List, [], ◌∷◌, ◌++◌, length, map, get_or, append_assoc, ◌&&◌, refl, ap, sym, ◌∙◌, subst, arith}
 use Rattle.std.specs.Prelude.{Option, Some, None, nat_eq}
+use Rattle.std.specs.List.{AllByRecursion}
 use Rattle.std.specs.Cmp.Lexicographic.{pointwise}
 use Rattle.std.specs.Bool.{OnTrue, OnFalse}
 use Rattle.std.proofs.lemmas.Bool.{eqb-true, eq-eqb}
@@ -13,8 +14,10 @@ use Rattle.dg_words.specs.Counts.{Rose}
 use Rattle.dg_nor.specs.Device.{Device}
 use Rattle.dg_rules.specs.Runs.{Played}
 use Rattle.dg_rules.specs.Golden.{PlaysGolden}
+use Rattle.dg_rules.specs.Premises.{IsHonestThen}
 use Rattle.dg_cli.specs.Boards.{BoardStopped}
-use Rattle.dg_cli.specs.Items.{items_behind, begin_behind, beginning_of, motes_in, lacking}
+use Rattle.dg_script.specs.Items.{items_behind, items_of}
+use Rattle.dg_cli.specs.Items.{begin_behind, beginning_of, motes_in, lacking, IsNoFrame}
 use Rattle.dg_script.specs.Script.{Script}
 use Rattle.dg_rules.specs.World.{World}
 use Rattle.dg_cli.specs.Ending.{Ending, Ends, ending_of, status_of, script_of, is_over, LinesInLimits, InLimits}
@@ -23,7 +26,7 @@ use Rattle.dg_script.specs.Places.{first_place}
 use Rattle.dg_cli.specs.Outcome.{IsFront, Wrote, IsSettled, NextIsWhole, ReadEnough, IsCaused, Replayed}
 use Rattle.dg_cli.specs.Replaying.{ScriptReplayed}
 use Rattle.dg_cli.specs.Outcome.{RunsTo}
-use Rattle.dg_cli.proofs.GoldenLemmas.{LinesFit, front_fits, golden_run}
+use Rattle.dg_cli.proofs.GoldenLemmas.{LinesFit, front_fits, golden_run, lines_honest}
 use Rattle.dg_cli.proofs.EndLemmas.{is_over-true, in_limits}
 use Rattle.dg_cli.proofs.TakenLemmas.{over_settled, over_whole, over_next, none_whole, script_of_fits, stopped_of_script}
 
@@ -237,17 +240,22 @@ no_run : (o : Option World) (played : List Played) → RunsTo o played None → 
 no_run None played r = r.0
 no_run (Some w) played (v, is, plays) = absurd (let e : None ≡ Some v = is in cc)
 
-promised : (P : List Played → Option World → Type 0) → P [] None → ((name bytes : List ℕ) (used motes : ℕ) (played : List Played) (v : World) → PlaysGolden name bytes used motes played v → P played (Some v))
+promised : (P : List Played → Option World → Type 0) → P [] None → ((name bytes : List ℕ) (used motes : ℕ) (links : List (ℕ × ℕ)) (played : List Played) (v : World) → PlaysGolden name bytes used motes links played v → P played (Some v))
     → (spells : Script) (done rest : List Line) (played : List Played) (last : Option World) → LinesFit first_place spells.lines → IsFront spells done rest played last → P played last
 promised P none law spells done rest played None fit f = subst (λ (ps : List Played). P ps None) (sym (no_run (beginning_of done).world played f.run)) none
 promised P none law spells done rest played (Some v) fit f =
     let g = golden_run done played v (front_fits first_place done rest (subst (LinesFit first_place) (sym f.lines) fit)) f.items f.run in
-    law g.name g.bytes g.used (beginning_of done).motes played v g.plays
+    law g.name g.bytes g.used (beginning_of done).motes g.links played v g.plays
 
-pub holds_of_worlds : (P : List Played → Option World → Type 0) → P [] None → ((name bytes : List ℕ) (used motes : ℕ) (played : List Played) (v : World) → PlaysGolden name bytes used motes played v → P played (Some v))
+pub holds_of_worlds : (P : List Played → Option World → Type 0) → P [] None → ((name bytes : List ℕ) (used motes : ℕ) (links : List (ℕ × ℕ)) (played : List Played) (v : World) → PlaysGolden name bytes used motes links played v → P played (Some v))
     → (s : Status) (lb la wb wa : Option (List ℕ)) (rb ra kb ka : ℕ) (old new : List Device) → (x : Replayed s lb la wb wa rb ra kb ka old new) → P x.played x.last
 holds_of_worlds P none law s lb la wb wa rb ra kb ka old new x = promised P none law (script_of x.input) x.done x.rest x.played x.last (script_of_fits x.input) x.front
 
-pub holds_of_runs : (P : List Played → Type 0) → P [] → ((name bytes : List ℕ) (used motes : ℕ) (played : List Played) (v : World) → PlaysGolden name bytes used motes played v → P played)
+pub holds_of_runs : (P : List Played → Type 0) → P [] → ((name bytes : List ℕ) (used motes : ℕ) (links : List (ℕ × ℕ)) (played : List Played) (v : World) → PlaysGolden name bytes used motes links played v → P played)
     → (s : Status) (lb la wb wa : Option (List ℕ)) (rb ra kb ka : ℕ) (old new : List Device) → (x : Replayed s lb la wb wa rb ra kb ka old new) → P x.played
 holds_of_runs P none law s lb la wb wa rb ra kb ka old new x = holds_of_worlds (λ ps last. P ps) none law s lb la wb wa rb ra kb ka old new x
+
+-- lines that bring no frame from outside
+pub without_frames : (s : Status) (lb la wb wa : Option (List ℕ)) (rb ra kb ka : ℕ) (old new : List Device) → (x : Replayed s lb la wb wa rb ra kb ka old new) → AllByRecursion IsNoFrame x.done → AllByRecursion IsHonestThen x.played
+without_frames s lb la wb wa rb ra kb ka old new x none =
+    lines_honest x.done x.played (front_fits first_place x.done x.rest (subst (LinesFit first_place) (sym x.front.lines) (script_of_fits x.input))) none x.front.items

@@ -17,7 +17,7 @@ use Rattle.dg_cli.specs.Ending.{Ends, TooManyEvents, whole_lines, used, is_over,
 use Rattle.dg_cli.specs.Outcome.{IsSettled, AreWhole, NextIsWhole, StopsAt}
 use Rattle.dg_cli.proofs.EndLemmas.{is_over-true, over_more}
 use Rattle.dg_cli.proofs.GoldenLemmas.{LinesFit, script_fits, front_fits, not_first}
-use Rattle.dg_cli.proofs.PlayLemmas.{unplayed, second_at, later_at, event_at}
+use Rattle.dg_cli.proofs.PlayLemmas.{unplayed, second_at, later_at, link_at, event_at}
 
 -- ---- more bytes than are used
 
@@ -83,7 +83,7 @@ counted_stays b place (Nothing ∷ lines) some h = counted_stays b place lines s
 counted_stays b place (Motes n ∷ lines) some h = not_first place n some h.0
 counted_stays b place (Golden name used content ∷ lines) some h = counted_stays (begin_by b (Golden name used content)) (place_after place (Golden name used content)) lines some h.3
 counted_stays b place (Boards ∷ lines) some h = unplayed h.2
-counted_stays b place (Link x y ∷ lines) some h = unplayed h.2
+counted_stays b place (Link x y ∷ lines) some h = counted_stays (begin_by b (Link x y)) (place_after place (Link x y)) lines some h.3
 counted_stays b place (Image image version name content ∷ lines) some h = counted_stays b place lines some h.3
 counted_stays b place (Cut c ∷ lines) some h = counted_stays b (place_after place (Cut c)) lines some h.3
 counted_stays b place (Happens event ∷ lines) some h = counted_stays b (place_after place (Happens event)) lines some h.3
@@ -104,7 +104,7 @@ counted_once (Motes n ∷ done) rest h some =
     ∙ sym (counted_stays (record { motes = n; world = None }) there done (omega (arith, h.1)) (front_fits there done rest h.3))
 counted_once (Golden name used content ∷ done) rest h some = none_yet (second_at first_place h.0.fits).1
 counted_once (Boards ∷ done) rest h some = unplayed h.2
-counted_once (Link x y ∷ done) rest h some = unplayed h.2
+counted_once (Link x y ∷ done) rest h some = none_yet (link_at first_place x y h.0).0.1
 counted_once (Image image version name content ∷ done) rest h some = none_yet (later_at first_place h.0.fits).1
 counted_once (Cut c ∷ done) rest h some = none_yet (later_at first_place h.0.fits).1
 counted_once (Happens event ∷ done) rest h some = none_yet (event_at first_place event h.0).1

@@ -1,51 +1,31 @@
--- What the lines of a script say of its run: where it begins, and its items.
-use Rattle.std.specs.Prelude.{ℕ, nat_lt, if◌then◌else◌, List, [], ◌∷◌, ◌++◌, replicate, Option, Some, None}
+-- What the lines of a script say of its run: where it begins, and what may come of it.
+use Rattle.std.specs.Prelude.{ℕ, nat_lt, if◌then◌else◌, List, [], ◌∷◌, ◌++◌, replicate, Option, Some, None, option_map}
 use Rattle.dg_volume.specs.Store.{fresh, golden_row}
-use Rattle.dg_base.specs.declared.events.Cut.{Cut as CutOfPower}
-use Rattle.dg_script.specs.Fitting.{declared_row}
-use Rattle.dg_script.specs.Items.{cut_by}
+use Rattle.dg_base.specs.declared.events.Event.{Event}
+use Rattle.dg_base.specs.declared.events.Event.TheVariants.{Tick, Hear, Last, Reset, Inject, Order, Frame}
 use Rattle.dg_script.specs.declared.line.Line.{Line}
 use Rattle.dg_script.specs.declared.line.Line.TheVariants.{Nothing, Motes, Golden, Boards, Link, Image, Cut, Happens, Round, Sweeps}
 use Rattle.dg_rules.specs.World.{World, first_world}
-use Rattle.dg_rules.specs.Runs.{Item}
-use Rattle.dg_rules.specs.Runs as runs
 
--- The item of a line, where a cut may wait for it. Boards that keep a volume, links, rounds and sweeps are not played yet.
-abbrev pub item_by : Option CutOfPower → Line → List Item
-item_by cut Nothing = []
-item_by cut (Motes n) = []
-item_by cut (Golden name used content) = []
-item_by cut Boards = []
-item_by cut (Link a b) = []
-item_by cut (Image image version name content) = runs.Declares (declared_row image version name content) ∷ []
-item_by cut (Cut c) = []
-item_by cut (Happens event) = runs.Happens (record { event = event; cut = cut }) ∷ []
-item_by cut (Round a b) = []
-item_by cut (Sweeps n) = []
-
-unfoldable pub items_behind : Option CutOfPower → List Line → List Item
-items_behind cut [] = []
-items_behind cut (line ∷ lines) = item_by cut line ++ items_behind (cut_by cut line) lines
-
--- the items of lines: a cut belongs to the next event
-abbrev pub items_of : List Line → List Item
-items_of lines = items_behind None lines
-
--- how many motes there are, and the world in which their run begins, None before they are formatted
+-- How many motes there are, and the world in which their run begins, None before they are formatted. It has all links from its beginning: they stand before the first event
 pub record Beginning : Type 0 where
   pub motes : ℕ
   pub world : Option World
 
 -- the world in which so many motes begin, whose boards are formatted with golden
 abbrev pub golden_world : (motes : ℕ) → (name : List ℕ) → (used : ℕ) → (content : List ℕ) → World
-golden_world motes name used content = first_world (golden_row name content ∷ []) (replicate motes (fresh name content used))
+golden_world motes name used content = first_world (golden_row name content ∷ []) [] (replicate motes (fresh name content used))
+
+-- two motes become neighbours
+abbrev pub with_link : (ℕ × ℕ) → World → World
+with_link link w = record w { links = w.links ++ link ∷ [] }
 
 abbrev pub begin_by : Beginning → Line → Beginning
 begin_by b Nothing = b
 begin_by b (Motes n) = record b { motes = n }
 begin_by b (Golden name used content) = record b { world = Some (golden_world b.motes name used content) }
 begin_by b Boards = b
-begin_by b (Link x y) = b
+begin_by b (Link x y) = record b { world = option_map (with_link (x, y)) b.world }
 begin_by b (Image image version name content) = b
 begin_by b (Cut c) = b
 begin_by b (Happens event) = b
@@ -83,3 +63,25 @@ lacking_by boards (Sweeps n) rest = rest
 unfoldable pub lacking : ℕ → List Line → Option ℕ
 lacking boards [] = None
 lacking boards (line ∷ lines) = lacking_by boards line (lacking boards lines)
+
+-- a line that brings no frame from outside
+abbrev pub BringsNone : Event → Type 0
+BringsNone (Tick mote dt word) = Unit {0}
+BringsNone (Hear mote dt word frame) = Unit {0}
+BringsNone (Last from to dt word) = Unit {0}
+BringsNone (Reset mote dt word) = Unit {0}
+BringsNone (Inject mote image version dt word) = Unit {0}
+BringsNone (Order mote number image version dt word) = Unit {0}
+BringsNone (Frame mote dt word bytes) = ⊥
+
+abbrev pub IsNoFrame : Line → Type 0
+IsNoFrame Nothing = Unit {0}
+IsNoFrame (Motes n) = Unit {0}
+IsNoFrame (Golden name used content) = Unit {0}
+IsNoFrame Boards = Unit {0}
+IsNoFrame (Link a b) = Unit {0}
+IsNoFrame (Image image version name content) = Unit {0}
+IsNoFrame (Cut c) = Unit {0}
+IsNoFrame (Happens event) = BringsNone event
+IsNoFrame (Round a b) = Unit {0}
+IsNoFrame (Sweeps n) = Unit {0}

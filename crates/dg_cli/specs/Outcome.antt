@@ -15,9 +15,10 @@ use Rattle.dg_script.specs.declared.line.Line.TheVariants.{Motes, Happens}
 use Rattle.dg_rules.specs.Sizes.{most_events}
 use Rattle.dg_rules.specs.World.{World}
 use Rattle.dg_rules.specs.Changes.{final_lines}
-use Rattle.dg_rules.specs.Runs.{Item, Played, Plays}
+use Rattle.dg_rules.specs.Runs.{Played, Plays}
+use Rattle.dg_script.specs.Items.{Item, items_of}
 use Rattle.dg_cli.specs.Boards.{BoardsStand, BoardStopped, StoppedIn}
-use Rattle.dg_cli.specs.Items.{items_of, beginning_of, motes_in}
+use Rattle.dg_cli.specs.Items.{beginning_of, motes_in}
 use Rattle.dg_cli.specs.Ending.{Ending, Ends, NoBoards, TooManyEvents, FaultAt, Over, events_in, LinesInLimits, ending_of, ending_line, usage_line, status_of, script_of}
 
 abbrev pub item_played : Played → Item

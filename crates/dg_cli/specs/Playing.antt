@@ -1,5 +1,6 @@
 -- What playing one line does.
-use Rattle.std.specs.Prelude.{◌≡◌, ℕ, ◌+◌, ◌<◌, ◌≤◌, true, false, List, [], ◌∷◌, ◌++◌, length, map, Option, Some, None, slice_get, IfSome, OnOk, Result, Ok, Err}
+use Rattle.std.specs.Prelude.{◌≡◌, ℕ, ◌+◌, ◌<◌, ◌≤◌, true, false, List, [], ◌∷◌, ◌++◌, length, map, Option, Some, None, slice_get, IfSome, OnOk, OnErr, Result, Ok, Err}
+use Rattle.std.specs.List.{AllByRecursion}
 use Rattle.dg_nor.specs.Device.{Device}
 use Rattle.dg_object.specs.Object.{Row}
 use Rattle.dg_script.specs.Fitting.{FitsCut, FitsLine, StandsAt, IsPlayed, UsesBoard}
@@ -24,8 +25,8 @@ use Rattle.dg_world.specs.Worlds.{IsWorld}
 use Rattle.dg_world.specs.Applied.{Applied, FlashAt, Ended}
 use Rattle.dg_world.specs.declared.world.World.{World as KeptWorld}
 use Rattle.dg_cli.specs.Boards.{BoardsStand, StoppedIn}
-use Rattle.dg_script.specs.Items.{cut_behind}
-use Rattle.dg_cli.specs.Items.{item_by, begin_by, beginning_of, motes_in, lacking_by}
+use Rattle.dg_script.specs.Items.{Item, Declares, Happens as Happened, items_of, cut_behind}
+use Rattle.dg_cli.specs.Items.{beginning_of, motes_in, lacking_by, with_link}
 use Rattle.dg_cli.specs.Ending.{events_in}
 use Rattle.dg_cli.specs.Outcome.{item_played, played_text, RunsTo}
 use Rattle.dg_cli.specs.declared.player.Player.{Player}
@@ -45,12 +46,19 @@ abbrev pub InWorld : Player → Option World → List Device → Type 0
 InWorld p None boards = (p.world ≡ None) × (p.place.ready ≡ false)
 InWorld p (Some w) boards = (v : KeptWorld) × (p.world ≡ Some v) × IsWorld v boards w × (length w.sites ≡ p.place.motes) × (p.place.ready ≡ true) × (0 < p.place.motes)
 
+-- an item that declares an image
+abbrev pub IsDeclared : Item → Type 0
+IsDeclared (Declares row) = Unit {0}
+IsDeclared (Happened step loud) = ⊥
+
 -- The player and the boards, which were `initial` when the replay began, stand for this world, behind these lines.
 pub record Stood (p : Player) (done : List Line) (w : Option World) (initial now : List Device) : Type 0 where
   pub seats : Seated p.place (length now)
   pub cut : p.cut ≡ cut_behind None done
   pub cut_fits : IfSome p.cut FitsCut
   pub motes : p.place.motes ≡ motes_in done
+  -- before the first event, all that was played was declared
+  pub early : p.place.events ≡ false → AllByRecursion IsDeclared (items_of done)
   pub world : InWorld p w now
   pub boards : BoardsStand w initial now
 
@@ -81,12 +89,16 @@ abbrev pub CountsEvents : Option World → ℕ → Type 0
 CountsEvents None n = n ≡ 0
 CountsEvents (Some w) n = w.events ≡ n
 
--- what a line behind others adds to the run that leads to a world
+-- The run behind a line: its items are those of the lines up to this one, and it tells these reports behind what was told before.
+pub record RunsOn (done : List Line) (line : Line) (v : Option World) (reports : List Report) (played : List Played) : Type 0 where
+  pub now : List Played
+  pub items : map item_played now ≡ items_of (done ++ line ∷ [])
+  pub run : RunsTo (beginning_of (done ++ line ∷ [])).world now v
+  pub text : played_text now ≡ played_text played ++ report_text reports
+
+-- What a line behind others makes of a run that leads to a world. Behind a link it is the run of the same items from a world that has the link.
 pub record LineRuns (done : List Line) (line : Line) (w v : Option World) (reports : List Report) : Type 0 where
-  pub more : List Played
-  pub items : map item_played more ≡ item_by (cut_behind None done) line
-  pub run : (played : List Played) → RunsTo (beginning_of done).world played w → RunsTo (begin_by (beginning_of done) line).world (played ++ more) v
-  pub text : played_text more ≡ report_text reports
+  pub on : (played : List Played) → map item_played played ≡ items_of done → RunsTo (beginning_of done).world played w → RunsOn done line v reports played
   pub events : (n : ℕ) → CountsEvents w n → CountsEvents v (n + events_in (line ∷ []))
 
 -- A line was played, and told what it reports.
@@ -159,9 +171,14 @@ DeclaredAs (Err NoImage) v v2 row told_before told = ⊥
 DeclaredAs (Err (BadInput n fault)) v v2 row told_before told = ⊥
 DeclaredAs (Err WriteFault) v v2 row told_before told = ⊥
 
+-- what a link answers
+pub record LinkedAs (result : Result (Unit {0}) Stop) (v v2 : KeptWorld) (link : ℕ × ℕ) : Type 0 where
+  pub linked : OnOk result ((boards : List Device) (w : World) → IsWorld v boards w → IsWorld v2 boards (with_link link w))
+  pub memory : OnErr result (result ≡ Err Memory)
+
 -- what an event answers
 abbrev pub HappenedAs : Result (Unit {0}) Stop → World → Step → KeptWorld → (old new : List Device) → (told_before told : List Report) → Type 0
-HappenedAs (Ok u) w x v old new told_before told = Applied w x v old new told_before told
+HappenedAs (Ok u) w x v old new told_before told = Applied w x true v old new told_before told
 HappenedAs (Err Memory) w x v old new told_before told = new ≡ old
 HappenedAs (Err FlashFault) w x v old new told_before told = (board : ℕ) × FlashAt w x board old new
 HappenedAs (Err TooMany) w x v old new told_before told = (w.events ≡ most_events) × (new ≡ old)

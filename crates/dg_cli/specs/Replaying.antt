@@ -16,8 +16,8 @@ use Rattle.dg_rules.specs.World.{World}
 use Rattle.dg_rules.specs.Changes.{final_lines}
 use Rattle.dg_rules.specs.Runs.{Played}
 use Rattle.dg_cli.specs.Boards.{BoardsStand, BoardStopped, StoppedIn}
-use Rattle.dg_script.specs.Items.{cut_behind}
-use Rattle.dg_cli.specs.Items.{items_of, beginning_of, motes_in, lacking}
+use Rattle.dg_script.specs.Items.{items_of, cut_behind}
+use Rattle.dg_cli.specs.Items.{beginning_of, motes_in, lacking}
 use Rattle.dg_cli.specs.Ending.{Ending, NoBoards, TooManyEvents, FaultAt, events_in, LinesInLimits, ending_line}
 use Rattle.dg_cli.specs.Outcome.{CameTo, AtTooMany, closing, Wrote, Boards, IsCaused, IsFront, RunsTo, item_played, played_text}
 use Rattle.dg_cli.specs.Playing.{Stood, CountsEvents, PlayedLine, IsOneTooMany, LacksBoards, LacksImage}

@@ -5,9 +5,10 @@ ghost use Rattle.std.specs.List.{AllByRecursion};
 ghost use Rattle.dg_words.specs.Counts.{Rose};
 ghost use Rattle.dg_rules.specs.Runs.{EachAfter};
 ghost use Rattle.dg_rules.specs.Promises.{IsLegal, KeepsAll, StartsRow};
-ghost use Rattle.dg_rules.specs.Premises.{LeavesAgreement, WorldAgrees};
+ghost use Rattle.dg_mote.specs.Sizes.{buffered_bytes, most_buffered};
+ghost use Rattle.dg_rules.specs.Premises.{IsHonestThen, LeavesAgreement, WorldAgrees};
 ghost use Rattle.dg_cli.specs.Ending.{InLimits, script_of};
-ghost use Rattle.dg_cli.specs.Items.{motes_in};
+ghost use Rattle.dg_cli.specs.Items.{motes_in, IsNoFrame};
 ghost use Rattle.dg_cli.specs.Outcome.{Replayed, IsReplay, Unknown};
 ghost use Rattle.dg_cli.specs.Boards.{BoardStopped};
 
@@ -15,6 +16,7 @@ use crate::ends::replay_text;
 use crate::finish::end_with;
 use crate::input::{ReadStop, read_input};
 use dg_base::{Sink, Source, Status};
+use dg_mote::a_mote_buffers_little;
 use dg_nor::Nor;
 use dg_rules::scripts_with_golden;
 use std::alloc::Global;
@@ -61,25 +63,33 @@ pub fn run<S: Source, K: Sink, N: Nor>(
     out: &mut K,
     boards: &mut Vec<N>,
 ) -> Status
-    // The report is true: it is that of a run of the rules over the items of the script, and each status comes where the rules say.
+    // The report is true, whatever frames are brought from outside: it is that of a run of the rules over the items of the
+    // script, and each status comes where the rules say.
     ensures replayed { IsReplay (map string_bytes words.now.items) → Replayed result (S.left input.old) (S.left input.new) (K.written out.old) (K.written out.new)
         (S.faults input.old) (S.faults input.new) (K.faults out.old) (K.faults out.new) (map N.device boards.old.items) (map N.device boards.new.items) }
-    // Each step is legal after those before it.
+    // Where each frame from outside is honest by the table of its moment, each step is legal after those before it.
     ensures legal { (x : Replayed result (S.left input.old) (S.left input.new) (K.written out.old) (K.written out.new)
         (S.faults input.old) (S.faults input.new) (K.faults out.old) (K.faults out.new) (map N.device boards.old.items) (map N.device boards.new.items))
-        → EachAfter IsLegal [] x.played }
-    // No version falls, but as a cut in a replacement allows.
+        → AllByRecursion IsHonestThen x.played → EachAfter IsLegal [] x.played }
+    // There no version falls, but as a cut in a replacement allows.
     ensures keeps { (x : Replayed result (S.left input.old) (S.left input.new) (K.written out.old) (K.written out.new)
         (S.faults input.old) (S.faults input.new) (K.faults out.old) (K.faults out.new) (map N.device boards.old.items) (map N.device boards.new.items))
-        → AllByRecursion KeepsAll x.played }
-    // What starts is one row of the table of images, byte for byte.
+        → AllByRecursion IsHonestThen x.played → AllByRecursion KeepsAll x.played }
+    // There what starts is one row of the table of images, byte for byte.
     ensures starts { (x : Replayed result (S.left input.old) (S.left input.new) (K.written out.old) (K.written out.new)
         (S.faults input.old) (S.faults input.new) (K.faults out.old) (K.faults out.new) (map N.device boards.old.items) (map N.device boards.new.items))
-        → AllByRecursion StartsRow x.played }
-    // Every chip agrees with the table, also one that a cut left half done: after each item, and in the last world.
+        → AllByRecursion IsHonestThen x.played → AllByRecursion StartsRow x.played }
+    // There every chip, also one that a cut left half done, every mote that is on and every frame that was sent agrees with the
+    // table: after each item, and in the last world.
     ensures agrees { (x : Replayed result (S.left input.old) (S.left input.new) (K.written out.old) (K.written out.new)
         (S.faults input.old) (S.faults input.new) (K.faults out.old) (K.faults out.new) (map N.device boards.old.items) (map N.device boards.new.items))
-        → AllByRecursion LeavesAgreement x.played × IfSome x.last WorldAgrees }
+        → AllByRecursion IsHonestThen x.played → AllByRecursion LeavesAgreement x.played × IfSome x.last WorldAgrees }
+    // Lines that bring no frame from outside meet that.
+    ensures honest { (x : Replayed result (S.left input.old) (S.left input.new) (K.written out.old) (K.written out.new)
+        (S.faults input.old) (S.faults input.new) (K.faults out.old) (K.faults out.new) (map N.device boards.old.items) (map N.device boards.new.items))
+        → AllByRecursion IsNoFrame x.done → AllByRecursion IsHonestThen x.played }
+    // A mote buffers no more than 256 bytes.
+    ensures buffers { buffered_bytes ≤ most_buffered }
     ensures usage { (IsReplay (map string_bytes words.now.items) → ⊥) → Unknown result (S.left input.old) (S.left input.new) (K.written out.old) (K.written out.new)
         (K.faults out.old) (K.faults out.new) (map N.device boards.old.items) (map N.device boards.new.items) }
     ensures untouched { (IsReplay (map string_bytes words.now.items) → ⊥) → input.new ≡ input.old }
@@ -91,13 +101,14 @@ pub fn run<S: Source, K: Sink, N: Nor>(
         → (result ≡ Status.Done) ⊎ (result ≡ Status.Memory) }
 
     // A replay formats its boards itself, so that they are volumes; no rule of `replay` refuses anything but its script;
-    // there is no link; and golden starts where nothing else does.
+    // there is no link to a peer; and golden starts where nothing else does.
     ensures never { (result ≢ Status.NotAVolume) × (result ≢ Status.Refused) × (result ≢ Status.LinkFault) × (result ≢ Status.NoImage) }
 
     ensures reads { S.faults input.old ≤ S.faults input.new }
     ensures writes { K.faults out.old ≤ K.faults out.new }
 {
     scripts_with_golden();
+    a_mote_buffers_little();
     if is_replay(words) {
         return replay(alloc, input, out, boards);
     }

@@ -7,10 +7,10 @@ ghost use Rattle.dg_script.specs.Fitting.{StandsAt, FitsLine, IsGolden, IsDeclar
 ghost use Rattle.dg_rules.specs.World.{World as RuleWorld};
 ghost use Rattle.dg_rules.specs.Ranges.{StepFits};
 ghost use Rattle.dg_world.specs.Worlds.{IsWorld};
-ghost use Rattle.dg_cli.specs.Playing.{Stood, Passed, MayPlay, Counted, PlayedAs, FormattedAs, DeclaredAs, HappenedAs};
+ghost use Rattle.dg_cli.specs.Playing.{Stood, Passed, MayPlay, Counted, PlayedAs, FormattedAs, LinkedAs, DeclaredAs, HappenedAs};
 
 use crate::stop::Stop;
-use dg_base::{Bytes, Cut, Key, Step};
+use dg_base::{Bytes, Cut, Key, Pairs, Step};
 use dg_nor::Nor;
 use dg_script::{Line, Place, Report};
 use dg_world::{DeclareFault, FormatStopped, World, WorldFault, format_boards};
@@ -73,6 +73,13 @@ fn format<N: Nor>(
     format_first(boards.as_mut_slice(), motes, name, used, content)
 }
 
+/// No motes are neighbours.
+fn no_links(alloc: Global) -> Pairs
+    ensures { result ≡ [] }
+{
+    Pairs::new(Vec::new(alloc))
+}
+
 /// There is golden, with which the boards of the motes are formatted.
 fn play_golden<N: Nor>(
     alloc: Global,
@@ -90,7 +97,7 @@ fn play_golden<N: Nor>(
     ensures place { player.new.place ≡ player.old.place }
 {
     let motes = player.place.motes;
-    let world = match World::new(alloc, motes) {
+    let world = match World::new(alloc, motes, no_links(alloc)) {
         Ok(world) => world,
         Err(AllocError) => return Err(Stop::Memory),
     };
@@ -100,6 +107,16 @@ fn play_golden<N: Nor>(
             Ok(())
         }
         Err(FormatStopped { .. }) => Err(Stop::FlashFault),
+    }
+}
+
+/// Two motes become neighbours.
+fn play_link(world: &mut World, a: u8, b: u8) -> Result<(), Stop>
+    ensures { LinkedAs result world.old world.new (a, b) }
+{
+    match world.link(a, b) {
+        Ok(()) => Ok(()),
+        Err(AllocError) => Err(Stop::Memory),
     }
 }
 
@@ -136,7 +153,7 @@ fn play_event<N: Nor>(
     ensures happened { (w : RuleWorld) → IsWorld world.old (map N.device boards.old.items) w
         → HappenedAs result w step.now world.new (map N.device boards.old.items) (map N.device boards.new.items) reports.old.items reports.new.items }
 {
-    match world.apply(boards, step, reports) {
+    match world.apply(boards, step, true, reports) {
         Ok(()) => Ok(()),
         Err(WorldFault::Memory) => Err(Stop::Memory),
         Err(WorldFault::Flash { .. }) => Err(Stop::FlashFault),
@@ -187,8 +204,11 @@ pub fn play_line<N: Nor>(
                 None => unreachable!(),
             }
         }
+        Line::Link(a, b) => match &mut player.world {
+            Some(world) => play_link(world, a, b),
+            None => unreachable!(),
+        },
         Line::Boards => unreachable!(),
-        Line::Link(_, _) => unreachable!(),
         Line::Round(_, _) => unreachable!(),
         Line::Sweeps(_) => unreachable!(),
     }

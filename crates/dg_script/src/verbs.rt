@@ -29,13 +29,13 @@ pub enum Verb {
 // Whether lines of these verbs are played. A line that is not yet is told as one of an unknown verb.
 pub const PLAYS_BOARDS: bool = false;
 
-pub const PLAYS_LINK: bool = false;
+pub const PLAYS_LINK: bool = true;
 
-pub const PLAYS_HEAR: bool = false;
+pub const PLAYS_HEAR: bool = true;
 
-pub const PLAYS_LAST: bool = false;
+pub const PLAYS_LAST: bool = true;
 
-pub const PLAYS_FRAME: bool = false;
+pub const PLAYS_FRAME: bool = true;
 
 pub const PLAYS_ROUND: bool = false;
 

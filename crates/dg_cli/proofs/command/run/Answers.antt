@@ -6,8 +6,8 @@ use Rattle.dg_rules.specs.Runs.{Played, EachAfter}
 use Rattle.dg_rules.specs.Promises.{IsLegal, KeepsAll, StartsRow}
 use Rattle.std.specs.Prelude.{Option, IfSome}
 use Rattle.dg_rules.specs.World.{World}
-use Rattle.dg_rules.specs.Premises.{LeavesAgreement, WorldAgrees}
-use Rattle.dg_cli.proofs.RunLemmas.{completed, replayed_never, unknown_never, holds_of_runs, holds_of_worlds}
+use Rattle.dg_rules.specs.Premises.{IsHonestThen, LeavesAgreement, WorldAgrees}
+use Rattle.dg_cli.proofs.RunLemmas.{completed, replayed_never, unknown_never, holds_of_runs, holds_of_worlds, without_frames}
 use Rattle.dg_cli.proofs.command.run.Goals as goal
 
 pub returns-then-is_replay-clause-complete : goal.returns-then-is_replay-clause-complete
@@ -28,26 +28,32 @@ returns-clause-never g c = unknown_never _ _ _ _ _ c.end_with.ensures.written
 
 pub returns-then-is_replay-clause-legal : goal.returns-then-is_replay-clause-legal
 unfolding EachAfter
-returns-then-is_replay-clause-legal g c = λ x. holds_of_runs (λ (ps : List Played). EachAfter IsLegal [] ps) tt c.scripts_with_golden.ensures.legal _ _ _ _ _ _ _ _ _ _ _ x
+returns-then-is_replay-clause-legal g c = λ x. holds_of_runs (λ (ps : List Played). AllByRecursion IsHonestThen ps → EachAfter IsLegal [] ps) (λ honest. tt) c.scripts_with_golden.ensures.legal _ _ _ _ _ _ _ _ _ _ _ x
 
 pub returns-then-is_replay-clause-keeps : goal.returns-then-is_replay-clause-keeps
-returns-then-is_replay-clause-keeps g c = λ x. holds_of_runs (λ (ps : List Played). AllByRecursion KeepsAll ps) tt c.scripts_with_golden.ensures.keeps _ _ _ _ _ _ _ _ _ _ _ x
+returns-then-is_replay-clause-keeps g c = λ x. holds_of_runs (λ (ps : List Played). AllByRecursion IsHonestThen ps → AllByRecursion KeepsAll ps) (λ honest. tt) c.scripts_with_golden.ensures.keeps _ _ _ _ _ _ _ _ _ _ _ x
 
 pub returns-then-is_replay-clause-starts : goal.returns-then-is_replay-clause-starts
-returns-then-is_replay-clause-starts g c = λ x. holds_of_runs (λ (ps : List Played). AllByRecursion StartsRow ps) tt c.scripts_with_golden.ensures.starts _ _ _ _ _ _ _ _ _ _ _ x
+returns-then-is_replay-clause-starts g c = λ x. holds_of_runs (λ (ps : List Played). AllByRecursion IsHonestThen ps → AllByRecursion StartsRow ps) (λ honest. tt) c.scripts_with_golden.ensures.starts _ _ _ _ _ _ _ _ _ _ _ x
 
 pub returns-then-is_replay-clause-agrees : goal.returns-then-is_replay-clause-agrees
-returns-then-is_replay-clause-agrees g c = λ x. holds_of_worlds (λ (ps : List Played) (last : Option World). AllByRecursion LeavesAgreement ps × IfSome last WorldAgrees) (tt, tt) c.scripts_with_golden.ensures.agrees _ _ _ _ _ _ _ _ _ _ _ x
+returns-then-is_replay-clause-agrees g c = λ x. holds_of_worlds (λ (ps : List Played) (last : Option World). AllByRecursion IsHonestThen ps → AllByRecursion LeavesAgreement ps × IfSome last WorldAgrees) (λ honest. (tt, tt)) c.scripts_with_golden.ensures.agrees _ _ _ _ _ _ _ _ _ _ _ x
 
 pub returns-clause-legal : goal.returns-clause-legal
 unfolding EachAfter
-returns-clause-legal g c = λ x. holds_of_runs (λ (ps : List Played). EachAfter IsLegal [] ps) tt c.scripts_with_golden.ensures.legal _ _ _ _ _ _ _ _ _ _ _ x
+returns-clause-legal g c = λ x. holds_of_runs (λ (ps : List Played). AllByRecursion IsHonestThen ps → EachAfter IsLegal [] ps) (λ honest. tt) c.scripts_with_golden.ensures.legal _ _ _ _ _ _ _ _ _ _ _ x
 
 pub returns-clause-keeps : goal.returns-clause-keeps
-returns-clause-keeps g c = λ x. holds_of_runs (λ (ps : List Played). AllByRecursion KeepsAll ps) tt c.scripts_with_golden.ensures.keeps _ _ _ _ _ _ _ _ _ _ _ x
+returns-clause-keeps g c = λ x. holds_of_runs (λ (ps : List Played). AllByRecursion IsHonestThen ps → AllByRecursion KeepsAll ps) (λ honest. tt) c.scripts_with_golden.ensures.keeps _ _ _ _ _ _ _ _ _ _ _ x
 
 pub returns-clause-starts : goal.returns-clause-starts
-returns-clause-starts g c = λ x. holds_of_runs (λ (ps : List Played). AllByRecursion StartsRow ps) tt c.scripts_with_golden.ensures.starts _ _ _ _ _ _ _ _ _ _ _ x
+returns-clause-starts g c = λ x. holds_of_runs (λ (ps : List Played). AllByRecursion IsHonestThen ps → AllByRecursion StartsRow ps) (λ honest. tt) c.scripts_with_golden.ensures.starts _ _ _ _ _ _ _ _ _ _ _ x
 
 pub returns-clause-agrees : goal.returns-clause-agrees
-returns-clause-agrees g c = λ x. holds_of_worlds (λ (ps : List Played) (last : Option World). AllByRecursion LeavesAgreement ps × IfSome last WorldAgrees) (tt, tt) c.scripts_with_golden.ensures.agrees _ _ _ _ _ _ _ _ _ _ _ x
+returns-clause-agrees g c = λ x. holds_of_worlds (λ (ps : List Played) (last : Option World). AllByRecursion IsHonestThen ps → AllByRecursion LeavesAgreement ps × IfSome last WorldAgrees) (λ honest. (tt, tt)) c.scripts_with_golden.ensures.agrees _ _ _ _ _ _ _ _ _ _ _ x
+
+pub returns-then-is_replay-clause-honest : goal.returns-then-is_replay-clause-honest
+returns-then-is_replay-clause-honest g c = λ x none. without_frames _ _ _ _ _ _ _ _ _ _ _ x none
+
+pub returns-clause-honest : goal.returns-clause-honest
+returns-clause-honest g c = λ x none. without_frames _ _ _ _ _ _ _ _ _ _ _ x none

@@ -1,7 +1,7 @@
 use Rattle.std.proofs.Common.{refl, ◌∙◌, sym}
 use Rattle.std.proofs.lemmas.List.{length-map}
-use Rattle.dg_cli.proofs.PlayLemmas.{golden_at, image_at}
-use Rattle.dg_cli.proofs.LineLemmas.{nothing_played, motes_as, image_played, cut_played, event_played}
+use Rattle.dg_cli.proofs.PlayLemmas.{golden_at, link_at, image_at}
+use Rattle.dg_cli.proofs.LineLemmas.{nothing_played, motes_as, link_played, image_played, cut_played, event_played}
 use Rattle.dg_cli.proofs.player.play_line.Goals as goal
 
 pub returns-in-Nothing-clause-played : goal.returns-in-Nothing-clause-played
@@ -24,6 +24,14 @@ returns-in-Some-clause-played g c = λ p done w initial passed stands fits stood
     let ps = rw e.is at passed in
     rw e.is (image_played c.play_image.result p _ done w e.image e.version e.name e.content c.in-Some.world c.play_image.new.world _ _ initial _
     (image_at p.place e.image e.version e.name e.content (rw e.is at stands)).0 (sym ps.world ∙ c.in-Some.is) ps.place ps.cut refl c.play_image.ensures.declared stood)
+
+pub returns-in-Some-world-2-clause-played : goal.returns-in-Some-world-2-clause-played
+returns-in-Some-world-2-clause-played g c = λ p done w initial passed stands fits stood.
+    let e = c.in-Link in
+    let ps = rw e.is at passed in
+    let at = link_at p.place e.a e.b (rw e.is at stands) in
+    rw e.is (link_played c.play_link.result p _ done w e.a e.b c.in-Some-world-2.world c.play_link.new.world _ initial _
+    at.0.0 at.1 (sym ps.world ∙ c.in-Some-world-2.is) ps.place ps.cut refl c.play_link.ensures stood)
 
 pub returns-in-Cut-clause-played : goal.returns-in-Cut-clause-played
 returns-in-Cut-clause-played g c = λ p done w initial passed stands fits stood.
