@@ -19,9 +19,10 @@ use Rattle.dg_world.specs.Turns.{trail_of, Tells, Went, StoppedOn, TurnEnds}
 use Rattle.dg_world.specs.Cuts.{ended, IsWhole, IsBlown, PlayEnds, Played}
 use Rattle.dg_world.specs.declared.shown.Shown.{Shown}
 use Rattle.dg_world.specs.declared.turn.Turn.{Turn}
-use Rattle.dg_world.specs.declared.turn.Turn.TheVariants.{Refused, Rests, Changes, Starts}
+use Rattle.dg_world.specs.declared.turn.Turn.TheVariants.{Refused, Rests, Sends, Changes, Starts}
 use Rattle.dg_world.specs.declared.turn.Ended.{Ended}
 use Rattle.dg_world.specs.declared.turn.Halt.{Halt}
+use Rattle.dg_world.specs.declared.world.RunningMote.{RunningMote}
 use Rattle.dg_world.specs.declared.turn.Halt.TheVariants.{Stopped, NotAVolume, NoImage}
 
 -- ---- without a cut
@@ -32,17 +33,18 @@ ran_endures a b r = record { faults = r.faults; cause = λ stopped. inl (sym r.s
 halts_endures : {n done : ℕ} (a b : Device) → Halts n done a b → Endures (beneath_of a) (beneath_of b)
 halts_endures a b h = record { faults = h.faults; cause = λ stopped. h.cause }
 
-went_whole : (w : RuleWorld) (m now : ℕ) (does : Does) (a b : Device) (turn : Turn) → Went w m now does a b turn → IsWhole w m now does None b.image turn
-went_whole w m now does a b turn x = record { deed = x.deed; goes = x.goes; whole = refl; tells = x.tells }
+went_whole : (w : RuleWorld) (m : ℕ) (does : Does) (u : Option RunningMote) (a b : Device) (turn : Turn) → Went w m does u a b turn → IsWhole w m does None u b.image turn
+went_whole w m does u a b turn x = record { deed = x.deed; goes = x.goes; whole = refl; tells = x.tells }
 
-pub uncut : (r : Result Turn Halt) (w : RuleWorld) (m now : ℕ) (does : Does) (a b : Device) → TurnEnds r w m now does a b → Played (ended false r) w m now does None a b
-uncut (Ok (Refused why)) w m now does a b x = record { ends = (x.0, x.1.same_image); endures = ran_endures a b x.1.ran }
-uncut (Ok Rests) w m now does a b x = record { ends = went_whole w m now does a b Rests x; endures = ran_endures a b x.ran }
-uncut (Ok (Changes p q)) w m now does a b x = record { ends = went_whole w m now does a b (Changes p q) x; endures = ran_endures a b x.ran }
-uncut (Ok (Starts p)) w m now does a b x = record { ends = went_whole w m now does a b (Starts p) x; endures = ran_endures a b x.ran }
-uncut (Err (Stopped before)) w m now does a b x = record { ends = record { stopped = x.stops.halts.stopped; done = x.stops.done; within = x.stops.halts.within; uncut = tt; leaves = x.stops.leaves }; endures = halts_endures a b x.stops.halts }
-uncut (Err NoImage) w m now does a b x = record { ends = record { deed = x.deed; goes = x.goes; none = x.none; whole = refl; stands = x.stands }; endures = ran_endures a b x.ran }
-uncut (Err NotAVolume) w m now does a b x = absurd x
+pub uncut : (r : Result Turn Halt) (w : RuleWorld) (m : ℕ) (does : Does) (v u : Option RunningMote) (a b : Device) → TurnEnds r w m does v u a b → Played (ended false r) w m does None v u a b
+uncut (Ok (Refused why)) w m does v u a b x = record { ends = (x.0, x.1.same_image, x.2); endures = ran_endures a b x.1.ran }
+uncut (Ok Rests) w m does v u a b x = record { ends = went_whole w m does u a b Rests x; endures = ran_endures a b x.ran }
+uncut (Ok (Sends frame)) w m does v u a b x = record { ends = went_whole w m does u a b (Sends frame) x; endures = ran_endures a b x.ran }
+uncut (Ok (Changes p q)) w m does v u a b x = record { ends = went_whole w m does u a b (Changes p q) x; endures = ran_endures a b x.ran }
+uncut (Ok (Starts p)) w m does v u a b x = record { ends = went_whole w m does u a b (Starts p) x; endures = ran_endures a b x.ran }
+uncut (Err (Stopped before)) w m does v u a b x = record { ends = record { stopped = x.stops.halts.stopped; done = x.stops.done; within = x.stops.halts.within; uncut = tt; leaves = x.stops.leaves }; endures = halts_endures a b x.stops.halts }
+uncut (Err NoImage) w m does v u a b x = record { ends = record { deed = x.deed; goes = x.goes; none = x.none; whole = refl; stands = x.stands }; endures = ran_endures a b x.ran }
+uncut (Err NotAVolume) w m does v u a b x = absurd x
 
 -- ---- over a fuse
 
@@ -71,12 +73,12 @@ fused_ran cut a b x y f r = endures_by (beneath_of a) (beneath_of b) x.beneath y
 fused_halts : {n done : ℕ} (cut : PowerCut) (a b x y : Device) → IsFused cut a b x y → Halts n done x y → Endures (beneath_of a) (beneath_of b)
 fused_halts cut a b x y f h = endures_by (beneath_of a) (beneath_of b) x.beneath y.beneath f.beneath f.beneath_then h.beneath
 
-fused_whole : (cut : PowerCut) (w : RuleWorld) (m now : ℕ) (does : Does) (a b x y : Device) (turn : Turn) → IsFused cut a b x y → Went w m now does x y turn → IsWhole w m now does (Some cut) b.image turn
-fused_whole cut w m now does a b x y turn f g = record {
+fused_whole : (cut : PowerCut) (w : RuleWorld) (m : ℕ) (does : Does) (u : Option RunningMote) (a b x y : Device) (turn : Turn) → IsFused cut a b x y → Went w m does u x y turn → IsWhole w m does (Some cut) u b.image turn
+fused_whole cut w m does u a b x y turn f g = record {
   deed = g.deed;
   goes = g.goes;
   whole = not_reached cut (operations g.deed.trail) a b x y f g.ran;
-  tells = subst (Tells w m now g.deed turn) f.image_then g.tells;
+  tells = subst (Tells w m g.deed turn u) f.image_then g.tells;
 }
 
 -- a refused event makes no operation, so that no cut blows in it
@@ -99,10 +101,10 @@ made_within : (n k : ℕ) (o : Option ℕ) → Some k ≡ more n o → n ≤ k
 made_within n k None h = cc
 made_within n k (Some m) h = let e : k ≡ m + n = same_Some k (m + n) h in omega (arith, e)
 
-fused_stopped : (cut : PowerCut) (w : RuleWorld) (m now : ℕ) (does : Does) (a b x y : Device) (before : Option Shown) (blown : Bool) → y.blown ≡ blown → IsFused cut a b x y → StoppedOn does (store_at w m) x y before
-    → PlayEnds (ended blown (Err (Stopped before))) w m now does (Some cut) a b
-fused_stopped cut w m now does a b x y before true is f s = blown_deed cut w m does a b x y before f is s
-fused_stopped cut w m now does a b x y before false is f s = record {
+fused_stopped : (cut : PowerCut) (w : RuleWorld) (m : ℕ) (does : Does) (v u : Option RunningMote) (a b x y : Device) (before : Option Shown) (blown : Bool) → y.blown ≡ blown → IsFused cut a b x y → StoppedOn does (store_at w m) x y before
+    → PlayEnds (ended blown (Err (Stopped before))) w m does (Some cut) v u a b
+fused_stopped cut w m does v u a b x y before true is f s = blown_deed cut w m does a b x y before f is s
+fused_stopped cut w m does v u a b x y before false is f s = record {
   stopped = f.stopped is s.stops.halts.stopped;
   done = s.stops.done;
   within = s.stops.halts.within;
@@ -110,18 +112,19 @@ fused_stopped cut w m now does a b x y before false is f s = record {
   leaves = subst (λ c. MayLeave Stands IsNear (trail_of does (store_at w m)) s.stops.done c) f.image_then s.stops.leaves;
 }
 
-pub fused : (r : Result Turn Halt) (cut : PowerCut) (w : RuleWorld) (m now : ℕ) (does : Does) (a b x y : Device) → IsFused cut a b x y → TurnEnds r w m now does x y → Played (ended y.blown r) w m now does (Some cut) a b
-fused (Ok (Refused why)) cut w m now does a b x y f t = record { ends = (t.0, sym f.image_then ∙ t.1.same_image ∙ f.image); endures = fused_ran cut a b x y f t.1.ran }
-fused (Ok Rests) cut w m now does a b x y f t = record { ends = fused_whole cut w m now does a b x y Rests f t; endures = fused_ran cut a b x y f t.ran }
-fused (Ok (Changes p q)) cut w m now does a b x y f t = record { ends = fused_whole cut w m now does a b x y (Changes p q) f t; endures = fused_ran cut a b x y f t.ran }
-fused (Ok (Starts p)) cut w m now does a b x y f t = record { ends = fused_whole cut w m now does a b x y (Starts p) f t; endures = fused_ran cut a b x y f t.ran }
-fused (Err (Stopped before)) cut w m now does a b x y f t = record { ends = fused_stopped cut w m now does a b x y before y.blown refl f t; endures = fused_halts cut a b x y f t.stops.halts }
-fused (Err NoImage) cut w m now does a b x y f t =
+pub fused : (r : Result Turn Halt) (cut : PowerCut) (w : RuleWorld) (m : ℕ) (does : Does) (v u : Option RunningMote) (a b x y : Device) → IsFused cut a b x y → TurnEnds r w m does v u x y → Played (ended y.blown r) w m does (Some cut) v u a b
+fused (Ok (Refused why)) cut w m does v u a b x y f t = record { ends = (t.0, sym f.image_then ∙ t.1.same_image ∙ f.image, t.2); endures = fused_ran cut a b x y f t.1.ran }
+fused (Ok Rests) cut w m does v u a b x y f t = record { ends = fused_whole cut w m does u a b x y Rests f t; endures = fused_ran cut a b x y f t.ran }
+fused (Ok (Sends frame)) cut w m does v u a b x y f t = record { ends = fused_whole cut w m does u a b x y (Sends frame) f t; endures = fused_ran cut a b x y f t.ran }
+fused (Ok (Changes p q)) cut w m does v u a b x y f t = record { ends = fused_whole cut w m does u a b x y (Changes p q) f t; endures = fused_ran cut a b x y f t.ran }
+fused (Ok (Starts p)) cut w m does v u a b x y f t = record { ends = fused_whole cut w m does u a b x y (Starts p) f t; endures = fused_ran cut a b x y f t.ran }
+fused (Err (Stopped before)) cut w m does v u a b x y f t = record { ends = fused_stopped cut w m does v u a b x y before y.blown refl f t; endures = fused_halts cut a b x y f t.stops.halts }
+fused (Err NoImage) cut w m does v u a b x y f t =
     record {
       ends = record { deed = t.deed; goes = t.goes; none = t.none; whole = not_reached cut (operations t.deed.trail) a b x y f t.ran; stands = subst (λ c. Stands c (last t.deed.trail)) f.image_then t.stands };
       endures = fused_ran cut a b x y f t.ran;
     }
-fused (Err NotAVolume) cut w m now does a b x y f t = absurd t
+fused (Err NotAVolume) cut w m does v u a b x y f t = absurd t
 
 or_second : (x y : Bool) → x ≡ false → (x || y) ≡ true → y ≡ true
 or_second false y e h = h
@@ -150,7 +153,7 @@ is_fused device cut a f g name counted made = record {
   stopped = λ whole stopped. or_second g.blown (device (inner_of g)).stopped whole stopped;
 }
 
-pub played_as : (r q : Result Ended Halt) (cut other : Option PowerCut) (w : RuleWorld) (m now : ℕ) (does : Does) (a b : Device) → r ≡ q → cut ≡ other → Played q w m now does other a b → Played r w m now does cut a b
-played_as r q cut other w m now does a b e f p =
-    let P : Result Ended Halt → Option PowerCut → Type 0 = λ x y. Played x w m now does y a b in
+pub played_as : (r q : Result Ended Halt) (cut other : Option PowerCut) (w : RuleWorld) (m : ℕ) (does : Does) (v u : Option RunningMote) (a b : Device) → r ≡ q → cut ≡ other → Played q w m does other v u a b → Played r w m does cut v u a b
+played_as r q cut other w m does v u a b e f p =
+    let P : Result Ended Halt → Option PowerCut → Type 0 = λ x y. Played x w m does y v u a b in
     subst (λ x. P x cut) (sym e) (subst (λ y. P q y) (sym f) p)

@@ -1,8 +1,11 @@
 -- A step that was done at its board, as a step of the world.
-use Rattle.std.proofs.Common.{◌≡◌, ℕ, ◌-◌, ◌<◌, ◌≤◌, Bool, true, false, List, [], ◌∷◌, ◌++◌, length, get_or, set, refl, ap, sym, ◌∙◌, subst, arith}
-use Rattle.std.specs.Prelude.{Option, Some, None, IfSome, nat_le, Result, Ok, Err}
+use Rattle.std.proofs.Common.{◌≡◌, ℕ, ◌-◌, ◌<◌, ◌≤◌, Bool, true, false, List, [], ◌∷◌, ◌++◌, length, get_or, set, append-nil, refl, ap, sym, ◌∙◌, subst, arith}
+use Rattle.std.specs.Prelude.{Option, Some, None, IfSome, nat_le, option_map, Result, Ok, Err, IsErrAnd}
+use Rattle.std.specs.List.{filter}
 use Rattle.std.proofs.lemmas.Bool.Decides.{nat_tests}
 use Rattle.std.proofs.lemmas.List.{set-get_or}
+use Rattle.std.proofs.lemmas.Option.{same_Some}
+use Rattle.arrayvec.specs.ArrayVec.{ArrayVec}
 use Rattle.dg_nor.specs.Device.{Device}
 use Rattle.dg_nor.specs.Fuse.{beneath_of}
 use Rattle.dg_nor.specs.Trail.{Trail, operations, last, MayLeave}
@@ -11,10 +14,12 @@ use Rattle.dg_slot.specs.Pages.{program}
 use Rattle.dg_volume.specs.Store.{Store, IsNear}
 use Rattle.dg_volume.specs.Stands.{Stands}
 use Rattle.dg_volume.specs.Start.{Runs}
-use Rattle.dg_rules.specs.World.{World as RuleWorld, Running, no_site, site, store_at, counted}
+use Rattle.dg_frame.specs.declared.Message.{Message}
+use Rattle.dg_frame.specs.Spelling.{frame_of}
+use Rattle.dg_rules.specs.World.{World as RuleWorld, Site, Sent, no_site, site, store_at, counted, with_site}
 use Rattle.dg_rules.specs.Events.{Deed, Does, Refuses, Goes, does, mote_of, dt_of}
-use Rattle.dg_rules.specs.Steps.{blows, before_cut, done_world, cut_world, done_reports, Ended as StepEnded, StepDoes, WorldStep}
-use Rattle.dg_rules.specs.Changes.{changes}
+use Rattle.dg_rules.specs.Steps.{blows, before_cut, and_sent, done_world, cut_world, done_reports, Ended as StepEnded, StepDoes, WorldStep}
+use Rattle.dg_rules.specs.Changes.{changes, is_told}
 use Rattle.dg_rules.specs.Ranges.{EventFits}
 use Rattle.dg_base.specs.declared.events.Cut.{Cut as PowerCut}
 use Rattle.dg_base.specs.declared.events.Event.{Event}
@@ -23,17 +28,19 @@ use Rattle.dg_base.specs.declared.events.Step.{Step}
 use Rattle.dg_script.specs.declared.report.Cause.{Cause}
 use Rattle.dg_script.specs.declared.report.Report.{Report}
 use Rattle.dg_script.specs.declared.report.Report.TheVariants.{Off, Refused as RefusedLine}
-use Rattle.dg_world.specs.Worlds.{MoteStands}
-use Rattle.dg_world.specs.Turns.{trail_of, runs_after, turn_lines}
+use Rattle.dg_world.specs.Airs.{sent_now}
+use Rattle.dg_world.specs.Worlds.{MoteStands, SiteStands}
+use Rattle.dg_world.specs.Turns.{trail_of, turn_frame, turn_lines}
 use Rattle.dg_world.specs.Cuts.{IsWhole, IsBlown, Played}
-use Rattle.dg_world.specs.Stepped.{turn_mote, CutLinesAre, CutLines, StepDone, Stepped}
+use Rattle.dg_world.specs.Stepped.{CutLinesAre, CutLines, StepDone, Stepped}
 use Rattle.dg_world.specs.declared.shown.Shown.{Shown}
 use Rattle.dg_world.specs.declared.turn.Turn.{Turn}
-use Rattle.dg_world.specs.declared.turn.Turn.TheVariants.{Refused, Rests, Changes, Starts}
+use Rattle.dg_world.specs.declared.turn.Turn.TheVariants.{Refused, Rests, Sends, Changes, Starts}
 use Rattle.dg_world.specs.declared.turn.Ended.TheVariants.{Whole, Cut}
 use Rattle.dg_world.specs.declared.turn.Halt.{Halt}
 use Rattle.dg_world.specs.declared.turn.Halt.TheVariants.{Stopped, NotAVolume, NoImage}
 use Rattle.dg_world.specs.declared.world.RunningMote.{RunningMote}
+use Rattle.dg_world.proofs.ShownLemmas.{cut_told}
 
 same_deed : (d e : Deed) → Goes d ≡ Goes e → d ≡ e
 same_deed d e h = cc
@@ -57,57 +64,87 @@ refused_step w x why is = subst (λ (y : Does). StepDoes y w x (counted w (dt_of
 set_here : {A : Type 0} (xs : List A) (i : ℕ) (d : A) → i < length xs → xs ≡ set xs i (get_or xs i d)
 set_here xs i d h = sym (set-get_or xs i d)
 
-mote_stays : (turn : Turn) (now : ℕ) (v : Option RunningMote) (o : Option Running) → MoteStands v o → MoteStands (turn_mote turn now v) (runs_after turn now o)
-mote_stays (Refused why) now v o h = h
-mote_stays Rests now v o h = h
-mote_stays (Changes a b) now v o h = h
-mote_stays (Starts x) now v o h = (refl, refl)
+-- ---- what is sent
+
+-- but for what was sent the world is the same
+record SameBut (v w : RuleWorld) : Type 0 where
+  moment : v.moment ≡ w.moment
+  events : v.events ≡ w.events
+  declared : v.declared ≡ w.declared
+  links : v.links ≡ w.links
+  sites : v.sites ≡ w.sites
+
+same_but : (w : RuleWorld) (m : ℕ) (message : Option Message) → SameBut (and_sent w m message) w
+same_but w m None = record { moment = refl; events = refl; declared = refl; links = refl; sites = refl }
+same_but w m (Some message) = record { moment = refl; events = refl; declared = refl; links = refl; sites = refl }
+
+-- a frame and a message that spells it
+sent_with : (w : RuleWorld) (m : ℕ) (frame : Option (ArrayVec ℕ)) (message : Option Message) → option_map (λ f. f.items) frame ≡ option_map frame_of message → (and_sent w m message).sent ≡ w.sent ++ sent_now m frame
+sent_with w m None None e = sym (append-nil w.sent)
+sent_with w m (Some frame) None e = absurd cc
+sent_with w m None (Some message) e = absurd cc
+sent_with w m (Some frame) (Some message) e =
+    ap (λ (bytes : List ℕ). w.sent ++ record { by = m; bytes = bytes } ∷ []) (same_Some (frame_of message) frame.items (sym e))
+
+none_sent : (w : RuleWorld) (m : ℕ) (frame : Option (ArrayVec ℕ)) → option_map (λ f. f.items) frame ≡ None → w.sent ≡ w.sent ++ sent_now m frame
+none_sent w m None e = sym (append-nil w.sent)
+none_sent w m (Some frame) e = absurd cc
 
 -- ---- what ended the event
 
-pub refused_done : (w : RuleWorld) (x : Step) (now : ℕ) (v runs : Option RunningMote) (why : Cause) (a b : Device) (start end : List Report) → mote_of x.event < length w.sites → Stands a.image (store_at w (mote_of x.event))
-    → MoteStands v (site w (mote_of x.event)).runs → does w x.event ≡ Refuses why → b.image ≡ a.image → runs ≡ turn_mote (Refused why) now v → end ≡ start ++ turn_lines (mote_of x.event) (Refused why) → StepDone w x runs b start end
-refused_done w x now v runs why a b start end known stands mote is same at told = record {
-  world = counted w (dt_of x.event);
-  reports = RefusedLine (mote_of x.event) why ∷ [];
-  step = refused_step w x why is;
-  told_now = told;
-  here = site w (mote_of x.event);
-  moment = refl;
-  events = refl;
-  declared = refl;
-  sites = set_here w.sites (mote_of x.event) no_site known;
-  stands = subst (λ c. Stands c (store_at w (mote_of x.event))) (sym same) stands;
-  mote = subst (λ (o : Option RunningMote). MoteStands o (site w (mote_of x.event)).runs) (sym at) mote;
-  memory = λ d r goes whole some. absurd (refuses_goes why d (sym is ∙ goes));
-}
-
-pub whole_done : (w : RuleWorld) (x : Step) (now : ℕ) (v runs : Option RunningMote) (turn : Turn) (a b : Device) (start end : List Report)
-    → MoteStands v (site w (mote_of x.event)).runs → IsWhole w (mote_of x.event) now (does w x.event) x.cut b.image turn → runs ≡ turn_mote turn now v → end ≡ start ++ turn_lines (mote_of x.event) turn → StepDone w x runs b start end
-whole_done w x now v runs turn a b start end mote is at told =
-    let m = mote_of x.event in
-    let d = is.deed in
-    let then_runs = runs_after turn now (site w m).runs in
+pub refused_done : (w : RuleWorld) (x : Step) (loud : Bool) (v u : Option RunningMote) (frame : Option (ArrayVec ℕ)) (why : Cause) (a b : Device) (start end : List Report) → mote_of x.event < length w.sites
+    → SiteStands a v (site w (mote_of x.event)) → does w x.event ≡ Refuses why → b.image ≡ a.image → u ≡ v → option_map (λ f. f.items) frame ≡ turn_frame (Refused why) → end ≡ start ++ filter (is_told loud) (turn_lines (mote_of x.event) (Refused why))
+    → StepDone w x loud u frame b start end
+refused_done w x loud v u frame why a b start end known stands is same at none told =
+    let here = site w (mote_of x.event) in
+    let P : List ℕ → Option RunningMote → Type 0 = λ c o. MoteStands c o here.store here.runs in
     record {
-      world = done_world w m (dt_of x.event) d then_runs;
-      reports = done_reports w m d;
-      step = world_step w x d false _ _ is.goes is.whole (then_runs, is.tells.runs, refl, refl);
-      told_now = told ∙ ap (λ (l : List Report). start ++ l) is.tells.lines;
-      here = record { store = last d.trail; runs = then_runs };
+      world = counted w (dt_of x.event);
+      reports = RefusedLine (mote_of x.event) why ∷ [];
+      step = refused_step w x why is;
+      told_now = told;
+      here = here;
       moment = refl;
       events = refl;
       declared = refl;
-      sites = refl;
+      links = refl;
+      sent = none_sent w (mote_of x.event) frame none;
+      sites = set_here w.sites (mote_of x.event) no_site known;
+      stands = subst (λ c. Stands c here.store) (sym same) stands.stands;
+      mote = subst (λ (c : List ℕ). P c u) (sym same) (subst (P a.image) (sym at) stands.mote);
+      memory = λ d r goes whole some. absurd (refuses_goes why d (sym is ∙ goes));
+    }
+
+pub whole_done : (w : RuleWorld) (x : Step) (loud : Bool) (u : Option RunningMote) (frame : Option (ArrayVec ℕ)) (turn : Turn) (b : Device) (start end : List Report)
+    → IsWhole w (mote_of x.event) (does w x.event) x.cut u b.image turn → option_map (λ f. f.items) frame ≡ turn_frame turn → end ≡ start ++ filter (is_told loud) (turn_lines (mote_of x.event) turn) → StepDone w x loud u frame b start end
+whole_done w x loud u frame turn b start end is sends told =
+    let m = mote_of x.event in
+    let d = is.deed in
+    let here : Site = record { store = last d.trail; runs = is.tells.runs } in
+    let before : RuleWorld = with_site (record (counted w (dt_of x.event)) { table = d.table }) m here in
+    let same = same_but before m d.sent in
+    record {
+      world = done_world w m (dt_of x.event) d is.tells.runs;
+      reports = done_reports w m d;
+      step = world_step w x d false _ _ is.goes is.whole (is.tells.runs, is.tells.runs_then, refl, refl);
+      told_now = told ∙ ap (λ (l : List Report). start ++ filter (is_told loud) l) is.tells.lines;
+      here = here;
+      moment = same.moment;
+      events = same.events;
+      declared = same.declared;
+      links = same.links;
+      sent = sent_with before m frame d.sent (sends ∙ is.tells.sent);
+      sites = same.sites;
       stands = is.tells.stands;
-      mote = subst (λ (o : Option RunningMote). MoteStands o then_runs) (sym at) (mote_stays turn now v (site w m).runs mote);
+      mote = is.tells.mote;
       memory = λ e r goes whole some.
           let P : Option Runs → Type 0 = λ o. IfSome o (λ q. program b.image (length q.pages) ≡ q.pages) in
           subst P (ap (λ (y : Deed). y.started) (same_deed d e (sym is.goes ∙ goes)) ∙ some) is.tells.memory;
     }
 
-pub cut_done : (w : RuleWorld) (x : Step) (runs : Option RunningMote) (before : Option Shown) (b c : Device) (start end : List Report) → (is : IsBlown w (mote_of x.event) (does w x.event) x.cut b.image before)
-    → runs ≡ None → CutLinesAre (mote_of x.event) before is.leaves.store start end → c.image ≡ b.image → StepDone w x runs c start end
-cut_done w x runs before b c start end is off lines same =
+pub cut_done : (w : RuleWorld) (x : Step) (loud : Bool) (before : Option Shown) (b c : Device) (start end : List Report) → (is : IsBlown w (mote_of x.event) (does w x.event) x.cut b.image before)
+    → CutLinesAre (mote_of x.event) before is.leaves.store start end → c.image ≡ b.image → StepDone w x loud None None c start end
+cut_done w x loud before b c start end is lines same =
     let m = mote_of x.event in
     let d = is.deed in
     let s = is.leaves.store in
@@ -116,26 +153,30 @@ cut_done w x runs before b c start end is off lines same =
       world = cut_world w m (dt_of x.event) d s;
       reports = changes m (store_at w m) s ++ Off m ∷ [];
       step = world_step w x d true _ _ is.goes is.blown (record { store = s; allowed = is.leaves.allowed; world = refl; report = refl });
-      told_now = lines.told_now ∙ ap (λ (l : List Report). start ++ (l ++ Off m ∷ [])) told;
+      told_now = lines.told_now ∙ ap (λ (l : List Report). start ++ (l ++ Off m ∷ [])) told ∙ ap (λ (l : List Report). start ++ l) (sym (cut_told loud m (store_at w m) s));
       here = record { store = s; runs = None };
       moment = refl;
       events = refl;
       declared = refl;
+      links = refl;
+      sent = sym (append-nil w.sent);
       sites = refl;
       stands = subst (λ i. Stands i s) (sym same) is.leaves.stands_for;
-      mote = subst (λ (o : Option RunningMote). MoteStands o None) (sym off) tt;
+      mote = tt;
       memory = λ e r goes whole some. absurd (true_false (sym is.blown ∙ ap (λ (y : Deed). blows x.cut y.trail) (same_deed d e (sym is.goes ∙ goes)) ∙ whole));
     }
 
 -- ---- what the step ends with
 
-pub step_turn : (w : RuleWorld) (x : Step) (now : ℕ) (v runs : Option RunningMote) (turn : Turn) (a b : Device) (start end : List Report) → mote_of x.event < length w.sites → Stands a.image (store_at w (mote_of x.event))
-    → MoteStands v (site w (mote_of x.event)).runs → Played (Ok (Whole turn)) w (mote_of x.event) now (does w x.event) x.cut a b → runs ≡ turn_mote turn now v → end ≡ start ++ turn_lines (mote_of x.event) turn
-    → Stepped (Ok runs) w x a b start end
-step_turn w x now v runs (Refused why) a b start end known stands mote p at told = record { ends = refused_done w x now v runs why a b start end known stands mote p.ends.0 p.ends.1 at told; endures = p.endures }
-step_turn w x now v runs Rests a b start end known stands mote p at told = record { ends = whole_done w x now v runs Rests a b start end mote p.ends at told; endures = p.endures }
-step_turn w x now v runs (Changes k l) a b start end known stands mote p at told = record { ends = whole_done w x now v runs (Changes k l) a b start end mote p.ends at told; endures = p.endures }
-step_turn w x now v runs (Starts k) a b start end known stands mote p at told = record { ends = whole_done w x now v runs (Starts k) a b start end mote p.ends at told; endures = p.endures }
+pub step_turn : (w : RuleWorld) (x : Step) (loud : Bool) (v u : Option RunningMote) (frame : Option (ArrayVec ℕ)) (turn : Turn) (a b : Device) (start end : List Report) → mote_of x.event < length w.sites → SiteStands a v (site w (mote_of x.event))
+    → Played (Ok (Whole turn)) w (mote_of x.event) (does w x.event) x.cut v u a b → option_map (λ f. f.items) frame ≡ turn_frame turn → end ≡ start ++ filter (is_told loud) (turn_lines (mote_of x.event) turn)
+    → Stepped (Ok frame) w x loud u a b start end
+step_turn w x loud v u frame (Refused why) a b start end known stands p sends told =
+    record { ends = refused_done w x loud v u frame why a b start end known stands p.ends.0 p.ends.1 p.ends.2 sends told; endures = p.endures }
+step_turn w x loud v u frame Rests a b start end known stands p sends told = record { ends = whole_done w x loud u frame Rests b start end p.ends sends told; endures = p.endures }
+step_turn w x loud v u frame (Sends f) a b start end known stands p sends told = record { ends = whole_done w x loud u frame (Sends f) b start end p.ends sends told; endures = p.endures }
+step_turn w x loud v u frame (Changes k l) a b start end known stands p sends told = record { ends = whole_done w x loud u frame (Changes k l) b start end p.ends sends told; endures = p.endures }
+step_turn w x loud v u frame (Starts k) a b start end known stands p sends told = record { ends = whole_done w x loud u frame (Starts k) b start end p.ends sends told; endures = p.endures }
 
 -- the operations before a cut that blows are some of the event's
 blown_within : (cut : Option PowerCut) (t : Trail Store) → blows cut t ≡ true → before_cut cut ≤ operations t
@@ -152,13 +193,18 @@ cut_itself : (cut : Option PowerCut) → IfSome cut (λ c. before_cut cut ≤ c.
 cut_itself None = tt
 cut_itself (Some c) = omega arith
 
-pub step_cut : (r : Result (Option RunningMote) Halt) (w : RuleWorld) (x : Step) (now : ℕ) (before : Option Shown) (a b c : Device) (start end : List Report) → (p : Played (Ok (Cut before)) w (mote_of x.event) now (does w x.event) x.cut a b)
-    → CutLines r (mote_of x.event) before p.ends.leaves.store b c start end → Stepped r w x a c start end
-step_cut (Ok runs) w x now before a b c start end p lines = record {
-  ends = cut_done w x runs before b c start end p.ends lines.0 lines.1 lines.2.same_image;
-  endures = Endures_then (beneath_of a) (beneath_of b) (beneath_of c) p.endures lines.2.endures;
-}
-step_cut (Err (Stopped k)) w x now before a b c start end p lines = record {
+pub step_cut : (w : RuleWorld) (x : Step) (loud : Bool) (v u : Option RunningMote) (before : Option Shown) (q : Result (Unit {0}) Halt) (y : Unit {0}) (a b c : Device) (start end : List Report) → (p : Played (Ok (Cut before)) w (mote_of x.event) (does w x.event) x.cut v u a b)
+    → q ≡ Ok y → CutLines q (mote_of x.event) before p.ends.leaves.store b c start end → Stepped (Ok None) w x loud None a c start end
+step_cut w x loud v u before q y a b c start end p is lines =
+    let l : CutLines (Ok y) (mote_of x.event) before p.ends.leaves.store b c start end = subst (λ (z : Result (Unit {0}) Halt). CutLines z (mote_of x.event) before p.ends.leaves.store b c start end) is lines in
+    record {
+      ends = cut_done w x loud before b c start end p.ends l.0 l.1.same_image;
+      endures = Endures_then (beneath_of a) (beneath_of b) (beneath_of c) p.endures l.1.endures;
+    }
+
+cut_halts : (h : Halt) (w : RuleWorld) (x : Step) (loud : Bool) (v u o : Option RunningMote) (before : Option Shown) (a b c : Device) (start end : List Report) → (p : Played (Ok (Cut before)) w (mote_of x.event) (does w x.event) x.cut v u a b)
+    → CutLines (Err h) (mote_of x.event) before p.ends.leaves.store b c start end → Stepped (Err h) w x loud o a c start end
+cut_halts (Stopped k) w x loud v u o before a b c start end p lines = record {
   ends = (
     record {
       stopped = lines.0;
@@ -172,23 +218,30 @@ step_cut (Err (Stopped k)) w x now before a b c start end p lines = record {
   );
   endures = Endures_then (beneath_of a) (beneath_of b) (beneath_of c) p.endures lines.1.endures;
 }
-step_cut (Err NotAVolume) w x now before a b c start end p lines = absurd lines
-step_cut (Err NoImage) w x now before a b c start end p lines = absurd lines
+cut_halts NotAVolume w x loud v u o before a b c start end p lines = absurd lines
+cut_halts NoImage w x loud v u o before a b c start end p lines = absurd lines
 
-pub step_halts : (h : Halt) (w : RuleWorld) (x : Step) (now : ℕ) (a b : Device) (told : List Report) → Played (Err h) w (mote_of x.event) now (does w x.event) x.cut a b → Stepped (Err h) w x a b told told
-step_halts (Stopped k) w x now a b told p = record { ends = (p.ends, refl); endures = p.endures }
-step_halts NotAVolume w x now a b told p = absurd p.ends
-step_halts NoImage w x now a b told p = record { ends = (p.ends, refl); endures = p.endures }
+pub step_cut_halts : (r : Result (Option (ArrayVec ℕ)) Halt) (q : Result (Unit {0}) Halt) (h : Halt) (w : RuleWorld) (x : Step) (loud : Bool) (v u o : Option RunningMote) (before : Option Shown) (a b c : Device) (start end : List Report) → IsErrAnd r (λ e. e ≡ h) → q ≡ Err h
+    → (p : Played (Ok (Cut before)) w (mote_of x.event) (does w x.event) x.cut v u a b) → CutLines q (mote_of x.event) before p.ends.leaves.store b c start end → Stepped r w x loud o a c start end
+step_cut_halts (Ok f) q h w x loud v u o before a b c start end is e p lines = absurd is
+step_cut_halts (Err y) q h w x loud v u o before a b c start end is e p lines =
+    let P : Halt → Type 0 = λ z. Stepped (Err z) w x loud o a c start end in
+    subst P (sym is) (cut_halts h w x loud v u o before a b c start end p (subst (λ (z : Result (Unit {0}) Halt). CutLines z (mote_of x.event) before p.ends.leaves.store b c start end) e lines))
+
+pub step_halts : (h : Halt) (w : RuleWorld) (x : Step) (loud : Bool) (v u : Option RunningMote) (a b : Device) (told : List Report) → Played (Err h) w (mote_of x.event) (does w x.event) x.cut v u a b → Stepped (Err h) w x loud u a b told told
+step_halts (Stopped k) w x loud v u a b told p = record { ends = (p.ends, refl); endures = p.endures }
+step_halts NotAVolume w x loud v u a b told p = absurd p.ends
+step_halts NoImage w x loud v u a b told p = record { ends = (p.ends, refl); endures = p.endures }
 
 -- the mote of a step that fits is one of the world
 pub event_mote : (motes : ℕ) (event : Event) → EventFits motes event → mote_of event < motes
 event_mote motes (Tick m dt word) fits = fits
-event_mote motes (Hear m dt word frame) fits = absurd fits
-event_mote motes (Last from to dt word) fits = absurd fits
-event_mote motes (Frame m dt word bytes) fits = absurd fits
+event_mote motes (Hear m dt word frame) fits = fits.0
+event_mote motes (Last from to dt word) fits = fits.1
+event_mote motes (Frame m dt word bytes) fits = fits.0
 event_mote motes (Reset m dt word) fits = fits
 event_mote motes (Inject m image version dt word) fits = fits.0
 event_mote motes (OrderEvent m number image version dt word) fits = fits.0
 
-pub lines_at : (r : Result (Option RunningMote) Halt) (m n : ℕ) (before : Option Shown) (s : Store) (a b : Device) (start end : List Report) → m ≡ n → CutLines r m before s a b start end → CutLines r n before s a b start end
+pub lines_at : (r : Result (Unit {0}) Halt) (m n : ℕ) (before : Option Shown) (s : Store) (a b : Device) (start end : List Report) → m ≡ n → CutLines r m before s a b start end → CutLines r n before s a b start end
 lines_at r m n before s a b start end e lines = subst (λ (k : ℕ). CutLines r k before s a b start end) e lines

@@ -12,7 +12,7 @@ use Rattle.dg_nor.specs.Fuse.{beneath_of}
 use Rattle.dg_nor.specs.Reads.{ReadStopped}
 use Rattle.dg_slot.specs.Kept.{Held}
 use Rattle.dg_volume.specs.Sizes.{images}
-use Rattle.dg_volume.specs.Store.{held}
+use Rattle.dg_volume.specs.Store.{Store, held}
 use Rattle.dg_volume.specs.Stands.{Stands, IsVolume}
 use Rattle.dg_volume.specs.Told.{told}
 use Rattle.dg_rules.specs.World.{World as RuleWorld, Running, Site, site}
@@ -35,11 +35,11 @@ use Rattle.dg_world.proofs.ShownLemmas.{range_more, same_over}
 
 -- ---- the lines of one mote
 
-mote_is : (m : ℕ) (v : Option RunningMote) (r : Option Running) → MoteStands v r → mote_shown m v ≡ mote_line m r
-mote_is m None None stands = refl
-mote_is m (Some v) (Some r) stands = ap (λ (k : Key). MoteOn m k.image k.version) stands.0
-mote_is m None (Some r) stands = absurd stands
-mote_is m (Some v) None stands = absurd stands
+mote_is : (m : ℕ) (c : List ℕ) (v : Option RunningMote) (s : Store) (r : Option Running) → MoteStands c v s r → mote_shown m v ≡ mote_line m r
+mote_is m c None s None stands = refl
+mote_is m c (Some v) s (Some r) stands = ap (λ (k : Key). MoteOn m k.image k.version) stands.0
+mote_is m c None s (Some r) stands = absurd stands
+mote_is m c (Some v) s None stands = absurd stands
 
 kept_is : (m i : ℕ) (h : Option Held) → kept_shown m i (told h) ≡ kept_line m i h
 kept_is m i None = refl
@@ -69,7 +69,7 @@ site_told m d v x s stands shows =
     let f : ℕ → Option Report = λ i. kept_shown m i (slice_index_or x.kept i None) in
     let g : ℕ → Option Report = λ i. kept_line m i (held s.store i) in
     let same : (i : ℕ) → i < images → f i ≡ g i = λ i h. ap (kept_shown m i) (shows.kept i h) ∙ kept_is m i (held s.store i) in
-    ap (λ (r : Report). r ∷ keeps_shown m x (images - 1)) (mote_is m v s.runs stands.mote)
+    ap (λ (r : Report). r ∷ keeps_shown m x (images - 1)) (mote_is m d.image v s.store s.runs stands.mote)
     ∙ ap (λ (xs : List Report). mote_line m s.runs ∷ xs) (same_over f g 1 (images - 1) same (omega arith))
 
 pub told_behind : {A : Type 0} (start mid end lines all : List A) (x : A) → mid ≡ start ++ x ∷ [] → end ≡ mid ++ lines → x ∷ lines ≡ all → end ≡ start ++ all
@@ -122,18 +122,23 @@ still_world v w old new same is =
     record {
       moment = is.moment;
       events = is.events;
-      declared = is.declared;
+      shared = is.shared;
       motes = is.motes;
       few_motes = is.few_motes;
       boards_enough = omega (arith, is.boards_enough, same.count);
       few_events = is.few_events;
       early = is.early;
+      timely = is.timely;
       sites = λ m d known here.
           let within : m < length old = omega (arith, known, is.boards_enough) in
           let was = slice_get-get_or old m d within in
           let a : Device = get_or old m d in
           let stood : SiteStands a (slice_index_or v.motes.items m None) (site w m) = is.sites m a known was in
-          record { stands = subst (λ (c : List ℕ). Stands c (site w m).store) (sym (same.images m a d was here)) stood.stands; mote = stood.mote };
+          let image : a.image ≡ d.image = sym (same.images m a d was here) in
+          record {
+            stands = subst (λ (c : List ℕ). Stands c (site w m).store) image stood.stands;
+            mote = subst (λ (c : List ℕ). MoteStands c (slice_index_or v.motes.items m None) (site w m).store (site w m).runs) image stood.mote;
+          };
     }
 
 -- the board that is read next is as before, and stands for its site

@@ -1,5 +1,5 @@
 -- What injections and orders do at a board.
-use Rattle.std.proofs.Common.{◌≡◌, ◌≢◌, ◌⊎◌, ℕ, Bool, false, List, refl, ap, sym, ◌∙◌, subst, ⊎_elim, inl, inr, arith}
+use Rattle.std.proofs.Common.{◌≡◌, ◌≢◌, ◌⊎◌, ℕ, Bool, false, List, [], ◌++◌, refl, ap, sym, ◌∙◌, subst, ⊎_elim, inl, inr, arith}
 use Rattle.std.specs.Prelude.{◌==◌, if◌then◌else◌, Option, Some, None, Result, Ok, Err}
 use Rattle.std.proofs.lemmas.List.{append-nil}
 use Rattle.std.proofs.lemmas.Bool.Decides.{nat_tests}
@@ -22,96 +22,103 @@ use Rattle.dg_volume.specs.declared.volume.Injected.{Injected}
 use Rattle.dg_volume.specs.declared.volume.Volume.{Volume}
 use Rattle.dg_volume.proofs.BeginLemmas.{begins_resting, begins_committing, inject_begins}
 use Rattle.dg_rules.specs.World.{World as RuleWorld, site, store_at}
-use Rattle.dg_rules.specs.Events.{Does, Refuses, acts, inject_cause, inject_row, inject_unless, order_cause, order_unless}
+use Rattle.dg_rules.specs.Events.{Does, Refuses, acts, reloaded, inject_cause, inject_row, inject_unless, order_cause, order_unless}
 use Rattle.dg_rules.specs.Changes.{changes}
 use Rattle.dg_script.specs.declared.report.Cause.{Cause}
 use Rattle.dg_script.specs.declared.report.Cause.TheVariants as cause
 use Rattle.dg_world.specs.Shown.{Shows}
+use Rattle.dg_world.specs.Worlds.{MoteStands}
 use Rattle.dg_world.specs.Turns.{trail_of, Went, TurnEnds}
 use Rattle.dg_world.specs.declared.shown.Shown.{Shown}
 use Rattle.dg_world.specs.declared.turn.Turn.{Turn}
 use Rattle.dg_world.specs.declared.turn.Turn.TheVariants.{Refused, Changes}
 use Rattle.dg_world.specs.declared.turn.Halt.{Halt}
+use Rattle.dg_world.specs.declared.world.RunningMote.{RunningMote}
 use Rattle.dg_world.specs.declared.turn.Halt.TheVariants.{Stopped}
 use Rattle.dg_world.proofs.ShownLemmas.{changes_told}
 use Rattle.dg_world.proofs.TurnLemmas.{turn_after}
 
 -- ---- acts that are reported
 
-pub acts_went : (w : RuleWorld) (m now : ℕ) (t : Trail Store) (table : List Row) (v : Volume) (a b : Device) (before after : Shown) → Acted t a b v → Shows before (store_at w m) → Shows after (last t)
-    → Went w m now (acts w m t table) a b (Changes before after)
-acts_went w m now t table v a b before after acted shows after_shows = record {
-  deed = record { trail = t; table = table; started = None; runs = Some (site w m).runs };
+pub acts_went : (w : RuleWorld) (m now word : ℕ) (t : Trail Store) (table : List Row) (v : Volume) (u : Option RunningMote) (a b : Device) (before after : Shown) → Acted t a b v → Shows before (store_at w m) → Shows after (last t)
+    → MoteStands b.image u (last t) (reloaded (site w m).runs now word) → Went w m (acts w m t table now word) u a b (Changes before after)
+acts_went w m now word t table v u a b before after acted shows after_shows mote = record {
+  deed = record { trail = t; table = table; started = None; sent = None; runs = Some (reloaded (site w m).runs now word) };
   goes = refl;
   ran = acted.ran;
   tells = record {
-    runs = refl;
-    lines = changes_told m before after (store_at w m) (last t) shows after_shows ∙ sym (append-nil (changes m (store_at w m) (last t)));
+    runs = reloaded (site w m).runs now word;
+    runs_then = refl;
+    mote = mote;
+    lines = changes_told m before after (store_at w m) (last t) shows after_shows ∙ sym (append-nil (changes m (store_at w m) (last t) ++ []) ∙ append-nil (changes m (store_at w m) (last t)));
+    sent = refl;
     stands = acted.mounted.stands;
     memory = tt;
   };
 }
 
-stopped_with : (w : RuleWorld) (m now : ℕ) (does : Does) (a b : Device) (before : Shown) → Stops (trail_of does (store_at w m)) a b → Shows before (store_at w m) → TurnEnds (Err (Stopped (Some before))) w m now does a b
-stopped_with w m now does a b before stops shows = record { stops = stops; shows = λ whole blown. shows }
+stopped_with : (w : RuleWorld) (m : ℕ) (does : Does) (v u : Option RunningMote) (a b : Device) (before : Shown) → Stops (trail_of does (store_at w m)) a b → Shows before (store_at w m) → TurnEnds (Err (Stopped (Some before))) w m does v u a b
+stopped_with w m does v u a b before stops shows = record { stops = stops; shows = λ whole blown. shows }
 
 same_device : (a b : Device) → b ≡ a → Looked a b
 same_device a b e = subst (λ (d : Device). Looked a d) (sym e) (record { same_image = refl; ran = Ran-none a })
 
 -- ---- orders
 
-pub order_begins : (w : RuleWorld) (m : ℕ) (o : Order) (refusal : Option OrderFault) → BeginsAt (store_at w m) (trail_of (order_unless refusal w m o) (store_at w m))
-order_begins w m o None = begins_committing (store_at w m) _
-order_begins w m o (Some e) = begins_resting (store_at w m) 0
+pub order_begins : (w : RuleWorld) (m now word : ℕ) (o : Order) (refusal : Option OrderFault) → BeginsAt (store_at w m) (trail_of (order_unless refusal w m o now word) (store_at w m))
+order_begins w m now word o None = begins_committing (store_at w m) _
+order_begins w m now word o (Some e) = begins_resting (store_at w m) 0
 
-pub ordered : (w : RuleWorld) (m now : ℕ) (o : Order) (v : Volume) (a b c : Device) (before after : Shown) (refusal : Option OrderFault) → refusal ≡ None → Looked a b → Acted (order_trail (store_at w m) o) b c v
-    → Shows before (store_at w m) → Shows after (last (order_trail (store_at w m) o)) → TurnEnds (Ok (Changes before after)) w m now (order_unless refusal w m o) a c
-ordered w m now o v a b c before after refusal none looked acted shows after_shows =
-    subst (λ (x : Option OrderFault). TurnEnds (Ok (Changes before after)) w m now (order_unless x w m o) a c) (sym none)
-    (turn_after (Ok (Changes before after)) w m now (order_unless None w m o) a b c looked (acts_went w m now (order_trail (store_at w m) o) w.table v b c before after acted shows after_shows))
+pub ordered : (w : RuleWorld) (m now word : ℕ) (o : Order) (v : Volume) (p u : Option RunningMote) (a b c : Device) (before after : Shown) (refusal : Option OrderFault) → refusal ≡ None → Looked a b → Acted (order_trail (store_at w m) o) b c v
+    → Shows before (store_at w m) → Shows after (last (order_trail (store_at w m) o)) → MoteStands c.image u (last (order_trail (store_at w m) o)) (reloaded (site w m).runs now word)
+    → TurnEnds (Ok (Changes before after)) w m (order_unless refusal w m o now word) p u a c
+ordered w m now word o v p u a b c before after refusal none looked acted shows after_shows mote =
+    subst (λ (x : Option OrderFault). TurnEnds (Ok (Changes before after)) w m (order_unless x w m o now word) p u a c) (sym none)
+    (turn_after (Ok (Changes before after)) w m (order_unless None w m o now word) p u a b c looked (acts_went w m now word (order_trail (store_at w m) o) w.table v u b c before after acted shows after_shows mote))
 
-pub order_stopped : (w : RuleWorld) (m now : ℕ) (o : Order) (a b c : Device) (before : Shown) (refusal : Option OrderFault) → refusal ≡ None → Looked a b → Stops (order_trail (store_at w m) o) b c
-    → Shows before (store_at w m) → TurnEnds (Err (Stopped (Some before))) w m now (order_unless refusal w m o) a c
-order_stopped w m now o a b c before refusal none looked stops shows =
-    subst (λ (x : Option OrderFault). TurnEnds (Err (Stopped (Some before))) w m now (order_unless x w m o) a c) (sym none)
-    (turn_after (Err (Stopped (Some before))) w m now (order_unless None w m o) a b c looked (stopped_with w m now (order_unless None w m o) b c before stops shows))
+pub order_stopped : (w : RuleWorld) (m now word : ℕ) (o : Order) (p u : Option RunningMote) (a b c : Device) (before : Shown) (refusal : Option OrderFault) → refusal ≡ None → Looked a b → Stops (order_trail (store_at w m) o) b c
+    → Shows before (store_at w m) → TurnEnds (Err (Stopped (Some before))) w m (order_unless refusal w m o now word) p u a c
+order_stopped w m now word o p u a b c before refusal none looked stops shows =
+    subst (λ (x : Option OrderFault). TurnEnds (Err (Stopped (Some before))) w m (order_unless x w m o now word) p u a c) (sym none)
+    (turn_after (Err (Stopped (Some before))) w m (order_unless None w m o now word) p u a b c looked (stopped_with w m (order_unless None w m o now word) p u b c before stops shows))
 
-pub order_refused : (w : RuleWorld) (m now : ℕ) (o : Order) (a b c : Device) (refusal : Option OrderFault) (e : OrderFault) (why : Cause) → refusal ≡ Some e → why ≡ order_cause e → Looked a b → c ≡ b
-    → TurnEnds (Ok (Refused why)) w m now (order_unless refusal w m o) a c
-order_refused w m now o a b c refusal e why some told looked same =
-    turn_after (Ok (Refused why)) w m now (order_unless refusal w m o) a b c looked
-    (ap (λ (x : Option OrderFault). order_unless x w m o) some ∙ ap Refuses (sym told), same_device b c same)
+pub order_refused : (w : RuleWorld) (m now word : ℕ) (o : Order) (p : Option RunningMote) (a b c : Device) (refusal : Option OrderFault) (e : OrderFault) (why : Cause) → refusal ≡ Some e → why ≡ order_cause e → Looked a b → c ≡ b
+    → TurnEnds (Ok (Refused why)) w m (order_unless refusal w m o now word) p p a c
+order_refused w m now word o p a b c refusal e why some told looked same =
+    turn_after (Ok (Refused why)) w m (order_unless refusal w m o now word) p p a b c looked
+    (ap (λ (x : Option OrderFault). order_unless x w m o now word) some ∙ ap Refuses (sym told), same_device b c same, refl)
 
 -- ---- injections
 
-injects_begin : (w : RuleWorld) (m : ℕ) (row : Row) (refusal : Option InjectFault) → BeginsAt (store_at w m) (trail_of (inject_unless refusal w m row) (store_at w m))
-injects_begin w m row None = inject_begins (store_at w m) row
-injects_begin w m row (Some e) = begins_resting (store_at w m) 0
+injects_begin : (w : RuleWorld) (m now word : ℕ) (row : Row) (refusal : Option InjectFault) → BeginsAt (store_at w m) (trail_of (inject_unless refusal w m row now word) (store_at w m))
+injects_begin w m now word row None = inject_begins (store_at w m) row
+injects_begin w m now word row (Some e) = begins_resting (store_at w m) 0
 
-pub inject_begun : (w : RuleWorld) (m : ℕ) (row : Row) → BeginsAt (store_at w m) (trail_of (inject_unless (inject_refusal (store_at w m) row) w m row) (store_at w m))
-inject_begun w m row = injects_begin w m row (inject_refusal (store_at w m) row)
+pub inject_begun : (w : RuleWorld) (m now word : ℕ) (row : Row) → BeginsAt (store_at w m) (trail_of (inject_unless (inject_refusal (store_at w m) row) w m row now word) (store_at w m))
+inject_begun w m now word row = injects_begin w m now word row (inject_refusal (store_at w m) row)
 
-pub injected : (w : RuleWorld) (m now : ℕ) (row : Row) (v : Volume) (a b c : Device) (before after : Shown) (refusal : Option InjectFault) → refusal ≡ None → Looked a b → Acted (inject_trail (store_at w m) row) b c v
-    → Shows before (store_at w m) → Shows after (last (inject_trail (store_at w m) row)) → TurnEnds (Ok (Changes before after)) w m now (inject_unless refusal w m row) a c
-injected w m now row v a b c before after refusal none looked acted shows after_shows =
-    subst (λ (x : Option InjectFault). TurnEnds (Ok (Changes before after)) w m now (inject_unless x w m row) a c) (sym none)
-    (turn_after (Ok (Changes before after)) w m now (inject_unless None w m row) a b c looked (acts_went w m now (inject_trail (store_at w m) row) (with_row w.table row) v b c before after acted shows after_shows))
+pub injected : (w : RuleWorld) (m now word : ℕ) (row : Row) (v : Volume) (p u : Option RunningMote) (a b c : Device) (before after : Shown) (refusal : Option InjectFault) → refusal ≡ None → Looked a b → Acted (inject_trail (store_at w m) row) b c v
+    → Shows before (store_at w m) → Shows after (last (inject_trail (store_at w m) row)) → MoteStands c.image u (last (inject_trail (store_at w m) row)) (reloaded (site w m).runs now word)
+    → TurnEnds (Ok (Changes before after)) w m (inject_unless refusal w m row now word) p u a c
+injected w m now word row v p u a b c before after refusal none looked acted shows after_shows mote =
+    subst (λ (x : Option InjectFault). TurnEnds (Ok (Changes before after)) w m (inject_unless x w m row now word) p u a c) (sym none)
+    (turn_after (Ok (Changes before after)) w m (inject_unless None w m row now word) p u a b c looked (acts_went w m now word (inject_trail (store_at w m) row) (with_row w.table row) v u b c before after acted shows after_shows mote))
 
 refused_trail : (s : Store) (row : Row) (e : InjectFault) → inject_refusal s row ≡ Some e → inject_trail s row ≡ resting s 0
 unfolding inject_trail
 refused_trail s row e is = ap (λ (x : Option InjectFault). inject_by x s row) is
 
-pub inject_stopped : (w : RuleWorld) (m now : ℕ) (row : Row) (a b c : Device) (before : Shown) → (inject_refusal (store_at w m) row ≡ None) ⊎ (inject_refusal (store_at w m) row ≡ Some inject.Taken) → Looked a b
-    → Stops (inject_trail (store_at w m) row) b c → Shows before (store_at w m) → TurnEnds (Err (Stopped (Some before))) w m now (inject_unless (inject_refusal (store_at w m) row) w m row) a c
-inject_stopped w m now row a b c before why looked stops shows =
+pub inject_stopped : (w : RuleWorld) (m now word : ℕ) (row : Row) (p u : Option RunningMote) (a b c : Device) (before : Shown) → (inject_refusal (store_at w m) row ≡ None) ⊎ (inject_refusal (store_at w m) row ≡ Some inject.Taken) → Looked a b
+    → Stops (inject_trail (store_at w m) row) b c → Shows before (store_at w m) → TurnEnds (Err (Stopped (Some before))) w m (inject_unless (inject_refusal (store_at w m) row) w m row now word) p u a c
+inject_stopped w m now word row p u a b c before why looked stops shows =
     let s = store_at w m in
-    let P : Option InjectFault → Type 0 = λ x. TurnEnds (Err (Stopped (Some before))) w m now (inject_unless x w m row) a c in
+    let P : Option InjectFault → Type 0 = λ x. TurnEnds (Err (Stopped (Some before))) w m (inject_unless x w m row now word) p u a c in
     ⊎_elim
     (λ none. subst P (sym none)
-    (turn_after (Err (Stopped (Some before))) w m now (inject_unless None w m row) a b c looked (stopped_with w m now (inject_unless None w m row) b c before stops shows)))
+    (turn_after (Err (Stopped (Some before))) w m (inject_unless None w m row now word) p u a b c looked (stopped_with w m (inject_unless None w m row now word) p u b c before stops shows)))
     (λ taken. subst P (sym taken)
-    (turn_after (Err (Stopped (Some before))) w m now (inject_unless (Some inject.Taken) w m row) a b c looked
-    (stopped_with w m now (inject_unless (Some inject.Taken) w m row) b c before (subst (λ (t : Trail Store). Stops t b c) (refused_trail s row inject.Taken taken) stops) shows)))
+    (turn_after (Err (Stopped (Some before))) w m (inject_unless (Some inject.Taken) w m row now word) p u a b c looked
+    (stopped_with w m (inject_unless (Some inject.Taken) w m row now word) p u b c before (subst (λ (t : Trail Store). Stops t b c) (refused_trail s row inject.Taken taken) stops) shows)))
     why
 
 -- a refused one looked at most
@@ -124,11 +131,11 @@ looked_by inject.Reserved a b same looked = same_device a b (same (λ is. cc))
 looked_by (inject.Worn room) a b same looked = same_device a b (same (λ is. cc))
 looked_by inject.Taken a b same looked = looked refl
 
-pub inject_refused : (w : RuleWorld) (m now : ℕ) (row : Row) (a b c : Device) (refusal : Option InjectFault) (e : InjectFault) (why : Cause) → refusal ≡ Some e → why ≡ inject_cause row e → Looked a b
-    → (e ≢ inject.Taken → c ≡ b) → (e ≡ inject.Taken → Looked b c) → TurnEnds (Ok (Refused why)) w m now (inject_unless refusal w m row) a c
-inject_refused w m now row a b c refusal e why some told looked same taken =
-    turn_after (Ok (Refused why)) w m now (inject_unless refusal w m row) a b c looked
-    (ap (λ (x : Option InjectFault). inject_unless x w m row) some ∙ ap Refuses (sym told), looked_by e b c same taken)
+pub inject_refused : (w : RuleWorld) (m now word : ℕ) (row : Row) (p : Option RunningMote) (a b c : Device) (refusal : Option InjectFault) (e : InjectFault) (why : Cause) → refusal ≡ Some e → why ≡ inject_cause row e → Looked a b
+    → (e ≢ inject.Taken → c ≡ b) → (e ≡ inject.Taken → Looked b c) → TurnEnds (Ok (Refused why)) w m (inject_unless refusal w m row now word) p p a c
+inject_refused w m now word row p a b c refusal e why some told looked same taken =
+    turn_after (Ok (Refused why)) w m (inject_unless refusal w m row now word) p p a b c looked
+    (ap (λ (x : Option InjectFault). inject_unless x w m row now word) some ∙ ap Refuses (sym told), looked_by e b c same taken, refl)
 
 -- ---- which faults are which
 
@@ -174,24 +181,24 @@ is_stopped (inject.Worn room) = inr (λ h. cc)
 is_stopped inject.Taken = inr (λ h. cc)
 
 -- an injection that was not done
-pub inject_faulted : (w : RuleWorld) (m now : ℕ) (row : Row) (a b c : Device) (before : Shown) (e : InjectFault) (r : Result Turn Halt)
+pub inject_faulted : (w : RuleWorld) (m now word : ℕ) (row : Row) (p : Option RunningMote) (a b c : Device) (before : Shown) (e : InjectFault) (r : Result Turn Halt)
     → (e ≡ inject.Stopped → r ≡ Err (Stopped (Some before))) → (e ≢ inject.Stopped → r ≡ Ok (Refused (inject_cause row e)))
     → UnlessInjectRefused {T = Injected} (Err e) (inject_refusal (store_at w m) row) → (e ≢ inject.Stopped → inject_refusal (store_at w m) row ≡ Some e) → Looked a b
     → (e ≢ inject.Stopped → e ≢ inject.Taken → c ≡ b) → (e ≡ inject.Taken → Looked b c) → (e ≡ inject.Stopped → Stops (inject_trail (store_at w m) row) b c) → Shows before (store_at w m)
-    → TurnEnds r w m now (inject_unless (inject_refusal (store_at w m) row) w m row) a c
-inject_faulted w m now row a b c before e r stopped refused allowed some looked same taken stops shows =
-    let does = inject_unless (inject_refusal (store_at w m) row) w m row in
-    let P : Result Turn Halt → Type 0 = λ x. TurnEnds x w m now does a c in
+    → TurnEnds r w m (inject_unless (inject_refusal (store_at w m) row) w m row now word) p p a c
+inject_faulted w m now word row p a b c before e r stopped refused allowed some looked same taken stops shows =
+    let does = inject_unless (inject_refusal (store_at w m) row) w m row now word in
+    let P : Result Turn Halt → Type 0 = λ x. TurnEnds x w m does p p a c in
     ⊎_elim
-    (λ is. subst P (sym (stopped is)) (inject_stopped w m now row a b c before (inject_not_refused e (inject_refusal (store_at w m) row) is allowed) looked (stops is) shows))
-    (λ other. subst P (sym (refused other)) (inject_refused w m now row a b c (inject_refusal (store_at w m) row) e (inject_cause row e) (some other) refl looked (same other) taken))
+    (λ is. subst P (sym (stopped is)) (inject_stopped w m now word row p p a b c before (inject_not_refused e (inject_refusal (store_at w m) row) is allowed) looked (stops is) shows))
+    (λ other. subst P (sym (refused other)) (inject_refused w m now word row p a b c (inject_refusal (store_at w m) row) e (inject_cause row e) (some other) refl looked (same other) taken))
     (is_stopped e)
 
 -- which injection an event is
-pub known_image : (r : Result Turn Halt) (w : RuleWorld) (m now : ℕ) (image : ℕ) (known : Option Row) (row : Row) (a b : Device) → (image == 0) ≡ false → known ≡ Some row → TurnEnds r w m now (inject_row w m (Some row)) a b
-    → TurnEnds r w m now (if image == 0 then Refuses cause.Reserved else inject_row w m known) a b
-known_image r w m now image known row a b other some ends =
-    let P : Bool → Option Row → Type 0 = λ x o. TurnEnds r w m now (if x then Refuses cause.Reserved else inject_row w m o) a b in
+pub known_image : (r : Result Turn Halt) (w : RuleWorld) (m now word : ℕ) (image : ℕ) (known : Option Row) (row : Row) (v u : Option RunningMote) (a b : Device) → (image == 0) ≡ false → known ≡ Some row
+    → TurnEnds r w m (inject_row w m (Some row) now word) v u a b → TurnEnds r w m (if image == 0 then Refuses cause.Reserved else inject_row w m known now word) v u a b
+known_image r w m now word image known row v u a b other some ends =
+    let P : Bool → Option Row → Type 0 = λ x o. TurnEnds r w m (if x then Refuses cause.Reserved else inject_row w m o now word) v u a b in
     subst (λ (x : Bool). P x known) (sym other) (subst (P false) (sym some) ends)
 
 order_is_stopped : (e : OrderFault) → (e ≡ order_fault.Stopped) ⊎ (e ≢ order_fault.Stopped)
@@ -200,17 +207,17 @@ order_is_stopped (order_fault.Worn room) = inr (λ h. cc)
 order_is_stopped (order_fault.OldOrder kept) = inr (λ h. cc)
 
 -- an order that was not kept
-pub order_faulted : (w : RuleWorld) (m now : ℕ) (o : Order) (a b c : Device) (before : Shown) (e : OrderFault) (r : Result Turn Halt)
+pub order_faulted : (w : RuleWorld) (m now word : ℕ) (o : Order) (p : Option RunningMote) (a b c : Device) (before : Shown) (e : OrderFault) (r : Result Turn Halt)
     → (e ≡ order_fault.Stopped → r ≡ Err (Stopped (Some before))) → (e ≢ order_fault.Stopped → r ≡ Ok (Refused (order_cause e)))
     → UnlessOrderRefused {T = Unit {0}} (Err e) (order_refusal (store_at w m) o) → (e ≢ order_fault.Stopped → order_refusal (store_at w m) o ≡ Some e) → Looked a b
     → (e ≢ order_fault.Stopped → c ≡ b) → (e ≡ order_fault.Stopped → Stops (order_trail (store_at w m) o) b c) → Shows before (store_at w m)
-    → TurnEnds r w m now (order_unless (order_refusal (store_at w m) o) w m o) a c
-order_faulted w m now o a b c before e r stopped refused allowed some looked same stops shows =
-    let does = order_unless (order_refusal (store_at w m) o) w m o in
-    let P : Result Turn Halt → Type 0 = λ x. TurnEnds x w m now does a c in
+    → TurnEnds r w m (order_unless (order_refusal (store_at w m) o) w m o now word) p p a c
+order_faulted w m now word o p a b c before e r stopped refused allowed some looked same stops shows =
+    let does = order_unless (order_refusal (store_at w m) o) w m o now word in
+    let P : Result Turn Halt → Type 0 = λ x. TurnEnds x w m does p p a c in
     ⊎_elim
-    (λ is. subst P (sym (stopped is)) (order_stopped w m now o a b c before (order_refusal (store_at w m) o) (order_not_refused e (order_refusal (store_at w m) o) is allowed) looked (stops is) shows))
-    (λ other. subst P (sym (refused other)) (order_refused w m now o a b c (order_refusal (store_at w m) o) e (order_cause e) (some other) refl looked (same other)))
+    (λ is. subst P (sym (stopped is)) (order_stopped w m now word o p p a b c before (order_refusal (store_at w m) o) (order_not_refused e (order_refusal (store_at w m) o) is allowed) looked (stops is) shows))
+    (λ other. subst P (sym (refused other)) (order_refused w m now word o p a b c (order_refusal (store_at w m) o) e (order_cause e) (some other) refl looked (same other)))
     (order_is_stopped e)
 
 pub not_zero : (n : ℕ) → (n ≡ 0 → ⊥) → (n == 0) ≡ false

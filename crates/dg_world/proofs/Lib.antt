@@ -1,3 +1,4 @@
+pub mod AirLemmas
 pub mod ImageLemmas
 pub mod WorldLemmas
 pub mod ShownLemmas

@@ -1,6 +1,6 @@
 -- A step of the world where the board and the mote of one place changed.
 use Rattle.std.proofs.Common.{◌≡◌, ◌≢◌, ◌⊎◌, ℕ, zero, suc, ◌+◌, ◌^◌, ◌<◌, Bool, true, false, List, [], ◌∷◌, length, get_or, set, map, refl, ap, sym, ◌∙◌, subst, inl, inr, ⊎_elim, arith, eqb-true, eq-eqb}
-use Rattle.std.specs.Prelude.{◌==◌, slice_get, slice_index_or, Option, Some, None, Ok, Err}
+use Rattle.std.specs.Prelude.{◌≤◌, ◌++◌, ◌==◌, IfSome, Result, OnOk, slice_get, slice_index_or, Option, Some, None, Ok, Err}
 use Rattle.std.proofs.Math.ListN.{length-set}
 use Rattle.std.proofs.lemmas.List.{get_or-set_same, get_or-set_other, get_or_read}
 use Rattle.std.proofs.lemmas.Option.{same_Some}
@@ -13,18 +13,25 @@ use Rattle.dg_slot.specs.Pages.{program}
 use Rattle.dg_volume.specs.Store.{Store}
 use Rattle.dg_volume.specs.Stands.{Stands}
 use Rattle.dg_rules.specs.Sizes.{most_events}
-use Rattle.dg_rules.specs.World.{World as RuleWorld, Site, no_site, site, store_at}
+use Rattle.dg_mote.specs.Timely.{Timely}
+use Rattle.dg_mote.proofs.TimelyLemmas.{timely_later}
+use Rattle.arrayvec.specs.ArrayVec.{ArrayVec}
+use Rattle.dg_rules.specs.World.{World as RuleWorld, Running, Site, Sent, no_site, site, store_at}
+use Rattle.dg_rules.specs.Premises.{WorldTimely}
 use Rattle.dg_rules.specs.Events.{does, mote_of, dt_of}
-use Rattle.dg_rules.specs.Steps.{cut_world}
+use Rattle.dg_rules.specs.Steps.{cut_world, WorldStep}
 use Rattle.dg_rules.specs.Ranges.{StepFits}
 use Rattle.dg_base.specs.declared.events.Step.{Step}
 use Rattle.dg_script.specs.declared.report.Report.{Report}
 use Rattle.dg_object.specs.Object.{Row}
+use Rattle.dg_world.specs.Airs.{Carries, sent_now}
 use Rattle.dg_world.specs.Images.{Declares}
-use Rattle.dg_world.specs.Worlds.{MoteStands, SiteStands, IsWorld}
+use Rattle.dg_world.specs.Shareds.{IsShared}
+use Rattle.dg_world.specs.Worlds.{MoteStands, SiteStands, MayRun, IsWorld}
 use Rattle.dg_world.specs.Applied.{OneBoard, Applied, FlashAt, Ended, ApplyEnds, fault_of}
 use Rattle.dg_world.specs.Cuts.{IsStopped, IsLacking}
 use Rattle.dg_world.specs.Stepped.{StepDone, Stepped}
+use Rattle.dg_world.specs.declared.air.Air.{Air}
 use Rattle.dg_world.specs.declared.images.Images.{Images}
 use Rattle.dg_world.specs.declared.turn.Halt.{Halt}
 use Rattle.dg_world.specs.declared.turn.Halt.TheVariants.{Stopped, NotAVolume, NoImage}
@@ -82,67 +89,79 @@ one_board bs i a b known here kept =
 -- ---- the world then
 
 -- the code's world after a step
-pub record Moves (v u : World) (i : ℕ) (moment : ℕ) (runs : Option RunningMote) : Type 0 where
+pub record Moves (v u : World) (i : ℕ) (moment : ℕ) (runs : Option RunningMote) (frame : Option (ArrayVec ℕ)) : Type 0 where
   pub moment_then : u.moment ≡ moment
   pub events : u.events ≡ v.events + 1
-  pub images : u.images ≡ v.images
+  pub images : u.shared.images ≡ v.shared.images
+  pub links : u.shared.links ≡ v.shared.links
+  pub sends : (before : List Sent) → Carries v.shared.air before → Carries u.shared.air (before ++ sent_now i frame)
   pub motes : u.motes.items ≡ set v.motes.items i runs
 
-site_then : (v u : World) (bs : List Device) (w : RuleWorld) (x : Step) (i : ℕ) (runs : Option RunningMote) (b : Device) (start end : List Report) → IsWorld v bs w → i ≡ mote_of x.event → i < length w.sites → Moves v u i (w.moment + dt_of x.event) runs
-    → (s : StepDone w x runs b start end) → (k : ℕ) (d : Device) → k < length s.world.sites → slice_get (set bs i b) k ≡ Some d → SiteStands d (slice_index_or u.motes.items k None) (site s.world k)
-site_then v u bs w x i runs b start end is at known moves s k d within here =
-    let sites : s.world.sites ≡ set w.sites i s.here = s.sites ∙ ap (λ (j : ℕ). set w.sites j s.here) (sym at) in
-    let wide : i < length bs = omega (arith, known, is.boards_enough) in
-    let many : i < length v.motes.items = omega (arith, known, is.motes) in
-    let P : Device → Option RunningMote → Site → Type 0 = λ e o y. SiteStands e o y in
-    ⊎_elim
-    (λ same.
-    let ed : d ≡ b = same_of (slice_get (set bs i b) i) d b (sym (ap (slice_get (set bs i b)) same) ∙ here) (get_set_same bs i b wide) in
-    let eo : slice_index_or u.motes.items k None ≡ runs = ap (λ (xs : List (Option RunningMote)). get_or xs k None) moves.motes ∙ ap (λ (j : ℕ). get_or (set v.motes.items i runs) j None) same ∙ get_or-set_same v.motes.items i runs None many in
-    let ey : site s.world k ≡ s.here = ap (λ (xs : List Site). get_or xs k no_site) sites ∙ ap (λ (j : ℕ). get_or (set w.sites i s.here) j no_site) same ∙ get_or-set_same w.sites i s.here no_site known in
-    let here_stands : SiteStands b runs s.here = record { stands = s.stands; mote = s.mote } in
-    subst (λ (e : Device). P e (slice_index_or u.motes.items k None) (site s.world k)) (sym ed)
-    (subst (λ (o : Option RunningMote). P b o (site s.world k)) (sym eo) (subst (P b runs) (sym ey) here_stands)))
-    (λ other.
-    let eo : slice_index_or u.motes.items k None ≡ slice_index_or v.motes.items k None = ap (λ (xs : List (Option RunningMote)). get_or xs k None) moves.motes ∙ get_or-set_other v.motes.items i k runs None other in
-    let ey : site s.world k ≡ site w k = ap (λ (xs : List Site). get_or xs k no_site) sites ∙ get_or-set_other w.sites i k s.here no_site other in
-    let count : length s.world.sites ≡ length w.sites = ap length sites ∙ length-set w.sites i s.here in
-    let before = is.sites k d (omega (arith, within, count)) (sym (get_set_other bs i k b other) ∙ here) in
-    subst (λ (o : Option RunningMote). P d o (site s.world k)) (sym eo) (subst (P d (slice_index_or v.motes.items k None)) (sym ey) before))
-    (is_or k i)
+module _ (v u : World) (bs : List Device) (w : RuleWorld) (x : Step) (loud : Bool) (i : ℕ) (runs : Option RunningMote) (frame : Option (ArrayVec ℕ)) (b : Device) (start end : List Report) (is : IsWorld v bs w) (at : i ≡ mote_of x.event) (known : i < length w.sites) (moves : Moves v u i (w.moment + dt_of x.event) runs frame) (s : StepDone w x loud runs frame b start end) where
+  sites_are : s.world.sites ≡ set w.sites i s.here
+  sites_are = s.sites ∙ ap (λ (j : ℕ). set w.sites j s.here) (sym at)
 
-world_then : (v u : World) (bs : List Device) (w : RuleWorld) (x : Step) (i : ℕ) (runs : Option RunningMote) (b : Device) (start end : List Report) → IsWorld v bs w → i ≡ mote_of x.event → i < length w.sites → v.events < most_events → dt_of x.event < 2 ^ 32
-    → Moves v u i (w.moment + dt_of x.event) runs → (s : StepDone w x runs b start end) → IsWorld u (set bs i b) s.world
-world_then v u bs w x i runs b start end is at known few short moves s =
-    let sites : s.world.sites ≡ set w.sites i s.here = s.sites ∙ ap (λ (j : ℕ). set w.sites j s.here) (sym at) in
-    let count : length s.world.sites ≡ length w.sites = ap length sites ∙ length-set w.sites i s.here in
-    record {
-      moment = moves.moment_then ∙ sym s.moment;
-      events = moves.events ∙ ap (λ (n : ℕ). n + 1) is.events ∙ sym s.events;
-      declared = let P : Images → List Row → Type 0 = λ images rows. Declares images rows in subst (λ (y : Images). P y s.world.declared) (sym moves.images) (subst (P v.images) (sym s.declared) is.declared);
-      motes = count ∙ is.motes ∙ sym (ap length moves.motes ∙ length-set v.motes.items i runs);
-      few_motes = omega (arith, count, is.few_motes);
-      boards_enough = omega (arith, count, is.boards_enough, length-set bs i b);
-      few_events = omega (arith, s.events, few, is.events);
-      early = omega (arith, s.moment, s.events, is.early, short);
-      sites = site_then v u bs w x i runs b start end is at known moves s;
-    }
+  sites_count : length s.world.sites ≡ length w.sites
+  sites_count = ap length sites_are ∙ length-set w.sites i s.here
 
-pub applied : (v u : World) (bs : List Device) (w : RuleWorld) (x : Step) (i : ℕ) (runs : Option RunningMote) (a b : Device) (start end : List Report) → IsWorld v bs w → i ≡ mote_of x.event → i < length w.sites → v.events < most_events → dt_of x.event < 2 ^ 32
-    → Moves v u i (w.moment + dt_of x.event) runs → slice_get bs i ≡ Some a → Endures (beneath_of a) (beneath_of b) → StepDone w x runs b start end → Applied w x u bs (set bs i b) start end
-applied v u bs w x i runs a b start end is at known few short moves here endures s =
-    let wide : i < length bs = omega (arith, known, is.boards_enough) in
-    record {
-      world = s.world;
-      reports = s.reports;
-      step = s.step;
-      stood = world_then v u bs w x i runs b start end is at known few short moves s;
-      told_now = s.told_now;
-      boards = subst (λ (j : ℕ). OneBoard j bs (set bs i b)) at (one_board bs i a b wide here endures);
-      memory = λ d r e goes whole some there.
-          let eb : e ≡ b = same_of (slice_get (set bs i b) i) e b (ap (slice_get (set bs i b)) at ∙ there) (get_set_same bs i b wide) in
-          subst (λ (y : Device). program y.image (length r.pages) ≡ r.pages) (sym eb) (s.memory d r goes whole some);
-    }
+  site_then : (k : ℕ) (d : Device) → k < length s.world.sites → slice_get (set bs i b) k ≡ Some d → SiteStands d (slice_index_or u.motes.items k None) (site s.world k)
+  site_then k d within here =
+      let wide : i < length bs = omega (arith, known, is.boards_enough) in
+      let many : i < length v.motes.items = omega (arith, known, is.motes) in
+      let P : Device → Option RunningMote → Site → Type 0 = λ e o y. SiteStands e o y in
+      ⊎_elim
+      (λ same.
+      let ed : d ≡ b = same_of (slice_get (set bs i b) i) d b (sym (ap (slice_get (set bs i b)) same) ∙ here) (get_set_same bs i b wide) in
+      let eo : slice_index_or u.motes.items k None ≡ runs = ap (λ (xs : List (Option RunningMote)). get_or xs k None) moves.motes ∙ ap (λ (j : ℕ). get_or (set v.motes.items i runs) j None) same ∙ get_or-set_same v.motes.items i runs None many in
+      let ey : site s.world k ≡ s.here = ap (λ (xs : List Site). get_or xs k no_site) sites_are ∙ ap (λ (j : ℕ). get_or (set w.sites i s.here) j no_site) same ∙ get_or-set_same w.sites i s.here no_site known in
+      let here_stands : SiteStands b runs s.here = record { stands = s.stands; mote = s.mote } in
+      subst (λ (e : Device). P e (slice_index_or u.motes.items k None) (site s.world k)) (sym ed)
+      (subst (λ (o : Option RunningMote). P b o (site s.world k)) (sym eo) (subst (P b runs) (sym ey) here_stands)))
+      (λ other.
+      let eo : slice_index_or u.motes.items k None ≡ slice_index_or v.motes.items k None = ap (λ (xs : List (Option RunningMote)). get_or xs k None) moves.motes ∙ get_or-set_other v.motes.items i k runs None other in
+      let ey : site s.world k ≡ site w k = ap (λ (xs : List Site). get_or xs k no_site) sites_are ∙ get_or-set_other w.sites i k s.here no_site other in
+      let before = is.sites k d (omega (arith, within, sites_count)) (sym (get_set_other bs i k b other) ∙ here) in
+      subst (λ (o : Option RunningMote). P d o (site s.world k)) (sym eo) (subst (P d (slice_index_or v.motes.items k None)) (sym ey) before))
+      (is_or k i)
+
+  shared_then : IsShared u.shared s.world
+  shared_then =
+      let P : Images → List Row → Type 0 = λ images rows. Declares images rows in
+      let Q : List Sent → Type 0 = λ sent. Carries u.shared.air sent in
+      record {
+        declared = subst (λ (y : Images). P y s.world.declared) (sym moves.images) (subst (P v.shared.images) (sym s.declared) is.shared.declared);
+        links = s.links ∙ is.shared.links ∙ sym moves.links;
+        sent = subst Q (ap (λ (j : ℕ). w.sent ++ sent_now j frame) at ∙ sym s.sent) (moves.sends w.sent is.shared.sent);
+      }
+
+  pub world_then : v.events < most_events → dt_of x.event < 2 ^ 32 → WorldTimely s.world → IsWorld u (set bs i b) s.world
+  world_then few short timely = record {
+    moment = moves.moment_then ∙ sym s.moment;
+    events = moves.events ∙ ap (λ (n : ℕ). n + 1) is.events ∙ sym s.events;
+    shared = shared_then;
+    motes = sites_count ∙ is.motes ∙ sym (ap length moves.motes ∙ length-set v.motes.items i runs);
+    few_motes = omega (arith, sites_count, is.few_motes);
+    boards_enough = omega (arith, sites_count, is.boards_enough, length-set bs i b);
+    few_events = omega (arith, s.events, few, is.events);
+    early = omega (arith, s.moment, s.events, is.early, short);
+    timely = timely;
+    sites = site_then;
+  }
+
+  pub applied : (a : Device) → v.events < most_events → dt_of x.event < 2 ^ 32 → WorldTimely s.world → slice_get bs i ≡ Some a → Endures (beneath_of a) (beneath_of b) → Applied w x loud u bs (set bs i b) start end
+  applied a few short timely here endures =
+      let wide : i < length bs = omega (arith, known, is.boards_enough) in
+      record {
+        world = s.world;
+        reports = s.reports;
+        step = s.step;
+        stood = world_then few short timely;
+        told_now = s.told_now;
+        boards = subst (λ (j : ℕ). OneBoard j bs (set bs i b)) at (one_board bs i a b wide here endures);
+        memory = λ d r e goes whole some there.
+            let eb : e ≡ b = same_of (slice_get (set bs i b) i) e b (ap (slice_get (set bs i b)) at ∙ there) (get_set_same bs i b wide) in
+            subst (λ (y : Device). program y.image (length r.pages) ≡ r.pages) (sym eb) (s.memory d r goes whole some);
+      }
 
 pub flashed : (v : World) (bs : List Device) (w : RuleWorld) (x : Step) (i : ℕ) (a b : Device) → IsWorld v bs w → i ≡ mote_of x.event → i < length w.sites → slice_get bs i ≡ Some a → Endures (beneath_of a) (beneath_of b)
     → IsStopped w (mote_of x.event) (does w x.event) x.cut b → FlashAt w x i bs (set bs i b)
@@ -196,29 +215,32 @@ got_or f [] i d h = absurd (omega arith)
 got_or f (y ∷ ys) zero d h = refl
 got_or f (y ∷ ys) (suc i) d h = got_or f ys i d (omega arith)
 
--- what a step at a board of the world has to know
-pub record StandsAt (v : World) (w : RuleWorld) (m : ℕ) (a : Device) (runs : Option RunningMote) : Type 0 where
-  pub stands : Stands a.image (store_at w m)
-  pub mote : MoteStands runs (site w m).runs
-
-pub stands_at : (v : World) (bs : List Device) (w : RuleWorld) (i m : ℕ) (a : Device) (runs : Option RunningMote) → IsWorld v bs w → i ≡ m → i < length w.sites → slice_get bs i ≡ Some a → runs ≡ get_or v.motes.items i runs → StandsAt v w m a runs
+pub stands_at : (v : World) (bs : List Device) (w : RuleWorld) (i m : ℕ) (a : Device) (runs : Option RunningMote) → IsWorld v bs w → i ≡ m → i < length w.sites → slice_get bs i ≡ Some a → runs ≡ get_or v.motes.items i runs → SiteStands a runs (site w m)
 stands_at v bs w i m a runs is at known here read =
     let s = is.sites i a known here in
     let many : i < length v.motes.items = omega (arith, known, is.motes) in
     let same : slice_index_or v.motes.items i None ≡ runs = sym (get_or_read v.motes.items i runs many read None) in
-    record {
-      stands = subst (λ (j : ℕ). Stands a.image (store_at w j)) at s.stands;
-      mote = subst (λ (j : ℕ). MoteStands runs (site w j).runs) at (subst (λ (o : Option RunningMote). MoteStands o (site w i).runs) same s.mote);
-    }
+    subst (λ (j : ℕ). SiteStands a runs (site w j)) at (subst (λ (o : Option RunningMote). SiteStands a o (site w i)) same s)
 
-pub halts_at : (h : Halt) (f : WorldFault) (v u : World) (bs : List Device) (w : RuleWorld) (x : Step) (i mote : ℕ) (a b : Device) (start end : List Report) → f ≡ fault_of h mote → i ≡ mote → IsWorld v bs w → i ≡ mote_of x.event → i < length w.sites
-    → slice_get bs i ≡ Some a → Stepped (Err h) w x a b start end → ApplyEnds (Err f) w x u bs (set bs i b) start end
-halts_at (Stopped k) f v u bs w x i mote a b start end is_fault same is at known here s =
-    let P : WorldFault → Type 0 = λ y. ApplyEnds (Err y) w x u bs (set bs i b) start end in
+-- its mote may run
+may_run : (c : List ℕ) (v : Option RunningMote) (s : Store) (o : Option Running) (moment now : ℕ) → moment ≤ now → MoteStands c v s o → IfSome o (λ r. Timely r.mote moment) → MayRun c now v
+may_run c None s o moment now later stands timely = tt
+may_run c (Some x) s None moment now later stands timely = absurd stands
+may_run c (Some x) s (Some r) moment now later stands timely = (r.mote, s, stands.1, timely_later r.mote moment now later timely)
+
+pub runs_at : (v : World) (bs : List Device) (w : RuleWorld) (i now : ℕ) (a : Device) (runs : Option RunningMote) → IsWorld v bs w → i < length w.sites → slice_get bs i ≡ Some a → runs ≡ get_or v.motes.items i runs → v.moment ≤ now → MayRun a.image now runs
+runs_at v bs w i now a runs is known here read later =
+    let s = stands_at v bs w i i a runs is refl known here read in
+    may_run a.image runs (site w i).store (site w i).runs w.moment now (omega (arith, later, is.moment)) s.mote (is.timely i known)
+
+pub halts_at : (h : Halt) (f : WorldFault) (v u : World) (bs : List Device) (w : RuleWorld) (x : Step) (loud : Bool) (runs : Option RunningMote) (i mote : ℕ) (a b : Device) (start end : List Report) → f ≡ fault_of h mote → i ≡ mote → IsWorld v bs w → i ≡ mote_of x.event → i < length w.sites
+    → slice_get bs i ≡ Some a → Stepped (Err h) w x loud runs a b start end → ApplyEnds (Err f) w x loud u bs (set bs i b) start end
+halts_at (Stopped k) f v u bs w x loud runs i mote a b start end is_fault same is at known here s =
+    let P : WorldFault → Type 0 = λ y. ApplyEnds (Err y) w x loud u bs (set bs i b) start end in
     subst P (sym is_fault) (subst (λ (j : ℕ). FlashAt w x j bs (set bs i b)) same (flashed v bs w x i a b is at known here s.endures s.ends.0), s.ends.1)
-halts_at NotAVolume f v u bs w x i mote a b start end is_fault same is at known here s = absurd s.ends
-halts_at NoImage f v u bs w x i mote a b start end is_fault same is at known here s =
-    let P : WorldFault → Type 0 = λ y. ApplyEnds (Err y) w x u bs (set bs i b) start end in
+halts_at NotAVolume f v u bs w x loud runs i mote a b start end is_fault same is at known here s = absurd s.ends
+halts_at NoImage f v u bs w x loud runs i mote a b start end is_fault same is at known here s =
+    let P : WorldFault → Type 0 = λ y. ApplyEnds (Err y) w x loud u bs (set bs i b) start end in
     subst P (sym is_fault) (lacked v bs w x i a b is at known here s.endures s.ends.0, s.ends.1)
 
 -- a step that fits one world that the code stands for fits every one
@@ -226,12 +248,35 @@ pub fits_each : (v : World) (bs : List Device) (w u : RuleWorld) (x : Step) → 
 fits_each v bs w u x is other fits = subst (λ (n : ℕ). StepFits n x) (is.motes ∙ sym other.motes) fits
 
 -- the same over boards that are given by an equation
-pub applied_at : (v u : World) (bs cs : List Device) (w : RuleWorld) (x : Step) (i : ℕ) (runs : Option RunningMote) (a b : Device) (start end : List Report) → cs ≡ set bs i b → IsWorld v bs w → i ≡ mote_of x.event → i < length w.sites → v.events < most_events → dt_of x.event < 2 ^ 32
-    → Moves v u i (w.moment + dt_of x.event) runs → slice_get bs i ≡ Some a → Stepped (Ok runs) w x a b start end → Applied w x u bs cs start end
-applied_at v u bs cs w x i runs a b start end e is at known few short moves here s =
-    subst (λ (ds : List Device). Applied w x u bs ds start end) (sym e) (applied v u bs w x i runs a b start end is at known few short moves here s.endures s.ends)
+pub applied_at : (v u : World) (bs cs : List Device) (w : RuleWorld) (x : Step) (loud : Bool) (i : ℕ) (runs : Option RunningMote) (frame : Option (ArrayVec ℕ)) (a b : Device) (start end : List Report) → cs ≡ set bs i b → IsWorld v bs w → i ≡ mote_of x.event → i < length w.sites → v.events < most_events → dt_of x.event < 2 ^ 32
+    → Moves v u i (w.moment + dt_of x.event) runs frame → slice_get bs i ≡ Some a → (s : Stepped (Ok frame) w x loud runs a b start end) → ((z : RuleWorld) (reports : List Report) → WorldStep w x z reports → WorldTimely z) → Applied w x loud u bs cs start end
+applied_at v u bs cs w x loud i runs frame a b start end e is at known few short moves here s timely =
+    subst (λ (ds : List Device). Applied w x loud u bs ds start end) (sym e)
+    (applied v u bs w x loud i runs frame b start end is at known moves s.ends a few short (timely s.ends.world s.ends.reports s.ends.step) here s.endures)
 
-pub halts_there : (h : Halt) (f : WorldFault) (v u : World) (bs cs : List Device) (w : RuleWorld) (x : Step) (i mote : ℕ) (a b : Device) (start end : List Report) → cs ≡ set bs i b → f ≡ fault_of h mote → i ≡ mote → IsWorld v bs w → i ≡ mote_of x.event → i < length w.sites
-    → slice_get bs i ≡ Some a → Stepped (Err h) w x a b start end → ApplyEnds (Err f) w x u bs cs start end
-halts_there h f v u bs cs w x i mote a b start end e is_fault same is at known here s =
-    subst (λ (ds : List Device). ApplyEnds (Err f) w x u bs ds start end) (sym e) (halts_at h f v u bs w x i mote a b start end is_fault same is at known here s)
+pub halts_there : (h : Halt) (f : WorldFault) (v u : World) (bs cs : List Device) (w : RuleWorld) (x : Step) (loud : Bool) (runs : Option RunningMote) (i mote : ℕ) (a b : Device) (start end : List Report) → cs ≡ set bs i b → f ≡ fault_of h mote → i ≡ mote → IsWorld v bs w → i ≡ mote_of x.event → i < length w.sites
+    → slice_get bs i ≡ Some a → Stepped (Err h) w x loud runs a b start end → ApplyEnds (Err f) w x loud u bs cs start end
+halts_there h f v u bs cs w x loud runs i mote a b start end e is_fault same is at known here s =
+    subst (λ (ds : List Device). ApplyEnds (Err f) w x loud u bs ds start end) (sym e) (halts_at h f v u bs w x loud runs i mote a b start end is_fault same is at known here s)
+
+pub sent_at : (m i : ℕ) (frame : Option (ArrayVec ℕ)) (before : List Sent) (air : Air) → i ≡ m → Carries air (before ++ sent_now m frame) → Carries air (before ++ sent_now i frame)
+sent_at m i frame before air same carries = subst (λ (j : ℕ). Carries air (before ++ sent_now j frame)) (sym same) carries
+
+-- room for a frame changes nothing
+pub reserved : (v : World) (air : Air) (bs : List Device) (w : RuleWorld) → ((sent : List Sent) → Carries v.shared.air sent → Carries air sent) → IsWorld v bs w → IsWorld (record v { shared = record v.shared { air = air } }) bs w
+reserved v air bs w same is = record {
+  moment = is.moment;
+  events = is.events;
+  shared = record { declared = is.shared.declared; links = is.shared.links; sent = same w.sent is.shared.sent };
+  motes = is.motes;
+  few_motes = is.few_motes;
+  boards_enough = is.boards_enough;
+  few_events = is.few_events;
+  early = is.early;
+  timely = is.timely;
+  sites = is.sites;
+}
+
+pub on_ok : {A F : Type 0} {P Q : Type 0} (r : Result A F) → (P → Q) → OnOk r P → OnOk r Q
+on_ok (Ok x) f p = f p
+on_ok (Err e) f p = tt

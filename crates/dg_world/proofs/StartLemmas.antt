@@ -96,11 +96,14 @@ module _ (start : Store) where
       (λ _. kept_same s (s.gesture == short_starts) p))
 
 -- every store of a start's trail shows the same
-pub boot_same : (k : Kind) (s : Store) → Through (SameShown s) (boot k s).trail
+pub boot_same_from : (start s : Store) (k : Kind) → SameShown start s → Through (SameShown start) (boot k s).trail
 unfolding boot
-boot_same k s =
-    let p = count_same s k s (same_shown s) in
-    Through-joined (SameShown s) (count_trail k s) (boot_counted (last (count_trail k s))).trail p (counted_same s (last (count_trail k s)) (Through-last (SameShown s) (count_trail k s) p))
+boot_same_from start s k same =
+    let p = count_same start k s same in
+    Through-joined (SameShown start) (count_trail k s) (boot_counted (last (count_trail k s))).trail p (counted_same start (last (count_trail k s)) (Through-last (SameShown start) (count_trail k s) p))
+
+pub boot_same : (k : Kind) (s : Store) → Through (SameShown s) (boot k s).trail
+boot_same k s = boot_same_from s s k (same_shown s)
 
 pub clear_same : (s : Store) → Through (SameShown s) (clear_trail s)
 clear_same s = commit_same s s _ (same_shown s) (record { kept = refl; order = refl })

@@ -1,11 +1,13 @@
 -- What is told of a step, and where it leaves its board.
-use Rattle.std.proofs.Common.{◌≡◌, ℕ, List, [], ◌∷◌, ◌++◌, refl, sym, ◌∙◌, subst, inl}
-use Rattle.std.specs.Prelude.{Option, Some, None, Result, Ok, Err, IsErrAnd}
+use Rattle.std.proofs.Common.{◌≡◌, ℕ, List, [], ◌∷◌, ◌++◌, refl, ap, sym, ◌∙◌, subst, inl}
+use Rattle.std.specs.Prelude.{true, Option, Some, None, Result, Ok, Err, IsErrAnd}
+use Rattle.std.specs.List.{filter}
 use Rattle.dg_nor.specs.Device.{Device}
 use Rattle.dg_nor.specs.Fuse.{beneath_of}
 use Rattle.dg_nor.specs.Reads.{Looked, ReadStopped}
 use Rattle.dg_nor.proofs.DeviceLemmas.{Endures-same}
 use Rattle.dg_volume.specs.Store.{Store}
+use Rattle.dg_rules.specs.Changes.{is_told}
 use Rattle.dg_script.specs.declared.report.Report.{Report}
 use Rattle.dg_script.specs.declared.report.Report.TheVariants.{Off}
 use Rattle.dg_world.specs.Shown.{Shows}
@@ -16,8 +18,7 @@ use Rattle.dg_world.specs.declared.turn.Turn.{Turn}
 use Rattle.dg_world.specs.declared.turn.Turn.TheVariants.{Rests, Changes}
 use Rattle.dg_world.specs.declared.turn.Halt.{Halt}
 use Rattle.dg_world.specs.declared.turn.Halt.TheVariants.{Stopped, NotAVolume, NoImage}
-use Rattle.dg_world.specs.declared.world.RunningMote.{RunningMote}
-use Rattle.dg_world.proofs.ShownLemmas.{changes_same, changes_told, told_then}
+use Rattle.dg_world.proofs.ShownLemmas.{changes_same, changes_told, all_loud, told_then}
 
 -- ---- readings
 
@@ -52,21 +53,20 @@ stopped_lines (Stopped x) m before t a b told h = (h.0, h.1, refl)
 stopped_lines NotAVolume m before t a b told h = h
 stopped_lines NoImage m before t a b told h = h
 
-pub cut_stopped : (r : Result (Option RunningMote) Halt) (q : Result Turn Halt) (h : Halt) (m : ℕ) (before : Option Shown) (t : Store) (a b : Device) (told : List Report) → IsErrAnd r (λ e. e ≡ h) → q ≡ Err h → CutTold q before t a b → CutLines r m before t a b told told
+pub cut_stopped : (r : Result (Unit {0}) Halt) (q : Result Turn Halt) (h : Halt) (m : ℕ) (before : Option Shown) (t : Store) (a b : Device) (told : List Report) → IsErrAnd r (λ e. e ≡ h) → q ≡ Err h → CutTold q before t a b → CutLines r m before t a b told told
 cut_stopped (Ok u) q h m before t a b told is e x = absurd is
 cut_stopped (Err y) q h m before t a b told is e x =
     let P : Halt → Type 0 = λ z. CutLines (Err z) m before t a b told told in
     subst P (sym is) (stopped_lines h m before t a b told (subst (λ (z : Result Turn Halt). CutTold z before t a b) e x))
 
-pub cut_told : (turn : Turn) (q : Result Turn Halt) (m : ℕ) (before : Option Shown) (t : Store) (a b : Device) (start mid end : List Report) → q ≡ Ok turn → CutTold q before t a b
-    → mid ≡ start ++ turn_lines m turn → end ≡ mid ++ Off m ∷ [] → CutLines (Ok None) m before t a b start end
-cut_told turn q m before t a b start mid end e x told off =
+pub cut_lines : (turn : Turn) (q : Result Turn Halt) (m : ℕ) (before : Option Shown) (t : Store) (a b : Device) (start mid end : List Report) → q ≡ Ok turn → CutTold q before t a b
+    → mid ≡ start ++ filter (is_told true) (turn_lines m turn) → end ≡ mid ++ Off m ∷ [] → CutLines (Ok tt) m before t a b start end
+cut_lines turn q m before t a b start mid end e x told off =
     let y : CutTold (Ok turn) before t a b = subst (λ (z : Result Turn Halt). CutTold z before t a b) e x in (
-      refl,
       record {
         lines = turn_lines m turn;
         tells = λ k s trail leaves was. y.0 m k s trail leaves was;
-        told_now = told_then start mid end (turn_lines m turn) (Off m ∷ []) _ told off refl;
+        told_now = told_then start mid end (turn_lines m turn) (Off m ∷ []) _ (told ∙ ap (λ (l : List Report). start ++ l) (all_loud (turn_lines m turn))) off refl;
       },
       y.1,
     )

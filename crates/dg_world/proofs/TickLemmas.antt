@@ -1,180 +1,352 @@
--- What starts and ticks do at a board.
-use Rattle.std.proofs.Common.{◌≡◌, ℕ, Bool, true, false, List, [], ◌∷◌, ◌++◌, length, refl, ap, sym, ◌∙◌, subst, arith}
-use Rattle.std.specs.Prelude.{◌-◌, ◌≤◌, ◌&&◌, nat_le, if◌then◌else◌, Option, Some, None, IfSome, Result, Ok, Err}
-use Rattle.std.proofs.lemmas.Bool.{cond_both, leb-true}
+-- What starts, ticks and heard frames do at a board.
+use Rattle.std.proofs.Common.{◌≡◌, ◌⊎◌, ⊎_elim, ℕ, Bool, true, false, List, [], ◌∷◌, ◌++◌, length, refl, ap, sym, ◌∙◌, subst, arith}
+use Rattle.std.specs.Prelude.{Option, Some, None, option_map, IfSome, Result, Ok, Err}
+use Rattle.std.proofs.lemmas.Bool.{cond_both}
+use Rattle.std.proofs.lemmas.List.{append-nil}
 use Rattle.dg_nor.specs.Device.{Device, Ran}
-use Rattle.dg_nor.specs.Trail.{Trail, last, last_of, resting}
+use Rattle.dg_nor.specs.Trail.{Trail, operations, last, last_of, joined, resting}
 use Rattle.dg_nor.specs.Through.{Through}
-use Rattle.dg_nor.specs.Reads.{Looked}
-use Rattle.dg_nor.proofs.ThroughLemmas.{Through-last}
-use Rattle.dg_nor.proofs.TrailLemmas.{operations-resting}
+use Rattle.dg_nor.proofs.ReadLemmas.{Looked-none}
+use Rattle.dg_nor.proofs.ThroughLemmas.{Through-last, Through-joined, Through-resting}
+use Rattle.dg_nor.proofs.TrailLemmas.{joined_none, Halted-joined_first, operations-resting}
+use Rattle.dg_trickle.specs.Steps.{act_of, after_tick}
+use Rattle.dg_trickle.specs.declared.Act.{Act}
+use Rattle.dg_trickle.specs.declared.Act.TheVariants as act
+use Rattle.dg_recv.specs.Steps.{ask_of}
+use Rattle.dg_recv.specs.declared.Ask.{Ask}
+use Rattle.dg_recv.specs.declared.Ask.TheVariants as ask
+use Rattle.dg_send.specs.Steps.{serve_of}
+use Rattle.dg_send.specs.declared.Serve.{Serve}
+use Rattle.dg_send.specs.declared.Serve.TheVariants as serve
 use Rattle.dg_slot.specs.Pages.{program}
-use Rattle.dg_volume.specs.Store.{Store}
+use Rattle.dg_volume.specs.Store.{Store, IsNear}
 use Rattle.dg_volume.specs.Stands.{Stands}
-use Rattle.dg_volume.specs.Acts.{Acted, Stops}
-use Rattle.dg_volume.specs.Trails.{BeginsAt, clear_trail}
-use Rattle.dg_volume.specs.Start.{Runs, Boot, boot, order_waits}
+use Rattle.dg_volume.specs.Acts.{Stops}
+use Rattle.dg_volume.specs.Start.{Runs, boot, order_waits, runs_length, runs_crc}
 use Rattle.dg_volume.specs.declared.volume.Kind.{Kind}
 use Rattle.dg_volume.specs.declared.volume.Kind.TheVariants as kind
-use Rattle.dg_volume.specs.declared.volume.Volume.{Volume}
-use Rattle.dg_volume.proofs.BeginLemmas.{begins_resting, begins_committing, boot_begins}
+use Rattle.dg_volume.proofs.BeginLemmas.{boot_begins}
+use Rattle.dg_frame.specs.Grammar.{message_of}
+use Rattle.dg_frame.specs.Spelling.{frame_of}
+use Rattle.dg_frame.specs.declared.Message.{Message}
 use Rattle.dg_boot.specs.Started.{Starts as BootStarts, Lacks}
 use Rattle.dg_boot.specs.declared.Started.{Started}
-use Rattle.dg_rules.specs.Sizes.{short_start}
-use Rattle.dg_rules.specs.World.{World as RuleWorld, Running, site, store_at}
-use Rattle.dg_rules.specs.Events.{Does, key_of, running_by, starts, goes_on, clears, ticks}
-use Rattle.dg_rules.specs.Changes.{changes, start_line}
+use Rattle.dg_mote.specs.Model.{MoteState, Mode, Maintain, Receive, Transmit, Receiving, Sending, Turn as MoteTurn, reception, begun}
+use Rattle.dg_mote.specs.Ticks.{clears, maintain_by, receive_by, transmit_by, mode_tick, tick_of}
+use Rattle.dg_mote.specs.Hears.{heard_of}
+use Rattle.dg_mote.specs.Effects.{Effect, boot_by, boots, on, silent, tick_by as effect_by, tick_effect, frame_effect, reset_effect}
+use Rattle.dg_mote.specs.Motes.{Done, IsRead}
+use Rattle.dg_mote.specs.declared.mote.Did.{Did}
+use Rattle.dg_mote.specs.declared.mote.Did.TheVariants as did
+use Rattle.dg_mote.specs.declared.mote.Heard.{Heard}
+use Rattle.dg_rules.specs.World.{World as RuleWorld, Running, store_at}
+use Rattle.dg_rules.specs.Events.{Does, Refuses, key_of, of_effect}
+use Rattle.dg_rules.specs.Changes.{changes, start_line, sent_line}
+use Rattle.dg_base.specs.declared.events.Key.{Key}
 use Rattle.dg_script.specs.declared.report.Cause.TheVariants as cause
 use Rattle.dg_script.specs.declared.report.Report.{Report}
 use Rattle.dg_script.specs.declared.report.Report.TheVariants.{Start}
+use Rattle.dg_world.specs.Shown.{Shows}
 use Rattle.dg_world.specs.Worlds.{MoteStands}
-use Rattle.dg_world.specs.Turns.{SameShown, trail_of, Went, Lacked, TurnEnds}
+use Rattle.dg_world.specs.Turns.{SameShown, BeginsOver, trail_of, turn_frame, turn_sent, turn_lines, sent_shown, Went, Lacked, TurnEnds}
+use Rattle.dg_world.specs.declared.happening.Begun.{Begun}
+use Rattle.dg_world.specs.declared.shown.Shown.{Shown}
 use Rattle.dg_world.specs.declared.turn.StartLine.{StartLine}
 use Rattle.dg_world.specs.declared.turn.Turn.{Turn}
-use Rattle.dg_world.specs.declared.turn.Turn.TheVariants.{Refused, Rests, Starts}
+use Rattle.dg_world.specs.declared.turn.Turn.TheVariants.{Refused, Rests, Sends, Changes, Starts}
 use Rattle.dg_world.specs.declared.turn.Halt.{Halt}
 use Rattle.dg_world.specs.declared.turn.Halt.TheVariants.{Stopped}
 use Rattle.dg_world.specs.declared.world.RunningMote.{RunningMote}
-use Rattle.dg_world.proofs.ShownLemmas.{changes_same}
-use Rattle.dg_world.proofs.StartLemmas.{boot_same, clear_same, same_shown, leaves_same}
-use Rattle.dg_world.proofs.TurnLemmas.{turn_after}
+use Rattle.dg_world.proofs.ShownLemmas.{changes_same, changes_told}
+use Rattle.dg_world.proofs.StartLemmas.{boot_same, boot_same_from, clear_same, same_shown, leaves_same}
+use Rattle.dg_world.proofs.TurnLemmas.{halted, same_err, start_after, halt_after}
 
 -- ---- acts that are not reported
 
 -- a stop on a trail of stores that all show the same
-pub stopped_same : (w : RuleWorld) (m now : ℕ) (does : Does) (a b : Device) → Through (SameShown (store_at w m)) (trail_of does (store_at w m)) → Stops (trail_of does (store_at w m)) a b
-    → TurnEnds (Err (Stopped None)) w m now does a b
-stopped_same w m now does a b through stops = record { stops = stops; shows = λ whole blown k u l. leaves_same (store_at w m) (trail_of does (store_at w m)) k u through l }
-
--- nothing is told of one that was gone
-unchanged_lines : (m : ℕ) (s : Store) (t : Trail Store) → Through (SameShown s) t → [] ≡ changes m s (last t) ++ []
-unchanged_lines m s t through = ap (λ (l : List Report). l ++ []) (sym (changes_same m s (last t) (Through-last (SameShown s) t through)))
-
-pub cleared : (w : RuleWorld) (m now : ℕ) (v : Volume) (a b : Device) → Acted (clear_trail (store_at w m)) a b v → Went w m now (goes_on w m (clear_trail (store_at w m))) a b Rests
-cleared w m now v a b acted = record {
-  deed = record { trail = clear_trail (store_at w m); table = w.table; started = None; runs = Some (site w m).runs };
-  goes = refl;
-  ran = acted.ran;
-  tells = record { runs = refl; lines = unchanged_lines m (store_at w m) (clear_trail (store_at w m)) (clear_same (store_at w m)); stands = acted.mounted.stands; memory = tt };
-}
-
-resting_last : (s : Store) → last (resting s 0) ≡ s
-unfolding last_of
-resting_last s = refl
-
-pub rested : (w : RuleWorld) (m now : ℕ) (a b : Device) → Stands a.image (store_at w m) → Looked a b → Went w m now (goes_on w m (resting (store_at w m) 0)) a b Rests
-rested w m now a b stands looked =
-    let s = store_at w m in
-    let e = sym (resting_last s) in
-    record {
-      deed = record { trail = resting s 0; table = w.table; started = None; runs = Some (site w m).runs };
-      goes = refl;
-      ran = subst (λ (n : ℕ). Ran n a b) (sym (operations-resting s 0)) looked.ran;
-      tells = record {
-        runs = refl;
-        lines = ap (λ (l : List Report). l ++ []) (sym (changes_same m s s (same_shown s)) ∙ ap (changes m s) e);
-        stands = let P : Store → Type 0 = λ x. Stands b.image x in subst P e (subst (λ (c : List ℕ). Stands c s) (sym looked.same_image) stands);
-        memory = tt;
-      };
-    }
+pub stopped_same : (w : RuleWorld) (m : ℕ) (does : Does) (v u : Option RunningMote) (a b : Device) → Through (SameShown (store_at w m)) (trail_of does (store_at w m)) → Stops (trail_of does (store_at w m)) a b
+    → TurnEnds (Err (Stopped None)) w m does v u a b
+stopped_same w m does v u a b through stops = record { stops = stops; shows = λ whole blown k t l. leaves_same (store_at w m) (trail_of does (store_at w m)) k t through l }
 
 -- ---- starts
 
 line_is : (m : ℕ) (x : StartLine) (told : Started) (r : Runs) → x.key ≡ record { image = told.image; version = told.version } → x.length ≡ told.length → x.crc ≡ told.crc
-    → told.image ≡ r.image → told.version ≡ r.version → told.length ≡ Rattle.dg_volume.specs.Start.runs_length r → told.crc ≡ Rattle.dg_volume.specs.Start.runs_crc r
+    → told.image ≡ r.image → told.version ≡ r.version → told.length ≡ runs_length r → told.crc ≡ runs_crc r
     → Start m x.key.image x.key.version x.length x.crc ∷ [] ≡ start_line m (Some r)
 line_is m x told r key long crc i v l c = cc
 
 key_is : (x : StartLine) (told : Started) (r : Runs) → x.key ≡ record { image = told.image; version = told.version } → told.image ≡ r.image → told.version ≡ r.version → x.key ≡ key_of r
 key_is x told r key i v = cc
 
-pub started : (w : RuleWorld) (m now : ℕ) (k : Kind) (a b : Device) (told : Started) (x : StartLine) → x.key ≡ record { image = told.image; version = told.version } → x.length ≡ told.length → x.crc ≡ told.crc
-    → BootStarts (boot k (store_at w m)) a b told → Went w m now (starts w (boot k (store_at w m)) now) a b (Starts x)
-started w m now k a b told x key long crc s =
-    let t = (boot k (store_at w m)).trail in
-    let r = s.runs in
-    let chosen = sym s.chosen in
-    let e : changes m (store_at w m) (last t) ≡ [] = changes_same m (store_at w m) (last t) (Through-last (SameShown (store_at w m)) t (boot_same k (store_at w m))) in
-    record {
-      deed = record { trail = t; table = w.table; started = (boot k (store_at w m)).runs; runs = running_by (boot k (store_at w m)).runs now };
-      goes = refl;
-      ran = s.acted.ran;
-      tells = record {
-        runs = ap (λ (o : Option Runs). running_by o now) s.chosen ∙ ap (λ key. Some (Some (record { key = key; since = now }))) (sym (key_is x told r key s.image s.version));
-        lines = line_is m x told r key long crc s.image s.version s.length s.crc ∙ ap (start_line m) chosen ∙ ap (λ (l : List Report). l ++ start_line m (boot k (store_at w m)).runs) (sym e);
-        stands = s.acted.mounted.stands;
-        memory =
-            let P : Option Runs → Type 0 = λ o. IfSome o (λ q. program b.image (length q.pages) ≡ q.pages) in
-            subst P chosen (ap (program b.image) (sym s.pages) ∙ s.memory);
-      };
-    }
+boot_trail : (o : Option Runs) (t : Trail Store) (id now word : ℕ) → (boot_by o t id now word).trail ≡ t
+boot_trail None t id now word = refl
+boot_trail (Some r) t id now word = refl
 
-pub start_stopped : (w : RuleWorld) (m now : ℕ) (k : Kind) (a b : Device) → Stops (boot k (store_at w m)).trail a b → TurnEnds (Err (Stopped None)) w m now (starts w (boot k (store_at w m)) now) a b
-start_stopped w m now k a b stops = stopped_same w m now (starts w (boot k (store_at w m)) now) a b (boot_same k (store_at w m)) stops
+module _ (w : RuleWorld) (m : ℕ) (k : Kind) (id now word : ℕ) (old : Option Key) where
+  abbrev s : Store
+  s = store_at w m
 
-pub start_lacks : (w : RuleWorld) (m now : ℕ) (k : Kind) (a b : Device) → Lacks (boot k (store_at w m)) a b → Lacked (starts w (boot k (store_at w m)) now) a b
-start_lacks w m now k a b l = record {
-  deed = record { trail = (boot k (store_at w m)).trail; table = w.table; started = (boot k (store_at w m)).runs; runs = running_by (boot k (store_at w m)).runs now };
-  goes = refl;
-  none = ap (λ (o : Option Runs). running_by o now) l.none;
-  ran = l.ran;
-  stands = l.stands;
-}
+  abbrev t : Trail Store
+  t = (boot k s).trail
+
+  abbrev starts : Option Runs → Does
+  starts o = of_effect w (boot_by o t id now word) old
+
+  pub started : (v : Option RunningMote) (a b : Device) (told : Started) (x : Begun) → BeginsOver told id now word x → BootStarts (boot k s) a b told
+      → TurnEnds (Ok (Starts x.line)) w m (of_effect w (boots k s id now word) old) v (Some x.running) a b
+  started v a b told x over g =
+      let r = g.runs in
+      let e : changes m s (last t) ≡ [] = changes_same m s (last t) (Through-last (SameShown s) t (boot_same k s)) in
+      record {
+        deed = record { trail = t; table = w.table; started = Some r; sent = None; runs = Some (Some (record { key = key_of r; mote = begun id now word })) };
+        goes = ap starts g.chosen;
+        ran = g.acted.ran;
+        tells = record {
+          runs = Some (record { key = key_of r; mote = begun id now word });
+          runs_then = refl;
+          mote = (over.key ∙ key_is x.line told r over.line_key g.image g.version, over.mote b.image (last t) g.acted.mounted);
+          lines = line_is m x.line told r over.line_key over.length over.crc g.image g.version g.length g.crc ∙ ap (λ (l : List Report). (l ++ start_line m (Some r)) ++ []) (sym e);
+          sent = refl;
+          stands = g.acted.mounted.stands;
+          memory = ap (program b.image) (sym g.pages) ∙ g.memory;
+        };
+      }
+
+  start_stopped : (v u : Option RunningMote) (a b : Device) → Stops t a b → TurnEnds (Err (Stopped None)) w m (of_effect w (boots k s id now word) old) v u a b
+  start_stopped v u a b stops =
+      let e : t ≡ (boots k s id now word).trail = sym (boot_trail (boot k s).runs t id now word) in
+      stopped_same w m (of_effect w (boots k s id now word) old) v u a b (subst (Through (SameShown s)) e (boot_same k s)) (subst (λ (x : Trail Store). Stops x a b) e stops)
+
+  start_lacks : (v u : Option RunningMote) (a b : Device) → Lacks (boot k s) a b → Lacked (of_effect w (boots k s id now word) old) a b
+  start_lacks v u a b l = record {
+    deed = record { trail = t; table = w.table; started = None; sent = None; runs = None };
+    goes = ap starts l.none;
+    none = refl;
+    ran = l.ran;
+    stands = l.stands;
+  }
+
+  abbrev Ends : (v u : Option RunningMote) (a b : Device) → Halt → Type 0
+  Ends v u a b h = TurnEnds (Err h) w m (of_effect w (boots k s id now word) old) v u a b
+
+  pub begin_stopped : (T : Type 0) (h : Halt) (v u : Option RunningMote) (a b : Device) → halted T (Stopped None) ≡ halted T h → Stops t a b → Ends v u a b h
+  begin_stopped T h v u a b is stops = subst (Ends v u a b) (same_err T (Stopped None) h is) (start_stopped v u a b stops)
+
+  pub begin_lacks : (T : Type 0) (h : Halt) (v u : Option RunningMote) (a b : Device) → halted T Rattle.dg_world.specs.declared.turn.Halt.TheVariants.NoImage ≡ halted T h → Lacks (boot k s) a b → Ends v u a b h
+  begin_lacks T h v u a b is l = subst (Ends v u a b) (same_err T Rattle.dg_world.specs.declared.turn.Halt.TheVariants.NoImage h is) (start_lacks v u a b l)
 
 -- ---- ticks
 
-Begins : RuleWorld → ℕ → Does → Type 0
-Begins w m does = BeginsAt (store_at w m) (trail_of does (store_at w m))
+module _ (s : Store) (now word : ℕ) where
+  abbrev Same : MoteTurn Did → Type 0
+  Same step = Through (SameShown s) step.trail
 
-pub tick_begins : (w : RuleWorld) (m now : ℕ) (r : Running) → BeginsAt (store_at w m) (trail_of (ticks w m (Some r) now) (store_at w m))
-unfolding Begins
-tick_begins w m now r =
-    let s = store_at w m in
-    cond_both (clears s r.since now) _ _ (Begins w m) (λ _. begins_committing s _)
-    (λ _. cond_both (order_waits s) _ _ (Begins w m) (λ _. boot_begins kind.Order s) (λ _. begins_resting s 0))
+  rests : Through (SameShown s) (resting s 0)
+  rests = Through-resting (SameShown s) s 0 (same_shown s)
 
-chosen_first : (P : Does → Type 0) (b : Bool) (x y : Does) → b ≡ true → P x → P (if b then x else y)
-chosen_first P b x y e p = subst (λ (v : Bool). P (if v then x else y)) (sym e) p
+  maintain_same : (a : Act) (m : MoteState) → Same (maintain_by a m s)
+  maintain_same act.Send m = rests
+  maintain_same act.Quiet m = rests
+  maintain_same act.Expired m = rests
+  maintain_same act.Nothing m = rests
 
-chosen_second : (P : Does → Type 0) (b : Bool) (x y : Does) → b ≡ false → P y → P (if b then x else y)
-chosen_second P b x y e p = subst (λ (v : Bool). P (if v then x else y)) (sym e) p
+  receive_same : (a : Ask) (m : MoteState) (r : Receiving) → Same (receive_by a m r s now word)
+  receive_same (ask.Request want) m r = rests
+  receive_same ask.GiveUp m r = rests
+  receive_same ask.Wait m r = rests
 
-Ends : Result Turn Halt → RuleWorld → (m now : ℕ) → Device → Device → Does → Type 0
-Ends r w m now a b does = TurnEnds r w m now does a b
+  transmit_same : (a : Serve) (m : MoteState) (t : Sending) → Same (transmit_by a m t s now word)
+  transmit_same (serve.Send q) m t = rests
+  transmit_same serve.Done m t = rests
+  transmit_same serve.Wait m t = rests
 
-pub tick_clears : (r : Result Turn Halt) (w : RuleWorld) (m now : ℕ) (x : Running) (a b c : Device) → clears (store_at w m) x.since now ≡ true → Looked a b
-    → TurnEnds r w m now (goes_on w m (clear_trail (store_at w m))) b c → TurnEnds r w m now (ticks w m (Some x) now) a c
-unfolding Ends
-tick_clears r w m now x a b c is looked ends = chosen_first (Ends r w m now a c) (clears (store_at w m) x.since now) _ _ is (turn_after r w m now _ a b c looked ends)
+  mode_same : (mode : Mode) (m : MoteState) → Same (mode_tick mode m s now word)
+  mode_same (Maintain timer) m = cond_both (order_waits s) _ _ Same (λ _. rests) (λ _. maintain_same (act_of timer now) (record m { mode = Maintain (after_tick timer now word) }))
+  mode_same (Receive r) m = receive_same (ask_of (reception r) now) m r
+  mode_same (Transmit t) m = transmit_same (serve_of t.owed now) m t
 
-pub tick_starts : (r : Result Turn Halt) (w : RuleWorld) (m now : ℕ) (x : Running) (a b c : Device) → clears (store_at w m) x.since now ≡ false → order_waits (store_at w m) ≡ true → Looked a b
-    → TurnEnds r w m now (starts w (boot kind.Order (store_at w m)) now) b c → TurnEnds r w m now (ticks w m (Some x) now) a c
-unfolding Ends
-tick_starts r w m now x a b c not_clears is looked ends =
-    chosen_second (Ends r w m now a c) (clears (store_at w m) x.since now) _ _ not_clears
-    (chosen_first (Ends r w m now a c) (order_waits (store_at w m)) _ _ is (turn_after r w m now _ a b c looked ends))
+  -- a tick changes neither what is kept nor the order
+  pub tick_same : (m : MoteState) → Through (SameShown s) (tick_of m s now word).trail
+  unfolding tick_of
+  tick_same m = cond_both (clears m s now) _ _ Same (λ _. clear_same s) (λ _. mode_same m.mode m)
 
-pub tick_rests : (w : RuleWorld) (m now : ℕ) (x : Running) (a b : Device) → clears (store_at w m) x.since now ≡ false → order_waits (store_at w m) ≡ false → Stands a.image (store_at w m) → Looked a b
-    → TurnEnds (Ok Rests) w m now (ticks w m (Some x) now) a b
-unfolding Ends
-tick_rests w m now x a b not_clears not_waits stands looked =
-    chosen_second (Ends (Ok Rests) w m now a b) (clears (store_at w m) x.since now) _ _ not_clears
-    (chosen_second (Ends (Ok Rests) w m now a b) (order_waits (store_at w m)) _ _ not_waits (rested w m now a b stands looked))
+abbrev by_answer : MoteTurn Did → (now word : ℕ) → Did → Effect
+by_answer step now word d = effect_by d step now word
 
-pub tick_off : (w : RuleWorld) (m now : ℕ) (o : Option Running) (a : Device) → MoteStands None o → Looked a a → TurnEnds (Ok (Refused cause.Off)) w m now (ticks w m o now) a a
-tick_off w m now None a stands looked = (refl, looked)
-tick_off w m now (Some r) a stands looked = absurd stands
+acted_on : (step : MoteTurn Did) (now word : ℕ) (d : Did) → (d ≡ did.Sent) ⊎ (d ≡ did.Idle) → d ≡ step.answer → effect_by step.answer step now word ≡ on step
+acted_on step now word d is same = ap (by_answer step now word) (sym same) ∙ ⊎_elim (λ e. ap (by_answer step now word) e) (λ e. ap (by_answer step now word) e) is
 
-pub tick_of : (r : Result Turn Halt) (w : RuleWorld) (m now : ℕ) (v : RunningMote) (o : Option Running) (a b : Device) → MoteStands (Some v) o
-    → ((x : Running) → v.since ≡ x.since → TurnEnds r w m now (ticks w m (Some x) now) a b) → TurnEnds r w m now (ticks w m o now) a b
-tick_of r w m now v None a b stands on = absurd stands
-tick_of r w m now v (Some x) a b stands on = on x stands.1
+pub ticks_on : (m : MoteState) (s : Store) (now word : ℕ) (d : Did) → (d ≡ did.Sent) ⊎ (d ≡ did.Idle) → d ≡ (tick_of m s now word).answer → tick_effect m s now word ≡ on (tick_of m s now word)
+unfolding tick_effect
+ticks_on m s now word d is same = acted_on (tick_of m s now word) now word d is same
 
-both_second : (x y : Bool) → (x && y) ≡ true → y ≡ true
-both_second true y e = e
-both_second false y e = cc
+-- a frame in the outbox is told as the message that was sent
+sent_lines : (m : ℕ) (o : Option Message) → IfSome o IsRead → turn_lines m (turn_sent (option_map frame_of o)) ≡ sent_line m o
+sent_lines m None read = refl
+sent_lines m (Some message) read = ap (sent_shown m) read
 
-pub room_left : (s : Store) (room since now : ℕ) (b : Bool) → b ≡ clears s since now → b ≡ true → room ≡ s.room → 1 ≤ room
-room_left s room since now b e is same =
-    let f : clears s since now ≡ true = sym e ∙ is in
-    omega (arith, same, leb-true 1 s.room (both_second (nat_le short_start (now - since)) (nat_le 1 s.room) (both_second (nat_le 1 s.gesture) (nat_le short_start (now - since) && nat_le 1 s.room) f)))
+sent_frame : (o : Option (List ℕ)) → turn_frame (turn_sent o) ≡ o
+sent_frame None = refl
+sent_frame (Some bytes) = refl
+
+sent_turn : (o : Option (List ℕ)) (w : RuleWorld) (m : ℕ) (does : Does) (v u : Option RunningMote) (a b : Device) → Went w m does u a b (turn_sent o) → TurnEnds (Ok (turn_sent o)) w m does v u a b
+sent_turn None w m does v u a b x = x
+sent_turn (Some bytes) w m does v u a b x = x
+
+module _ (w : RuleWorld) (m : ℕ) (r : Running) (now word : ℕ) where
+  abbrev here : Store
+  here = store_at w m
+
+  abbrev step : MoteTurn Did
+  step = tick_of r.mote here now word
+
+  abbrev ticks : Does
+  ticks = of_effect w (tick_effect r.mote here now word) (Some r.key)
+
+  tick_went : (v u : RunningMote) (a b : Device) (d : Did) (o : Option (List ℕ)) → (d ≡ did.Sent) ⊎ (d ≡ did.Idle) → v.key ≡ r.key → u.key ≡ v.key → Done step a b u.mote d → o ≡ option_map frame_of step.sent → IfSome step.sent IsRead
+      → Went w m ticks (Some u) a b (turn_sent o)
+  tick_went v u a b d o is key same done sent read =
+      let e : changes m here (last step.trail) ≡ [] = changes_same m here (last step.trail) (Through-last (SameShown here) step.trail (tick_same here now word r.mote)) in
+      record {
+        deed = record { trail = step.trail; table = w.table; started = None; sent = step.sent; runs = Some (Some (record { key = r.key; mote = step.mote })) };
+        goes = ap (λ (x : Effect). of_effect w x (Some r.key)) (ticks_on r.mote here now word d is done.answers);
+        ran = done.ran;
+        tells = record {
+          runs = Some (record { key = r.key; mote = step.mote });
+          runs_then = refl;
+          mote = (same ∙ key, done.mote);
+          lines = ap (λ (x : Option (List ℕ)). turn_lines m (turn_sent x)) sent ∙ sent_lines m step.sent read ∙ ap (λ (l : List Report). (l ++ []) ++ sent_line m step.sent) (sym e);
+          sent = sent_frame o ∙ sent;
+          stands = done.mote.mounted.stands;
+          memory = tt;
+        };
+      }
+
+  -- it sends a frame, or rests
+  pub tick_acts : (v u : RunningMote) (a b : Device) (d : Did) (o : Option (List ℕ)) (turn : Turn) → turn ≡ turn_sent o → (d ≡ did.Sent) ⊎ (d ≡ did.Idle) → v.key ≡ r.key → u.key ≡ v.key → Done step a b u.mote d → o ≡ option_map frame_of step.sent
+      → IfSome step.sent IsRead → TurnEnds (Ok turn) w m ticks (Some v) (Some u) a b
+  tick_acts v u a b d o turn is_turn is key same done sent read =
+      subst (λ (x : Turn). TurnEnds (Ok x) w m ticks (Some v) (Some u) a b) (sym is_turn) (sent_turn o w m ticks (Some v) (Some u) a b (tick_went v u a b d o is key same done sent read))
+
+  -- ---- it is stopped
+
+  abbrev Halted : Did → Type 0
+  Halted d = Through (SameShown here) (effect_by d step now word).trail
+
+  first_same : (d : Did) → Halted d
+  first_same did.Sent = tick_same here now word r.mote
+  first_same did.Idle = tick_same here now word r.mote
+  first_same did.Restart =
+      let at = last step.trail in
+      let same = Through-last (SameShown here) step.trail (tick_same here now word r.mote) in
+      Through-joined (SameShown here) step.trail (boots kind.Order at step.mote.id now word).trail (tick_same here now word r.mote)
+      (subst (Through (SameShown here)) (sym (boot_trail (boot kind.Order at).runs (boot kind.Order at).trail step.mote.id now word)) (boot_same_from here at kind.Order same))
+
+  stops_first : (d : Did) (a b : Device) → Stops step.trail a b → Stops (effect_by d step now word).trail a b
+  stops_first did.Sent a b stops = stops
+  stops_first did.Idle a b stops = stops
+  stops_first did.Restart a b stops =
+      let at = last step.trail in
+      let t = (boot kind.Order at).trail in
+      let begins = boot_begins kind.Order at in
+      subst (λ (x : Trail Store). Stops (joined step.trail x) a b) (sym (boot_trail (boot kind.Order at).runs t step.mote.id now word))
+      (Halted-joined_first Stands IsNear step.trail t begins.works (sym begins.first) stops)
+
+  pub tick_stopped : (v u : Option RunningMote) (a b : Device) → Stops step.trail a b → TurnEnds (Err (Stopped None)) w m ticks v u a b
+  unfolding tick_effect
+  tick_stopped v u a b stops = stopped_same w m ticks v u a b (first_same step.answer) (stops_first step.answer a b stops)
+
+  -- ---- it restarts
+
+  abbrev rested : MoteTurn Did
+  rested = record { mote = r.mote; trail = resting here 0; sent = None; answer = did.Restart }
+
+  abbrev restarts : Does
+  restarts = of_effect w (boots kind.Order here r.mote.id now word) (Some r.key)
+
+  effect_rested : effect_by did.Restart rested now word ≡ boots kind.Order here r.mote.id now word
+  unfolding last_of
+  effect_rested =
+      let e : Effect = boots kind.Order here r.mote.id now word in
+      let t = (boot kind.Order here).trail in
+      let first : e.trail ≡ t = boot_trail (boot kind.Order here).runs t r.mote.id now word in
+      let at : t.first ≡ here = (boot_begins kind.Order here).first in
+      ap (λ (x : Trail Store). record e { trail = x })
+      (ap (λ (x : Trail Store). joined (resting here 0) x) first ∙ ap (λ (x : Store). joined (resting x 0) t) (sym at) ∙ joined_none t ∙ sym first)
+
+  restarts_is : step ≡ rested → ticks ≡ restarts
+  unfolding tick_effect
+  restarts_is is = ap (λ (x : Effect). of_effect w x (Some r.key)) (ap (λ (x : MoteTurn Did). effect_by x.answer x now word) is ∙ effect_rested)
+
+  -- the chip stands for the same store when it starts
+  pub restart_stands : (u : RunningMote) (a b : Device) → step ≡ rested → Done step a b u.mote did.Restart → Stands b.image here
+  unfolding last_of
+  restart_stands u a b is done = subst (λ (x : MoteTurn Did). Stands b.image (last x.trail)) is done.mote.mounted.stands
+
+  ran_none : (u : RunningMote) (a b : Device) → step ≡ rested → Done step a b u.mote did.Restart → Ran 0 a b
+  ran_none u a b is done = subst (λ (n : ℕ). Ran n a b) (operations-resting here 0) (subst (λ (x : MoteTurn Did). Ran (operations x.trail) a b) is done.ran)
+
+  pub restart_starts : (u : RunningMote) (x : Begun) (v : Option RunningMote) (a b c : Device) (id : ℕ) → id ≡ u.mote.id → step ≡ rested → Done step a b u.mote did.Restart
+      → TurnEnds (Ok (Starts x.line)) w m (of_effect w (boots kind.Order here id now word) (Some r.key)) v (Some x.running) b c → TurnEnds (Ok (Starts x.line)) w m ticks v (Some x.running) a c
+  restart_starts u x v a b c id at is done ends =
+      subst (λ (y : Does). TurnEnds (Ok (Starts x.line)) w m y v (Some x.running) a c) (ap (λ (n : ℕ). of_effect w (boots kind.Order here n now word) (Some r.key)) (at ∙ done.mote.id ∙ ap (λ (t : MoteTurn Did). t.mote.id) is) ∙ sym (restarts_is is))
+      (start_after w m (of_effect w (boots kind.Order here id now word) (Some r.key)) (Some x.running) a b c x.line (ran_none u a b is done) ends)
+
+  pub restart_halts : (u : RunningMote) (h : Halt) (v n : Option RunningMote) (a b c : Device) (id : ℕ) → id ≡ u.mote.id → step ≡ rested → Done step a b u.mote did.Restart
+      → TurnEnds (Err h) w m (of_effect w (boots kind.Order here id now word) (Some r.key)) v n b c → TurnEnds (Err h) w m ticks v n a c
+  restart_halts u h v n a b c id at is done ends =
+      subst (λ (y : Does). TurnEnds (Err h) w m y v n a c) (ap (λ (k : ℕ). of_effect w (boots kind.Order here k now word) (Some r.key)) (at ∙ done.mote.id ∙ ap (λ (t : MoteTurn Did). t.mote.id) is) ∙ sym (restarts_is is))
+      (halt_after h w m (of_effect w (boots kind.Order here id now word) (Some r.key)) v n a b c (ran_none u a b is done) ends)
+
+-- ---- heard frames
+
+module _ (w : RuleWorld) (m : ℕ) (r : Running) (now word : ℕ) (bytes : List ℕ) where
+  abbrev heard : MoteTurn Heard
+  heard = heard_of r.mote (store_at w m) now word bytes
+
+  abbrev hears : Does
+  hears = of_effect w (frame_effect r.mote (store_at w m) now word bytes) (Some r.key)
+
+  pub hear_changes : (v u : RunningMote) (a b : Device) (d : Heard) (before after : Shown) → v.key ≡ r.key → u.key ≡ v.key → Done heard a b u.mote d → Shows before (store_at w m) → Shows after (last heard.trail)
+      → TurnEnds (Ok (Changes before after)) w m hears (Some v) (Some u) a b
+  unfolding frame_effect
+  hear_changes v u a b d before after key same done shows after_shows = record {
+    deed = record { trail = heard.trail; table = w.table; started = None; sent = None; runs = Some (Some (record { key = r.key; mote = heard.mote })) };
+    goes = refl;
+    ran = done.ran;
+    tells = record {
+      runs = Some (record { key = r.key; mote = heard.mote });
+      runs_then = refl;
+      mote = (same ∙ key, done.mote);
+      lines = changes_told m before after (store_at w m) (last heard.trail) shows after_shows ∙ sym (append-nil (changes m (store_at w m) (last heard.trail) ++ []) ∙ append-nil (changes m (store_at w m) (last heard.trail)));
+      sent = refl;
+      stands = done.mote.mounted.stands;
+      memory = tt;
+    };
+  }
+
+  pub hear_stopped : (v u : Option RunningMote) (a b : Device) (before : Shown) → Stops heard.trail a b → Shows before (store_at w m) → TurnEnds (Err (Stopped (Some before))) w m hears v u a b
+  unfolding frame_effect
+  hear_stopped v u a b before stops shows = record { stops = stops; shows = λ whole blown. shows }
+
+-- ---- motes that are on or off
+
+-- a mote that is off refuses
+when_off : (D : Option Running → Does) (w : RuleWorld) (m : ℕ) (c : List ℕ) (s : Store) (o : Option Running) (a : Device) → D None ≡ Refuses cause.Off → MoteStands c None s o → TurnEnds (Ok (Refused cause.Off)) w m (D o) None None a a
+when_off D w m c s None a is stands = (is, Looked-none a, refl)
+when_off D w m c s (Some r) a is stands = absurd stands
+
+pub off_as : (D : Option Running → Does) (w : RuleWorld) (m : ℕ) (c : List ℕ) (s : Store) (o : Option Running) (v : Option RunningMote) (a : Device) → D None ≡ Refuses cause.Off → v ≡ None → MoteStands c v s o → TurnEnds (Ok (Refused cause.Off)) w m (D o) v v a a
+off_as D w m c s o v a refuses is stands =
+    subst (λ (x : Option RunningMote). TurnEnds (Ok (Refused cause.Off)) w m (D o) x x a a) (sym is)
+    (when_off D w m c s o a refuses (subst (λ (x : Option RunningMote). MoteStands c x s o) is stands))
+
+when_on : (D : Option Running → Does) (r : Result Turn Halt) (w : RuleWorld) (m : ℕ) (v : RunningMote) (u : Option RunningMote) (c : List ℕ) (s : Store) (o : Option Running) (a b : Device) → MoteStands c (Some v) s o
+    → ((x : Running) → MoteStands c (Some v) s (Some x) → TurnEnds r w m (D (Some x)) (Some v) u a b) → TurnEnds r w m (D o) (Some v) u a b
+when_on D r w m v u c s None a b stands on = absurd stands
+when_on D r w m v u c s (Some x) a b stands on = on x stands
+
+pub on_as : (D : Option Running → Does) (r : Result Turn Halt) (w : RuleWorld) (m : ℕ) (p : Option RunningMote) (v : RunningMote) (u : Option RunningMote) (c : List ℕ) (s : Store) (o : Option Running) (a b : Device) → p ≡ Some v → MoteStands c p s o
+    → ((x : Running) → MoteStands c (Some v) s (Some x) → TurnEnds r w m (D (Some x)) (Some v) u a b) → TurnEnds r w m (D o) p u a b
+on_as D r w m p v u c s o a b is stands on =
+    subst (λ (x : Option RunningMote). TurnEnds r w m (D o) x u a b) (sym is) (when_on D r w m v u c s o a b (subst (λ (x : Option RunningMote). MoteStands c x s o) is stands) on)

@@ -1,6 +1,6 @@
 -- What an event does at a board, from what the acts on its volume did.
 use Rattle.std.proofs.Common.{◌≡◌, ℕ, ◌+◌, true, false, List, [], ◌∷◌, refl, sym, ◌∙◌, subst, inl, inr, ⊎_elim, arith}
-use Rattle.std.specs.Prelude.{None, Result, Ok, Err, IsErrAnd}
+use Rattle.std.specs.Prelude.{Option, None, Result, Ok, Err, IsErrAnd}
 use Rattle.std.proofs.lemmas.Bool.{both_ways}
 use Rattle.dg_nor.specs.Device.{Device, Ran, Halts, Halted}
 use Rattle.dg_nor.specs.Trail.{Stage, Trail, operations, LeavesFrom, Leaves, EachWorks, MayLeave}
@@ -12,9 +12,11 @@ use Rattle.dg_volume.specs.Trails.{BeginsAt}
 use Rattle.dg_rules.specs.World.{World as RuleWorld, store_at}
 use Rattle.dg_rules.specs.Events.{Does}
 use Rattle.dg_world.specs.Turns.{trail_of, Went, TurnEnds}
+use Rattle.dg_world.specs.declared.turn.StartLine.{StartLine}
 use Rattle.dg_world.specs.declared.turn.Turn.{Turn}
-use Rattle.dg_world.specs.declared.turn.Turn.TheVariants.{Refused, Rests, Changes, Starts}
+use Rattle.dg_world.specs.declared.turn.Turn.TheVariants.{Refused, Rests, Sends, Changes, Starts}
 use Rattle.dg_world.specs.declared.turn.Halt.{Halt}
+use Rattle.dg_world.specs.declared.world.RunningMote.{RunningMote}
 use Rattle.dg_world.specs.declared.turn.Halt.TheVariants.{Stopped, NotAVolume, NoImage}
 
 -- ---- before the first operation
@@ -45,52 +47,59 @@ read_stops s t a b begins stands r =
 read_whole : (a b : Device) → ReadStopped a b → a.blown ≡ false → b.blown ≡ true → ⊥
 read_whole a b r whole blown = ⊎_elim (λ was. both_ways a.blown whole was) (λ out. omega (arith, out.0)) (r.halts.blew blown)
 
-pub read_stopped : (w : RuleWorld) (m now : ℕ) (does : Does) (a b : Device) → BeginsAt (store_at w m) (trail_of does (store_at w m)) → Stands a.image (store_at w m) → ReadStopped a b
-    → TurnEnds (Err (Stopped None)) w m now does a b
-read_stopped w m now does a b begins stands r =
+pub read_stopped : (w : RuleWorld) (m : ℕ) (does : Does) (v u : Option RunningMote) (a b : Device) → BeginsAt (store_at w m) (trail_of does (store_at w m)) → Stands a.image (store_at w m) → ReadStopped a b
+    → TurnEnds (Err (Stopped None)) w m does v u a b
+read_stopped w m does v u a b begins stands r =
     record { stops = read_stops (store_at w m) (trail_of does (store_at w m)) a b begins stands r; shows = λ whole blown. absurd (read_whole a b r whole blown) }
 
 -- ---- an act behind a reading
 
-pub ran_after : (n : ℕ) (a b c : Device) → Looked a b → Ran n b c → Ran n a c
-ran_after n a b c l r = let e : 0 + n ≡ n = omega arith in subst (λ (k : ℕ). Ran k a c) e (Ran_then l.ran r)
+pub ran_after : (n : ℕ) (a b c : Device) → Ran 0 a b → Ran n b c → Ran n a c
+ran_after n a b c l r = let e : 0 + n ≡ n = omega arith in subst (λ (k : ℕ). Ran k a c) e (Ran_then l r)
 
 pub looked_after : (a b c : Device) → Looked a b → Looked b c → Looked a c
 looked_after a b c l r = record { same_image = r.same_image ∙ l.same_image; ran = Ran_then l.ran r.ran }
 
-stops_after : (t : Trail Store) (a b c : Device) → Looked a b → StopsIn Stands IsNear t b c → StopsIn Stands IsNear t a c
+stops_after : (t : Trail Store) (a b c : Device) → Ran 0 a b → StopsIn Stands IsNear t b c → StopsIn Stands IsNear t a c
 stops_after t a b c l s =
     let e : 0 + operations t ≡ operations t = omega arith in
     subst (λ (n : ℕ). Halted n (MayLeave Stands IsNear t) a c) e
-    (Halted_second (MayLeave Stands IsNear t) l.ran (λ k within x. let f : k ≡ 0 + k = omega arith in subst (λ (j : ℕ). MayLeave Stands IsNear t j c.image) f x) s)
+    (Halted_second (MayLeave Stands IsNear t) l (λ k within x. let f : k ≡ 0 + k = omega arith in subst (λ (j : ℕ). MayLeave Stands IsNear t j c.image) f x) s)
 
-went_after : (w : RuleWorld) (m now : ℕ) (does : Does) (a b c : Device) (turn : Turn) → Looked a b → Went w m now does b c turn → Went w m now does a c turn
-went_after w m now does a b c turn l x = record { deed = x.deed; goes = x.goes; ran = ran_after (operations x.deed.trail) a b c l x.ran; tells = x.tells }
+went_after : (w : RuleWorld) (m : ℕ) (does : Does) (u : Option RunningMote) (a b c : Device) (turn : Turn) → Ran 0 a b → Went w m does u b c turn → Went w m does u a c turn
+went_after w m does u a b c turn l x = record { deed = x.deed; goes = x.goes; ran = ran_after (operations x.deed.trail) a b c l x.ran; tells = x.tells }
 
-pub turn_after : (r : Result Turn Halt) (w : RuleWorld) (m now : ℕ) (does : Does) (a b c : Device) → Looked a b → TurnEnds r w m now does b c → TurnEnds r w m now does a c
-turn_after (Ok (Refused why)) w m now does a b c l x = (x.0, looked_after a b c l x.1)
-turn_after (Ok Rests) w m now does a b c l x = went_after w m now does a b c Rests l x
-turn_after (Ok (Changes p q)) w m now does a b c l x = went_after w m now does a b c (Changes p q) l x
-turn_after (Ok (Starts p)) w m now does a b c l x = went_after w m now does a b c (Starts p) l x
-turn_after (Err (Stopped before)) w m now does a b c l x = record { stops = stops_after (trail_of does (store_at w m)) a b c l x.stops; shows = λ whole blown. x.shows (l.ran.blown ∙ whole) blown }
-turn_after (Err NoImage) w m now does a b c l x = record { deed = x.deed; goes = x.goes; none = x.none; ran = ran_after (operations x.deed.trail) a b c l x.ran; stands = x.stands }
-turn_after (Err NotAVolume) w m now does a b c l x = x
+pub start_after : (w : RuleWorld) (m : ℕ) (does : Does) (u : Option RunningMote) (a b c : Device) (x : StartLine) → Ran 0 a b → Went w m does u b c (Starts x) → Went w m does u a c (Starts x)
+start_after w m does u a b c x l went = went_after w m does u a b c (Starts x) l went
+
+pub halt_after : (h : Halt) (w : RuleWorld) (m : ℕ) (does : Does) (v u : Option RunningMote) (a b c : Device) → Ran 0 a b → TurnEnds (Err h) w m does v u b c → TurnEnds (Err h) w m does v u a c
+halt_after (Stopped before) w m does v u a b c l x = record { stops = stops_after (trail_of does (store_at w m)) a b c l x.stops; shows = λ whole blown. x.shows (l.blown ∙ whole) blown }
+halt_after NoImage w m does v u a b c l x = record { deed = x.deed; goes = x.goes; none = x.none; ran = ran_after (operations x.deed.trail) a b c l x.ran; stands = x.stands }
+halt_after NotAVolume w m does v u a b c l x = x
+
+pub turn_after : (r : Result Turn Halt) (w : RuleWorld) (m : ℕ) (does : Does) (v u : Option RunningMote) (a b c : Device) → Looked a b → TurnEnds r w m does v u b c → TurnEnds r w m does v u a c
+turn_after (Ok (Refused why)) w m does v u a b c l x = (x.0, looked_after a b c l x.1, x.2)
+turn_after (Ok Rests) w m does v u a b c l x = went_after w m does u a b c Rests l.ran x
+turn_after (Ok (Sends frame)) w m does v u a b c l x = went_after w m does u a b c (Sends frame) l.ran x
+turn_after (Ok (Changes p q)) w m does v u a b c l x = went_after w m does u a b c (Changes p q) l.ran x
+turn_after (Ok (Starts p)) w m does v u a b c l x = went_after w m does u a b c (Starts p) l.ran x
+turn_after (Err h) w m does v u a b c l x = halt_after h w m does v u a b c l.ran x
 
 abbrev pub halted : (T : Type 0) → Halt → Result T Halt
 halted T h = Err h
 
-same_err : (T : Type 0) (x y : Halt) → halted T x ≡ halted T y → x ≡ y
+pub same_err : (T : Type 0) (x y : Halt) → halted T x ≡ halted T y → x ≡ y
 same_err T x y e = cc
 
-pub read_halts : (T : Type 0) (w : RuleWorld) (m now : ℕ) (does : Does) (a b : Device) (h : Halt) → halted T (Stopped None) ≡ halted T h → BeginsAt (store_at w m) (trail_of does (store_at w m)) → Stands a.image (store_at w m) → ReadStopped a b
-    → TurnEnds (Err h) w m now does a b
-read_halts T w m now does a b h is begins stands r =
-    let P : Halt → Type 0 = λ x. TurnEnds (Err x) w m now does a b in
-    subst P (same_err T (Stopped None) h is) (read_stopped w m now does a b begins stands r)
+pub read_halts : (T : Type 0) (w : RuleWorld) (m : ℕ) (does : Does) (v u : Option RunningMote) (a b : Device) (h : Halt) → halted T (Stopped None) ≡ halted T h → BeginsAt (store_at w m) (trail_of does (store_at w m)) → Stands a.image (store_at w m) → ReadStopped a b
+    → TurnEnds (Err h) w m does v u a b
+read_halts T w m does v u a b h is begins stands r =
+    let P : Halt → Type 0 = λ x. TurnEnds (Err x) w m does v u a b in
+    subst P (same_err T (Stopped None) h is) (read_stopped w m does v u a b begins stands r)
 
-pub turn_err : (r : Result Turn Halt) (x : Halt) (w : RuleWorld) (m now : ℕ) (does : Does) (a b : Device) → IsErrAnd r (λ e. e ≡ x) → TurnEnds (Err x) w m now does a b → TurnEnds r w m now does a b
-turn_err (Ok t) x w m now does a b is ends = absurd is
-turn_err (Err e) x w m now does a b is ends = subst (λ (h : Halt). TurnEnds (Err h) w m now does a b) (sym is) ends
+pub turn_err : (r : Result Turn Halt) (x : Halt) (w : RuleWorld) (m : ℕ) (does : Does) (v u : Option RunningMote) (a b : Device) → IsErrAnd r (λ e. e ≡ x) → TurnEnds (Err x) w m does v u a b → TurnEnds r w m does v u a b
+turn_err (Ok t) x w m does v u a b is ends = absurd is
+turn_err (Err e) x w m does v u a b is ends = subst (λ (h : Halt). TurnEnds (Err h) w m does v u a b) (sym is) ends
 
 pub stopped_none : (T : Type 0) (h : Halt) → halted T (Stopped None) ≡ halted T h → h ≡ Stopped None
 stopped_none T h e = cc

@@ -1,5 +1,6 @@
 -- What a step does to a world and its boards.
-use Rattle.std.specs.Prelude.{◌≡◌, ◌≢◌, ◌⊎◌, ℕ, ◌-◌, ◌<◌, ◌≤◌, true, false, List, ◌++◌, length, slice_get, Some, IfSome, Result, Ok, Err}
+use Rattle.std.specs.Prelude.{◌≡◌, ◌≢◌, ◌⊎◌, ℕ, ◌-◌, ◌<◌, ◌≤◌, Bool, true, false, List, ◌++◌, length, slice_get, Some, IfSome, Result, Ok, Err}
+use Rattle.std.specs.List.{filter}
 use Rattle.dg_words.specs.Counts.{Rose}
 use Rattle.dg_nor.specs.Device.{Device, Endures}
 use Rattle.dg_nor.specs.Fuse.{beneath_of}
@@ -10,6 +11,7 @@ use Rattle.dg_volume.specs.Stands.{Stands}
 use Rattle.dg_volume.specs.Start.{Runs}
 use Rattle.dg_rules.specs.World.{World as RuleWorld, store_at}
 use Rattle.dg_rules.specs.Events.{Deed, Goes, does, mote_of}
+use Rattle.dg_rules.specs.Changes.{is_told}
 use Rattle.dg_rules.specs.Steps.{WorldStep, EndsRun, blows}
 use Rattle.dg_base.specs.declared.events.Step.{Step}
 use Rattle.dg_script.specs.declared.report.Report.{Report}
@@ -28,13 +30,13 @@ pub record OneBoard (board : ℕ) (old new : List Device) : Type 0 where
   pub counts : (m : ℕ) (a b : Device) → slice_get old m ≡ Some a → slice_get new m ≡ Some b → a.faults ≤ b.faults
   pub endures : (m : ℕ) (a b : Device) → slice_get old m ≡ Some a → slice_get new m ≡ Some b → Endures (beneath_of a) (beneath_of b)
 
--- a step was applied: what the rules allow. Where something was started, its pages stand in program memory
-pub record Applied (w : RuleWorld) (x : Step) (v : World) (old new : List Device) (told_before told : List Report) : Type 0 where
+-- a step was applied: what the rules allow, told as it should be. Where something was started, its pages stand in program memory
+pub record Applied (w : RuleWorld) (x : Step) (loud : Bool) (v : World) (old new : List Device) (told_before told : List Report) : Type 0 where
   pub world : RuleWorld
   pub reports : List Report
   pub step : WorldStep w x world reports
   pub stood : IsWorld v new world
-  pub told_now : told ≡ told_before ++ reports
+  pub told_now : told ≡ told_before ++ filter (is_told loud) reports
   pub boards : OneBoard (mote_of x.event) old new
   pub memory : (d : Deed) (r : Runs) (b : Device) → does w x.event ≡ Goes d → blows x.cut d.trail ≡ false → d.started ≡ Some r
       → slice_get new (mote_of x.event) ≡ Some b → program b.image (length r.pages) ≡ r.pages
@@ -84,10 +86,10 @@ fault_of (Stopped before) mote = Flash mote
 fault_of NotAVolume mote = NotAVolumeFault
 fault_of NoImage mote = NoImageFault
 
-abbrev pub ApplyEnds : Result (Unit {0}) WorldFault → RuleWorld → Step → World → List Device → List Device → List Report → List Report → Type 0
-ApplyEnds (Ok u) w x v old new told_before told = Applied w x v old new told_before told
-ApplyEnds (Err (Flash board)) w x v old new told_before told = FlashAt w x board old new × (told ≡ told_before)
-ApplyEnds (Err NoImageFault) w x v old new told_before told = Ended w x old new × (told ≡ told_before)
-ApplyEnds (Err NotAVolumeFault) w x v old new told_before told = ⊥
-ApplyEnds (Err Memory) w x v old new told_before told = ⊥
-ApplyEnds (Err TooMany) w x v old new told_before told = ⊥
+abbrev pub ApplyEnds : Result (Unit {0}) WorldFault → RuleWorld → Step → (loud : Bool) → World → List Device → List Device → List Report → List Report → Type 0
+ApplyEnds (Ok u) w x loud v old new told_before told = Applied w x loud v old new told_before told
+ApplyEnds (Err (Flash board)) w x loud v old new told_before told = FlashAt w x board old new × (told ≡ told_before)
+ApplyEnds (Err NoImageFault) w x loud v old new told_before told = Ended w x old new × (told ≡ told_before)
+ApplyEnds (Err NotAVolumeFault) w x loud v old new told_before told = ⊥
+ApplyEnds (Err Memory) w x loud v old new told_before told = ⊥
+ApplyEnds (Err TooMany) w x loud v old new told_before told = ⊥

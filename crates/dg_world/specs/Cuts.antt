@@ -11,8 +11,9 @@ use Rattle.dg_rules.specs.Steps.{blows, before_cut}
 use Rattle.dg_base.specs.declared.events.Cut.{Cut as PowerCut}
 use Rattle.dg_world.specs.Turns.{trail_of, Tells, BeforeShows}
 use Rattle.dg_world.specs.declared.shown.Shown.{Shown}
+use Rattle.dg_world.specs.declared.world.RunningMote.{RunningMote}
 use Rattle.dg_world.specs.declared.turn.Turn.{Turn}
-use Rattle.dg_world.specs.declared.turn.Turn.TheVariants.{Refused, Rests, Changes, Starts}
+use Rattle.dg_world.specs.declared.turn.Turn.TheVariants.{Refused, Rests, Sends, Changes, Starts}
 use Rattle.dg_world.specs.declared.turn.Halt.{Halt}
 use Rattle.dg_world.specs.declared.turn.Halt.TheVariants.{Stopped, NotAVolume, NoImage}
 use Rattle.dg_world.specs.declared.turn.Ended.{Ended}
@@ -27,11 +28,11 @@ ended blown (Err NotAVolume) = Err NotAVolume
 ended blown (Err NoImage) = Err NoImage
 
 -- the whole event was done, and no cut blew
-pub record IsWhole (w : RuleWorld) (m now : ℕ) (does : Does) (cut : Option PowerCut) (image : List ℕ) (turn : Turn) : Type 0 where
+pub record IsWhole (w : RuleWorld) (m : ℕ) (does : Does) (cut : Option PowerCut) (u : Option RunningMote) (image : List ℕ) (turn : Turn) : Type 0 where
   pub deed : Deed
   pub goes : does ≡ Goes deed
   pub whole : blows cut deed.trail ≡ false
-  pub tells : Tells w m now deed turn image
+  pub tells : Tells w m deed turn u image
 
 -- the cut blew in the operation with its number
 pub record IsBlown (w : RuleWorld) (m : ℕ) (does : Does) (cut : Option PowerCut) (image : List ℕ) (before : Option Shown) : Type 0 where
@@ -57,17 +58,18 @@ pub record IsLacking (does : Does) (cut : Option PowerCut) (image : List ℕ) : 
   pub whole : blows cut deed.trail ≡ false
   pub stands : Stands image (last deed.trail)
 
-abbrev pub PlayEnds : Result Ended Halt → RuleWorld → (m now : ℕ) → Does → Option PowerCut → Device → Device → Type 0
-PlayEnds (Ok (Whole (Refused why))) w m now does cut old new = (does ≡ Refuses why) × (new.image ≡ old.image)
-PlayEnds (Ok (Whole Rests)) w m now does cut old new = IsWhole w m now does cut new.image Rests
-PlayEnds (Ok (Whole (Changes a b))) w m now does cut old new = IsWhole w m now does cut new.image (Changes a b)
-PlayEnds (Ok (Whole (Starts x))) w m now does cut old new = IsWhole w m now does cut new.image (Starts x)
-PlayEnds (Ok (Cut before)) w m now does cut old new = IsBlown w m does cut new.image before
-PlayEnds (Err (Stopped before)) w m now does cut old new = IsStopped w m does cut new
-PlayEnds (Err NoImage) w m now does cut old new = IsLacking does cut new.image
-PlayEnds (Err NotAVolume) w m now does cut old new = ⊥
+abbrev pub PlayEnds : Result Ended Halt → RuleWorld → (m : ℕ) → Does → Option PowerCut → (v u : Option RunningMote) → Device → Device → Type 0
+PlayEnds (Ok (Whole (Refused why))) w m does cut v u old new = (does ≡ Refuses why) × (new.image ≡ old.image) × (u ≡ v)
+PlayEnds (Ok (Whole Rests)) w m does cut v u old new = IsWhole w m does cut u new.image Rests
+PlayEnds (Ok (Whole (Sends frame))) w m does cut v u old new = IsWhole w m does cut u new.image (Sends frame)
+PlayEnds (Ok (Whole (Changes a b))) w m does cut v u old new = IsWhole w m does cut u new.image (Changes a b)
+PlayEnds (Ok (Whole (Starts x))) w m does cut v u old new = IsWhole w m does cut u new.image (Starts x)
+PlayEnds (Ok (Cut before)) w m does cut v u old new = IsBlown w m does cut new.image before
+PlayEnds (Err (Stopped before)) w m does cut v u old new = IsStopped w m does cut new
+PlayEnds (Err NoImage) w m does cut v u old new = IsLacking does cut new.image
+PlayEnds (Err NotAVolume) w m does cut v u old new = ⊥
 
 -- The event ended so, and the board's count did not fall: it is stopped only where it was, or where its count rose.
-pub record Played (r : Result Ended Halt) (w : RuleWorld) (m now : ℕ) (does : Does) (cut : Option PowerCut) (old new : Device) : Type 0 where
-  pub ends : PlayEnds r w m now does cut old new
+pub record Played (r : Result Ended Halt) (w : RuleWorld) (m : ℕ) (does : Does) (cut : Option PowerCut) (v u : Option RunningMote) (old new : Device) : Type 0 where
+  pub ends : PlayEnds r w m does cut v u old new
   pub endures : Endures (beneath_of old) (beneath_of new)

@@ -1,4 +1,6 @@
 pub mod Images
+pub mod Airs
+pub mod Shareds
 pub mod Worlds
 pub mod Applied
 pub mod Formatted

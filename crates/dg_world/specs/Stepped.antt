@@ -1,5 +1,7 @@
 -- What is told of a step, and where it leaves the board.
-use Rattle.std.specs.Prelude.{◌≡◌, ℕ, ◌+◌, true, false, slice_set, length, List, ◌∷◌, [], ◌++◌, Option, Some, None, Result, Ok, Err}
+use Rattle.std.specs.Prelude.{◌≡◌, ℕ, ◌+◌, Bool, true, false, slice_set, length, List, ◌∷◌, [], ◌++◌, Option, Some, None, Result, Ok, Err}
+use Rattle.std.specs.List.{filter}
+use Rattle.arrayvec.specs.ArrayVec.{ArrayVec}
 use Rattle.dg_nor.specs.Device.{Device, Endures}
 use Rattle.dg_nor.specs.Fuse.{beneath_of}
 use Rattle.dg_nor.specs.Trail.{Trail, Leaves}
@@ -11,25 +13,18 @@ use Rattle.dg_rules.specs.World.{World as RuleWorld, Site}
 use Rattle.dg_rules.specs.Events.{Deed, Goes, does, mote_of, dt_of}
 use Rattle.dg_rules.specs.Steps.{WorldStep, blows}
 use Rattle.dg_base.specs.declared.events.Step.{Step}
-use Rattle.dg_rules.specs.Changes.{changes}
+use Rattle.dg_rules.specs.Changes.{changes, is_told}
 use Rattle.dg_script.specs.declared.report.Report.{Report}
 use Rattle.dg_script.specs.declared.report.Report.TheVariants.{Off}
+use Rattle.dg_world.specs.Airs.{sent_now}
 use Rattle.dg_world.specs.Worlds.{MoteStands}
 use Rattle.dg_world.specs.Cuts.{IsStopped, IsLacking}
 use Rattle.dg_world.specs.Turns.{BeforeShows, turn_lines}
 use Rattle.dg_world.specs.declared.shown.Shown.{Shown}
 use Rattle.dg_world.specs.declared.turn.Turn.{Turn}
-use Rattle.dg_world.specs.declared.turn.Turn.TheVariants.{Refused, Rests, Changes, Starts}
 use Rattle.dg_world.specs.declared.turn.Halt.{Halt}
 use Rattle.dg_world.specs.declared.turn.Halt.TheVariants.{Stopped, NotAVolume, NoImage}
 use Rattle.dg_world.specs.declared.world.RunningMote.{RunningMote}
-
--- what the code keeps of the mote after a turn
-abbrev pub turn_mote : Turn → ℕ → Option RunningMote → Option RunningMote
-turn_mote (Refused why) now runs = runs
-turn_mote Rests now runs = runs
-turn_mote (Changes a b) now runs = runs
-turn_mote (Starts x) now runs = Some (record { key = x.key; since = now })
 
 -- the board was only read
 pub record IsRead (old new : Device) : Type 0 where
@@ -53,34 +48,36 @@ pub record CutLinesAre (m : ℕ) (before : Option Shown) (t : Store) (told_befor
   pub tells : (k : ℕ) (s : Store) (trail : Trail Store) → Leaves IsNear trail k t → BeforeShows before trail s → lines ≡ changes m s t
   pub told_now : told ≡ told_before ++ (lines ++ Off m ∷ [])
 
-abbrev pub CutLines : Result (Option RunningMote) Halt → ℕ → Option Shown → Store → Device → Device → List Report → List Report → Type 0
-CutLines (Ok runs) m before t old new told_before told = (runs ≡ None) × CutLinesAre m before t told_before told × IsRead old new
+abbrev pub CutLines : Result (Unit {0}) Halt → ℕ → Option Shown → Store → Device → Device → List Report → List Report → Type 0
+CutLines (Ok u) m before t old new told_before told = CutLinesAre m before t told_before told × IsRead old new
 CutLines (Err (Stopped x)) m before t old new told_before told = (new.stopped ≡ true) × IsRead old new × (told ≡ told_before)
 CutLines (Err NotAVolume) m before t old new told_before told = ⊥
 CutLines (Err NoImage) m before t old new told_before told = ⊥
 
--- A step was done at its board, which stood for the mote's store: what the rules allow, where the mote and the board are then, and what was told.
-pub record StepDone (w : RuleWorld) (x : Step) (runs : Option RunningMote) (new : Device) (told_before told : List Report) : Type 0 where
+-- A step was done at its board, which stood for the mote's store: what the rules allow, where the mote and the board are then, what was told, and what was sent.
+pub record StepDone (w : RuleWorld) (x : Step) (loud : Bool) (u : Option RunningMote) (frame : Option (ArrayVec ℕ)) (new : Device) (told_before told : List Report) : Type 0 where
   pub world : RuleWorld
   pub reports : List Report
   pub step : WorldStep w x world reports
-  pub told_now : told ≡ told_before ++ reports
+  pub told_now : told ≡ told_before ++ filter (is_told loud) reports
   pub here : Site
   pub moment : world.moment ≡ w.moment + dt_of x.event
   pub events : world.events ≡ w.events + 1
   pub declared : world.declared ≡ w.declared
+  pub links : world.links ≡ w.links
+  pub sent : world.sent ≡ w.sent ++ sent_now (mote_of x.event) frame
   pub sites : world.sites ≡ slice_set w.sites (mote_of x.event) here
   pub stands : Stands new.image here.store
-  pub mote : MoteStands runs here.runs
+  pub mote : MoteStands new.image u here.store here.runs
   pub memory : (d : Deed) (r : Runs) → does w x.event ≡ Goes d → blows x.cut d.trail ≡ false → d.started ≡ Some r → program new.image (length r.pages) ≡ r.pages
 
-abbrev pub StepEnds : Result (Option RunningMote) Halt → RuleWorld → Step → Device → List Report → List Report → Type 0
-StepEnds (Ok runs) w x new told_before told = StepDone w x runs new told_before told
-StepEnds (Err (Stopped b)) w x new told_before told = IsStopped w (mote_of x.event) (does w x.event) x.cut new × (told ≡ told_before)
-StepEnds (Err NoImage) w x new told_before told = IsLacking (does w x.event) x.cut new.image × (told ≡ told_before)
-StepEnds (Err NotAVolume) w x new told_before told = ⊥
+abbrev pub StepEnds : Result (Option (ArrayVec ℕ)) Halt → RuleWorld → Step → (loud : Bool) → Option RunningMote → Device → List Report → List Report → Type 0
+StepEnds (Ok frame) w x loud u new told_before told = StepDone w x loud u frame new told_before told
+StepEnds (Err (Stopped b)) w x loud u new told_before told = IsStopped w (mote_of x.event) (does w x.event) x.cut new × (told ≡ told_before)
+StepEnds (Err NoImage) w x loud u new told_before told = IsLacking (does w x.event) x.cut new.image × (told ≡ told_before)
+StepEnds (Err NotAVolume) w x loud u new told_before told = ⊥
 
--- the step ended so at its board, whose count did not fall
-pub record Stepped (r : Result (Option RunningMote) Halt) (w : RuleWorld) (x : Step) (old new : Device) (told_before told : List Report) : Type 0 where
-  pub ends : StepEnds r w x new told_before told
+-- the step ended so at its board, whose count did not fall, and left this of its mote
+pub record Stepped (r : Result (Option (ArrayVec ℕ)) Halt) (w : RuleWorld) (x : Step) (loud : Bool) (u : Option RunningMote) (old new : Device) (told_before told : List Report) : Type 0 where
+  pub ends : StepEnds r w x loud u new told_before told
   pub endures : Endures (beneath_of old) (beneath_of new)

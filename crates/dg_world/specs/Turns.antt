@@ -1,20 +1,31 @@
 -- What an event does at a board, by the rules.
-use Rattle.std.specs.Prelude.{◌≡◌, ℕ, true, false, List, [], ◌∷◌, length, Option, Some, None, IfSome, Result, Ok, Err}
+use Rattle.std.specs.Prelude.{◌≡◌, ℕ, true, false, List, [], ◌∷◌, length, Option, Some, None, option_map, IfSome, Result, Ok, Err}
 use Rattle.dg_nor.specs.Device.{Device, Ran}
 use Rattle.dg_nor.specs.Trail.{Trail, operations, last, resting, Leaves}
 use Rattle.dg_nor.specs.Reads.{Looked, StopsIn}
 use Rattle.dg_slot.specs.Pages.{program}
 use Rattle.dg_volume.specs.Store.{Store, IsNear}
-use Rattle.dg_volume.specs.Stands.{Stands}
-use Rattle.dg_rules.specs.World.{World as RuleWorld, Running, site, store_at}
+use Rattle.dg_volume.specs.Stands.{Stands, Mounted}
+use Rattle.dg_frame.specs.Grammar.{message_of}
+use Rattle.dg_frame.specs.Spelling.{frame_of}
+use Rattle.dg_frame.specs.declared.Message.{Message}
+use Rattle.dg_frame.specs.declared.FrameFault.{FrameFault}
+use Rattle.dg_boot.specs.declared.Started.{Started}
+use Rattle.dg_mote.specs.Model.{begun}
+use Rattle.dg_mote.specs.Motes.{IsMote}
+use Rattle.dg_rules.specs.World.{World as RuleWorld, Running, store_at}
+use Rattle.dg_rules.specs.Changes.{sent_line}
 use Rattle.dg_rules.specs.Events.{Deed, Does, Refuses, Goes}
 use Rattle.dg_rules.specs.Steps.{done_reports}
 use Rattle.dg_script.specs.declared.report.Report.{Report}
 use Rattle.dg_script.specs.declared.report.Report.TheVariants.{Start, Refused as RefusedLine}
 use Rattle.dg_world.specs.Shown.{Shows, changes_shown}
+use Rattle.dg_world.specs.Worlds.{MoteStands}
+use Rattle.dg_world.specs.declared.happening.Begun.{Begun}
+use Rattle.dg_world.specs.declared.world.RunningMote.{RunningMote}
 use Rattle.dg_world.specs.declared.shown.Shown.{Shown}
 use Rattle.dg_world.specs.declared.turn.Turn.{Turn}
-use Rattle.dg_world.specs.declared.turn.Turn.TheVariants.{Refused, Rests, Changes, Starts}
+use Rattle.dg_world.specs.declared.turn.Turn.TheVariants.{Refused, Rests, Sends, Changes, Starts}
 use Rattle.dg_world.specs.declared.turn.Halt.{Halt}
 use Rattle.dg_world.specs.declared.turn.Halt.TheVariants.{Stopped, NotAVolume, NoImage}
 
@@ -22,32 +33,54 @@ abbrev pub trail_of : Does → Store → Trail Store
 trail_of (Refuses why) s = resting s 0
 trail_of (Goes d) s = d.trail
 
--- what runs after a turn at this moment, where this ran before
-abbrev pub runs_after : Turn → ℕ → Option Running → Option Running
-runs_after (Refused why) now runs = runs
-runs_after Rests now runs = runs
-runs_after (Changes old new) now runs = runs
-runs_after (Starts x) now runs = Some (record { key = x.key; since = now })
+-- the frame of a turn, and the turn of what a tick sent, if anything
+abbrev pub turn_frame : Turn → Option (List ℕ)
+turn_frame (Refused why) = None
+turn_frame Rests = None
+turn_frame (Sends frame) = Some frame.items
+turn_frame (Changes old new) = None
+turn_frame (Starts x) = None
+
+abbrev pub turn_sent : Option (List ℕ) → Turn
+turn_sent None = Rests
+turn_sent (Some bytes) = Sends (record { items = bytes })
+
+-- the line on a frame
+abbrev pub sent_shown : ℕ → Result Message FrameFault → List Report
+sent_shown m (Err fault) = []
+sent_shown m (Ok message) = sent_line m (Some message)
 
 abbrev pub turn_lines : ℕ → Turn → List Report
 turn_lines m (Refused why) = RefusedLine m why ∷ []
 turn_lines m Rests = []
+turn_lines m (Sends frame) = sent_shown m (message_of frame.items)
 turn_lines m (Changes old new) = changes_shown m old new
 turn_lines m (Starts x) = Start m x.key.image x.key.version x.length x.crc ∷ []
 
--- The turn is the deed: the mote and the report are the rules', the chip stands for the last store, and what was started stands in program memory.
-pub record Tells (w : RuleWorld) (m now : ℕ) (d : Deed) (turn : Turn) (image : List ℕ) : Type 0 where
-  pub runs : d.runs ≡ Some (runs_after turn now (site w m).runs)
+-- a mote that was started over the volume of its chip, and the line of that
+pub record BeginsOver (started : Started) (id now word : ℕ) (b : Begun) : Type 0 where
+  pub key : b.running.key ≡ b.line.key
+  pub line_key : b.line.key ≡ record { image = started.image; version = started.version }
+  pub length : b.line.length ≡ started.length
+  pub crc : b.line.crc ≡ started.crc
+  pub mote : (c : List ℕ) (s : Store) → Mounted c started.volume s → IsMote c b.running.mote (begun id now word) s
+
+-- The turn is the deed: the mote, the report and what is sent are the rules', the chip stands for the last store, and what was started stands in program memory.
+pub record Tells (w : RuleWorld) (m : ℕ) (d : Deed) (turn : Turn) (u : Option RunningMote) (image : List ℕ) : Type 0 where
+  pub runs : Option Running
+  pub runs_then : d.runs ≡ Some runs
+  pub mote : MoteStands image u (last d.trail) runs
   pub lines : turn_lines m turn ≡ done_reports w m d
+  pub sent : turn_frame turn ≡ option_map frame_of d.sent
   pub stands : Stands image (last d.trail)
   pub memory : IfSome d.started (λ r. program image (length r.pages) ≡ r.pages)
 
 -- an event that is not refused was done
-pub record Went (w : RuleWorld) (m now : ℕ) (does : Does) (old new : Device) (turn : Turn) : Type 0 where
+pub record Went (w : RuleWorld) (m : ℕ) (does : Does) (u : Option RunningMote) (old new : Device) (turn : Turn) : Type 0 where
   pub deed : Deed
   pub goes : does ≡ Goes deed
   pub ran : Ran (operations deed.trail) old new
-  pub tells : Tells w m now deed turn new.image
+  pub tells : Tells w m deed turn u new.image
 
 -- neither the order nor what is kept is another
 pub record SameShown (s t : Store) : Type 0 where
@@ -71,12 +104,13 @@ pub record Lacked (does : Does) (old new : Device) : Type 0 where
   pub ran : Ran (operations deed.trail) old new
   pub stands : Stands new.image (last deed.trail)
 
--- What an event answers that does this at mote m, from a board that stood for the mote's store.
-abbrev pub TurnEnds : Result Turn Halt → RuleWorld → (m now : ℕ) → Does → Device → Device → Type 0
-TurnEnds (Ok (Refused why)) w m now does old new = (does ≡ Refuses why) × Looked old new
-TurnEnds (Ok Rests) w m now does old new = Went w m now does old new Rests
-TurnEnds (Ok (Changes a b)) w m now does old new = Went w m now does old new (Changes a b)
-TurnEnds (Ok (Starts x)) w m now does old new = Went w m now does old new (Starts x)
-TurnEnds (Err (Stopped before)) w m now does old new = StoppedOn does (store_at w m) old new before
-TurnEnds (Err NoImage) w m now does old new = Lacked does old new
-TurnEnds (Err NotAVolume) w m now does old new = ⊥
+-- What an event answers that does this at mote m, from a board that stood for the mote's store. Its mote was v and is u.
+abbrev pub TurnEnds : Result Turn Halt → RuleWorld → (m : ℕ) → Does → (v u : Option RunningMote) → Device → Device → Type 0
+TurnEnds (Ok (Refused why)) w m does v u old new = (does ≡ Refuses why) × Looked old new × (u ≡ v)
+TurnEnds (Ok Rests) w m does v u old new = Went w m does u old new Rests
+TurnEnds (Ok (Sends frame)) w m does v u old new = Went w m does u old new (Sends frame)
+TurnEnds (Ok (Changes a b)) w m does v u old new = Went w m does u old new (Changes a b)
+TurnEnds (Ok (Starts x)) w m does v u old new = Went w m does u old new (Starts x)
+TurnEnds (Err (Stopped before)) w m does v u old new = StoppedOn does (store_at w m) old new before
+TurnEnds (Err NoImage) w m does v u old new = Lacked does old new
+TurnEnds (Err NotAVolume) w m does v u old new = ⊥

@@ -4,32 +4,64 @@ ghost use Rattle.std.specs.Vec.{vec_capacity};
 ghost use Rattle.dg_nor.specs.Device.{Device};
 ghost use Rattle.dg_rules.specs.Sizes.{most_events};
 ghost use Rattle.dg_rules.specs.World.{World as RuleWorld};
-ghost use Rattle.dg_rules.specs.Events.{mote_of, dt_of};
 ghost use Rattle.dg_rules.specs.Ranges.{StepFits};
 ghost use Rattle.dg_world.specs.Worlds.{IsWorld};
 ghost use Rattle.dg_world.specs.Applied.{Applied, FlashAt, Ended, ApplyEnds, fault_of};
 
+use crate::events::{dt_at, mote_at};
 use crate::stepping::{MOST_LINES, step_at};
 use crate::turn::Halt;
 use crate::world::{World, WorldFault};
 use dg_nor::Nor;
-use dg_rules::{Event, Report, Step};
+use dg_rules::{Report, Step, agreement_is_kept};
 
 /// The most events of a run.
 const MOST_EVENTS: u32 = 1_000_000;
 
 impl World {
-    /// One step. What it tells is appended.
+    /// One step. What it tells is appended, its `sent` line only where `loud` is true.
     pub fn apply<N: Nor>(
         &mut self,
         boards: &mut Vec<N>,
         step: &Step,
+        loud: bool,
         out: &mut Vec<Report>,
     ) -> Result<(), WorldFault>
         requires world { (w : RuleWorld) × IsWorld self.old (map N.device boards.old.items) w × StepFits (length w.sites) step.now }
         ensures applied { OnOk result ((w : RuleWorld) → IsWorld self.old (map N.device boards.old.items) w
-            → Applied w step.now self.new (map N.device boards.old.items) (map N.device boards.new.items) out.old.items out.new.items) }
+            → Applied w step.now loud self.new (map N.device boards.old.items) (map N.device boards.new.items) out.old.items out.new.items) }
         // a world that is told to have made all its events tells it exactly then, but for want of memory
+        ensures too_many { result ≡ Err WorldFault.TooMany → (w : RuleWorld) → IsWorld self.old (map N.device boards.old.items) w → w.events ≡ most_events }
+        ensures full { (w : RuleWorld) → IsWorld self.old (map N.device boards.old.items) w → w.events ≡ most_events
+            → (result ≡ Err WorldFault.TooMany) ⊎ (result ≡ Err WorldFault.Memory) }
+        ensures unchanged { (result ≡ Err WorldFault.TooMany) ⊎ (result ≡ Err WorldFault.Memory)
+            → ((w : RuleWorld) → IsWorld self.old (map N.device boards.old.items) w → IsWorld self.new (map N.device boards.new.items) w)
+            × (map N.device boards.new.items ≡ map N.device boards.old.items) }
+        ensures untold { OnErr result (out.new.items ≡ out.old.items) }
+        ensures flash { (board : ℕ) → result ≡ Err (WorldFault.Flash board) → (w : RuleWorld) → IsWorld self.old (map N.device boards.old.items) w
+            → FlashAt w step.now board (map N.device boards.old.items) (map N.device boards.new.items) }
+        ensures no_image { result ≡ Err WorldFault.NoImage → (w : RuleWorld) → IsWorld self.old (map N.device boards.old.items) w
+            → Ended w step.now (map N.device boards.old.items) (map N.device boards.new.items) }
+        ensures a_volume { result ≡ Err WorldFault.NotAVolume → ⊥ }
+    {
+        if self.shared.air.reserve().is_err() {
+            return Err(WorldFault::Memory);
+        }
+        self.apply_roomy(boards, step, loud, out)
+    }
+
+    /// The same, where there is room for a frame that is sent.
+    fn apply_roomy<N: Nor>(
+        &mut self,
+        boards: &mut Vec<N>,
+        step: &Step,
+        loud: bool,
+        out: &mut Vec<Report>,
+    ) -> Result<(), WorldFault>
+        requires place { vec_len self.old.shared.air.frames + 1 ≤ vec_capacity self.old.shared.air.frames }
+        requires world { (w : RuleWorld) × IsWorld self.old (map N.device boards.old.items) w × StepFits (length w.sites) step.now }
+        ensures applied { OnOk result ((w : RuleWorld) → IsWorld self.old (map N.device boards.old.items) w
+            → Applied w step.now loud self.new (map N.device boards.old.items) (map N.device boards.new.items) out.old.items out.new.items) }
         ensures too_many { result ≡ Err WorldFault.TooMany → (w : RuleWorld) → IsWorld self.old (map N.device boards.old.items) w → w.events ≡ most_events }
         ensures full { (w : RuleWorld) → IsWorld self.old (map N.device boards.old.items) w → w.events ≡ most_events
             → (result ≡ Err WorldFault.TooMany) ⊎ (result ≡ Err WorldFault.Memory) }
@@ -49,7 +81,7 @@ impl World {
         if out.reserve(MOST_LINES).is_err() {
             return Err(WorldFault::Memory);
         }
-        self.apply_at(boards.as_mut_slice(), step, out)
+        self.apply_at(boards.as_mut_slice(), step, loud, out)
     }
 
     /// The same, where one event more may be applied and there is room for what it tells.
@@ -57,57 +89,30 @@ impl World {
         &mut self,
         boards: &mut [N],
         step: &Step,
+        loud: bool,
         out: &mut Vec<Report>,
     ) -> Result<(), WorldFault>
         requires world { (w : RuleWorld) × IsWorld self.old (map N.device boards.old) w × StepFits (length w.sites) step.now }
         requires few { self.old.events < most_events }
         requires room { vec_len out.old + MOST_LINES ≤ vec_capacity out.old }
+        requires place { vec_len self.old.shared.air.frames + 1 ≤ vec_capacity self.old.shared.air.frames }
         ensures { (w : RuleWorld) → IsWorld self.old (map N.device boards.old) w → StepFits (length w.sites) step.now
-            → ApplyEnds result w step.now self.new (map N.device boards.old) (map N.device boards.new) out.old.items out.new.items }
+            → ApplyEnds result w step.now loud self.new (map N.device boards.old) (map N.device boards.new) out.old.items out.new.items }
     {
+        agreement_is_kept();
         let mote = mote_at(&step.event);
         let index = usize::from(mote);
         let now = self.moment + u64::from(dt_at(&step.event));
-        let runs = self.motes[index];
-        match step_at(&self.images, runs, now, step, mote, &mut boards[index], out) {
-            Ok(runs) => {
+        let runs = &mut self.motes[index];
+        match step_at(&self.shared, runs, now, step, loud, &mut boards[index], out) {
+            Ok(sent) => {
                 self.moment = now;
                 self.events += 1;
-                self.motes[index] = runs;
+                self.shared.air.send(mote, sent);
                 Ok(())
             }
             Err(halt) => Err(fault_at(halt, mote)),
         }
-    }
-}
-
-/// The mote of an event.
-fn mote_at(event: &Event) -> u8
-    ensures { result ≡ mote_of event.now }
-{
-    match event {
-        Event::Tick { mote, .. }
-        | Event::Hear { mote, .. }
-        | Event::Last { to: mote, .. }
-        | Event::Frame { mote, .. }
-        | Event::Reset { mote, .. }
-        | Event::Inject { mote, .. }
-        | Event::Order { mote, .. } => *mote,
-    }
-}
-
-/// How many milliseconds an event comes after the one before.
-fn dt_at(event: &Event) -> u32
-    ensures { result ≡ dt_of event.now }
-{
-    match event {
-        Event::Tick { dt, .. }
-        | Event::Hear { dt, .. }
-        | Event::Last { dt, .. }
-        | Event::Frame { dt, .. }
-        | Event::Reset { dt, .. }
-        | Event::Inject { dt, .. }
-        | Event::Order { dt, .. } => *dt,
     }
 }
 

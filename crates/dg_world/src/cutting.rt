@@ -1,15 +1,15 @@
 //! An event at a board whose power may be cut in the middle of it.
-ghost use Rattle.std.specs.Prelude.{◌≡◌, ◌+◌, ◌≤◌, ◌<◌, ℕ, Some, length};
-ghost use Rattle.dg_volume.specs.Stands.{Stands};
-ghost use Rattle.dg_rules.specs.World.{World as RuleWorld, site, store_at};
+ghost use Rattle.std.specs.Prelude.{◌≡◌, ◌+◌, ◌≤◌, ◌<◌, ◌^◌, ℕ, Some};
+ghost use Rattle.dg_rules.specs.Sizes.{most_motes};
+ghost use Rattle.dg_rules.specs.World.{World as RuleWorld, site};
 ghost use Rattle.dg_rules.specs.Events.{does, mote_of, dt_of};
 ghost use Rattle.dg_rules.specs.Ranges.{EventFits, CutFits, StepFits};
-ghost use Rattle.dg_world.specs.Images.{Declares};
-ghost use Rattle.dg_world.specs.Worlds.{MoteStands};
+ghost use Rattle.dg_world.specs.Shareds.{IsShared};
+ghost use Rattle.dg_world.specs.Worlds.{SiteStands, MayRun};
 ghost use Rattle.dg_world.specs.Cuts.{ended, Played};
 
 use crate::happening::happen;
-use crate::images::Images;
+use crate::shared::Shared;
 use crate::turn::{Ended, Halt, Turn};
 use crate::world::RunningMote;
 use dg_nor::{Fused, Nor};
@@ -35,39 +35,43 @@ fn end_turn(blown: bool, turn: Result<Turn, Halt>) -> Result<Ended, Halt>
 
 /// An event whose power is cut, where it makes so many operations.
 fn play_cut<N: Nor>(
-    declared: &Images,
-    runs: Option<RunningMote>,
+    shared: &Shared,
+    runs: &mut Option<RunningMote>,
     now: u64,
     event: &Event,
     cut: &Cut,
     board: &mut N,
 ) -> Result<Ended, Halt>
-    requires fits { (motes : ℕ) × EventFits motes event.now }
+    requires fits { (motes : ℕ) × EventFits motes event.now × (motes ≤ most_motes) }
     requires cut { CutFits cut.now }
-    ensures { (w : RuleWorld) → Stands (N.device board.old).image (store_at w (mote_of event.now)) → Declares declared.now w.declared
-        → MoteStands runs (site w (mote_of event.now)).runs → now ≡ w.moment + dt_of event.now
-        → Played result w (mote_of event.now) now (does w event.now) (Some cut.now) (N.device board.old) (N.device board.new) }
+    requires mote { MayRun (N.device board.old).image now runs.old }
+    requires moment { now < 2 ^ 62 }
+    ensures { (w : RuleWorld) → IsShared shared.now w → SiteStands (N.device board.old) runs.old (site w (mote_of event.now))
+        → now ≡ w.moment + dt_of event.now
+        → Played result w (mote_of event.now) (does w event.now) (Some cut.now) runs.old runs.new (N.device board.old) (N.device board.new) }
 {
     let mut fused = Fused::new(board, Some(cut.after), cut.mask.as_slice());
-    let turn = happen(declared, runs, now, event, &mut fused);
+    let turn = happen(shared, runs, now, event, &mut fused);
     end_turn(fused.blown(), turn)
 }
 
 /// The event of a step at the board of its mote.
 pub(crate) fn play<N: Nor>(
-    declared: &Images,
-    runs: Option<RunningMote>,
+    shared: &Shared,
+    runs: &mut Option<RunningMote>,
     now: u64,
     step: &Step,
     board: &mut N,
 ) -> Result<Ended, Halt>
-    requires fits { (motes : ℕ) × StepFits motes step.now }
-    ensures { (w : RuleWorld) → Stands (N.device board.old).image (store_at w (mote_of step.now.event)) → Declares declared.now w.declared
-        → MoteStands runs (site w (mote_of step.now.event)).runs → now ≡ w.moment + dt_of step.now.event
-        → Played result w (mote_of step.now.event) now (does w step.now.event) step.now.cut (N.device board.old) (N.device board.new) }
+    requires fits { (motes : ℕ) × StepFits motes step.now × (motes ≤ most_motes) }
+    requires mote { MayRun (N.device board.old).image now runs.old }
+    requires moment { now < 2 ^ 62 }
+    ensures { (w : RuleWorld) → IsShared shared.now w → SiteStands (N.device board.old) runs.old (site w (mote_of step.now.event))
+        → now ≡ w.moment + dt_of step.now.event
+        → Played result w (mote_of step.now.event) (does w step.now.event) step.now.cut runs.old runs.new (N.device board.old) (N.device board.new) }
 {
     match &step.cut {
-        None => end_turn(false, happen(declared, runs, now, &step.event, board)),
-        Some(cut) => play_cut(declared, runs, now, &step.event, cut, board),
+        None => end_turn(false, happen(shared, runs, now, &step.event, board)),
+        Some(cut) => play_cut(shared, runs, now, &step.event, cut, board),
     }
 }

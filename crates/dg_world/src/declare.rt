@@ -1,5 +1,5 @@
 //! How a world begins, and what is declared in it.
-ghost use Rattle.std.specs.Prelude.{◌≡◌, ◌<◌, ◌≤◌, ℕ, true, false, List, length, map, slice_get, slice_index_or, replicate, Some, None, Err, IfOk, OnOk, OnErr, IsTrue};
+ghost use Rattle.std.specs.Prelude.{◌≡◌, ◌<◌, ◌≤◌, ◌∷◌, ◌++◌, ℕ, true, false, List, [], length, map, slice_get, slice_index_or, replicate, Some, None, Err, IfOk, OnOk, OnErr, IsTrue};
 ghost use Rattle.dg_base.specs.Texts.{spells_name};
 ghost use Rattle.dg_nor.specs.Device.{Device};
 ghost use Rattle.dg_object.specs.Object.{Row, row_of};
@@ -15,27 +15,42 @@ ghost use Rattle.dg_base.specs.declared.events.Key.{Key};
 ghost use Rattle.dg_world.specs.Images.{row_of_image};
 ghost use Rattle.dg_world.specs.Worlds.{IsWorld};
 
+use crate::air::Air;
 use crate::images::{Image, Images};
+use crate::shared::Shared;
 use crate::world::{DeclareFault, RunningMote, World};
-use dg_base::Bytes;
+use dg_base::{Bytes, Pairs};
 use dg_rules::Key;
 use std::alloc::{AllocError, Global};
 
 impl World {
-    /// A world at moment 0 in which no event was applied and nothing is declared. All motes are off.
-    pub fn new(alloc: Global, motes: u8) -> Result<World, AllocError>
+    /// A world at moment 0 in which no event was applied, nothing is declared and nothing was sent. All motes are off.
+    pub fn new(alloc: Global, motes: u8, links: Pairs) -> Result<World, AllocError>
         requires some { 1 ≤ motes }
         requires few { motes ≤ most_motes }
         ensures { IfOk result (λ v. (boards : List Device) (stores : List Store) (table : List Row) → length stores ≡ motes → motes ≤ length boards
             → ((m : ℕ) (d : Device) → m < motes → slice_get boards m ≡ Some d → Stands d.image (slice_index_or stores m no_site.store))
-            → IsWorld v boards (first_world table stores)) }
+            → IsWorld v boards (first_world table links stores)) }
     {
         Ok(World {
             moment: 0,
             events: 0,
-            images: Images::new(alloc),
+            shared: Shared {
+                images: Images::new(alloc),
+                links,
+                air: Air::new(alloc),
+            },
             motes: all_off(alloc, motes)?,
         })
+    }
+
+    /// Two motes become neighbours. Without memory nothing changes.
+    pub fn link(&mut self, a: u8, b: u8) -> Result<(), AllocError>
+        ensures linked { OnOk result ((boards : List Device) (w : RuleWorld) → IsWorld self.old boards w
+            → IsWorld self.new boards (record w { links = w.links ++ (a, b) ∷ [] })) }
+        ensures unchanged { OnErr result ((boards : List Device) (w : RuleWorld) → IsWorld self.old boards w → IsWorld self.new boards w) }
+    {
+        self.shared.links.push((a, b))
     }
 
     /// Declares an image, unless its key has another name or content.
@@ -60,25 +75,28 @@ impl World {
         ensures unchanged { OnErr result ((boards : List Device) (w : RuleWorld) → IsWorld self.old boards w → IsWorld self.new boards w) }
     {
         let key = Key { image, version };
-        if let Some(kept) = self.images.get(key) {
+        if let Some(kept) = self.shared.images.get(key) {
             if is_same(kept, &name, &content) {
                 return Ok(());
             }
             return Err(DeclareFault::Taken);
         }
-        match self.images.add(key, Image { name, content }) {
+        match self.shared.images.add(key, Image { name, content }) {
             Ok(()) => Ok(()),
             Err(AllocError) => Err(DeclareFault::Memory),
         }
     }
 }
 
-/// What runs on so many motes that are off.
+/// So many motes that are off.
 fn all_off(alloc: Global, motes: u8) -> Result<Vec<Option<RunningMote>>, AllocError>
     ensures { IfOk result (λ v. v.items ≡ replicate motes None) }
 {
-    let motes = vec![in alloc; None; usize::from(motes)]?;
-    Ok(motes)
+    let mut off = Vec::with_capacity(alloc, usize::from(motes))?;
+    for _ in 0..motes {
+        off.push_reserved(None);
+    }
+    Ok(off)
 }
 
 /// Whether an image has this name and these bytes.

@@ -78,7 +78,7 @@ impl World {
         ensures known_board { (e : BoardStopped) → result ≡ Err e → (w : RuleWorld) → IsWorld self.now (map N.device boards.old) w → e.board < length w.sites }
     {
         for mote in 0..self.motes.len() {
-            let runs = self.motes[mote];
+            let runs = &self.motes[mote];
             match push_site(&mut boards[mote], mote as u8, runs, out) {
                 Ok(()) => {}
                 Err(Stopped) => return Err(BoardStopped { board: mote as u8 }),
@@ -99,12 +99,12 @@ struct BoardStopped {
 fn push_site<N: Nor>(
     nor: &mut N,
     mote: u8,
-    runs: Option<RunningMote>,
+    runs: &Option<RunningMote>,
     out: &mut Vec<Report>,
 ) -> Result<(), Stopped>
     requires volume { IsVolume (N.device nor.old).image }
     requires room { vec_len out.old + MOST_SITE_LINES ≤ vec_capacity out.old }
-    ensures told { OnOk result ((x : Site) → SiteStands (N.device nor.old) runs x → out.new.items ≡ out.old.items ++ site_lines mote x) }
+    ensures told { OnOk result ((x : Site) → SiteStands (N.device nor.old) runs.now x → out.new.items ≡ out.old.items ++ site_lines mote x) }
     ensures begun { (told : List Report) × (out.new.items ≡ out.old.items ++ told) }
     ensures looked { OnOk result (Looked (N.device nor.old) (N.device nor.new)) }
     ensures stopped { OnErr result (ReadStopped (N.device nor.old) (N.device nor.new)) }
@@ -124,8 +124,8 @@ fn push_site<N: Nor>(
 }
 
 /// The line on what a mote runs at the end.
-fn mote_line(mote: u8, runs: Option<RunningMote>) -> Report
-    ensures { result ≡ mote_shown mote runs }
+fn mote_line(mote: u8, runs: &Option<RunningMote>) -> Report
+    ensures { result ≡ mote_shown mote runs.now }
 {
     match runs {
         None => Report::MoteOff { mote },

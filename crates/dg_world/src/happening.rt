@@ -1,33 +1,35 @@
 //! What an event does at the board of its mote.
-ghost use Rattle.std.specs.Prelude.{◌≡◌, ◌≢◌, ◌==◌, ◌+◌, ◌^◌, ◌<◌, ◌≤◌, ℕ, if◌then◌else◌, Some, None, Err, Ok, IfOk, OnOk, IsTrue, length};
-ghost use Rattle.dg_base.specs.Texts.{spells_name};
+ghost use Rattle.std.specs.Prelude.{◌≡◌, ◌≢◌, ◌==◌, ◌+◌, ◌^◌, ◌<◌, ◌≤◌, ℕ, if◌then◌else◌, List, Option, Some, None, Err, Ok, IfOk, OnOk, length};
 ghost use Rattle.dg_nor.specs.Reads.{Looked, ReadStopped};
-ghost use Rattle.dg_object.specs.Object.{Row, row_of};
+ghost use Rattle.dg_object.specs.Object.{Row};
 ghost use Rattle.dg_volume.specs.Sizes.{images};
 ghost use Rattle.dg_volume.specs.Store.{Store};
-ghost use Rattle.dg_volume.specs.Stands.{Stands, Tells, room_of, NothingLent, Mounted, IsMounted};
-ghost use Rattle.dg_volume.specs.Start.{boot};
-ghost use Rattle.dg_volume.specs.Trails.{BeginsAt, clear_trail};
+ghost use Rattle.dg_volume.specs.Stands.{Stands, NothingLent, Mounted, IsMounted};
+ghost use Rattle.dg_volume.specs.Trails.{BeginsAt};
 ghost use Rattle.dg_volume.specs.Changes.{order_refusal};
 ghost use Rattle.dg_volume.specs.Table.{row_at};
-ghost use Rattle.dg_rules.specs.World.{World as RuleWorld, Running, site, store_at};
-ghost use Rattle.dg_rules.specs.Events.{Does, Refuses, starts, goes_on, clears, ticks, inject_cause, inject_row, order_cause, order_unless, does, mote_of, dt_of};
+ghost use Rattle.dg_mote.specs.Motes.{sent_in};
+ghost use Rattle.dg_mote.specs.Effects.{boots, tick_effect, frame_effect, reset_effect};
+ghost use Rattle.dg_rules.specs.World.{World as RuleWorld, Running, site, store_at, frame_at, linked, last_frame};
+ghost use Rattle.dg_rules.specs.Events.{Does, Refuses, of_effect, tick_by, hear_by, heard_sent, heard_last, unless_off, reloaded, inject_cause, inject_row, order_cause, order_unless, does, mote_of, dt_of};
 ghost use Rattle.dg_rules.specs.Ranges.{EventFits};
-ghost use Rattle.dg_world.specs.Images.{Declares};
-ghost use Rattle.dg_world.specs.Worlds.{MoteStands};
-ghost use Rattle.dg_world.specs.Turns.{trail_of, TurnEnds};
+ghost use Rattle.dg_rules.specs.Sizes.{most_motes};
+ghost use Rattle.dg_base.specs.declared.events.Key.{Key as KeyValue};
+ghost use Rattle.dg_world.specs.Images.{Declares, row_of_image};
+ghost use Rattle.dg_world.specs.Shareds.{IsShared};
+ghost use Rattle.dg_world.specs.Worlds.{MoteStands, SiteStands, IsTimelyMote, MayRun};
+ghost use Rattle.dg_world.specs.Turns.{trail_of, BeginsOver, turn_sent, TurnEnds};
 
-use crate::images::Images;
+use crate::images::{Image, Images};
+use crate::shared::Shared;
 use crate::shown::{Shown, show};
 use crate::turn::{Halt, StartLine, Turn};
 use crate::world::RunningMote;
-use dg_boot::{BootFault, Kind, Started, start, waits};
+use dg_boot::{BootFault, Kind, Started, start};
+use dg_mote::{Did, Mote, Outbox, a_restart_is_for_the_order};
 use dg_nor::{Nor, Stopped};
 use dg_rules::{Cause, Event, Key};
 use dg_volume::{InjectFault, MountFault, OrderFault, Volume};
-
-/// A start that ran so many milliseconds is no short one.
-const SHORT_START: u64 = 5_000;
 
 /// Mounts a board.
 pub(crate) fn mount<N: Nor>(board: &mut N) -> Result<Volume, Halt>
@@ -37,8 +39,8 @@ pub(crate) fn mount<N: Nor>(board: &mut N) -> Result<Volume, Halt>
     ensures looked { OnOk result (Looked (N.device board.old) (N.device board.new)) }
     ensures same_reference { (N.device board.new).references ≡ (N.device board.old).references }
     ensures refused { (h : Halt) → result ≡ Err h → (s : Store) → Stands (N.device board.old).image s → (h ≡ Halt.Stopped None) × ReadStopped (N.device board.old) (N.device board.new) }
-    ensures halts { (h : Halt) → result ≡ Err h → (w : RuleWorld) (m now : ℕ) (does : Does) → Stands (N.device board.old).image (store_at w m)
-        → BeginsAt (store_at w m) (trail_of does (store_at w m)) → TurnEnds (Err h) w m now does (N.device board.old) (N.device board.new) }
+    ensures halts { (h : Halt) → result ≡ Err h → (w : RuleWorld) (m : ℕ) (does : Does) (v u : Option RunningMote) → Stands (N.device board.old).image (store_at w m)
+        → BeginsAt (store_at w m) (trail_of does (store_at w m)) → TurnEnds (Err h) w m does v u (N.device board.old) (N.device board.new) }
 {
     match Volume::mount(board) {
         Ok(volume) => Ok(volume),
@@ -47,19 +49,49 @@ pub(crate) fn mount<N: Nor>(board: &mut N) -> Result<Volume, Halt>
     }
 }
 
-/// The mote is dropped, and its board starts.
-fn restart<N: Nor>(board: &mut N, kind: Kind) -> Result<Turn, Halt>
-    ensures ends { (w : RuleWorld) (m now : ℕ) → Stands (N.device board.old).image (store_at w m)
-        → TurnEnds result w m now (starts w (boot kind (store_at w m)) now) (N.device board.old) (N.device board.new) }
+/// A mote that was started, and what is told of that.
+#[derive(Drop)]
+struct Begun {
+    running: RunningMote,
+    line: StartLine,
+}
+
+/// A board starts, and its mote is made anew.
+fn begin<N: Nor>(
+    kind: Kind,
+    id: u16,
+    now: u64,
+    word: u32,
+    board: &mut N,
+) -> Result<Begun, Halt>
+    requires moment { now < 2 ^ 62 }
+    ensures begun { IfOk result (λ b. (w : RuleWorld) (m : ℕ) (old : Option KeyValue) (v : Option RunningMote) → Stands (N.device board.old).image (store_at w m)
+        → TurnEnds (Ok (Turn.Starts b.line)) w m (of_effect w (boots kind (store_at w m) id now word) old) v (Some b.running) (N.device board.old) (N.device board.new)) }
+    ensures halts { (h : Halt) → result ≡ Err h → (w : RuleWorld) (m : ℕ) (old : Option KeyValue) (v u : Option RunningMote) → Stands (N.device board.old).image (store_at w m)
+        → TurnEnds (Err h) w m (of_effect w (boots kind (store_at w m) id now word) old) v u (N.device board.old) (N.device board.new) }
     ensures same_reference { (N.device board.new).references ≡ (N.device board.old).references }
 {
     match start(board, kind) {
-        Ok(started) => Ok(Turn::Starts {
-            line: start_line(&started),
-        }),
+        Ok(started) => Ok(mote_of_start(started, id, now, word)),
         Err(BootFault::Stopped) => Err(Halt::Stopped { before: None }),
         Err(BootFault::NotAVolume) => Err(Halt::NotAVolume),
         Err(BootFault::NoImage) => Err(Halt::NoImage),
+    }
+}
+
+/// The mote of a board that was started.
+fn mote_of_start(started: Started, id: u16, now: u64, word: u32) -> Begun
+    requires moment { now < 2 ^ 62 }
+    requires free { NothingLent started.volume }
+    ensures { BeginsOver started id now word result }
+{
+    let line = start_line(&started);
+    Begun {
+        running: RunningMote {
+            key: line.key,
+            mote: Mote::new(started.volume, id, now, word),
+        },
+        line,
     }
 }
 
@@ -78,72 +110,232 @@ fn start_line(started: &Started) -> StartLine
     }
 }
 
-/// Whether a tick clears the short starts.
-fn clears(volume: &Volume, since: u64, now: u64) -> bool
-    ensures { (s : Store) → Tells volume.now s → result ≡ clears s since now }
-{
-    volume.snapshot().gesture >= 1 && now.saturating_sub(since) >= SHORT_START && volume.room() >= 1
-}
-
-/// Clears the short starts.
-fn clear<N: Nor>(board: &mut N, volume: &mut Volume) -> Result<Turn, Halt>
-    requires mounted { IsMounted (N.device board.old).image volume.old }
-    requires room { 1 ≤ room_of volume.old }
-    ensures ends { (w : RuleWorld) (m now : ℕ) → Mounted (N.device board.old).image volume.old (store_at w m)
-        → TurnEnds result w m now (goes_on w m (clear_trail (store_at w m))) (N.device board.old) (N.device board.new) }
+/// A board starts by power. What ran on it is dropped.
+fn reset<N: Nor>(
+    runs: &mut Option<RunningMote>,
+    id: u16,
+    now: u64,
+    word: u32,
+    board: &mut N,
+) -> Result<Turn, Halt>
+    requires moment { now < 2 ^ 62 }
+    ensures ends { (w : RuleWorld) (m : ℕ) → m ≡ id → Stands (N.device board.old).image (store_at w m)
+        → TurnEnds result w m (of_effect w (reset_effect (store_at w m) m now word) None) runs.old runs.new (N.device board.old) (N.device board.new) }
     ensures same_reference { (N.device board.new).references ≡ (N.device board.old).references }
 {
-    match volume.clear_gesture(board) {
-        Ok(()) => Ok(Turn::Rests),
-        Err(Stopped) => Err(Halt::Stopped { before: None }),
+    let begun = begin(Kind::Power, id, now, word, board)?;
+    *runs = Some(begun.running);
+    Ok(Turn::Starts { line: begun.line })
+}
+
+/// What a tick did that starts nothing.
+fn sent(mut out: Outbox) -> Turn
+    ensures { result ≡ turn_sent (sent_in out) }
+{
+    match out.take() {
+        Some(frame) => Turn::Sends { frame },
+        None => Turn::Rests,
     }
 }
 
 /// A tick of a mote that is on.
-fn tick_on<N: Nor>(mote: RunningMote, now: u64, board: &mut N) -> Result<Turn, Halt>
-    ensures ends { (w : RuleWorld) (m : ℕ) (r : Running) → Stands (N.device board.old).image (store_at w m) → mote.since ≡ r.since
-        → TurnEnds result w m now (ticks w m (Some r) now) (N.device board.old) (N.device board.new) }
+fn tick_on<N: Nor>(
+    running: &mut RunningMote,
+    now: u64,
+    word: u32,
+    board: &mut N,
+) -> Result<Turn, Halt>
+    requires mote { IsTimelyMote (N.device board.old).image now running.old }
+    requires moment { now < 2 ^ 62 }
+    ensures ends { (w : RuleWorld) (m : ℕ) (r : Running) → Stands (N.device board.old).image (store_at w m)
+        → MoteStands (N.device board.old).image (Some running.old) (store_at w m) (Some r)
+        → TurnEnds result w m (of_effect w (tick_effect r.mote (store_at w m) now word) (Some r.key)) (Some running.old) (Some running.new) (N.device board.old) (N.device board.new) }
     ensures same_reference { (N.device board.new).references ≡ (N.device board.old).references }
 {
-    let mut volume = mount(board)?;
-    if clears(&volume, mote.since, now) {
-        return clear(board, &mut volume);
+    a_restart_is_for_the_order();
+    let mut out = Outbox::new();
+    let Ok(did) = running.mote.tick(board, now, word, &mut out) else {
+        return Err(Halt::Stopped { before: None });
+    };
+    match did {
+        Did::Sent | Did::Idle => Ok(sent(out)),
+        Did::Restart => {
+            let begun = begin(Kind::Order, running.mote.id(), now, word, board)?;
+            *running = begun.running;
+            Ok(Turn::Starts { line: begun.line })
+        }
     }
-    if waits(&volume) {
-        return restart(board, Kind::Order);
-    }
-    Ok(Turn::Rests)
 }
 
 /// A tick.
-fn tick<N: Nor>(runs: Option<RunningMote>, now: u64, board: &mut N) -> Result<Turn, Halt>
-    ensures ends { (w : RuleWorld) (m : ℕ) → Stands (N.device board.old).image (store_at w m) → MoteStands runs (site w m).runs
-        → TurnEnds result w m now (ticks w m (site w m).runs now) (N.device board.old) (N.device board.new) }
+fn tick<N: Nor>(
+    runs: &mut Option<RunningMote>,
+    now: u64,
+    word: u32,
+    board: &mut N,
+) -> Result<Turn, Halt>
+    requires mote { MayRun (N.device board.old).image now runs.old }
+    requires moment { now < 2 ^ 62 }
+    ensures ends { (w : RuleWorld) (m : ℕ) → SiteStands (N.device board.old) runs.old (site w m)
+        → TurnEnds result w m (tick_by w (store_at w m) (site w m).runs now word) runs.old runs.new (N.device board.old) (N.device board.new) }
     ensures same_reference { (N.device board.new).references ≡ (N.device board.old).references }
 {
     match runs {
         None => Ok(Turn::Refused { cause: Cause::Off }),
-        Some(mote) => tick_on(mote, now, board),
+        Some(running) => tick_on(running, now, word, board),
+    }
+}
+
+/// A mote that is on hears a frame. What its chip keeps is told by its own volume.
+fn hear_on<N: Nor>(
+    running: &mut RunningMote,
+    now: u64,
+    word: u32,
+    bytes: &[u8],
+    board: &mut N,
+) -> Result<Turn, Halt>
+    requires mote { IsTimelyMote (N.device board.old).image now running.old }
+    requires moment { now < 2 ^ 62 }
+    ensures ends { (w : RuleWorld) (m : ℕ) (r : Running) → Stands (N.device board.old).image (store_at w m)
+        → MoteStands (N.device board.old).image (Some running.old) (store_at w m) (Some r)
+        → TurnEnds result w m (of_effect w (frame_effect r.mote (store_at w m) now word bytes.now) (Some r.key)) (Some running.old) (Some running.new) (N.device board.old) (N.device board.new) }
+    ensures same_reference { (N.device board.new).references ≡ (N.device board.old).references }
+{
+    let before = show(running.mote.volume());
+    match running.mote.hear(board, now, word, bytes) {
+        Ok(_) => Ok(Turn::Changes {
+            before,
+            after: show(running.mote.volume()),
+        }),
+        Err(Stopped) => Err(Halt::Stopped {
+            before: Some(before),
+        }),
+    }
+}
+
+/// A frame is heard.
+fn hear<N: Nor>(
+    runs: &mut Option<RunningMote>,
+    now: u64,
+    word: u32,
+    bytes: &[u8],
+    board: &mut N,
+) -> Result<Turn, Halt>
+    requires mote { MayRun (N.device board.old).image now runs.old }
+    requires moment { now < 2 ^ 62 }
+    ensures ends { (w : RuleWorld) (m : ℕ) → SiteStands (N.device board.old) runs.old (site w m)
+        → TurnEnds result w m (hear_by w (store_at w m) (site w m).runs now word bytes.now) runs.old runs.new (N.device board.old) (N.device board.new) }
+    ensures same_reference { (N.device board.new).references ≡ (N.device board.old).references }
+{
+    match runs {
+        None => Ok(Turn::Refused { cause: Cause::Off }),
+        Some(running) => hear_on(running, now, word, bytes, board),
+    }
+}
+
+/// The frame with a number is heard, if it was sent, and by a neighbour.
+fn hear_numbered<N: Nor>(
+    shared: &Shared,
+    runs: &mut Option<RunningMote>,
+    mote: u8,
+    number: u32,
+    now: u64,
+    word: u32,
+    board: &mut N,
+) -> Result<Turn, Halt>
+    requires mote { MayRun (N.device board.old).image now runs.old }
+    requires moment { now < 2 ^ 62 }
+    ensures ends { (w : RuleWorld) → IsShared shared.now w → SiteStands (N.device board.old) runs.old (site w mote)
+        → TurnEnds result w mote (unless_off (site w mote).runs (heard_sent w mote now word (frame_at w number))) runs.old runs.new (N.device board.old) (N.device board.new) }
+    ensures same_reference { (N.device board.new).references ≡ (N.device board.old).references }
+{
+    if runs.is_none() {
+        return Ok(Turn::Refused { cause: Cause::Off });
+    }
+    match shared.air.get(number as usize) {
+        None => Ok(Turn::Refused {
+            cause: Cause::Frame,
+        }),
+        Some(sent) => {
+            if shared.is_linked(sent.by, mote) {
+                hear(runs, now, word, sent.frame.as_slice(), board)
+            } else {
+                Ok(Turn::Refused { cause: Cause::Link })
+            }
+        }
+    }
+}
+
+/// The last frame of a mote is heard, if it is a neighbour, and sent one.
+fn hear_last<N: Nor>(
+    shared: &Shared,
+    runs: &mut Option<RunningMote>,
+    from: u8,
+    to: u8,
+    now: u64,
+    word: u32,
+    board: &mut N,
+) -> Result<Turn, Halt>
+    requires known { from < most_motes }
+    requires mote { MayRun (N.device board.old).image now runs.old }
+    requires moment { now < 2 ^ 62 }
+    ensures ends { (w : RuleWorld) → IsShared shared.now w → SiteStands (N.device board.old) runs.old (site w to)
+        → TurnEnds result w to (unless_off (site w to).runs (if linked w from to then heard_last w from to now word (last_frame w from) else Refuses Cause.Link)) runs.old runs.new (N.device board.old) (N.device board.new) }
+    ensures same_reference { (N.device board.new).references ≡ (N.device board.old).references }
+{
+    if runs.is_none() {
+        return Ok(Turn::Refused { cause: Cause::Off });
+    }
+    if !shared.is_linked(from, to) {
+        return Ok(Turn::Refused { cause: Cause::Link });
+    }
+    match shared.air.last_of(from) {
+        None => Ok(Turn::Refused {
+            cause: Cause::Frame,
+        }),
+        Some(sent) => hear(runs, now, word, sent.frame.as_slice(), board),
+    }
+}
+
+/// A mote that is on goes on with its chip's new volume.
+fn reload(runs: &mut Option<RunningMote>, volume: Volume, now: u64, word: u32)
+    requires mote { (c : List ℕ) × MayRun c now runs.old }
+    requires free { NothingLent volume }
+    requires moment { now < 2 ^ 62 }
+    ensures { (c d : List ℕ) (s t : Store) (r : Option Running) → MoteStands c runs.old s r → Mounted d volume t → MoteStands d runs.new t (reloaded r now word) }
+{
+    if let Some(running) = runs {
+        running.mote.reload(volume, now, word);
     }
 }
 
 /// Injects an image.
-fn inject_image<N: Nor>(board: &mut N, key: Key, name: &[u8], content: &[u8]) -> Result<Turn, Halt>
+fn inject_image<N: Nor>(
+    runs: &mut Option<RunningMote>,
+    key: Key,
+    image: &Image,
+    now: u64,
+    word: u32,
+    board: &mut N,
+) -> Result<Turn, Halt>
     requires known_image { key.image < images }
     requires some_version { 1 ≤ key.version }
-    requires named { IsTrue (spells_name name.now) }
-    requires fits { length content.now < 2 ^ 32 }
-    ensures ends { (w : RuleWorld) (m now : ℕ) → Stands (N.device board.old).image (store_at w m)
-        → TurnEnds result w m now (inject_row w m (Some (row_of key.image key.version name.now content.now))) (N.device board.old) (N.device board.new) }
+    requires mote { MayRun (N.device board.old).image now runs.old }
+    requires moment { now < 2 ^ 62 }
+    ensures ends { (w : RuleWorld) (m : ℕ) → SiteStands (N.device board.old) runs.old (site w m)
+        → TurnEnds result w m (inject_row w m (Some (row_of_image key image.now)) now word) runs.old runs.new (N.device board.old) (N.device board.new) }
     ensures same_reference { (N.device board.new).references ≡ (N.device board.old).references }
 {
     let mut volume = mount(board)?;
     let before = show(&volume);
+    let name = image.name.as_slice();
+    let content = image.content.as_slice();
     match volume.inject(board, key.image, key.version, name, content) {
-        Ok(_) => Ok(Turn::Changes {
-            before,
-            after: show(&volume),
-        }),
+        Ok(_) => {
+            let after = show(&volume);
+            reload(runs, volume, now, word);
+            Ok(Turn::Changes { before, after })
+        }
         Err(fault) => inject_fault(fault, before, content.len()),
     }
 }
@@ -173,11 +365,20 @@ fn inject_fault(fault: InjectFault, before: Shown, bytes: usize) -> Result<Turn,
 }
 
 /// Injects the image with this key, if it was declared.
-fn inject<N: Nor>(declared: &Images, key: Key, board: &mut N) -> Result<Turn, Halt>
+fn inject<N: Nor>(
+    declared: &Images,
+    runs: &mut Option<RunningMote>,
+    key: Key,
+    now: u64,
+    word: u32,
+    board: &mut N,
+) -> Result<Turn, Halt>
     requires known_image { key.image < images }
     requires some_version { 1 ≤ key.version }
-    ensures ends { (w : RuleWorld) (m now : ℕ) → Stands (N.device board.old).image (store_at w m) → Declares declared.now w.declared
-        → TurnEnds result w m now (if key.image == 0 then Refuses Cause.Reserved else inject_row w m (row_at w.declared key.image key.version)) (N.device board.old) (N.device board.new) }
+    requires mote { MayRun (N.device board.old).image now runs.old }
+    requires moment { now < 2 ^ 62 }
+    ensures ends { (w : RuleWorld) (m : ℕ) → Declares declared.now w.declared → SiteStands (N.device board.old) runs.old (site w m)
+        → TurnEnds result w m (if key.image == 0 then Refuses Cause.Reserved else inject_row w m (row_at w.declared key.image key.version) now word) runs.old runs.new (N.device board.old) (N.device board.new) }
     ensures same_reference { (N.device board.new).references ≡ (N.device board.old).references }
 {
     if key.image == 0 {
@@ -189,27 +390,37 @@ fn inject<N: Nor>(declared: &Images, key: Key, board: &mut N) -> Result<Turn, Ha
         None => Ok(Turn::Refused {
             cause: Cause::Image,
         }),
-        Some(row) => inject_image(board, key, row.name.as_slice(), row.content.as_slice()),
+        Some(image) => inject_image(runs, key, image, now, word, board),
     }
 }
 
 /// Touches an order.
-fn order<N: Nor>(board: &mut N, number: u32, image: u8, version: u32) -> Result<Turn, Halt>
+fn order<N: Nor>(
+    runs: &mut Option<RunningMote>,
+    number: u32,
+    key: Key,
+    now: u64,
+    word: u32,
+    board: &mut N,
+) -> Result<Turn, Halt>
     requires some_number { 1 ≤ number }
-    requires known_image { image < images }
-    requires some_version { 1 ≤ version }
-    ensures ends { (w : RuleWorld) (m now : ℕ) → Stands (N.device board.old).image (store_at w m)
-        → TurnEnds result w m now (order_unless (order_refusal (store_at w m) (record { number = number; image = image; version = version })) w m
-        (record { number = number; image = image; version = version })) (N.device board.old) (N.device board.new) }
+    requires known_image { key.image < images }
+    requires some_version { 1 ≤ key.version }
+    requires mote { MayRun (N.device board.old).image now runs.old }
+    requires moment { now < 2 ^ 62 }
+    ensures ends { (w : RuleWorld) (m : ℕ) → SiteStands (N.device board.old) runs.old (site w m)
+        → TurnEnds result w m (order_unless (order_refusal (store_at w m) (record { number = number; image = key.image; version = key.version })) w m
+        (record { number = number; image = key.image; version = key.version }) now word) runs.old runs.new (N.device board.old) (N.device board.new) }
     ensures same_reference { (N.device board.new).references ≡ (N.device board.old).references }
 {
     let mut volume = mount(board)?;
     let before = show(&volume);
-    match volume.order(board, number, image, version) {
-        Ok(()) => Ok(Turn::Changes {
-            before,
-            after: show(&volume),
-        }),
+    match volume.order(board, number, key.image, key.version) {
+        Ok(()) => {
+            let after = show(&volume);
+            reload(runs, volume, now, word);
+            Ok(Turn::Changes { before, after })
+        }
         Err(fault) => order_fault(fault, before),
     }
 }
@@ -233,34 +444,53 @@ fn order_fault(fault: OrderFault, before: Shown) -> Result<Turn, Halt>
 
 /// What an event does at the board of its mote, which runs `runs`, at the moment `now`.
 pub(crate) fn happen<N: Nor>(
-    declared: &Images,
-    runs: Option<RunningMote>,
+    shared: &Shared,
+    runs: &mut Option<RunningMote>,
     now: u64,
     event: &Event,
     board: &mut N,
 ) -> Result<Turn, Halt>
-    requires fits { (motes : ℕ) × EventFits motes event.now }
-    ensures ends { (w : RuleWorld) → Stands (N.device board.old).image (store_at w (mote_of event.now)) → Declares declared.now w.declared
-        → MoteStands runs (site w (mote_of event.now)).runs → now ≡ w.moment + dt_of event.now
-        → TurnEnds result w (mote_of event.now) now (does w event.now) (N.device board.old) (N.device board.new) }
+    requires fits { (motes : ℕ) × EventFits motes event.now × (motes ≤ most_motes) }
+    requires mote { MayRun (N.device board.old).image now runs.old }
+    requires moment { now < 2 ^ 62 }
+    ensures ends { (w : RuleWorld) → IsShared shared.now w → SiteStands (N.device board.old) runs.old (site w (mote_of event.now)) → now ≡ w.moment + dt_of event.now
+        → TurnEnds result w (mote_of event.now) (does w event.now) runs.old runs.new (N.device board.old) (N.device board.new) }
     ensures same_reference { (N.device board.new).references ≡ (N.device board.old).references }
 {
     match event {
-        Event::Tick { .. } => tick(runs, now, board),
-        Event::Hear { .. } | Event::Last { .. } | Event::Frame { .. } => unreachable!(),
-        Event::Reset { .. } => restart(board, Kind::Power),
-        Event::Inject { image, version, .. } => {
+        Event::Tick { word, .. } => tick(runs, now, *word, board),
+        Event::Hear {
+            mote, word, frame, ..
+        } => hear_numbered(shared, runs, *mote, *frame, now, *word, board),
+        Event::Last { from, to, word, .. } => {
+            hear_last(shared, runs, *from, *to, now, *word, board)
+        }
+        Event::Frame { word, bytes, .. } => hear(runs, now, *word, bytes.as_slice(), board),
+        Event::Reset { mote, word, .. } => reset(runs, u16::from(*mote), now, *word, board),
+        Event::Inject {
+            image,
+            version,
+            word,
+            ..
+        } => {
             let key = Key {
                 image: *image,
                 version: *version,
             };
-            inject(declared, key, board)
+            inject(&shared.images, runs, key, now, *word, board)
         }
         Event::Order {
             number,
             image,
             version,
+            word,
             ..
-        } => order(board, *number, *image, *version),
+        } => {
+            let key = Key {
+                image: *image,
+                version: *version,
+            };
+            order(runs, *number, key, now, *word, board)
+        }
     }
 }

@@ -1,18 +1,23 @@
 //! The world of motes over their boards: how it begins, what is declared, its steps, and its last state.
 #![tactic(auto)]
 
+mod air;
 mod apply;
 mod cutting;
 mod declare;
+mod events;
 mod finish;
 mod format;
 mod happening;
 mod images;
+mod shared;
 mod shown;
 mod stepping;
 mod turn;
 mod world;
 
+pub use air::{Air, SentFrame};
 pub use format::{FormatStopped, format_boards};
 pub use images::{Image, Images};
+pub use shared::Shared;
 pub use world::{DeclareFault, RunningMote, World, WorldFault};

@@ -1,22 +1,28 @@
 //! A step at the board of its mote, and what is told of it.
-ghost use Rattle.std.specs.Prelude.{◌≡◌, ◌+◌, ◌≤◌, ◌++◌, ℕ, Some, length, vec_len};
+ghost use Rattle.std.specs.Prelude.{◌≡◌, ◌+◌, ◌^◌, ◌<◌, ◌≤◌, ◌∷◌, ◌++◌, ℕ, [], Some, length, vec_len, option_map, option_to_list};
+ghost use Rattle.std.specs.List.{filter};
 ghost use Rattle.std.specs.Vec.{vec_capacity};
 ghost use Rattle.dg_volume.specs.Store.{Store};
 ghost use Rattle.dg_volume.specs.Stands.{Stands};
-ghost use Rattle.dg_rules.specs.World.{World as RuleWorld, site, store_at};
+ghost use Rattle.dg_frame.specs.Grammar.{message_of};
+ghost use Rattle.dg_rules.specs.Sizes.{most_motes};
+ghost use Rattle.dg_rules.specs.World.{World as RuleWorld, site};
+ghost use Rattle.dg_rules.specs.Changes.{sent_line, is_told};
 ghost use Rattle.dg_rules.specs.Events.{mote_of, dt_of};
 ghost use Rattle.dg_rules.specs.Ranges.{StepFits};
-ghost use Rattle.dg_world.specs.Images.{Declares};
-ghost use Rattle.dg_world.specs.Worlds.{MoteStands};
-ghost use Rattle.dg_world.specs.Turns.{turn_lines};
-ghost use Rattle.dg_world.specs.Stepped.{turn_mote, CutTold, CutLines, Stepped};
+ghost use Rattle.dg_world.specs.Shareds.{IsShared};
+ghost use Rattle.dg_world.specs.Worlds.{SiteStands, MayRun};
+ghost use Rattle.dg_world.specs.Turns.{turn_frame, turn_lines, sent_shown};
+ghost use Rattle.dg_world.specs.Stepped.{CutTold, CutLines, Stepped};
 
 use crate::cutting::play;
+use crate::events::mote_at;
 use crate::happening::mount;
-use crate::images::Images;
-use crate::shown::{MOST_CHANGES, Shown, push_changes, show};
+use crate::shared::Shared;
+use crate::shown::{MOST_CHANGES, Shown, push_changes, push_line, show};
 use crate::turn::{Ended, Halt, StartLine, Turn};
 use crate::world::RunningMote;
+use dg_frame::{Frame, Message, read};
 use dg_nor::Nor;
 use dg_rules::{Cause, Report, Step};
 
@@ -24,17 +30,76 @@ use dg_rules::{Cause, Report, Step};
 pub(crate) const MOST_LINES: usize = MOST_CHANGES + 1;
 
 /// Appends what is told of a turn. There is room for it.
-fn push_turn(mote: u8, turn: &Turn, out: &mut Vec<Report>)
+fn push_turn(mote: u8, turn: &Turn, loud: bool, out: &mut Vec<Report>)
     requires room { vec_len out.old + MOST_CHANGES ≤ vec_capacity out.old }
-    ensures told { out.new.items ≡ out.old.items ++ turn_lines mote turn.now }
+    ensures told { out.new.items ≡ out.old.items ++ filter (is_told loud) (turn_lines mote turn.now) }
     ensures room { vec_capacity out.new ≡ vec_capacity out.old }
     ensures few { vec_len out.new ≤ vec_len out.old + MOST_CHANGES }
 {
     match turn {
         Turn::Refused { cause } => push_refused(mote, *cause, out),
         Turn::Rests => {}
+        Turn::Sends { frame } => push_sent(mote, frame, loud, out),
         Turn::Changes { before, after } => push_changes(mote, before, after, out),
         Turn::Starts { line } => push_start(mote, *line, out),
+    }
+}
+
+/// Appends the line on a frame where it is wanted.
+fn push_sent(mote: u8, frame: &Frame, loud: bool, out: &mut Vec<Report>)
+    requires room { vec_len out.old + 1 ≤ vec_capacity out.old }
+    ensures told { out.new.items ≡ out.old.items ++ filter (is_told loud) (sent_shown mote (message_of frame.now.items)) }
+    ensures room { vec_capacity out.new ≡ vec_capacity out.old }
+    ensures few { vec_len out.new ≤ vec_len out.old + 1 }
+{
+    if loud {
+        push_line(sent_line(mote, frame), out);
+    }
+}
+
+/// The line on a frame.
+fn sent_line(mote: u8, frame: &Frame) -> Option<Report>
+    ensures { option_to_list result ≡ sent_shown mote (message_of frame.now.items) }
+{
+    match read(frame.as_slice()) {
+        Ok(message) => Some(message_line(mote, &message)),
+        Err(_) => None,
+    }
+}
+
+fn message_line(mote: u8, message: &Message) -> Report
+    ensures { result ∷ [] ≡ sent_line mote (Some message.now) }
+{
+    match message {
+        Message::Advert { .. } => Report::SentAdvert { mote },
+        Message::Request {
+            to,
+            image,
+            version,
+            page,
+            want,
+            ..
+        } => Report::SentRequest {
+            mote,
+            to: *to,
+            image: *image,
+            version: *version,
+            page: *page,
+            count: want.count(),
+        },
+        Message::Packet {
+            image,
+            version,
+            page,
+            packet,
+            ..
+        } => Report::SentData {
+            mote,
+            image: *image,
+            version: *version,
+            page: *page,
+            packet: *packet,
+        },
     }
 }
 
@@ -60,19 +125,6 @@ fn push_start(mote: u8, line: StartLine, out: &mut Vec<Report>)
         length: line.length,
         crc: line.crc,
     });
-}
-
-/// What runs after a turn, where this ran before.
-fn mote_after(turn: &Turn, now: u64, runs: Option<RunningMote>) -> Option<RunningMote>
-    ensures { result ≡ turn_mote turn.now now runs }
-{
-    match turn {
-        Turn::Starts { line } => Some(RunningMote {
-            key: line.key,
-            since: now,
-        }),
-        Turn::Refused { .. } | Turn::Rests | Turn::Changes { .. } => runs,
-    }
 }
 
 /// What a cut changed of what is reported, read from the board where it may be something.
@@ -101,52 +153,52 @@ fn tell_cut<N: Nor>(
     before: Option<Shown>,
     board: &mut N,
     out: &mut Vec<Report>,
-) -> Result<Option<RunningMote>, Halt>
+) -> Result<(), Halt>
     requires room { vec_len out.old + MOST_LINES ≤ vec_capacity out.old }
     ensures { (s : Store) → Stands (N.device board.old).image s → CutLines result mote before s (N.device board.old) (N.device board.new) out.old.items out.new.items }
 {
     let turn = after_cut(before, board)?;
-    push_turn(mote, &turn, out);
+    push_turn(mote, &turn, true, out);
     out.push_reserved(Report::Off { mote });
-    Ok(None)
+    Ok(())
 }
 
-/// Tells of a turn. There is room for it.
-fn tell_turn(
-    mote: u8,
-    turn: &Turn,
-    now: u64,
-    runs: Option<RunningMote>,
-    out: &mut Vec<Report>,
-) -> Option<RunningMote>
+/// Tells of a turn, and answers the frame that it sends. There is room for it.
+fn tell_turn(mote: u8, turn: Turn, loud: bool, out: &mut Vec<Report>) -> Option<Frame>
     requires room { vec_len out.old + MOST_LINES ≤ vec_capacity out.old }
-    ensures mote { result ≡ turn_mote turn.now now runs }
-    ensures told { out.new.items ≡ out.old.items ++ turn_lines mote turn.now }
+    ensures sent { option_map (λ f. f.items) result ≡ turn_frame turn }
+    ensures told { out.new.items ≡ out.old.items ++ filter (is_told loud) (turn_lines mote turn) }
 {
-    push_turn(mote, turn, out);
-    mote_after(turn, now, runs)
+    push_turn(mote, &turn, loud, out);
+    turn.into_frame()
 }
 
-/// A step at the board of its mote, which runs `runs`. There is room for what is told of it.
+/// A step at the board of its mote, which runs `runs`, and the frame that it sends. There is room for what is told of it.
 pub(crate) fn step_at<N: Nor>(
-    declared: &Images,
-    runs: Option<RunningMote>,
+    shared: &Shared,
+    runs: &mut Option<RunningMote>,
     now: u64,
     step: &Step,
-    mote: u8,
+    loud: bool,
     board: &mut N,
     out: &mut Vec<Report>,
-) -> Result<Option<RunningMote>, Halt>
+) -> Result<Option<Frame>, Halt>
     requires room { vec_len out.old + MOST_LINES ≤ vec_capacity out.old }
-    requires fits { (motes : ℕ) × StepFits motes step.now }
-    requires mote { mote ≡ mote_of step.now.event }
-    ensures { (w : RuleWorld) → StepFits (length w.sites) step.now → Stands (N.device board.old).image (store_at w (mote_of step.now.event)) → Declares declared.now w.declared
-        → MoteStands runs (site w (mote_of step.now.event)).runs → now ≡ w.moment + dt_of step.now.event
-        → Stepped result w step.now (N.device board.old) (N.device board.new) out.old.items out.new.items }
+    requires fits { (motes : ℕ) × StepFits motes step.now × (motes ≤ most_motes) }
+    requires mote { MayRun (N.device board.old).image now runs.old }
+    requires moment { now < 2 ^ 62 }
+    ensures { (w : RuleWorld) → StepFits (length w.sites) step.now → IsShared shared.now w → SiteStands (N.device board.old) runs.old (site w (mote_of step.now.event))
+        → now ≡ w.moment + dt_of step.now.event
+        → Stepped result w step.now loud runs.new (N.device board.old) (N.device board.new) out.old.items out.new.items }
 {
-    match play(declared, runs, now, step, board) {
-        Ok(Ended::Whole { turn }) => Ok(tell_turn(mote, &turn, now, runs, out)),
-        Ok(Ended::Cut { before }) => tell_cut(mote, before, board, out),
+    let mote = mote_at(&step.event);
+    match play(shared, runs, now, step, board) {
+        Ok(Ended::Whole { turn }) => Ok(tell_turn(mote, turn, loud, out)),
+        Ok(Ended::Cut { before }) => {
+            tell_cut(mote, before, board, out)?;
+            *runs = None;
+            Ok(None)
+        }
         Err(halt) => Err(halt),
     }
 }

@@ -1,13 +1,13 @@
 //! The world as the code keeps it.
-use crate::images::Images;
+use crate::shared::Shared;
+use dg_mote::Mote;
 use dg_rules::Key;
 
-/// What runs on a mote that is on, and since when.
-#[derive(Clone, Copy, Debug, PartialEq, Eq)]
+/// A mote that is on, and the image that it runs.
+#[derive(Drop)]
 pub struct RunningMote {
     pub(crate) key: Key,
-    /// The moment of its start, in milliseconds.
-    pub(crate) since: u64,
+    pub(crate) mote: Mote,
 }
 
 /// A world of 1 to 16 motes. Their boards stand beside it.
@@ -17,8 +17,8 @@ pub struct World {
     pub(crate) moment: u64,
     /// How many events were applied, refused ones included.
     pub(crate) events: u32,
-    pub(crate) images: Images,
-    /// What runs on each mote, None where it is off.
+    pub(crate) shared: Shared,
+    /// Each mote, None where it is off.
     pub(crate) motes: Vec<Option<RunningMote>>,
 }
 

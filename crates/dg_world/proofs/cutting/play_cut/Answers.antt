@@ -1,24 +1,40 @@
-use Rattle.std.proofs.Common.{ap, sym, ◌∙◌, subst, refl, Some}
+use Rattle.std.proofs.Common.{◌≡◌, ℕ, List, Option, ap, sym, ◌∙◌, subst, refl, Some}
 use Rattle.dg_nor.specs.Device.{Device}
 use Rattle.dg_nor.proofs.FuseLemmas.{same_reference}
 use Rattle.dg_volume.specs.Stands.{Stands}
-use Rattle.dg_rules.specs.World.{store_at}
+use Rattle.dg_rules.specs.World.{Site, site}
 use Rattle.dg_rules.specs.Events.{does, mote_of}
+use Rattle.dg_world.specs.Worlds.{MoteStands, SiteStands, MayRun}
+use Rattle.dg_world.specs.declared.world.RunningMote.{RunningMote}
 use Rattle.dg_world.specs.Cuts.{ended, Played}
 use Rattle.dg_world.proofs.CutLemmas.{is_fused, fused, played_as}
 use Rattle.dg_world.proofs.cutting.play_cut.Goals as goal
 
+-- the fuse begins over the board's bytes
+begun : (a d : Device) (v : Option RunningMote) (x : Site) → d.image ≡ a.image → SiteStands a v x → SiteStands d v x
+begun a d v x same stands = record {
+  stands = subst (λ (c : List ℕ). Stands c x.store) (sym same) stands.stands;
+  mote = subst (λ (c : List ℕ). MoteStands c v x.store x.runs) (sym same) stands.mote;
+}
+
+pub happen-turn-requires-clause-mote : goal.happen-turn-requires-clause-mote
+happen-turn-requires-clause-mote g c =
+    let made = ap (λ (d : Device). d.image) c.new-fused.ensures.device in
+    subst (λ (i : List ℕ). MayRun i c.args.now c.args.runs.now) (sym made) c.requires.mote
+
 pub returns : goal.returns
-returns g c = λ w stands declares mote at.
+returns g c = λ w shared stands at.
     let device = g.N.Nor.device in
     let m = mote_of c.args.event.now in
     let cut = c.args.cut.now in
     let made = c.new-fused.ensures.device in
+    let v = c.args.runs.now in
+    let u = c.happen-turn.new.runs in
     let name = sym (same_reference device c.new-fused.result c.happen-turn.new.board c.happen-turn.ensures.same_reference ∙ c.new-fused.ensures.same_reference) in
     let last = c.board-1.given.1 name in
-    let here = subst (λ (d : Device). Stands d.image (store_at w m)) (sym made) stands in
+    let here = begun (device c.args.board.now) _ v (site w m) (ap (λ (d : Device). d.image) made) stands in
     let f = is_fused device cut (device c.args.board.now) c.new-fused.result c.happen-turn.new.board _ c.requires.cut.counted made in
-    let p = fused c.happen-turn.result cut w m c.args.now (does w c.args.event.now) _ _ _ _ f (c.happen-turn.ensures.ends w here declares mote at) in
+    let p = fused c.happen-turn.result cut w m (does w c.args.event.now) v u _ _ _ _ f (c.happen-turn.ensures.ends w shared here at) in
     let e = c.end_turn.ensures in
-    let P : g.row.N.Denot → Type 0 = λ x. Played c.end_turn.result w m c.args.now (does w c.args.event.now) (Some cut) (device c.args.board.now) (device x) in
-    subst P (sym last) (played_as c.end_turn.result _ (Some cut) (Some cut) w m c.args.now (does w c.args.event.now) _ _ (e ∙ ap (λ b. ended b c.happen-turn.result) c.blown.ensures) refl p)
+    let P : g.row.N.Denot → Type 0 = λ x. Played c.end_turn.result w m (does w c.args.event.now) (Some cut) v u (device c.args.board.now) (device x) in
+    subst P (sym last) (played_as c.end_turn.result _ (Some cut) (Some cut) w m (does w c.args.event.now) v u _ _ (e ∙ ap (λ b. ended b c.happen-turn.result) c.blown.ensures) refl p)

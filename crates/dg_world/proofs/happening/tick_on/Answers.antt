@@ -1,35 +1,43 @@
-use Rattle.std.proofs.Common.{refl, ap, sym, ◌∙◌}
+use Rattle.std.proofs.Common.{refl, sym, subst, Some}
 use Rattle.dg_rules.specs.World.{store_at}
-use Rattle.dg_rules.specs.Events.{clears}
-use Rattle.dg_world.proofs.TickLemmas.{tick_begins, tick_clears, tick_starts, tick_rests, room_left}
+use Rattle.dg_mote.specs.Ticks.{tick_of}
+use Rattle.dg_mote.specs.Motes.{Done}
+use Rattle.dg_world.specs.declared.world.RunningMote.{RunningMote}
 use Rattle.dg_world.proofs.TurnLemmas.{turn_err}
+use Rattle.dg_world.proofs.TickLemmas.{tick_acts, tick_stopped, restart_stands, restart_starts, restart_halts}
 use Rattle.dg_world.proofs.happening.tick_on.Goals as goal
 
-pub returns-in_err-volume-clause-ends : goal.returns-in_err-volume-clause-ends
-returns-in_err-volume-clause-ends g c = λ w m r stands since.
-    turn_err c.from_residual.result c.in_err-volume.field-0.0 w m c.args.now _ _ _ c.from_residual.ensures.1 (c.in_err-volume.ensures.halts _ refl w m c.args.now _ stands (tick_begins w m c.args.now r))
+pub returns-in_err-begun-in-Restart-clause-ends : goal.returns-in_err-begun-in-Restart-clause-ends
+returns-in_err-begun-in-Restart-clause-ends g c = λ w m r stands mote.
+    let a = g.N.Nor.device c.args.board.now in
+    let b = g.N.Nor.device c.tick.new.nor in
+    let u : RunningMote = record { key = c.args.running.now.key; mote = c.tick.new.self } in
+    let done = subst (λ d. Done (tick_of r.mote (store_at w m) c.args.now c.args.word) a b u.mote d) c.in-Restart.is (c.in-Ok.ensures.done r.mote (store_at w m) mote.1) in
+    let is = c.a_restart_is_for_the_order.ensures.nothing r.mote (store_at w m) c.args.now c.args.word (sym done.answers) in
+    turn_err c.from_residual.result c.in_err-begun-in-Restart.field-0.0 w m _ _ _ _ _ c.from_residual.ensures.1
+    (restart_halts w m r c.args.now c.args.word u c.in_err-begun-in-Restart.field-0.0 _ _ a b _ c.id.result c.id.ensures is done
+    (c.in_err-begun-in-Restart.ensures.halts _ refl w m (Some r.key) (Some c.args.running.now) (Some u) (restart_stands w m r c.args.now c.args.word u a b is done)))
 
-pub clear-requires-clause-room : goal.clear-requires-clause-room
-clear-requires-clause-room g c =
-    let v = c.in_ok-volume.ensures.volume in
-    room_left v.0 _ c.args.mote.since c.args.now c.clears.result (c.clears.ensures v.0 v.1.tells) c.if-clears.true v.1.tells.room
+pub returns-in-Sent : goal.returns-in-Sent
+returns-in-Sent g c = record {
+  ends = λ w m r stands mote.
+      let u : RunningMote = record { key = c.args.running.now.key; mote = c.tick.new.self } in
+      tick_acts w m r c.args.now c.args.word c.args.running.now u _ _ c.in-Ok.did _ c.sent.result c.sent.ensures c.in-Sent.is mote.0 refl (c.in-Ok.ensures.done r.mote (store_at w m) mote.1)
+      (c.in-Ok.ensures.sent r.mote (store_at w m) mote.1) (c.in-Ok.ensures.read r.mote (store_at w m) mote.1);
+  same_reference = c.tick.ensures.same_reference;
+}
 
-pub returns-then-clears-clause-ends : goal.returns-then-clears-clause-ends
-returns-then-clears-clause-ends g c = λ w m r stands since.
-    let mounted = c.in_ok-volume.ensures.mounted (store_at w m) stands in
-    let is = ap (λ n. clears (store_at w m) n c.args.now) (sym since) ∙ sym (c.clears.ensures (store_at w m) mounted.tells) ∙ c.if-clears.true in
-    tick_clears c.clear.result w m c.args.now r _ _ _ is c.in_ok-volume.ensures.looked (c.clear.ensures.ends w m c.args.now mounted)
+pub returns-in_ok-begun-in-Restart-clause-ends : goal.returns-in_ok-begun-in-Restart-clause-ends
+returns-in_ok-begun-in-Restart-clause-ends g c = λ w m r stands mote.
+    let a = g.N.Nor.device c.args.board.now in
+    let b = g.N.Nor.device c.tick.new.nor in
+    let u : RunningMote = record { key = c.args.running.now.key; mote = c.tick.new.self } in
+    let done = subst (λ d. Done (tick_of r.mote (store_at w m) c.args.now c.args.word) a b u.mote d) c.in-Restart.is (c.in-Ok.ensures.done r.mote (store_at w m) mote.1) in
+    let is = c.a_restart_is_for_the_order.ensures.nothing r.mote (store_at w m) c.args.now c.args.word (sym done.answers) in
+    restart_starts w m r c.args.now c.args.word u c.in_ok-begun-in-Restart.begun (Some c.args.running.now) a b _ c.id.result c.id.ensures is done
+    (c.in_ok-begun-in-Restart.ensures.begun w m (Some r.key) (Some c.args.running.now) (restart_stands w m r c.args.now c.args.word u a b is done))
 
-pub returns-then-waits-clause-ends : goal.returns-then-waits-clause-ends
-returns-then-waits-clause-ends g c = λ w m r stands since.
-    let mounted = c.in_ok-volume.ensures.mounted (store_at w m) stands in
-    let not_clears = ap (λ n. clears (store_at w m) n c.args.now) (sym since) ∙ sym (c.clears.ensures (store_at w m) mounted.tells) ∙ c.if-clears.false in
-    let is = sym (c.waits.ensures (store_at w m) mounted.tells) ∙ c.if-waits.true in
-    tick_starts c.restart.result w m c.args.now r _ _ _ not_clears is c.in_ok-volume.ensures.looked (c.restart.ensures.ends w m c.args.now mounted.stands)
-
-pub returns-clause-ends : goal.returns-clause-ends
-returns-clause-ends g c = λ w m r stands since.
-    let mounted = c.in_ok-volume.ensures.mounted (store_at w m) stands in
-    let not_clears = ap (λ n. clears (store_at w m) n c.args.now) (sym since) ∙ sym (c.clears.ensures (store_at w m) mounted.tells) ∙ c.if-clears.false in
-    let not_waits = sym (c.waits.ensures (store_at w m) mounted.tells) ∙ c.if-waits.false in
-    tick_rests w m c.args.now r _ _ not_clears not_waits stands c.in_ok-volume.ensures.looked
+pub returns-in_default-clause-ends : goal.returns-in_default-clause-ends
+returns-in_default-clause-ends g c = λ w m r stands mote.
+    let u : RunningMote = record { key = c.args.running.now.key; mote = c.tick.new.self } in
+    tick_stopped w m r c.args.now c.args.word (Some c.args.running.now) (Some u) _ _ (c.in_default.ensures.stopped r.mote (store_at w m) mote.1)

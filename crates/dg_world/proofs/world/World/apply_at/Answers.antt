@@ -1,9 +1,39 @@
-use Rattle.std.proofs.Common.{◌≡◌, ◌+◌, ◌<◌, ◌^◌, length, map, refl, ◌∙◌, arith}
+use Rattle.std.proofs.Common.{◌≡◌, ◌+◌, ◌<◌, ◌≤◌, ◌^◌, length, map, refl, ◌∙◌, arith}
 use Rattle.std.proofs.lemmas.List.{map-set, length-map}
 use Rattle.dg_rules.specs.Events.{mote_of, dt_of}
 use Rattle.dg_world.proofs.DoneLemmas.{event_mote}
-use Rattle.dg_world.proofs.PlaceLemmas.{got_or, stands_at, applied_at, halts_there}
+use Rattle.dg_world.proofs.PlaceLemmas.{got_or, sent_at, stands_at, runs_at, applied_at, halts_there}
 use Rattle.dg_world.proofs.world.World.apply_at.Goals as goal
+
+pub step_at-requires-clause-fits : goal.step_at-requires-clause-fits
+step_at-requires-clause-fits g c =
+    let x = c.requires.world in
+    (length x.0.sites, x.2, x.1.few_motes)
+
+pub step_at-requires-clause-mote : goal.step_at-requires-clause-mote
+step_at-requires-clause-mote g c =
+    let device = g.N.Nor.device in
+    let x = c.requires.world in
+    let boards = c.args.boards.now in
+    let i = c.from-index.result in
+    let in_world = event_mote (length x.0.sites) c.args.step.now.event x.2.event in
+    let known : i < length x.0.sites = omega (arith, c.from-index.ensures ∙ c.mote_at-mote.ensures, in_world) in
+    let wide : i < length boards = omega (arith, known, x.1.boards_enough, length-map boards device) in
+    runs_at c.args.self.now (map device boards) x.0 i _ _ _ x.1 known (got_or device boards i c.index-boards-index.result wide) c.index_mut-runs.ensures.value (omega arith)
+
+pub step_at-requires-clause-moment : goal.step_at-requires-clause-moment
+step_at-requires-clause-moment g c =
+    let x = c.requires.world in
+    omega (arith, x.1.moment, x.1.events, x.1.early, c.requires.few, c.from.ensures, c.dt_at.type_inv)
+
+pub send-requires-clause-known : goal.send-requires-clause-known
+send-requires-clause-known g c =
+    let x = c.requires.world in
+    let in_world = event_mote (length x.0.sites) c.args.step.now.event x.2.event in
+    omega (arith, c.mote_at-mote.ensures, in_world, x.1.few_motes)
+
+pub send-requires-clause-room : goal.send-requires-clause-room
+send-requires-clause-room g c = c.requires.place
 
 pub returns-in-Ok : goal.returns-in-Ok
 returns-in-Ok g c = λ w is fits.
@@ -16,12 +46,13 @@ returns-in-Ok g c = λ w is fits.
     let known : i < length w.sites = omega (arith, at, in_world) in
     let wide : i < length boards = omega (arith, known, is.boards_enough, length-map boards device) in
     let here = got_or device boards i c.index-boards-index.result wide in
-    let s = stands_at c.args.self.now (map device boards) w i (mote_of x.event) _ c.index-runs.result.now is at known here c.index-runs.ensures in
+    let s = stands_at c.args.self.now (map device boards) w i (mote_of x.event) _ c.index_mut-runs.result.now is at known here c.index_mut-runs.ensures.value in
     let now : c.args.self.now.moment + c.from.result ≡ w.moment + dt_of x.event = omega (arith, is.moment, c.from.ensures, c.dt_at.ensures) in
     let short : dt_of x.event < 2 ^ 32 = omega (arith, c.dt_at.ensures, c.dt_at.type_inv) in
-    let stepped = c.in-Ok.ensures w fits s.stands is.declared s.mote now in
-    applied_at c.args.self.now _ (map device boards) _ w x i c.in-Ok.runs _ (device c.step_at.new.board) c.args.out.now.items c.step_at.new.out.items (map-set device boards i c.step_at.new.board) is at known c.requires.few short
-    (record { moment_then = now; events = refl; images = refl; motes = refl }) here stepped
+    let stepped = c.in-Ok.ensures w fits is.shared s now in
+    applied_at c.args.self.now _ (map device boards) _ w x c.args.loud i c.step_at.new.runs c.in-Ok.sent _ (device c.step_at.new.board) c.args.out.now.items c.step_at.new.out.items (map-set device boards i c.step_at.new.board) is at known c.requires.few short
+    (record { moment_then = now; events = refl; images = refl; links = refl; sends = λ before carries. sent_at c.mote_at-mote.result i c.in-Ok.sent before c.send.new.self c.from-index.ensures (c.send.ensures before carries); motes = refl }) here stepped
+    (λ z reports step. c.agreement_is_kept.ensures.timely w z x reports is.timely fits step)
 
 pub returns-in-Err : goal.returns-in-Err
 returns-in-Err g c = λ w is fits.
@@ -34,7 +65,7 @@ returns-in-Err g c = λ w is fits.
     let known : i < length w.sites = omega (arith, at, in_world) in
     let wide : i < length boards = omega (arith, known, is.boards_enough, length-map boards device) in
     let here = got_or device boards i c.index-boards-index.result wide in
-    let s = stands_at c.args.self.now (map device boards) w i (mote_of x.event) _ c.index-runs.result.now is at known here c.index-runs.ensures in
+    let s = stands_at c.args.self.now (map device boards) w i (mote_of x.event) _ c.index_mut-runs.result.now is at known here c.index_mut-runs.ensures.value in
     let now : c.args.self.now.moment + c.from.result ≡ w.moment + dt_of x.event = omega (arith, is.moment, c.from.ensures, c.dt_at.ensures) in
-    let stepped = c.in-Err.ensures w fits s.stands is.declared s.mote now in
-    halts_there c.in-Err.halt c.fault_at.result c.args.self.now _ (map device boards) _ w x i c.mote_at-mote.result _ (device c.step_at.new.board) c.args.out.now.items c.step_at.new.out.items (map-set device boards i c.step_at.new.board) c.fault_at.ensures c.from-index.ensures is at known here stepped
+    let stepped = c.in-Err.ensures w fits is.shared s now in
+    halts_there c.in-Err.halt c.fault_at.result c.args.self.now _ (map device boards) _ w x c.args.loud _ i c.mote_at-mote.result _ (device c.step_at.new.board) c.args.out.now.items c.step_at.new.out.items (map-set device boards i c.step_at.new.board) c.fault_at.ensures c.from-index.ensures is at known here stepped

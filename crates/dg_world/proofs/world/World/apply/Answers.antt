@@ -1,0 +1,37 @@
+use Rattle.std.proofs.Common.{refl}
+use Rattle.dg_world.proofs.PlaceLemmas.{reserved, on_ok}
+use Rattle.dg_world.proofs.world.World.apply.Goals as goal
+
+pub apply_roomy-requires-clause-world : goal.apply_roomy-requires-clause-world
+apply_roomy-requires-clause-world g c =
+    let x = c.requires.world in
+    (x.0, reserved c.args.self.now c.reserve.new.self _ x.0 c.reserve.ensures.same x.1, x.2)
+
+pub returns-then-is_err-clause-unchanged : goal.returns-then-is_err-clause-unchanged
+returns-then-is_err-clause-unchanged g c = λ fault. (λ w is. reserved c.args.self.now c.reserve.new.self _ w c.reserve.ensures.same is, refl)
+
+pub returns-clause-applied : goal.returns-clause-applied
+returns-clause-applied g c = on_ok c.apply_roomy.result (λ applied w is. applied w (reserved c.args.self.now c.reserve.new.self _ w c.reserve.ensures.same is)) c.apply_roomy.ensures.applied
+
+pub returns-clause-too_many : goal.returns-clause-too_many
+returns-clause-too_many g c = λ fault w is. c.apply_roomy.ensures.too_many fault w (reserved c.args.self.now c.reserve.new.self _ w c.reserve.ensures.same is)
+
+pub returns-clause-full : goal.returns-clause-full
+returns-clause-full g c = λ w is most. c.apply_roomy.ensures.full w (reserved c.args.self.now c.reserve.new.self _ w c.reserve.ensures.same is) most
+
+pub returns-clause-unchanged : goal.returns-clause-unchanged
+returns-clause-unchanged g c = λ fault.
+    let same = c.apply_roomy.ensures.unchanged fault in
+    (λ w is. same.0 w (reserved c.args.self.now c.reserve.new.self _ w c.reserve.ensures.same is), same.1)
+
+pub returns-clause-untold : goal.returns-clause-untold
+returns-clause-untold g c = c.apply_roomy.ensures.untold
+
+pub returns-clause-flash : goal.returns-clause-flash
+returns-clause-flash g c = λ board fault w is. c.apply_roomy.ensures.flash board fault w (reserved c.args.self.now c.reserve.new.self _ w c.reserve.ensures.same is)
+
+pub returns-clause-no_image : goal.returns-clause-no_image
+returns-clause-no_image g c = λ fault w is. c.apply_roomy.ensures.no_image fault w (reserved c.args.self.now c.reserve.new.self _ w c.reserve.ensures.same is)
+
+pub returns-clause-a_volume : goal.returns-clause-a_volume
+returns-clause-a_volume g c = c.apply_roomy.ensures.a_volume

@@ -1,0 +1,88 @@
+//! The frames that were sent.
+ghost use Rattle.std.specs.Prelude.{◌≡◌, ◌+◌, ◌<◌, ◌≤◌, ◌++◌, List, [], Some, None, vec_len, OnOk, option_map};
+ghost use Rattle.std.specs.Vec.{vec_capacity};
+ghost use Rattle.dg_rules.specs.Sizes.{most_motes};
+ghost use Rattle.dg_rules.specs.World.{Sent, last_by};
+ghost use Rattle.dg_world.specs.Airs.{Carries, sent_of, sent_now, frame_in};
+
+use dg_frame::Frame;
+use std::alloc::{AllocError, Global};
+
+/// The most motes of a world.
+const MOST_MOTES: usize = 16;
+
+/// A frame that was sent, and by which mote.
+#[derive(Drop)]
+pub struct SentFrame {
+    pub(crate) by: u8,
+    pub(crate) frame: Frame,
+}
+
+/// The frames that were sent, the first one first. Each is found by its number, and the last one of a mote by the mote.
+#[derive(Drop)]
+pub struct Air {
+    pub(crate) frames: Vec<SentFrame>,
+    /// The number of each mote's last frame, counted from 1, and 0 where it sent none.
+    pub(crate) last: [usize; MOST_MOTES],
+}
+
+impl Air {
+    pub(crate) fn new(alloc: Global) -> Air
+        ensures { Carries result [] }
+    {
+        Air {
+            frames: Vec::new(alloc),
+            last: [0; MOST_MOTES],
+        }
+    }
+
+    /// Makes room for one frame more.
+    pub(crate) fn reserve(&mut self) -> Result<(), AllocError>
+        ensures same { (sent : List Sent) → Carries self.old sent → Carries self.new sent }
+        ensures room { OnOk result (vec_len self.new.frames + 1 ≤ vec_capacity self.new.frames) }
+    {
+        match self.frames.reserve(1) {
+            Ok(()) => Ok(()),
+            Err(_) => Err(AllocError),
+        }
+    }
+
+    /// A mote sends a frame, if it does, which gets the next number. There is room for it.
+    pub(crate) fn send(&mut self, by: u8, sent: Option<Frame>)
+        requires known { by < most_motes }
+        requires room { vec_len self.old.frames + 1 ≤ vec_capacity self.old.frames }
+        ensures { (before : List Sent) → Carries self.old before → Carries self.new (before ++ sent_now by sent) }
+    {
+        if let Some(frame) = sent {
+            self.push(by, frame);
+        }
+    }
+
+    /// A mote sends a frame. There is room for it.
+    fn push(&mut self, by: u8, frame: Frame)
+        requires known { by < most_motes }
+        requires room { vec_len self.old.frames + 1 ≤ vec_capacity self.old.frames }
+        ensures { (before : List Sent) → Carries self.old before → Carries self.new (before ++ sent_now by (Some frame)) }
+    {
+        self.frames.push_reserved(SentFrame { by, frame });
+        self.last[usize::from(by)] = self.frames.len();
+    }
+
+    /// The frame with this number.
+    pub(crate) fn get(&self, number: usize) -> Option<&SentFrame>
+        ensures { (sent : List Sent) → Carries self.now sent → option_map (λ f. sent_of f.now) result ≡ frame_in sent number }
+    {
+        if number == 0 || self.frames.len() < number {
+            return None;
+        }
+        Some(&self.frames[number - 1])
+    }
+
+    /// The last frame of a mote.
+    pub(crate) fn last_of(&self, by: u8) -> Option<&SentFrame>
+        requires known { by < most_motes }
+        ensures { (sent : List Sent) → Carries self.now sent → option_map (λ f. sent_of f.now) result ≡ last_by by sent None }
+    {
+        self.get(self.last[usize::from(by)])
+    }
+}
