@@ -2,7 +2,6 @@
 use Rattle.std.proofs.Common.{◌≡◌, ℕ, ◌+◌, ◌<◌, ◌&&◌, not, Bool, true, false, if◌then◌else◌, List, [], ◌∷◌, ◌++◌, length, map, refl, append-nil, append_assoc, ap, sym, ◌∙◌, subst, arith}
 use Rattle.std.proofs.lemmas.Bool.Decides.{nat_tests}
 use Rattle.std.proofs.lemmas.List.{map-append}
-use Rattle.std.proofs.lemmas.List.Sums.{sum_by-append}
 use Rattle.std.proofs.lemmas.Grind.{flat_map-append}
 use Rattle.std.specs.Prelude.{Option, Some, None, IfSome, nat_lt, option_map}
 use Rattle.std.specs.List.{AllByRecursion}
@@ -22,7 +21,7 @@ use Rattle.dg_script.specs.declared.line.Line.{Line}
 use Rattle.dg_script.specs.declared.line.Line.TheVariants.{Nothing, Motes, Golden, Boards, Link, Image, Cut, Happens, Round, Sweeps}
 use Rattle.dg_script.specs.declared.report.Report.{Report}
 use Rattle.dg_script.specs.declared.report.Report.TheVariants as report
-use Rattle.dg_rules.specs.World.{World, Running, counted, with_site}
+use Rattle.dg_rules.specs.World.{World, counted}
 use Rattle.dg_rules.specs.Changes.{is_taken, declared_lines}
 use Rattle.dg_rules.specs.Events.{Does, Refuses, Goes, Deed, does, mote_of, dt_of}
 use Rattle.dg_rules.specs.Steps.{WorldStep, DeclareStep, StepDoes, Ended, declared_as, blows, and_sent}
@@ -34,7 +33,7 @@ use Rattle.dg_cli.specs.Items.{Beginning, begin_by, begin_behind, beginning_of, 
 use Rattle.dg_cli.specs.Boards.{BoardsStand}
 use Rattle.dg_cli.specs.Ending.{events_in}
 use Rattle.dg_cli.specs.Outcome.{RunsTo, item_played, played_text}
-use Rattle.dg_cli.specs.Playing.{IsDeclared, Counted, Seated, InWorld, Stood, CountsEvents, RunsOn, LineRuns}
+use Rattle.dg_cli.specs.Playing.{IsDeclared, Counted, Seated, InWorld, Stood, CountsEvents, LineRuns}
 use Rattle.dg_cli.specs.declared.player.Player.{Player}
 
 -- ---- one line behind others

@@ -16,7 +16,7 @@ use Rattle.dg_rules.specs.Runs.{Played}
 use Rattle.dg_rules.specs.Golden.{PlaysGolden}
 use Rattle.dg_rules.specs.Premises.{IsHonestThen}
 use Rattle.dg_cli.specs.Boards.{BoardStopped}
-use Rattle.dg_script.specs.Items.{items_behind, items_of}
+use Rattle.dg_script.specs.Items.{items_behind}
 use Rattle.dg_cli.specs.Items.{begin_behind, beginning_of, motes_in, lacking, IsNoFrame}
 use Rattle.dg_script.specs.Script.{Script}
 use Rattle.dg_rules.specs.World.{World}

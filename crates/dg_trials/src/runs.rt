@@ -18,6 +18,20 @@ const CUT_IN_COPY: &[u8] =
 const CUT_IN_COPY_REPORT: &[u8] =
     b"start 0 0 1 1 58e5\nhave 0 1 1 2\norder 0 1 1 1\noff 0\nstart 0 1 1 9 31c3\nend 6\nmote 0 on 1 1\nkept 0 1 1 2\n";
 
+/// Two motes advert, one asks, and the other serves.
+const BY_RADIO: &[u8] =
+    b"motes 2\ngolden base 0 hex:41\nlink 0 1\nimage 1 1 blink hex:313233343536373839\nreset 0 0 0\nreset 1 0 0\ntick 0 250 0\nlast 0 1 0 0\ntick 1 0 0\ninject 0 1 1 0 0\ntick 0 250 0\nlast 0 1 0 0\ntick 1 1 0\nlast 1 0 0 0\ntick 0 0 0\ntick 0 15 0\ntick 0 1 0\n";
+
+const BY_RADIO_REPORT: &[u8] =
+    b"start 0 0 1 1 58e5\nstart 1 0 1 1 58e5\nsent 0 advert\nhave 0 1 1 2\nsent 0 advert\nhave 1 1 1 0\nsent 1 request 0 1 1 0 48\nsent 0 data 1 1 0 0\nsent 0 data 1 1 0 1\nend 13\nmote 0 on 0 1\nkept 0 1 1 2\nmote 1 on 0 1\nkept 1 1 1 0\n";
+
+/// Frames that are not heard: there is no link, no such frame, and a mote is off.
+const NOT_HEARD: &[u8] =
+    b"motes 2\ngolden base 0 hex:41\nreset 0 0 0\nlast 1 0 0 0\nhear 0 0 0 1\nhear 1 0 0 1\n";
+
+const NOT_HEARD_REPORT: &[u8] =
+    b"start 0 0 1 1 58e5\nno 0 link\nno 0 frame\nno 1 off\nend 4\nmote 0 on 0 1\nmote 1 off\n";
+
 /// More room than a report of this module needs, in bytes.
 const AMPLE: usize = 4096;
 
@@ -74,9 +88,11 @@ fn answer(
 
 #[test]
 fn scripts_have_their_reports(rt: HostRuntime) -> Result<(), Fail> {
-    let rows: [(&[u8], Status, &[u8]); 5] = [
+    let rows: [(&[u8], Status, &[u8]); 7] = [
         (ONE_START, Status::Done, ONE_START_REPORT),
         (CUT_IN_COPY, Status::Done, CUT_IN_COPY_REPORT),
+        (BY_RADIO, Status::Done, BY_RADIO_REPORT),
+        (NOT_HEARD, Status::Done, NOT_HEARD_REPORT),
         (
             b"motes 1\ngolden base 0 hex:ff\n",
             Status::Done,
@@ -90,7 +106,7 @@ fn scripts_have_their_reports(rt: HostRuntime) -> Result<(), Fail> {
         ),
     ];
     for (script, status, report) in rows {
-        let told = answer(rt.alloc(), "replay", script, calm(rt.alloc()), 1)?;
+        let told = answer(rt.alloc(), "replay", script, calm(rt.alloc()), 2)?;
         assert_eq!(rt; told.status, status);
         assert_eq!(rt; told.written.as_slice(), report);
     }
