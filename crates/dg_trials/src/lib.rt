@@ -4,7 +4,9 @@
 #[cfg(test)]
 mod boards;
 #[cfg(test)]
-mod lines;
+mod faults;
+#[cfg(test)]
+mod motes;
 #[cfg(test)]
 mod reports;
 #[cfg(test)]
