@@ -1,0 +1,10 @@
+pub mod NewestLemmas
+pub mod StoreLemmas
+pub mod GrowLemmas
+pub mod FreeLemmas
+pub mod RestLemmas
+pub mod PipelineLemmas
+pub mod RaiseLemmas
+pub mod CompleteLemmas
+pub mod WalkLemmas
+pub mod RoundLemmas

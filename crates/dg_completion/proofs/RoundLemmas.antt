@@ -1,0 +1,361 @@
+-- A round brings the mote that is behind one page.
+use Rattle.std.proofs.Common.{◌≡◌, ◌≢◌, ℕ, zero, suc, ◌+◌, ◌*◌, ◌<◌, ◌≤◌, Bool, true, false, ◌&&◌, ◌||◌, cond, eqb, leb, ltb, List, [], ◌∷◌, ◌++◌, length, map, replicate, get_or, Option, Some, None, option_map, IfSome, Result, Ok, refl, sym, ap, subst, ◌∙◌, inl, inr, arith}
+use Rattle.std.specs.List.{AllByRecursion, range_with_len, list_any}
+use Rattle.std.proofs.lemmas.Bool.{eq-eqb, ne_eqb, cases_eq, or_cases, or_right}
+use Rattle.std.proofs.lemmas.List.{length-append, get_or-set_same, get_or-set_other, get_or-take}
+use Rattle.std.proofs.lemmas.List.FromFn.{length-map-range_with_len}
+use Rattle.dg_nor.specs.Trail.{last}
+use Rattle.dg_bits.specs.Sets.{below}
+use Rattle.dg_object.specs.Object.{Row, object, profile}
+use Rattle.dg_slot.specs.Kept.{Held, with_page}
+use Rattle.dg_volume.specs.Store.{Store, held}
+use Rattle.dg_volume.specs.Changes.{paged}
+use Rattle.dg_volume.specs.Table.{row_at}
+use Rattle.dg_volume.specs.Agreement.{Agrees, KeepsRow}
+use Rattle.dg_frame.specs.declared.Message.{Message}
+use Rattle.dg_frame.specs.declared.FrameFault.{FrameFault}
+use Rattle.dg_frame.specs.declared.Message.TheVariants.{Request}
+use Rattle.dg_frame.specs.Spelling.{frame_of}
+use Rattle.dg_frame.specs.Grammar.{message_of}
+use Rattle.dg_mote.specs.Model.{maintains}
+use Rattle.dg_mote.specs.Summary.{advert_of, entries_of, ahead_in, entry_by, ahead_of}
+use Rattle.dg_mote.specs.Hears.{heard_of, by_message}
+use Rattle.dg_mote.specs.Effects.{silent, frame_effect}
+use Rattle.dg_mote.specs.Agreement.{ReceivesRow, ModeAgrees}
+use Rattle.dg_mote.specs.Spots.{Spot, pace, ticked, after_ticks, last_sent, hears, hears_all}
+use Rattle.dg_mote.specs.Drained.{Drained}
+use Rattle.dg_mote.specs.Completing.{SendsEach, AskLaw, RequestLaw, ServeLaw, TakeLaw, DrainLaw, AdvertLaw, packet_message, KeepsNext, Asked}
+use Rattle.dg_rules.specs.World.{World, Site, Sent, site, store_at, linked, last_frame}
+use Rattle.dg_rules.specs.Events.{Does, Refuses, does, unless_off, hear_by, of_effect}
+use Rattle.dg_rules.specs.Steps.{WorldStep, StepDoes}
+use Rattle.dg_rules.specs.Premises.{WorldAgrees}
+use Rattle.dg_rounds.specs.Rounds.{round, times, paced, passed}
+use Rattle.dg_base.specs.declared.events.Event.{Event}
+use Rattle.dg_base.specs.declared.events.Step.{Step}
+use Rattle.dg_script.specs.declared.report.Report.{Report}
+use Rattle.dg_script.specs.declared.report.Cause.TheVariants as cause
+use Rattle.dg_completion.specs.Rests.{IsFree}
+use Rattle.dg_completion.specs.Completion.{Follows, Grows, IsOn, HasRoomAt, is_ahead, least_ahead, RoundLaw, Raises, RaisedFrom}
+use Rattle.dg_completion.proofs.GrowLemmas.{free_grows, follows_split, all_append, all_replicate, all_times, link_ends}
+use Rattle.dg_completion.proofs.WalkLemmas.{Spelled, WalkLaws, said_at, well_at, IsTold, At, Beside, Walks, made, made_site, made_beside, newer_frame, frame_told, tick_walks, ticks_walk}
+
+-- ---- a frame is heard
+
+pub hear_walks : (w u : World) (a b : ℕ) (x : Spot) (message : Message) (reports : List Report) → At w b x → linked w a b ≡ true → last_frame w a ≡ frame_told a (Some message)
+    → message_of (frame_of message) ≡ Ok message → WorldStep w (record { event = passed a b; cut = None }) u reports → Walks b w u (hears x w.moment message) None 0
+unfolding WorldStep does frame_told frame_effect heard_of hears
+hear_walks w u a b x message reports at link sent spelled walk =
+    let step : Step = record { event = passed a b; cut = None } in
+    let now : w.moment + 0 ≡ w.moment = omega arith in
+    let f : Sent = record { by = a; bytes = frame_of message } in
+    let d1 = subst (λ (s : Site). StepDoes (unless_off s.runs (cond (linked w a b) (hear_last_by s (last_frame w a)) (Refuses cause.Link))) w step u reports) at.site_is walk in
+    let d2 = subst (λ c. StepDoes (cond c (hear_last_by here (last_frame w a)) (Refuses cause.Link)) w step u reports) link d1 in
+    let d3 = subst (λ o. StepDoes (hear_last_by here o) w step u reports) sent d2 in
+    let d4 = subst (λ (m : Result Message FrameFault). StepDoes (of_effect w (silent (by_message m x.mote x.store (w.moment + 0) 0)) (Some at.key)) w step u reports) spelled d3 in
+    let done = subst (λ n. StepDoes (of_effect w (silent (by_message (Ok message) x.mote x.store n 0)) (Some at.key)) w step u reports) now d4 in
+    let t = by_message (Ok message) x.mote x.store w.moment 0 in
+    let new : Site = record { store = last t.trail; runs = Some (record { key = at.key; mote = t.mote }) } in
+    let runs : Some (record { key = at.key; mote = t.mote }) ≡ done.0 = cc in
+    let same : u ≡ made w b 0 new None = done.2 ∙ ap (λ r. made w b 0 (record { store = last t.trail; runs = r }) None) (sym runs) in
+    subst (λ v. Walks b w v (record { store = last t.trail; mote = t.mote }) None 0) (sym same) (record {
+      at = record { there = subst (λ n. b < n) (sym (made_beside w b 0 new None).count) at.there; key = at.key; site_is = made_site w b 0 new None at.there };
+      beside = made_beside w b 0 new None;
+      frame = refl;
+      moment = refl;
+    })
+  where
+    here : Site
+    here = record { store = x.store; runs = Some (record { key = at.key; mote = x.mote }) }
+
+    hear_last_by : Site → Option Sent → Does
+    hear_last_by s None = Refuses cause.Frame
+    hear_last_by s (Some f) = hear_by w s.store s.runs (w.moment + 0) 0 f.bytes
+
+-- ---- two motes
+
+pub at_beside : (m b : ℕ) (w u : World) (x : Spot) → b ≢ m → Beside m w u → At w b x → At u b x
+at_beside m b w u x other beside at =
+    record { there = subst (λ n. b < n) (sym beside.count) at.there; key = at.key; site_is = beside.others b other ∙ at.site_is }
+
+pub linked_beside : (a b : ℕ) (w u : World) → u.links ≡ w.links → linked w a b ≡ true → linked u a b ≡ true
+linked_beside a b w u e l = ap (λ ls. list_any (λ (k : ℕ × ℕ). (eqb k.0 a && eqb k.1 b) || (eqb k.0 b && eqb k.1 a)) ls) e ∙ l
+
+-- nothing but motes a and b changed
+pub record Between (a b : ℕ) (w u : World) : Type 0 where
+  pub links : u.links ≡ w.links
+  pub others : (j : ℕ) → j ≢ a → j ≢ b → site u j ≡ site w j
+
+between_none : (a b : ℕ) (w : World) → Between a b w w
+between_none a b w = record { links = refl; others = λ j h l. refl }
+
+between_first : (a b : ℕ) (w u v : World) → Beside a w u → Between a b u v → Between a b w v
+between_first a b w u v x y = record { links = y.links ∙ x.links; others = λ j h l. y.others j h l ∙ x.others j h }
+
+between_second : (a b : ℕ) (w u v : World) → Beside b w u → Between a b u v → Between a b w v
+between_second a b w u v x y = record { links = y.links ∙ x.links; others = λ j h l. y.others j h l ∙ x.others j l }
+
+between_then : (a b : ℕ) (w u v : World) → Between a b w u → Between a b u v → Between a b w v
+between_then a b w u v x y = record { links = y.links ∙ x.links; others = λ j h l. y.others j h l ∙ x.others j h l }
+
+frame_said : (a : ℕ) (m : Message) → Some (record { by = a; bytes = frame_of m }) ≡ frame_told a (Some m)
+unfolding frame_told
+frame_said a m = refl
+
+-- a tick at a that sends, and b hears it: so often
+pub record Paired (ms : List Message) (a b : ℕ) (w v : World) (xa xb : Spot) : Type 0 where
+  pub at_a : At v a (after_ticks (length ms) xa w.moment)
+  pub at_b : At v b (hears_all ms xb w.moment)
+  pub between : Between a b w v
+
+pub pairs_walk : WalkLaws → (ms : List Message) (w v : World) (a b : ℕ) (xa xb : Spot) → WorldAgrees w → At w a xa → At w b xb → a ≢ b → linked w a b ≡ true → Follows w (times (length ms) (paced a ∷ passed a b ∷ [])) v
+    → SendsEach ms xa w.moment → Paired ms a b w v xa xb
+unfolding Follows times after_ticks hears_all SendsEach
+pairs_walk laws [] w v a b xa xb good at_a at_b other link f sends = subst (λ u. Paired [] a b w u xa xb) f (record { at_a = at_a; at_b = at_b; between = between_none a b w })
+pairs_walk laws (m ∷ ms) w v a b xa xb good at_a at_b other link f sends =
+    let w1 = f.0 in
+    let spelled : Spelled m = subst (λ o. IfSome o Spelled) sends.0 (said_at laws w a xa good at_a) in
+    let one = tick_walks w w1 a xa f.1 at_a f.2 in
+    let rest1 = f.3 in
+    let w2 = rest1.0 in
+    let link1 = linked_beside a b w w1 one.beside.links link in
+    let said : last_frame w1 a ≡ frame_told a (Some m) = one.frame ∙ ap (λ o. newer_frame a o (last_frame w a)) sends.0 ∙ frame_said a m in
+    let b1 = at_beside a b w w1 xb (λ e. other (sym e)) one.beside at_b in
+    let two = hear_walks w1 w2 a b xb m rest1.1 b1 link1 said spelled rest1.2 in
+    let a2 = at_beside b a w1 w2 (ticked xa (w.moment + pace)) other two.beside one.at in
+    let moment : w2.moment ≡ w.moment + pace = two.moment ∙ ap (λ n. n + 0) one.moment ∙ omega arith in
+    let xb2 : At w2 b (hears xb (w.moment + pace) m) = subst (λ t. At w2 b (hears xb t m)) one.moment two.at in
+    let good1 = (laws.free w w1 (paced a) f.1 good refl f.2).good in
+    let good2 = (laws.free w1 w2 (passed a b) rest1.1 good1 refl rest1.2).good in
+    let more = pairs_walk laws ms w2 v a b (ticked xa (w.moment + pace)) (hears xb (w.moment + pace) m) good2 a2 xb2 other (linked_beside a b w1 w2 two.beside.links link1) rest1.3
+    (subst (λ t. SendsEach ms (ticked xa (w.moment + pace)) t) (sym moment) sends.1) in
+    record {
+      at_a = subst (λ t. At v a (after_ticks (length ms) (ticked xa (w.moment + pace)) t)) moment more.at_a;
+      at_b = subst (λ t. At v b (hears_all ms (hears xb (w.moment + pace) m) t)) moment more.at_b;
+      between = between_first a b w w1 v one.beside (between_second a b w1 w2 v two.beside more.between);
+    }
+
+-- ---- ahead, as adverts tell it
+
+alike : (table : List Row) (i : ℕ) (h g : Held) → KeepsRow table i h → KeepsRow table i g → h.version ≡ g.version → (h.pages ≡ g.pages) × (h.crc ≡ g.crc)
+alike table i h g a b e =
+    let twice : Some a.row ≡ Some b.row = sym a.in_table ∙ ap (row_at table i) e ∙ b.in_table in
+    let row : a.row ≡ b.row = cc in
+    (a.pages ∙ ap (λ r. (profile r).pages) row ∙ sym b.pages, a.crc ∙ ap (λ r. (profile r).crc) row ∙ sym b.crc)
+
+-- the tests of an advert and of the stores are one
+same_ahead : (table : List Row) (i : ℕ) (o p : Option Held) → IfSome o (KeepsRow table i) → IfSome p (KeepsRow table i) → is_ahead o p ≡ ahead_of (entry_by o) p
+same_ahead table i None None a b = refl
+same_ahead table i None (Some g) a b = refl
+same_ahead table i (Some h) None a b = refl
+same_ahead table i (Some h) (Some g) a b = elim (cases_eq h.version g.version) [
+  | inl e ↦
+      let both = alike table i h g a b e in
+      ap (λ c. leb 1 (length h.complete) && (ltb g.version h.version || (c && ltb (length g.complete) (length h.complete))))
+      (eq-eqb g.version h.version (sym e) ∙ sym (λ k. (eq-eqb h.version g.version e k && eq-eqb h.pages g.pages both.0 k) && eq-eqb h.crc g.crc both.1 k))
+  | inr other ↦
+      ap (λ c. leb 1 (length h.complete) && (ltb g.version h.version || (c && ltb (length g.complete) (length h.complete))))
+      (ne_eqb g.version h.version (λ e. other (sym e)) ∙ sym (λ k. (ne_eqb h.version g.version other k && eqb h.pages g.pages) && eqb h.crc g.crc))
+]
+
+same_least : (table : List Row) (s t : Store) → Agrees table s → Agrees table t → least_ahead s t ≡ ahead_in (entries_of s) t
+unfolding least_ahead ahead_in
+same_least table s t a b =
+    let one : (i : ℕ) → is_ahead (held s i) (held t i) ≡ ahead_of (entry_by (held s i)) (held t i) = λ i. same_ahead table i (held s i) (held t i) (a.kept i) (b.kept i) in
+    λ k. cond (one 1 k) (Some 1) (cond (one 2 k) (Some 2) (cond (one 3 k) (Some 3) None))
+
+least_same : (s t s2 t2 : Store) → ((i : ℕ) → held s2 i ≡ held s i) → ((i : ℕ) → held t2 i ≡ held t i) → least_ahead s2 t2 ≡ least_ahead s t
+unfolding least_ahead
+least_same s t s2 t2 a b = λ k. cond (is_ahead (a 1 k) (b 1 k)) (Some 1) (cond (is_ahead (a 2 k) (b 2 k)) (Some 2) (cond (is_ahead (a 3 k) (b 3 k)) (Some 3) None))
+
+raised : (o : Option Held) (ahead kept : Held) (page : List ℕ) → kept.version ≡ ahead.version → KeepsNext o ahead kept → RaisedFrom o ahead (with_page kept page)
+raised None ahead kept page v n = (v, length-append kept.complete (page ∷ []) ∙ ap (λ (c : List (List ℕ)). length c + 1) n.complete)
+raised (Some h) ahead kept page v n = (
+  v,
+  elim n [
+    | inl same ↦
+        length-append kept.complete (page ∷ []) ∙ ap (λ (g : Held). length g.complete + 1) same.1
+        ∙ sym (ap (λ b. cond b (length h.complete + 1) 1) (eq-eqb h.version ahead.version same.0))
+    | inr newer ↦
+        length-append kept.complete (page ∷ []) ∙ ap (λ (c : List (List ℕ)). length c + 1) newer.1.complete
+        ∙ sym (ap (λ b. cond b (length h.complete + 1) 1) (ne_eqb h.version ahead.version (λ e. omega (arith, newer.0, e))))
+  ],
+)
+
+drained_later : (x : Spot) (now later : ℕ) → now ≤ later → Drained x now → Drained x later
+drained_later x now later h d = record { timer = d.timer; maintains = d.maintains; unheard = d.unheard; gesture = d.gesture; order = d.order; windows = λ after i from. d.windows after i (omega (arith, h, from)) }
+
+store_at_is : (w : World) (m : ℕ) (x : Spot) → At w m x → store_at w m ≡ x.store
+store_at_is w m x at = ap (λ (s : Site). s.store) at.site_is
+
+at_on : (w : World) (m : ℕ) → m < length w.sites → (o : IsOn w m) → At w m (record { store = store_at w m; mote = o.running.mote })
+at_on w m h o = record { there = h; key = o.running.key; site_is = ap (λ r. record { store = (site w m).store; runs = r }) o.runs }
+
+told_of : (m : ℕ) (f : Option Sent) (o : Option Message) (message : Message) → IsTold m f o → o ≡ Some message → (f ≡ frame_told m (Some message)) × Spelled message
+told_of m f o message t e = subst (IsTold m f) e t
+
+some_there : (xs : List (Option Held)) (i : ℕ) (h : Held) → get_or xs i None ≡ Some h → i < length xs
+some_there [] i h e = cc
+some_there (x ∷ xs) zero h e = omega arith
+some_there (x ∷ xs) (suc i) h e = omega (arith, some_there xs i h e)
+
+linked_back : (a b : ℕ) (w : World) → linked w a b ≡ true → linked w b a ≡ true
+linked_back a b w e = by_links w.links e
+  where
+    or_swap : (x y : Bool) → (x || y) ≡ (y || x)
+    or_swap true true = refl
+    or_swap true false = refl
+    or_swap false true = refl
+    or_swap false false = refl
+
+    by_links : (ls : List (ℕ × ℕ)) → list_any (λ (k : ℕ × ℕ). (eqb k.0 a && eqb k.1 b) || (eqb k.0 b && eqb k.1 a)) ls ≡ true → list_any (λ (k : ℕ × ℕ). (eqb k.0 b && eqb k.1 a) || (eqb k.0 a && eqb k.1 b)) ls ≡ true
+    by_links [] e = e
+    by_links (l ∷ ls) e = elim (or_cases ((eqb l.0 a && eqb l.1 b) || (eqb l.0 b && eqb l.1 a)) _ e) [
+      | inl here ↦ ap (λ c. c || list_any (λ (k : ℕ × ℕ). (eqb k.0 b && eqb k.1 a) || (eqb k.0 a && eqb k.1 b)) ls) (or_swap (eqb l.0 b && eqb l.1 a) (eqb l.0 a && eqb l.1 b) ∙ here)
+      | inr more ↦ or_right ((eqb l.0 b && eqb l.1 a) || (eqb l.0 a && eqb l.1 b)) (list_any (λ (k : ℕ × ℕ). (eqb k.0 b && eqb k.1 a) || (eqb k.0 a && eqb k.1 b)) ls) (by_links ls more)
+    ]
+
+module _ (laws : WalkLaws) (drain : DrainLaw) (advert : AdvertLaw) (ask : AskLaw) (request : RequestLaw) (serve : ServeLaw) (take_all_packets : TakeLaw) where
+  room_at : (es : List Event) (u v : World) (m : ℕ) (x : Spot) → WorldAgrees u → AllByRecursion IsFree es → Follows u es v → At u m x → HasRoomAt v m → 3 ≤ x.store.room
+  room_at es u v m x good all f at room = omega (arith, room, (free_grows laws.free es u v good all f).room m, ap (λ (s : Store). s.room) (store_at_is u m x at))
+
+  -- from the moment at which b asks
+  second : (w w3 w4 v : World) (a b i : ℕ) (x1 x2 z1 z2 : Spot) → Follows w4 (paced b ∷ passed b a ∷ times 48 (paced a ∷ passed a b ∷ [])) v → w4.moment ≡ w3.moment → a ≢ b → linked w a b ≡ true → w3.links ≡ w.links → Grows w3 w4 → WorldAgrees w3
+      → At w3 a x2 → Beside b w3 w4 → At w4 b z2 → x2.store ≡ x1.store → x2.mote.id ≡ x1.mote.id → x1.mote.id ≡ a → z1.mote.id ≡ b → Drained x2 w3.moment
+      → (ahead : Held) → held x1.store i ≡ Some ahead → Asked w3.table z1 z2 w3.moment x1.mote.id i ahead
+      → ((j : ℕ) → held x1.store j ≡ held (store_at w a) j) → ((j : ℕ) → held z1.store j ≡ held (store_at w b) j) → Between a b w w3
+      → Raises (store_at w a) (store_at w b) i (store_at v b) × ((j : ℕ) → held (store_at v a) j ≡ held (store_at w a) j) × ((m : ℕ) → m ≢ a → m ≢ b → site v m ≡ site w m)
+  unfolding Follows
+  second w w3 w4 v a b i x1 x2 z1 z2 f time other link links g4 good3 at_x2 beside4 at_z2 same_store same_id id_a id_b drained_a ahead kept_a asked kept1 kept2 between3 =
+      let other2 : b ≢ a = λ e. other (sym e) in
+      let kept = asked.kept in
+      let page = length kept.complete in
+      -- a tick at b: the request
+      let w5 = f.0 in
+      let k5 = tick_walks w4 w5 b z2 f.1 at_z2 f.2 in
+      let g5 = laws.free w4 w5 (paced b) f.1 g4.good refl f.2 in
+      let l5 = request z2 w4.moment x1.mote.id i kept asked.asks asked.server asked.tries (omega (arith, asked.due, time)) asked.gesture in
+      let z3 = ticked z2 (w4.moment + pace) in
+      let id_z2 : z2.mote.id ≡ b = asked.id_is ∙ id_b in
+      let message = Request z2.mote.id x1.mote.id i kept.version page (below 48) in
+      let said : last_frame w5 b ≡ frame_told b (Some message) = k5.frame ∙ ap (λ o. newer_frame b o (last_frame w4 b)) l5.sent ∙ frame_said b message in
+      let at_a4 = at_beside b a w3 w4 x2 other beside4 at_x2 in
+      let at_a5 = at_beside b a w4 w5 x2 other k5.beside at_a4 in
+      let link5 = linked_back a b w5 (linked_beside a b w w5 (k5.beside.links ∙ g4.links ∙ links) link) in
+      let asking : ReceivesRow w4.table z2.store asked.asks.r = subst (ModeAgrees w4.table z2.store) asked.asks.receives (well_at w4 b z2 g4.good at_z2).well.mode in
+      let some : 1 ≤ i = subst (λ n. 1 ≤ n) asked.asks.image_is asking.not_golden in
+      -- a hears it
+      let e6 = f.3 in
+      let w6 = e6.0 in
+      let spelled6 : Spelled message = subst (λ o. IfSome o Spelled) l5.sent (said_at laws w4 b z2 g4.good at_z2) in
+      let k6 = hear_walks w5 w6 b a x2 message e6.1 at_a5 link5 said spelled6 e6.2 in
+      let g6 = laws.free w5 w6 (passed b a) e6.1 g5.good refl e6.2 in
+      let kept_x2 : held x2.store i ≡ Some ahead = ap (λ s. held s i) same_store ∙ kept_a in
+      let drained5 = drained_later x2 w3.moment w5.moment (omega (arith, k5.moment, time)) drained_a in
+      let not_b : z2.mote.id ≢ x2.mote.id = λ e. other (sym id_a ∙ sym same_id ∙ sym e ∙ id_z2) in
+      let l6 = serve x2 w5.moment z2.mote.id i page ahead drained5 not_b kept_x2 asked.less in
+      let same_message : message ≡ Request z2.mote.id x2.mote.id i ahead.version page (below 48) = λ k. Request z2.mote.id (sym same_id k) i (asked.version k) page (below 48) in
+      let x3 = hears x2 w5.moment message in
+      let x3s = hears x2 w5.moment (Request z2.mote.id x2.mote.id i ahead.version page (below 48)) in
+      let x3_same : x3 ≡ x3s = ap (hears x2 w5.moment) same_message in
+      let time6 : w6.moment ≡ w5.moment = k6.moment ∙ omega arith in
+      let bytes = get_or ahead.complete page [] in
+      let ms = map (packet_message x2.mote.id i ahead.version page bytes) (range_with_len 0 48) in
+      let count : length ms ≡ 48 = length-map-range_with_len (packet_message x2.mote.id i ahead.version page bytes) 0 48 in
+      let sends : SendsEach ms x3 w6.moment = subst (λ t. SendsEach ms x3 t) (sym time6) (subst (λ z. SendsEach ms z w5.moment) (sym x3_same) l6.sends) in
+      let at_z6 = at_beside a b w5 w6 z3 other2 k6.beside k5.at in
+      let link6 = linked_beside a b w w6 (k6.beside.links ∙ k5.beside.links ∙ g4.links ∙ links) link in
+      -- 48 packets
+      let k7 = pairs_walk laws ms w6 v a b x3 z3 g6.good k6.at at_z6 other link6 (subst (λ n. Follows w6 (times n (paced a ∷ passed a b ∷ [])) v) (sym count) e6.3) sends in
+      let well6 = (well_at w6 b z3 g6.good at_z6).well in
+      let id_z3 : z3.mote.id ≡ b = (well_at w6 b z3 g6.good at_z6).id in
+      let well_a = (well_at w5 a x2 g5.good at_a5).well in
+      let row_a : KeepsRow w5.table i ahead = subst (λ o. IfSome o (KeepsRow w5.table i)) kept_x2 (well_a.store.agrees.kept i) in
+      let table6 : w5.table ≡ w6.table = sym g6.table in
+      let in6 : row_at w6.table i kept.version ≡ Some row_a.row = (λ k. row_at (sym table6 k) i (asked.version k)) ∙ row_a.in_table in
+      let l7 = take_all_packets w6.table z3 w6.moment x2.mote.id i kept row_a.row g6.good.table well6 l5.asks (λ e. other (sym id_a ∙ sym same_id ∙ e ∙ id_z3)) in6 in
+      let whole_page = get_or (object row_a.row) page [] in
+      let bytes_same : bytes ≡ whole_page = ap (λ c. get_or c page []) row_a.first ∙ get_or-take (length ahead.complete) (object row_a.row) page [] asked.less in
+      let ms_same : ms ≡ map (packet_message x2.mote.id i kept.version page whole_page) (range_with_len 0 48) = λ k. map (packet_message x2.mote.id i (sym asked.version k) page (bytes_same k)) (range_with_len 0 48) in
+      let end_b : hears_all ms z3 w6.moment ≡ record { store = paged i whole_page z3.store; mote = maintains z3.mote (w6.moment + 48 * pace) 0 } = ap (λ l. hears_all l z3 w6.moment) ms_same ∙ l7 in
+      let end_a : after_ticks (length ms) x3 w6.moment ≡ record { store = x2.store; mote = maintains x2.mote (w5.moment + 48 * pace) 0 } =
+      (λ k. after_ticks (count k) (x3_same k) (time6 k)) ∙ l6.ends in
+      let store_b : store_at v b ≡ paged i whole_page z2.store =
+      store_at_is v b (hears_all ms z3 w6.moment) k7.at_b ∙ ap (λ (z : Spot). z.store) end_b ∙ ap (paged i whole_page) l5.store in
+      let store_a : store_at v a ≡ x2.store = store_at_is v a (after_ticks (length ms) x3 w6.moment) k7.at_a ∙ ap (λ (z : Spot). z.store) end_a in
+      let there : i < length z2.store.kept = some_there z2.store.kept i kept asked.asks.held_now in (
+        record {
+          ahead = ahead;
+          held_there = sym (kept1 i) ∙ kept_a;
+          now = with_page kept whole_page;
+          held_now = ap (λ s. held s i) store_b ∙ get_or-set_same z2.store.kept i (option_map (λ h. with_page h whole_page) (held z2.store i)) None there ∙ ap (option_map (λ h. with_page h whole_page)) asked.asks.held_now;
+          raised = raised (held (store_at w b) i) ahead kept whole_page asked.version (subst (λ o. KeepsNext o ahead kept) (kept2 i) asked.next);
+          others = λ j different. ap (λ s. held s j) store_b ∙ get_or-set_other z2.store.kept i j (option_map (λ h. with_page h whole_page) (held z2.store i)) None different ∙ asked.others j different ∙ kept2 j;
+        },
+        λ j. ap (λ s. held s j) (store_a ∙ same_store) ∙ kept1 j,
+        λ m h l. k7.between.others m h l ∙ k6.beside.others m h ∙ k5.beside.others m l ∙ beside4.others m l ∙ between3.others m h l,
+      )
+
+  pub round_raises : RoundLaw
+  unfolding round Follows
+  round_raises w v a b i good link on_a on_b run room_a room_b least =
+      let pair : List Event = paced a ∷ passed a b ∷ [] in
+      let p48 : List Event = times 48 pair in
+      let t2 : List Event = passed a b ∷ paced b ∷ passed b a ∷ p48 in
+      let t1 : List Event = replicate 3 (paced a) ++ t2 in
+      let t0 : List Event = replicate 50 (paced b) ++ t1 in
+      let f48 : AllByRecursion IsFree p48 = all_times IsFree 48 pair (refl, (refl, tt)) in
+      let f2 : AllByRecursion IsFree t2 = (refl, (refl, (refl, f48))) in
+      let fa : (n m : ℕ) → AllByRecursion IsFree (replicate n (paced m)) = λ n m. all_replicate IsFree n (paced m) refl in
+      let f1 : AllByRecursion IsFree t1 = all_append IsFree (replicate 3 (paced a)) t2 (fa 3 a) f2 in
+      let f0 : AllByRecursion IsFree t0 = all_append IsFree (replicate 50 (paced b)) t1 (fa 50 b) f1 in
+      let ends = link_ends w a b good link in
+      let other : a ≢ b = ends.2 in
+      let other2 : b ≢ a = λ e. other (sym e) in
+      -- 50 ticks at a
+      let xa : Spot = record { store = store_at w a; mote = on_a.running.mote } in
+      let zb : Spot = record { store = store_at w b; mote = on_b.running.mote } in
+      let at_a = at_on w a ends.0 on_a in
+      let at_b = at_on w b ends.1 on_b in
+      let s1 = follows_split w v (replicate 50 (paced a)) t0 run in
+      let w1 = s1.0 in
+      let k1 = ticks_walk laws 50 w w1 a xa None good at_a tt s1.1 in
+      let g1 = free_grows laws.free (replicate 50 (paced a)) w w1 good (fa 50 a) s1.1 in
+      let x1 = after_ticks 50 xa w.moment in
+      let l1 = drain w.table xa w.moment good.table (well_at w a xa good at_a).well (room_at t0 w1 v a x1 g1.good f0 s1.2 k1.at room_a) in
+      -- 50 ticks at b
+      let s2 = follows_split w1 v (replicate 50 (paced b)) t1 s1.2 in
+      let w2 = s2.0 in
+      let b1 = at_beside a b w w1 zb other2 k1.beside at_b in
+      let k2 = ticks_walk laws 50 w1 w2 b zb None g1.good b1 tt s2.1 in
+      let g2 = free_grows laws.free (replicate 50 (paced b)) w1 w2 g1.good (fa 50 b) s2.1 in
+      let z1 = after_ticks 50 zb w1.moment in
+      let l2 = drain w1.table zb w1.moment g1.good.table (well_at w1 b zb g1.good b1).well (room_at t1 w2 v b z1 g2.good f1 s2.2 k2.at room_b) in
+      -- 3 ticks at a
+      let s3 = follows_split w2 v (replicate 3 (paced a)) t2 s2.2 in
+      let w3 = s3.0 in
+      let a2 = at_beside b a w1 w2 x1 other k2.beside k1.at in
+      let k3 = ticks_walk laws 3 w2 w3 a x1 None g2.good a2 tt s3.1 in
+      let g3 = free_grows laws.free (replicate 3 (paced a)) w2 w3 g2.good (fa 3 a) s3.1 in
+      let l3 = advert w2.table x1 w2.moment (well_at w2 a x1 g2.good a2).well (drained_later x1 (w.moment + 50 * pace) w2.moment (omega (arith, k1.moment, k2.moment)) l1.drained) in
+      let x2 = after_ticks 3 x1 w2.moment in
+      let id_a : x1.mote.id ≡ a = (well_at w2 a x1 g2.good a2).id in
+      let said = told_of a (last_frame w3 a) (last_sent 3 x1 w2.moment None) (advert_of x1.mote.id x1.store) k3.told (l3.sent None) in
+      -- b hears the advert
+      let b3 = at_beside a b w2 w3 z1 other2 k3.beside k2.at in
+      let link3 = linked_beside a b w w3 (g3.links ∙ g2.links ∙ g1.links) link in
+      let e4 = s3.2 in
+      let w4 = e4.0 in
+      let k4 = hear_walks w3 w4 a b z1 (advert_of x1.mote.id x1.store) e4.1 b3 link3 said.0 said.1 e4.2 in
+      let g4 = laws.free w3 w4 (passed a b) e4.1 g3.good refl e4.2 in
+      let z2 = hears z1 w3.moment (advert_of x1.mote.id x1.store) in
+      let id_b : z1.mote.id ≡ b = (well_at w3 b z1 g3.good b3).id in
+      let table31 : w2.table ≡ w3.table = sym g3.table in
+      let agrees_x1 : Agrees w3.table x1.store = subst (λ t. Agrees t x1.store) table31 (well_at w2 a x1 g2.good a2).well.store.agrees in
+      let well_z1 = (well_at w3 b z1 g3.good b3).well in
+      let is_ahead_now : ahead_in (entries_of x1.store) z1.store ≡ Some i =
+      sym (same_least w3.table x1.store z1.store agrees_x1 well_z1.store.agrees) ∙ least_same (store_at w a) (store_at w b) x1.store z1.store l1.kept l2.kept ∙ least in
+      let l4 = ask w3.table z1 w3.moment x1.mote.id x1.store i well_z1 (drained_later z1 (w1.moment + 50 * pace) w3.moment (omega (arith, k2.moment, k3.moment)) l2.drained) agrees_x1
+      (λ e. other (sym id_a ∙ e ∙ id_b)) is_ahead_now (room_at (paced b ∷ passed b a ∷ p48) w4 v b z2 g4.good (refl, (refl, f48)) e4.3 k4.at room_b) in
+      second w w3 w4 v a b i x1 x2 z1 z2 e4.3 (omega (arith, k4.moment)) other link (g3.links ∙ g2.links ∙ g1.links) g4 g3.good
+      (subst (At w3 a) refl k3.at) k4.beside k4.at l3.store l3.id id_a id_b (drained_later x2 (w2.moment + 3 * pace) w3.moment (omega (arith, k3.moment)) l3.drained)
+      l4.0 l4.1 l4.2 l1.kept l2.kept (between_first a b w w1 w3 k1.beside (between_second a b w1 w2 w3 k2.beside (between_first a b w2 w3 w3 k3.beside (between_none a b w3))))

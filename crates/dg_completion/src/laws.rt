@@ -1,0 +1,70 @@
+//! What rounds and sweeps bring about in a world. These functions do nothing: their contracts are the laws.
+ghost use Rattle.std.specs.Prelude.{ℕ, ◌+◌, List, ◌++◌};
+ghost use Rattle.std.specs.List.{AllByRecursion};
+ghost use Rattle.dg_base.specs.declared.events.Event.{Event};
+ghost use Rattle.dg_rounds.specs.Rounds.{sweep, times};
+ghost use Rattle.dg_completion.specs.Rests.{IsFree, IsRest};
+ghost use Rattle.dg_completion.specs.Completion.{FreeLaw, RoundLaw, PipelineLaw, CompletionLaw};
+
+use dg_mote::{
+    a_drained_mote_advertises, a_drained_mote_asks, a_drained_mote_serves, a_mote_drains,
+    a_mote_stays_well, a_page_comes, a_restart_is_for_the_order, what_a_mote_may_change,
+    what_is_sent_is_read,
+};
+use dg_rules::agreement_is_kept;
+use dg_volume::{a_start_ends, a_table_holds_sound_rows, starts_end, trails_begin};
+
+/// Sweeps one after the other are a rest, and so are ticks and heard frames, with no sweep. Rests that follow one another
+/// are one rest.
+pub fn sweeps_are_a_rest()
+    ensures swept { (links : List (ℕ × ℕ)) (n : ℕ) → IsRest links n (times n (sweep links)) }
+    ensures free { (links : List (ℕ × ℕ)) (es : List Event) → AllByRecursion IsFree es → IsRest links 0 es }
+    ensures joined { (links : List (ℕ × ℕ)) (m n : ℕ) (es fs : List Event) → IsRest links m es → IsRest links n fs → IsRest links (m + n) (es ++ fs) }
+{}
+
+/// A tick or a heard frame, at any moment and with any word, keeps a world that agrees with its table: it still agrees,
+/// the table, the links and the motes that are on stay, room does not grow, and no page of the newest version of an image
+/// is lost.
+pub fn a_free_event_keeps_a_good_world()
+    ensures { FreeLaw }
+{
+    agreement_is_kept();
+    a_mote_stays_well();
+    a_restart_is_for_the_order();
+    what_a_mote_may_change();
+    a_start_ends();
+    starts_end();
+    a_table_holds_sound_rows();
+}
+
+/// A round from a mote to its neighbour brings that one a page of the least image in which the first is ahead, and
+/// changes nothing else that is kept.
+pub fn a_round_raises()
+    ensures { RoundLaw }
+{
+    a_free_event_keeps_a_good_world();
+    a_mote_stays_well();
+    what_is_sent_is_read();
+    a_mote_drains();
+    a_drained_mote_advertises();
+    a_drained_mote_asks();
+    a_drained_mote_serves();
+    a_page_comes();
+}
+
+/// In a rest each sweep brings every page one link further: after t sweeps a mote within j links of a whole image has
+/// t + 1 - j pages of it, where every smaller image is whole everywhere.
+pub fn sweeps_fill_the_pipeline()
+    ensures { PipelineLaw }
+{
+    a_free_event_keeps_a_good_world();
+    a_round_raises();
+}
+
+/// After a rest of enough sweeps every mote keeps the newest version of every image whole.
+pub fn enough_sweeps_complete()
+    ensures { CompletionLaw }
+{
+    a_free_event_keeps_a_good_world();
+    a_round_raises();
+}

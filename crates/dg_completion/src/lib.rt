@@ -1,0 +1,12 @@
+//! Bounded completion: how many sweeps of rounds bring every page of the newest images to every mote of a world.
+//!
+//! As in Deluge (Hui and Culler, SenSys 2004), pages go over many hops as in a pipeline: a mote hands on the first pages
+//! of an image before it has the last.
+#![tactic(auto)]
+
+mod laws;
+
+pub use laws::{
+    a_free_event_keeps_a_good_world, a_round_raises, enough_sweeps_complete,
+    sweeps_are_a_rest, sweeps_fill_the_pipeline,
+};
