@@ -1,5 +1,5 @@
 -- How the code's mote and its chip stand for a mote by the rules and a store.
-use Rattle.std.specs.Prelude.{◌≡◌, ◌≢◌, ℕ, ◌<◌, ◌≤◌, true, false, List, length, Option, Some, option_map}
+use Rattle.std.specs.Prelude.{◌≡◌, ◌≢◌, ℕ, ◌<◌, ◌≤◌, true, false, List, length, Option, Some, Ok, option_map}
 use Rattle.std.specs.FinSet as set
 use Rattle.dg_nor.specs.Device.{Device, Ran}
 use Rattle.dg_nor.specs.Trail.{operations, last}
@@ -10,6 +10,9 @@ use Rattle.dg_slot.specs.declared.states.PageJob.{PageJob}
 use Rattle.dg_volume.specs.Store.{Store, held}
 use Rattle.dg_volume.specs.Stands.{Mounted, NothingLent, is_lent}
 use Rattle.dg_volume.specs.declared.volume.Volume.{Volume}
+use Rattle.dg_frame.specs.Grammar.{message_of}
+use Rattle.dg_frame.specs.Spelling.{frame_of}
+use Rattle.dg_frame.specs.declared.Message.{Message}
 use Rattle.dg_mote.specs.Model.{MoteState, Mode, Maintain, Receive, Transmit, Receiving, Sending, came, reception, Turn}
 use Rattle.dg_mote.specs.Agreement.{Serves}
 use Rattle.dg_mote.specs.declared.mote.Mote.{Mote}
@@ -59,6 +62,10 @@ volume_of v = v.volume
 -- the bytes of the frame that waits in an outbox
 abbrev pub sent_in : Outbox → Option (List ℕ)
 sent_in o = option_map (λ f. f.items) o.frame
+
+-- the frame of a message is read as the message
+abbrev pub IsRead : Message → Type 0
+IsRead message = message_of (frame_of message) ≡ Ok message
 
 -- a call did what the rules say: the chip went the trail, and the mote is where they say
 pub record Done {A : Type 0} (turn : Turn A) (old new : Device) (v : Mote) (answer : A) : Type 0 where

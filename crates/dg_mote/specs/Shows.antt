@@ -1,10 +1,10 @@
 -- How a step that leaves its chip as it is shows in the code.
-use Rattle.std.specs.Prelude.{◌≡◌, option_map}
+use Rattle.std.specs.Prelude.{◌≡◌, IfSome, option_map}
 use Rattle.dg_nor.specs.Trail.{resting}
 use Rattle.dg_volume.specs.Store.{Store}
 use Rattle.dg_frame.specs.Spelling.{frame_of}
 use Rattle.dg_mote.specs.Model.{MoteState, Mode, Turn}
-use Rattle.dg_mote.specs.Motes.{sent_in}
+use Rattle.dg_mote.specs.Motes.{sent_in, IsRead}
 use Rattle.dg_mote.specs.declared.mote.Did.{Did}
 use Rattle.dg_mote.specs.declared.outbox.Outbox.{Outbox}
 
@@ -13,4 +13,5 @@ pub record Shows (turn : Turn Did) (m : MoteState) (s : Store) (mode : Mode) (ou
   pub mote : turn.mote ≡ record m { mode = mode }
   pub trail : turn.trail ≡ resting s 0
   pub sent : sent_in out ≡ option_map frame_of turn.sent
+  pub read : IfSome turn.sent IsRead
   pub answer : did ≡ turn.answer

@@ -2,7 +2,7 @@
 ghost use Rattle.std.specs.Prelude.{◌≡◌, true, Some, None, option_map};
 ghost use Rattle.dg_frame.specs.Grammar.{in_range};
 ghost use Rattle.dg_frame.specs.Spelling.{frame_of};
-ghost use Rattle.dg_mote.specs.Motes.{sent_in};
+ghost use Rattle.dg_mote.specs.Motes.{sent_in, IsRead};
 
 use dg_frame::{Frame, Message, write};
 
@@ -30,7 +30,8 @@ impl Outbox {
     /// Puts the frame of a message in.
     pub(crate) fn put(&mut self, message: &Message)
         requires { in_range message.now ≡ true }
-        ensures { sent_in self.new ≡ Some (frame_of message.now) }
+        ensures sent { sent_in self.new ≡ Some (frame_of message.now) }
+        ensures read { IsRead message.now }
     {
         self.frame = Some(write(message));
     }

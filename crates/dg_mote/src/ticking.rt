@@ -1,5 +1,5 @@
 //! What a mote does as time passes.
-ghost use Rattle.std.specs.Prelude.{◌≡◌, ℕ, ◌<◌, ◌^◌, None, IfOk, OnOk, OnErr, List, Option, option_map};
+ghost use Rattle.std.specs.Prelude.{◌≡◌, ℕ, ◌<◌, ◌^◌, None, IfOk, IfSome, OnOk, OnErr, List, Option, option_map};
 ghost use Rattle.dg_nor.specs.Reads.{ReadEnds};
 ghost use Rattle.dg_frame.specs.Spelling.{frame_of};
 ghost use Rattle.dg_frame.specs.declared.Message.TheVariants as message;
@@ -16,7 +16,7 @@ ghost use Rattle.dg_order.specs.Pending.{is_some_version};
 ghost use Rattle.dg_mote.specs.Model.{MoteState, Maintain};
 ghost use Rattle.dg_mote.specs.Ticks.{clears, maintain_tick, mode_tick, tick_of};
 ghost use Rattle.dg_mote.specs.Timely.{Timely};
-ghost use Rattle.dg_mote.specs.Motes.{IsMote, Done, sent_in};
+ghost use Rattle.dg_mote.specs.Motes.{IsMote, Done, sent_in, IsRead};
 ghost use Rattle.dg_mote.specs.Shows.{Shows};
 
 use crate::summary::advert_message;
@@ -55,6 +55,9 @@ impl Mote {
             → Done (tick_of m s now word) (N.device nor.old) (N.device nor.new) self.new did) }
         ensures sent { OnOk result ((m : MoteState) (s : Store) → IsMote (N.device nor.old).image self.old m s
             → sent_in out.new ≡ option_map frame_of (tick_of m s now word).sent) }
+        // the frame that is sent is read as its message
+        ensures read { OnOk result ((m : MoteState) (s : Store) → IsMote (N.device nor.old).image self.old m s
+            → IfSome (tick_of m s now word).sent IsRead) }
         ensures same_reference { (N.device nor.new).references ≡ (N.device nor.old).references }
         ensures stopped { OnErr result ((m : MoteState) (s : Store) → IsMote (N.device nor.old).image self.old m s
             → Stops (tick_of m s now word).trail (N.device nor.old) (N.device nor.new)) }
@@ -91,6 +94,8 @@ impl Mote {
             → Done (mode_tick m.mode m s now word) (N.device nor.old) (N.device nor.new) self.new did) }
         ensures sent { OnOk result ((m : MoteState) (s : Store) → IsMote (N.device nor.old).image self.old m s
             → sent_in out.new ≡ option_map frame_of (mode_tick m.mode m s now word).sent) }
+        ensures read { OnOk result ((m : MoteState) (s : Store) → IsMote (N.device nor.old).image self.old m s
+            → IfSome (mode_tick m.mode m s now word).sent IsRead) }
         ensures same_reference { (N.device nor.new).references ≡ (N.device nor.old).references }
         ensures stopped { OnErr result ((m : MoteState) (s : Store) → IsMote (N.device nor.old).image self.old m s
             → Stops (mode_tick m.mode m s now word).trail (N.device nor.old) (N.device nor.new)) }

@@ -1,7 +1,8 @@
-use Rattle.std.proofs.Common.{Some, refl, sym, ap, ◌∙◌}
+use Rattle.std.proofs.Common.{Some, refl, sym, ap, subst, ◌∙◌}
 use Rattle.dg_frame.specs.Spelling.{frame_of}
 use Rattle.dg_frame.specs.declared.Message.{Message}
 use Rattle.dg_mote.specs.Summary.{advert_of}
+use Rattle.dg_mote.specs.Motes.{IsRead}
 use Rattle.dg_mote.proofs.ShowLemmas.{restart_shows, advert_shows, idle_shows}
 use Rattle.dg_mote.proofs.ticking.maintain.Goals as goal
 
@@ -12,7 +13,8 @@ returns-then-order_waits c m s id is tells =
 pub returns-in-Send : goal.returns-in-Send
 returns-in-Send c m s id is tells =
     advert_shows m s c.args.trickle.now c.tick.new.self c.args.now c.args.word c.put.new.self (sym (c.order_waits.ensures s tells) ∙ c.if-order_waits.false) c.in-Send.ensures.act c.tick.ensures.value
-    (c.put.ensures ∙ ap (λ (x : Message). Some (frame_of x)) (c.advert_message.ensures.says s tells ∙ ap (λ n. advert_of n s) (sym id)))
+    (c.put.ensures.sent ∙ ap (λ (x : Message). Some (frame_of x)) (c.advert_message.ensures.says s tells ∙ ap (λ n. advert_of n s) (sym id)))
+    (subst IsRead (c.advert_message.ensures.says s tells ∙ ap (λ n. advert_of n s) (sym id)) c.put.ensures.read)
 
 pub returns-in-Quiet : goal.returns-in-Quiet
 returns-in-Quiet c m s id is tells =

@@ -1,9 +1,9 @@
-use Rattle.std.proofs.Common.{sym, ap, subst, ◌∙◌, option_map}
+use Rattle.std.proofs.Common.{sym, ap, subst, ◌∙◌, option_map, IfSome}
 use Rattle.dg_nor.proofs.DeviceLemmas.{OnErr_from}
 use Rattle.dg_volume.specs.Acts.{Stops}
 use Rattle.dg_frame.specs.Spelling.{frame_of}
 use Rattle.dg_mote.specs.Model.{Turn}
-use Rattle.dg_mote.specs.Motes.{Done}
+use Rattle.dg_mote.specs.Motes.{Done, IsRead}
 use Rattle.dg_mote.specs.declared.mote.Did.{Did}
 use Rattle.dg_mote.specs.declared.mote.Did.TheVariants.{Idle}
 use Rattle.dg_mote.proofs.ClearLemmas.{tick_clears, tick_acts, clears_room, cleared, if_ok, on_ok, on_err}
@@ -46,3 +46,11 @@ pub returns-clause-stopped : goal.returns-clause-stopped
 returns-clause-stopped g c = on_err c.tick_mode.result (λ stopped m s h.
     subst (λ (t : Turn Did). Stops t.trail (g.N.Nor.device c.args.nor.now) (g.N.Nor.device c.tick_mode.new.nor))
     (sym (tick_acts m s c.args.now c.args.word (sym (c.clears.ensures m s h.since h.mounted.tells) ∙ c.if-clears.false))) (stopped m s h)) c.tick_mode.ensures.stopped
+
+pub returns-then-clears-clause-read : goal.returns-then-clears-clause-read
+returns-then-clears-clause-read g c m s h =
+    subst (λ (t : Turn Did). IfSome t.sent IsRead) (sym (tick_clears m s c.args.now c.args.word (sym (c.clears.ensures m s h.since h.mounted.tells) ∙ c.if-clears.true))) tt
+
+pub returns-clause-read : goal.returns-clause-read
+returns-clause-read g c = on_ok c.tick_mode.result (λ read m s h.
+    subst (λ (t : Turn Did). IfSome t.sent IsRead) (sym (tick_acts m s c.args.now c.args.word (sym (c.clears.ensures m s h.since h.mounted.tells) ∙ c.if-clears.false))) (read m s h)) c.tick_mode.ensures.read

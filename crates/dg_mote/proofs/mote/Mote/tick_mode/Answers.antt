@@ -1,4 +1,4 @@
-use Rattle.std.proofs.Common.{◌≡◌, ℕ, ◌<◌, true, List, Some, None, option_map, refl, sym, ap, subst, ◌∙◌}
+use Rattle.std.proofs.Common.{◌≡◌, ℕ, ◌<◌, true, List, Some, None, IfSome, option_map, refl, sym, ap, subst, ◌∙◌}
 use Rattle.dg_nor.proofs.DeviceLemmas.{OnErr_from}
 use Rattle.dg_nor.proofs.ReadLemmas.{Looked-none}
 use Rattle.dg_recv.specs.Reception.{Reception}
@@ -13,9 +13,10 @@ use Rattle.dg_frame.specs.Spelling.{frame_of}
 use Rattle.dg_slot.specs.Jobs.{outline_told, done_told, slot_of}
 use Rattle.dg_frame.specs.declared.Message.{Message}
 use Rattle.dg_frame.specs.declared.Message.TheVariants.{Request, Packet}
-use Rattle.dg_mote.specs.Model.{MoteState, Mode, Maintain, Receive, maintains}
+use Rattle.dg_mote.specs.Model.{MoteState, Mode, Maintain, Receive, Turn, maintains}
 use Rattle.dg_mote.specs.Ticks.{asked, mode_tick}
-use Rattle.dg_mote.specs.Motes.{IsMote, ModeStands}
+use Rattle.dg_mote.specs.Motes.{IsMote, ModeStands, IsRead}
+use Rattle.dg_mote.specs.declared.mote.Did.{Did}
 use Rattle.dg_mote.specs.declared.mote.Did.TheVariants.{Sent, Idle}
 use Rattle.dg_mote.specs.declared.mote.Mote.{Mote}
 use Rattle.dg_mote.specs.declared.mote.Mode.{Mode as ModeValue}
@@ -148,7 +149,7 @@ returns-then-left-eq0-clause-sent g c m s h =
     let a = g.N.Nor.device c.args.nor.now in
     let arm = c.in-Transmit in
     let at = says a.image c.args.self.now m s arm.image arm.version arm.page c.in-Send.packet arm.serving arm.is h (c.in-Send.ensures.of_page c.in-Send.packet refl) in
-    c.put-in-Send.ensures ∙ ap (λ (x : Message). Some (frame_of x)) (c.in_ok-message-in-Send.ensures.message ∙ at.1.is c.args.self.now.id m.id h.id)
+    c.put-in-Send.ensures.sent ∙ ap (λ (x : Message). Some (frame_of x)) (c.in_ok-message-in-Send.ensures.message ∙ at.1.is c.args.self.now.id m.id h.id)
     ∙ sym (ap (λ t. option_map frame_of t.sent) (transmit_turn m s at.0.t arm.serving _ c.args.now c.args.word at.0.is at.0.owes c.in-Send.ensures.serve))
 
 pub returns-else-left-eq0-clause-done : goal.returns-else-left-eq0-clause-done
@@ -171,7 +172,7 @@ returns-else-left-eq0-clause-sent g c m s h =
     let a = g.N.Nor.device c.args.nor.now in
     let arm = c.in-Transmit in
     let at = says a.image c.args.self.now m s arm.image arm.version arm.page c.in-Send.packet arm.serving arm.is h (c.in-Send.ensures.of_page c.in-Send.packet refl) in
-    c.put-in-Send.ensures ∙ ap (λ (x : Message). Some (frame_of x)) (c.in_ok-message-in-Send.ensures.message ∙ at.1.is c.args.self.now.id m.id h.id)
+    c.put-in-Send.ensures.sent ∙ ap (λ (x : Message). Some (frame_of x)) (c.in_ok-message-in-Send.ensures.message ∙ at.1.is c.args.self.now.id m.id h.id)
     ∙ sym (ap (λ t. option_map frame_of t.sent) (transmit_turn m s at.0.t arm.serving _ c.args.now c.args.word at.0.is at.0.owes c.in-Send.ensures.serve))
 
 pub returns-in-Done : goal.returns-in-Done
@@ -189,7 +190,35 @@ returns-in-Done g c =
       sent = λ m s h.
           let at = transmitting a.image v m s arm.image arm.version arm.page arm.serving arm.is h in
           c.requires.empty ∙ sym (ap (λ t. option_map frame_of t.sent) (idle_turn m s at.t arm.serving next.result c.args.now c.args.word at.is at.owes c.in-Done.is next.ensures.serve));
+      read = λ m s h.
+          let at = transmitting a.image v m s arm.image arm.version arm.page arm.serving arm.is h in
+          subst (λ (t : Turn Did). IfSome t.sent IsRead) (sym (idle_turn m s at.t arm.serving next.result c.args.now c.args.word at.is at.owes c.in-Done.is next.ensures.serve)) tt;
       same_reference = refl;
       stopped = tt;
       nothing_sent = tt;
     }
+
+pub returns-in-Maintain-clause-read : goal.returns-in-Maintain-clause-read
+returns-in-Maintain-clause-read g c m s h =
+    let a = g.N.Nor.device c.args.nor.now in
+    let v = c.args.self.now in
+    let arm = c.in-Maintain in
+    let at = at_maintain a.image v.volume s arm.trickle m.mode (subst (λ (x : ModeValue). ModeStands a.image v.volume s x m.mode) arm.is h.mode) in
+    let shows = c.maintain.ensures m s (sym h.id) at.is h.mounted.tells in
+    subst (λ (mode : Mode). IfSome (mode_tick mode m s c.args.now c.args.word).sent IsRead) (sym at.is) shows.read
+
+pub returns-then-left-eq0-clause-read : goal.returns-then-left-eq0-clause-read
+returns-then-left-eq0-clause-read g c m s h =
+    let a = g.N.Nor.device c.args.nor.now in
+    let arm = c.in-Transmit in
+    let at = says a.image c.args.self.now m s arm.image arm.version arm.page c.in-Send.packet arm.serving arm.is h (c.in-Send.ensures.of_page c.in-Send.packet refl) in
+    subst (λ (t : Turn Did). IfSome t.sent IsRead) (sym (transmit_turn m s at.0.t arm.serving _ c.args.now c.args.word at.0.is at.0.owes c.in-Send.ensures.serve))
+    (subst IsRead (c.in_ok-message-in-Send.ensures.message ∙ at.1.is c.args.self.now.id m.id h.id) c.put-in-Send.ensures.read)
+
+pub returns-else-left-eq0-clause-read : goal.returns-else-left-eq0-clause-read
+returns-else-left-eq0-clause-read g c m s h =
+    let a = g.N.Nor.device c.args.nor.now in
+    let arm = c.in-Transmit in
+    let at = says a.image c.args.self.now m s arm.image arm.version arm.page c.in-Send.packet arm.serving arm.is h (c.in-Send.ensures.of_page c.in-Send.packet refl) in
+    subst (λ (t : Turn Did). IfSome t.sent IsRead) (sym (transmit_turn m s at.0.t arm.serving _ c.args.now c.args.word at.0.is at.0.owes c.in-Send.ensures.serve))
+    (subst IsRead (c.in_ok-message-in-Send.ensures.message ∙ at.1.is c.args.self.now.id m.id h.id) c.put-in-Send.ensures.read)
