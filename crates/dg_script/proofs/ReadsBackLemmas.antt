@@ -234,14 +234,14 @@ motes_read place n stands low high plays =
     let a = number n (omega (arith, high)) in
     reads_words verb.Motes place (decimal n ∷ []) (Motes n) (a.word, tt) (omega (arith, a.short)) plays (rw (stood verb.Motes place stands, ranged fault.Mote 1 n most_motes a low high) refl)
 
-golden_read : (place : Place) (called : List ℕ) (used : ℕ) (bytes : List ℕ) → StandsBy verb.Golden place → FitsLine most_motes (Golden called used bytes) → length bytes ≤ most_written → is_played verb.Golden ≡ true
+golden_read : (place : Place) (called : List ℕ) (used : ℕ) (bytes : List ℕ) → StandsBy verb.Golden place → FitsLine most_motes (Golden called used bytes) → is_played verb.Golden ≡ true
     → line_of place (word_of verb.Golden ++ behind_spaces (called ∷ decimal used ∷ content_text bytes ∷ [])) ≡ Ok (Golden called used bytes)
 unfolding golden_of
-golden_read place called used bytes stands fits short plays =
+golden_read place called used bytes stands fits plays =
     let a = name called fits.name in
     let b = number used (omega (arith, fits.used)) in
     let c = content 1 most_bytes bytes fits.bytes fits.some fits.fits in
-    reads_words verb.Golden place (called ∷ decimal used ∷ content_text bytes ∷ []) (Golden called used bytes) (a.word, (b.word, (c.word, tt))) (omega (arith, a.short, b.short, c.size, short)) plays
+    reads_words verb.Golden place (called ∷ decimal used ∷ content_text bytes ∷ []) (Golden called used bytes) (a.word, (b.word, (c.word, tt))) (omega (arith, a.short, b.short, c.size, fits.fits)) plays
     (rw (stood verb.Golden place stands, a.read, ranged fault.Number 0 used most_used b (omega arith) fits.used, c.read) refl)
 
 boards_read : (place : Place) → StandsBy verb.Boards place → is_played verb.Boards ≡ true → line_of place (word_of verb.Boards ++ behind_spaces []) ≡ Ok Boards
@@ -391,7 +391,7 @@ pub line_reads : (place : Place) (line : Line) → FitsLine most_motes line → 
 unfolding line_text line_of words_of split_of
 line_reads place Nothing few short stands fits plays = refl
 line_reads place (Motes n) few short stands fits plays = motes_read place n stands few.0 few.1 plays
-line_reads place (Golden called used bytes) few short stands fits plays = golden_read place called used bytes stands few short plays
+line_reads place (Golden called used bytes) few short stands fits plays = golden_read place called used bytes stands few plays
 line_reads place Boards few short stands fits plays = boards_read place stands plays
 line_reads place (Link a b) few short stands fits plays = link_read place a b stands.0 stands.1 few fits plays
 line_reads place (Image image version called bytes) few short stands fits plays = image_read place image version called bytes stands few short plays

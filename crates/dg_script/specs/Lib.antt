@@ -3,6 +3,7 @@ pub mod Results
 pub mod Reading
 pub mod Faults
 pub mod Words
+pub mod Pieces
 pub mod Contents
 pub mod Verbs
 pub mod Places

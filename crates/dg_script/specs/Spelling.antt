@@ -55,11 +55,11 @@ line_words (Sweeps n) = codes "sweeps" ∷ decimal n ∷ []
 unfoldable pub line_text : Line → List ℕ
 line_text line = spaced (line_words line)
 
--- the contents of a line have at most so many bytes that it can be read again
+-- a line's content has at most so many bytes that the line can be read again: that of any line but `image` has
 abbrev pub IsShort : Line → Type 0
 IsShort Nothing = Unit {0}
 IsShort (Motes n) = Unit {0}
-IsShort (Golden name used content) = length content ≤ most_written
+IsShort (Golden name used content) = Unit {0}
 IsShort Boards = Unit {0}
 IsShort (Link a b) = Unit {0}
 IsShort (Image image version name content) = length content ≤ most_written

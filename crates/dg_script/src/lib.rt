@@ -5,6 +5,7 @@ mod content;
 mod events;
 mod fault;
 mod fields;
+mod laws;
 mod line;
 mod place;
 mod reading;
@@ -16,8 +17,10 @@ mod words;
 mod writing;
 
 pub use fault::LineFault;
+pub use laws::{what_is_spelled_fits, words_are_pieces};
 pub use line::Line;
 pub use place::Place;
 pub use reading::read_line;
 pub use report::{Cause, Report, write_report};
+pub use words::words_lie_between_spaces;
 pub use writing::write_line;
