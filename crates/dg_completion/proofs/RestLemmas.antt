@@ -22,14 +22,13 @@ free_first es (r ∷ rs) fs free h = (es ++ h.0, h.1, ap (λ l. es ++ l) h.2 ∙
 rounds_join : (rs qs : List (ℕ × ℕ)) (es fs : List Event) → HasRounds rs es → HasRounds qs fs → HasRounds (rs ++ qs) (es ++ fs)
 unfolding HasRounds
 rounds_join [] qs es fs a b = free_first es qs fs a b
-rounds_join (r ∷ rs) qs es fs a b =
-    (
-      a.0,
-      a.1 ++ fs,
-      ap (λ l. l ++ fs) a.2 ∙ append_assoc a.0 (round r.0 r.1 ++ a.1) fs ∙ ap (λ l. a.0 ++ l) (append_assoc (round r.0 r.1) a.1 fs),
-      a.3,
-      rounds_join rs qs a.1 fs a.4 b,
-    )
+rounds_join (r ∷ rs) qs es fs a b = (
+  a.0,
+  a.1 ++ fs,
+  ap (λ l. l ++ fs) a.2 ∙ append_assoc a.0 (round r.0 r.1 ++ a.1) fs ∙ ap (λ l. a.0 ++ l) (append_assoc (round r.0 r.1) a.1 fs),
+  a.3,
+  rounds_join rs qs a.1 fs a.4 b,
+)
 
 rounds_swept : (rs : List (ℕ × ℕ)) → HasRounds rs (flat_map (λ r. round r.0 r.1) rs)
 unfolding HasRounds

@@ -7,6 +7,6 @@
 mod laws;
 
 pub use laws::{
-    a_free_event_keeps_a_good_world, a_round_raises, enough_sweeps_complete,
-    sweeps_are_a_rest, sweeps_fill_the_pipeline,
+    a_free_event_keeps_a_good_world, a_round_raises, enough_sweeps_complete, sweeps_are_a_rest,
+    sweeps_fill_the_pipeline,
 };
