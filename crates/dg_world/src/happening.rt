@@ -57,13 +57,7 @@ struct Begun {
 }
 
 /// A board starts, and its mote is made anew.
-fn begin<N: Nor>(
-    kind: Kind,
-    id: u16,
-    now: u64,
-    word: u32,
-    board: &mut N,
-) -> Result<Begun, Halt>
+fn begin<N: Nor>(kind: Kind, id: u16, now: u64, word: u32, board: &mut N) -> Result<Begun, Halt>
     requires moment { now < 2 ^ 62 }
     ensures begun { IfOk result (λ b. (w : RuleWorld) (m : ℕ) (old : Option KeyValue) (v : Option RunningMote) → Stands (N.device board.old).image (store_at w m)
         → TurnEnds (Ok (Turn.Starts b.line)) w m (of_effect w (boots kind (store_at w m) id now word) old) v (Some b.running) (N.device board.old) (N.device board.new)) }
@@ -460,7 +454,10 @@ pub(crate) fn happen<N: Nor>(
     match event {
         Event::Tick { word, .. } => tick(runs, now, *word, board),
         Event::Hear {
-            mote, word, frame, ..
+            mote,
+            word,
+            frame,
+            ..
         } => hear_numbered(shared, runs, *mote, *frame, now, *word, board),
         Event::Last { from, to, word, .. } => {
             hear_last(shared, runs, *from, *to, now, *word, board)
