@@ -1,6 +1,6 @@
 -- A frame more that was sent.
-use Rattle.std.proofs.Common.{◌≡◌, ◌⊎◌, ◌≢◌, ℕ, zero, suc, ◌+◌, ◌<◌, ◌≤◌, Bool, true, false, cond, List, [], ◌∷◌, ◌++◌, length, map, get_or, set, refl, ap, sym, ◌∙◌, inl, inr, ⊎_elim, arith, eqb-true, eq-eqb}
-use Rattle.std.specs.Prelude.{◌-◌, ◌==◌, nat_le, slice_get, Option, Some, None}
+use Rattle.std.proofs.Common.{◌≡◌, ◌⊎◌, ◌≢◌, ℕ, zero, suc, ◌<◌, ◌≤◌, Bool, true, false, cond, List, [], ◌∷◌, ◌++◌, length, map, get_or, set, refl, ap, sym, ◌∙◌, inl, inr, ⊎_elim, arith, eqb-true, eq-eqb}
+use Rattle.std.specs.Prelude.{◌-◌, ◌==◌, slice_get, Option, Some, None}
 use Rattle.std.proofs.Math.ListN.{length-set}
 use Rattle.std.proofs.lemmas.Bool.{both_ways, le-leb}
 use Rattle.std.proofs.lemmas.List.{get_or-set_same, get_or-set_other, length-map, map-append, length-append}

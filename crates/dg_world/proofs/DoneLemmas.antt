@@ -16,7 +16,7 @@ use Rattle.dg_volume.specs.Stands.{Stands}
 use Rattle.dg_volume.specs.Start.{Runs}
 use Rattle.dg_frame.specs.declared.Message.{Message}
 use Rattle.dg_frame.specs.Spelling.{frame_of}
-use Rattle.dg_rules.specs.World.{World as RuleWorld, Site, Sent, no_site, site, store_at, counted, with_site}
+use Rattle.dg_rules.specs.World.{World as RuleWorld, Site, no_site, site, store_at, counted, with_site}
 use Rattle.dg_rules.specs.Events.{Deed, Does, Refuses, Goes, does, mote_of, dt_of}
 use Rattle.dg_rules.specs.Steps.{blows, before_cut, and_sent, done_world, cut_world, done_reports, Ended as StepEnded, StepDoes, WorldStep}
 use Rattle.dg_rules.specs.Changes.{changes, is_told}

@@ -14,7 +14,7 @@ use Rattle.dg_mote.specs.Model.{MoteState, maintains}
 use Rattle.dg_mote.specs.Motes.{IsMote}
 use Rattle.dg_mote.specs.declared.mote.Mote.{Mote}
 use Rattle.dg_mote.specs.Effects.{boots, reset_effect}
-use Rattle.dg_rules.specs.World.{World as RuleWorld, Running, Sent, site, store_at, frame_at, linked, last_frame}
+use Rattle.dg_rules.specs.World.{World as RuleWorld, Running, site, store_at, frame_at, linked, last_frame}
 use Rattle.dg_rules.specs.Events.{Does, Refuses, of_effect, reloaded, tick_by, hear_by, heard_sent, heard_last, unless_off, inject_row, order_unless, does, mote_of, dt_of}
 use Rattle.dg_base.specs.declared.events.Event.{Event}
 use Rattle.dg_base.specs.declared.events.Event.TheVariants.{Tick, Hear, Last, Reset, Inject, Order as OrderEvent, Frame}

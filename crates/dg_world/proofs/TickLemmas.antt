@@ -1,5 +1,5 @@
 -- What starts, ticks and heard frames do at a board.
-use Rattle.std.proofs.Common.{◌≡◌, ◌⊎◌, ⊎_elim, ℕ, Bool, true, false, List, [], ◌∷◌, ◌++◌, length, refl, ap, sym, ◌∙◌, subst, arith}
+use Rattle.std.proofs.Common.{◌≡◌, ◌⊎◌, ⊎_elim, ℕ, List, [], ◌∷◌, ◌++◌, refl, ap, sym, ◌∙◌, subst}
 use Rattle.std.specs.Prelude.{Option, Some, None, option_map, IfSome, Result, Ok, Err}
 use Rattle.std.proofs.lemmas.Bool.{cond_both}
 use Rattle.std.proofs.lemmas.List.{append-nil}
@@ -26,7 +26,6 @@ use Rattle.dg_volume.specs.Start.{Runs, boot, order_waits, runs_length, runs_crc
 use Rattle.dg_volume.specs.declared.volume.Kind.{Kind}
 use Rattle.dg_volume.specs.declared.volume.Kind.TheVariants as kind
 use Rattle.dg_volume.proofs.BeginLemmas.{boot_begins}
-use Rattle.dg_frame.specs.Grammar.{message_of}
 use Rattle.dg_frame.specs.Spelling.{frame_of}
 use Rattle.dg_frame.specs.declared.Message.{Message}
 use Rattle.dg_boot.specs.Started.{Starts as BootStarts, Lacks}
@@ -34,7 +33,7 @@ use Rattle.dg_boot.specs.declared.Started.{Started}
 use Rattle.dg_mote.specs.Model.{MoteState, Mode, Maintain, Receive, Transmit, Receiving, Sending, Turn as MoteTurn, reception, begun}
 use Rattle.dg_mote.specs.Ticks.{clears, maintain_by, receive_by, transmit_by, mode_tick, tick_of}
 use Rattle.dg_mote.specs.Hears.{heard_of}
-use Rattle.dg_mote.specs.Effects.{Effect, boot_by, boots, on, silent, tick_by as effect_by, tick_effect, frame_effect, reset_effect}
+use Rattle.dg_mote.specs.Effects.{Effect, boot_by, boots, on, tick_by as effect_by, tick_effect, frame_effect}
 use Rattle.dg_mote.specs.Motes.{Done, IsRead}
 use Rattle.dg_mote.specs.declared.mote.Did.{Did}
 use Rattle.dg_mote.specs.declared.mote.Did.TheVariants as did
@@ -53,7 +52,7 @@ use Rattle.dg_world.specs.declared.happening.Begun.{Begun}
 use Rattle.dg_world.specs.declared.shown.Shown.{Shown}
 use Rattle.dg_world.specs.declared.turn.StartLine.{StartLine}
 use Rattle.dg_world.specs.declared.turn.Turn.{Turn}
-use Rattle.dg_world.specs.declared.turn.Turn.TheVariants.{Refused, Rests, Sends, Changes, Starts}
+use Rattle.dg_world.specs.declared.turn.Turn.TheVariants.{Refused, Changes, Starts}
 use Rattle.dg_world.specs.declared.turn.Halt.{Halt}
 use Rattle.dg_world.specs.declared.turn.Halt.TheVariants.{Stopped}
 use Rattle.dg_world.specs.declared.world.RunningMote.{RunningMote}

@@ -8,7 +8,7 @@ use Rattle.dg_volume.specs.Store.{Store}
 use Rattle.dg_volume.specs.Stands.{Stands}
 use Rattle.dg_rules.specs.Sizes.{most_motes}
 use Rattle.dg_mote.specs.Timely.{Timely}
-use Rattle.dg_rules.specs.World.{World as RuleWorld, Running, Site, site, first_world, off_site, no_site}
+use Rattle.dg_rules.specs.World.{World as RuleWorld, Site, site, first_world, off_site, no_site}
 use Rattle.dg_world.specs.Airs.{Carries}
 use Rattle.dg_world.specs.Images.{NothingDeclared}
 use Rattle.dg_world.specs.Shareds.{IsShared}

@@ -1,5 +1,5 @@
 -- What is told of a step, and where it leaves the board.
-use Rattle.std.specs.Prelude.{◌≡◌, ℕ, ◌+◌, Bool, true, false, slice_set, length, List, ◌∷◌, [], ◌++◌, Option, Some, None, Result, Ok, Err}
+use Rattle.std.specs.Prelude.{◌≡◌, ℕ, ◌+◌, Bool, true, false, slice_set, length, List, ◌∷◌, [], ◌++◌, Option, Some, Result, Ok, Err}
 use Rattle.std.specs.List.{filter}
 use Rattle.arrayvec.specs.ArrayVec.{ArrayVec}
 use Rattle.dg_nor.specs.Device.{Device, Endures}
