@@ -339,7 +339,7 @@ fn place_behind(alloc: Global, lines: &[&str]) -> Result<Place, Fail>
 
 #[test]
 fn lines_say_what_they_spell_at_their_place(rt: HostRuntime) -> Result<(), Fail> {
-    let tables: [(&[&str], Option<LineFault>, &[(&str, &str)]); 7] = [
+    let tables: [(&[&str], Option<LineFault>, &[(&str, &str)]); 8] = [
         (&FIRST, Some(LineFault::Place), &FIRST_LINES),
         (&SECOND, Some(LineFault::Place), &SECOND_LINES),
         (&LATER, None, &LATER_LINES),
