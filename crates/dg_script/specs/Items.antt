@@ -50,6 +50,11 @@ unfoldable pub cut_behind : Option CutOfPower → List Line → Option CutOfPowe
 cut_behind cut [] = cut
 cut_behind cut (line ∷ lines) = cut_behind (cut_by cut line) lines
 
+-- the place behind lines
+unfoldable pub place_behind : Place → List Line → Place
+place_behind place [] = place
+place_behind place (line ∷ lines) = place_behind (place_after place line) lines
+
 unfoldable pub items_behind : Place → Option CutOfPower → List Line → List Item
 items_behind place cut [] = []
 items_behind place cut (line ∷ lines) = item_by place cut line ++ items_behind (place_after place line) (cut_by cut line) lines

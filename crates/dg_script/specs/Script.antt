@@ -30,8 +30,3 @@ unfoldable pub script_from : Bool → Place → ℕ → List (List ℕ) → Scri
 script_from ends place n [] = record { lines = []; fault = end_fault ends place n }
 script_from ends place n (text ∷ texts) =
     with_line (line_of place text) (λ line. script_from ends (place_after place line) (n + 1) texts) n
-
--- the place behind lines
-unfoldable pub place_behind : Place → List Line → Place
-place_behind place [] = place
-place_behind place (line ∷ lines) = place_behind (place_after place line) lines

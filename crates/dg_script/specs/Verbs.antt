@@ -7,7 +7,7 @@ use Rattle.dg_script.specs.declared.fault.LineFault.TheVariants as fault
 use Rattle.dg_script.specs.declared.place.Place.{Place}
 use Rattle.dg_script.specs.declared.verbs.Verb.{Verb}
 use Rattle.dg_script.specs.declared.verbs.Verb.TheVariants.{Motes, Golden, Boards, Link, Image, Tick, Hear, Last, Reset, Inject, Order, Frame, Cut, Round, Sweeps}
-use Rattle.dg_script.specs.declared.verbs.TheConstants.{PLAYS_BOARDS, PLAYS_LINK, PLAYS_HEAR, PLAYS_LAST, PLAYS_FRAME, PLAYS_ROUND, PLAYS_SWEEPS}
+use Rattle.dg_script.specs.declared.verbs.TheConstants.{PLAYS_BOARDS}
 
 abbrev pub word_of : Verb → List ℕ
 word_of Motes = codes "motes"
@@ -26,23 +26,23 @@ word_of Cut = codes "cut"
 word_of Round = codes "round"
 word_of Sweeps = codes "sweeps"
 
--- whether lines of a verb are played: a line that is not yet is told as one of an unknown verb
+-- Whether lines of a verb are played: all are but `boards`, as long as they are not. A line that is not played is told as one of an unknown verb.
 abbrev pub is_played : Verb → Bool
 is_played Motes = true
 is_played Golden = true
 is_played Boards = PLAYS_BOARDS
-is_played Link = PLAYS_LINK
+is_played Link = true
 is_played Image = true
 is_played Tick = true
-is_played Hear = PLAYS_HEAR
-is_played Last = PLAYS_LAST
+is_played Hear = true
+is_played Last = true
 is_played Reset = true
 is_played Inject = true
 is_played Order = true
-is_played Frame = PLAYS_FRAME
+is_played Frame = true
 is_played Cut = true
-is_played Round = PLAYS_ROUND
-is_played Sweeps = PLAYS_SWEEPS
+is_played Round = true
+is_played Sweeps = true
 
 -- the verbs of events, one of which follows a cut
 abbrev pub is_event_verb : Verb → Bool

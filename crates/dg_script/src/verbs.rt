@@ -26,20 +26,8 @@ pub enum Verb {
     Sweeps,
 }
 
-// Whether lines of these verbs are played. A line that is not yet is told as one of an unknown verb.
+// Whether `boards` lines are played. As long as they are not, one is told as a line of an unknown verb.
 pub const PLAYS_BOARDS: bool = false;
-
-pub const PLAYS_LINK: bool = true;
-
-pub const PLAYS_HEAR: bool = true;
-
-pub const PLAYS_LAST: bool = true;
-
-pub const PLAYS_FRAME: bool = true;
-
-pub const PLAYS_ROUND: bool = false;
-
-pub const PLAYS_SWEEPS: bool = false;
 
 fn is_same(word: &[u8], other: &[u8]) -> bool
     ensures { result ≡ same word.now other.now }
@@ -124,14 +112,10 @@ impl Verb {
     {
         match self {
             Verb::Boards => PLAYS_BOARDS,
-            Verb::Link => PLAYS_LINK,
-            Verb::Hear => PLAYS_HEAR,
-            Verb::Last => PLAYS_LAST,
-            Verb::Frame => PLAYS_FRAME,
-            Verb::Round => PLAYS_ROUND,
-            Verb::Sweeps => PLAYS_SWEEPS,
-            Verb::Motes | Verb::Golden | Verb::Image | Verb::Tick => true,
-            Verb::Reset | Verb::Inject | Verb::Order | Verb::Cut => true,
+            Verb::Motes | Verb::Golden | Verb::Link | Verb::Image => true,
+            Verb::Tick | Verb::Hear | Verb::Last | Verb::Reset => true,
+            Verb::Inject | Verb::Order | Verb::Frame => true,
+            Verb::Cut | Verb::Round | Verb::Sweeps => true,
         }
     }
 
