@@ -1,9 +1,8 @@
 -- How a text splits into words.
-use Rattle.std.proofs.Common.{◌≡◌, ◌≢◌, ℕ, zero, suc, ◌+◌, ◌-◌, ◌<◌, ◌≤◌, Bool, true, false, if◌then◌else◌, List, [], ◌∷◌, ◌++◌, length, drop, take, get_or, Some, None, All, refl, ap, sym, ◌∙◌, arith, add-one, ◌==◌, subst, drop-cons, length-drop}
+use Rattle.std.proofs.Common.{◌≡◌, ◌≢◌, ℕ, zero, suc, ◌+◌, ◌-◌, ◌<◌, ◌≤◌, false, List, [], ◌∷◌, length, drop, take, get_or, Some, None, refl, ap, sym, ◌∙◌, arith, add-one, ◌==◌, subst, drop-cons, length-drop}
 use Rattle.std.proofs.lemmas.List.{get_or-drop, take_all}
 use Rattle.std.proofs.lemmas.Bool.Decides.{nat_tests}
-use Rattle.std.proofs.Math.Seq.{drop-length, take-length}
-use Rattle.dg_script.specs.Words.{Split, split_of, words_of, with_word, halves_of}
+use Rattle.dg_script.specs.Words.{split_of, words_of, with_word, halves_of}
 
 -- a space in front changes no word
 words_of-space : (cs : List ℕ) → words_of (32 ∷ cs) ≡ words_of cs
@@ -89,51 +88,3 @@ halves_found text n h none here =
     let back : take (length text - (n + 1)) (drop (n + 1) text) ≡ drop (n + 1) text = take_all (length text - (n + 1)) (drop (n + 1) text) (omega (arith, length-drop (n + 1) text)) in
     let next : drop (n + 1) text ≡ drop (suc n) text = rw add-one refl in
     ap (λ (xs : List ℕ). Some (take n text, xs)) (back ∙ next) ∙ sym (halves_of-at text n h none here)
-
--- ---- what words are
-
-with_word-append : (w : List ℕ) (ws vs : List (List ℕ)) → with_word w (ws ++ vs) ≡ with_word w ws ++ vs
-with_word-append [] ws vs = refl
-with_word-append (c ∷ cs) ws vs = refl
-
--- a byte before a split text, a space or another
-abbrev onto : Bool → ℕ → List ℕ → List (List ℕ) → Split
-onto true c front ws = record { front = []; behind = with_word front ws }
-onto false c front ws = record { front = c ∷ front; behind = ws }
-
-one_byte : (t : Bool) (c : ℕ) (front : List ℕ) (ws vs : List (List ℕ)) → onto t c front (ws ++ vs) ≡ record { front = (onto t c front ws).front; behind = (onto t c front ws).behind ++ vs }
-one_byte true c front ws vs = ap (λ (b : List (List ℕ)). record { front = []; behind = b }) (with_word-append front ws vs)
-one_byte false c front ws vs = refl
-
-by_test : (t : Bool) (c : ℕ) (rest : Split) → (if t then record { front = []; behind = with_word rest.front rest.behind } else record { front = c ∷ rest.front; behind = rest.behind }) ≡ onto t c rest.front rest.behind
-by_test true c rest = refl
-by_test false c rest = refl
-
-split_of-byte : (c : ℕ) (cs : List ℕ) → split_of (c ∷ cs) ≡ onto (c == 32) c (split_of cs).front (split_of cs).behind
-unfolding split_of
-split_of-byte c cs = by_test (c == 32) c (split_of cs)
-
-split_of-space : (xs ys : List ℕ) → split_of (xs ++ 32 ∷ ys) ≡ record { front = (split_of xs).front; behind = (split_of xs).behind ++ words_of ys }
-unfolding split_of words_of
-split_of-space [] ys = refl
-split_of-space (c ∷ cs) ys =
-    let ih = split_of-space cs ys in
-    let vs = words_of ys in
-    split_of-byte c (cs ++ 32 ∷ ys)
-    ∙ ap (λ (r : Split). onto (c == 32) c r.front r.behind) ih
-    ∙ one_byte (c == 32) c (split_of cs).front (split_of cs).behind vs
-    ∙ ap (λ (r : Split). let x : Split = record { front = r.front; behind = r.behind ++ vs } in x) (sym (split_of-byte c cs))
-
--- a space stands between two words
-pub words_of-parts : (xs ys : List ℕ) → words_of (xs ++ 32 ∷ ys) ≡ words_of xs ++ words_of ys
-unfolding words_of
-words_of-parts xs ys = ap (λ s. with_word s.front s.behind) (split_of-space xs ys) ∙ with_word-append (split_of xs).front (split_of xs).behind (words_of ys)
-
--- bytes without a space are one word
-pub words_of-one : (w : List ℕ) → 0 < length w → All (λ c. c ≢ 32) w → words_of w ≡ w ∷ []
-words_of-one w some none =
-    first_word w (length w) some (omega arith) (λ k below. none k 0 below) (λ past. absurd (omega (arith, past)))
-    ∙ rw (take-length w, drop-length w, no_word [] refl) refl
-
-pub words_of-none : words_of [] ≡ []
-words_of-none = no_word [] refl

@@ -20,6 +20,7 @@ content_text bytes = codes "hex:" ++ hex_text bytes
 abbrev pub field_text : Field → List ℕ
 field_text (field.Word word) = word.now
 field_text (field.Number n) = decimal n
+field_text (field.Small n) = decimal n
 field_text (field.Digits bytes) = hex_text bytes.now
 field_text (field.Content bytes) = content_text bytes.now
 

@@ -22,5 +22,4 @@ pub use line::Line;
 pub use place::Place;
 pub use reading::read_line;
 pub use report::{Cause, Report, write_report};
-pub use words::words_lie_between_spaces;
 pub use writing::write_line;

@@ -3,7 +3,7 @@ ghost use Rattle.std.specs.Prelude.{◌≡◌, ◌∷◌, ◌++◌, [], ◌≤�
 ghost use Rattle.dg_script.specs.Words.{spaced};
 ghost use Rattle.dg_script.specs.Spelling.{IsFrontOf};
 ghost use Rattle.dg_script.specs.Report.{cause_words, report_words, report_line};
-ghost use Rattle.dg_script.specs.declared.report.Report.TheVariants.{Start};
+ghost use Rattle.dg_script.specs.declared.report.Report.TheVariants.{Order, Start, SentRequest, SentData, Taken, MoteOn};
 
 use crate::spelling::{Field, push_line};
 use std::alloc::AllocError;
@@ -130,11 +130,7 @@ fn push_refusal(out: &mut Vec<u8>, mote: u8, why: &[u8]) -> Result<(), AllocErro
     ensures err { OnErr result (IsFrontOf out.new.items (out.old.items ++ (spaced (codes "no" ∷ decimal mote ∷ why.now ∷ []) ++ 10 ∷ []))) }
     ensures kept { length out.old.items ≤ length out.new.items }
 {
-    push_line(
-        out,
-        b"no",
-        &[Field::Number(u32::from(mote)), Field::Word(why)],
-    )
+    push_line(out, b"no", &[Field::Small(mote), Field::Word(why)])
 }
 
 // Appends the line of a refusal that tells a number.
@@ -146,11 +142,7 @@ fn push_counted(out: &mut Vec<u8>, mote: u8, why: &[u8], number: u32) -> Result<
     push_line(
         out,
         b"no",
-        &[
-            Field::Number(u32::from(mote)),
-            Field::Word(why),
-            Field::Number(number),
-        ],
+        &[Field::Small(mote), Field::Word(why), Field::Number(number)],
     )
 }
 
@@ -175,6 +167,55 @@ fn push_refused(out: &mut Vec<u8>, mote: u8, cause: Cause) -> Result<(), AllocEr
     }
 }
 
+// Appends the line of a kept order.
+fn push_order(
+    out: &mut Vec<u8>,
+    mote: u8,
+    number: u32,
+    image: u8,
+    version: u32,
+) -> Result<(), AllocError>
+    ensures ok { OnOk result (out.new.items ≡ out.old.items ++ (spaced (report_words (Order mote number image version)) ++ 10 ∷ [])) }
+    ensures err { OnErr result (IsFrontOf out.new.items (out.old.items ++ (spaced (report_words (Order mote number image version)) ++ 10 ∷ []))) }
+    ensures kept { length out.old.items ≤ length out.new.items }
+{
+    push_line(
+        out,
+        b"order",
+        &[
+            Field::Small(mote),
+            Field::Number(number),
+            Field::Small(image),
+            Field::Number(version),
+        ],
+    )
+}
+
+// Appends the line of an image of which so many pages are kept.
+fn push_kept(
+    out: &mut Vec<u8>,
+    word: &[u8],
+    mote: u8,
+    image: u8,
+    version: u32,
+    pages: u8,
+) -> Result<(), AllocError>
+    ensures ok { OnOk result (out.new.items ≡ out.old.items ++ (spaced (word.now ∷ decimal mote ∷ decimal image ∷ decimal version ∷ decimal pages ∷ []) ++ 10 ∷ [])) }
+    ensures err { OnErr result (IsFrontOf out.new.items (out.old.items ++ (spaced (word.now ∷ decimal mote ∷ decimal image ∷ decimal version ∷ decimal pages ∷ []) ++ 10 ∷ []))) }
+    ensures kept { length out.old.items ≤ length out.new.items }
+{
+    push_line(
+        out,
+        word,
+        &[
+            Field::Small(mote),
+            Field::Small(image),
+            Field::Number(version),
+            Field::Small(pages),
+        ],
+    )
+}
+
 // Appends the line of what was started.
 fn push_start(
     out: &mut Vec<u8>,
@@ -193,11 +234,103 @@ fn push_start(
         out,
         b"start",
         &[
-            Field::Number(u32::from(mote)),
-            Field::Number(u32::from(image)),
+            Field::Small(mote),
+            Field::Small(image),
             Field::Number(version),
             Field::Number(size),
             Field::Digits(&crc),
+        ],
+    )
+}
+
+// Appends the line of a request.
+fn push_request(
+    out: &mut Vec<u8>,
+    mote: u8,
+    to: u16,
+    image: u8,
+    version: u32,
+    page: u8,
+    count: u8,
+) -> Result<(), AllocError>
+    ensures ok { OnOk result (out.new.items ≡ out.old.items ++ (spaced (report_words (SentRequest mote to image version page count)) ++ 10 ∷ [])) }
+    ensures err { OnErr result (IsFrontOf out.new.items (out.old.items ++ (spaced (report_words (SentRequest mote to image version page count)) ++ 10 ∷ []))) }
+    ensures kept { length out.old.items ≤ length out.new.items }
+{
+    push_line(
+        out,
+        b"sent",
+        &[
+            Field::Small(mote),
+            Field::Word(b"request"),
+            Field::Number(u32::from(to)),
+            Field::Small(image),
+            Field::Number(version),
+            Field::Small(page),
+            Field::Small(count),
+        ],
+    )
+}
+
+// Appends the line of a packet.
+fn push_data(
+    out: &mut Vec<u8>,
+    mote: u8,
+    image: u8,
+    version: u32,
+    page: u8,
+    packet: u8,
+) -> Result<(), AllocError>
+    ensures ok { OnOk result (out.new.items ≡ out.old.items ++ (spaced (report_words (SentData mote image version page packet)) ++ 10 ∷ [])) }
+    ensures err { OnErr result (IsFrontOf out.new.items (out.old.items ++ (spaced (report_words (SentData mote image version page packet)) ++ 10 ∷ []))) }
+    ensures kept { length out.old.items ≤ length out.new.items }
+{
+    push_line(
+        out,
+        b"sent",
+        &[
+            Field::Small(mote),
+            Field::Word(b"data"),
+            Field::Small(image),
+            Field::Number(version),
+            Field::Small(page),
+            Field::Small(packet),
+        ],
+    )
+}
+
+// Appends the line of an image that was not declared.
+fn push_taken(out: &mut Vec<u8>, image: u8, version: u32) -> Result<(), AllocError>
+    ensures ok { OnOk result (out.new.items ≡ out.old.items ++ (spaced (report_words (Taken image version)) ++ 10 ∷ [])) }
+    ensures err { OnErr result (IsFrontOf out.new.items (out.old.items ++ (spaced (report_words (Taken image version)) ++ 10 ∷ []))) }
+    ensures kept { length out.old.items ≤ length out.new.items }
+{
+    push_line(
+        out,
+        b"no",
+        &[
+            Field::Word(b"image"),
+            Field::Small(image),
+            Field::Number(version),
+            Field::Word(b"taken"),
+        ],
+    )
+}
+
+// Appends the line of a mote that is on.
+fn push_on(out: &mut Vec<u8>, mote: u8, image: u8, version: u32) -> Result<(), AllocError>
+    ensures ok { OnOk result (out.new.items ≡ out.old.items ++ (spaced (report_words (MoteOn mote image version)) ++ 10 ∷ [])) }
+    ensures err { OnErr result (IsFrontOf out.new.items (out.old.items ++ (spaced (report_words (MoteOn mote image version)) ++ 10 ∷ []))) }
+    ensures kept { length out.old.items ≤ length out.new.items }
+{
+    push_line(
+        out,
+        b"mote",
+        &[
+            Field::Small(mote),
+            Field::Word(b"on"),
+            Field::Small(image),
+            Field::Number(version),
         ],
     )
 }
@@ -215,39 +348,16 @@ pub fn write_report(report: &Report, out: &mut Vec<u8>) -> Result<(), AllocError
             number,
             image,
             version,
-        } => push_line(
-            out,
-            b"order",
-            &[
-                Field::Number(u32::from(mote)),
-                Field::Number(number),
-                Field::Number(u32::from(image)),
-                Field::Number(version),
-            ],
-        ),
-        Report::Lost { mote, image } => push_line(
-            out,
-            b"none",
-            &[
-                Field::Number(u32::from(mote)),
-                Field::Number(u32::from(image)),
-            ],
-        ),
+        } => push_order(out, mote, number, image, version),
+        Report::Lost { mote, image } => {
+            push_line(out, b"none", &[Field::Small(mote), Field::Small(image)])
+        }
         Report::Have {
             mote,
             image,
             version,
             pages,
-        } => push_line(
-            out,
-            b"have",
-            &[
-                Field::Number(u32::from(mote)),
-                Field::Number(u32::from(image)),
-                Field::Number(version),
-                Field::Number(u32::from(pages)),
-            ],
-        ),
+        } => push_kept(out, b"have", mote, image, version, pages),
         Report::Start {
             mote,
             image,
@@ -255,12 +365,10 @@ pub fn write_report(report: &Report, out: &mut Vec<u8>) -> Result<(), AllocError
             length,
             crc,
         } => push_start(out, mote, image, version, length, crc),
-        Report::Off { mote } => push_line(out, b"off", &[Field::Number(u32::from(mote))]),
-        Report::SentAdvert { mote } => push_line(
-            out,
-            b"sent",
-            &[Field::Number(u32::from(mote)), Field::Word(b"advert")],
-        ),
+        Report::Off { mote } => push_line(out, b"off", &[Field::Small(mote)]),
+        Report::SentAdvert { mote } => {
+            push_line(out, b"sent", &[Field::Small(mote), Field::Word(b"advert")])
+        }
         Report::SentRequest {
             mote,
             to,
@@ -268,82 +376,30 @@ pub fn write_report(report: &Report, out: &mut Vec<u8>) -> Result<(), AllocError
             version,
             page,
             count,
-        } => push_line(
-            out,
-            b"sent",
-            &[
-                Field::Number(u32::from(mote)),
-                Field::Word(b"request"),
-                Field::Number(u32::from(to)),
-                Field::Number(u32::from(image)),
-                Field::Number(version),
-                Field::Number(u32::from(page)),
-                Field::Number(u32::from(count)),
-            ],
-        ),
+        } => push_request(out, mote, to, image, version, page, count),
         Report::SentData {
             mote,
             image,
             version,
             page,
             packet,
-        } => push_line(
-            out,
-            b"sent",
-            &[
-                Field::Number(u32::from(mote)),
-                Field::Word(b"data"),
-                Field::Number(u32::from(image)),
-                Field::Number(version),
-                Field::Number(u32::from(page)),
-                Field::Number(u32::from(packet)),
-            ],
-        ),
+        } => push_data(out, mote, image, version, page, packet),
         Report::Refused { mote, cause } => push_refused(out, mote, cause),
-        Report::Taken { image, version } => push_line(
-            out,
-            b"no",
-            &[
-                Field::Word(b"image"),
-                Field::Number(u32::from(image)),
-                Field::Number(version),
-                Field::Word(b"taken"),
-            ],
-        ),
+        Report::Taken { image, version } => push_taken(out, image, version),
         Report::End { events } => push_line(out, b"end", &[Field::Number(events)]),
         Report::MoteOn {
             mote,
             image,
             version,
-        } => push_line(
-            out,
-            b"mote",
-            &[
-                Field::Number(u32::from(mote)),
-                Field::Word(b"on"),
-                Field::Number(u32::from(image)),
-                Field::Number(version),
-            ],
-        ),
-        Report::MoteOff { mote } => push_line(
-            out,
-            b"mote",
-            &[Field::Number(u32::from(mote)), Field::Word(b"off")],
-        ),
+        } => push_on(out, mote, image, version),
+        Report::MoteOff { mote } => {
+            push_line(out, b"mote", &[Field::Small(mote), Field::Word(b"off")])
+        }
         Report::Kept {
             mote,
             image,
             version,
             pages,
-        } => push_line(
-            out,
-            b"kept",
-            &[
-                Field::Number(u32::from(mote)),
-                Field::Number(u32::from(image)),
-                Field::Number(version),
-                Field::Number(u32::from(pages)),
-            ],
-        ),
+        } => push_kept(out, b"kept", mote, image, version, pages),
     }
 }

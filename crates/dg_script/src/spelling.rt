@@ -12,6 +12,8 @@ pub enum Field<'a> {
     Word(&'a [u8]),
     /// A number in decimal.
     Number(u32),
+    /// A number below 256 in decimal.
+    Small(u8),
     /// Bytes as hex digits.
     Digits(&'a [u8]),
     /// Bytes as a content.
@@ -38,6 +40,7 @@ fn push_field(out: &mut Vec<u8>, field: Field) -> Result<(), AllocError>
     match field {
         Field::Word(word) => out.extend_from_slice(word),
         Field::Number(number) => push_u32(out, number),
+        Field::Small(number) => push_u32(out, u32::from(number)),
         Field::Digits(bytes) => push_hex(out, bytes),
         Field::Content(bytes) => push_content(out, bytes),
     }

@@ -1,5 +1,5 @@
 //! The words of a line.
-ghost use Rattle.std.specs.Prelude.{◌≡◌, ◌≢◌, ℕ, ◌<◌, ◌≤◌, ◌∷◌, [], length, drop, slice_index, IfNone, IfSome, option_map, List, All, ◌++◌};
+ghost use Rattle.std.specs.Prelude.{◌≡◌, ◌≢◌, ℕ, ◌<◌, ◌≤◌, ◌∷◌, [], length, drop, slice_index, IfNone, IfSome, option_map};
 ghost use Rattle.dg_script.specs.Results.{each_as};
 ghost use Rattle.dg_script.specs.Words.{words_of, halves_of, one_of, two_of, three_of, four_of, five_of, six_of};
 
@@ -125,11 +125,3 @@ pub fn six_words(text: &[u8]) -> Result<(&[u8], &[u8], &[u8], &[u8], &[u8], &[u8
     let (second, third, fourth, fifth, sixth) = five_words(rest)?;
     Ok((first, second, third, fourth, fifth, sixth))
 }
-
-/// The words of a text are its pieces between spaces that are not empty: bytes without a space are one word, and
-/// a space parts the words before it from those behind it.
-pub fn words_lie_between_spaces()
-    ensures none { words_of [] ≡ [] }
-    ensures one { (word : List ℕ) → 0 < length word → All (λ c. c ≢ 32) word → words_of word ≡ word ∷ [] }
-    ensures parts { (before behind : List ℕ) → words_of (before ++ 32 ∷ behind) ≡ words_of before ++ words_of behind }
-{}
