@@ -46,7 +46,7 @@ pub record Laws : Type 0 where
   pub sound : (table : List Row) → IsTable table → SoundRows table
 
 -- a mote that is on is one of the world
-on_there : (w : World) (m : ℕ) (r : Running) → (site w m).runs ≡ Some r → m < length w.sites
+pub on_there : (w : World) (m : ℕ) (r : Running) → (site w m).runs ≡ Some r → m < length w.sites
 on_there w m r e = elim (cases_lt m (length w.sites)) [
   | inl less ↦ less
   | inr past ↦ absurd (none_some r (sym (ap (λ (s : Site). s.runs) (get_or_past w.sites m no_site (omega (arith, past)))) ∙ e))
@@ -149,7 +149,7 @@ module _ (laws : Laws) (w : World) (good : WorldAgrees w) where
     pub table : v.table ≡ u.table
     pub links : v.links ≡ u.links
 
-  sent_same : (u : World) (m : ℕ) (o : Option Message) → SameBut u (and_sent u m o)
+  pub sent_same : (u : World) (m : ℕ) (o : Option Message) → SameBut u (and_sent u m o)
   sent_same u m None = record { sites = refl; table = refl; links = refl }
   sent_same u m (Some message) = record { sites = refl; table = refl; links = refl }
 

@@ -8,3 +8,7 @@ pub mod RaiseLemmas
 pub mod CompleteLemmas
 pub mod WalkLemmas
 pub mod RoundLemmas
+pub mod EndLemmas
+pub mod HolderLemmas
+pub mod SpendLemmas
+pub mod MetLemmas

@@ -71,7 +71,7 @@ started_room s r three =
     cond_both (ltb 0 s.room && (not (is_set_to s.app 0 golden_version) || three)) (golden_done s r three) s (λ (t : Store). t.room ≤ s.room) (λ _. omega arith) (λ _. omega arith)
 
 -- what is kept whole is sound
-whole_sound : (table : List Row) → SoundRows table → (image version : ℕ) (o : Option Held) → IfSome o (KeepsRow table image) → is_whole o version ≡ true → held_sound o ≡ true
+pub whole_sound : (table : List Row) → SoundRows table → (image version : ℕ) (o : Option Held) → IfSome o (KeepsRow table image) → is_whole o version ≡ true → held_sound o ≡ true
 whole_sound table sound_rows image version None k e = cc
 whole_sound table sound_rows image version (Some h) k e =
     let full = (and_parts (eqb h.version version) (eqb (length h.complete) h.pages) e).1 in

@@ -1,2 +1,5 @@
 pub mod Rests
 pub mod Completion
+pub mod Holders
+pub mod Ends
+pub mod Met

@@ -5,14 +5,17 @@ ghost use Rattle.dg_base.specs.declared.events.Event.{Event};
 ghost use Rattle.dg_rounds.specs.Rounds.{sweep, times};
 ghost use Rattle.dg_completion.specs.Rests.{IsFree, IsRest};
 ghost use Rattle.dg_completion.specs.Completion.{FreeLaw, RoundLaw, PipelineLaw, CompletionLaw};
+ghost use Rattle.dg_completion.specs.Holders.{WithinLaw, EnoughLaw, OneEnoughLaw};
+ghost use Rattle.dg_completion.specs.Ends.{EndsLaw};
+ghost use Rattle.dg_completion.specs.Met.{HappensLaw, SpendLaw, MetLaw};
 
 use dg_mote::{
     a_drained_mote_advertises, a_drained_mote_asks, a_drained_mote_serves, a_mote_drains,
     a_mote_stays_well, a_page_comes, a_restart_is_for_the_order, what_a_mote_may_change,
     what_is_sent_is_read,
 };
-use dg_rules::agreement_is_kept;
-use dg_volume::{a_start_ends, a_table_holds_sound_rows, starts_end, trails_begin};
+use dg_rules::{agreement_is_kept, scripts_with_golden};
+use dg_volume::{a_start_ends, a_table_holds_sound_rows, acts_end, starts_end, trails_begin};
 
 /// Sweeps one after the other are a rest, and so are ticks and heard frames, with no sweep. Rests that follow one another
 /// are one rest.
@@ -67,4 +70,48 @@ pub fn enough_sweeps_complete()
 {
     a_free_event_keeps_a_good_world();
     a_round_raises();
+}
+
+/// How far all motes are from one that keeps a row whole, in links, and how many sweeps are enough. Where a way leads to
+/// every mote from one that keeps the newest row of an image whole, for each image that has a row, one number is enough
+/// and no smaller one is called so.
+pub fn distances_are_ways()
+    ensures within { WithinLaw }
+    ensures enough { EnoughLaw }
+    ensures one { OneEnoughLaw }
+{}
+
+/// What is played of a script with golden, over honest frames: where it ends with a rest of enough sweeps, every mote
+/// keeps the newest version of each image whole.
+pub fn scripts_end_complete()
+    ensures { EndsLaw }
+{
+    a_free_event_keeps_a_good_world();
+    scripts_with_golden();
+    enough_sweeps_complete();
+}
+
+/// From a world that agrees with its table a tick or a heard frame always leads to a world. It makes no more than three
+/// commits, all of them at its mote.
+pub fn a_free_event_happens()
+    ensures happens { HappensLaw }
+    ensures spends { SpendLaw }
+{
+    agreement_is_kept();
+    a_mote_stays_well();
+    a_restart_is_for_the_order();
+    what_a_mote_may_change();
+    a_start_ends();
+    starts_end();
+    a_table_holds_sound_rows();
+    acts_end();
+    trails_begin();
+}
+
+/// The premises of completion can be met: where every mote is on and has room for what it may commit, a rest happens.
+pub fn a_rest_happens()
+    ensures { MetLaw }
+{
+    a_free_event_keeps_a_good_world();
+    a_free_event_happens();
 }

@@ -1,0 +1,262 @@
+-- What is played to its end with a rest.
+use Rattle.std.proofs.Common.{◌≡◌, ℕ, zero, suc, ◌+◌, ◌<◌, ◌&&◌, ◌||◌, cond, eqb, List, [], ◌∷◌, ◌++◌, length, replicate, Option, Some, None, refl, sym, ap, subst, ◌∙◌}
+use Rattle.std.specs.List.{AllByRecursion, list_any}
+use Rattle.dg_object.specs.Object.{Row}
+use Rattle.dg_nor.specs.Trail.{last}
+use Rattle.dg_volume.specs.Store.{Store, golden_row, fresh}
+use Rattle.dg_volume.specs.Table.{row_at}
+use Rattle.dg_frame.specs.declared.Message.{Message}
+use Rattle.dg_script.specs.Items.{Item, Declares, Happens}
+use Rattle.dg_rules.specs.World.{World, Running, Sent, site, store_at, linked, frame_at, last_frame, first_world, counted, with_site}
+use Rattle.dg_rules.specs.Events.{Does, Refuses, Goes, does, mote_of, dt_of, tick_by, hear_by, heard_sent, heard_last, unless_off}
+use Rattle.dg_rules.specs.Steps.{WorldStep, StepDoes, and_sent, declared_as}
+use Rattle.dg_rules.specs.Runs.{Played, ItemStep, Plays}
+use Rattle.dg_rules.specs.Premises.{WorldAgrees, IsInRange, IsHonestThen, LeavesAgreement}
+use Rattle.dg_rules.specs.Golden.{PlaysGolden}
+use Rattle.dg_rounds.specs.Rounds.{times, rounds_of}
+use Rattle.dg_base.specs.declared.events.Event.{Event}
+use Rattle.dg_base.specs.declared.events.Event.TheVariants.{Tick, Hear, Last, Reset, Inject, Order as OrderEvent, Frame}
+use Rattle.dg_base.specs.declared.events.Step.{Step}
+use Rattle.dg_script.specs.declared.report.Cause.TheVariants as cause
+use Rattle.dg_script.specs.declared.report.Report.{Report}
+use Rattle.dg_completion.specs.Rests.{IsFree}
+use Rattle.dg_completion.specs.Completion.{Follows, FreeLaw, newest, within, IsHops, IsEnoughFor, IsEnough, Rests, CompletionLaw}
+use Rattle.dg_completion.specs.Ends.{event_in, events_of, IsUncutItem, IsUncut, EndsInRest, EndsLaw}
+use Rattle.dg_completion.proofs.GrowLemmas.{rounds_free}
+
+-- ---- the front and the rest of what was played
+
+front : {A : Type 0} (P : A → Type 0) (xs ys : List A) → AllByRecursion P (xs ++ ys) → AllByRecursion P xs
+front P [] ys all = tt
+front P (x ∷ xs) ys all = (all.0, front P xs ys all.1)
+
+behind : {A : Type 0} (P : A → Type 0) (xs ys : List A) → AllByRecursion P (xs ++ ys) → AllByRecursion P ys
+behind P [] ys all = all
+behind P (x ∷ xs) ys all = behind P xs ys all.1
+
+plays_split : (xs ys : List Played) (w v : World) → Plays w (xs ++ ys) v → (u : World) × Plays w xs u × Plays u ys v
+unfolding Plays
+plays_split [] ys w v run = (w, refl, run)
+plays_split (x ∷ xs) ys w v run =
+    let rest = plays_split xs ys x.after v run.2 in
+    (rest.0, (run.0, run.1, rest.1), rest.2)
+
+-- what is played begins in one world
+begins_once : (ps : List Played) (u w v : World) → Plays u ps v → Plays w ps v → u ≡ w
+unfolding Plays
+begins_once [] u w v a b = a ∙ sym b
+begins_once (p ∷ ps) u w v a b = sym a.0 ∙ b.0
+
+-- ---- the same world with other rows declared
+
+abbrev declaring : List Row → World → World
+declaring rows w = record w { declared = rows }
+
+tick_same : (rows : List Row) (w : World) (s : Store) (o : Option Running) (now word : ℕ) → tick_by (declaring rows w) s o now word ≡ tick_by w s o now word
+tick_same rows w s None now word = refl
+tick_same rows w s (Some r) now word = refl
+
+hear_same : (rows : List Row) (w : World) (s : Store) (o : Option Running) (now word : ℕ) (bytes : List ℕ) → hear_by (declaring rows w) s o now word bytes ≡ hear_by w s o now word bytes
+hear_same rows w s None now word bytes = refl
+hear_same rows w s (Some r) now word bytes = refl
+
+sent_same : (rows : List Row) (w : World) (m now word : ℕ) (o : Option Sent) → heard_sent (declaring rows w) m now word o ≡ heard_sent w m now word o
+sent_same rows w m now word None = refl
+sent_same rows w m now word (Some f) = ap (λ d. cond (linked w f.by m) d (Refuses cause.Link)) (hear_same rows w (store_at w m) (site w m).runs now word f.bytes)
+
+last_same : (rows : List Row) (w : World) (from to now word : ℕ) (o : Option Sent) → heard_last (declaring rows w) from to now word o ≡ heard_last w from to now word o
+last_same rows w from to now word None = refl
+last_same rows w from to now word (Some f) = hear_same rows w (store_at w to) (site w to).runs now word f.bytes
+
+-- a free event does not look at them
+does_same : (rows : List Row) (w : World) (e : Event) → IsFree e → does (declaring rows w) e ≡ does w e
+unfolding does
+does_same rows w (Tick m dt word) free = tick_same rows w (store_at w m) (site w m).runs (w.moment + dt) word
+does_same rows w (Hear m dt word number) free = ap (unless_off (site w m).runs) (sent_same rows w m (w.moment + dt) word (frame_at w number))
+does_same rows w (Last from m dt word) free =
+    ap (λ d. unless_off (site w m).runs (cond (linked w from m) d (Refuses cause.Link))) (last_same rows w from m (w.moment + dt) word (last_frame w from))
+does_same rows w (Reset m dt word) free = absurd cc
+does_same rows w (Inject m image version dt word) free = absurd cc
+does_same rows w (OrderEvent m number image version dt word) free = absurd cc
+does_same rows w (Frame m dt word bytes) free = absurd cc
+
+-- nor does what it leads to
+sent_declaring : (rows : List Row) (u : World) (m : ℕ) (o : Option Message) → and_sent (declaring rows u) m o ≡ declaring rows (and_sent u m o)
+sent_declaring rows u m None = refl
+sent_declaring rows u m (Some message) = refl
+
+step_by : (rows : List Row) (w v : World) (e : Event) (reports : List Report) (D : Does) → StepDoes D w (record { event = e; cut = None }) v reports
+    → StepDoes D (declaring rows w) (record { event = e; cut = None }) (declaring rows v) reports
+step_by rows w v e reports (Refuses why) did = (ap (declaring rows) did.0, did.1)
+step_by rows w v e reports (Goes d) did = (
+  did.0,
+  did.1,
+  ap (declaring rows) did.2
+      ∙ sym (sent_declaring rows (with_site (record (counted w (dt_of e)) { table = d.table }) (mote_of e) (record { store = last d.trail; runs = did.0 })) (mote_of e) d.sent),
+  did.3,
+)
+
+step_declaring : (rows : List Row) (w v : World) (e : Event) (reports : List Report) → IsFree e → WorldStep w (record { event = e; cut = None }) v reports
+    → WorldStep (declaring rows w) (record { event = e; cut = None }) (declaring rows v) reports
+unfolding WorldStep
+step_declaring rows w v e reports free did =
+    subst (λ D. StepDoes D (declaring rows w) (record { event = e; cut = None }) (declaring rows v) reports) (sym (does_same rows w e free))
+    (step_by rows w v e reports (does w e) did)
+
+-- ---- a rest that was played
+
+declares_nothing : (rows : List Row) (o : Option Row) (w : World) (row : Row) → declaring rows (declared_as o w row) ≡ declaring rows w
+declares_nothing rows None w row = refl
+declares_nothing rows (Some kept) w row = refl
+
+-- a step that is not to be cut
+uncut : (w v : World) (x : Step) (reports : List Report) → x.cut ≡ None → WorldStep w x v reports → WorldStep w (record { event = x.event; cut = None }) v reports
+uncut w v x reports none did = subst (λ c. WorldStep w (record { event = x.event; cut = c }) v reports) none did
+
+module _ (rows : List Row) where
+  item_follows : (item : Item) (es : List Event) (u x v : World) (reports : List Report) → ItemStep u item x reports → IsUncutItem item → AllByRecursion IsFree (event_in item ++ es)
+      → (AllByRecursion IsFree es → Follows (declaring rows x) es (declaring rows v)) → Follows (declaring rows u) (event_in item ++ es) (declaring rows v)
+  unfolding Follows
+  item_follows (Declares row) es u x v reports did none free rest =
+      let same : declaring rows x ≡ declaring rows u = ap (declaring rows) did.world ∙ declares_nothing rows (row_at u.declared row.image row.version) u row in
+      subst (λ y. Follows y es (declaring rows v)) same (rest free)
+  item_follows (Happens step loud) es u x v reports did none free rest = (
+    declaring rows x,
+    did.0,
+    step_declaring rows u x step.event did.0 free.0 (uncut u x step did.0 none did.1),
+    rest free.1,
+  )
+
+  follows : (ps : List Played) (w v : World) → Plays w ps v → AllByRecursion IsUncut ps → AllByRecursion IsFree (events_of ps) → Follows (declaring rows w) (events_of ps) (declaring rows v)
+  unfolding Plays Follows events_of
+  follows [] w v run whole free = ap (declaring rows) run
+  follows (p ∷ ps) w v run whole free =
+      subst (λ u. Follows (declaring rows u) (event_in p.item ++ events_of ps) (declaring rows v)) run.0
+      (item_follows p.item (events_of ps) p.before p.after v p.reports run.1 whole.0 free (follows ps p.after v run.2 whole.1))
+
+-- ---- the table and the motes stay
+
+record Stays (w v : World) : Type 0 where
+  table : v.table ≡ w.table
+  count : length v.sites ≡ length w.sites
+
+stays_then : (w u v : World) → Stays w u → Stays u v → Stays w v
+stays_then w u v a b = record { table = b.table ∙ a.table; count = b.count ∙ a.count }
+
+declared_stays : (o : Option Row) (w : World) (row : Row) → Stays w (declared_as o w row)
+declared_stays None w row = record { table = refl; count = refl }
+declared_stays (Some kept) w row = record { table = refl; count = refl }
+
+module _ (free : FreeLaw) where
+  item_stays : (item : Item) (rest : List Event) (w v : World) (reports : List Report) → WorldAgrees w → ItemStep w item v reports → IsUncutItem item → AllByRecursion IsFree (event_in item ++ rest)
+      → Stays w v × AllByRecursion IsFree rest
+  item_stays (Declares row) rest w v reports agrees did none all =
+      (subst (Stays w) (sym did.world) (declared_stays (row_at w.declared row.image row.version) w row), all)
+  item_stays (Happens x loud) rest w v reports agrees did none all =
+      let grows = free w v x.event did.0 agrees all.0 (uncut w v x did.0 none did.1) in
+      (record { table = grows.table; count = grows.count }, all.1)
+
+  plays_stay : (ps : List Played) (w v : World) → WorldAgrees w → Plays w ps v → AllByRecursion LeavesAgreement ps → AllByRecursion IsUncut ps → AllByRecursion IsFree (events_of ps) → Stays w v
+  unfolding Plays events_of
+  plays_stay [] w v agrees run leaves whole all = subst (Stays w) run (record { table = refl; count = refl })
+  plays_stay (p ∷ ps) w v agrees run leaves whole all =
+      let one = item_stays p.item (events_of ps) p.before p.after p.reports (subst WorldAgrees (sym run.0) agrees) run.1 whole.0 all in
+      stays_then w p.after v (subst (λ u. Stays u p.after) run.0 one.0) (plays_stay ps p.after v leaves.0 run.2 leaves.1 whole.1 one.1)
+
+-- ---- what is said of enough sweeps does not look at declared rows
+
+within_same : (rows : List Row) (w : World) (row : Row) (h m : ℕ) → within (declaring rows w) row h m ≡ within w row h m
+unfolding within
+within_same rows w row zero m = refl
+within_same rows w row (suc h) m =
+    λ i. within_same rows w row h m i
+    || list_any (λ (l : ℕ × ℕ). (eqb l.1 m && within_same rows w row h l.0 i) || (eqb l.0 m && within_same rows w row h l.1 i)) w.links
+
+hops_same : (rows : List Row) (w : World) (row : Row) (h : ℕ) → IsHops w row h → IsHops (declaring rows w) row h
+hops_same rows w row h hops = record {
+  some = hops.some;
+  all = λ m there. within_same rows w row h m ∙ hops.all m there;
+  least = λ k one all. hops.least k one (λ m there. sym (within_same rows w row k m) ∙ all m there);
+}
+
+enough_for_same : (rows : List Row) (w : World) (o : Option Row) (n : ℕ) → IsEnoughFor w o n → IsEnoughFor (declaring rows w) o n
+enough_for_same rows w None n enough = enough
+enough_for_same rows w (Some row) n enough = (enough.0, hops_same rows w row enough.0 enough.1, enough.2)
+
+enough_same : (rows : List Row) (w : World) (n : ℕ) → IsEnough w n → IsEnough (declaring rows w) n
+enough_same rows w n enough = (
+  enough.0,
+  enough.1,
+  enough.2,
+  enough_for_same rows w (newest w.table 1) enough.0 enough.3,
+  enough_for_same rows w (newest w.table 2) enough.1 enough.4,
+  enough_for_same rows w (newest w.table 3) enough.2 enough.5,
+  enough.6,
+)
+
+-- ---- a script
+
+-- what is declared later agrees with the table too, which stays
+declaring_agrees : (w v : World) → WorldAgrees w → WorldAgrees v → v.table ≡ w.table → WorldAgrees (declaring v.declared w)
+declaring_agrees w v a b table = record {
+  few = a.few;
+  table = a.table;
+  rows = b.rows;
+  same = λ image version row declared is known. b.same image version row declared (ap (λ t. row_at t image version) table ∙ is) known;
+  links = a.links;
+  sites = a.sites;
+  sent = a.sent;
+}
+
+module _
+    (agrees : (name bytes : List ℕ) (used motes : ℕ) (links : List (ℕ × ℕ)) (played : List Played) (v : World) → PlaysGolden name bytes used motes links played v
+    → AllByRecursion IsHonestThen played → AllByRecursion LeavesAgreement played × WorldAgrees v)
+    (free : FreeLaw)
+    (complete : CompletionLaw) where
+  module _ (name bytes : List ℕ) (used motes : ℕ) (links : List (ℕ × ℕ)) (played : List Played) (w v : World) (n : ℕ) (script : PlaysGolden name bytes used motes links played v)
+      (honest : AllByRecursion IsHonestThen played) (end : EndsInRest played w n v) where
+    abbrev begins : World
+    begins = first_world (golden_row name bytes ∷ []) links (replicate motes (fresh name bytes used))
+
+    whole : AllByRecursion LeavesAgreement played × WorldAgrees v
+    whole = agrees name bytes used motes links played v script honest
+
+    -- what was played before the rest leads to w
+    before : Plays begins end.before w
+    before =
+        let parts = plays_split end.before end.rest begins v (subst (λ ps. Plays begins ps v) end.parts script.plays) in
+        subst (Plays begins end.before) (begins_once end.rest parts.0 w v parts.2 end.run) parts.1
+
+    first : PlaysGolden name bytes used motes links end.before w
+    first = record {
+      is_row = script.is_row;
+      plays = before;
+      few = script.few;
+      links_fit = script.links_fit;
+      ranges = front (IsInRange motes) end.before end.rest (subst (AllByRecursion (IsInRange motes)) end.parts script.ranges);
+    }
+
+    agrees_then : WorldAgrees w
+    agrees_then = (agrees name bytes used motes links end.before w first (front IsHonestThen end.before end.rest (subst (AllByRecursion IsHonestThen) end.parts honest))).1
+
+    free_rest : AllByRecursion IsFree (events_of end.rest)
+    free_rest = rounds_free (times n (rounds_of w.links)) (events_of end.rest) end.sweeps
+
+    stays : Stays w v
+    stays = plays_stay free end.rest w v agrees_then end.run (behind LeavesAgreement end.before end.rest (subst (AllByRecursion LeavesAgreement) end.parts whole.0)) end.uncut free_rest
+
+    -- the rest begins in the world w with all rows declared
+    rests : Rests (declaring v.declared w) n (events_of end.rest) v
+    rests = record {
+      good = declaring_agrees w v agrees_then whole.1 stays.table;
+      rest = end.sweeps;
+      run = follows v.declared end.rest w v end.run end.uncut free_rest;
+      on = λ j h. record { running = (end.on j h).running; runs = (end.on j h).runs };
+      room = end.room;
+    }
+
+  pub ends : EndsLaw
+  ends name bytes used motes links played w v n k script honest end enough many i row m from to is there =
+      let s = stays name bytes used motes links played w v n script honest end in
+      complete (declaring v.declared w) v n k (events_of end.rest) (rests name bytes used motes links played w v n script honest end) (enough_same v.declared w k enough) many i row m from to
+      (ap (λ t. newest t i) (sym s.table) ∙ is) (subst (λ c. m < c) s.count there)

@@ -1,0 +1,8 @@
+use Rattle.dg_completion.proofs.HolderLemmas.{within_law, enough_law}
+use Rattle.dg_completion.proofs.laws.distances_are_ways.Goals as goal
+
+pub returns-clause-within : goal.returns-clause-within
+returns-clause-within c = within_law
+
+pub returns-clause-enough : goal.returns-clause-enough
+returns-clause-enough c = enough_law

@@ -1,0 +1,55 @@
+-- Runs that end with a rest.
+use Rattle.std.specs.Prelude.{◌≡◌, ℕ, ◌<◌, ◌≤◌, List, [], ◌∷◌, ◌++◌, length, None, Some}
+use Rattle.std.specs.List.{AllByRecursion}
+use Rattle.dg_base.specs.declared.events.Event.{Event}
+use Rattle.dg_object.specs.Object.{Row}
+use Rattle.dg_volume.specs.Sizes.{images}
+use Rattle.dg_volume.specs.Store.{held, held_whole}
+use Rattle.dg_script.specs.Items.{Item, Declares, Happens}
+use Rattle.dg_rules.specs.World.{World, store_at}
+use Rattle.dg_rules.specs.Runs.{Played, Plays}
+use Rattle.dg_rules.specs.Premises.{IsHonestThen}
+use Rattle.dg_rules.specs.Golden.{PlaysGolden}
+use Rattle.dg_completion.specs.Rests.{IsRest}
+use Rattle.dg_completion.specs.Completion.{IsOn, HasRoomAt, newest, IsEnough}
+
+-- the event of an item: a declaration is none
+abbrev pub event_in : Item → List Event
+event_in (Declares row) = []
+event_in (Happens step loud) = step.event ∷ []
+
+-- the events of what was played, in their order
+unfoldable pub events_of : List Played → List Event
+events_of [] = []
+events_of (p ∷ ps) = event_in p.item ++ events_of ps
+
+-- no power is to be cut in it
+abbrev pub IsUncutItem : Item → Type 0
+IsUncutItem (Declares row) = Unit {0}
+IsUncutItem (Happens step loud) = step.cut ≡ None
+
+abbrev pub IsUncut : Played → Type 0
+IsUncut p = IsUncutItem p.item
+
+-- What was played ends, in world v, with a rest of n sweeps that begins in world w: its events are sweeps, with ticks and
+-- heard frames between their rounds, and no power is cut. Images may be declared meanwhile. Every mote is on when it
+-- begins, and each has room when it ends.
+pub record EndsInRest (played : List Played) (w : World) (n : ℕ) (v : World) : Type 0 where
+  pub before : List Played
+  pub rest : List Played
+  pub parts : played ≡ before ++ rest
+  pub run : Plays w rest v
+  pub sweeps : IsRest w.links n (events_of rest)
+  pub uncut : AllByRecursion IsUncut rest
+  pub on : (m : ℕ) → m < length w.sites → IsOn w m
+  pub room : (m : ℕ) → m < length w.sites → HasRoomAt v m
+
+-- every mote keeps the newest version of each image whole
+abbrev pub KeepsNewest : World → Type 0
+KeepsNewest v = (i : ℕ) (row : Row) (m : ℕ) → 1 ≤ i → i < images → newest v.table i ≡ Some row → m < length v.sites → held (store_at v m) i ≡ Some (held_whole row)
+
+-- What is played of a script with golden, over honest frames: where it ends with a rest of enough sweeps, every mote keeps
+-- the newest version of each image whole.
+abbrev pub EndsLaw : Type 0
+EndsLaw = (name bytes : List ℕ) (used motes : ℕ) (links : List (ℕ × ℕ)) (played : List Played) (w v : World) (n k : ℕ) → PlaysGolden name bytes used motes links played v
+    → AllByRecursion IsHonestThen played → EndsInRest played w n v → IsEnough w k → k ≤ n → KeepsNewest v

@@ -1,0 +1,41 @@
+-- Rests whose premises are met: what a world needs so that a rest may follow.
+use Rattle.std.specs.Prelude.{ℕ, ◌+◌, ◌<◌, ◌≤◌, ◌==◌, if◌then◌else◌, List, length, None}
+use Rattle.std.specs.List.{sum_by}
+use Rattle.dg_base.specs.declared.events.Event.{Event}
+use Rattle.dg_script.specs.declared.report.Report.{Report}
+use Rattle.dg_rules.specs.World.{World, store_at}
+use Rattle.dg_rules.specs.Events.{mote_of}
+use Rattle.dg_rules.specs.Steps.{WorldStep}
+use Rattle.dg_rules.specs.Premises.{WorldAgrees}
+use Rattle.dg_mote.specs.Drained.{spare_room}
+use Rattle.dg_completion.specs.Rests.{IsFree, IsRest}
+use Rattle.dg_completion.specs.Completion.{IsOn, Rests}
+
+-- From a world that agrees with its table a tick or a heard frame leads to a world, also where it is refused.
+abbrev pub HappensLaw : Type 0
+HappensLaw = (w : World) (e : Event) → WorldAgrees w → IsFree e → (v : World) × (reports : List Report) × WorldStep w (record { event = e; cut = None }) v reports
+
+-- The most commits of a tick or a heard frame: an advert brings an order, which takes one, and a version of an image in
+-- place of an older one, which takes two.
+abbrev pub most_commits : ℕ
+most_commits = 3
+
+-- so many at its mote, and none elsewhere
+abbrev pub commits_at : ℕ → Event → ℕ
+commits_at m e = if mote_of e == m then most_commits else 0
+
+-- A tick or a heard frame makes no more.
+abbrev pub SpendLaw : Type 0
+SpendLaw = (w v : World) (e : Event) (reports : List Report) → WorldAgrees w → IsFree e → WorldStep w (record { event = e; cut = None }) v reports
+    → (m : ℕ) → (store_at w m).room ≤ (store_at v m).room + commits_at m e
+
+-- Every mote is on, and has room for whatever these events may commit there.
+pub record MayRest (w : World) (n : ℕ) (es : List Event) : Type 0 where
+  pub good : WorldAgrees w
+  pub rest : IsRest w.links n es
+  pub on : (m : ℕ) → m < length w.sites → IsOn w m
+  pub room : (m : ℕ) → m < length w.sites → spare_room + sum_by (commits_at m) es ≤ (store_at w m).room
+
+-- Then the rest happens, and meets what completion asks for.
+abbrev pub MetLaw : Type 0
+MetLaw = (w : World) (n : ℕ) (es : List Event) → MayRest w n es → (v : World) × Rests w n es v
