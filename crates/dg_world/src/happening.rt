@@ -388,7 +388,7 @@ fn inject<N: Nor>(
     }
 }
 
-/// Touches an order.
+/// Keeps an order.
 fn order<N: Nor>(
     runs: &mut Option<RunningMote>,
     number: u32,

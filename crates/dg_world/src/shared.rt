@@ -1,6 +1,6 @@
 //! What the motes of a world share.
 ghost use Rattle.std.specs.Prelude.{◌≡◌};
-ghost use Rattle.dg_world.specs.Shareds.{joins, is_linked};
+ghost use Rattle.dg_script.specs.Places.{joins, is_linked};
 
 use crate::air::Air;
 use crate::images::Images;

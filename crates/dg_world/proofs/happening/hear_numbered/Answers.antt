@@ -4,7 +4,7 @@ use Rattle.dg_nor.proofs.ReadLemmas.{Looked-none}
 use Rattle.dg_rules.specs.World.{Sent, site, store_at, frame_at, linked}
 use Rattle.dg_rules.specs.Events.{Does, Refuses, hear_by, heard_sent}
 use Rattle.dg_script.specs.declared.report.Cause.TheVariants as cause
-use Rattle.dg_world.specs.Shareds.{is_linked}
+use Rattle.dg_script.specs.Places.{is_linked}
 use Rattle.dg_world.specs.declared.turn.Turn.TheVariants.{Refused}
 use Rattle.dg_world.proofs.HappenLemmas.{not_off, is_off, refuses_at, ends_at, none_told}
 use Rattle.dg_world.proofs.happening.hear_numbered.Goals as goal
