@@ -27,6 +27,10 @@ const LINKED: [&str; 3] = ["motes 4", "golden base 0 hex:41", "link 0 1"];
 
 const EVENTS: [&str; 3] = ["motes 4", "golden base 0 hex:41", "reset 0 0 0"];
 
+const ROUND: [&str; 3] = ["motes 4", "golden base 0 hex:41", "round 0 1"];
+
+const SWEEP: [&str; 3] = ["motes 4", "golden base 0 hex:41", "sweeps 1"];
+
 const CUT: [&str; 3] = ["motes 4", "golden base 0 hex:41", "cut 1 ff"];
 
 const EVENTS_CUT: [&str; 4] = ["motes 4", "golden base 0 hex:41", "reset 0 0 0", "cut 1 ff"];
@@ -191,7 +195,7 @@ const EVENTS_LINES: [(&str, &str); 5] = [
     ("cut 1 ff", "cut 1 ff"),
 ];
 
-const CUT_LINES: [(&str, &str); 15] = [
+const CUT_LINES: [(&str, &str); 17] = [
     ("  # x", ""),
     ("tick 0 1 2", "tick 0 1 2"),
     ("reset 0 1 2", "reset 0 1 2"),
@@ -204,6 +208,8 @@ const CUT_LINES: [(&str, &str); 15] = [
     ("cut 1 ff", "cut"),
     ("cut x x", "cut"),
     ("cut 1 ff 1", "many"),
+    ("round 0 1", "cut"),
+    ("sweeps x", "cut"),
     ("motes 4", "place"),
     ("golden x x x", "place"),
     ("rese", "verb"),
@@ -259,11 +265,32 @@ const RADIO_LINES: [(&str, &str); 35] = [
     ),
 ];
 
-/// Lines that are not played yet.
-const UNPLAYED_LINES: [(&str, &str); 3] = [
+/// Rounds and sweeps, and lines that are not played yet.
+const ROUND_LINES: [(&str, &str); 17] = [
+    ("round 0 1", "round 0 1"),
+    ("  round   3   0  ", "round 3 0"),
+    ("round 0", "few"),
+    ("round 0 1 2", "many"),
+    ("round 4 1", "mote"),
+    ("round 0 4", "mote"),
+    ("round 2 2", "mote"),
+    ("round x 0", "number"),
+    ("round 0 00", "number"),
+    ("sweeps 1", "sweeps 1"),
+    ("sweeps 1000", "sweeps 1000"),
+    ("sweeps", "few"),
+    ("sweeps 1 1", "many"),
+    ("sweeps 0", "number"),
+    ("sweeps 1001", "number"),
+    ("sweeps 01", "number"),
     ("boards", "verb"),
-    ("round 0 1", "verb"),
-    ("sweeps 1", "verb"),
+];
+
+/// Lines behind a round or a sweep.
+const BEHIND_ROUND_LINES: [(&str, &str); 3] = [
+    ("link 0 1", "place"),
+    ("tick 0 1 2", "tick 0 1 2"),
+    ("sweeps 1", "sweeps 1"),
 ];
 
 /// Inputs, and what their first line says.
@@ -339,12 +366,14 @@ fn place_behind(alloc: Global, lines: &[&str]) -> Result<Place, Fail>
 
 #[test]
 fn lines_say_what_they_spell_at_their_place(rt: HostRuntime) -> Result<(), Fail> {
-    let tables: [(&[&str], Option<LineFault>, &[(&str, &str)]); 8] = [
+    let tables: [(&[&str], Option<LineFault>, &[(&str, &str)]); 10] = [
         (&FIRST, Some(LineFault::Place), &FIRST_LINES),
         (&SECOND, Some(LineFault::Place), &SECOND_LINES),
         (&LATER, None, &LATER_LINES),
         (&LINKED, None, &RADIO_LINES),
-        (&LATER, None, &UNPLAYED_LINES),
+        (&LATER, None, &ROUND_LINES),
+        (&ROUND, None, &BEHIND_ROUND_LINES),
+        (&SWEEP, None, &BEHIND_ROUND_LINES),
         (&EVENTS, None, &EVENTS_LINES),
         (&CUT, Some(LineFault::Cut), &CUT_LINES),
         (&EVENTS_CUT, Some(LineFault::Cut), &EVENTS_CUT_LINES),
