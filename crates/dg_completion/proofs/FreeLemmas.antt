@@ -93,6 +93,16 @@ ranged w (Inject m image version dt word) good free = absurd cc
 ranged w (OrderEvent m number image version dt word) good free = absurd cc
 ranged w (Frame m dt word bytes) good free = absurd cc
 
+-- a free event brings no frame from outside
+pub honest_free : (table : List Row) (e : Event) → IsFree e → HonestEvent table e
+honest_free table (Tick m dt word) free = tt
+honest_free table (Hear m dt word number) free = tt
+honest_free table (Last from m dt word) free = tt
+honest_free table (Reset m dt word) free = tt
+honest_free table (Inject m image version dt word) free = tt
+honest_free table (OrderEvent m number image version dt word) free = tt
+honest_free table (Frame m dt word bytes) free = absurd cc
+
 -- ---- what a free event does
 
 pub record FreeDeed (w : World) (m : ℕ) (d : Deed) : Type 0 where
@@ -206,15 +216,6 @@ module _ (laws : Laws) (w : World) (good : WorldAgrees w) where
         | inr k ↦ omega (arith, ap (λ (s : Site). pages_of s.store row) (other j k))
       ]
 
-  honest_free : (e : Event) → IsFree e → HonestEvent w.table e
-  honest_free (Tick m dt word) free = tt
-  honest_free (Hear m dt word number) free = tt
-  honest_free (Last from m dt word) free = tt
-  honest_free (Reset m dt word) free = tt
-  honest_free (Inject m image version dt word) free = tt
-  honest_free (OrderEvent m number image version dt word) free = tt
-  honest_free (Frame m dt word bytes) free = absurd cc
-
   module _ (v : World) (e : Event) (reports : List Report) (free : IsFree e) where
     abbrev step : Step
     step = record { event = e; cut = None }
@@ -234,7 +235,7 @@ module _ (laws : Laws) (w : World) (good : WorldAgrees w) where
     event_grows did = by_range (ranged w e good free)
       where
         by_range : Ranged w e → Grows w v
-        by_range (inl fits) = does_grows (does w e) fits (laws.agrees w v step reports good (record { event = fits; cut = tt }) (honest_free e free) did) (free_does e free) did
+        by_range (inl fits) = does_grows (does w e) fits (laws.agrees w v step reports good (record { event = fits; cut = tt }) (honest_free w.table e free) did) (free_does e free) did
         by_range (inr refused) = refused_grows v (dt_of e) (subst (λ D. StepDoes D w step v reports) refused.1 did).0
 
 pub free_law : Laws → FreeLaw

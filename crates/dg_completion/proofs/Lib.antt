@@ -12,3 +12,4 @@ pub mod EndLemmas
 pub mod HolderLemmas
 pub mod SpendLemmas
 pub mod MetLemmas
+pub mod GoOnLemmas

@@ -132,12 +132,12 @@ spend_law laws takes w v e reports good free did = spends laws takes w good v e 
 
 module _ (free : FreeLaw) (happen : HappensLaw) (spend : SpendLaw) where
   -- what comes of these events
-  record Came (w : World) (es : List Event) : Type 0 where
-    v : World
-    run : Follows w es v
-    room : (m : ℕ) → Spends (sum_by (commits_at m) es) (store_at w m) (store_at v m)
+  pub record Came (w : World) (es : List Event) : Type 0 where
+    pub v : World
+    pub run : Follows w es v
+    pub room : (m : ℕ) → Spends (sum_by (commits_at m) es) (store_at w m) (store_at v m)
 
-  comes : (es : List Event) (w : World) → WorldAgrees w → AllByRecursion IsFree es → Came w es
+  pub comes : (es : List Event) (w : World) → WorldAgrees w → AllByRecursion IsFree es → Came w es
   unfolding Follows
   comes [] w good all = record { v = w; run = refl; room = λ m. omega arith }
   comes (e ∷ es) w good all =

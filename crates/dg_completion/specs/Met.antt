@@ -1,15 +1,20 @@
 -- Rests whose premises are met: what a world needs so that a rest may follow.
-use Rattle.std.specs.Prelude.{ℕ, ◌+◌, ◌<◌, ◌≤◌, ◌==◌, if◌then◌else◌, List, length, None}
-use Rattle.std.specs.List.{sum_by}
+use Rattle.std.specs.Prelude.{◌≡◌, ℕ, ◌+◌, ◌<◌, ◌≤◌, ◌==◌, Bool, if◌then◌else◌, List, ◌++◌, length, map, None}
+use Rattle.std.specs.List.{AllByRecursion, sum_by}
 use Rattle.dg_base.specs.declared.events.Event.{Event}
+use Rattle.dg_script.specs.Items.{Item, Happens}
 use Rattle.dg_script.specs.declared.report.Report.{Report}
 use Rattle.dg_rules.specs.World.{World, store_at}
 use Rattle.dg_rules.specs.Events.{mote_of}
 use Rattle.dg_rules.specs.Steps.{WorldStep}
-use Rattle.dg_rules.specs.Premises.{WorldAgrees}
+use Rattle.dg_rules.specs.Runs.{Played}
+use Rattle.dg_rules.specs.Ranges.{EventFits}
+use Rattle.dg_rules.specs.Premises.{WorldAgrees, IsHonestThen}
+use Rattle.dg_rules.specs.Golden.{PlaysGolden}
 use Rattle.dg_mote.specs.Drained.{spare_room}
 use Rattle.dg_completion.specs.Rests.{IsFree, IsRest}
 use Rattle.dg_completion.specs.Completion.{IsOn, Rests}
+use Rattle.dg_completion.specs.Ends.{EndsInRest}
 
 -- From a world that agrees with its table a tick or a heard frame leads to a world, also where it is refused.
 abbrev pub HappensLaw : Type 0
@@ -39,3 +44,30 @@ pub record MayRest (w : World) (n : ℕ) (es : List Event) : Type 0 where
 -- Then the rest happens, and meets what completion asks for.
 abbrev pub MetLaw : Type 0
 MetLaw = (w : World) (n : ℕ) (es : List Event) → MayRest w n es → (v : World) × Rests w n es v
+
+-- ---- scripts
+
+-- an event that is not to be cut, as an item of a script
+abbrev pub happening : Bool → Event → Item
+happening loud e = Happens (record { event = e; cut = None }) loud
+
+-- Every number is in its range, every mote is on, and has room for whatever these events may commit there.
+pub record MayGoOn (motes : ℕ) (w : World) (n : ℕ) (es : List Event) : Type 0 where
+  pub rest : IsRest w.links n es
+  pub ranges : AllByRecursion (EventFits motes) es
+  pub on : (m : ℕ) → m < length w.sites → IsOn w m
+  pub room : (m : ℕ) → m < length w.sites → spare_room + sum_by (commits_at m) es ≤ (store_at w m).room
+
+-- What was played before goes on with these events, and so ends with a rest of n sweeps that begins in world w.
+pub record GoesOn (name bytes : List ℕ) (used motes : ℕ) (links : List (ℕ × ℕ)) (before : List Played) (w : World) (n : ℕ) (es : List Event) (loud : Bool) : Type 0 where
+  pub rest : List Played
+  pub items : map (λ p. p.item) rest ≡ map (happening loud) es
+  pub v : World
+  pub plays : PlaysGolden name bytes used motes links (before ++ rest) v
+  pub honest : AllByRecursion IsHonestThen (before ++ rest)
+  pub ends : EndsInRest (before ++ rest) w n v
+
+-- Whatever was played of a script with golden over honest frames goes on so.
+abbrev pub GoesOnLaw : Type 0
+GoesOnLaw = (name bytes : List ℕ) (used motes : ℕ) (links : List (ℕ × ℕ)) (before : List Played) (w : World) (n : ℕ) (es : List Event) (loud : Bool) → PlaysGolden name bytes used motes links before w
+    → AllByRecursion IsHonestThen before → MayGoOn motes w n es → GoesOn name bytes used motes links before w n es loud

@@ -7,7 +7,7 @@ ghost use Rattle.dg_completion.specs.Rests.{IsFree, IsRest};
 ghost use Rattle.dg_completion.specs.Completion.{FreeLaw, RoundLaw, PipelineLaw, CompletionLaw};
 ghost use Rattle.dg_completion.specs.Holders.{WithinLaw, EnoughLaw, OneEnoughLaw};
 ghost use Rattle.dg_completion.specs.Ends.{EndsLaw};
-ghost use Rattle.dg_completion.specs.Met.{HappensLaw, SpendLaw, MetLaw};
+ghost use Rattle.dg_completion.specs.Met.{HappensLaw, SpendLaw, MetLaw, GoesOnLaw};
 
 use dg_mote::{
     a_drained_mote_advertises, a_drained_mote_asks, a_drained_mote_serves, a_mote_drains,
@@ -112,6 +112,16 @@ pub fn a_free_event_happens()
 pub fn a_rest_happens()
     ensures { MetLaw }
 {
+    a_free_event_keeps_a_good_world();
+    a_free_event_happens();
+}
+
+/// What was played of a script with golden, over honest frames, can go on with a rest: where every mote is on and has room
+/// for what it may commit, there is what is played of these items, and it ends with a rest of so many sweeps.
+pub fn a_script_goes_on_with_a_rest()
+    ensures { GoesOnLaw }
+{
+    scripts_with_golden();
     a_free_event_keeps_a_good_world();
     a_free_event_happens();
 }

@@ -8,6 +8,6 @@ mod laws;
 
 pub use laws::{
     a_free_event_happens, a_free_event_keeps_a_good_world, a_rest_happens, a_round_raises,
-    distances_are_ways, enough_sweeps_complete, scripts_end_complete, sweeps_are_a_rest,
-    sweeps_fill_the_pipeline,
+    a_script_goes_on_with_a_rest, distances_are_ways, enough_sweeps_complete, scripts_end_complete,
+    sweeps_are_a_rest, sweeps_fill_the_pipeline,
 };
