@@ -1,6 +1,6 @@
 -- From what an event did over a fuse to what its board holds.
-use Rattle.std.proofs.Common.{◌≡◌, ℕ, ◌+◌, ◌-◌, ◌≤◌, Bool, true, false, refl, ap, sym, ◌∙◌, subst, inl, arith}
-use Rattle.std.specs.Prelude.{◌||◌, ◌∷◌, nat_le, Option, Some, None, Result, Ok, Err, IsSomeAnd}
+use Rattle.std.proofs.Common.{◌≡◌, ℕ, ◌+◌, ◌-◌, ◌≤◌, Bool, true, false, refl, ap, sym, ◌∙◌, subst, arith}
+use Rattle.std.specs.Prelude.{◌||◌, ◌&&◌, not, if◌then◌else◌, ◌∷◌, nat_le, Option, Some, None, Result, Ok, Err, IsSomeAnd}
 use Rattle.std.proofs.lemmas.Bool.{lt-leb, le-leb}
 use Rattle.std.proofs.lemmas.Option.{same_Some}
 use Rattle.std.specs.Borrow.{GName}
@@ -9,6 +9,7 @@ use Rattle.dg_nor.specs.Fuse.{beneath_of, inner_of, fused_device}
 use Rattle.dg_nor.specs.declared.fuse.Fused.{Fused}
 use Rattle.dg_nor.specs.Trail.{operations, last, MayLeave}
 use Rattle.dg_nor.proofs.DeviceLemmas.{left_ran, left_blown}
+use Rattle.dg_nor.proofs.MaskLemmas.{Endures_ran, Endures_halts}
 use Rattle.dg_nor.proofs.TrailLemmas.{operations-resting}
 use Rattle.dg_volume.specs.Store.{IsNear}
 use Rattle.dg_volume.specs.Stands.{Stands}
@@ -16,7 +17,7 @@ use Rattle.dg_rules.specs.World.{World as RuleWorld, store_at}
 use Rattle.dg_rules.specs.Events.{Does, Refuses, Goes}
 use Rattle.dg_base.specs.declared.events.Cut.{Cut as PowerCut}
 use Rattle.dg_world.specs.Turns.{trail_of, Tells, Went, StoppedOn, TurnEnds}
-use Rattle.dg_world.specs.Cuts.{ended, IsWhole, IsBlown, PlayEnds, Played}
+use Rattle.dg_world.specs.Cuts.{ended, IsWhole, IsBlown, IsStopped, Played}
 use Rattle.dg_world.specs.declared.shown.Shown.{Shown}
 use Rattle.dg_world.specs.declared.turn.Turn.{Turn}
 use Rattle.dg_world.specs.declared.turn.Turn.TheVariants.{Refused, Rests, Sends, Changes, Starts}
@@ -27,23 +28,17 @@ use Rattle.dg_world.specs.declared.turn.Halt.TheVariants.{Stopped, NotAVolume, N
 
 -- ---- without a cut
 
-ran_endures : {n : ℕ} (a b : Device) → Ran n a b → Endures (beneath_of a) (beneath_of b)
-ran_endures a b r = record { faults = r.faults; cause = λ stopped. inl (sym r.stopped ∙ stopped) }
-
-halts_endures : {n done : ℕ} (a b : Device) → Halts n done a b → Endures (beneath_of a) (beneath_of b)
-halts_endures a b h = record { faults = h.faults; cause = λ stopped. h.cause }
-
 went_whole : (w : RuleWorld) (m : ℕ) (does : Does) (u : Option RunningMote) (a b : Device) (turn : Turn) → Went w m does u a b turn → IsWhole w m does None u b.image turn
 went_whole w m does u a b turn x = record { deed = x.deed; goes = x.goes; whole = refl; tells = x.tells }
 
 pub uncut : (r : Result Turn Halt) (w : RuleWorld) (m : ℕ) (does : Does) (v u : Option RunningMote) (a b : Device) → TurnEnds r w m does v u a b → Played (ended false r) w m does None v u a b
-uncut (Ok (Refused why)) w m does v u a b x = record { ends = (x.0, x.1.same_image, x.2); endures = ran_endures a b x.1.ran }
-uncut (Ok Rests) w m does v u a b x = record { ends = went_whole w m does u a b Rests x; endures = ran_endures a b x.ran }
-uncut (Ok (Sends frame)) w m does v u a b x = record { ends = went_whole w m does u a b (Sends frame) x; endures = ran_endures a b x.ran }
-uncut (Ok (Changes p q)) w m does v u a b x = record { ends = went_whole w m does u a b (Changes p q) x; endures = ran_endures a b x.ran }
-uncut (Ok (Starts p)) w m does v u a b x = record { ends = went_whole w m does u a b (Starts p) x; endures = ran_endures a b x.ran }
-uncut (Err (Stopped before)) w m does v u a b x = record { ends = record { stopped = x.stops.halts.stopped; done = x.stops.done; within = x.stops.halts.within; uncut = tt; leaves = x.stops.leaves }; endures = halts_endures a b x.stops.halts }
-uncut (Err NoImage) w m does v u a b x = record { ends = record { deed = x.deed; goes = x.goes; none = x.none; whole = refl; stands = x.stands }; endures = ran_endures a b x.ran }
+uncut (Ok (Refused why)) w m does v u a b x = record { ends = (x.0, x.1.same_image, x.2); endures = Endures_ran x.1.ran; count = x.1.ran.faults }
+uncut (Ok Rests) w m does v u a b x = record { ends = went_whole w m does u a b Rests x; endures = Endures_ran x.ran; count = x.ran.faults }
+uncut (Ok (Sends frame)) w m does v u a b x = record { ends = went_whole w m does u a b (Sends frame) x; endures = Endures_ran x.ran; count = x.ran.faults }
+uncut (Ok (Changes p q)) w m does v u a b x = record { ends = went_whole w m does u a b (Changes p q) x; endures = Endures_ran x.ran; count = x.ran.faults }
+uncut (Ok (Starts p)) w m does v u a b x = record { ends = went_whole w m does u a b (Starts p) x; endures = Endures_ran x.ran; count = x.ran.faults }
+uncut (Err (Stopped before)) w m does v u a b x = record { ends = record { stopped = x.stops.halts.stopped; done = x.stops.done; within = x.stops.halts.within; uncut = tt; leaves = x.stops.leaves }; endures = Endures_halts x.stops.halts; count = tt }
+uncut (Err NoImage) w m does v u a b x = record { ends = record { deed = x.deed; goes = x.goes; none = x.none; whole = refl; stands = x.stands }; endures = Endures_ran x.ran; count = x.ran.faults }
 uncut (Err NotAVolume) w m does v u a b x = absurd x
 
 -- ---- over a fuse
@@ -54,8 +49,10 @@ pub record IsFused (cut : PowerCut) (a b x y : Device) : Type 0 where
   pub whole : x.blown ≡ false
   pub left : x.left ≡ Some (cut.after - 1)
   pub image : x.image ≡ a.image
+  pub faults : x.faults ≡ a.faults
   pub beneath : x.beneath ≡ Some (beneath_of a)
   pub image_then : y.image ≡ b.image
+  pub faults_then : y.blown ≡ false → y.faults ≡ b.faults
   pub beneath_then : y.beneath ≡ Some (beneath_of b)
   pub stopped : y.blown ≡ false → y.stopped ≡ true → b.stopped ≡ true
 
@@ -69,6 +66,9 @@ not_reached cut n a b x y f r =
 
 fused_ran : {n : ℕ} (cut : PowerCut) (a b x y : Device) → IsFused cut a b x y → Ran n x y → Endures (beneath_of a) (beneath_of b)
 fused_ran cut a b x y f r = endures_by (beneath_of a) (beneath_of b) x.beneath y.beneath f.beneath f.beneath_then r.beneath
+
+fused_count : {n : ℕ} (cut : PowerCut) (a b x y : Device) → IsFused cut a b x y → Ran n x y → b.faults ≡ a.faults
+fused_count cut a b x y f r = sym (f.faults_then (r.blown ∙ f.whole)) ∙ r.faults ∙ f.faults
 
 fused_halts : {n done : ℕ} (cut : PowerCut) (a b x y : Device) → IsFused cut a b x y → Halts n done x y → Endures (beneath_of a) (beneath_of b)
 fused_halts cut a b x y f h = endures_by (beneath_of a) (beneath_of b) x.beneath y.beneath f.beneath f.beneath_then h.beneath
@@ -101,28 +101,37 @@ made_within : (n k : ℕ) (o : Option ℕ) → Some k ≡ more n o → n ≤ k
 made_within n k None h = cc
 made_within n k (Some m) h = let e : k ≡ m + n = same_Some k (m + n) h in omega (arith, e)
 
-fused_stopped : (cut : PowerCut) (w : RuleWorld) (m : ℕ) (does : Does) (v u : Option RunningMote) (a b x y : Device) (before : Option Shown) (blown : Bool) → y.blown ≡ blown → IsFused cut a b x y → StoppedOn does (store_at w m) x y before
-    → PlayEnds (ended blown (Err (Stopped before))) w m does (Some cut) v u a b
-fused_stopped cut w m does v u a b x y before true is f s = blown_deed cut w m does a b x y before f is s
-fused_stopped cut w m does v u a b x y before false is f s = record {
-  stopped = f.stopped is s.stops.halts.stopped;
+-- the board itself stopped, whether the cut blew or not
+stopped_itself : (cut : PowerCut) (w : RuleWorld) (m : ℕ) (does : Does) (a b x y : Device) (before : Option Shown) → b.stopped ≡ true → IsFused cut a b x y → StoppedOn does (store_at w m) x y before → IsStopped w m does (Some cut) b
+stopped_itself cut w m does a b x y before stopped f s = record {
+  stopped = stopped;
   done = s.stops.done;
   within = s.stops.halts.within;
   uncut = made_within s.stops.done (cut.after - 1) y.left (sym f.left ∙ s.stops.halts.left);
   leaves = subst (λ c. MayLeave Stands IsNear (trail_of does (store_at w m)) s.stops.done c) f.image_then s.stops.leaves;
 }
 
-pub fused : (r : Result Turn Halt) (cut : PowerCut) (w : RuleWorld) (m : ℕ) (does : Does) (v u : Option RunningMote) (a b x y : Device) → IsFused cut a b x y → TurnEnds r w m does v u x y → Played (ended y.blown r) w m does (Some cut) v u a b
-fused (Ok (Refused why)) cut w m does v u a b x y f t = record { ends = (t.0, sym f.image_then ∙ t.1.same_image ∙ f.image, t.2); endures = fused_ran cut a b x y f t.1.ran }
-fused (Ok Rests) cut w m does v u a b x y f t = record { ends = fused_whole cut w m does u a b x y Rests f t; endures = fused_ran cut a b x y f t.ran }
-fused (Ok (Sends frame)) cut w m does v u a b x y f t = record { ends = fused_whole cut w m does u a b x y (Sends frame) f t; endures = fused_ran cut a b x y f t.ran }
-fused (Ok (Changes p q)) cut w m does v u a b x y f t = record { ends = fused_whole cut w m does u a b x y (Changes p q) f t; endures = fused_ran cut a b x y f t.ran }
-fused (Ok (Starts p)) cut w m does v u a b x y f t = record { ends = fused_whole cut w m does u a b x y (Starts p) f t; endures = fused_ran cut a b x y f t.ran }
-fused (Err (Stopped before)) cut w m does v u a b x y f t = record { ends = fused_stopped cut w m does v u a b x y before y.blown refl f t; endures = fused_halts cut a b x y f t.stops.halts }
+fused_stopped : (cut : PowerCut) (w : RuleWorld) (m : ℕ) (does : Does) (v u : Option RunningMote) (a b x y : Device) (before : Option Shown) (blown stopped : Bool) → y.blown ≡ blown → b.stopped ≡ stopped → IsFused cut a b x y → StoppedOn does (store_at w m) x y before
+    → Played (ended (blown && not stopped) (Err (Stopped before))) w m does (Some cut) v u a b
+fused_stopped cut w m does v u a b x y before true false blew awake f s =
+    let endures = fused_halts cut a b x y f s.stops.halts in
+    record { ends = blown_deed cut w m does a b x y before f blew s; endures = endures; count = endures.calm awake }
+fused_stopped cut w m does v u a b x y before true true blew stopped f s = record { ends = stopped_itself cut w m does a b x y before stopped f s; endures = fused_halts cut a b x y f s.stops.halts; count = tt }
+fused_stopped cut w m does v u a b x y before false stopped whole is f s =
+    record { ends = stopped_itself cut w m does a b x y before (f.stopped whole s.stops.halts.stopped) f s; endures = fused_halts cut a b x y f s.stops.halts; count = tt }
+
+pub fused : (r : Result Turn Halt) (cut : PowerCut) (w : RuleWorld) (m : ℕ) (does : Does) (v u : Option RunningMote) (a b x y : Device) → IsFused cut a b x y → TurnEnds r w m does v u x y → Played (ended (y.blown && not b.stopped) r) w m does (Some cut) v u a b
+fused (Ok (Refused why)) cut w m does v u a b x y f t = record { ends = (t.0, sym f.image_then ∙ t.1.same_image ∙ f.image, t.2); endures = fused_ran cut a b x y f t.1.ran; count = fused_count cut a b x y f t.1.ran }
+fused (Ok Rests) cut w m does v u a b x y f t = record { ends = fused_whole cut w m does u a b x y Rests f t; endures = fused_ran cut a b x y f t.ran; count = fused_count cut a b x y f t.ran }
+fused (Ok (Sends frame)) cut w m does v u a b x y f t = record { ends = fused_whole cut w m does u a b x y (Sends frame) f t; endures = fused_ran cut a b x y f t.ran; count = fused_count cut a b x y f t.ran }
+fused (Ok (Changes p q)) cut w m does v u a b x y f t = record { ends = fused_whole cut w m does u a b x y (Changes p q) f t; endures = fused_ran cut a b x y f t.ran; count = fused_count cut a b x y f t.ran }
+fused (Ok (Starts p)) cut w m does v u a b x y f t = record { ends = fused_whole cut w m does u a b x y (Starts p) f t; endures = fused_ran cut a b x y f t.ran; count = fused_count cut a b x y f t.ran }
+fused (Err (Stopped before)) cut w m does v u a b x y f t = fused_stopped cut w m does v u a b x y before y.blown b.stopped refl refl f t
 fused (Err NoImage) cut w m does v u a b x y f t =
     record {
       ends = record { deed = t.deed; goes = t.goes; none = t.none; whole = not_reached cut (operations t.deed.trail) a b x y f t.ran; stands = subst (λ c. Stands c (last t.deed.trail)) f.image_then t.stands };
       endures = fused_ran cut a b x y f t.ran;
+      count = fused_count cut a b x y f t.ran;
     }
 fused (Err NotAVolume) cut w m does v u a b x y f t = absurd t
 
@@ -147,8 +156,10 @@ is_fused device cut a f g name counted made = record {
   whole = ap (λ (d : Device). d.blown) made;
   left = ap (λ (d : Device). d.left) made;
   image = ap (λ (d : Device). d.image) made;
+  faults = ap (λ (d : Device). d.faults) made;
   beneath = ap (λ (d : Device). d.beneath) made;
   image_then = refl;
+  faults_then = λ whole. ap (λ (blown : Bool). (device (inner_of g)).faults + (if blown then 1 else 0)) whole ∙ omega arith;
   beneath_then = refl;
   stopped = λ whole stopped. or_second g.blown (device (inner_of g)).stopped whole stopped;
 }

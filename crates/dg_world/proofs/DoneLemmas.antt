@@ -172,11 +172,11 @@ pub step_turn : (w : RuleWorld) (x : Step) (loud : Bool) (v u : Option RunningMo
     → Played (Ok (Whole turn)) w (mote_of x.event) (does w x.event) x.cut v u a b → option_map (λ f. f.items) frame ≡ turn_frame turn → end ≡ start ++ filter (is_told loud) (turn_lines (mote_of x.event) turn)
     → Stepped (Ok frame) w x loud u a b start end
 step_turn w x loud v u frame (Refused why) a b start end known stands p sends told =
-    record { ends = refused_done w x loud v u frame why a b start end known stands p.ends.0 p.ends.1 p.ends.2 sends told; endures = p.endures }
-step_turn w x loud v u frame Rests a b start end known stands p sends told = record { ends = whole_done w x loud u frame Rests b start end p.ends sends told; endures = p.endures }
-step_turn w x loud v u frame (Sends f) a b start end known stands p sends told = record { ends = whole_done w x loud u frame (Sends f) b start end p.ends sends told; endures = p.endures }
-step_turn w x loud v u frame (Changes k l) a b start end known stands p sends told = record { ends = whole_done w x loud u frame (Changes k l) b start end p.ends sends told; endures = p.endures }
-step_turn w x loud v u frame (Starts k) a b start end known stands p sends told = record { ends = whole_done w x loud u frame (Starts k) b start end p.ends sends told; endures = p.endures }
+    record { ends = refused_done w x loud v u frame why a b start end known stands p.ends.0 p.ends.1 p.ends.2 sends told; endures = p.endures; count = p.count }
+step_turn w x loud v u frame Rests a b start end known stands p sends told = record { ends = whole_done w x loud u frame Rests b start end p.ends sends told; endures = p.endures; count = p.count }
+step_turn w x loud v u frame (Sends f) a b start end known stands p sends told = record { ends = whole_done w x loud u frame (Sends f) b start end p.ends sends told; endures = p.endures; count = p.count }
+step_turn w x loud v u frame (Changes k l) a b start end known stands p sends told = record { ends = whole_done w x loud u frame (Changes k l) b start end p.ends sends told; endures = p.endures; count = p.count }
+step_turn w x loud v u frame (Starts k) a b start end known stands p sends told = record { ends = whole_done w x loud u frame (Starts k) b start end p.ends sends told; endures = p.endures; count = p.count }
 
 -- the operations before a cut that blows are some of the event's
 blown_within : (cut : Option PowerCut) (t : Trail Store) → blows cut t ≡ true → before_cut cut ≤ operations t
@@ -200,6 +200,7 @@ step_cut w x loud v u before q y a b c start end p is lines =
     record {
       ends = cut_done w x loud before b c start end p.ends l.0 l.1.same_image;
       endures = Endures_then (beneath_of a) (beneath_of b) (beneath_of c) p.endures l.1.endures;
+      count = l.2 ∙ p.count;
     }
 
 cut_halts : (h : Halt) (w : RuleWorld) (x : Step) (loud : Bool) (v u o : Option RunningMote) (before : Option Shown) (a b c : Device) (start end : List Report) → (p : Played (Ok (Cut before)) w (mote_of x.event) (does w x.event) x.cut v u a b)
@@ -217,6 +218,7 @@ cut_halts (Stopped k) w x loud v u o before a b c start end p lines = record {
     lines.2,
   );
   endures = Endures_then (beneath_of a) (beneath_of b) (beneath_of c) p.endures lines.1.endures;
+  count = tt;
 }
 cut_halts NotAVolume w x loud v u o before a b c start end p lines = absurd lines
 cut_halts NoImage w x loud v u o before a b c start end p lines = absurd lines
@@ -229,9 +231,9 @@ step_cut_halts (Err y) q h w x loud v u o before a b c start end is e p lines =
     subst P (sym is) (cut_halts h w x loud v u o before a b c start end p (subst (λ (z : Result (Unit {0}) Halt). CutLines z (mote_of x.event) before p.ends.leaves.store b c start end) e lines))
 
 pub step_halts : (h : Halt) (w : RuleWorld) (x : Step) (loud : Bool) (v u : Option RunningMote) (a b : Device) (told : List Report) → Played (Err h) w (mote_of x.event) (does w x.event) x.cut v u a b → Stepped (Err h) w x loud u a b told told
-step_halts (Stopped k) w x loud v u a b told p = record { ends = (p.ends, refl); endures = p.endures }
+step_halts (Stopped k) w x loud v u a b told p = record { ends = (p.ends, refl); endures = p.endures; count = tt }
 step_halts NotAVolume w x loud v u a b told p = absurd p.ends
-step_halts NoImage w x loud v u a b told p = record { ends = (p.ends, refl); endures = p.endures }
+step_halts NoImage w x loud v u a b told p = record { ends = (p.ends, refl); endures = p.endures; count = p.count }
 
 -- the mote of a step that fits is one of the world
 pub event_mote : (motes : ℕ) (event : Event) → EventFits motes event → mote_of event < motes

@@ -10,6 +10,7 @@ use Rattle.std.proofs.lemmas.Option.{slice_get-get_or, get_or_from_slice_get}
 use Rattle.dg_nor.specs.Device.{Device, Endures}
 use Rattle.dg_nor.specs.Fuse.{beneath_of}
 use Rattle.dg_nor.specs.Reads.{ReadStopped}
+use Rattle.dg_nor.proofs.MaskLemmas.{Endures_halts}
 use Rattle.dg_slot.specs.Kept.{Held}
 use Rattle.dg_volume.specs.Sizes.{images}
 use Rattle.dg_volume.specs.Store.{Store, held}
@@ -165,4 +166,4 @@ pub boards_there : {N : Type 0} (f : N → Device) (old now : List N) (v : World
 boards_there f old now v w n same is within = omega (arith, within, same, is.motes, is.boards_enough, length-map old f)
 
 pub read_endures : (a b : Device) → ReadStopped a b → Endures (beneath_of a) (beneath_of b)
-read_endures a b s = record { faults = s.halts.faults; cause = λ h. s.halts.cause }
+read_endures a b s = Endures_halts s.halts

@@ -2,16 +2,19 @@
 use Rattle.std.proofs.Common.{◌≡◌, ◌≢◌, ℕ, ◌+◌, ◌<◌, ◌≤◌, inl, inr, false, List, length, refl, ap, sym, ◌∙◌, subst, arith}
 use Rattle.std.specs.Prelude.{Some, Result, Err, slice_get}
 use Rattle.std.proofs.Math.ListN.{length-set}
-use Rattle.std.proofs.lemmas.Bool.{cases_eq}
+use Rattle.std.proofs.lemmas.Bool.{cases_eq, both_ways}
 use Rattle.dg_nor.specs.Device.{Device, Endures, Ran}
 use Rattle.dg_nor.specs.Fuse.{beneath_of}
 use Rattle.dg_nor.proofs.DeviceLemmas.{Endures-same}
+use Rattle.dg_nor.proofs.MaskLemmas.{Endures_ran}
 use Rattle.dg_nor.specs.Reads.{ActStopped}
 use Rattle.dg_volume.specs.Store.{Store}
 use Rattle.dg_volume.specs.Stands.{Stands}
+use Rattle.dg_world.specs.Counts.{NoneRose}
 use Rattle.dg_world.specs.Formatted.{FirstBoards, FormatStops}
 use Rattle.dg_world.specs.declared.format.FormatStopped.{FormatStopped}
 use Rattle.dg_world.proofs.BoardLemmas.{Used, same_some, get_same, get_other}
+use Rattle.dg_world.proofs.CountLemmas.{NoneRose-same}
 
 pub same_err : {E : Type 0} (a b : E) → (let x : Result (Unit {0}) E = Err a in x ≡ Err b) → a ≡ b
 same_err a b e = cc
@@ -21,6 +24,7 @@ pub record FormattedTo (n : ℕ) (s : Store) (old new : List Device) : Type 0 wh
   pub boards : FirstBoards n old new
   pub formatted : (m : ℕ) (d : Device) → m < n → slice_get new m ≡ Some d → Stands d.image s
   pub awake : (m : ℕ) (d : Device) → m < n → slice_get old m ≡ Some d → d.stopped ≡ false
+  pub calm : NoneRose old new
 
 pub first_none : (ds : List Device) → FirstBoards 0 ds ds
 first_none ds =
@@ -37,6 +41,7 @@ formatted_none s ds =
       boards = first_none ds;
       formatted = λ m d h here. absurd (omega (arith, h));
       awake = λ m d h here. absurd (omega (arith, h));
+      calm = NoneRose-same ds;
     }
 
 -- the board was not used before
@@ -60,6 +65,17 @@ endures_more n m old now new d e a b first used kept here there =
       | inr other ↦ first.endures m a b here (sym (is_other n m now new d e used other) ∙ there)
     ]
 
+-- no count rose before, nor does that of the board that is used next
+pub calm_more : (n : ℕ) (old now new : List Device) (d e : Device) → FirstBoards n old now → Used n now new d e → NoneRose old now → e.faults ≡ d.faults → NoneRose old new
+calm_more n old now new d e first used calm stays = λ m a b here there.
+    elim (cases_eq m n) [
+      | inl same ↦
+          let p : d ≡ a = same_some d a (sym (unused n old now new d e first used) ∙ ap (slice_get old) (sym same) ∙ here) in
+          let q : b ≡ e = same_some b e (sym there ∙ ap (slice_get new) same ∙ is_now n now new d e used) in
+          ap (λ (x : Device). x.faults) q ∙ stays ∙ ap (λ (x : Device). x.faults) p
+      | inr other ↦ calm m a b here (sym (is_other n m now new d e used other) ∙ there)
+    ]
+
 -- one board more was used
 pub first_more : (n : ℕ) (old now new : List Device) (d e : Device) → FirstBoards n old now → Used n now new d e → Endures (beneath_of d) (beneath_of e) → FirstBoards (n + 1) old new
 first_more n old now new d e first used kept =
@@ -74,9 +90,9 @@ pub first_within : (n k : ℕ) (old new : List Device) → FirstBoards n old new
 first_within n k old new first within = record { count = first.count; others = λ m h. first.others m (omega (arith, h, within)); counts = first.counts; endures = first.endures }
 
 -- one board more was formatted
-pub formatted_more : (n : ℕ) (s : Store) (old now new : List Device) (d e : Device) → FormattedTo n s old now → Used n now new d e → Endures (beneath_of d) (beneath_of e) → d.stopped ≡ false → Stands e.image s
+pub formatted_more : (n : ℕ) (s : Store) (old now new : List Device) (d e : Device) → FormattedTo n s old now → Used n now new d e → Endures (beneath_of d) (beneath_of e) → d.stopped ≡ false → e.faults ≡ d.faults → Stands e.image s
     → FormattedTo (n + 1) s old new
-formatted_more n s old now new d e to used kept awake stands =
+formatted_more n s old now new d e to used kept awake stays stands =
     record {
       boards = first_more n old now new d e to.boards used kept;
       formatted = λ m x h here. elim (cases_eq m n) [
@@ -87,6 +103,7 @@ formatted_more n s old now new d e to used kept awake stands =
         | inl same ↦ subst (λ (y : Device). y.stopped ≡ false) (same_some d x (sym (unused n old now new d e to.boards used) ∙ ap (slice_get old) (sym same) ∙ here)) awake
         | inr other ↦ to.awake m x (omega (arith, h, other)) here
       ];
+      calm = calm_more n old now new d e to.boards used to.calm stays;
     }
 
 -- the next board stopped
@@ -112,7 +129,7 @@ board_of board e motes chip old new is stops =
 
 -- what is said of a board that ran, or that stopped
 pub ran_endures : {n : ℕ} (a b : Device) → Ran n a b → Endures (beneath_of a) (beneath_of b)
-ran_endures a b r = record { faults = r.faults; cause = λ h. inl (sym r.stopped ∙ h) }
+ran_endures a b r = Endures_ran r
 
 pub stopped_endures : (a b : Device) → ActStopped a b → Endures (beneath_of a) (beneath_of b)
-stopped_endures a b s = record { faults = s.faults; cause = λ h. s.cause }
+stopped_endures a b s = record { faults = s.faults; cause = λ h. s.cause; stays = λ was. s.stopped; calm = λ awake. absurd (both_ways b.stopped awake s.stopped) }

@@ -9,6 +9,7 @@ pub mod InjectLemmas
 pub mod HappenLemmas
 pub mod CutLemmas
 pub mod BoardLemmas
+pub mod CountLemmas
 pub mod FormatLemmas
 pub mod StepLemmas
 pub mod DoneLemmas

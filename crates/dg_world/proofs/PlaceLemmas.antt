@@ -28,6 +28,7 @@ use Rattle.dg_world.specs.Airs.{Carries, sent_now}
 use Rattle.dg_world.specs.Images.{Declares}
 use Rattle.dg_world.specs.Shareds.{IsShared}
 use Rattle.dg_world.specs.Worlds.{MoteStands, SiteStands, MayRun, IsWorld}
+use Rattle.dg_world.specs.Counts.{NoneRose}
 use Rattle.dg_world.specs.Applied.{OneBoard, Applied, FlashAt, Ended, ApplyEnds, fault_of}
 use Rattle.dg_world.specs.Cuts.{IsStopped, IsLacking}
 use Rattle.dg_world.specs.Stepped.{StepDone, Stepped}
@@ -85,6 +86,17 @@ one_board bs i a b known here kept =
       counts = λ k p q old new. (all k p q old new).faults;
       endures = all;
     }
+
+-- where the count of that board stays, no board's count rose
+pub calm_board : (bs : List Device) (i : ℕ) (a b : Device) → i < length bs → slice_get bs i ≡ Some a → b.faults ≡ a.faults → NoneRose bs (set bs i b)
+calm_board bs i a b known here kept = λ k p q old new.
+    ⊎_elim
+    (λ is.
+    let ep : p ≡ a = same_of (slice_get bs i) p a (sym (ap (slice_get bs) is) ∙ old) here in
+    let eq : q ≡ b = same_of (slice_get (set bs i b) i) q b (sym (ap (slice_get (set bs i b)) is) ∙ new) (get_set_same bs i b known) in
+    ap (λ (d : Device). d.faults) eq ∙ kept ∙ ap (λ (d : Device). d.faults) (sym ep))
+    (λ other. ap (λ (d : Device). d.faults) (same_of (slice_get bs k) q p (sym (get_set_other bs i k b other) ∙ new) old))
+    (is_or k i)
 
 -- ---- the world then
 
@@ -148,8 +160,8 @@ module _ (v u : World) (bs : List Device) (w : RuleWorld) (x : Step) (loud : Boo
     sites = site_then;
   }
 
-  pub applied : (a : Device) → v.events < most_events → dt_of x.event < 2 ^ 32 → WorldTimely s.world → slice_get bs i ≡ Some a → Endures (beneath_of a) (beneath_of b) → Applied w x loud u bs (set bs i b) start end
-  applied a few short timely here endures =
+  pub applied : (a : Device) → v.events < most_events → dt_of x.event < 2 ^ 32 → WorldTimely s.world → slice_get bs i ≡ Some a → Endures (beneath_of a) (beneath_of b) → b.faults ≡ a.faults → Applied w x loud u bs (set bs i b) start end
+  applied a few short timely here endures stays =
       let wide : i < length bs = omega (arith, known, is.boards_enough) in
       record {
         world = s.world;
@@ -158,6 +170,7 @@ module _ (v u : World) (bs : List Device) (w : RuleWorld) (x : Step) (loud : Boo
         stood = world_then few short timely;
         told_now = s.told_now;
         boards = subst (λ (j : ℕ). OneBoard j bs (set bs i b)) at (one_board bs i a b wide here endures);
+        calm = calm_board bs i a b wide here stays;
         memory = λ d r e goes whole some there.
             let eb : e ≡ b = same_of (slice_get (set bs i b) i) e b (ap (slice_get (set bs i b)) at ∙ there) (get_set_same bs i b wide) in
             subst (λ (y : Device). program y.image (length r.pages) ≡ r.pages) (sym eb) (s.memory d r goes whole some);
@@ -182,9 +195,9 @@ flashed v bs w x i a b is at known here endures s =
       boards = one_board bs i a b wide here endures;
     }
 
-pub lacked : (v : World) (bs : List Device) (w : RuleWorld) (x : Step) (i : ℕ) (a b : Device) → IsWorld v bs w → i ≡ mote_of x.event → i < length w.sites → slice_get bs i ≡ Some a → Endures (beneath_of a) (beneath_of b)
+pub lacked : (v : World) (bs : List Device) (w : RuleWorld) (x : Step) (i : ℕ) (a b : Device) → IsWorld v bs w → i ≡ mote_of x.event → i < length w.sites → slice_get bs i ≡ Some a → Endures (beneath_of a) (beneath_of b) → b.faults ≡ a.faults
     → IsLacking (does w x.event) x.cut b.image → Ended w x bs (set bs i b)
-lacked v bs w x i a b is at known here endures s =
+lacked v bs w x i a b is at known here endures stays s =
     let wide : i < length bs = omega (arith, known, is.boards_enough) in
     let m = mote_of x.event in
     let then_site : Site = record { store = last s.deed.trail; runs = None } in
@@ -208,6 +221,7 @@ lacked v bs w x i a b is at known here endures s =
           subst P (sym ey) before.stands)
           (is_or k i);
       boards = subst (λ (j : ℕ). OneBoard j bs (set bs i b)) at (one_board bs i a b wide here endures);
+      calm = calm_board bs i a b wide here stays;
     }
 
 pub got_or : {N : Type 0} (f : N → Device) (xs : List N) (i : ℕ) (d : N) → i < length xs → slice_get (map f xs) i ≡ Some (f (get_or xs i d))
@@ -241,7 +255,7 @@ halts_at (Stopped k) f v u bs w x loud runs i mote a b start end is_fault same i
 halts_at NotAVolume f v u bs w x loud runs i mote a b start end is_fault same is at known here s = absurd s.ends
 halts_at NoImage f v u bs w x loud runs i mote a b start end is_fault same is at known here s =
     let P : WorldFault → Type 0 = λ y. ApplyEnds (Err y) w x loud u bs (set bs i b) start end in
-    subst P (sym is_fault) (lacked v bs w x i a b is at known here s.endures s.ends.0, s.ends.1)
+    subst P (sym is_fault) (lacked v bs w x i a b is at known here s.endures s.count s.ends.0, s.ends.1)
 
 -- a step that fits one world that the code stands for fits every one
 pub fits_each : (v : World) (bs : List Device) (w u : RuleWorld) (x : Step) → IsWorld v bs w → IsWorld v bs u → StepFits (length w.sites) x → StepFits (length u.sites) x
@@ -252,7 +266,7 @@ pub applied_at : (v u : World) (bs cs : List Device) (w : RuleWorld) (x : Step) 
     → Moves v u i (w.moment + dt_of x.event) runs frame → slice_get bs i ≡ Some a → (s : Stepped (Ok frame) w x loud runs a b start end) → ((z : RuleWorld) (reports : List Report) → WorldStep w x z reports → WorldTimely z) → Applied w x loud u bs cs start end
 applied_at v u bs cs w x loud i runs frame a b start end e is at known few short moves here s timely =
     subst (λ (ds : List Device). Applied w x loud u bs ds start end) (sym e)
-    (applied v u bs w x loud i runs frame b start end is at known moves s.ends a few short (timely s.ends.world s.ends.reports s.ends.step) here s.endures)
+    (applied v u bs w x loud i runs frame b start end is at known moves s.ends a few short (timely s.ends.world s.ends.reports s.ends.step) here s.endures s.count)
 
 pub halts_there : (h : Halt) (f : WorldFault) (v u : World) (bs cs : List Device) (w : RuleWorld) (x : Step) (loud : Bool) (runs : Option RunningMote) (i mote : ℕ) (a b : Device) (start end : List Report) → cs ≡ set bs i b → f ≡ fault_of h mote → i ≡ mote → IsWorld v bs w → i ≡ mote_of x.event → i < length w.sites
     → slice_get bs i ≡ Some a → Stepped (Err h) w x loud runs a b start end → ApplyEnds (Err f) w x loud u bs cs start end

@@ -1,11 +1,12 @@
 -- What is told of a step, and where it leaves its board.
-use Rattle.std.proofs.Common.{◌≡◌, ℕ, List, [], ◌∷◌, ◌++◌, refl, ap, sym, ◌∙◌, subst, inl}
+use Rattle.std.proofs.Common.{◌≡◌, ℕ, List, [], ◌∷◌, ◌++◌, refl, ap, sym, ◌∙◌, subst}
 use Rattle.std.specs.Prelude.{true, Option, Some, None, Result, Ok, Err, IsErrAnd}
 use Rattle.std.specs.List.{filter}
 use Rattle.dg_nor.specs.Device.{Device}
 use Rattle.dg_nor.specs.Fuse.{beneath_of}
 use Rattle.dg_nor.specs.Reads.{Looked, ReadStopped}
 use Rattle.dg_nor.proofs.DeviceLemmas.{Endures-same}
+use Rattle.dg_nor.proofs.MaskLemmas.{Endures_ran, Endures_halts}
 use Rattle.dg_volume.specs.Store.{Store}
 use Rattle.dg_rules.specs.Changes.{is_told}
 use Rattle.dg_script.specs.declared.report.Report.{Report}
@@ -23,10 +24,10 @@ use Rattle.dg_world.proofs.ShownLemmas.{changes_same, changes_told, all_loud, to
 -- ---- readings
 
 pub looked_read : (a b : Device) → Looked a b → IsRead a b
-looked_read a b l = record { same_image = l.same_image; endures = record { faults = l.ran.faults; cause = λ stopped. inl (sym l.ran.stopped ∙ stopped) } }
+looked_read a b l = record { same_image = l.same_image; endures = Endures_ran l.ran }
 
 stopped_read : (a b : Device) → ReadStopped a b → IsRead a b
-stopped_read a b r = record { same_image = r.same_image; endures = record { faults = r.halts.faults; cause = λ stopped. r.halts.cause } }
+stopped_read a b r = record { same_image = r.same_image; endures = Endures_halts r.halts }
 
 same_read : (a : Device) → IsRead a a
 same_read a = record { same_image = refl; endures = Endures-same (beneath_of a) }
@@ -34,13 +35,13 @@ same_read a = record { same_image = refl; endures = Endures-same (beneath_of a) 
 -- ---- what a cut changed
 
 nothing : (t : Store) (a : Device) → CutTold (Ok Rests) None t a a
-nothing t a = (λ m k s trail leaves same. sym (changes_same m s t (same k t leaves)), same_read a)
+nothing t a = (λ m k s trail leaves same. sym (changes_same m s t (same k t leaves)), same_read a, refl)
 
 pub nothing_told : (before : Option Shown) (t : Store) (a : Device) → before ≡ None → CutTold (Ok Rests) before t a a
 nothing_told before t a e = subst (λ (b : Option Shown). CutTold (Ok Rests) b t a a) (sym e) (nothing t a)
 
 pub something_told : (before after : Shown) (t : Store) (a b : Device) → Shows after t → Looked a b → CutTold (Ok (Changes before after)) (Some before) t a b
-something_told before after t a b shows looked = (λ m k s trail leaves was. changes_told m before after s t was shows, looked_read a b looked)
+something_told before after t a b shows looked = (λ m k s trail leaves was. changes_told m before after s t was shows, looked_read a b looked, looked.ran.faults)
 
 pub reading_stopped : (r : Result Turn Halt) (h : Halt) (before : Option Shown) (t : Store) (a b : Device) → IsErrAnd r (λ e. e ≡ h) → (h ≡ Stopped None) × ReadStopped a b → CutTold r before t a b
 reading_stopped (Ok turn) h before t a b is x = absurd is
@@ -69,4 +70,5 @@ cut_lines turn q m before t a b start mid end e x told off =
         told_now = told_then start mid end (turn_lines m turn) (Off m ∷ []) _ (told ∙ ap (λ (l : List Report). start ++ l) (all_loud (turn_lines m turn))) off refl;
       },
       y.1,
+      y.2,
     )

@@ -22,6 +22,7 @@ use Rattle.dg_world.specs.declared.world.WorldFault.TheVariants.{Memory, Flash, 
 use Rattle.dg_world.specs.declared.world.World.{World}
 use Rattle.dg_world.specs.Turns.{trail_of}
 use Rattle.dg_world.specs.Worlds.{IsWorld}
+use Rattle.dg_world.specs.Counts.{NoneRose}
 
 -- No board but this one was used. No count fell, and a board is stopped only where it was, or where its count rose.
 pub record OneBoard (board : ℕ) (old new : List Device) : Type 0 where
@@ -30,7 +31,7 @@ pub record OneBoard (board : ℕ) (old new : List Device) : Type 0 where
   pub counts : (m : ℕ) (a b : Device) → slice_get old m ≡ Some a → slice_get new m ≡ Some b → a.faults ≤ b.faults
   pub endures : (m : ℕ) (a b : Device) → slice_get old m ≡ Some a → slice_get new m ≡ Some b → Endures (beneath_of a) (beneath_of b)
 
--- a step was applied: what the rules allow, told as it should be. Where something was started, its pages stand in program memory
+-- a step was applied: what the rules allow, told as it should be. No board's count rose, also where a cut blew. Where something was started, its pages stand in program memory
 pub record Applied (w : RuleWorld) (x : Step) (loud : Bool) (v : World) (old new : List Device) (told_before told : List Report) : Type 0 where
   pub world : RuleWorld
   pub reports : List Report
@@ -38,6 +39,7 @@ pub record Applied (w : RuleWorld) (x : Step) (loud : Bool) (v : World) (old new
   pub stood : IsWorld v new world
   pub told_now : told ≡ told_before ++ filter (is_told loud) reports
   pub boards : OneBoard (mote_of x.event) old new
+  pub calm : NoneRose old new
   pub memory : (d : Deed) (r : Runs) (b : Device) → does w x.event ≡ Goes d → blows x.cut d.trail ≡ false → d.started ≡ Some r
       → slice_get new (mote_of x.event) ≡ Some b → program b.image (length r.pages) ≡ r.pages
 
@@ -56,12 +58,13 @@ pub record FlashAt (w : RuleWorld) (x : Step) (board : ℕ) (old new : List Devi
   pub leaves : MayLeave Stands IsNear (trail_of (does w x.event) (store_at w (mote_of x.event))) done after.image
   pub boards : OneBoard board old new
 
--- A start found no image: the boards stand for the world in which the run ended.
+-- A start found no image: the boards stand for the world in which the run ended, and no board's count rose.
 pub record Ended (w : RuleWorld) (x : Step) (old new : List Device) : Type 0 where
   pub world : RuleWorld
   pub ends : EndsRun w x world
   pub stood : (m : ℕ) (d : Device) → m < length world.sites → slice_get new m ≡ Some d → Stands d.image (store_at world m)
   pub boards : OneBoard (mote_of x.event) old new
+  pub calm : NoneRose old new
 
 -- The boards were only read. No count fell, and a board is stopped only where it was, or where its count rose.
 pub record SameBoards (old new : List Device) : Type 0 where

@@ -10,6 +10,7 @@ use Rattle.dg_rules.specs.Events.{Deed, Does, Refuses, Goes}
 use Rattle.dg_rules.specs.Steps.{blows, before_cut}
 use Rattle.dg_base.specs.declared.events.Cut.{Cut as PowerCut}
 use Rattle.dg_world.specs.Turns.{trail_of, Tells, BeforeShows}
+use Rattle.dg_world.specs.Counts.{CountStays}
 use Rattle.dg_world.specs.declared.shown.Shown.{Shown}
 use Rattle.dg_world.specs.declared.world.RunningMote.{RunningMote}
 use Rattle.dg_world.specs.declared.turn.Turn.{Turn}
@@ -19,7 +20,7 @@ use Rattle.dg_world.specs.declared.turn.Halt.TheVariants.{Stopped, NotAVolume, N
 use Rattle.dg_world.specs.declared.turn.Ended.{Ended}
 use Rattle.dg_world.specs.declared.turn.Ended.TheVariants.{Whole, Cut}
 
--- how an event ended that answered this over a fuse that blew or not
+-- how an event ended that answered this, where a cut blew over a board that is not stopped itself, or not
 abbrev pub ended : Bool → Result Turn Halt → Result Ended Halt
 ended blown (Ok turn) = Ok (Whole turn)
 ended true (Err (Stopped before)) = Ok (Cut before)
@@ -69,7 +70,9 @@ PlayEnds (Err (Stopped before)) w m does cut v u old new = IsStopped w m does cu
 PlayEnds (Err NoImage) w m does cut v u old new = IsLacking does cut new.image
 PlayEnds (Err NotAVolume) w m does cut v u old new = ⊥
 
--- The event ended so, and the board's count did not fall: it is stopped only where it was, or where its count rose.
+-- The event ended so, and the board's count did not fall: it is stopped only where it was, or where its count rose. The count
+-- stays unless the board stopped, also where a cut blew.
 pub record Played (r : Result Ended Halt) (w : RuleWorld) (m : ℕ) (does : Does) (cut : Option PowerCut) (v u : Option RunningMote) (old new : Device) : Type 0 where
   pub ends : PlayEnds r w m does cut v u old new
   pub endures : Endures (beneath_of old) (beneath_of new)
+  pub count : CountStays r old new

@@ -2,6 +2,7 @@ pub mod Images
 pub mod Airs
 pub mod Shareds
 pub mod Worlds
+pub mod Counts
 pub mod Applied
 pub mod Formatted
 pub mod Shown

@@ -18,6 +18,7 @@ use Rattle.dg_script.specs.declared.report.Report.{Report}
 use Rattle.dg_script.specs.declared.report.Report.TheVariants.{Off}
 use Rattle.dg_world.specs.Airs.{sent_now}
 use Rattle.dg_world.specs.Worlds.{MoteStands}
+use Rattle.dg_world.specs.Counts.{CountStays}
 use Rattle.dg_world.specs.Cuts.{IsStopped, IsLacking}
 use Rattle.dg_world.specs.Turns.{BeforeShows, turn_lines}
 use Rattle.dg_world.specs.declared.shown.Shown.{Shown}
@@ -37,7 +38,7 @@ TellsCut before t lines = (m k : ℕ) (s : Store) (trail : Trail Store) → Leav
 
 -- what a cut changed was found in a reading of the board, which stands for t
 abbrev pub CutTold : Result Turn Halt → Option Shown → Store → Device → Device → Type 0
-CutTold (Ok turn) before t old new = TellsCut before t (λ m. turn_lines m turn) × IsRead old new
+CutTold (Ok turn) before t old new = TellsCut before t (λ m. turn_lines m turn) × IsRead old new × (new.faults ≡ old.faults)
 CutTold (Err (Stopped x)) before t old new = (new.stopped ≡ true) × IsRead old new
 CutTold (Err NotAVolume) before t old new = ⊥
 CutTold (Err NoImage) before t old new = ⊥
@@ -49,7 +50,7 @@ pub record CutLinesAre (m : ℕ) (before : Option Shown) (t : Store) (told_befor
   pub told_now : told ≡ told_before ++ (lines ++ Off m ∷ [])
 
 abbrev pub CutLines : Result (Unit {0}) Halt → ℕ → Option Shown → Store → Device → Device → List Report → List Report → Type 0
-CutLines (Ok u) m before t old new told_before told = CutLinesAre m before t told_before told × IsRead old new
+CutLines (Ok u) m before t old new told_before told = CutLinesAre m before t told_before told × IsRead old new × (new.faults ≡ old.faults)
 CutLines (Err (Stopped x)) m before t old new told_before told = (new.stopped ≡ true) × IsRead old new × (told ≡ told_before)
 CutLines (Err NotAVolume) m before t old new told_before told = ⊥
 CutLines (Err NoImage) m before t old new told_before told = ⊥
@@ -77,7 +78,8 @@ StepEnds (Err (Stopped b)) w x loud u new told_before told = IsStopped w (mote_o
 StepEnds (Err NoImage) w x loud u new told_before told = IsLacking (does w x.event) x.cut new.image × (told ≡ told_before)
 StepEnds (Err NotAVolume) w x loud u new told_before told = ⊥
 
--- the step ended so at its board, whose count did not fall, and left this of its mote
+-- the step ended so at its board, whose count did not fall, and stays unless the board stopped, and left this of its mote
 pub record Stepped (r : Result (Option (ArrayVec ℕ)) Halt) (w : RuleWorld) (x : Step) (loud : Bool) (u : Option RunningMote) (old new : Device) (told_before told : List Report) : Type 0 where
   pub ends : StepEnds r w x loud u new told_before told
   pub endures : Endures (beneath_of old) (beneath_of new)
+  pub count : CountStays r old new

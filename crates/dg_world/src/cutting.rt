@@ -1,5 +1,5 @@
 //! An event at a board whose power may be cut in the middle of it.
-ghost use Rattle.std.specs.Prelude.{◌≡◌, ◌+◌, ◌≤◌, ◌<◌, ◌^◌, ℕ, Some};
+ghost use Rattle.std.specs.Prelude.{◌≡◌, ◌&&◌, not, ◌+◌, ◌≤◌, ◌<◌, ◌^◌, ℕ, Some};
 ghost use Rattle.dg_rules.specs.Sizes.{most_motes};
 ghost use Rattle.dg_rules.specs.World.{World as RuleWorld, site};
 ghost use Rattle.dg_rules.specs.Events.{does, mote_of, dt_of};
@@ -15,14 +15,14 @@ use crate::world::RunningMote;
 use dg_nor::{Fused, Nor};
 use dg_rules::{Cut, Event, Step};
 
-/// How an event ended whose cut blew or not.
-fn end_turn(blown: bool, turn: Result<Turn, Halt>) -> Result<Ended, Halt>
-    ensures { result ≡ ended blown turn }
+/// How an event ended whose cut blew or not, at a board that is stopped itself or not.
+fn end_turn(blown: bool, stopped: bool, turn: Result<Turn, Halt>) -> Result<Ended, Halt>
+    ensures { result ≡ ended (blown && not stopped) turn }
 {
     match turn {
         Ok(turn) => Ok(Ended::Whole { turn }),
         Err(Halt::Stopped { before }) => {
-            if blown {
+            if blown && !stopped {
                 Ok(Ended::Cut { before })
             } else {
                 Err(Halt::Stopped { before })
@@ -33,7 +33,8 @@ fn end_turn(blown: bool, turn: Result<Turn, Halt>) -> Result<Ended, Halt>
     }
 }
 
-/// An event whose power is cut, where it makes so many operations.
+/// An event whose power is cut, where it makes so many operations. Where the board stops in that operation, it is told as
+/// stopped.
 fn play_cut<N: Nor>(
     shared: &Shared,
     runs: &mut Option<RunningMote>,
@@ -52,7 +53,9 @@ fn play_cut<N: Nor>(
 {
     let mut fused = Fused::new(board, Some(cut.after), cut.mask.as_slice());
     let turn = happen(shared, runs, now, event, &mut fused);
-    end_turn(fused.blown(), turn)
+    let blown = fused.blown();
+    let stopped = board.is_stopped();
+    end_turn(blown, stopped, turn)
 }
 
 /// The event of a step at the board of its mote.
@@ -71,7 +74,7 @@ pub(crate) fn play<N: Nor>(
         → Played result w (mote_of step.now.event) (does w step.now.event) step.now.cut runs.old runs.new (N.device board.old) (N.device board.new) }
 {
     match &step.cut {
-        None => end_turn(false, happen(shared, runs, now, &step.event, board)),
+        None => end_turn(false, false, happen(shared, runs, now, &step.event, board)),
         Some(cut) => play_cut(shared, runs, now, &step.event, cut, board),
     }
 }

@@ -1,4 +1,5 @@
 use Rattle.std.proofs.Common.{◌≡◌, ℕ, List, Option, ap, sym, ◌∙◌, subst, refl, Some}
+use Rattle.std.specs.Prelude.{◌&&◌, not}
 use Rattle.dg_nor.specs.Device.{Device}
 use Rattle.dg_nor.proofs.FuseLemmas.{same_reference}
 use Rattle.dg_volume.specs.Stands.{Stands}
@@ -35,6 +36,9 @@ returns g c = λ w shared stands at.
     let here = begun (device c.args.board.now) _ v (site w m) (ap (λ (d : Device). d.image) made) stands in
     let f = is_fused device cut (device c.args.board.now) c.new-fused.result c.happen-turn.new.board _ c.requires.cut.counted made in
     let p = fused c.happen-turn.result cut w m (does w c.args.event.now) v u _ _ _ _ f (c.happen-turn.ensures.ends w shared here at) in
-    let e = c.end_turn.ensures in
+    let awake = c.is_stopped-stopped.ensures ∙ ap (λ (x : g.row.N.Denot). (device x).stopped) last in
+    let e = c.end_turn.ensures
+    ∙ ap (λ b. ended (b && not c.is_stopped-stopped.result) c.happen-turn.result) c.blown-blown.ensures
+    ∙ ap (λ b. ended (c.happen-turn.new.board.blown && not b) c.happen-turn.result) awake in
     let P : g.row.N.Denot → Type 0 = λ x. Played c.end_turn.result w m (does w c.args.event.now) (Some cut) v u (device c.args.board.now) (device x) in
-    subst P (sym last) (played_as c.end_turn.result _ (Some cut) (Some cut) w m (does w c.args.event.now) v u _ _ (e ∙ ap (λ b. ended b c.happen-turn.result) c.blown.ensures) refl p)
+    subst P (sym last) (played_as c.end_turn.result _ (Some cut) (Some cut) w m (does w c.args.event.now) v u _ _ e refl p)
