@@ -1,6 +1,6 @@
 -- What a text spells may stand at its place, has its fields in their ranges, and is one of the lines that are played.
-use Rattle.std.proofs.Common.{◌≡◌, ℕ, Bool, true, false, List, [], ◌∷◌, if◌then◌else◌, refl, subst}
-use Rattle.std.specs.Prelude.{Result, Ok, Err, nat_le, length}
+use Rattle.std.proofs.Common.{◌≡◌, ℕ, Bool, true, false, List, [], ◌∷◌, if◌then◌else◌, subst}
+use Rattle.std.specs.Prelude.{Result, Ok, nat_le, length}
 use Rattle.dg_script.specs.Sizes.{most_line}
 use Rattle.dg_script.specs.Results.{◌>>=◌, allowed_if}
 use Rattle.dg_script.specs.Words.{words_of}
