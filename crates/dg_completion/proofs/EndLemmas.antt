@@ -20,8 +20,8 @@ use Rattle.dg_base.specs.declared.events.Step.{Step}
 use Rattle.dg_script.specs.declared.report.Cause.TheVariants as cause
 use Rattle.dg_script.specs.declared.report.Report.{Report}
 use Rattle.dg_completion.specs.Rests.{IsFree}
-use Rattle.dg_completion.specs.Completion.{Follows, FreeLaw, newest, within, IsHops, IsEnoughFor, IsEnough, Rests, CompletionLaw}
-use Rattle.dg_completion.specs.Ends.{event_in, events_of, IsUncutItem, IsUncut, EndsInRest, EndsLaw}
+use Rattle.dg_completion.specs.Completion.{Follows, FreeLaw, newest, within, IsHops, IsEnoughFor, IsEnough, Rests, PipelineLaw, CompletionLaw}
+use Rattle.dg_completion.specs.Ends.{event_in, events_of, IsUncutItem, IsUncut, PlayedLaw, EndsInRest, EndsLaw, EndsPipelineLaw}
 use Rattle.dg_completion.proofs.GrowLemmas.{rounds_free}
 
 -- ---- the front and the rest of what was played
@@ -211,8 +211,7 @@ declaring_agrees w v a b table = record {
 module _
     (agrees : (name bytes : List ℕ) (used motes : ℕ) (links : List (ℕ × ℕ)) (played : List Played) (v : World) → PlaysGolden name bytes used motes links played v
     → AllByRecursion IsHonestThen played → AllByRecursion LeavesAgreement played × WorldAgrees v)
-    (free : FreeLaw)
-    (complete : CompletionLaw) where
+    (free : FreeLaw) where
   module _ (name bytes : List ℕ) (used motes : ℕ) (links : List (ℕ × ℕ)) (played : List Played) (w v : World) (n : ℕ) (script : PlaysGolden name bytes used motes links played v)
       (honest : AllByRecursion IsHonestThen played) (end : EndsInRest played w n v) where
     abbrev begins : World
@@ -255,8 +254,16 @@ module _
       room = end.room;
     }
 
-  pub ends : EndsLaw
-  ends name bytes used motes links played w v n k script honest end enough many i row m from to is there =
+  pub ends : CompletionLaw → EndsLaw
+  ends complete name bytes used motes links played w v n k script honest end enough many i row m from to is there =
       let s = stays name bytes used motes links played w v n script honest end in
       complete (declaring v.declared w) v n k (events_of end.rest) (rests name bytes used motes links played w v n script honest end) (enough_same v.declared w k enough) many i row m from to
       (ap (λ t. newest t i) (sym s.table) ∙ is) (subst (λ c. m < c) s.count there)
+
+  pub ends_pipeline : PipelineLaw → EndsPipelineLaw
+  ends_pipeline fill name bytes used motes links played w v t i row script honest end done from to is m j there one near =
+      fill (declaring v.declared w) v t (events_of end.rest) i row (rests name bytes used motes links played w v t script honest end) done from to is m j there one
+      (within_same v.declared w row j m ∙ near)
+
+pub played : PlayedLaw
+played ps w v uncut free run = follows v.declared ps w v run uncut free

@@ -1,5 +1,5 @@
 -- Runs that end with a rest.
-use Rattle.std.specs.Prelude.{◌≡◌, ℕ, ◌<◌, ◌≤◌, List, [], ◌∷◌, ◌++◌, length, None, Some}
+use Rattle.std.specs.Prelude.{◌≡◌, ℕ, ◌+◌, ◌-◌, ◌<◌, ◌≤◌, min, true, List, [], ◌∷◌, ◌++◌, length, None, Some}
 use Rattle.std.specs.List.{AllByRecursion}
 use Rattle.dg_base.specs.declared.events.Event.{Event}
 use Rattle.dg_object.specs.Object.{Row}
@@ -10,8 +10,8 @@ use Rattle.dg_rules.specs.World.{World, store_at}
 use Rattle.dg_rules.specs.Runs.{Played, Plays}
 use Rattle.dg_rules.specs.Premises.{IsHonestThen}
 use Rattle.dg_rules.specs.Golden.{PlaysGolden}
-use Rattle.dg_completion.specs.Rests.{IsRest}
-use Rattle.dg_completion.specs.Completion.{IsOn, HasRoomAt, newest, IsEnough}
+use Rattle.dg_completion.specs.Rests.{IsFree, IsRest}
+use Rattle.dg_completion.specs.Completion.{Follows, IsOn, HasRoomAt, newest, page_count, pages_of, within, DoneBelow, IsEnough}
 
 -- the event of an item: a declaration is none
 abbrev pub event_in : Item → List Event
@@ -30,6 +30,11 @@ IsUncutItem (Happens step loud) = step.cut ≡ None
 
 abbrev pub IsUncut : Played → Type 0
 IsUncut p = IsUncutItem p.item
+
+-- What was played without cuts, of events that disturb no rest, is a run of its events, from the world that has all rows
+-- which are declared meanwhile.
+abbrev pub PlayedLaw : Type 0
+PlayedLaw = (ps : List Played) (w v : World) → AllByRecursion IsUncut ps → AllByRecursion IsFree (events_of ps) → Plays w ps v → Follows (record w { declared = v.declared }) (events_of ps) v
 
 -- What was played ends, in world v, with a rest of n sweeps that begins in world w: its events are sweeps, with ticks and
 -- heard frames between their rounds, and no power is cut. Images may be declared meanwhile. Every mote is on when it
@@ -53,3 +58,10 @@ KeepsNewest v = (i : ℕ) (row : Row) (m : ℕ) → 1 ≤ i → i < images → n
 abbrev pub EndsLaw : Type 0
 EndsLaw = (name bytes : List ℕ) (used motes : ℕ) (links : List (ℕ × ℕ)) (played : List Played) (w v : World) (n k : ℕ) → PlaysGolden name bytes used motes links played v
     → AllByRecursion IsHonestThen played → EndsInRest played w n v → IsEnough w k → k ≤ n → KeepsNewest v
+
+-- Also of fewer sweeps than enough: where every smaller image is whole everywhere as the rest begins, pages come along the
+-- links as in a pipeline.
+abbrev pub EndsPipelineLaw : Type 0
+EndsPipelineLaw = (name bytes : List ℕ) (used motes : ℕ) (links : List (ℕ × ℕ)) (played : List Played) (w v : World) (t i : ℕ) (row : Row) → PlaysGolden name bytes used motes links played v
+    → AllByRecursion IsHonestThen played → EndsInRest played w t v → DoneBelow w i → 1 ≤ i → i < images → newest w.table i ≡ Some row
+    → (m j : ℕ) → m < length w.sites → 1 ≤ j → within w row j m ≡ true → min (page_count row) (t + 1 - j) ≤ pages_of (store_at v m) row

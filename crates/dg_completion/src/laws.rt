@@ -6,7 +6,7 @@ ghost use Rattle.dg_rounds.specs.Rounds.{sweep, times};
 ghost use Rattle.dg_completion.specs.Rests.{IsFree, IsRest};
 ghost use Rattle.dg_completion.specs.Completion.{FreeLaw, RoundLaw, PipelineLaw, CompletionLaw};
 ghost use Rattle.dg_completion.specs.Holders.{WithinLaw, EnoughLaw, OneEnoughLaw};
-ghost use Rattle.dg_completion.specs.Ends.{EndsLaw};
+ghost use Rattle.dg_completion.specs.Ends.{PlayedLaw, EndsLaw, EndsPipelineLaw};
 ghost use Rattle.dg_completion.specs.Met.{HappensLaw, SpendLaw, MetLaw, GoesOnLaw};
 
 use dg_mote::{
@@ -82,12 +82,16 @@ pub fn distances_are_ways()
 {}
 
 /// What is played of a script with golden, over honest frames: where it ends with a rest of enough sweeps, every mote
-/// keeps the newest version of each image whole.
+/// keeps the newest version of each image whole. Where the sweeps are fewer, each brings every page one link further, if
+/// every smaller image is whole everywhere. What is played of free events that are not cut is a run of them.
 pub fn scripts_end_complete()
-    ensures { EndsLaw }
+    ensures completes { EndsLaw }
+    ensures pipeline { EndsPipelineLaw }
+    ensures played { PlayedLaw }
 {
     a_free_event_keeps_a_good_world();
     scripts_with_golden();
+    sweeps_fill_the_pipeline();
     enough_sweeps_complete();
 }
 
