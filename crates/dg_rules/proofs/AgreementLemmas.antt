@@ -1,4 +1,4 @@
--- Steps and declarations keep agreement with the table.
+-- Steps and declarations keep agreement with the table, also where they are stopped.
 use Rattle.std.proofs.Common.{◌≡◌, ℕ, ◌<◌, ◌≤◌, ◌+◌, ◌^◌, Bool, true, false, List, length, Option, Some, None, IfSome, IfOk, Result, Ok, Err, refl, sym, ap, subst, ◌∙◌, inr, ⊎_elim, arith, ltb-false}
 use Rattle.std.specs.List.{AllByRecursion}
 use Rattle.std.proofs.lemmas.Bool.{cond_both}
@@ -6,15 +6,15 @@ use Rattle.std.proofs.lemmas.Bool.Decides.{nat_tests}
 use Rattle.std.proofs.lemmas.List.{length-set}
 use Rattle.std.specs.Prelude.{◌==◌, nat_lt}
 use Rattle.dg_words.specs.Cells.{AreBytes}
-use Rattle.dg_nor.specs.Trail.{Trail, last}
+use Rattle.dg_nor.specs.Trail.{Trail, Leaves, last, resting}
 use Rattle.dg_nor.specs.Through.{Through}
-use Rattle.dg_nor.proofs.ThroughLemmas.{Through-stepping, Through-last}
+use Rattle.dg_nor.proofs.ThroughLemmas.{Through-resting, Through-stepping, Through-last}
 use Rattle.dg_control.specs.Store.{commit_operations}
 use Rattle.dg_control.specs.declared.snapshot.Order.{Order}
 use Rattle.dg_object.specs.Object.{Row, IsRow}
 use Rattle.dg_slot.specs.Layout.{most_bytes}
 use Rattle.dg_volume.specs.Sizes.{images}
-use Rattle.dg_volume.specs.Store.{Store}
+use Rattle.dg_volume.specs.Store.{Store, IsNear}
 use Rattle.dg_volume.specs.Changes.{inject_refusal, ordered}
 use Rattle.dg_volume.specs.Trails.{order_trail, inject_trail}
 use Rattle.dg_volume.specs.Start.{Runs, boot}
@@ -38,15 +38,16 @@ use Rattle.dg_mote.specs.Well.{StoreIsWell, IsWell, TurnIsWell, SendsHonest}
 use Rattle.dg_mote.specs.Speaking.{OrderFits, Speaks, TurnSpeaks, IsSaid}
 use Rattle.dg_rules.specs.Sizes.{most_motes}
 use Rattle.dg_rules.specs.World.{World, Site, Running, Sent, site, store_at, counted, off_site}
-use Rattle.dg_rules.specs.Events.{Deed, Does, Refuses, Goes, does, mote_of, dt_of, key_of, reloaded}
+use Rattle.dg_rules.specs.Events.{Deed, Does, Refuses, Goes, trail_of, does, mote_of, dt_of, key_of, reloaded}
 use Rattle.dg_rules.specs.Steps.{blows, and_sent, StepDoes, WorldStep, DeclareStep, declared_as}
 use Rattle.dg_rules.specs.Ranges.{EventFits, StepFits}
 use Rattle.dg_rules.specs.Premises.{IsDeclared, LinkFits, RunsWell, SiteIsWell, SentIsWell, WorldAgrees, HonestEvent, MayDeclare}
+use Rattle.dg_rules.specs.Promises.{table_of, StopsAgree}
 use Rattle.dg_base.specs.declared.events.Event.{Event}
 use Rattle.dg_base.specs.declared.events.Event.TheVariants.{Tick, Hear, Last, Reset, Inject, Order as OrderEvent, Frame}
 use Rattle.dg_base.specs.declared.events.Step.{Step}
 use Rattle.dg_script.specs.declared.report.Report.{Report}
-use Rattle.dg_rules.proofs.ThroughLemmas.{Through-map, Through-both}
+use Rattle.dg_rules.proofs.ThroughLemmas.{cut_holds, Through-map, Through-both}
 use Rattle.dg_rules.proofs.TableLemmas.{row_at-key, row_at-each, row_at-own, row_at-with_row, row_at-added, row_at-of_with_row, row_at-of_push, IsTable-with_row, same_some}
 use Rattle.dg_rules.proofs.SiteLemmas.{each_site, site_count}
 use Rattle.dg_rules.proofs.InjectLemmas.{OnInject, inject_way, refused_not}
@@ -466,3 +467,17 @@ declared_agrees w row None is may agrees = record {
 
 pub declare_agrees : (w v : World) (row : Row) (reports : List Report) → WorldAgrees w → MayDeclare w row → DeclareStep w row v reports → WorldAgrees v
 declare_agrees w v row reports agrees may did = subst WorldAgrees (sym did.world) (declared_agrees w row (row_at w.declared row.image row.version) refl may agrees)
+
+-- ---- stops
+
+stop_good : (table : List Row) (t : Trail Store) (k : ℕ) (s : Store) → Through (IsGood table) t → Leaves IsNear t k s → Agrees table s
+stop_good table t k s way left = (cut_holds (IsGood table) (good_room table) t k s way left).well.agrees
+
+stop_agrees : (w : World) (m dt : ℕ) (old : Store) → IsGood w.table old → (D : Does) → AgreesDoes w m dt D → (k : ℕ) (s : Store) → Leaves IsNear (trail_of D old) k s → Agrees (table_of D w.table) s
+stop_agrees w m dt old good (Refuses why) agrees k s left = stop_good w.table (resting old 0) k s (Through-resting (IsGood w.table) old 0 good) left
+stop_agrees w m dt old good (Goes d) agrees k s left = stop_good d.table d.trail k s agrees.way left
+
+pub stops_agree : Laws → (w : World) (e : Event) → WorldAgrees w → EventFits (length w.sites) e → HonestEvent w.table e → StopsAgree w e
+stops_agree laws w e agrees fits honest =
+    let m = mote_of e in
+    stop_agrees w m (dt_of e) (store_at w m) (here laws w agrees m (mote_within (length w.sites) e fits)) (does w e) (agrees_does laws w agrees e fits honest)

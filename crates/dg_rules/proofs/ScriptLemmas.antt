@@ -16,7 +16,8 @@ use Rattle.dg_rules.specs.World.{World, Site, site, counted, off_site, first_wor
 use Rattle.dg_rules.specs.Events.{Does, Refuses, Goes, does, mote_of, dt_of}
 use Rattle.dg_rules.specs.Steps.{blows, and_sent, StepDoes, WorldStep, declared_as}
 use Rattle.dg_rules.specs.Ranges.{EventFits, StepFits}
-use Rattle.dg_rules.specs.Premises.{LinkFits, SiteIsWell, WorldAgrees, ItemFits, PlayedFits, ItemInRange, IsInRange, HonestItem, IsHonestThen, LeavesAgreement, AllOff}
+use Rattle.dg_rules.specs.Premises.{LinkFits, SiteIsWell, WorldAgrees, ItemFits, PlayedFits, ItemInRange, IsInRange, HonestEvent, HonestItem, IsHonestThen, LeavesAgreement, AllOff}
+use Rattle.dg_rules.specs.Promises.{StopsAgree}
 use Rattle.dg_rules.specs.Golden.{SiteKeepsGolden, WorldKeepsGolden, FindsImage, PlaysGolden}
 use Rattle.dg_script.specs.Items.{Item, Declares, Happens}
 use Rattle.dg_rules.specs.Runs.{Played, ItemStep, Plays}
@@ -140,6 +141,13 @@ unfolding Plays
 ends_agree [] w v run agrees all = subst WorldAgrees run agrees
 ends_agree (p ∷ ps) w v run agrees all = ends_agree ps p.after v run.2 all.0 all.1
 
+-- and the number of its motes is the same
+frame_ends : RestartLaws → (motes : ℕ) (played : List Played) (w v : World) → Plays w played v → Frame motes w → Frame motes v
+unfolding Plays
+frame_ends restarts motes [] w v run f = subst (Frame motes) run f
+frame_ends restarts motes (p ∷ ps) w v run f =
+    frame_ends restarts motes ps p.after v run.2 (item_frame restarts motes p.item p.before p.after p.reports (subst (Frame motes) (sym run.0) f) run.1)
+
 -- ---- the first world
 
 none_in : (n i : ℕ) → get_or {A = Option Held} (replicate n None) i None ≡ None
@@ -226,6 +234,12 @@ module _ (name bytes : List ℕ) (used motes : ℕ) (links : List (ℕ × ℕ)) 
 
   pub script_ends : AllByRecursion LeavesAgreement played → WorldAgrees v
   script_ends all = ends_agree played Begins v script.plays script_agrees all
+
+  pub script_halves : RestartLaws → ((w : World) (e : Event) → WorldAgrees w → EventFits (length w.sites) e → HonestEvent w.table e → StopsAgree w e)
+      → AllByRecursion LeavesAgreement played → (e : Event) → EventFits motes e → HonestEvent v.table e → StopsAgree v e
+  script_halves restarts stopped all e fits honest =
+      let end = frame_ends restarts motes played Begins v script.plays (first_frame name bytes used motes links script.is_row) in
+      stopped v e (script_ends all) (subst (λ (n : ℕ). EventFits n e) (sym end.count) fits) honest
 
   pub script_found : RestartLaws → ((w v : World) (x : Step) (reports : List Report) → WorldKeepsGolden w → StepFits (length w.sites) x → WorldStep w x v reports → WorldKeepsGolden v)
       → ((w : World) (e : Event) → WorldKeepsGolden w → EventFits (length w.sites) e → FindsImage (does w e)) → (e : Event) → EventFits motes e → FindsImage (does v e)

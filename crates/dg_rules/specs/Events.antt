@@ -1,6 +1,6 @@
 -- What events do by the rules: each is refused, or its mote's chip goes through the stores of a trail.
 use Rattle.std.specs.Prelude.{ℕ, ◌+◌, ◌==◌, if◌then◌else◌, List, length, Option, Some, None, option_map}
-use Rattle.dg_nor.specs.Trail.{Trail}
+use Rattle.dg_nor.specs.Trail.{Trail, resting}
 use Rattle.dg_object.specs.Object.{Row}
 use Rattle.dg_control.specs.declared.snapshot.Order.{Order}
 use Rattle.dg_volume.specs.Store.{Store}
@@ -34,6 +34,10 @@ pub record Deed : Type 0 where
 pub data Does : Type 0 where
   Refuses : (why : Cause) → Does
   Goes : (deed : Deed) → Does
+
+abbrev pub trail_of : Does → Store → Trail Store
+trail_of (Refuses why) s = resting s 0
+trail_of (Goes d) s = d.trail
 
 -- the mote at which an event is, and its step of time
 abbrev pub mote_of : Event → ℕ

@@ -1,5 +1,7 @@
--- What holds of each item of a run: it is legal, what is kept stays, and what starts is one row of the table, byte for byte.
+-- What holds of each item of a run: it is legal, what is kept stays, what starts is one row of the table, byte for byte, and
+-- wherever it is stopped, the chip agrees with the table.
 use Rattle.std.specs.Prelude.{◌≡◌, ◌⊎◌, ℕ, ◌<◌, ◌≤◌, true, List, length, Option, Some, None, IfSome, Ok}
+use Rattle.dg_nor.specs.Trail.{Leaves}
 use Rattle.dg_object.specs.Object.{Row, object}
 use Rattle.dg_base.specs.Crc.{crc_of}
 use Rattle.dg_control.specs.declared.snapshot.Order.{Order}
@@ -8,9 +10,11 @@ use Rattle.dg_frame.specs.declared.Entry.{Entry}
 use Rattle.dg_frame.specs.declared.Message.TheVariants.{Advert}
 use Rattle.dg_mote.specs.Summary.{entry_for}
 use Rattle.dg_volume.specs.Start.{Runs, runs_length, runs_crc}
+use Rattle.dg_volume.specs.Store.{Store, IsNear}
 use Rattle.dg_volume.specs.Table.{row_at}
-use Rattle.dg_rules.specs.World.{World}
-use Rattle.dg_rules.specs.Events.{Does, Refuses, Goes, does, mote_of}
+use Rattle.dg_volume.specs.Agreement.{Agrees}
+use Rattle.dg_rules.specs.World.{World, store_at}
+use Rattle.dg_rules.specs.Events.{Does, Refuses, Goes, trail_of, does, mote_of}
 use Rattle.dg_rules.specs.Steps.{blows}
 use Rattle.dg_rules.specs.Small.{Holding, small, mote_in, holds}
 use Rattle.dg_rules.specs.Legal.{Past, LegalStep}
@@ -106,3 +110,14 @@ StartsItem (Happens step loud) w = StartsDoes (does w step.event) w.table
 
 abbrev pub StartsRow : Played → Type 0
 StartsRow p = StartsItem p.item p.before
+
+-- ---- where an event is stopped
+
+-- the table behind an event, and also where it was stopped: what an injection that is not refused brings has its row there
+abbrev pub table_of : Does → List Row → List Row
+table_of (Refuses why) table = table
+table_of (Goes d) table = d.table
+
+-- Wherever a stop comes in an event, each store that the chip may then stand for agrees with that table.
+abbrev pub StopsAgree : World → Event → Type 0
+StopsAgree w e = (k : ℕ) (s : Store) → Leaves IsNear (trail_of (does w e) (store_at w (mote_of e))) k s → Agrees (table_of (does w e) w.table) s

@@ -10,7 +10,7 @@ ghost use Rattle.dg_rules.specs.World.{World};
 ghost use Rattle.dg_rules.specs.Steps.{WorldStep, DeclareStep, EndsRun};
 ghost use Rattle.dg_rules.specs.Events.{does};
 ghost use Rattle.dg_rules.specs.Runs.{Played, Plays, EachAfter};
-ghost use Rattle.dg_rules.specs.Promises.{IsLegal, KeepsAll, GoldenStays, StartsDoes, StartsRow};
+ghost use Rattle.dg_rules.specs.Promises.{IsLegal, KeepsAll, GoldenStays, StartsDoes, StartsRow, StopsAgree};
 ghost use Rattle.dg_rules.specs.Ranges.{EventFits, StepFits};
 ghost use Rattle.dg_rules.specs.Premises.{WorldAgrees, WorldTimely, HonestEvent, IsHonestThen, MayDeclare, PlayedFits, LeavesAgreement, AllOff};
 ghost use Rattle.dg_rules.specs.Golden.{WorldKeepsGolden, FindsImage, PlaysGolden};
@@ -32,9 +32,11 @@ pub fn what_a_cut_leaves_agrees()
 {}
 
 /// A world that agrees with its table still does after a step, also a cut one, where a frame from outside is honest, and
-/// after a declaration. And no moment of a mote that is on is later than the world's, whatever frames come.
+/// after a declaration. Wherever a stop comes in such an event, each store that the chip may then stand for agrees with the
+/// table behind the event. And no moment of a mote that is on is later than the world's, whatever frames come.
 pub fn agreement_is_kept()
     ensures stepped { (w v : World) (x : Step) (reports : List Report) → WorldAgrees w → StepFits (length w.sites) x → HonestEvent w.table x.event → WorldStep w x v reports → WorldAgrees v }
+    ensures stopped { (w : World) (e : Event) → WorldAgrees w → EventFits (length w.sites) e → HonestEvent w.table e → StopsAgree w e }
     ensures declared { (w v : World) (row : Row) (reports : List Report) → WorldAgrees w → MayDeclare w row → DeclareStep w row v reports → WorldAgrees v }
     ensures timely { (w v : World) (x : Step) (reports : List Report) → WorldTimely w → StepFits (length w.sites) x → WorldStep w x v reports → WorldTimely v }
 {
@@ -97,7 +99,9 @@ pub fn versions_do_not_fall()
 
 /// A script with golden, over freshly formatted chips. Whatever is played of it, the next event finds an image to start.
 /// Where each frame from outside is honest by the table of its moment, each step is legal, versions do not fall, what
-/// starts is a row of the table, and the chips, the motes that are on and the frames that were sent agree with the table.
+/// starts is a row of the table, and the chips, the motes that are on and the frames that were sent agree with the table;
+/// and where the next event is honest too, then wherever a stop comes in it, each store that the chip may then stand for
+/// agrees with the table behind it.
 pub fn scripts_with_golden()
     ensures legal { (name bytes : List ℕ) (used motes : ℕ) (links : List (ℕ × ℕ)) (played : List Played) (v : World) → PlaysGolden name bytes used motes links played v
         → AllByRecursion IsHonestThen played → EachAfter IsLegal [] played }
@@ -109,7 +113,10 @@ pub fn scripts_with_golden()
         → AllByRecursion IsHonestThen played → AllByRecursion LeavesAgreement played × WorldAgrees v }
     ensures found { (name bytes : List ℕ) (used motes : ℕ) (links : List (ℕ × ℕ)) (played : List Played) (v : World) (e : Event) → PlaysGolden name bytes used motes links played v
         → EventFits motes e → FindsImage (does v e) }
+    ensures halves { (name bytes : List ℕ) (used motes : ℕ) (links : List (ℕ × ℕ)) (played : List Played) (v : World) (e : Event) → PlaysGolden name bytes used motes links played v
+        → AllByRecursion IsHonestThen played → EventFits motes e → HonestEvent v.table e → StopsAgree v e }
 {
+    agreement_is_kept();
     every_step_is_legal();
     golden_is_found();
     a_restart_is_for_the_order();

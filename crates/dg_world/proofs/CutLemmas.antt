@@ -14,9 +14,9 @@ use Rattle.dg_nor.proofs.TrailLemmas.{operations-resting}
 use Rattle.dg_volume.specs.Store.{IsNear}
 use Rattle.dg_volume.specs.Stands.{Stands}
 use Rattle.dg_rules.specs.World.{World as RuleWorld, store_at}
-use Rattle.dg_rules.specs.Events.{Does, Refuses, Goes}
+use Rattle.dg_rules.specs.Events.{Does, Refuses, Goes, trail_of}
 use Rattle.dg_base.specs.declared.events.Cut.{Cut as PowerCut}
-use Rattle.dg_world.specs.Turns.{trail_of, Tells, Went, StoppedOn, TurnEnds}
+use Rattle.dg_world.specs.Turns.{Tells, Went, StoppedOn, TurnEnds}
 use Rattle.dg_world.specs.Cuts.{ended, IsWhole, IsBlown, IsStopped, Played}
 use Rattle.dg_world.specs.declared.shown.Shown.{Shown}
 use Rattle.dg_world.specs.declared.turn.Turn.{Turn}

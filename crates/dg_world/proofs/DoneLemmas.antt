@@ -17,7 +17,7 @@ use Rattle.dg_volume.specs.Start.{Runs}
 use Rattle.dg_frame.specs.declared.Message.{Message}
 use Rattle.dg_frame.specs.Spelling.{frame_of}
 use Rattle.dg_rules.specs.World.{World as RuleWorld, Site, no_site, site, store_at, counted, with_site}
-use Rattle.dg_rules.specs.Events.{Deed, Does, Refuses, Goes, does, mote_of, dt_of}
+use Rattle.dg_rules.specs.Events.{Deed, Does, Refuses, Goes, trail_of, does, mote_of, dt_of}
 use Rattle.dg_rules.specs.Steps.{blows, before_cut, and_sent, done_world, cut_world, done_reports, Ended as StepEnded, StepDoes, WorldStep}
 use Rattle.dg_rules.specs.Changes.{changes, is_told}
 use Rattle.dg_rules.specs.Ranges.{EventFits}
@@ -30,7 +30,7 @@ use Rattle.dg_script.specs.declared.report.Report.{Report}
 use Rattle.dg_script.specs.declared.report.Report.TheVariants.{Off, Refused as RefusedLine}
 use Rattle.dg_world.specs.Airs.{sent_now}
 use Rattle.dg_world.specs.Worlds.{MoteStands, SiteStands}
-use Rattle.dg_world.specs.Turns.{trail_of, turn_frame, turn_lines}
+use Rattle.dg_world.specs.Turns.{turn_frame, turn_lines}
 use Rattle.dg_world.specs.Cuts.{IsWhole, IsBlown, Played}
 use Rattle.dg_world.specs.Stepped.{CutLinesAre, CutLines, StepDone, Stepped}
 use Rattle.dg_world.specs.declared.shown.Shown.{Shown}

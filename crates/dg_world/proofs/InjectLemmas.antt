@@ -22,13 +22,13 @@ use Rattle.dg_volume.specs.declared.volume.Injected.{Injected}
 use Rattle.dg_volume.specs.declared.volume.Volume.{Volume}
 use Rattle.dg_volume.proofs.BeginLemmas.{begins_resting, begins_committing, inject_begins}
 use Rattle.dg_rules.specs.World.{World as RuleWorld, site, store_at}
-use Rattle.dg_rules.specs.Events.{Does, Refuses, acts, reloaded, inject_cause, inject_row, inject_unless, order_cause, order_unless}
+use Rattle.dg_rules.specs.Events.{Does, Refuses, trail_of, acts, reloaded, inject_cause, inject_row, inject_unless, order_cause, order_unless}
 use Rattle.dg_rules.specs.Changes.{changes}
 use Rattle.dg_script.specs.declared.report.Cause.{Cause}
 use Rattle.dg_script.specs.declared.report.Cause.TheVariants as cause
 use Rattle.dg_world.specs.Shown.{Shows}
 use Rattle.dg_world.specs.Worlds.{MoteStands}
-use Rattle.dg_world.specs.Turns.{trail_of, Went, TurnEnds}
+use Rattle.dg_world.specs.Turns.{Went, TurnEnds}
 use Rattle.dg_world.specs.declared.shown.Shown.{Shown}
 use Rattle.dg_world.specs.declared.turn.Turn.{Turn}
 use Rattle.dg_world.specs.declared.turn.Turn.TheVariants.{Refused, Changes}

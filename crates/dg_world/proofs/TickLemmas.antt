@@ -39,7 +39,7 @@ use Rattle.dg_mote.specs.declared.mote.Did.{Did}
 use Rattle.dg_mote.specs.declared.mote.Did.TheVariants as did
 use Rattle.dg_mote.specs.declared.mote.Heard.{Heard}
 use Rattle.dg_rules.specs.World.{World as RuleWorld, Running, store_at}
-use Rattle.dg_rules.specs.Events.{Does, Refuses, key_of, of_effect}
+use Rattle.dg_rules.specs.Events.{Does, Refuses, trail_of, key_of, of_effect}
 use Rattle.dg_rules.specs.Changes.{changes, start_line, sent_line}
 use Rattle.dg_base.specs.declared.events.Key.{Key}
 use Rattle.dg_script.specs.declared.report.Cause.TheVariants as cause
@@ -47,7 +47,7 @@ use Rattle.dg_script.specs.declared.report.Report.{Report}
 use Rattle.dg_script.specs.declared.report.Report.TheVariants.{Start}
 use Rattle.dg_world.specs.Shown.{Shows}
 use Rattle.dg_world.specs.Worlds.{MoteStands}
-use Rattle.dg_world.specs.Turns.{SameShown, BeginsOver, trail_of, turn_frame, turn_sent, turn_lines, sent_shown, Went, Lacked, TurnEnds}
+use Rattle.dg_world.specs.Turns.{SameShown, BeginsOver, turn_frame, turn_sent, turn_lines, sent_shown, Went, Lacked, TurnEnds}
 use Rattle.dg_world.specs.declared.happening.Begun.{Begun}
 use Rattle.dg_world.specs.declared.shown.Shown.{Shown}
 use Rattle.dg_world.specs.declared.turn.StartLine.{StartLine}

@@ -10,8 +10,8 @@ use Rattle.dg_volume.specs.Store.{Store, IsNear}
 use Rattle.dg_volume.specs.Stands.{Stands}
 use Rattle.dg_volume.specs.Trails.{BeginsAt}
 use Rattle.dg_rules.specs.World.{World as RuleWorld, store_at}
-use Rattle.dg_rules.specs.Events.{Does}
-use Rattle.dg_world.specs.Turns.{trail_of, Went, TurnEnds}
+use Rattle.dg_rules.specs.Events.{Does, trail_of}
+use Rattle.dg_world.specs.Turns.{Went, TurnEnds}
 use Rattle.dg_world.specs.declared.turn.StartLine.{StartLine}
 use Rattle.dg_world.specs.declared.turn.Turn.{Turn}
 use Rattle.dg_world.specs.declared.turn.Turn.TheVariants.{Refused, Rests, Sends, Changes, Starts}

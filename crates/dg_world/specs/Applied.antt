@@ -10,7 +10,7 @@ use Rattle.dg_volume.specs.Store.{IsNear}
 use Rattle.dg_volume.specs.Stands.{Stands}
 use Rattle.dg_volume.specs.Start.{Runs}
 use Rattle.dg_rules.specs.World.{World as RuleWorld, store_at}
-use Rattle.dg_rules.specs.Events.{Deed, Goes, does, mote_of}
+use Rattle.dg_rules.specs.Events.{Deed, Goes, trail_of, does, mote_of}
 use Rattle.dg_rules.specs.Changes.{is_told}
 use Rattle.dg_rules.specs.Steps.{WorldStep, EndsRun, blows}
 use Rattle.dg_base.specs.declared.events.Step.{Step}
@@ -20,7 +20,6 @@ use Rattle.dg_world.specs.declared.turn.Halt.TheVariants.{Stopped, NotAVolume, N
 use Rattle.dg_world.specs.declared.world.WorldFault.{WorldFault}
 use Rattle.dg_world.specs.declared.world.WorldFault.TheVariants.{Memory, Flash, TooMany, NotAVolume as NotAVolumeFault, NoImage as NoImageFault}
 use Rattle.dg_world.specs.declared.world.World.{World}
-use Rattle.dg_world.specs.Turns.{trail_of}
 use Rattle.dg_world.specs.Worlds.{IsWorld}
 use Rattle.dg_world.specs.Counts.{NoneRose}
 

@@ -6,10 +6,10 @@ use Rattle.dg_nor.specs.Trail.{operations, last, MayLeave}
 use Rattle.dg_volume.specs.Store.{IsNear}
 use Rattle.dg_volume.specs.Stands.{Stands}
 use Rattle.dg_rules.specs.World.{World as RuleWorld, store_at}
-use Rattle.dg_rules.specs.Events.{Deed, Does, Refuses, Goes}
+use Rattle.dg_rules.specs.Events.{Deed, Does, Refuses, Goes, trail_of}
 use Rattle.dg_rules.specs.Steps.{blows, before_cut}
 use Rattle.dg_base.specs.declared.events.Cut.{Cut as PowerCut}
-use Rattle.dg_world.specs.Turns.{trail_of, Tells, BeforeShows}
+use Rattle.dg_world.specs.Turns.{Tells, BeforeShows}
 use Rattle.dg_world.specs.Counts.{CountStays}
 use Rattle.dg_world.specs.declared.shown.Shown.{Shown}
 use Rattle.dg_world.specs.declared.world.RunningMote.{RunningMote}

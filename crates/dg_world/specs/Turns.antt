@@ -1,7 +1,7 @@
 -- What an event does at a board, by the rules.
 use Rattle.std.specs.Prelude.{◌≡◌, ℕ, true, false, List, [], ◌∷◌, length, Option, Some, None, option_map, IfSome, Result, Ok, Err}
 use Rattle.dg_nor.specs.Device.{Device, Ran}
-use Rattle.dg_nor.specs.Trail.{Trail, operations, last, resting, Leaves}
+use Rattle.dg_nor.specs.Trail.{Trail, operations, last, Leaves}
 use Rattle.dg_nor.specs.Reads.{Looked, StopsIn}
 use Rattle.dg_slot.specs.Pages.{program}
 use Rattle.dg_volume.specs.Store.{Store, IsNear}
@@ -15,7 +15,7 @@ use Rattle.dg_mote.specs.Model.{begun}
 use Rattle.dg_mote.specs.Motes.{IsMote}
 use Rattle.dg_rules.specs.World.{World as RuleWorld, Running, store_at}
 use Rattle.dg_rules.specs.Changes.{sent_line}
-use Rattle.dg_rules.specs.Events.{Deed, Does, Refuses, Goes}
+use Rattle.dg_rules.specs.Events.{Deed, Does, Refuses, Goes, trail_of}
 use Rattle.dg_rules.specs.Steps.{done_reports}
 use Rattle.dg_script.specs.declared.report.Report.{Report}
 use Rattle.dg_script.specs.declared.report.Report.TheVariants.{Start, Refused as RefusedLine}
@@ -28,10 +28,6 @@ use Rattle.dg_world.specs.declared.turn.Turn.{Turn}
 use Rattle.dg_world.specs.declared.turn.Turn.TheVariants.{Refused, Rests, Sends, Changes, Starts}
 use Rattle.dg_world.specs.declared.turn.Halt.{Halt}
 use Rattle.dg_world.specs.declared.turn.Halt.TheVariants.{Stopped, NotAVolume, NoImage}
-
-abbrev pub trail_of : Does → Store → Trail Store
-trail_of (Refuses why) s = resting s 0
-trail_of (Goes d) s = d.trail
 
 -- the frame of a turn, and the turn of what a tick sent, if anything
 abbrev pub turn_frame : Turn → Option (List ℕ)

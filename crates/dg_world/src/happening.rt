@@ -11,14 +11,14 @@ ghost use Rattle.dg_volume.specs.Table.{row_at};
 ghost use Rattle.dg_mote.specs.Motes.{sent_in};
 ghost use Rattle.dg_mote.specs.Effects.{boots, tick_effect, frame_effect, reset_effect};
 ghost use Rattle.dg_rules.specs.World.{World as RuleWorld, Running, site, store_at, frame_at, linked, last_frame};
-ghost use Rattle.dg_rules.specs.Events.{Does, Refuses, of_effect, tick_by, hear_by, heard_sent, heard_last, unless_off, reloaded, inject_cause, inject_row, order_cause, order_unless, does, mote_of, dt_of};
+ghost use Rattle.dg_rules.specs.Events.{Does, Refuses, trail_of, of_effect, tick_by, hear_by, heard_sent, heard_last, unless_off, reloaded, inject_cause, inject_row, order_cause, order_unless, does, mote_of, dt_of};
 ghost use Rattle.dg_rules.specs.Ranges.{EventFits};
 ghost use Rattle.dg_rules.specs.Sizes.{most_motes};
 ghost use Rattle.dg_base.specs.declared.events.Key.{Key as KeyValue};
 ghost use Rattle.dg_world.specs.Images.{Declares, row_of_image};
 ghost use Rattle.dg_world.specs.Shareds.{IsShared};
 ghost use Rattle.dg_world.specs.Worlds.{MoteStands, SiteStands, IsTimelyMote, MayRun};
-ghost use Rattle.dg_world.specs.Turns.{trail_of, BeginsOver, turn_sent, TurnEnds};
+ghost use Rattle.dg_world.specs.Turns.{BeginsOver, turn_sent, TurnEnds};
 
 use crate::images::{Image, Images};
 use crate::shared::Shared;

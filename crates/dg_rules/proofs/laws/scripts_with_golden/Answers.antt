@@ -1,5 +1,5 @@
 use Rattle.dg_rules.proofs.EventLemmas.{RestartLaws}
-use Rattle.dg_rules.proofs.ScriptLemmas.{Begins, script_agrees, script_off, script_fits, script_ends, script_found}
+use Rattle.dg_rules.proofs.ScriptLemmas.{Begins, script_agrees, script_off, script_fits, script_ends, script_halves, script_found}
 use Rattle.dg_rules.proofs.laws.scripts_with_golden.Goals as goal
 
 pub returns : goal.returns
@@ -23,4 +23,8 @@ returns c =
           (script_fits name bytes used motes links played v script restarts honest) in
           (all, script_ends name bytes used motes links played v script all);
       found = λ name bytes used motes links played v e script fits. script_found name bytes used motes links played v script restarts golden.stepped golden.found e fits;
+      halves = λ name bytes used motes links played v e script honest fits here.
+          let all = every.agrees (Begins name bytes used motes links played v script) v played (script_agrees name bytes used motes links played v script) (script_off name bytes used motes links played v script) script.plays
+          (script_fits name bytes used motes links played v script restarts honest) in
+          script_halves name bytes used motes links played v script restarts c.agreement_is_kept.ensures.stopped all e fits here;
     }
