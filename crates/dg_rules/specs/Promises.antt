@@ -113,7 +113,7 @@ StartsRow p = StartsItem p.item p.before
 
 -- ---- where an event is stopped
 
--- the table behind an event, and also where it was stopped: what an injection that is not refused brings has its row there
+-- the table of images behind an event, also where it was stopped: an injection that is not refused has its row there
 abbrev pub table_of : Does → List Row → List Row
 table_of (Refuses why) table = table
 table_of (Goes d) table = d.table
