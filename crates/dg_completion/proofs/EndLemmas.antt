@@ -261,7 +261,7 @@ module _
       (ap (λ t. newest t i) (sym s.table) ∙ is) (subst (λ c. m < c) s.count there)
 
   pub ends_pipeline : PipelineLaw → EndsPipelineLaw
-  ends_pipeline fill name bytes used motes links played w v t i row script honest end done from to is m j there one near =
+  ends_pipeline fill name bytes used motes links played w v t script honest end i row done from to is m j there one near =
       fill (declaring v.declared w) v t (events_of end.rest) i row (rests name bytes used motes links played w v t script honest end) done from to is m j there one
       (within_same v.declared w row j m ∙ near)
 

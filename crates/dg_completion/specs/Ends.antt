@@ -59,9 +59,13 @@ abbrev pub EndsLaw : Type 0
 EndsLaw = (name bytes : List ℕ) (used motes : ℕ) (links : List (ℕ × ℕ)) (played : List Played) (w v : World) (n k : ℕ) → PlaysGolden name bytes used motes links played v
     → AllByRecursion IsHonestThen played → EndsInRest played w n v → IsEnough w k → k ≤ n → KeepsNewest v
 
--- Also of fewer sweeps than enough: where every smaller image is whole everywhere as the rest begins, pages come along the
--- links as in a pipeline.
-abbrev pub EndsPipelineLaw : Type 0
-EndsPipelineLaw = (name bytes : List ℕ) (used motes : ℕ) (links : List (ℕ × ℕ)) (played : List Played) (w v : World) (t i : ℕ) (row : Row) → PlaysGolden name bytes used motes links played v
-    → AllByRecursion IsHonestThen played → EndsInRest played w t v → DoneBelow w i → 1 ≤ i → i < images → newest w.table i ≡ Some row
+-- From world w pages came along the links as in a pipeline, by t sweeps that lead to world v: of the newest row of an image,
+-- where every smaller image was whole everywhere, a mote within j links of a whole one has t + 1 - j pages, or all.
+abbrev pub PagesCome : (w : World) (t : ℕ) (v : World) → Type 0
+PagesCome w t v = (i : ℕ) (row : Row) → DoneBelow w i → 1 ≤ i → i < images → newest w.table i ≡ Some row
     → (m j : ℕ) → m < length w.sites → 1 ≤ j → within w row j m ≡ true → min (page_count row) (t + 1 - j) ≤ pages_of (store_at v m) row
+
+-- So it is behind a rest, also of fewer sweeps than enough.
+abbrev pub EndsPipelineLaw : Type 0
+EndsPipelineLaw = (name bytes : List ℕ) (used motes : ℕ) (links : List (ℕ × ℕ)) (played : List Played) (w v : World) (t : ℕ) → PlaysGolden name bytes used motes links played v
+    → AllByRecursion IsHonestThen played → EndsInRest played w t v → PagesCome w t v

@@ -35,6 +35,7 @@ pub data Does : Type 0 where
   Refuses : (why : Cause) → Does
   Goes : (deed : Deed) → Does
 
+-- the stores that the chip of its mote goes through
 abbrev pub trail_of : Does → Store → Trail Store
 trail_of (Refuses why) s = resting s 0
 trail_of (Goes d) s = d.trail
