@@ -1,10 +1,1 @@
-pub mod PlayLemmas
-pub mod BoardLemmas
-pub mod LineLemmas
-pub mod ReplayLemmas
-pub mod FinishLemmas
-pub mod GoldenLemmas
-pub mod EndLemmas
-pub mod TakenLemmas
-pub mod WholeLemmas
-pub mod RunLemmas
+pub mod WordLemmas

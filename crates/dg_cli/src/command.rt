@@ -3,42 +3,25 @@ ghost use Rattle.std.specs.Prelude.{◌≡◌, ◌≢◌, ◌⊎◌, ◌≤◌, 
 ghost use Rattle.std.specs.Bool.{OnTrue, OnFalse};
 ghost use Rattle.std.specs.List.{AllByRecursion};
 ghost use Rattle.dg_words.specs.Counts.{Rose};
+ghost use Rattle.dg_base.specs.Outside.{Puts, PutsFront};
+ghost use Rattle.dg_rules.specs.World.{World};
 ghost use Rattle.dg_rules.specs.Runs.{EachAfter};
 ghost use Rattle.dg_rules.specs.Promises.{IsLegal, KeepsAll, StartsRow};
 ghost use Rattle.dg_mote.specs.Sizes.{buffered_bytes, most_buffered};
 ghost use Rattle.dg_rules.specs.Premises.{IsHonestThen, LeavesAgreement, WorldAgrees};
-ghost use Rattle.dg_cli.specs.Ending.{InLimits, script_of};
-ghost use Rattle.dg_cli.specs.Items.{motes_in, IsNoFrame};
-ghost use Rattle.dg_cli.specs.Outcome.{Replayed, IsReplay, Unknown};
-ghost use Rattle.dg_cli.specs.Boards.{BoardStopped};
+ghost use Rattle.dg_completion.specs.Completion.{IsEnough};
+ghost use Rattle.dg_completion.specs.Ends.{EndsInRest, KeepsNewest};
+ghost use Rattle.dg_replay.specs.Ending.{InLimits, script_of};
+ghost use Rattle.dg_replay.specs.Items.{motes_in, IsNoFrame};
+ghost use Rattle.dg_replay.specs.Outcome.{Replayed};
+ghost use Rattle.dg_replay.specs.Boards.{BoardStopped};
+ghost use Rattle.dg_cli.specs.Words.{IsReplay, Unknown, UsageTold};
 
-use crate::ends::replay_text;
-use crate::finish::end_with;
-use crate::input::{ReadStop, read_input};
-use dg_base::{Sink, Source, Status};
+use dg_base::{Sink, Source, Status, WriteFailed};
 use dg_mote::a_mote_buffers_little;
 use dg_nor::Nor;
-use dg_rules::scripts_with_golden;
+use dg_replay::{replay, replays_keep_the_rules};
 use std::alloc::Global;
-
-/// Replays the script that `input` spells over the boards, and writes the report to `out`.
-fn replay<S: Source, K: Sink, N: Nor>(
-    alloc: Global,
-    input: &mut S,
-    out: &mut K,
-    boards: &mut Vec<N>,
-) -> Status
-    ensures replayed { Replayed result (S.left input.old) (S.left input.new) (K.written out.old) (K.written out.new)
-        (S.faults input.old) (S.faults input.new) (K.faults out.old) (K.faults out.new) (map N.device boards.old.items) (map N.device boards.new.items) }
-    ensures reads { S.faults input.old ≤ S.faults input.new }
-    ensures writes { K.faults out.old ≤ K.faults out.new }
-{
-    match read_input(alloc, input) {
-        Ok(text) => replay_text(alloc, &text, boards, out),
-        Err(ReadStop::Memory) => Status::Memory,
-        Err(ReadStop::ReadFault) => Status::ReadFault,
-    }
-}
 
 /// Whether the words are the command `replay`.
 fn is_replay(words: &[String]) -> bool
@@ -49,6 +32,17 @@ fn is_replay(words: &[String]) -> bool
         return false;
     }
     words[0].as_str() == "replay"
+}
+
+/// Tells that the words are no command.
+fn tell_usage<K: Sink>(out: &mut K) -> Status
+    ensures told { UsageTold result (K.written out.old) (K.written out.new) (K.faults out.old) (K.faults out.new) }
+    ensures counts { K.faults out.old ≤ K.faults out.new }
+{
+    match out.write(b"usage\n") {
+        Ok(()) => Status::Usage,
+        Err(WriteFailed) => Status::WriteFault,
+    }
 }
 
 /// Does all that the program does with the words after its name, and answers how it ended.
@@ -70,24 +64,29 @@ pub fn run<S: Source, K: Sink, N: Nor>(
     // Where each frame from outside is honest by the table of its moment, each step is legal after those before it.
     ensures legal { (x : Replayed result (S.left input.old) (S.left input.new) (K.written out.old) (K.written out.new)
         (S.faults input.old) (S.faults input.new) (K.faults out.old) (K.faults out.new) (map N.device boards.old.items) (map N.device boards.new.items))
-        → AllByRecursion IsHonestThen x.played → EachAfter IsLegal [] x.played }
+        → AllByRecursion IsHonestThen x.came.played → EachAfter IsLegal [] x.came.played }
     // There no version falls, but as a cut in a replacement allows.
     ensures keeps { (x : Replayed result (S.left input.old) (S.left input.new) (K.written out.old) (K.written out.new)
         (S.faults input.old) (S.faults input.new) (K.faults out.old) (K.faults out.new) (map N.device boards.old.items) (map N.device boards.new.items))
-        → AllByRecursion IsHonestThen x.played → AllByRecursion KeepsAll x.played }
+        → AllByRecursion IsHonestThen x.came.played → AllByRecursion KeepsAll x.came.played }
     // There what starts is one row of the table of images, byte for byte.
     ensures starts { (x : Replayed result (S.left input.old) (S.left input.new) (K.written out.old) (K.written out.new)
         (S.faults input.old) (S.faults input.new) (K.faults out.old) (K.faults out.new) (map N.device boards.old.items) (map N.device boards.new.items))
-        → AllByRecursion IsHonestThen x.played → AllByRecursion StartsRow x.played }
+        → AllByRecursion IsHonestThen x.came.played → AllByRecursion StartsRow x.came.played }
     // There every chip, also one that a cut left half done, every mote that is on and every frame that was sent agrees with the
     // table: after each item, and in the last world.
     ensures agrees { (x : Replayed result (S.left input.old) (S.left input.new) (K.written out.old) (K.written out.new)
         (S.faults input.old) (S.faults input.new) (K.faults out.old) (K.faults out.new) (map N.device boards.old.items) (map N.device boards.new.items))
-        → AllByRecursion IsHonestThen x.played → AllByRecursion LeavesAgreement x.played × IfSome x.last WorldAgrees }
+        → AllByRecursion IsHonestThen x.came.played → AllByRecursion LeavesAgreement x.came.played × IfSome x.came.last WorldAgrees }
     // Lines that bring no frame from outside meet that.
     ensures honest { (x : Replayed result (S.left input.old) (S.left input.new) (K.written out.old) (K.written out.new)
         (S.faults input.old) (S.faults input.new) (K.faults out.old) (K.faults out.new) (map N.device boards.old.items) (map N.device boards.new.items))
-        → AllByRecursion IsNoFrame x.done → AllByRecursion IsHonestThen x.played }
+        → AllByRecursion IsNoFrame x.came.done → AllByRecursion IsHonestThen x.came.played }
+    // There every mote keeps the newest version of every image whole, where the run ends with an undisturbed rest of enough
+    // sweeps.
+    ensures completes { (x : Replayed result (S.left input.old) (S.left input.new) (K.written out.old) (K.written out.new)
+        (S.faults input.old) (S.faults input.new) (K.faults out.old) (K.faults out.new) (map N.device boards.old.items) (map N.device boards.new.items))
+        → (w v : World) (n k : ℕ) → AllByRecursion IsHonestThen x.came.played → x.came.last ≡ Some v → EndsInRest x.came.played w n v → IsEnough w k → k ≤ n → KeepsNewest v }
     // A mote buffers no more than 256 bytes.
     ensures buffers { buffered_bytes ≤ most_buffered }
     ensures usage { (IsReplay (map string_bytes words.now.items) → ⊥) → Unknown result (S.left input.old) (S.left input.new) (K.written out.old) (K.written out.new)
@@ -107,10 +106,10 @@ pub fn run<S: Source, K: Sink, N: Nor>(
     ensures reads { S.faults input.old ≤ S.faults input.new }
     ensures writes { K.faults out.old ≤ K.faults out.new }
 {
-    scripts_with_golden();
+    replays_keep_the_rules();
     a_mote_buffers_little();
     if is_replay(words) {
         return replay(alloc, input, out, boards);
     }
-    end_with(out, b"usage\n", Status::Usage)
+    tell_usage(out)
 }

@@ -1,6 +1,6 @@
 use Rattle.std.proofs.Common.{ap, ◌∙◌}
 use Rattle.std.specs.Prelude.{string_bytes}
-use Rattle.dg_cli.proofs.RunLemmas.{one_word_is, one_word_differs, other_words}
+use Rattle.dg_cli.proofs.WordLemmas.{one_word_is, one_word_differs, other_words}
 use Rattle.dg_cli.proofs.command.is_replay.Goals as goal
 
 pub returns-then-words-ne1-clause-other : goal.returns-then-words-ne1-clause-other

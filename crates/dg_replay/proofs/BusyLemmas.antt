@@ -1,0 +1,200 @@
+-- What is known of a replay behind a line whose items were played.
+use Rattle.std.proofs.Common.{◌≡◌, ℕ, ◌<◌, true, List, [], ◌∷◌, ◌++◌, length, refl, ap, sym, ◌∙◌, subst}
+use Rattle.std.specs.Prelude.{Option, Some, None, Result, Ok, Err, IfSome}
+use Rattle.std.specs.List.{AllByRecursion}
+use Rattle.dg_nor.specs.Device.{Device}
+use Rattle.dg_object.specs.Object.{Row}
+use Rattle.dg_base.specs.declared.events.Event.{Event}
+use Rattle.dg_base.specs.declared.events.Cut.{Cut as CutOfPower}
+use Rattle.dg_rounds.specs.Rounds.{times, round, sweep}
+use Rattle.dg_script.specs.Fitting.{FitsCut, FitsLine, StandsAt, IsPlayed, UsesBoard, declared_row}
+use Rattle.dg_script.specs.Items.{Item, Declares, Happens as Happened, quietly, item_by, cut_by, cut_behind, place_behind}
+use Rattle.dg_script.specs.Places.{first_place, place_after}
+use Rattle.dg_script.specs.declared.place.Place.{Place}
+use Rattle.dg_script.specs.declared.line.Line.{Line}
+use Rattle.dg_script.specs.declared.line.Line.TheVariants.{Image, Happens, Round, Sweeps}
+use Rattle.dg_rules.specs.Premises.{LinkFits}
+use Rattle.dg_rules.specs.Ranges.{EventFits, StepFits}
+use Rattle.dg_rules.specs.World.{World}
+use Rattle.dg_world.specs.Worlds.{IsWorld}
+use Rattle.dg_world.specs.declared.world.World.{World as KeptWorld}
+use Rattle.dg_replay.specs.Boards.{WorldStands, StoppedIn, ItemStops, LineStops}
+use Rattle.dg_replay.specs.Items.{Beginning, begin_by, motes_in, lacking_by}
+use Rattle.dg_replay.specs.Playing.{Seated, InWorld, Stood, Ready, ItemsPlayedAs, StopsInItem, PlayedAs}
+use Rattle.dg_replay.specs.declared.player.Player.{Player}
+use Rattle.dg_replay.specs.declared.stop.Stop.{Stop}
+use Rattle.dg_replay.specs.declared.stop.Stop.TheVariants.{Memory, BadInput, WriteFault, FlashFault, TooMany, NoBoard, NoImage}
+use Rattle.dg_replay.proofs.ItemLemmas.{some_is, items_run_counts}
+use Rattle.dg_replay.proofs.PlayLemmas.{false_not, event_at, round_at, sweeps_at, seated_as}
+use Rattle.dg_replay.proofs.GoldenLemmas.{event_fits, cut_fits_too}
+use Rattle.dg_replay.proofs.StandLemmas.{joined_next, stood_next, busy_runs, line_begun}
+
+-- A line behind others has these items. It changes nothing of where the run begins, and needs no more boards.
+pub record HasItems (done : List Line) (line : Line) (items : List Item) : Type 0 where
+  pub are : item_by (place_behind first_place done) (cut_behind None done) line ≡ items
+  pub begins : (b : Beginning) → (begin_by b line).world ≡ b.world
+  pub motes : (place : Place) → (place_after place line).motes ≡ place.motes
+  pub ready : (place : Place) → (place_after place line).ready ≡ place.ready
+  pub enough : (boards : ℕ) → lacking_by boards line None ≡ None
+  pub uses : (begun left : List Item) (w : World) (initial now : List Device) → items ≡ begun ++ left → StopsInItem w left initial now → UsesBoard line
+  pub cuts : (cut : Option CutOfPower) → IfSome cut FitsCut → IfSome (cut_by cut line) FitsCut
+  pub stops : (left : List Item) (w : World) (board : ℕ) (image : List ℕ) (initial now : List Device) → ItemStops left (Some w) board image initial now → LineStops line left (Some w) board image initial now
+
+-- ---- the lines that have items
+
+one_behind : {A : Type 0} (xs ys : List A) (y : A) → [] ≡ xs ++ y ∷ ys → ⊥
+one_behind [] ys y e = cc
+one_behind (x ∷ xs) ys y e = cc
+
+tails : {A : Type 0} (x y : A) (xs ys : List A) → x ∷ xs ≡ y ∷ ys → xs ≡ ys
+tails x y xs ys e = cc
+
+-- no board stops where a row is declared
+no_stop : (row : Row) (begun left : List Item) (w : World) (initial now : List Device) → Declares row ∷ [] ≡ begun ++ left → StopsInItem w left initial now → ⊥
+no_stop row [] left w initial now e s = let at : StopsInItem w (Declares row ∷ []) initial now = subst (λ (xs : List Item). StopsInItem w xs initial now) (sym e) s in at.there
+no_stop row (x ∷ xs) [] w initial now e s = s.there
+no_stop row (x ∷ xs) (y ∷ ys) w initial now e s = one_behind xs ys y (tails (Declares row) x [] (xs ++ y ∷ ys) e)
+
+pub image_has : (done : List Line) (image version : ℕ) (name content : List ℕ) → HasItems done (Image image version name content) (Declares (declared_row image version name content) ∷ [])
+image_has done image version name content =
+    record {
+      are = refl;
+      begins = λ b. refl;
+      motes = λ place. refl;
+      ready = λ place. refl;
+      enough = λ boards. refl;
+      cuts = λ cut fits. fits;
+      uses = λ begun left w initial now parts s. no_stop (declared_row image version name content) begun left w initial now parts s;
+      stops = λ left w board image initial now s. s;
+    }
+
+pub event_has : (done : List Line) (event : Event) (cut : Option CutOfPower) → cut ≡ cut_behind None done → HasItems done (Happens event) (Happened (record { event = event; cut = cut }) true ∷ [])
+event_has done event cut waits =
+    record {
+      are = ap (λ (o : Option CutOfPower). Happened (record { event = event; cut = o }) true ∷ []) (sym waits);
+      begins = λ b. refl;
+      motes = λ place. refl;
+      ready = λ place. refl;
+      enough = λ boards. refl;
+      cuts = λ cut fits. tt;
+      uses = λ begun left w initial now parts s. tt;
+      stops = λ left w board image initial now s. s;
+    }
+
+pub round_has : (done : List Line) (a b : ℕ) → HasItems done (Round a b) (quietly (round a b))
+round_has done a b =
+    record {
+      are = refl;
+      begins = λ b. refl;
+      motes = λ place. refl;
+      ready = λ place. refl;
+      enough = λ boards. refl;
+      cuts = λ cut fits. fits;
+      uses = λ begun left w initial now parts s. tt;
+      stops = λ left w board image initial now s. s;
+    }
+
+pub sweeps_has : (done : List Line) (n : ℕ) (links : List (ℕ × ℕ)) → links ≡ (place_behind first_place done).links → HasItems done (Sweeps n) (quietly (times n (sweep links)))
+sweeps_has done n links known =
+    record {
+      are = ap (λ (ls : List (ℕ × ℕ)). quietly (times n (sweep ls))) (sym known);
+      begins = λ b. refl;
+      motes = λ place. refl;
+      ready = λ place. refl;
+      enough = λ boards. refl;
+      cuts = λ cut fits. fits;
+      uses = λ begun left w initial now parts s. tt;
+      stops = λ left w board image initial now s. s;
+    }
+
+-- ---- what playing them answers
+
+-- a board that stopped in an item of a line
+stopped_in : (motes : ℕ) (done : List Line) (line : Line) (items left : List Item) (w : World) (initial now : List Device) → HasItems done line items → length w.sites ≡ motes → StopsInItem w left initial now → StoppedIn motes (line ∷ []) left (Some w) initial now
+stopped_in motes done line items left w initial now has count s =
+    record {
+      stopped = record {
+        board = s.stopped.board;
+        known = subst (λ (n : ℕ). s.stopped.board < n) count s.stopped.known;
+        before = s.stopped.before;
+        after = s.stopped.after;
+        was = s.stopped.was;
+        is = s.stopped.is;
+        stopped = s.stopped.stopped;
+        cause = s.stopped.cause;
+      };
+      there = has.stops left w s.stopped.board s.stopped.after.image initial now s.there;
+    }
+
+busy_as : (r : Result (Unit {0}) Stop) (p q : Player) (done : List Line) (w : World) (line : Line) (items : List Item) (kept : KeptWorld) (told_before told : List ℕ) (initial old now : List Device)
+    → HasItems done line items → StandsAt p.place line → FitsLine p.place.motes line → q.place ≡ place_after p.place line → q.cut ≡ cut_by p.cut line → q.world ≡ Some kept
+    → Stood p done (Some w) initial old → ItemsPlayedAs r w items kept initial now told_before told → PlayedAs r q done (Some w) line told_before told initial old now
+busy_as (Ok u) p q done w line items kept told_before told initial old now has stands fits place cut world s x =
+    let motes : q.place.motes ≡ p.place.motes = ap (λ (at : Place). at.motes) place ∙ has.motes p.place in
+    let count : length now ≡ length old = x.boards.all.count ∙ sym s.boards.all.count in
+    let sites : length x.world.sites ≡ p.place.motes = (items_run_counts w x.world items x.text x.runs).sites ∙ s.world.3 in
+    record {
+      world = Some x.world;
+      text = x.text;
+      told_now = x.told_now;
+      runs = busy_runs done line w x.world items x.text has.are (has.begins _) x.runs;
+      stood = stood_next p q done line (Some w) (Some x.world) initial old now (joined_next p.place line stands fits s.links) s place
+          (seated_as p.place q.place (length now) motes (subst (λ (n : ℕ). Seated p.place n) (sym count) s.seats))
+          (cut ∙ ap (λ (o : Option CutOfPower). cut_by o line) s.cut)
+          (subst (λ (o : Option CutOfPower). IfSome o FitsCut) (sym cut) (has.cuts p.cut s.cut_fits))
+          (kept, world, x.kept_now, sites ∙ sym motes, ap (λ (at : Place). at.ready) place ∙ has.ready p.place ∙ s.world.4, subst (λ (n : ℕ). 0 < n) (sym motes) s.world.5)
+          x.boards;
+      boards_enough = has.enough (length initial);
+    }
+busy_as (Err Memory) p q done w line items kept told_before told initial old now has stands fits place cut world s x = line_begun done line w items has.are x (λ h. h)
+busy_as (Err TooMany) p q done w line items kept told_before told initial old now has stands fits place cut world s x = line_begun done line w items has.are x (λ h. h)
+busy_as (Err NoImage) p q done w line items kept told_before told initial old now has stands fits place cut world s x = line_begun done line w items has.are x (λ h. h)
+busy_as (Err FlashFault) p q done w line items kept told_before told initial old now has stands fits place cut world s x =
+    let sites : length x.world.sites ≡ motes_in done = (items_run_counts w x.world x.begun x.text x.runs).sites ∙ s.world.3 ∙ s.motes in (
+      has.uses x.begun x.left x.world initial now x.parts x.there.0,
+      line_begun done line w items has.are x (λ h. (stopped_in (motes_in done) done line items x.left x.world initial now has sites h.0, h.1)),
+    )
+busy_as (Err (NoBoard motes boards)) p q done w line items kept told_before told initial old now has stands fits place cut world s x = absurd x
+busy_as (Err (BadInput n fault)) p q done w line items kept told_before told initial old now has stands fits place cut world s x = absurd x
+busy_as (Err WriteFault) p q done w line items kept told_before told initial old now has stands fits place cut world s x = absurd x
+
+-- the same where some world is kept
+pub busy_in : (r : Result (Unit {0}) Stop) (p q : Player) (done : List Line) (w : Option World) (line : Line) (items : List Item) (v kept : KeptWorld) (told_before told : List ℕ) (initial old now : List Device)
+    → HasItems done line items → StandsAt p.place line → FitsLine p.place.motes line → p.place.ready ≡ true → p.world ≡ Some v → q.place ≡ place_after p.place line → q.cut ≡ cut_by p.cut line → q.world ≡ Some kept
+    → Stood p done w initial old → ((u : World) → IsWorld v old u → WorldStands u initial old → ItemsPlayedAs r u items kept initial now told_before told) → PlayedAs r q done w line told_before told initial old now
+busy_in r p q done None line items v kept told_before told initial old now has stands fits ready was place cut world s play = false_not p.place.ready ready s.world.1
+busy_in r p q done (Some w) line items v kept told_before told initial old now has stands fits ready was place cut world s play =
+    let k = s.world in
+    busy_as r p q done w line items kept told_before told initial old now has stands fits place cut world s (play w (subst (λ (x : KeptWorld). IsWorld x old w) (some_is k.0 v (sym k.1 ∙ was)) k.2) s.boards)
+
+-- ---- what they ask
+
+-- the world that is kept stands for one of the motes of its place
+pub kept_for : (p : Player) (v : KeptWorld) (boards : List Device) → Ready p boards → p.place.ready ≡ true → p.world ≡ Some v → (u : World) × IsWorld v boards u × (length u.sites ≡ p.place.motes)
+kept_for p v boards r ready was = from r.world r.kept
+  where
+    from : (w : Option World) → InWorld p w boards → (u : World) × IsWorld v boards u × (length u.sites ≡ p.place.motes)
+    from None k = false_not p.place.ready ready k.1
+    from (Some w) k = (w, subst (λ (x : KeptWorld). IsWorld x boards w) (some_is k.0 v (sym k.1 ∙ was)) k.2, k.3)
+
+pub step_asked : (p : Player) (v : KeptWorld) (boards : List Device) (event : Event) (cut : Option CutOfPower) → Ready p boards → StandsAt p.place (Happens event) → FitsLine p.place.motes (Happens event) → IsPlayed (Happens event) → p.world ≡ Some v → cut ≡ p.cut
+    → (u : World) × IsWorld v boards u × StepFits (length u.sites) (record { event = event; cut = cut })
+step_asked p v boards event cut r stands fits played was waits =
+    let k = kept_for p v boards r (event_at p.place event stands).0 was in (
+      k.0,
+      k.1,
+      record {
+        event = subst (λ (n : ℕ). EventFits n event) (sym k.2) (event_fits p.place.motes event fits played);
+        cut = cut_fits_too cut (subst (λ (o : Option CutOfPower). IfSome o FitsCut) (sym waits) r.cut_fits);
+      },
+    )
+
+pub round_asked : (p : Player) (v : KeptWorld) (boards : List Device) (a b : ℕ) → Ready p boards → StandsAt p.place (Round a b) → FitsLine p.place.motes (Round a b) → p.world ≡ Some v → (u : World) × IsWorld v boards u × LinkFits (length u.sites) (a, b)
+round_asked p v boards a b r stands fits was =
+    let k = kept_for p v boards r (round_at p.place a b stands).0 was in
+    (k.0, k.1, subst (λ (n : ℕ). LinkFits n (a, b)) (sym k.2) (record { first = fits.first; second = fits.second; two = λ same. fits.other (sym same) }))
+
+pub sweeps_asked : (p : Player) (v : KeptWorld) (boards : List Device) (n : ℕ) (links : List (ℕ × ℕ)) → Ready p boards → StandsAt p.place (Sweeps n) → p.world ≡ Some v → links ≡ p.place.links → (u : World) × IsWorld v boards u × AllByRecursion (LinkFits (length u.sites)) links
+sweeps_asked p v boards n links r stands was known =
+    let k = kept_for p v boards r (sweeps_at p.place n stands).0 was in
+    (k.0, k.1, subst (λ (m : ℕ). AllByRecursion (LinkFits m) links) (sym k.2) (subst (λ (ls : List (ℕ × ℕ)). AllByRecursion (LinkFits p.place.motes) ls) (sym known) r.links))

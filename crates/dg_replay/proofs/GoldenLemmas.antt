@@ -1,0 +1,505 @@
+-- A script with golden: where its run begins, and the ranges of what is played.
+use Rattle.std.proofs.Common.{◌≡◌, ℕ, ◌+◌, ◌<◌, ◌≤◌, Bool, true, false, List, [], ◌∷◌, ◌++◌, map, replicate, drop, refl, ap, sym, ◌∙◌, subst, arith, eqb-true}
+use Rattle.std.proofs.lemmas.List.{map-append}
+use Rattle.std.specs.Prelude.{Option, Some, None, option_map, IfSome, Result, Ok, Err}
+use Rattle.std.specs.List.{AllByRecursion}
+use Rattle.dg_object.specs.Object.{Row, IsRow}
+use Rattle.dg_volume.specs.Store.{golden_row, fresh}
+use Rattle.dg_base.specs.declared.events.Event.{Event}
+use Rattle.dg_base.specs.declared.events.Event.TheVariants.{Tick, Hear, Last, Reset, Inject, Order, Frame}
+use Rattle.dg_base.specs.declared.events.Cut.{Cut as CutOfPower}
+use Rattle.dg_script.specs.Fitting.{StandsAt, FitsLine, FitsEvent, FitsCut, AreTwo, IsPlayed, IsPlayedEvent, IsGolden, declared_row}
+use Rattle.dg_script.specs.Fitting as script
+use Rattle.dg_script.specs.Lines.{line_of}
+use Rattle.dg_script.specs.Places.{first_place, place_after}
+use Rattle.dg_script.specs.Script.{Script, script_from, with_line}
+use Rattle.dg_script.proofs.SpelledLemmas.{IsSpelled, is_spelled}
+use Rattle.dg_script.specs.declared.fault.LineFault.{LineFault}
+use Rattle.dg_script.specs.declared.place.Place.{Place}
+use Rattle.dg_script.specs.declared.line.Line.{Line}
+use Rattle.dg_script.specs.declared.line.Line.TheVariants.{Nothing, Motes, Golden, Boards, Link, Image, Cut, Happens, Round, Sweeps}
+use Rattle.dg_rules.specs.Sizes.{most_motes}
+use Rattle.dg_rules.specs.World.{World, first_world}
+use Rattle.dg_rules.specs.Ranges.{EventFits, CutFits}
+use Rattle.dg_rounds.specs.Rounds.{round, sweep, times, paced, passed}
+use Rattle.dg_rules.specs.Premises.{IsDeclared, ItemInRange, IsInRange, LinkFits, HonestEvent, HonestItem, IsHonestThen}
+use Rattle.dg_rules.specs.Runs.{Played, Plays}
+use Rattle.dg_rules.specs.Events.{Goes, does}
+use Rattle.dg_rules.specs.Golden.{PlaysGolden, FindsImage}
+use Rattle.dg_script.specs.Items.{Item, Happens as Happened, quietly, item_by, cut_by, cut_behind, place_behind, items_behind, items_of}
+use Rattle.dg_replay.specs.Items.{BringsNone, IsNoFrame, Beginning, begin_by, begin_behind, beginning_of, with_link, lacking, no_beginning, next_items}
+use Rattle.dg_completion.specs.Completion.{IsEnough}
+use Rattle.dg_completion.specs.Ends.{EndsInRest, KeepsNewest, EndsLaw}
+use Rattle.dg_completion.proofs.GrowLemmas.{all_append, all_replicate, all_times, all_map}
+use Rattle.dg_replay.specs.Ending.{script_of}
+use Rattle.dg_replay.specs.Outcome.{Progress, RunsTo, item_played}
+use Rattle.dg_replay.specs.Playing.{LacksImage, LineBegun, InSome, RunsFrom}
+use Rattle.dg_replay.specs.Replaying.{Reached, TextRead}
+use Rattle.dg_replay.specs.declared.player.Player.{Player}
+use Rattle.dg_replay.proofs.ItemLemmas.{some_is, runs_append, runs_from_none}
+use Rattle.dg_replay.proofs.PlayLemmas.{unplayed, false_not, later_at, second_at, link_at, event_at}
+use Rattle.dg_nor.specs.Device.{Device}
+
+-- lines stand where they may, are in their ranges, and are played
+unfoldable pub LinesFit : Place → List Line → Type 0
+LinesFit place [] = Unit {0}
+LinesFit place (line ∷ lines) = StandsAt place line × FitsLine place.motes line × IsPlayed line × LinesFit (place_after place line) lines
+
+fits_by : (ends : Bool) (place : Place) (n : ℕ) (text : List ℕ) (texts : List (List ℕ)) (r : Result Line LineFault) → line_of place text ≡ r → ((line : Line) → LinesFit (place_after place line) (script_from ends (place_after place line) (n + 1) texts).lines)
+    → LinesFit place (with_line r (λ line. script_from ends (place_after place line) (n + 1) texts) n).lines
+unfolding LinesFit
+fits_by ends place n text texts (Err fault) e rest = tt
+fits_by ends place n text texts (Ok line) e rest = let s = is_spelled place text line e in (s.stands, s.fits, s.played, rest line)
+
+pub script_fits : (ends : Bool) (place : Place) (n : ℕ) (texts : List (List ℕ)) → LinesFit place (script_from ends place n texts).lines
+unfolding LinesFit script_from
+script_fits ends place n [] = tt
+script_fits ends place n (text ∷ texts) = fits_by ends place n text texts (line_of place text) refl (λ line. script_fits ends (place_after place line) (n + 1) texts)
+
+pub front_fits : (place : Place) (xs ys : List Line) → LinesFit place (xs ++ ys) → LinesFit place xs
+unfolding LinesFit
+front_fits place [] ys h = tt
+front_fits place (x ∷ xs) ys h = (h.0, h.1, h.2, front_fits (place_after place x) xs ys h.3)
+
+rest_fits : (place : Place) (xs ys : List Line) → LinesFit place (xs ++ ys) → LinesFit (place_behind place xs) ys
+unfolding LinesFit place_behind
+rest_fits place [] ys h = h
+rest_fits place (x ∷ xs) ys h = rest_fits (place_after place x) xs ys h.3
+
+first_fits : (place : Place) (line : Line) (lines : List Line) → LinesFit place (line ∷ lines) → IsSpelled place line
+unfolding LinesFit
+first_fits place line lines h = record { stands = h.0; fits = h.1; played = h.2 }
+
+one_fits : (place : Place) (line : Line) → IsSpelled place line → LinesFit place (line ∷ [])
+unfolding LinesFit
+one_fits place line h = (h.stands, h.fits, h.played, tt)
+
+-- ---- places
+
+-- the boards are formatted
+pub record IsBehind (place : Place) : Type 0 where
+  pub ready : place.ready ≡ true
+  pub some : 0 < place.motes
+
+-- `motes` stands where no line said yet how many there are
+pub not_first : {A : Type 0} (place : Place) (n : ℕ) → 0 < place.motes → StandsAt place (Motes n) → A
+not_first place n some h = let none : place.motes ≡ 0 = eqb-true place.motes 0 h.fits in absurd (omega (arith, none, some))
+
+not_second : {A : Type 0} (place : Place) (name : List ℕ) (used : ℕ) (content : List ℕ) → place.ready ≡ true → StandsAt place (Golden name used content) → A
+not_second place name used content ready h = false_not place.ready ready (second_at place h.fits).0
+
+-- ---- items in their ranges
+
+pub event_fits : (motes : ℕ) (event : Event) → FitsEvent motes event → IsPlayedEvent event → EventFits motes event
+event_fits motes (Tick mote dt word) h played = h.0
+event_fits motes (Hear mote dt word frame) h played = (h.0, h.2.counted)
+event_fits motes (Last from to dt word) h played = (h.0.first, h.0.second, λ same. h.0.other (sym same))
+event_fits motes (Reset mote dt word) h played = h.0
+event_fits motes (Inject mote image version dt word) h played = (h.0, omega (arith, h.1.image), h.1.version)
+event_fits motes (Order mote number image version dt word) h played = (h.0, h.1.counted, h.1.fits, omega (arith, h.2.image), h.2.version, h.2.version_fits)
+event_fits motes (Frame mote dt word bytes) h played = (h.0, h.2.few, h.2.bytes)
+
+cut_fits : (cut : CutOfPower) → FitsCut cut → CutFits cut
+cut_fits cut h = record { counted = h.counted; some = omega (arith, h.some); few = omega (arith, h.few) }
+
+pub cut_fits_too : (cut : Option CutOfPower) → IfSome cut FitsCut → IfSome cut CutFits
+cut_fits_too None h = tt
+cut_fits_too (Some cut) h = cut_fits cut h
+
+row_fits : (image version : ℕ) (name content : List ℕ) → script.IsDeclared image version name content → IsDeclared (declared_row image version name content)
+row_fits image version name content h =
+    record { not_golden = h.image; image = omega (arith, h.image_fits); version = h.version; version_fits = h.version_fits; name = h.name; fits = omega (arith, h.fits); bytes = h.bytes }
+
+one_more : {A : Type 0} (P : A → Type 0) (xs : List A) (x : A) → AllByRecursion P xs → P x → AllByRecursion P (xs ++ x ∷ [])
+one_more P xs x h k = all_append P xs (x ∷ []) h (k, tt)
+
+link_fits : (motes a b : ℕ) → AreTwo motes a b → LinkFits motes (a, b)
+link_fits motes a b two = record { first = two.first; second = two.second; two = λ same. two.other (sym same) }
+
+-- ---- the events of rounds
+
+-- P holds of all events of a round over a link, to and fro
+record HoldsOver (P : Event → Type 0) (l : ℕ × ℕ) : Type 0 where
+  near : P (paced l.0)
+  far : P (paced l.1)
+  there : P (passed l.0 l.1)
+  back : P (passed l.1 l.0)
+
+turned : (P : Event → Type 0) (l : ℕ × ℕ) → HoldsOver P l → HoldsOver P (l.1, l.0)
+turned P l h = record { near = h.far; far = h.near; there = h.back; back = h.there }
+
+round_all : (P : Event → Type 0) (l : ℕ × ℕ) → HoldsOver P l → AllByRecursion P (round l.0 l.1)
+unfolding round
+round_all P l h =
+    let pages : List Event = times 48 (paced l.0 ∷ passed l.0 l.1 ∷ []) in
+    let asks : List Event = passed l.0 l.1 ∷ paced l.1 ∷ passed l.1 l.0 ∷ pages in
+    let asked : AllByRecursion P asks = (h.there, (h.far, (h.back, all_times P 48 (paced l.0 ∷ passed l.0 l.1 ∷ []) (h.near, (h.there, tt))))) in
+    let told : AllByRecursion P (replicate 3 (paced l.0) ++ asks) = all_append P (replicate 3 (paced l.0)) asks (all_replicate P 3 (paced l.0) h.near) asked in
+    let rested : AllByRecursion P (replicate 50 (paced l.1) ++ (replicate 3 (paced l.0) ++ asks)) =
+    all_append P (replicate 50 (paced l.1)) (replicate 3 (paced l.0) ++ asks) (all_replicate P 50 (paced l.1) h.far) told in
+    all_append P (replicate 50 (paced l.0)) (replicate 50 (paced l.1) ++ (replicate 3 (paced l.0) ++ asks)) (all_replicate P 50 (paced l.0) h.near) rested
+
+sweep_all : (P : Event → Type 0) (links : List (ℕ × ℕ)) → AllByRecursion (HoldsOver P) links → AllByRecursion P (sweep links)
+unfolding sweep
+sweep_all P [] h = tt
+sweep_all P (l ∷ links) h =
+    all_append P (round l.0 l.1) _ (round_all P l h.0) (all_append P (round l.1 l.0) _ (round_all P (l.1, l.0) (turned P l h.0)) (sweep_all P links h.1))
+
+quiet_all : (P : Item → Type 0) (events : List Event) → AllByRecursion (λ e. P (Happened (record { event = e; cut = None }) false)) events → AllByRecursion P (quietly events)
+quiet_all P [] h = tt
+quiet_all P (e ∷ events) h = (h.0, quiet_all P events h.1)
+
+-- the item of an event that a round gives is in its range
+abbrev QuietFits : ℕ → Event → Type 0
+QuietFits motes e = ItemInRange motes (Happened (record { event = e; cut = None }) false)
+
+quiet_fits : (motes : ℕ) (l : ℕ × ℕ) → LinkFits motes l → HoldsOver (QuietFits motes) l
+quiet_fits motes l h =
+    record {
+      near = record { event = h.first; cut = tt };
+      far = record { event = h.second; cut = tt };
+      there = record { event = (h.first, h.second, h.two); cut = tt };
+      back = record { event = (h.second, h.first, λ same. h.two (sym same)); cut = tt };
+    }
+
+-- ---- lines behind golden
+
+-- The boards are formatted, and there are so many motes. A cut that waits is in its range, and so are the links.
+record IsKept (motes : ℕ) (place : Place) (cut : Option CutOfPower) : Type 0 where
+  behind : IsBehind place
+  count : place.motes ≡ motes
+  waits : IfSome cut FitsCut
+  links : AllByRecursion (LinkFits motes) place.links
+
+kept_next : (motes : ℕ) (place : Place) (cut : Option CutOfPower) (line : Line) → IsKept motes place cut → IsSpelled place line → IsKept motes (place_after place line) (cut_by cut line)
+kept_next motes place cut Nothing k h = k
+kept_next motes place cut (Motes n) k h = not_first place n k.behind.some h.stands
+kept_next motes place cut (Golden name used content) k h = not_second place name used content k.behind.ready h.stands
+kept_next motes place cut Boards k h = unplayed h.played
+kept_next motes place cut (Link a b) k h =
+    record {
+      behind = record { ready = k.behind.ready; some = k.behind.some };
+      count = k.count;
+      waits = k.waits;
+      links = one_more (LinkFits motes) place.links (a, b) k.links (subst (λ (n : ℕ). LinkFits n (a, b)) k.count (link_fits place.motes a b h.fits));
+    }
+kept_next motes place cut (Image image version name content) k h = k
+kept_next motes place cut (Cut c) k h = record { behind = record { ready = k.behind.ready; some = k.behind.some }; count = k.count; waits = h.fits; links = k.links }
+kept_next motes place cut (Happens event) k h = record { behind = record { ready = k.behind.ready; some = k.behind.some }; count = k.count; waits = tt; links = k.links }
+kept_next motes place cut (Round a b) k h = record { behind = record { ready = k.behind.ready; some = k.behind.some }; count = k.count; waits = k.waits; links = k.links }
+kept_next motes place cut (Sweeps n) k h = record { behind = record { ready = k.behind.ready; some = k.behind.some }; count = k.count; waits = k.waits; links = k.links }
+
+kept_behind : (motes : ℕ) (place : Place) (cut : Option CutOfPower) (lines : List Line) → IsKept motes place cut → LinesFit place lines → IsKept motes (place_behind place lines) (cut_behind cut lines)
+unfolding LinesFit place_behind cut_behind
+kept_behind motes place cut [] k h = k
+kept_behind motes place cut (line ∷ lines) k h = kept_behind motes (place_after place line) (cut_by cut line) lines (kept_next motes place cut line k (first_fits place line lines h)) h.3
+
+line_in_range : (motes : ℕ) (place : Place) (cut : Option CutOfPower) (line : Line) → IsKept motes place cut → IsSpelled place line → AllByRecursion (ItemInRange motes) (item_by place cut line)
+line_in_range motes place cut Nothing k h = tt
+line_in_range motes place cut (Motes n) k h = tt
+line_in_range motes place cut (Golden name used content) k h = tt
+line_in_range motes place cut Boards k h = tt
+line_in_range motes place cut (Link a b) k h = tt
+line_in_range motes place cut (Image image version name content) k h = (row_fits image version name content h.fits, tt)
+line_in_range motes place cut (Cut c) k h = tt
+line_in_range motes place cut (Happens event) k h = (record { event = subst (λ (n : ℕ). EventFits n event) k.count (event_fits place.motes event h.fits h.played); cut = cut_fits_too cut k.waits }, tt)
+line_in_range motes place cut (Round a b) k h =
+    let link : LinkFits motes (a, b) = subst (λ (n : ℕ). LinkFits n (a, b)) k.count (link_fits place.motes a b h.fits) in
+    quiet_all (ItemInRange motes) (round a b) (round_all (QuietFits motes) (a, b) (quiet_fits motes (a, b) link))
+line_in_range motes place cut (Sweeps n) k h =
+    quiet_all (ItemInRange motes) (times n (sweep place.links))
+    (all_times (QuietFits motes) n (sweep place.links) (sweep_all (QuietFits motes) place.links (all_map (LinkFits motes) (HoldsOver (QuietFits motes)) place.links (quiet_fits motes) k.links)))
+
+in_range : (motes : ℕ) (place : Place) (cut : Option CutOfPower) (lines : List Line) → IsKept motes place cut → LinesFit place lines → AllByRecursion (ItemInRange motes) (items_behind place cut lines)
+unfolding LinesFit items_behind
+in_range motes place cut [] k h = tt
+in_range motes place cut (line ∷ lines) k h =
+    let first = first_fits place line lines h in
+    all_append (ItemInRange motes) (item_by place cut line) (items_behind (place_after place line) (cut_by cut line) lines)
+    (line_in_range motes place cut line k first) (in_range motes (place_after place line) (cut_by cut line) lines (kept_next motes place cut line k first) h.3)
+
+-- the image with which the boards are formatted
+record Formatted : Type 0 where
+  name : List ℕ
+  used : ℕ
+  content : List ℕ
+
+-- so many motes begin with golden and these links
+abbrev linked_world : (motes : ℕ) → Formatted → List (ℕ × ℕ) → World
+linked_world motes golden links = first_world (golden_row golden.name golden.content ∷ []) links (replicate motes (fresh golden.name golden.content golden.used))
+
+record Carries (motes : ℕ) (golden : Formatted) (b : Beginning) : Type 0 where
+  links : List (ℕ × ℕ)
+  fit : AllByRecursion (LinkFits motes) links
+  world : b.world ≡ Some (linked_world motes golden links)
+  count : b.motes ≡ motes
+
+-- behind golden the lines add links alone
+carries : (motes : ℕ) (golden : Formatted) (b : Beginning) (place : Place) (lines : List Line) → IsBehind place → place.motes ≡ motes → LinesFit place lines → Carries motes golden b → Carries motes golden (begin_behind b lines)
+unfolding LinesFit begin_behind
+carries motes golden b place [] behind count h k = k
+carries motes golden b place (Nothing ∷ lines) behind count h k = carries motes golden b place lines behind count h.3 k
+carries motes golden b place (Motes n ∷ lines) behind count h k = not_first place n behind.some h.0
+carries motes golden b place (Golden name used content ∷ lines) behind count h k = not_second place name used content behind.ready h.0
+carries motes golden b place (Boards ∷ lines) behind count h k = unplayed h.2
+carries motes golden b place (Link x y ∷ lines) behind count h k =
+    carries motes golden (begin_by b (Link x y)) (place_after place (Link x y)) lines (record { ready = behind.ready; some = behind.some }) count h.3 (record {
+      links = k.links ++ (x, y) ∷ [];
+      fit = one_more (LinkFits motes) k.links (x, y) k.fit (subst (λ (n : ℕ). LinkFits n (x, y)) count (link_fits place.motes x y h.1));
+      world = ap (option_map (with_link (x, y))) k.world;
+      count = k.count;
+    })
+carries motes golden b place (Image image version name content ∷ lines) behind count h k = carries motes golden b place lines behind count h.3 k
+carries motes golden b place (Cut c ∷ lines) behind count h k = carries motes golden b (place_after place (Cut c)) lines (record { ready = behind.ready; some = behind.some }) count h.3 k
+carries motes golden b place (Happens event ∷ lines) behind count h k = carries motes golden b (place_after place (Happens event)) lines (record { ready = behind.ready; some = behind.some }) count h.3 k
+carries motes golden b place (Round x y ∷ lines) behind count h k = carries motes golden b (place_after place (Round x y)) lines (record { ready = behind.ready; some = behind.some }) count h.3 k
+carries motes golden b place (Sweeps n ∷ lines) behind count h k = carries motes golden b (place_after place (Sweeps n)) lines (record { ready = behind.ready; some = behind.some }) count h.3 k
+
+-- behind golden no line says how many motes there are
+pub lacking_none : (boards : ℕ) (place : Place) (lines : List Line) → IsBehind place → LinesFit place lines → lacking boards lines ≡ None
+unfolding LinesFit lacking
+lacking_none boards place [] behind h = refl
+lacking_none boards place (Nothing ∷ lines) behind h = lacking_none boards place lines behind h.3
+lacking_none boards place (Motes n ∷ lines) behind h = not_first place n behind.some h.0
+lacking_none boards place (Golden name used content ∷ lines) behind h = not_second place name used content behind.ready h.0
+lacking_none boards place (Boards ∷ lines) behind h = unplayed h.2
+lacking_none boards place (Link x y ∷ lines) behind h = lacking_none boards (place_after place (Link x y)) lines (record { ready = behind.ready; some = behind.some }) h.3
+lacking_none boards place (Image image version name content ∷ lines) behind h = lacking_none boards place lines behind h.3
+lacking_none boards place (Cut c ∷ lines) behind h = lacking_none boards (place_after place (Cut c)) lines (record { ready = behind.ready; some = behind.some }) h.3
+lacking_none boards place (Happens event ∷ lines) behind h = lacking_none boards (place_after place (Happens event)) lines (record { ready = behind.ready; some = behind.some }) h.3
+lacking_none boards place (Round x y ∷ lines) behind h = lacking_none boards (place_after place (Round x y)) lines (record { ready = behind.ready; some = behind.some }) h.3
+lacking_none boards place (Sweeps n ∷ lines) behind h = lacking_none boards (place_after place (Sweeps n)) lines (record { ready = behind.ready; some = behind.some }) h.3
+
+-- ---- where a run begins
+
+-- it begins with golden, all its items are in their ranges, and so are the place and the cut behind them
+record Begun (b : Beginning) (w : World) (items : List Item) (place : Place) (cut : Option CutOfPower) : Type 0 where
+  golden : Formatted
+  is_golden : IsGolden golden.name golden.used golden.content
+  links : List (ℕ × ℕ)
+  links_fit : AllByRecursion (LinkFits b.motes) links
+  world : w ≡ linked_world b.motes golden links
+  few : b.motes ≤ most_motes
+  ranges : AllByRecursion (ItemInRange b.motes) items
+  kept : IsKept b.motes place cut
+
+-- before golden, where no more than the number of motes is known
+begins : (b : Beginning) (place : Place) (lines : List Line) (w : World) → b.motes ≡ place.motes → b.motes ≤ most_motes → b.world ≡ None → place.ready ≡ false → place.links ≡ [] → LinesFit place lines → (begin_behind b lines).world ≡ Some w
+    → Begun (begin_behind b lines) w (items_behind place None lines) (place_behind place lines) (cut_behind None lines)
+unfolding LinesFit begin_behind items_behind place_behind cut_behind
+begins b place [] w count few none before alone h is = absurd (let e : None ≡ Some w = sym none ∙ is in cc)
+begins b place (Nothing ∷ lines) w count few none before alone h is = begins b place lines w count few none before alone h.3 is
+begins b place (Motes n ∷ lines) w count few none before alone h is = begins (begin_by b (Motes n)) (place_after place (Motes n)) lines w refl h.1.1 none before alone h.3 is
+begins b place (Golden name used content ∷ lines) w count few none before alone h is =
+    let c : Beginning = begin_by b (Golden name used content) in
+    let there : Place = place_after place (Golden name used content) in
+    let golden : Formatted = record { name = name; used = used; content = content } in
+    let some : 0 < place.motes = (second_at place h.0.fits).1 in
+    let k : Carries b.motes golden (begin_behind c lines) = carries b.motes golden c there lines (record { ready = refl; some = some }) (sym count) h.3 (record { links = []; fit = tt; world = refl; count = refl }) in
+    let kept : IsKept b.motes there None = record { behind = record { ready = refl; some = some }; count = sym count; waits = tt; links = subst (AllByRecursion (LinkFits b.motes)) (sym alone) tt } in
+    record {
+      golden = golden;
+      is_golden = h.1;
+      links = k.links;
+      links_fit = subst (λ (n : ℕ). AllByRecursion (LinkFits n) k.links) (sym k.count) k.fit;
+      world = some_is w (linked_world b.motes golden k.links) (sym is ∙ k.world) ∙ ap (λ (n : ℕ). linked_world n golden k.links) (sym k.count);
+      few = subst (λ (n : ℕ). n ≤ most_motes) (sym k.count) few;
+      ranges = subst (λ (n : ℕ). AllByRecursion (ItemInRange n) (items_behind there None lines)) (sym k.count) (in_range b.motes there None lines kept h.3);
+      kept = subst (λ (n : ℕ). IsKept n (place_behind there lines) (cut_behind None lines)) (sym k.count) (kept_behind b.motes there None lines kept h.3);
+    }
+begins b place (Boards ∷ lines) w count few none before alone h is = unplayed h.2
+begins b place (Link x y ∷ lines) w count few none before alone h is = false_not place.ready (link_at place x y h.0).0.0 before
+begins b place (Image image version name content ∷ lines) w count few none before alone h is = false_not place.ready (later_at place h.0.fits).0 before
+begins b place (Cut c ∷ lines) w count few none before alone h is = false_not place.ready (later_at place h.0.fits).0 before
+begins b place (Happens event ∷ lines) w count few none before alone h is = false_not place.ready (event_at place event h.0).0 before
+begins b place (Round x y ∷ lines) w count few none before alone h is = false_not place.ready (later_at place h.0.fits).0 before
+begins b place (Sweeps n ∷ lines) w count few none before alone h is = false_not place.ready (later_at place h.0.fits).0 before
+
+played_ranges : (motes : ℕ) (played : List Played) → AllByRecursion (ItemInRange motes) (map item_played played) → AllByRecursion (IsInRange motes) played
+played_ranges motes [] h = tt
+played_ranges motes (p ∷ ps) h = (h.0, played_ranges motes ps h.1)
+
+all_front : {A : Type 0} (P : A → Type 0) (xs ys : List A) → AllByRecursion P (xs ++ ys) → AllByRecursion P xs
+all_front P [] ys h = tt
+all_front P (x ∷ xs) ys h = (h.0, all_front P xs ys h.1)
+
+all_rest : {A : Type 0} (P : A → Type 0) (xs ys : List A) → AllByRecursion P (xs ++ ys) → AllByRecursion P ys
+all_rest P [] ys h = h
+all_rest P (x ∷ xs) ys h = all_rest P xs ys h.1
+
+-- what was played of a script plays golden, and what is left of the line that was begun is in its ranges
+record GoldenRun (motes : ℕ) (left : List Item) (played : List Played) (v : World) : Type 0 where
+  name : List ℕ
+  bytes : List ℕ
+  used : ℕ
+  links : List (ℕ × ℕ)
+  plays : PlaysGolden name bytes used motes links played v
+  left_fits : AllByRecursion (ItemInRange motes) left
+
+golden_is_row : (golden : Formatted) → IsGolden golden.name golden.used golden.content → IsRow (golden_row golden.name golden.content)
+golden_is_row golden h =
+    record { image = omega arith; version = omega arith; version_fits = omega arith; name = h.name; some = h.some; fits = omega (arith, h.fits); bytes = h.bytes }
+
+next_in_range : (motes : ℕ) (done rest : List Line) → IsKept motes (place_behind first_place done) (cut_behind None done) → LinesFit (place_behind first_place done) rest → AllByRecursion (ItemInRange motes) (next_items done rest)
+next_in_range motes done [] k h = tt
+next_in_range motes done (line ∷ rest) k h = line_in_range motes (place_behind first_place done) (cut_behind None done) line k (first_fits _ line rest h)
+
+abbrev BegunBehind : Beginning → World → List Line → Type 0
+BegunBehind b w done = Begun b w (items_of done) (place_behind first_place done) (cut_behind None done)
+
+golden_by : (b : Beginning) (o : Option World) (done rest : List Line) (begun left : List Item) (played : List Played) (v : World) → b.world ≡ o → ((w : World) → b.world ≡ Some w → BegunBehind b w done) → LinesFit (place_behind first_place done) rest
+    → next_items done rest ≡ begun ++ left → map item_played played ≡ items_of done ++ begun → RunsTo o played (Some v) → GoldenRun b.motes left played v
+golden_by b None done rest begun left played v is begins_so next parts items (none, last) = absurd (let e : Some v ≡ None = last in cc)
+golden_by b (Some w) done rest begun left played v is begins_so next parts items (u, last, plays) =
+    let x = begins_so w is in
+    let here : Plays (linked_world b.motes x.golden x.links) played v = subst (λ (z : World). Plays (linked_world b.motes x.golden x.links) played z) (sym (some_is v u last)) (subst (λ (z : World). Plays z played u) x.world plays) in
+    let line : AllByRecursion (ItemInRange b.motes) (begun ++ left) = subst (AllByRecursion (ItemInRange b.motes)) parts (next_in_range b.motes done rest x.kept next) in
+    let all : AllByRecursion (ItemInRange b.motes) (items_of done ++ begun) = all_append (ItemInRange b.motes) (items_of done) begun x.ranges (all_front (ItemInRange b.motes) begun left line) in
+    record {
+      name = x.golden.name;
+      bytes = x.golden.content;
+      used = x.golden.used;
+      links = x.links;
+      plays = record {
+        is_row = golden_is_row x.golden x.is_golden;
+        plays = here;
+        few = x.few;
+        links_fit = x.links_fit;
+        ranges = played_ranges b.motes played (subst (AllByRecursion (ItemInRange b.motes)) (sym items) all);
+      };
+      left_fits = all_rest (ItemInRange b.motes) begun left line;
+    }
+
+-- These lines were done, and the first items of the next one were played.
+golden_run : (done rest : List Line) (begun left : List Item) (played : List Played) (v : World) → LinesFit first_place done → LinesFit (place_behind first_place done) rest → next_items done rest ≡ begun ++ left
+    → map item_played played ≡ items_of done ++ begun → RunsTo (beginning_of done).world played (Some v) → GoldenRun (beginning_of done).motes left played v
+golden_run done rest begun left played v fit next parts items run =
+    golden_by (beginning_of done) (beginning_of done).world done rest begun left played v refl (λ w is. begins no_beginning first_place done w refl (omega arith) refl refl refl fit is) next parts items run
+
+-- ---- what holds of every run of a script with golden
+
+pub script_of_fits : (input : List ℕ) → LinesFit first_place (script_of input).lines
+unfolding script_of
+script_of_fits input = script_fits _ first_place 1 _
+
+-- a law of all that plays golden, which holds of nothing too, holds of what was played of a script
+promised : (P : List Played → Option World → Type 0) → P [] None → ((name bytes : List ℕ) (used motes : ℕ) (links : List (ℕ × ℕ)) (played : List Played) (v : World) → PlaysGolden name bytes used motes links played v → P played (Some v))
+    → (done rest : List Line) (begun left : List Item) (played : List Played) (last : Option World) → LinesFit first_place (done ++ rest) → next_items done rest ≡ begun ++ left → map item_played played ≡ items_of done ++ begun
+    → RunsTo (beginning_of done).world played last → P played last
+promised P none law done rest begun left played None fit parts items run = subst (λ (ps : List Played). P ps None) (sym (runs_from_none (beginning_of done).world played run).1) none
+promised P none law done rest begun left played (Some v) fit parts items run =
+    let g = golden_run done rest begun left played v (front_fits first_place done rest fit) (rest_fits first_place done rest fit) parts items run in
+    law g.name g.bytes g.used (beginning_of done).motes g.links played v g.plays
+
+pub holds_of_worlds : (P : List Played → Option World → Type 0) → P [] None → ((name bytes : List ℕ) (used motes : ℕ) (links : List (ℕ × ℕ)) (played : List Played) (v : World) → PlaysGolden name bytes used motes links played v → P played (Some v))
+    → (input : List ℕ) (c : Progress (script_of input)) → P c.played c.last
+holds_of_worlds P none law input c = promised P none law c.done c.rest c.begun c.left c.played c.last (subst (LinesFit first_place) (sym c.lines) (script_of_fits input)) c.parts c.items c.run
+
+pub holds_of_runs : (P : List Played → Type 0) → P [] → ((name bytes : List ℕ) (used motes : ℕ) (links : List (ℕ × ℕ)) (played : List Played) (v : World) → PlaysGolden name bytes used motes links played v → P played)
+    → (input : List ℕ) (c : Progress (script_of input)) → P c.played
+holds_of_runs P none law input c = holds_of_worlds (λ ps last. P ps) none law input c
+
+-- where it ends with a rest of enough sweeps
+pub ended_complete : EndsLaw → (input : List ℕ) (c : Progress (script_of input)) (w v : World) (n k : ℕ) → AllByRecursion IsHonestThen c.played → c.last ≡ Some v → EndsInRest c.played w n v → IsEnough w k → k ≤ n → KeepsNewest v
+ended_complete law input c w v n k honest is ends enough most =
+    let P : List Played → Option World → Type 0 = λ ps last. AllByRecursion IsHonestThen ps → last ≡ Some v → EndsInRest ps w n v → KeepsNewest v in
+    holds_of_worlds P (λ h e. absurd (let f : None ≡ Some v = e in cc)) (λ name bytes used motes links played u plays h e rests.
+    law name bytes used motes links played w v n k (subst (PlaysGolden name bytes used motes links played) (some_is u v e) plays) h rests enough most) input c honest is ends
+
+-- ---- lines that bring no frame from outside
+
+abbrev HonestAlways : Item → Type 0
+HonestAlways item = (w : World) → HonestItem item w
+
+event_honest : (event : Event) (table : List Row) → BringsNone event → HonestEvent table event
+event_honest (Tick mote dt word) table none = tt
+event_honest (Hear mote dt word frame) table none = tt
+event_honest (Last from to dt word) table none = tt
+event_honest (Reset mote dt word) table none = tt
+event_honest (Inject mote image version dt word) table none = tt
+event_honest (Order mote number image version dt word) table none = tt
+event_honest (Frame mote dt word bytes) table none = absurd none
+
+abbrev QuietHonest : Event → Type 0
+QuietHonest e = HonestAlways (Happened (record { event = e; cut = None }) false)
+
+quiet_honest : (l : ℕ × ℕ) → HoldsOver QuietHonest l
+quiet_honest l = record { near = λ w. tt; far = λ w. tt; there = λ w. tt; back = λ w. tt }
+
+each_honest : (links : List (ℕ × ℕ)) → AllByRecursion (HoldsOver QuietHonest) links
+each_honest [] = tt
+each_honest (l ∷ links) = (quiet_honest l, each_honest links)
+
+line_honest : (place : Place) (cut : Option CutOfPower) (line : Line) → IsNoFrame line → AllByRecursion HonestAlways (item_by place cut line)
+line_honest place cut Nothing none = tt
+line_honest place cut (Motes n) none = tt
+line_honest place cut (Golden name used content) none = tt
+line_honest place cut Boards none = tt
+line_honest place cut (Link a b) none = tt
+line_honest place cut (Image image version name content) none = (λ w. tt, tt)
+line_honest place cut (Cut c) none = tt
+line_honest place cut (Happens event) none = (λ w. event_honest event w.table none, tt)
+line_honest place cut (Round a b) none = quiet_all HonestAlways (round a b) (round_all QuietHonest (a, b) (quiet_honest (a, b)))
+line_honest place cut (Sweeps n) none = quiet_all HonestAlways (times n (sweep place.links)) (all_times QuietHonest n (sweep place.links) (sweep_all QuietHonest place.links (each_honest place.links)))
+
+items_honest : (place : Place) (cut : Option CutOfPower) (lines : List Line) → AllByRecursion IsNoFrame lines → AllByRecursion HonestAlways (items_behind place cut lines)
+unfolding items_behind
+items_honest place cut [] none = tt
+items_honest place cut (line ∷ lines) none =
+    all_append HonestAlways (item_by place cut line) (items_behind (place_after place line) (cut_by cut line) lines) (line_honest place cut line none.0) (items_honest (place_after place line) (cut_by cut line) lines none.1)
+
+-- A line that was begun, and not done, is a round or sweeps.
+one_begun : (item : Item) (begun left : List Item) → item ∷ [] ≡ begun ++ left → (left ≡ [] → begun ≡ []) → begun ≡ []
+one_begun item [] left parts within = refl
+one_begun item (x ∷ begun) left parts within = within (none_left begun left (ap (λ (xs : List Item). drop 1 xs) parts))
+  where
+    none_left : (xs ys : List Item) → [] ≡ xs ++ ys → ys ≡ []
+    none_left [] ys e = sym e
+    none_left (x ∷ xs) ys e = absurd (let f : [] ≡ x ∷ (xs ++ ys) = e in cc)
+
+front_honest : (items begun left : List Item) → items ≡ begun ++ left → AllByRecursion HonestAlways items → AllByRecursion HonestAlways begun
+front_honest items begun left parts all = all_front HonestAlways begun left (subst (AllByRecursion HonestAlways) parts all)
+
+line_begun_honest : (place : Place) (cut : Option CutOfPower) (line : Line) (begun left : List Item) → item_by place cut line ≡ begun ++ left → (left ≡ [] → begun ≡ []) → AllByRecursion HonestAlways begun
+line_begun_honest place cut (Happens event) begun left parts within = subst (AllByRecursion HonestAlways) (sym (one_begun _ begun left parts within)) tt
+line_begun_honest place cut line begun left parts within = front_honest (item_by place cut line) begun left parts (line_honest place cut line tt)
+
+begun_honest : (done rest : List Line) (begun left : List Item) → next_items done rest ≡ begun ++ left → (left ≡ [] → begun ≡ []) → AllByRecursion HonestAlways begun
+begun_honest done [] begun left parts within = front_honest [] begun left parts tt
+begun_honest done (line ∷ rest) begun left parts within = line_begun_honest (place_behind first_place done) (cut_behind None done) line begun left parts within
+
+played_honest : (played : List Played) → AllByRecursion HonestAlways (map item_played played) → AllByRecursion IsHonestThen played
+played_honest [] h = tt
+played_honest (p ∷ ps) h = (h.0 p.before, played_honest ps h.1)
+
+pub progress_honest : (spells : Script) (c : Progress spells) → AllByRecursion IsNoFrame c.done → AllByRecursion IsHonestThen c.played
+progress_honest spells c none =
+    played_honest c.played (subst (AllByRecursion HonestAlways) (sym c.items) (all_append HonestAlways (items_of c.done) c.begun (items_honest first_place None c.done none) (begun_honest c.done c.rest c.begun c.left c.parts c.within)))
+
+-- ---- no event lacks an image
+
+abbrev pub ImageIsFound : Type 0
+ImageIsFound = (name bytes : List ℕ) (used motes : ℕ) (links : List (ℕ × ℕ)) (played : List Played) (v : World) (e : Event) → PlaysGolden name bytes used motes links played v → EventFits motes e → FindsImage (does v e)
+
+golden_finds : ImageIsFound → (motes : ℕ) (left : List Item) (played : List Played) (u : World) → GoldenRun motes left played u → LacksImage u left → ⊥
+golden_finds law motes left played u g lacks =
+    let fits : AllByRecursion (ItemInRange motes) (Happened lacks.next.step lacks.next.loud ∷ lacks.next.more) = subst (AllByRecursion (ItemInRange motes)) lacks.next.is g.left_fits in
+    let finds : FindsImage (does u lacks.next.step.event) = law g.name g.bytes g.used motes g.links played u lacks.next.step.event g.plays fits.0.event in
+    let some : FindsImage (Goes lacks.ends.deed) = subst FindsImage lacks.ends.goes finds in
+    some lacks.ends.none
+
+line_finds : ImageIsFound → (done : List Line) (line : Line) (played : List Played) (last world : Option World) (begun left : List Item) (text : List ℕ) → LinesFit first_place done → IsSpelled (place_behind first_place done) line → map item_played played ≡ items_of done
+    → RunsTo (beginning_of done).world played last → item_by (place_behind first_place done) (cut_behind None done) line ≡ begun ++ left → RunsFrom last begun world text → InSome world (λ u. LacksImage u left) → ⊥
+line_finds law done line played None world begun left text fit spelled items run parts runs lacks = subst (λ (o : Option World). InSome o (λ u. LacksImage u left)) runs.1 lacks
+line_finds law done line played (Some w) world begun left text fit spelled items run parts (u, is, now) lacks =
+    let more : map item_played (played ++ now.played) ≡ items_of done ++ begun =
+    map-append item_played played now.played ∙ ap (λ (xs : List Item). xs ++ map item_played now.played) items ∙ ap (λ (xs : List Item). items_of done ++ xs) now.are in
+    let g = golden_run done (line ∷ []) begun left (played ++ now.played) u fit (one_fits _ line spelled) parts more (runs_append (beginning_of done).world w u played now.played run now.run) in
+    golden_finds law (beginning_of done).motes left (played ++ now.played) u g (subst (λ (o : Option World). InSome o (λ z. LacksImage z left)) is lacks)
+
+pub image_found : ImageIsFound → (ends : Bool) (spells : Script) (texts : List (List ℕ)) (n : ℕ) (p : Player) (initial now : List Device) (before mid : Option (List ℕ)) → LinesFit first_place spells.lines → (r : Reached ends spells texts n p initial now before mid)
+    → (text : List ℕ) → TextRead text p (λ line. LineBegun r.done line r.last (λ v left t. InSome v (λ u. LacksImage u left))) → ⊥
+image_found law ends spells texts n p initial now before mid fit r text read =
+    let begun = read.there in
+    let spelled = subst (λ (place : Place). IsSpelled place read.line) r.stood.place (is_spelled p.place text read.line read.spelled) in
+    line_finds law r.done read.line r.played r.last begun.world begun.begun begun.left begun.text (front_fits first_place r.done _ (subst (LinesFit first_place) (sym r.lines) fit)) spelled r.items r.run begun.parts begun.runs begun.there

@@ -1,0 +1,15 @@
+pub mod ItemLemmas
+pub mod StepLemmas
+pub mod PlayLemmas
+pub mod BoardLemmas
+pub mod StandLemmas
+pub mod SilentLemmas
+pub mod BusyLemmas
+pub mod TextLemmas
+pub mod ReplayLemmas
+pub mod FinishLemmas
+pub mod GoldenLemmas
+pub mod EndLemmas
+pub mod TakenLemmas
+pub mod WholeLemmas
+pub mod RunLemmas

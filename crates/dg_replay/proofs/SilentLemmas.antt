@@ -1,0 +1,214 @@
+-- What is known of a replay behind the lines that have no item.
+use Rattle.std.proofs.Common.{◌≡◌, ℕ, ◌<◌, ◌≤◌, Bool, true, false, if◌then◌else◌, List, [], ◌∷◌, length, replicate, refl, append-nil, ap, sym, ◌∙◌, subst, arith, eqb-true}
+use Rattle.std.specs.Prelude.{Option, Some, None, Result, Ok, Err, OnOk, IfSome, nat_lt, slice_get, slice_index_or}
+use Rattle.std.proofs.lemmas.Bool.Decides.{nat_tests}
+use Rattle.std.proofs.lemmas.List.{length-map, length-replicate, get_or-replicate}
+use Rattle.dg_nor.specs.Device.{Device, Endures}
+use Rattle.dg_nor.specs.Fuse.{beneath_of}
+use Rattle.dg_object.specs.Object.{Row}
+use Rattle.dg_volume.specs.Store.{Store, fresh, golden_row}
+use Rattle.dg_volume.specs.Stands.{Stands}
+use Rattle.dg_base.specs.declared.events.Cut.{Cut as CutOfPower}
+use Rattle.dg_script.specs.Fitting.{FitsCut, FitsLine, StandsAt}
+use Rattle.dg_script.specs.Places.{place_after}
+use Rattle.dg_script.specs.declared.place.Place.{Place}
+use Rattle.dg_script.specs.declared.line.Line.{Line}
+use Rattle.dg_script.specs.declared.line.Line.TheVariants.{Nothing, Motes, Golden, Link, Cut}
+use Rattle.dg_rules.specs.Sizes.{most_motes}
+use Rattle.dg_rules.specs.World.{World, first_world, off_site, no_site}
+use Rattle.dg_world.specs.Worlds.{IsWorld}
+use Rattle.dg_world.specs.Formatted.{FirstBoards, FormatStops}
+use Rattle.dg_world.specs.declared.world.World.{World as KeptWorld}
+use Rattle.dg_world.specs.declared.format.FormatStopped.{FormatStopped}
+use Rattle.dg_replay.specs.Items.{motes_in, golden_world, with_link}
+use Rattle.dg_replay.specs.Boards.{BoardsEndure, StoppedIn}
+use Rattle.dg_replay.specs.Playing.{Counted, InWorld, Passed, Stood, PlayedLine, LacksBoards, LinkedAs, PlayedAs}
+use Rattle.dg_replay.specs.declared.player.Player.{Player}
+use Rattle.dg_replay.specs.declared.stop.Stop.{Stop}
+use Rattle.dg_replay.specs.declared.stop.Stop.TheVariants.{Memory, FlashFault, NoBoard}
+use Rattle.dg_replay.proofs.ItemLemmas.{some_is}
+use Rattle.dg_replay.proofs.PlayLemmas.{false_not, no_world, in_world_as, seated_as}
+use Rattle.dg_replay.proofs.StandLemmas.{joined_next, stood_next, silent_runs, golden_runs, link_runs, none_begun}
+
+-- memory ran out before anything of a line was done
+pub memory_line : (p q : Player) (done : List Line) (w : Option World) (line : Line) (told_before told : List ℕ) (initial now : List Device) → Stood p done w initial now → PlayedAs (Err Memory) q done w line told_before told initial now now
+memory_line p q done w line told_before told initial now s = none_begun p done line w now s.world s.boards
+
+-- ---- lines that say nothing to the motes
+
+pub nothing_played : (p q : Player) (done : List Line) (w : Option World) (told : List ℕ) (initial now : List Device) → Passed p q Nothing → Stood p done w initial now → PlayedLine q done w Nothing told told initial now
+nothing_played p q done w told initial now at s =
+    let motes = ap (λ (x : Place). x.motes) at.place in
+    let ready = ap (λ (x : Place). x.ready) at.place in
+    record {
+      world = w;
+      text = [];
+      told_now = sym (append-nil told);
+      runs = silent_runs done Nothing w refl refl;
+      stood = stood_next p q done Nothing w w initial now now s.links s at.place (seated_as p.place q.place (length now) motes s.seats) (at.cut ∙ s.cut)
+          (subst (λ (o : Option CutOfPower). IfSome o FitsCut) (sym at.cut) s.cut_fits) (in_world_as p q w now at.world motes ready s.world) s.boards;
+      boards_enough = refl;
+    }
+
+not_below : (n m : ℕ) → m ≤ n → nat_lt n m ≡ false
+not_below n m h = grind (arith, nat_tests)
+
+no_motes : (p : Player) (w : Option World) (now : List Device) → p.place.motes ≡ 0 → InWorld p w now → p.place.ready ≡ false
+no_motes p None now none k = k.1
+no_motes p (Some w) now none k = absurd (omega (arith, none, k.5))
+
+pub motes_played : (p q : Player) (done : List Line) (w : Option World) (motes : ℕ) (told : List ℕ) (initial now : List Device) → StandsAt p.place (Motes motes) → Passed p q (Motes motes) → Counted motes (length now) → Stood p done w initial now
+    → PlayedLine q done w (Motes motes) told told initial now
+motes_played p q done w motes told initial now stands at counted s =
+    let unready = no_motes p w now (eqb-true p.place.motes 0 stands.fits) s.world in
+    let kept = no_world p w now unready s.world in
+    motes_first p q done motes told initial now stands at counted unready (subst (λ (o : Option World). Stood p done o initial now) kept.0 s) (sym kept.0)
+  where
+    motes_first : (p q : Player) (done : List Line) (motes : ℕ) (told : List ℕ) (initial now : List Device) → StandsAt p.place (Motes motes) → Passed p q (Motes motes) → Counted motes (length now) → p.place.ready ≡ false → Stood p done None initial now
+        → {w : Option World} → None ≡ w → PlayedLine q done w (Motes motes) told told initial now
+    motes_first p q done motes told initial now stands at counted unready s {w} e =
+        let many : q.place.motes ≡ motes = ap (λ (x : Place). x.motes) at.place in
+        let ready : q.place.ready ≡ p.place.ready = ap (λ (x : Place). x.ready) at.place in
+        let made : PlayedLine q done None (Motes motes) told told initial now = record {
+          world = None;
+          text = [];
+          told_now = sym (append-nil told);
+          runs = silent_runs done (Motes motes) None refl refl;
+          stood = stood_next p q done (Motes motes) None None initial now now (joined_next p.place (Motes motes) stands (counted.0, counted.1) s.links) s at.place (λ some. subst (λ (n : ℕ). Counted n (length now)) (sym many) counted) (at.cut ∙ s.cut)
+              (subst (λ (o : Option CutOfPower). IfSome o FitsCut) (sym at.cut) s.cut_fits) (at.world ∙ s.world.0, ready ∙ unready) s.boards;
+          boards_enough = ap (λ (b : Bool). if b then Some motes else None) (not_below (length initial) motes (subst (λ (ds : List Device). motes ≤ length ds) s.boards counted.2));
+        } in
+        subst (λ (o : Option World). PlayedLine q done o (Motes motes) told told initial now) e made
+
+lacking_boards : (p : Player) (done : List Line) (w : Option World) (motes boards : ℕ) (initial now : List Device) → p.place.motes ≡ 0 → boards ≡ length now → boards < motes → Stood p done w initial now → LacksBoards (Motes motes) motes boards initial now now
+lacking_boards p done None motes boards initial now none count short s = record { is_motes = refl; have = count ∙ ap (λ (ds : List Device). length ds) s.boards; missing = short; same = refl }
+lacking_boards p done (Some w) motes boards initial now none count short s = absurd (omega (arith, none, s.world.5))
+
+pub motes_as : (r : Result (Unit {0}) Stop) (p q : Player) (done : List Line) (w : Option World) (motes boards : ℕ) (told : List ℕ) (initial now : List Device) → StandsAt p.place (Motes motes) → Passed p q (Motes motes) → (1 ≤ motes) × (motes ≤ most_motes) → boards ≡ length now
+    → OnOk r (motes ≤ boards) → ((stop : Stop) → r ≡ Err stop → (stop ≡ NoBoard motes boards) × (boards < motes)) → Stood p done w initial now → PlayedAs r q done w (Motes motes) told told initial now now
+motes_as (Ok u) p q done w motes boards told initial now stands at fits count enough missing s =
+    motes_played p q done w motes told initial now stands at (fits.0, fits.1, subst (λ (n : ℕ). motes ≤ n) count enough) s
+motes_as (Err stop) p q done w motes boards told initial now stands at fits count enough missing s =
+    let m = missing stop refl in
+    let P : Stop → Type 0 = λ x. PlayedAs (Err x) q done w (Motes motes) told told initial now now in
+    subst P (sym m.0) (lacking_boards p done w motes boards initial now (eqb-true p.place.motes 0 stands.fits) count m.1 s)
+
+pub cut_played : (p q : Player) (done : List Line) (w : Option World) (cut : CutOfPower) (told : List ℕ) (initial now : List Device) → FitsCut cut → q.place ≡ place_after p.place (Cut cut) → q.cut ≡ Some cut → q.world ≡ p.world → Stood p done w initial now
+    → PlayedLine q done w (Cut cut) told told initial now
+cut_played p q done w cut told initial now fits place has world s =
+    let motes = ap (λ (x : Place). x.motes) place in
+    let ready = ap (λ (x : Place). x.ready) place in
+    record {
+      world = w;
+      text = [];
+      told_now = sym (append-nil told);
+      runs = silent_runs done (Cut cut) w refl refl;
+      stood = stood_next p q done (Cut cut) w w initial now now s.links s place (seated_as p.place q.place (length now) motes s.seats) has (subst (λ (o : Option CutOfPower). IfSome o FitsCut) (sym has) fits)
+          (in_world_as p q w now world motes ready s.world) s.boards;
+      boards_enough = refl;
+    }
+
+-- ---- golden
+
+endured : (motes : ℕ) (initial old new : List Device) → old ≡ initial → FirstBoards motes old new → BoardsEndure initial new
+endured motes initial old new first others =
+    record {
+      count = others.count ∙ ap (λ (ds : List Device). length ds) first;
+      endures = subst (λ (ds : List Device). (m : ℕ) (a b : Device) → slice_get ds m ≡ Some a → slice_get new m ≡ Some b → Endures (beneath_of a) (beneath_of b)) first others.endures;
+    }
+
+pub golden_played : (p q : Player) (done : List Line) (w : Option World) (name : List ℕ) (used : ℕ) (content : List ℕ) (motes : ℕ) (v : KeptWorld) (told : List ℕ) (initial old new : List Device)
+    → p.place.ready ≡ false → motes ≡ p.place.motes → Counted motes (length old) → q.place ≡ place_after p.place (Golden name used content) → q.cut ≡ p.cut → q.world ≡ Some v
+    → ((m : ℕ) (d : Device) → m < motes → slice_get new m ≡ Some d → Stands d.image (fresh name content used))
+    → ((m : ℕ) (d : Device) → m < motes → slice_get old m ≡ Some d → d.stopped ≡ false) → FirstBoards motes old new
+    → ((boards : List Device) (stores : List Store) (table : List Row) → length stores ≡ motes → motes ≤ length boards
+    → ((m : ℕ) (d : Device) → m < motes → slice_get boards m ≡ Some d → Stands d.image (slice_index_or stores m no_site.store)) → IsWorld v boards (first_world table [] stores))
+    → Stood p done w initial old → PlayedLine q done w (Golden name used content) told told initial new
+golden_played p q done (Some w) name used content motes v told initial old new unready count counted place cut world formatted awake others begins s = false_not p.place.ready s.world.4 unready
+golden_played p q done None name used content motes v told initial old new unready count counted place cut world formatted awake others begins s =
+    let first : old ≡ initial = s.boards in
+    let chip : Store = fresh name content used in
+    let stores : List Store = replicate motes chip in
+    let z : World = golden_world motes name used content in
+    let enough : motes ≤ length new = omega (arith, counted.2, others.count) in
+    let stores_there : (m : ℕ) (d : Device) → m < motes → slice_get new m ≡ Some d → Stands d.image (slice_index_or stores m no_site.store) =
+    λ m d within is. subst (λ (x : Store). Stands d.image x) (sym (get_or-replicate motes m chip no_site.store within)) (formatted m d within is) in
+    let is_world : IsWorld v new z = begins new stores (golden_row name content ∷ []) (length-replicate motes chip) enough stores_there in
+    let many : length z.sites ≡ motes = length-map stores off_site ∙ length-replicate motes chip in
+    let same : q.place.motes ≡ motes = ap (λ (x : Place). x.motes) place ∙ sym count in
+    record {
+      world = Some z;
+      text = [];
+      told_now = sym (append-nil told);
+      runs = golden_runs done name used content motes (count ∙ s.motes);
+      stood = stood_next p q done (Golden name used content) None (Some z) initial old new s.links s place
+          (λ some. subst (λ (n : ℕ). Counted n (length new)) (sym same) (counted.0, counted.1, enough))
+          (cut ∙ s.cut)
+          (subst (λ (o : Option CutOfPower). IfSome o FitsCut) (sym cut) s.cut_fits)
+          (v, world, is_world, many ∙ sym same, ap (λ (x : Place). x.ready) place, subst (λ (n : ℕ). 0 < n) (sym same) counted.0)
+          (record {
+            all = endured motes initial old new first others;
+            stands = λ m d within is. (is_world.sites m d within is).stands;
+            came = λ m d within is. awake m d (omega (arith, many, within)) (ap (λ (ds : List Device). slice_get ds m) first ∙ is);
+            others = λ m past. others.others m (omega (arith, many, past)) ∙ ap (λ (ds : List Device). slice_get ds m) first;
+          });
+      boards_enough = refl;
+    }
+
+-- formatting stopped
+pub golden_stopped : (p q : Player) (done : List Line) (w : Option World) (name : List ℕ) (used : ℕ) (content : List ℕ) (motes : ℕ) (e : FormatStopped) (told : List ℕ) (initial old new : List Device) → p.place.ready ≡ false → motes ≡ p.place.motes
+    → FirstBoards motes old new → FormatStops e.board motes (fresh name content used) old new → Stood p done w initial old → PlayedAs (Err FlashFault) q done w (Golden name used content) told told initial old new
+golden_stopped p q done (Some w) name used content motes e told initial old new unready count others stops s = false_not p.place.ready s.world.4 unready
+golden_stopped p q done None name used content motes e told initial old new unready count others stops s =
+    let first : old ≡ initial = s.boards in
+    let here : motes ≡ motes_in done = count ∙ s.motes in
+    let stop : StoppedIn (motes_in done) (Golden name used content ∷ []) [] None initial new = record {
+      stopped = record {
+        board = e.board;
+        known = subst (λ (n : ℕ). e.board < n) here stops.known;
+        before = stops.before;
+        after = stops.after;
+        was = ap (λ (ds : List Device). slice_get ds e.board) (sym first) ∙ stops.was;
+        is = stops.is;
+        stopped = stops.stopped;
+        cause = stops.cause;
+      };
+      there = record {
+        all = endured motes initial old new first others;
+        stands = stops.formatted;
+        came = λ m d within is. stops.awake m d within (ap (λ (ds : List Device). slice_get ds m) first ∙ is);
+        others = λ m past. stops.behind m past ∙ ap (λ (ds : List Device). slice_get ds m) first;
+      };
+    } in
+    (tt, none_begun p done (Golden name used content) None old s.world (stop, sym (append-nil told)))
+
+-- ---- links
+
+pub link_played : (r : Result (Unit {0}) Stop) (p q : Player) (done : List Line) (w : Option World) (a b : ℕ) (v v2 : KeptWorld) (told : List ℕ) (initial now : List Device)
+    → StandsAt p.place (Link a b) → FitsLine p.place.motes (Link a b) → p.place.ready ≡ true → p.place.events ≡ false → p.world ≡ Some v → q.place ≡ place_after p.place (Link a b) → q.cut ≡ p.cut → q.world ≡ Some v2
+    → LinkedAs r v v2 (a, b) → Stood p done w initial now → PlayedAs r q done w (Link a b) told told initial now now
+link_played r p q done None a b v v2 told initial now stands fits later early has place cut world linked s = false_not p.place.ready later s.world.1
+link_played (Ok u) p q done (Some w) a b v v2 told initial now stands fits later early has place cut world linked s =
+    let k = s.world in
+    let kept : IsWorld v now w = subst (λ (x : KeptWorld). IsWorld x now w) (some_is k.0 v (sym k.1 ∙ has)) k.2 in
+    let motes : q.place.motes ≡ p.place.motes = ap (λ (x : Place). x.motes) place in
+    let b2 = s.boards in
+    record {
+      world = Some (with_link (a, b) w);
+      text = [];
+      told_now = sym (append-nil told);
+      runs = link_runs done a b w (s.early early);
+      stood = stood_next p q done (Link a b) (Some w) (Some (with_link (a, b) w)) initial now now (joined_next p.place (Link a b) stands fits s.links) s place
+          (seated_as p.place q.place (length now) motes s.seats)
+          (cut ∙ s.cut)
+          (subst (λ (o : Option CutOfPower). IfSome o FitsCut) (sym cut) s.cut_fits)
+          (v2, world, linked.linked now w kept, k.3 ∙ sym motes, ap (λ (x : Place). x.ready) place ∙ k.4, subst (λ (n : ℕ). 0 < n) (sym motes) k.5)
+          (record { all = b2.all; stands = b2.stands; came = b2.came; others = b2.others });
+      boards_enough = refl;
+    }
+link_played (Err stop) p q done (Some w) a b v v2 told initial now stands fits later early has place cut world linked s =
+    let is : stop ≡ Memory = err_is stop Memory linked.memory in
+    subst (λ (x : Stop). PlayedAs (Err x) q done (Some w) (Link a b) told told initial now now) (sym is) (memory_line p q done (Some w) (Link a b) told told initial now s)
+  where
+    err_is : (x y : Stop) → ◌≡◌ {A = Result (Unit {0}) Stop} (Err x) (Err y) → x ≡ y
+    err_is x y e = cc

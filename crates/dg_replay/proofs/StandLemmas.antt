@@ -1,0 +1,204 @@
+-- What one more line makes of where a replay stands, and of its run.
+use Rattle.std.proofs.Common.{◌≡◌, ℕ, ◌≤◌, true, false, List, [], ◌∷◌, ◌++◌, length, map, refl, append-nil, ap, sym, ◌∙◌, subst, arith, eqb-true}
+use Rattle.std.specs.Prelude.{Option, Some, None, option_map, IfSome}
+use Rattle.std.specs.List.{AllByRecursion}
+use Rattle.std.proofs.lemmas.List.{map-append}
+use Rattle.dg_nor.specs.Device.{Device}
+use Rattle.dg_object.specs.Object.{Row}
+use Rattle.dg_volume.specs.Table.{row_at}
+use Rattle.dg_base.specs.declared.events.Cut.{Cut as CutOfPower}
+use Rattle.dg_script.specs.Fitting.{FitsCut, FitsLine, StandsAt}
+use Rattle.dg_script.specs.Items.{Item, Declares, Happens as Happened, item_by, cut_by, cut_behind, place_behind, items_of}
+use Rattle.dg_script.specs.Places.{first_place, place_after}
+use Rattle.dg_script.specs.Report.{report_text}
+use Rattle.dg_script.specs.declared.place.Place.{Place}
+use Rattle.dg_script.specs.declared.line.Line.{Line}
+use Rattle.dg_script.specs.declared.line.Line.TheVariants.{Nothing, Motes, Golden, Boards, Link, Image, Cut, Happens, Round, Sweeps}
+use Rattle.dg_script.specs.declared.report.Report.{Report}
+use Rattle.dg_rules.specs.Sizes.{most_events}
+use Rattle.dg_rules.specs.Premises.{LinkFits}
+use Rattle.dg_rules.specs.Runs.{Played, Plays, ItemStep}
+use Rattle.dg_rules.specs.Steps.{declared_as}
+use Rattle.dg_rules.specs.World.{World}
+use Rattle.dg_replay.specs.Boards.{BoardsStand}
+use Rattle.dg_replay.specs.Items.{Beginning, begin_by, beginning_of, no_beginning, golden_world, with_link}
+use Rattle.dg_replay.specs.Outcome.{RunsTo, item_played, played_text}
+use Rattle.dg_replay.specs.Playing.{IsDeclared, Seated, InWorld, Joined, Stood, ItemsRun, ItemsBegun, LineRuns, LineBegun}
+use Rattle.dg_replay.specs.declared.player.Player.{Player}
+use Rattle.dg_replay.proofs.ItemLemmas.{some_is, items_next, cut_next, place_next, begin_next, runs_append, runs_from_none, plays_none, played_more, items_run_none}
+
+-- ---- where a replay stands
+
+-- how many motes there are behind a line
+motes_next : (place : Place) (b : Beginning) (line : Line) → place.motes ≡ b.motes → (place_after place line).motes ≡ (begin_by b line).motes
+motes_next place b Nothing e = e
+motes_next place b (Motes n) e = refl
+motes_next place b (Golden name used content) e = e
+motes_next place b Boards e = e
+motes_next place b (Link x y) e = e
+motes_next place b (Image image version name content) e = e
+motes_next place b (Cut cut) e = e
+motes_next place b (Happens event) e = e
+motes_next place b (Round x y) e = e
+motes_next place b (Sweeps n) e = e
+
+all_more : {A : Type 0} (P : A → Type 0) (xs ys : List A) → AllByRecursion P xs → AllByRecursion P ys → AllByRecursion P (xs ++ ys)
+all_more P [] ys h k = k
+all_more P (x ∷ xs) ys h k = (h.0, all_more P xs ys h.1 k)
+
+-- before the first event, all lines but links and images do nothing to the motes
+early_by : (place at : Place) (cut : Option CutOfPower) (line : Line) → (place_after place line).events ≡ false → (place.events ≡ false) × AllByRecursion IsDeclared (item_by at cut line)
+early_by place at cut Nothing e = (e, tt)
+early_by place at cut (Motes n) e = (e, tt)
+early_by place at cut (Golden name used content) e = (e, tt)
+early_by place at cut Boards e = (e, tt)
+early_by place at cut (Link x y) e = (e, tt)
+early_by place at cut (Image image version name content) e = (e, (tt, tt))
+early_by place at cut (Cut c) e = (e, tt)
+early_by place at cut (Happens event) e = absurd (let f : true ≡ false = e in cc)
+early_by place at cut (Round x y) e = absurd (let f : true ≡ false = e in cc)
+early_by place at cut (Sweeps n) e = absurd (let f : true ≡ false = e in cc)
+
+early_next : (place : Place) (done : List Line) (line : Line) → (place.events ≡ false → AllByRecursion IsDeclared (items_of done)) → (place_after place line).events ≡ false → AllByRecursion IsDeclared (items_of (done ++ line ∷ []))
+early_next place done line early e =
+    let one = early_by place (place_behind first_place done) (cut_behind None done) line e in
+    subst (λ (xs : List Item). AllByRecursion IsDeclared xs) (sym (items_next done line)) (all_more IsDeclared (items_of done) _ (early one.0) one.1)
+
+-- where there are no motes, there is no link
+none_joined : (motes : ℕ) (links : List (ℕ × ℕ)) → AllByRecursion (LinkFits 0) links → AllByRecursion (LinkFits motes) links
+none_joined motes [] all = tt
+none_joined motes (l ∷ ls) all = absurd (omega (arith, all.0.first))
+
+pub joined_next : (place : Place) (line : Line) → StandsAt place line → FitsLine place.motes line → Joined place → Joined (place_after place line)
+joined_next place Nothing stands fits all = all
+joined_next place (Motes n) stands fits all = none_joined n place.links (subst (λ (m : ℕ). AllByRecursion (LinkFits m) place.links) (eqb-true place.motes 0 stands.fits) all)
+joined_next place (Golden name used content) stands fits all = all
+joined_next place Boards stands fits all = all
+joined_next place (Link a b) stands fits all =
+    all_more (LinkFits place.motes) place.links ((a, b) ∷ []) all (record { first = fits.first; second = fits.second; two = λ same. fits.other (sym same) }, tt)
+joined_next place (Image image version name content) stands fits all = all
+joined_next place (Cut cut) stands fits all = all
+joined_next place (Happens event) stands fits all = all
+joined_next place (Round a b) stands fits all = all
+joined_next place (Sweeps n) stands fits all = all
+
+-- the player and the boards behind one more line
+pub stood_next : (p q : Player) (done : List Line) (line : Line) (w v : Option World) (initial old now : List Device) → Joined (place_after p.place line) → Stood p done w initial old
+    → q.place ≡ place_after p.place line → Seated q.place (length now) → q.cut ≡ cut_by (cut_behind None done) line → IfSome q.cut FitsCut → InWorld q v now → BoardsStand v initial now → Stood q (done ++ line ∷ []) v initial now
+stood_next p q done line w v initial old now links s place seats cut cut_fits world boards =
+    record {
+      seats = seats;
+      place = place ∙ ap (λ (at : Place). place_after at line) s.place ∙ sym (place_next first_place done line);
+      links = subst (λ (at : Place). Joined at) (sym place) links;
+      cut = cut ∙ sym (cut_next None done line);
+      cut_fits = cut_fits;
+      motes = ap (λ (at : Place). at.motes) place ∙ motes_next p.place (beginning_of done) line s.motes ∙ ap (λ (b : Beginning). b.motes) (sym (begin_next no_beginning done line));
+      early = λ e. early_next p.place done line s.early (sym (ap (λ (at : Place). at.events) place) ∙ e);
+      world = world;
+      boards = boards;
+    }
+
+-- ---- runs
+
+-- the run from where the lines begin with one more line, which changes nothing of it
+same_run : (done : List Line) (line : Line) (played : List Played) (v : Option World) → (begin_by (beginning_of done) line).world ≡ (beginning_of done).world → RunsTo (beginning_of done).world played v → RunsTo (beginning_of (done ++ line ∷ [])).world played v
+same_run done line played v same r =
+    subst (λ (b : Beginning). RunsTo b.world played v) (sym (begin_next no_beginning done line)) (subst (λ (o : Option World). RunsTo o played v) (sym same) r)
+
+-- the items with a line that has none
+same_items : (done : List Line) (line : Line) → item_by (place_behind first_place done) (cut_behind None done) line ≡ [] → items_of done ≡ items_of (done ++ line ∷ [])
+same_items done line none = sym (items_next done line ∙ ap (λ (xs : List Item). items_of done ++ xs) none ∙ append-nil (items_of done))
+
+pub silent_runs : (done : List Line) (line : Line) (w : Option World) → item_by (place_behind first_place done) (cut_behind None done) line ≡ [] → (begin_by (beginning_of done) line).world ≡ (beginning_of done).world → LineRuns done line w w []
+silent_runs done line w none same = λ played items r. record {
+  now = played;
+  items = items ∙ same_items done line none;
+  run = same_run done line played w same r;
+  told = sym (append-nil (played_text played));
+}
+
+-- a line with items
+pub busy_runs : (done : List Line) (line : Line) (u z : World) (items : List Item) (text : List ℕ) → item_by (place_behind first_place done) (cut_behind None done) line ≡ items → (begin_by (beginning_of done) line).world ≡ (beginning_of done).world
+    → ItemsRun u items z text → LineRuns done line (Some u) (Some z) text
+busy_runs done line u z items text are same x = λ played before r. record {
+  now = played ++ x.played;
+  items = map-append item_played played x.played ∙ ap (λ (xs : List Item). xs ++ map item_played x.played) before ∙ ap (λ (xs : List Item). items_of done ++ xs) (x.are ∙ sym are) ∙ sym (items_next done line);
+  run = same_run done line (played ++ x.played) (Some z) same (runs_append (beginning_of done).world u z played x.played r x.run);
+  told = played_more played x.played ∙ ap (λ (xs : List ℕ). played_text played ++ xs) (sym x.told);
+}
+
+pub golden_runs : (done : List Line) (name : List ℕ) (used : ℕ) (content : List ℕ) (motes : ℕ) → motes ≡ (beginning_of done).motes → LineRuns done (Golden name used content) None (Some (golden_world motes name used content)) []
+golden_runs done name used content motes is = λ played items r. record {
+  now = played;
+  items = items ∙ same_items done (Golden name used content) refl;
+  run = subst (λ (b : Beginning). RunsTo b.world played (Some (golden_world motes name used content))) (sym (begin_next no_beginning done (Golden name used content))) (
+    golden_world motes name used content,
+    refl,
+    plays_none (golden_world (beginning_of done).motes name used content) (golden_world motes name used content) played (runs_from_none (beginning_of done).world played r).1 (ap (λ (n : ℕ). golden_world n name used content) (sym is)),
+  );
+  told = sym (append-nil (played_text played));
+}
+
+-- ---- links
+
+-- what was played, in a world with one more link
+abbrev with_links : (ℕ × ℕ) → Played → Played
+with_links link p = record p { before = with_link link p.before; after = with_link link p.after }
+
+declared_linked : (link : ℕ × ℕ) (o : Option Row) (w : World) (row : Row) → with_link link (declared_as o w row) ≡ declared_as o (with_link link w) row
+declared_linked link None w row = refl
+declared_linked link (Some k) w row = refl
+
+item_linked : (link : ℕ × ℕ) (item : Item) (w v : World) (reports : List Report) → IsDeclared item → ItemStep w item v reports → ItemStep (with_link link w) item (with_link link v) reports
+item_linked link (Declares row) w v reports is step =
+    record { world = ap (with_link link) step.world ∙ declared_linked link (row_at w.declared row.image row.version) w row; told = step.told }
+item_linked link (Happened x loud) w v reports is step = absurd is
+
+plays_linked : (link : ℕ × ℕ) (w v : World) (ps : List Played) → AllByRecursion IsDeclared (map item_played ps) → Plays w ps v → Plays (with_link link w) (map (with_links link) ps) (with_link link v)
+unfolding Plays
+plays_linked link w v [] all run = ap (with_link link) run
+plays_linked link w v (p ∷ ps) all run =
+    (ap (with_link link) run.0, item_linked link p.item p.before p.after p.reports all.0 run.1, plays_linked link p.after v ps all.1 run.2)
+
+items_linked : (link : ℕ × ℕ) (ps : List Played) → map item_played (map (with_links link) ps) ≡ map item_played ps
+items_linked link [] = refl
+items_linked link (p ∷ ps) = ap (λ (xs : List Item). p.item ∷ xs) (items_linked link ps)
+
+text_linked : (link : ℕ × ℕ) (ps : List Played) → played_text (map (with_links link) ps) ≡ played_text ps
+text_linked link [] = refl
+text_linked link (p ∷ ps) = ap (λ (xs : List ℕ). report_text p.reports ++ xs) (text_linked link ps)
+
+run_linked : (link : ℕ × ℕ) (o : Option World) (ps : List Played) (w : World) → AllByRecursion IsDeclared (map item_played ps) → RunsTo o ps (Some w) → RunsTo (option_map (with_link link) o) (map (with_links link) ps) (Some (with_link link w))
+run_linked link None ps w all (none, is) = absurd (let e : Some w ≡ None = is in cc)
+run_linked link (Some u) ps w all (v, is, plays) = (with_link link w, refl, subst (λ (z : World). Plays (with_link link u) (map (with_links link) ps) (with_link link z)) (sym (some_is w v is)) (plays_linked link u v ps all plays))
+
+-- behind a link, the same was played from a world that has it
+pub link_runs : (done : List Line) (a b : ℕ) (w : World) → AllByRecursion IsDeclared (items_of done) → LineRuns done (Link a b) (Some w) (Some (with_link (a, b) w)) []
+link_runs done a b w all = λ played items r. record {
+  now = map (with_links (a, b)) played;
+  items = items_linked (a, b) played ∙ items ∙ same_items done (Link a b) refl;
+  run = subst (λ (x : Beginning). RunsTo x.world (map (with_links (a, b)) played) (Some (with_link (a, b) w))) (sym (begin_next no_beginning done (Link a b)))
+      (run_linked (a, b) (beginning_of done).world played w (subst (λ (xs : List Item). AllByRecursion IsDeclared xs) (sym items) all) r);
+  told = text_linked (a, b) played ∙ sym (append-nil (played_text played));
+}
+
+-- ---- a line that was begun
+
+-- the world of a player has no more than a million events
+pub few_in : (w : Option World) (p : Player) (now : List Device) → InWorld p w now → IfSome w (λ u. u.events ≤ most_events)
+few_in None p now kept = tt
+few_in (Some w) p now kept = kept.2.few_events
+
+-- nothing of it was played
+pub none_begun : {Q : Option World → List Item → List ℕ → Type 0} (p : Player) (done : List Line) (line : Line) (w : Option World) (now : List Device) → InWorld p w now → Q w (item_by (place_behind first_place done) (cut_behind None done) line) [] → LineBegun done line w Q
+none_begun {Q} p done line w now kept there = from w (few_in w p now kept) there
+  where
+    from : (v : Option World) → IfSome v (λ u. u.events ≤ most_events) → Q v (item_by (place_behind first_place done) (cut_behind None done) line) [] → LineBegun done line v Q
+    from None few at = record { begun = []; left = _; parts = refl; world = None; text = []; runs = (refl, refl, refl); there = at }
+    from (Some u) few at = record { begun = []; left = _; parts = refl; world = Some u; text = []; runs = (u, refl, items_run_none u few); there = at }
+
+-- its items were
+pub line_begun : {P : World → List Item → List ℕ → Type 0} {Q : Option World → List Item → List ℕ → Type 0} (done : List Line) (line : Line) (w : World) (items : List Item) → item_by (place_behind first_place done) (cut_behind None done) line ≡ items → (b : ItemsBegun w items P)
+    → (P b.world b.left b.text → Q (Some b.world) b.left b.text) → LineBegun done line (Some w) Q
+line_begun done line w items are b then_there =
+    record { begun = b.begun; left = b.left; parts = are ∙ b.parts; world = Some b.world; text = b.text; runs = (b.world, refl, b.runs); there = then_there b.there }

@@ -1,0 +1,119 @@
+-- What comes of one text of a script.
+use Rattle.std.proofs.Common.{◌≡◌, ◌≢◌, ◌⊎◌, inl, inr, ℕ, List, [], refl, sym, subst}
+use Rattle.std.specs.Prelude.{Option, Result, Ok, Err, OnOk, OnErr}
+use Rattle.dg_base.specs.Outside.{Puts, PutsFront}
+use Rattle.dg_nor.specs.Device.{Device}
+use Rattle.dg_script.specs.Lines.{line_of}
+use Rattle.dg_script.specs.Places.{place_after}
+use Rattle.dg_script.specs.Items.{Item}
+use Rattle.dg_script.specs.declared.fault.LineFault.{LineFault}
+use Rattle.dg_script.specs.declared.fault.LineFault.TheVariants as line_fault
+use Rattle.dg_script.specs.declared.line.Line.{Line}
+use Rattle.dg_rules.specs.World.{World}
+use Rattle.dg_replay.specs.Playing.{PlayedLine, PlayedAs, LineBegun}
+use Rattle.dg_replay.specs.Replaying.{StopsAtLine, TextPlayed, TextAnswer, BegunWritten}
+use Rattle.dg_replay.specs.declared.player.Player.{Player}
+use Rattle.dg_replay.specs.declared.stop.Stop.{Stop}
+use Rattle.dg_replay.specs.declared.stop.Stop.TheVariants.{Memory, BadInput, WriteFault, FlashFault, TooMany, NoBoard, NoImage}
+
+same_stop : (s t : Stop) → ◌≡◌ {A = Result (Unit {0}) Stop} (Err s) (Err t) → s ≡ t
+same_stop s t e = cc
+
+-- what holds where a line was begun, and follows
+begun_then : {done : List Line} {line : Line} {w : Option World} {P Q : Option World → List Item → List ℕ → Type 0} → ((v : Option World) (left : List Item) (t : List ℕ) → P v left t → Q v left t) → LineBegun done line w P → LineBegun done line w Q
+begun_then f b = record { begun = b.begun; left = b.left; parts = b.parts; world = b.world; text = b.text; runs = b.runs; there = f b.world b.left b.text b.there }
+
+-- a line was played, and what is told of it was written, or a front of it
+pub told_as : (r : Result (Unit {0}) Stop) (text : List ℕ) (number : ℕ) (p q : Player) (done : List Line) (w : Option World) (initial old new : List Device) (before after : Option (List ℕ)) (failed : Type 0) (line : Line) (told : List ℕ)
+    → line_of p.place text ≡ Ok line → PlayedLine q done w line [] told initial new → q.place ≡ place_after p.place line
+    → OnOk r (Puts before after told) → OnErr r (PutsFront before after told × (told ≢ [])) → OnErr r ((r ≡ Err WriteFault) × failed)
+    → TextAnswer r text number p q done w initial old new before after failed
+told_as (Ok u) text number p q done w initial old new before after failed line told spelled to behind ok cut cause =
+    record { played = record { line = line; spelled = spelled; told = told; to = to; behind = behind }; written = ok }
+told_as (Err s) text number p q done w initial old new before after failed line told spelled to behind ok cut cause =
+    let P : Stop → Type 0 = λ x. TextAnswer (Err x) text number p q done w initial old new before after failed in
+    let played : TextPlayed text p q done w initial new = record { line = line; spelled = spelled; told = told; to = to; behind = behind } in
+    subst P (sym (same_stop s WriteFault cause.0)) (cause.1, inl (record { played = played; written = cut.0 }))
+
+-- a line was not played, or begun, and what is told of that was written, or a front of it
+pub begun_as : (stop result : Stop) (text : List ℕ) (number : ℕ) (p q : Player) (done : List Line) (w : Option World) (initial old new : List Device) (before after : Option (List ℕ)) (failed : Type 0) (line : Line) (told : List ℕ)
+    → line_of p.place text ≡ Ok line → PlayedAs (Err stop) q done w line [] told initial old new → BegunWritten stop result told before after failed
+    → TextAnswer (Err result) text number p q done w initial old new before after failed
+begun_as Memory result text number p q done w initial old new before after failed line told spelled played (is, none) =
+    let P : Stop → Type 0 = λ x. TextAnswer (Err x) text number p q done w initial old new before after failed in
+    subst P (sym is) (inr (record { line = line; spelled = spelled; there = played }, none))
+begun_as (NoBoard m b) result text number p q done w initial old new before after failed line told spelled played (is, none) =
+    let P : Stop → Type 0 = λ x. TextAnswer (Err x) text number p q done w initial old new before after failed in
+    subst P (sym is) (record { line = line; spelled = spelled; there = played }, none)
+begun_as NoImage result text number p q done w initial old new before after failed line told spelled played (is, none) =
+    let P : Stop → Type 0 = λ x. TextAnswer (Err x) text number p q done w initial old new before after failed in
+    subst P (sym is) (record { line = line; spelled = spelled; there = played })
+begun_as FlashFault result text number p q done w initial old new before after failed line told spelled played (inl (is, put)) =
+    let P : Stop → Type 0 = λ x. TextAnswer (Err x) text number p q done w initial old new before after failed in
+    subst P (sym is) (record {
+      line = line;
+      spelled = spelled;
+      there = (played.0, begun_then (λ v left t h. (h.0, subst (λ (xs : List ℕ). Puts before after xs) h.1 put)) played.1);
+    })
+begun_as FlashFault result text number p q done w initial old new before after failed line told spelled played (inr (is, rose, some, cut)) =
+    let P : Stop → Type 0 = λ x. TextAnswer (Err x) text number p q done w initial old new before after failed in
+    subst P (sym is) (
+      rose,
+      inr (record {
+        line = line;
+        spelled = spelled;
+        there = begun_then (λ v left t h. inl (subst (λ (xs : List ℕ). xs ≢ []) h.1 some, h.0, subst (λ (xs : List ℕ). PutsFront before after xs) h.1 cut)) played.1;
+      }),
+    )
+begun_as TooMany result text number p q done w initial old new before after failed line told spelled played (inl (is, put)) =
+    let P : Stop → Type 0 = λ x. TextAnswer (Err x) text number p q done w initial old new before after failed in
+    subst P (sym is) (record {
+      line = line;
+      spelled = spelled;
+      there = begun_then (λ v left t h. (h.0, h.1, subst (λ (xs : List ℕ). Puts before after xs) h.2 put)) played;
+    })
+begun_as TooMany result text number p q done w initial old new before after failed line told spelled played (inr (is, rose, some, cut)) =
+    let P : Stop → Type 0 = λ x. TextAnswer (Err x) text number p q done w initial old new before after failed in
+    subst P (sym is) (
+      rose,
+      inr (record {
+        line = line;
+        spelled = spelled;
+        there = begun_then (λ v left t h. inr (h.0, h.1, subst (λ (xs : List ℕ). PutsFront before after xs) h.2 cut)) played;
+      }),
+    )
+begun_as (BadInput n f) result text number p q done w initial old new before after failed line told spelled played written = absurd played
+begun_as WriteFault result text number p q done w initial old new before after failed line told spelled played written = absurd played
+
+-- a line was not read
+pub not_read_as : (stop : Stop) (text : List ℕ) (number : ℕ) (fault : LineFault) (p q : Player) (done : List Line) (w : Option World) (initial now : List Device) (before : Option (List ℕ)) (failed : Type 0)
+    → (known : (fault ≡ line_fault.Memory) ⊎ (fault ≢ line_fault.Memory)) → StopsAtLine stop number fault → (fault ≢ line_fault.Memory → line_of p.place text ≡ Err fault) → TextAnswer (Err stop) text number p q done w initial now now before before failed
+not_read_as stop text number fault p q done w initial now before failed (inl memory) at read =
+    let P : Stop → Type 0 = λ x. TextAnswer (Err x) text number p q done w initial now now before before failed in
+    subst P (sym (at.memory memory)) (inl (record { boards = refl; told = refl }))
+not_read_as stop text number fault p q done w initial now before failed (inr other) at read =
+    let P : Stop → Type 0 = λ x. TextAnswer (Err x) text number p q done w initial now now before before failed in
+    subst P (sym (at.other other)) (refl, read other, record { boards = refl; told = refl })
+
+pub memory_or : (fault : LineFault) → (fault ≡ line_fault.Memory) ⊎ (fault ≢ line_fault.Memory)
+memory_or line_fault.Memory = inl refl
+memory_or line_fault.Verb = inr (λ e. cc)
+memory_or line_fault.Few = inr (λ e. cc)
+memory_or line_fault.Many = inr (λ e. cc)
+memory_or line_fault.Number = inr (λ e. cc)
+memory_or line_fault.Mote = inr (λ e. cc)
+memory_or line_fault.Image = inr (λ e. cc)
+memory_or line_fault.Version = inr (λ e. cc)
+memory_or line_fault.Name = inr (λ e. cc)
+memory_or line_fault.Content = inr (λ e. cc)
+memory_or line_fault.Mask = inr (λ e. cc)
+memory_or line_fault.Place = inr (λ e. cc)
+memory_or line_fault.Cut = inr (λ e. cc)
+memory_or line_fault.Long = inr (λ e. cc)
+
+-- memory ran out before a line was played
+pub memory_as : (stop : Stop) (text : List ℕ) (number : ℕ) (p q : Player) (done : List Line) (w : Option World) (initial now : List Device) (before : Option (List ℕ)) (failed : Type 0)
+    → ◌≡◌ {A = Result (Unit {0}) Stop} (Err stop) (Err Memory) → TextAnswer (Err stop) text number p q done w initial now now before before failed
+memory_as stop text number p q done w initial now before failed is =
+    let P : Stop → Type 0 = λ x. TextAnswer (Err x) text number p q done w initial now now before before failed in
+    subst P (sym (same_stop stop Memory is)) (inl (record { boards = refl; told = refl }))

@@ -1,0 +1,29 @@
+use Rattle.std.proofs.Common.{sym}
+use Rattle.std.proofs.lemmas.List.{length-map}
+use Rattle.dg_replay.proofs.RunLemmas.{completed, replayed_never}
+use Rattle.dg_replay.proofs.call.replay.Goals as goal
+
+pub returns-clause-legal : goal.returns-clause-legal
+returns-clause-legal g c = λ x. c.replays_keep_the_rules.ensures.legal x.input x.came
+
+pub returns-clause-keeps : goal.returns-clause-keeps
+returns-clause-keeps g c = λ x. c.replays_keep_the_rules.ensures.keeps x.input x.came
+
+pub returns-clause-starts : goal.returns-clause-starts
+returns-clause-starts g c = λ x. c.replays_keep_the_rules.ensures.starts x.input x.came
+
+pub returns-clause-agrees : goal.returns-clause-agrees
+returns-clause-agrees g c = λ x. c.replays_keep_the_rules.ensures.agrees x.input x.came
+
+pub returns-clause-honest : goal.returns-clause-honest
+returns-clause-honest g c = λ x. c.replays_keep_the_rules.ensures.honest x.input x.came
+
+pub returns-clause-completes : goal.returns-clause-completes
+returns-clause-completes g c = λ x. c.replays_keep_the_rules.ensures.completes x.input x.came
+
+pub returns-clause-complete : goal.returns-clause-complete
+returns-clause-complete g c = λ bytes told limits reads writes stops.
+    completed c.read_and_replay.result bytes _ _ _ _ _ _ _ _ _ _ _ (sym (length-map c.args.boards.now.items g.N.Nor.device)) told limits reads writes stops c.read_and_replay.ensures.replayed
+
+pub returns-clause-never : goal.returns-clause-never
+returns-clause-never g c = replayed_never _ _ _ _ _ _ _ _ _ _ _ c.read_and_replay.ensures.replayed

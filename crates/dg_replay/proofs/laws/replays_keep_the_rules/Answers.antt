@@ -1,0 +1,31 @@
+use Rattle.std.proofs.Common.{List, []}
+use Rattle.std.specs.Prelude.{Option, IfSome}
+use Rattle.std.specs.List.{AllByRecursion}
+use Rattle.dg_rules.specs.World.{World}
+use Rattle.dg_rules.specs.Runs.{Played, EachAfter}
+use Rattle.dg_rules.specs.Promises.{IsLegal, KeepsAll, StartsRow}
+use Rattle.dg_rules.specs.Premises.{IsHonestThen, LeavesAgreement, WorldAgrees}
+use Rattle.dg_replay.proofs.GoldenLemmas.{holds_of_runs, holds_of_worlds, progress_honest, ended_complete}
+use Rattle.dg_replay.specs.Ending.{script_of}
+use Rattle.dg_replay.proofs.laws.replays_keep_the_rules.Goals as goal
+
+pub returns-clause-legal : goal.returns-clause-legal
+unfolding EachAfter
+returns-clause-legal c = holds_of_runs (λ (ps : List Played). AllByRecursion IsHonestThen ps → EachAfter IsLegal [] ps) (λ honest. tt) c.scripts_with_golden.ensures.legal
+
+pub returns-clause-keeps : goal.returns-clause-keeps
+returns-clause-keeps c = holds_of_runs (λ (ps : List Played). AllByRecursion IsHonestThen ps → AllByRecursion KeepsAll ps) (λ honest. tt) c.scripts_with_golden.ensures.keeps
+
+pub returns-clause-starts : goal.returns-clause-starts
+returns-clause-starts c = holds_of_runs (λ (ps : List Played). AllByRecursion IsHonestThen ps → AllByRecursion StartsRow ps) (λ honest. tt) c.scripts_with_golden.ensures.starts
+
+pub returns-clause-agrees : goal.returns-clause-agrees
+returns-clause-agrees c =
+    holds_of_worlds (λ (ps : List Played) (last : Option World). AllByRecursion IsHonestThen ps → AllByRecursion LeavesAgreement ps × IfSome last WorldAgrees) (λ honest. (tt, tt)) c.scripts_with_golden.ensures.agrees
+
+pub returns-clause-honest : goal.returns-clause-honest
+returns-clause-honest c = λ input came. progress_honest (script_of input) came
+
+pub returns-clause-completes : goal.returns-clause-completes
+returns-clause-completes c = λ input came w v n k honest is ends enough most.
+    ended_complete c.scripts_end_complete.ensures input came w v n k honest is ends enough most

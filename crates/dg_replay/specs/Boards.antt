@@ -1,0 +1,94 @@
+-- What a replay leaves of the boards.
+use Rattle.std.specs.Prelude.{◌≡◌, ◌≢◌, ◌⊎◌, ℕ, ◌-◌, ◌<◌, ◌≤◌, true, false, List, [], ◌∷◌, length, slice_get, Option, Some, None, IfSome}
+use Rattle.dg_words.specs.Counts.{Rose}
+use Rattle.dg_nor.specs.Device.{Device, Endures}
+use Rattle.dg_nor.specs.Fuse.{beneath_of}
+use Rattle.dg_nor.specs.Trail.{Trail, operations, MayLeave}
+use Rattle.dg_volume.specs.Store.{Store, IsNear, fresh}
+use Rattle.dg_volume.specs.Stands.{Stands}
+use Rattle.dg_base.specs.declared.events.Cut.{Cut as CutOfPower}
+use Rattle.dg_base.specs.declared.events.Step.{Step}
+use Rattle.dg_script.specs.declared.line.Line.{Line}
+use Rattle.dg_script.specs.declared.line.Line.TheVariants.{Golden}
+use Rattle.dg_rules.specs.World.{World, store_at}
+use Rattle.dg_rules.specs.Events.{does, mote_of}
+use Rattle.dg_world.specs.Turns.{trail_of}
+use Rattle.dg_script.specs.Items.{Item, Happens}
+
+-- No count of a board fell, and a board is stopped only where it was, or where its count rose.
+pub record BoardsEndure (old new : List Device) : Type 0 where
+  pub count : length new ≡ length old
+  pub endures : (m : ℕ) (a b : Device) → slice_get old m ≡ Some a → slice_get new m ≡ Some b → Endures (beneath_of a) (beneath_of b)
+
+-- The boards of a world's motes stand for its stores, and did not come stopped. All others are as before.
+pub record WorldStands (w : World) (old new : List Device) : Type 0 where
+  pub all : BoardsEndure old new
+  pub stands : (m : ℕ) (d : Device) → m < length w.sites → slice_get new m ≡ Some d → Stands d.image (store_at w m)
+  pub came : (m : ℕ) (d : Device) → m < length w.sites → slice_get old m ≡ Some d → d.stopped ≡ false
+  pub others : (m : ℕ) → length w.sites ≤ m → slice_get new m ≡ slice_get old m
+
+-- before the boards are formatted none is used
+abbrev pub BoardsStand : Option World → List Device → List Device → Type 0
+BoardsStand None old new = new ≡ old
+BoardsStand (Some w) old new = WorldStands w old new
+
+-- ---- a board that stopped
+
+-- The board of one of so many motes is stopped: its count rose, or it came stopped.
+pub record BoardStopped (motes : ℕ) (old new : List Device) : Type 0 where
+  pub board : ℕ
+  pub known : board < motes
+  pub before : Device
+  pub after : Device
+  pub was : slice_get old board ≡ Some before
+  pub is : slice_get new board ≡ Some after
+  pub stopped : after.stopped ≡ true
+  pub cause : (before.stopped ≡ true) ⊎ Rose before.faults after.faults
+
+-- The boards of a world's motes but this one stand for its stores. None of them came stopped, and all others are as before.
+pub record OthersStand (w : World) (board : ℕ) (old new : List Device) : Type 0 where
+  pub all : BoardsEndure old new
+  pub stands : (m : ℕ) (d : Device) → m < length w.sites → m ≢ board → slice_get new m ≡ Some d → Stands d.image (store_at w m)
+  pub came : (m : ℕ) (d : Device) → m < length w.sites → slice_get old m ≡ Some d → d.stopped ≡ false
+  pub others : (m : ℕ) → length w.sites ≤ m → slice_get new m ≡ slice_get old m
+
+-- The boards before this one stand for the store, and did not come stopped. Those behind it are as before.
+pub record OthersFormatted (chip : Store) (board : ℕ) (old new : List Device) : Type 0 where
+  pub all : BoardsEndure old new
+  pub stands : (m : ℕ) (d : Device) → m < board → slice_get new m ≡ Some d → Stands d.image chip
+  pub came : (m : ℕ) (d : Device) → m < board → slice_get old m ≡ Some d → d.stopped ≡ false
+  pub others : (m : ℕ) → board < m → slice_get new m ≡ slice_get old m
+
+-- A board that goes through these stores stopped where so many operations were done. A cut did not come before.
+pub record StopsOn (trail : Trail Store) (cut : Option CutOfPower) (image : List ℕ) : Type 0 where
+  pub made : ℕ
+  pub within : made ≤ operations trail
+  pub uncut : IfSome cut (λ c. made ≤ c.after - 1)
+  pub leaves : MayLeave Stands IsNear trail made image
+
+-- In an event it is the board of the event's mote.
+pub record EventStops (w : World) (step : Step) (board : ℕ) (image : List ℕ) (old new : List Device) : Type 0 where
+  pub at : board ≡ mote_of step.event
+  pub there : StopsOn (trail_of (does w step.event) (store_at w (mote_of step.event))) step.cut image
+  pub others : OthersStand w board old new
+
+-- A board stopped in the first of these items, which is an event.
+abbrev pub ItemStops : List Item → Option World → (board : ℕ) → List ℕ → (old new : List Device) → Type 0
+ItemStops (Happens step loud ∷ left) (Some w) board image old new = EventStops w step board image old new
+ItemStops left last board image old new = ⊥
+
+-- Where a board stopped in a line, of which these items are left: in formatting, or in an event. No other line uses a board.
+abbrev pub LineStops : Line → List Item → Option World → (board : ℕ) → List ℕ → (old new : List Device) → Type 0
+LineStops (Golden name used content) left None board image old new = OthersFormatted (fresh name content used) board old new
+LineStops line left last board image old new = ItemStops left last board image old new
+
+-- The same in the reading at the end, which changes no store.
+abbrev pub BoardStops : List Line → List Item → Option World → (board : ℕ) → List ℕ → (old new : List Device) → Type 0
+BoardStops [] left None board image old new = ⊥
+BoardStops [] left (Some w) board image old new = Stands image (store_at w board) × OthersStand w board old new
+BoardStops (line ∷ rest) left last board image old new = LineStops line left last board image old new
+
+-- A board of so many motes is stopped where a replay had come to this world, with these lines to do, and these items of the first of them.
+pub record StoppedIn (motes : ℕ) (rest : List Line) (left : List Item) (last : Option World) (old new : List Device) : Type 0 where
+  pub stopped : BoardStopped motes old new
+  pub there : BoardStops rest left last stopped.board stopped.after.image old new

@@ -1,0 +1,103 @@
+-- What the lines of a script say of its run: where it begins, and what may come of it.
+use Rattle.std.specs.Prelude.{ℕ, nat_lt, Bool, true, false, if◌then◌else◌, List, [], ◌∷◌, ◌++◌, replicate, Option, Some, None, option_map}
+use Rattle.std.specs.List.{count_by}
+use Rattle.dg_volume.specs.Store.{fresh, golden_row}
+use Rattle.dg_base.specs.declared.events.Event.{Event}
+use Rattle.dg_base.specs.declared.events.Event.TheVariants.{Tick, Hear, Last, Reset, Inject, Order, Frame}
+use Rattle.dg_script.specs.Items.{Item, Declares, Happens as Happened, item_by, cut_behind, place_behind}
+use Rattle.dg_script.specs.Places.{first_place}
+use Rattle.dg_script.specs.declared.line.Line.{Line}
+use Rattle.dg_script.specs.declared.line.Line.TheVariants.{Nothing, Motes, Golden, Boards, Link, Image, Cut, Happens, Round, Sweeps}
+use Rattle.dg_rules.specs.World.{World, first_world}
+
+-- How many motes there are, and the world in which their run begins, None before they are formatted. It has all links from its beginning: they stand before the first event
+pub record Beginning : Type 0 where
+  pub motes : ℕ
+  pub world : Option World
+
+-- the world in which so many motes begin, whose boards are formatted with golden
+abbrev pub golden_world : (motes : ℕ) → (name : List ℕ) → (used : ℕ) → (content : List ℕ) → World
+golden_world motes name used content = first_world (golden_row name content ∷ []) [] (replicate motes (fresh name content used))
+
+-- two motes become neighbours
+abbrev pub with_link : (ℕ × ℕ) → World → World
+with_link link w = record w { links = w.links ++ link ∷ [] }
+
+abbrev pub begin_by : Beginning → Line → Beginning
+begin_by b Nothing = b
+begin_by b (Motes n) = record b { motes = n }
+begin_by b (Golden name used content) = record b { world = Some (golden_world b.motes name used content) }
+begin_by b Boards = b
+begin_by b (Link x y) = record b { world = option_map (with_link (x, y)) b.world }
+begin_by b (Image image version name content) = b
+begin_by b (Cut c) = b
+begin_by b (Happens event) = b
+begin_by b (Round x y) = b
+begin_by b (Sweeps n) = b
+
+unfoldable pub begin_behind : Beginning → List Line → Beginning
+begin_behind b [] = b
+begin_behind b (line ∷ lines) = begin_behind (begin_by b line) lines
+
+abbrev pub no_beginning : Beginning
+no_beginning = record { motes = 0; world = None }
+
+abbrev pub beginning_of : List Line → Beginning
+beginning_of lines = begin_behind no_beginning lines
+
+-- how many motes there are by these lines
+abbrev pub motes_in : List Line → ℕ
+motes_in lines = (beginning_of lines).motes
+
+-- the motes of a line for which boards are missing
+abbrev pub lacking_by : ℕ → Line → Option ℕ → Option ℕ
+lacking_by boards Nothing rest = rest
+lacking_by boards (Motes n) rest = if nat_lt boards n then Some n else rest
+lacking_by boards (Golden name used content) rest = rest
+lacking_by boards Boards rest = rest
+lacking_by boards (Link a b) rest = rest
+lacking_by boards (Image image version name content) rest = rest
+lacking_by boards (Cut c) rest = rest
+lacking_by boards (Happens event) rest = rest
+lacking_by boards (Round a b) rest = rest
+lacking_by boards (Sweeps n) rest = rest
+
+-- the motes of the first such line
+unfoldable pub lacking : ℕ → List Line → Option ℕ
+lacking boards [] = None
+lacking boards (line ∷ lines) = lacking_by boards line (lacking boards lines)
+
+-- a line that brings no frame from outside
+abbrev pub BringsNone : Event → Type 0
+BringsNone (Tick mote dt word) = Unit {0}
+BringsNone (Hear mote dt word frame) = Unit {0}
+BringsNone (Last from to dt word) = Unit {0}
+BringsNone (Reset mote dt word) = Unit {0}
+BringsNone (Inject mote image version dt word) = Unit {0}
+BringsNone (Order mote number image version dt word) = Unit {0}
+BringsNone (Frame mote dt word bytes) = ⊥
+
+abbrev pub IsNoFrame : Line → Type 0
+IsNoFrame Nothing = Unit {0}
+IsNoFrame (Motes n) = Unit {0}
+IsNoFrame (Golden name used content) = Unit {0}
+IsNoFrame Boards = Unit {0}
+IsNoFrame (Link a b) = Unit {0}
+IsNoFrame (Image image version name content) = Unit {0}
+IsNoFrame (Cut c) = Unit {0}
+IsNoFrame (Happens event) = BringsNone event
+IsNoFrame (Round a b) = Unit {0}
+IsNoFrame (Sweeps n) = Unit {0}
+
+-- what the first of these lines does, behind others
+abbrev pub next_items : (done rest : List Line) → List Item
+next_items done [] = []
+next_items done (line ∷ rest) = item_by (place_behind first_place done) (cut_behind None done) line
+
+abbrev pub is_event : Item → Bool
+is_event (Declares row) = false
+is_event (Happened step loud) = true
+
+-- how many events there are among items
+abbrev pub events_among : List Item → ℕ
+events_among items = count_by is_event items

@@ -1,0 +1,7 @@
+pub mod Items
+pub mod Boards
+pub mod Ending
+pub mod WholeLines
+pub mod Outcome
+pub mod Playing
+pub mod Replaying

@@ -1,0 +1,179 @@
+-- What a replay did: the items that it played, what it wrote, and how it left the boards.
+use Rattle.std.specs.Prelude.{◌≡◌, ◌≢◌, ◌⊎◌, ℕ, ◌≤◌, Bool, List, [], ◌∷◌, ◌++◌, length, map, Option, Some, None}
+use Rattle.std.specs.List.{flat_map}
+use Rattle.dg_words.specs.Counts.{Rose}
+use Rattle.dg_base.specs.Outside.{Takes, Puts, AtEnd}
+use Rattle.dg_base.specs.declared.answers.Status.{Status}
+use Rattle.dg_base.specs.declared.answers.Status.TheVariants.{Done, Memory, BadInput, ReadFault, WriteFault, FlashFault, TooLong, TooMany, NoBoard}
+use Rattle.dg_base.specs.declared.events.Step.{Step}
+use Rattle.dg_nor.specs.Device.{Device}
+use Rattle.dg_script.specs.Report.{report_text}
+use Rattle.dg_script.specs.Fitting.{UsesBoard}
+use Rattle.dg_script.specs.Script.{Script}
+use Rattle.dg_script.specs.declared.line.Line.{Line}
+use Rattle.dg_script.specs.declared.line.Line.TheVariants.{Motes}
+use Rattle.dg_rules.specs.Sizes.{most_events}
+use Rattle.dg_rules.specs.World.{World}
+use Rattle.dg_rules.specs.Changes.{final_lines}
+use Rattle.dg_rules.specs.Runs.{Played, Plays}
+use Rattle.dg_script.specs.Items.{Item, Happens, items_of}
+use Rattle.dg_replay.specs.Boards.{BoardsStand, BoardStopped, StoppedIn}
+use Rattle.dg_replay.specs.Items.{beginning_of, motes_in, next_items, events_among}
+use Rattle.dg_replay.specs.Ending.{Ending, Ends, NoBoards, TooManyEvents, FaultAt, Over, InBounds, ending_of, ending_line, status_of, script_of}
+
+abbrev pub item_played : Played → Item
+item_played p = p.item
+
+-- the report lines of what was played
+abbrev pub played_text : List Played → List ℕ
+played_text ps = flat_map (λ p. report_text p.reports) ps
+
+-- a run of the rules from where it begins, which is nowhere before the boards are formatted
+abbrev pub RunsTo : Option World → List Played → Option World → Type 0
+RunsTo None played last = (played ≡ []) × (last ≡ None)
+RunsTo (Some w) played last = (v : World) × (last ≡ Some v) × Plays w played v
+
+-- How far a replay came in a script. These lines were done, and their items played. Of the next line the first items were played, where the replay stopped within it, and others are left. A run of the rules leads over all items that were played to this world, None before the boards are formatted.
+pub record Progress (script : Script) : Type 0 where
+  pub done : List Line
+  pub rest : List Line
+  pub begun : List Item
+  pub left : List Item
+  pub played : List Played
+  pub last : Option World
+  pub lines : done ++ rest ≡ script.lines
+  pub parts : next_items done rest ≡ begun ++ left
+  -- a line all of whose items were played is done
+  pub within : left ≡ [] → begun ≡ []
+  pub items : map item_played played ≡ items_of done ++ begun
+  pub run : RunsTo (beginning_of done).world played last
+
+-- the end of a report
+abbrev pub closing : Ending → Option World → List ℕ
+closing Ends (Some w) = report_text (final_lines w)
+closing Ends None = []
+closing (NoBoards motes boards) w = ending_line (NoBoards motes boards)
+closing TooManyEvents w = ending_line TooManyEvents
+closing (FaultAt line fault) w = ending_line (FaultAt line fault)
+closing Over w = ending_line Over
+
+-- the first of these items is an event
+pub record EventNext (items : List Item) : Type 0 where
+  pub step : Step
+  pub loud : Bool
+  pub more : List Item
+  pub is : items ≡ Happens step loud ∷ more
+
+-- a million events were played, and the next item is an event
+pub record AtTooMany (left : List Item) (played : List Played) : Type 0 where
+  pub events : events_among (map item_played played) ≡ most_events
+  pub next : EventNext left
+
+-- What comes before the ending was played: everything, up to the `motes` line where boards are missing, and a million events where there are more.
+abbrev pub CameTo : {script : Script} → Ending → Progress script → Type 0
+CameTo (NoBoards motes boards) c = (more : List Line) × (c.rest ≡ Motes motes ∷ more)
+CameTo TooManyEvents c = AtTooMany c.left c.played
+CameTo Ends c = c.rest ≡ []
+CameTo (FaultAt line fault) c = c.rest ≡ []
+CameTo Over c = c.rest ≡ []
+
+-- the report of the script, up to its end
+pub record IsWholeReport {script : Script} (ending : Ending) (c : Progress script) (text : List ℕ) : Type 0 where
+  pub all : CameTo ending c
+  pub told : text ≡ played_text c.played ++ closing ending c.last
+
+-- a front of the lines that are reported before the end
+pub record IsFrontOfLines (played : List Played) (text : List ℕ) : Type 0 where
+  pub more : List ℕ
+  pub front : text ++ more ≡ played_text played
+
+-- a front of the report, whose end may have begun
+pub record IsFrontOfReport {script : Script} (ending : Ending) (c : Progress script) (text : List ℕ) : Type 0 where
+  pub more : List ℕ
+  pub front : ((text ++ more) ≡ played_text c.played) ⊎ IsWholeReport ending c (text ++ more)
+
+-- A board is used by the next line, or in reading what the end of the report tells.
+abbrev pub StopsAt : Ending → List Line → Type 0
+StopsAt ending [] = ending ≡ Ends
+StopsAt ending (line ∷ rest) = UsesBoard line
+
+-- what was written, by the status
+abbrev pub Wrote : {script : Script} → Status → Ending → Progress script → List ℕ → Type 0
+Wrote Done ending c text = IsWholeReport ending c text
+Wrote BadInput ending c text = IsWholeReport ending c text
+Wrote TooLong ending c text = IsWholeReport ending c text
+Wrote TooMany ending c text = IsWholeReport ending c text
+Wrote NoBoard ending c text = IsWholeReport ending c text
+Wrote Memory ending c text = IsFrontOfLines c.played text
+Wrote WriteFault ending c text = IsFrontOfReport ending c text
+Wrote FlashFault ending c text = (text ≡ played_text c.played) × StopsAt ending c.rest
+Wrote ReadFault ending c text = (text ≡ played_text c.played) × (c.begun ≡ [])
+Wrote _ ending c text = ⊥
+
+-- a board is stopped where the replay came to
+abbrev pub BoardStoppedThere : {script : Script} → Progress script → (old new : List Device) → Type 0
+BoardStoppedThere c old new = StoppedIn (motes_in c.done) c.rest c.left c.last old new
+
+-- How the boards are left. Where a board stops within a round or sweeps, what is told of the events before it may fail to be written.
+abbrev pub Boards : {script : Script} → Status → Progress script → (old new : List Device) → Type 0
+Boards FlashFault c old new = BoardStoppedThere c old new
+Boards WriteFault c old new = BoardsStand c.last old new ⊎ ((c.begun ≢ []) × BoardStoppedThere c old new)
+Boards _ c old new = BoardsStand c.last old new
+
+-- The status is the one that the rules give to the input. Memory alone is free, and a fault of the outside has risen its count.
+abbrev pub IsCaused : Status → Ending → (reads_failed writes_failed board_stopped : Type 0) → Type 0
+IsCaused Memory ending r w b = Unit {0}
+IsCaused ReadFault ending r w b = r
+IsCaused WriteFault ending r w b = w
+IsCaused FlashFault ending r w b = b
+IsCaused status ending r w b = status ≡ status_of ending
+
+-- The ending of these bytes is that of every input that begins with them.
+abbrev pub IsSettled : ℕ → List ℕ → Type 0
+IsSettled boards input = (more : List ℕ) → ending_of boards (input ++ more) ≡ ending_of boards input
+
+-- Every input that begins with these bytes begins with these lines, so that each ends within the bytes.
+abbrev pub AreWhole : List ℕ → List Line → Type 0
+AreWhole input done = (more : List ℕ) → (rest : List Line) × (done ++ rest ≡ (script_of (input ++ more)).lines)
+
+-- and so does the next one
+abbrev pub NextIsWhole : List ℕ → (done rest : List Line) → Type 0
+NextIsWhole input done [] = ⊥
+NextIsWhole input done (line ∷ rest) = AreWhole input (done ++ line ∷ [])
+
+-- so does each line of which something was done
+abbrev pub DoneIsWhole : List ℕ → (done rest : List Line) → (begun : List Item) → Type 0
+DoneIsWhole input done rest [] = AreWhole input done
+DoneIsWhole input done rest (item ∷ begun) = NextIsWhole input done rest
+
+-- What was taken of the input is enough for what was done. A status of the rules is that of every input that begins with these bytes, or the input is at its end.
+-- A fault and want of memory leave only whole lines done and begun, or the input is at its end; the line in which a board stopped is whole too.
+abbrev pub ReadEnough : {script : Script} → Status → (boards : ℕ) → (input : List ℕ) → (at_end : Type 0) → Progress script → (text : List ℕ) → Type 0
+ReadEnough Memory boards input at_end c text = at_end ⊎ DoneIsWhole input c.done c.rest c.begun
+ReadEnough ReadFault boards input at_end c text = AreWhole input c.done
+ReadEnough WriteFault boards input at_end c text = at_end ⊎ (IsSettled boards input ⊎ (DoneIsWhole input c.done c.rest c.begun × IsFrontOfLines c.played text))
+ReadEnough FlashFault boards input at_end c text = at_end ⊎ NextIsWhole input c.done c.rest
+ReadEnough status boards input at_end c text = at_end ⊎ IsSettled boards input
+
+-- What a replay did. Some bytes were taken from the source: the bytes left before it and after it, where they are told, say which. What was written is told in the same way.
+pub record Replayed (status : Status) (left_before left_after written_before written_after : Option (List ℕ)) (reads_before reads_after writes_before writes_after : ℕ) (old new : List Device) : Type 0 where
+  -- what was taken of the input, whatever comes of it: no more than one byte past those that are used
+  pub input : List ℕ
+  pub taken : Takes left_before left_after input
+  pub few_bytes : length input ≤ 16777217
+  -- how far its script was played
+  pub came : Progress (script_of input)
+  -- what was written is the report of that run, or a front of it
+  pub text : List ℕ
+  pub written : Puts written_before written_after text
+  pub report : Wrote status (ending_of (length old) input) came text
+  pub enough : ReadEnough status (length old) input (AtEnd left_after) came text
+  -- nothing behind the ending was done
+  pub limits : InBounds (length old) came.done (map item_played came.played)
+  -- the boards of the motes stand for that world's stores, but for one that is stopped, and the others are as before
+  pub boards : Boards status came old new
+  -- the status is the one that the rules give to the input, but for want of memory and faults of the outside
+  pub caused : IsCaused status (ending_of (length old) input) (Rose reads_before reads_after) (Rose writes_before writes_after) (BoardStopped (motes_in came.done) old new)
+  -- a read or a write that fails is always told: its count rises with its own answer alone
+  pub reads : status ≢ ReadFault → reads_after ≡ reads_before
+  pub writes : status ≢ WriteFault → writes_after ≡ writes_before

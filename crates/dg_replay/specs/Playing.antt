@@ -1,0 +1,221 @@
+-- What playing the items of a line, and the line, does.
+use Rattle.std.specs.Prelude.{◌≡◌, ℕ, ◌<◌, ◌≤◌, true, false, List, [], ◌∷◌, ◌++◌, length, map, Option, Some, None, slice_get, IfSome, OnOk, OnErr, Result, Ok, Err}
+use Rattle.std.specs.List.{AllByRecursion}
+use Rattle.dg_nor.specs.Device.{Device}
+use Rattle.dg_script.specs.Fitting.{FitsCut, FitsLine, StandsAt, IsPlayed, UsesBoard}
+use Rattle.dg_script.specs.Places.{first_place, place_after}
+use Rattle.dg_script.specs.declared.place.Place.{Place}
+use Rattle.dg_script.specs.declared.line.Line.{Line}
+use Rattle.dg_script.specs.declared.line.Line.TheVariants.{Motes}
+use Rattle.dg_rules.specs.Sizes.{most_motes, most_events}
+use Rattle.dg_rules.specs.World.{World}
+use Rattle.dg_rules.specs.Premises.{LinkFits}
+use Rattle.dg_rules.specs.Steps.{EndsRun}
+use Rattle.dg_rules.specs.Runs.{Played, Plays}
+use Rattle.dg_volume.specs.Store.{Store}
+use Rattle.dg_volume.specs.Stands.{Stands}
+use Rattle.dg_world.specs.Formatted.{FirstBoards, FormatStops}
+use Rattle.dg_world.specs.declared.format.FormatStopped.{FormatStopped}
+use Rattle.dg_world.specs.Worlds.{IsWorld}
+use Rattle.dg_world.specs.declared.world.World.{World as KeptWorld}
+use Rattle.dg_replay.specs.Boards.{WorldStands, BoardsStand, BoardStopped, ItemStops, StoppedIn}
+use Rattle.dg_script.specs.Items.{Item, Declares, Happens as Happened, item_by, items_of, cut_behind, place_behind}
+use Rattle.dg_replay.specs.Items.{beginning_of, motes_in, lacking_by, with_link}
+use Rattle.dg_replay.specs.Outcome.{EventNext, item_played, played_text, RunsTo}
+use Rattle.dg_replay.specs.declared.player.Player.{Player}
+use Rattle.dg_replay.specs.declared.stop.Stop.{Stop}
+use Rattle.dg_replay.specs.declared.stop.Stop.TheVariants.{Memory, BadInput, WriteFault, FlashFault, TooMany, NoBoard, NoImage}
+
+-- ---- items
+
+-- Items were played from a world to a world, and this is told of them. There were no more than a million events then.
+pub record ItemsRun (w : World) (items : List Item) (v : World) (text : List ℕ) : Type 0 where
+  pub played : List Played
+  pub are : map item_played played ≡ items
+  pub run : Plays w played v
+  pub told : text ≡ played_text played
+  pub few : v.events ≤ most_events
+
+-- Items were played, and the boards, which were `initial` when the replay began, stand for the world then.
+pub record ItemsPlayed (w : World) (items : List Item) (kept : KeptWorld) (initial now : List Device) (told_before told : List ℕ) : Type 0 where
+  pub world : World
+  pub text : List ℕ
+  pub runs : ItemsRun w items world text
+  pub kept_now : IsWorld kept now world
+  pub boards : WorldStands world initial now
+  pub told_now : told ≡ told_before ++ text
+
+-- Of these items the first were played, and P holds of the world then, of those that are left, and of what is told of those that were played.
+pub record ItemsBegun (w : World) (items : List Item) (P : World → (left : List Item) → (text : List ℕ) → Type 0) : Type 0 where
+  pub begun : List Item
+  pub left : List Item
+  pub parts : items ≡ begun ++ left
+  pub world : World
+  pub text : List ℕ
+  pub runs : ItemsRun w begun world text
+  pub there : P world left text
+
+-- an event was not played, since there were a million before it
+pub record IsOneTooMany (w : World) (left : List Item) : Type 0 where
+  pub full : w.events ≡ most_events
+  pub next : EventNext left
+
+-- a board stopped in the first of the items that are left
+pub record StopsInItem (w : World) (left : List Item) (initial now : List Device) : Type 0 where
+  pub stopped : BoardStopped (length w.sites) initial now
+  pub there : ItemStops left (Some w) stopped.board stopped.after.image initial now
+
+-- an event found no image to start
+pub record LacksImage (w : World) (left : List Item) : Type 0 where
+  pub next : EventNext left
+  pub after : World
+  pub ends : EndsRun w next.step after
+
+-- what playing items answers
+abbrev pub ItemsPlayedAs : Result (Unit {0}) Stop → World → List Item → KeptWorld → (initial now : List Device) → (told_before told : List ℕ) → Type 0
+ItemsPlayedAs (Ok u) w items kept initial now told_before told = ItemsPlayed w items kept initial now told_before told
+ItemsPlayedAs (Err Memory) w items kept initial now told_before told = ItemsBegun w items (λ v left text. WorldStands v initial now)
+ItemsPlayedAs (Err TooMany) w items kept initial now told_before told = ItemsBegun w items (λ v left text. IsOneTooMany v left × WorldStands v initial now × (told ≡ told_before ++ text))
+ItemsPlayedAs (Err FlashFault) w items kept initial now told_before told = ItemsBegun w items (λ v left text. StopsInItem v left initial now × (told ≡ told_before ++ text))
+ItemsPlayedAs (Err NoImage) w items kept initial now told_before told = ItemsBegun w items (λ v left text. LacksImage v left)
+ItemsPlayedAs (Err (NoBoard motes boards)) w items kept initial now told_before told = ⊥
+ItemsPlayedAs (Err (BadInput n fault)) w items kept initial now told_before told = ⊥
+ItemsPlayedAs (Err WriteFault) w items kept initial now told_before told = ⊥
+
+-- the world that is kept stands for one with as many motes as before
+abbrev pub GoesOn : Result (Unit {0}) Stop → (before after : KeptWorld) → (old new : List Device) → Type 0
+GoesOn result before after old new = OnOk result ((w : World) → IsWorld before old w → (v : World) × IsWorld after new v × (length v.sites ≡ length w.sites))
+
+-- ---- the player
+
+-- there are so many motes, and so many boards
+abbrev pub Counted : ℕ → ℕ → Type 0
+Counted motes boards = (1 ≤ motes) × (motes ≤ most_motes) × (motes ≤ boards)
+
+-- there are boards for the motes
+abbrev pub Seated : Place → ℕ → Type 0
+Seated place boards = 0 < place.motes → Counted place.motes boards
+
+-- the world that is kept is this one, None before the boards are formatted
+abbrev pub InWorld : Player → Option World → List Device → Type 0
+InWorld p None boards = (p.world ≡ None) × (p.place.ready ≡ false)
+InWorld p (Some w) boards = (v : KeptWorld) × (p.world ≡ Some v) × IsWorld v boards w × (length w.sites ≡ p.place.motes) × (p.place.ready ≡ true) × (0 < p.place.motes)
+
+-- every link joins two motes
+abbrev pub Joined : Place → Type 0
+Joined place = AllByRecursion (LinkFits place.motes) place.links
+
+-- an item that declares an image
+abbrev pub IsDeclared : Item → Type 0
+IsDeclared (Declares row) = Unit {0}
+IsDeclared (Happened step loud) = ⊥
+
+-- The player and the boards, which were `initial` when the replay began, stand for this world, behind these lines.
+pub record Stood (p : Player) (done : List Line) (w : Option World) (initial now : List Device) : Type 0 where
+  pub seats : Seated p.place (length now)
+  pub place : p.place ≡ place_behind first_place done
+  pub links : Joined p.place
+  pub cut : p.cut ≡ cut_behind None done
+  pub cut_fits : IfSome p.cut FitsCut
+  pub motes : p.place.motes ≡ motes_in done
+  -- before the first event, all that was played was declared
+  pub early : p.place.events ≡ false → AllByRecursion IsDeclared (items_of done)
+  pub world : InWorld p w now
+  pub boards : BoardsStand w initial now
+
+-- the code's side alone: some world is kept, if any should be
+pub record Ready (p : Player) (boards : List Device) : Type 0 where
+  pub seats : Seated p.place (length boards)
+  pub links : Joined p.place
+  pub cut_fits : IfSome p.cut FitsCut
+  pub world : Option World
+  pub kept : InWorld p world boards
+
+-- The place of a player went on behind a line, and nothing else.
+pub record Passed (p q : Player) (line : Line) : Type 0 where
+  pub place : q.place ≡ place_after p.place line
+  pub cut : q.cut ≡ p.cut
+  pub world : q.world ≡ p.world
+
+-- A line may be played, behind which the place went on already.
+pub record MayPlay (line : Line) (q : Player) (boards : List Device) : Type 0 where
+  pub before : Player
+  pub passed : Passed before q line
+  pub ready : Ready before boards
+  pub stands : StandsAt before.place line
+  pub fits : FitsLine before.place.motes line
+  pub played : IsPlayed line
+
+-- ---- a line
+
+-- The run behind a line: its items are those of the lines up to this one, and it tells this text behind what was told before.
+pub record RunsOn (done : List Line) (line : Line) (v : Option World) (text : List ℕ) (played : List Played) : Type 0 where
+  pub now : List Played
+  pub items : map item_played now ≡ items_of (done ++ line ∷ [])
+  pub run : RunsTo (beginning_of (done ++ line ∷ [])).world now v
+  pub told : played_text now ≡ played_text played ++ text
+
+-- What a line behind others makes of a run that leads to a world. Behind a link it is the run of the same items from a world that has the link.
+abbrev pub LineRuns : (done : List Line) → (line : Line) → (w v : Option World) → (text : List ℕ) → Type 0
+LineRuns done line w v text = (played : List Played) → map item_played played ≡ items_of done → RunsTo (beginning_of done).world played w → RunsOn done line v text played
+
+-- A line was played, and this is told of it.
+pub record PlayedLine (q : Player) (done : List Line) (w : Option World) (line : Line) (told_before told : List ℕ) (initial now : List Device) : Type 0 where
+  pub world : Option World
+  pub text : List ℕ
+  pub told_now : told ≡ told_before ++ text
+  pub runs : LineRuns done line w world text
+  pub stood : Stood q (done ++ line ∷ []) world initial now
+  pub boards_enough : lacking_by (length initial) line None ≡ None
+
+-- items run from a world, and none where there is no world yet
+abbrev pub RunsFrom : Option World → List Item → Option World → List ℕ → Type 0
+RunsFrom None items v text = (items ≡ []) × (v ≡ None) × (text ≡ [])
+RunsFrom (Some w) items v text = (u : World) × (v ≡ Some u) × ItemsRun w items u text
+
+-- A line behind others was begun: of its items the first were played, and P holds of the world then, of those that are left, and of what is told of those that were played.
+pub record LineBegun (done : List Line) (line : Line) (w : Option World) (P : Option World → (left : List Item) → (text : List ℕ) → Type 0) : Type 0 where
+  pub begun : List Item
+  pub left : List Item
+  pub parts : item_by (place_behind first_place done) (cut_behind None done) line ≡ begun ++ left
+  pub world : Option World
+  pub text : List ℕ
+  pub runs : RunsFrom w begun world text
+  pub there : P world left text
+
+-- the line that says how many motes there are was not played, since boards are missing
+pub record LacksBoards (line : Line) (motes boards : ℕ) (initial old new : List Device) : Type 0 where
+  pub is_motes : line ≡ Motes motes
+  pub have : boards ≡ length initial
+  pub missing : boards < motes
+  pub same : new ≡ old
+
+-- a world is there, and P holds of it
+abbrev pub InSome : Option World → (World → Type 0) → Type 0
+InSome None P = ⊥
+InSome (Some w) P = P w
+
+-- what playing a line answers, from a player and boards that stand for world w behind these lines
+abbrev pub PlayedAs : Result (Unit {0}) Stop → Player → List Line → Option World → Line → (told_before told : List ℕ) → (initial old new : List Device) → Type 0
+PlayedAs (Ok u) q done w line told_before told initial old new = PlayedLine q done w line told_before told initial new
+PlayedAs (Err Memory) q done w line told_before told initial old new = LineBegun done line w (λ v left text. BoardsStand v initial new)
+PlayedAs (Err (NoBoard motes boards)) q done w line told_before told initial old new = LacksBoards line motes boards initial old new
+PlayedAs (Err FlashFault) q done w line told_before told initial old new = UsesBoard line × LineBegun done line w (λ v left text. StoppedIn (motes_in done) (line ∷ []) left v initial new × (told ≡ told_before ++ text))
+PlayedAs (Err TooMany) q done w line told_before told initial old new = LineBegun done line w (λ v left text. InSome v (λ u. IsOneTooMany u left) × BoardsStand v initial new × (told ≡ told_before ++ text))
+PlayedAs (Err NoImage) q done w line told_before told initial old new = LineBegun done line w (λ v left text. InSome v (λ u. LacksImage u left))
+PlayedAs (Err (BadInput n fault)) q done w line told_before told initial old new = ⊥
+PlayedAs (Err WriteFault) q done w line told_before told initial old new = ⊥
+
+-- ---- the parts of a line
+
+-- what formatting the boards of so many motes answers
+pub record FormattedAs (result : Result (Unit {0}) FormatStopped) (motes : ℕ) (chip : Store) (old new : List Device) : Type 0 where
+  pub formatted : OnOk result ((m : ℕ) (d : Device) → m < motes → slice_get new m ≡ Some d → Stands d.image chip)
+  pub awake : OnOk result ((m : ℕ) (d : Device) → m < motes → slice_get old m ≡ Some d → d.stopped ≡ false)
+  pub others : FirstBoards motes old new
+  pub stopped : (e : FormatStopped) → result ≡ Err e → FormatStops e.board motes chip old new
+
+-- what a link answers
+pub record LinkedAs (result : Result (Unit {0}) Stop) (v v2 : KeptWorld) (link : ℕ × ℕ) : Type 0 where
+  pub linked : OnOk result ((boards : List Device) (w : World) → IsWorld v boards w → IsWorld v2 boards (with_link link w))
+  pub memory : OnErr result (result ≡ Err Memory)

@@ -1,0 +1,187 @@
+-- What the steps of a replay do, text by text.
+use Rattle.std.specs.Prelude.{◌≡◌, ◌≢◌, ◌⊎◌, ℕ, ◌<◌, ◌≤◌, Bool, List, [], ◌∷◌, ◌++◌, length, map, Option, Some, None, Result, Ok, Err}
+use Rattle.dg_base.specs.Outside.{Puts, PutsFront}
+use Rattle.dg_nor.specs.Device.{Device}
+use Rattle.dg_script.specs.Fitting.{UsesBoard}
+use Rattle.dg_script.specs.Lines.{line_of}
+use Rattle.dg_script.specs.Places.{place_after}
+use Rattle.dg_script.specs.Script.{Script, script_from}
+use Rattle.dg_script.specs.declared.fault.LineFault.{LineFault}
+use Rattle.dg_script.specs.declared.fault.LineFault.TheVariants as line_fault
+use Rattle.dg_script.specs.Report.{report_text}
+use Rattle.dg_base.specs.declared.answers.Status.{Status}
+use Rattle.dg_base.specs.declared.answers.Status.TheVariants as status
+use Rattle.dg_rules.specs.Sizes.{most_events}
+use Rattle.dg_rules.specs.World.{World}
+use Rattle.dg_rules.specs.Changes.{final_lines}
+use Rattle.dg_rules.specs.Runs.{Played}
+use Rattle.dg_script.specs.Items.{Item, items_of}
+use Rattle.dg_replay.specs.Boards.{BoardsStand, BoardStopped, StoppedIn}
+use Rattle.dg_replay.specs.Items.{beginning_of, motes_in, lacking}
+use Rattle.dg_replay.specs.Ending.{Ending, NoBoards, TooManyEvents, FaultAt, events_in, InBounds, ending_line}
+use Rattle.dg_replay.specs.Outcome.{Progress, CameTo, AtTooMany, closing, Wrote, Boards, BoardStoppedThere, IsCaused, RunsTo, item_played, played_text}
+use Rattle.dg_replay.specs.Playing.{Stood, PlayedLine, LineBegun, InSome, IsOneTooMany, LacksBoards, LacksImage}
+use Rattle.dg_replay.specs.declared.player.Player.{Player}
+use Rattle.dg_script.specs.declared.line.Line.{Line}
+use Rattle.dg_script.specs.declared.line.Line.TheVariants.{Motes}
+use Rattle.dg_replay.specs.declared.stop.Stop.{Stop}
+use Rattle.dg_replay.specs.declared.stop.Stop.TheVariants.{Memory, BadInput, WriteFault, FlashFault, TooMany, NoBoard, NoImage}
+
+-- The line that a text spells was played, from a player and boards that stand for world w behind some lines.
+pub record TextPlayed (text : List ℕ) (p q : Player) (done : List Line) (w : Option World) (initial now : List Device) : Type 0 where
+  pub line : Line
+  pub spelled : line_of p.place text ≡ Ok line
+  pub told : List ℕ
+  pub to : PlayedLine q done w line [] told initial now
+  pub behind : q.place ≡ place_after p.place line
+
+-- and what is told of it was written
+pub record TextTold (text : List ℕ) (p q : Player) (done : List Line) (w : Option World) (initial now : List Device) (before after : Option (List ℕ)) : Type 0 where
+  pub played : TextPlayed text p q done w initial now
+  pub written : Puts before after played.told
+
+-- or a front of it
+pub record TextCut (text : List ℕ) (p q : Player) (done : List Line) (w : Option World) (initial now : List Device) (before after : Option (List ℕ)) : Type 0 where
+  pub played : TextPlayed text p q done w initial now
+  pub written : PutsFront before after played.told
+
+-- nothing was done
+pub record NothingDone (old new : List Device) (before after : Option (List ℕ)) : Type 0 where
+  pub boards : new ≡ old
+  pub told : after ≡ before
+
+-- a line was read, and P holds of it
+pub record TextRead (text : List ℕ) (p : Player) (P : Line → Type 0) : Type 0 where
+  pub line : Line
+  pub spelled : line_of p.place text ≡ Ok line
+  pub there : P line
+
+-- why a replay ends at a line that was not read
+pub record StopsAtLine (stop : Stop) (line : ℕ) (fault : LineFault) : Type 0 where
+  pub memory : fault ≡ line_fault.Memory → stop ≡ Memory
+  pub other : fault ≢ line_fault.Memory → stop ≡ BadInput line fault
+
+-- a board stopped within a line of which these items are left, and what is told of the others, which is something, was not all written
+abbrev pub CutAtStop : (done : List Line) → Line → Option World → (left : List Item) → (text : List ℕ) → (initial new : List Device) → (before after : Option (List ℕ)) → Type 0
+CutAtStop done line v left text initial new before after = (text ≢ []) × StoppedIn (motes_in done) (line ∷ []) left v initial new × PutsFront before after text
+
+-- the same where an event was not played, since there were a million before it
+abbrev pub CutAtTooMany : Option World → (left : List Item) → (text : List ℕ) → (initial new : List Device) → (before after : Option (List ℕ)) → Type 0
+CutAtTooMany v left text initial new before after = InSome v (λ u. IsOneTooMany u left) × BoardsStand v initial new × PutsFront before after text
+
+-- all of it was written, or a front
+abbrev pub BegunWrittenOr : Stop → Stop → (text : List ℕ) → (before after : Option (List ℕ)) → (write_failed : Type 0) → Type 0
+BegunWrittenOr stop result text before after failed =
+    ((result ≡ stop) × Puts before after text) ⊎ ((result ≡ WriteFault) × failed × (text ≢ []) × PutsFront before after text)
+
+-- what comes of writing what is told of a line that the replay did not end, and why it stops then
+abbrev pub BegunWritten : Stop → Stop → (text : List ℕ) → (before after : Option (List ℕ)) → (write_failed : Type 0) → Type 0
+BegunWritten TooMany result text before after failed = BegunWrittenOr TooMany result text before after failed
+BegunWritten FlashFault result text before after failed = BegunWrittenOr FlashFault result text before after failed
+BegunWritten stop result text before after failed = (result ≡ stop) × (after ≡ before)
+
+-- what playing a text answers, from player p and world w behind some lines
+abbrev pub TextAnswer : Result (Unit {0}) Stop → (text : List ℕ) → ℕ → (p q : Player) → List Line → Option World → (initial old new : List Device) → (before after : Option (List ℕ)) → (write_failed : Type 0) → Type 0
+TextAnswer (Ok u) text number p q done w initial old new before after failed = TextTold text p q done w initial new before after
+TextAnswer (Err Memory) text number p q done w initial old new before after failed = NothingDone old new before after ⊎ (TextRead text p (λ line. LineBegun done line w (λ v left t. BoardsStand v initial new)) × (after ≡ before))
+TextAnswer (Err (BadInput line fault)) text number p q done w initial old new before after failed = (line ≡ number) × (line_of p.place text ≡ Err fault) × NothingDone old new before after
+TextAnswer (Err WriteFault) text number p q done w initial old new before after failed =
+    failed × (TextCut text p q done w initial new before after
+    ⊎ TextRead text p (λ line. LineBegun done line w (λ v left t. CutAtStop done line v left t initial new before after ⊎ CutAtTooMany v left t initial new before after)))
+TextAnswer (Err FlashFault) text number p q done w initial old new before after failed =
+    TextRead text p (λ line. UsesBoard line × LineBegun done line w (λ v left t. StoppedIn (motes_in done) (line ∷ []) left v initial new × Puts before after t))
+TextAnswer (Err TooMany) text number p q done w initial old new before after failed =
+    TextRead text p (λ line. LineBegun done line w (λ v left t. InSome v (λ u. IsOneTooMany u left) × BoardsStand v initial new × Puts before after t))
+TextAnswer (Err (NoBoard motes boards)) text number p q done w initial old new before after failed = TextRead text p (λ line. LacksBoards line motes boards initial old new) × (after ≡ before)
+TextAnswer (Err NoImage) text number p q done w initial old new before after failed = TextRead text p (λ line. LineBegun done line w (λ v left t. InSome v (λ u. LacksImage u left)))
+
+-- These texts are left of a script, and what comes before them was played.
+pub record Reached (ends : Bool) (script : Script) (texts : List (List ℕ)) (number : ℕ) (p : Player) (initial now : List Device) (before after : Option (List ℕ)) : Type 0 where
+  pub done : List Line
+  pub played : List Played
+  pub last : Option World
+  pub lines : done ++ (script_from ends p.place number texts).lines ≡ script.lines
+  pub fault : (script_from ends p.place number texts).fault ≡ script.fault
+  pub items : map item_played played ≡ items_of done
+  pub run : RunsTo (beginning_of done).world played last
+  pub told : Puts before after (played_text played)
+  pub stood : Stood p done last initial now
+  pub few : events_in done ≤ most_events
+  -- there are boards for the motes of every line that was done
+  pub boards_enough : lacking (length initial) done ≡ None
+
+-- A script was played so far, what was written is a front of what is told of that, and P holds of how far.
+pub record PlayedFront (script : Script) (initial : List Device) (before after : Option (List ℕ)) (P : Progress script → Type 0) : Type 0 where
+  pub came : Progress script
+  pub text : List ℕ
+  pub more : List ℕ
+  pub told : Puts before after text
+  pub whole : text ++ more ≡ played_text came.played
+  pub limits : InBounds (length initial) came.done (map item_played came.played)
+  pub there : P came
+
+-- A script was played so far, and all that is told of that was written.
+pub record PlayedUpTo (script : Script) (initial : List Device) (before after : Option (List ℕ)) (P : Progress script → Type 0) : Type 0 where
+  pub came : Progress script
+  pub told : Puts before after (played_text came.played)
+  pub limits : InBounds (length initial) came.done (map item_played came.played)
+  pub there : P came
+
+-- a script that was played to its first fault, or to its end
+pub record HasFew (script : Script) (initial : List Device) : Type 0 where
+  pub events : events_in script.lines ≤ most_events
+  pub boards_enough : lacking (length initial) script.lines ≡ None
+
+-- what playing all texts of a script answers
+abbrev pub LinesAnswer : Result (Player × ℕ) Stop → Bool → Script → (initial now : List Device) → (before after : Option (List ℕ)) → (write_failed : Type 0) → Type 0
+LinesAnswer (Ok reached) ends script initial now before after failed = Reached ends script [] reached.1 reached.0 initial now before after
+LinesAnswer (Err Memory) ends script initial now before after failed = PlayedFront script initial before after (λ c. BoardsStand c.last initial now)
+LinesAnswer (Err (BadInput line fault)) ends script initial now before after failed = PlayedUpTo script initial before after (λ c. (c.rest ≡ []) × (script.fault ≡ Some (line, fault)) × BoardsStand c.last initial now × HasFew script initial)
+LinesAnswer (Err WriteFault) ends script initial now before after failed = failed × PlayedFront script initial before after (λ c. Boards status.WriteFault c initial now)
+LinesAnswer (Err FlashFault) ends script initial now before after failed = PlayedUpTo script initial before after (λ c. ((line : Line) × (more : List Line) × (c.rest ≡ line ∷ more) × UsesBoard line) × BoardStoppedThere c initial now)
+LinesAnswer (Err TooMany) ends script initial now before after failed = PlayedUpTo script initial before after (λ c. AtTooMany c.left c.played × BoardsStand c.last initial now × (lacking (length initial) script.lines ≡ None))
+LinesAnswer (Err (NoBoard motes boards)) ends script initial now before after failed =
+    PlayedUpTo script initial before after (λ c. ((boards ≡ length initial) × (boards < motes)) × ((more : List Line) × (c.rest ≡ Motes motes ∷ more)) × BoardsStand c.last initial now × (lacking (length initial) c.done ≡ None))
+LinesAnswer (Err NoImage) ends script initial now before after failed = ⊥
+
+-- A script came to its ending, and the end of its report, which is this piece, is not written yet.
+pub record ReadyToEnd (script : Script) (ending : Ending) (piece : List ℕ) (initial now : List Device) (before after : Option (List ℕ)) : Type 0 where
+  pub came : Progress script
+  pub told : Puts before after (played_text came.played)
+  pub boards : BoardsStand came.last initial now
+  pub all : CameTo ending came
+  pub line : closing ending came.last ≡ piece
+  pub limits : InBounds (length initial) came.done (map item_played came.played)
+
+-- how writing the end of a report ends
+abbrev pub EndsWith : Status → Status → List ℕ → (before after : Option (List ℕ)) → (write_failed : Type 0) → Type 0
+EndsWith result wanted piece before after failed =
+    ((result ≡ wanted) × Puts before after piece)
+    ⊎ ((result ≡ status.WriteFault) × PutsFront before after piece × failed)
+    ⊎ ((result ≡ status.Memory) × (after ≡ before))
+
+-- how a replay that stopped ends
+abbrev pub StopEnds : Stop → Status → (before after : Option (List ℕ)) → (write_failed : Type 0) → Type 0
+StopEnds Memory result before after failed = (result ≡ status.Memory) × (after ≡ before)
+StopEnds (BadInput line fault) result before after failed = EndsWith result status.BadInput (ending_line (FaultAt line fault)) before after failed
+StopEnds WriteFault result before after failed = (result ≡ status.WriteFault) × (after ≡ before)
+StopEnds FlashFault result before after failed = (result ≡ status.FlashFault) × (after ≡ before)
+StopEnds TooMany result before after failed = EndsWith result status.TooMany (ending_line TooManyEvents) before after failed
+StopEnds (NoBoard motes boards) result before after failed = EndsWith result status.NoBoard (ending_line (NoBoards motes boards)) before after failed
+StopEnds NoImage result before after failed = Unit {0}
+
+-- how the end of a report that reads its boards ends
+abbrev pub FinishesWith : Status → World → (initial now : List Device) → (before after : Option (List ℕ)) → (write_failed : Type 0) → Type 0
+FinishesWith result w initial now before after failed =
+    (EndsWith result status.Done (report_text (final_lines w)) before after failed × BoardsStand (Some w) initial now)
+    ⊎ ((result ≡ status.FlashFault) × ((motes : ℕ) → motes ≡ length w.sites → StoppedIn motes [] [] (Some w) initial now) × (after ≡ before))
+
+-- A script was replayed, as its ending and the status say.
+pub record ScriptReplayed (status : Status) (script : Script) (ending : Ending) (initial now : List Device) (before after : Option (List ℕ)) (write_failed : Type 0) : Type 0 where
+  pub came : Progress script
+  pub text : List ℕ
+  pub written : Puts before after text
+  pub report : Wrote status ending came text
+  pub limits : InBounds (length initial) came.done (map item_played came.played)
+  pub boards : Boards status came initial now
+  pub caused : IsCaused status ending ⊥ write_failed (BoardStopped (motes_in came.done) initial now)

@@ -1,0 +1,104 @@
+//! The call that replays a script.
+ghost use Rattle.std.specs.Prelude.{◌≡◌, ◌≢◌, ◌⊎◌, ◌≤◌, ℕ, List, [], Some, IfSome, map, length};
+ghost use Rattle.std.specs.List.{AllByRecursion};
+ghost use Rattle.dg_words.specs.Counts.{Rose};
+ghost use Rattle.dg_rules.specs.World.{World};
+ghost use Rattle.dg_rules.specs.Runs.{EachAfter};
+ghost use Rattle.dg_rules.specs.Promises.{IsLegal, KeepsAll, StartsRow};
+ghost use Rattle.dg_mote.specs.Sizes.{buffered_bytes, most_buffered};
+ghost use Rattle.dg_rules.specs.Premises.{IsHonestThen, LeavesAgreement, WorldAgrees};
+ghost use Rattle.dg_completion.specs.Completion.{IsEnough};
+ghost use Rattle.dg_completion.specs.Ends.{EndsInRest, KeepsNewest};
+ghost use Rattle.dg_replay.specs.Ending.{InLimits, script_of};
+ghost use Rattle.dg_replay.specs.Items.{motes_in, IsNoFrame};
+ghost use Rattle.dg_replay.specs.Outcome.{Replayed};
+ghost use Rattle.dg_replay.specs.Boards.{BoardStopped};
+
+use crate::ends::replay_text;
+use crate::input::{ReadStop, read_input};
+use crate::laws::replays_keep_the_rules;
+use dg_base::{Sink, Source, Status};
+use dg_mote::a_mote_buffers_little;
+use dg_nor::Nor;
+use std::alloc::Global;
+
+/// Reads the script that `input` spells, and replays it.
+fn read_and_replay<S: Source, K: Sink, N: Nor>(
+    alloc: Global,
+    input: &mut S,
+    out: &mut K,
+    boards: &mut Vec<N>,
+) -> Status
+    ensures replayed { Replayed result (S.left input.old) (S.left input.new) (K.written out.old) (K.written out.new)
+        (S.faults input.old) (S.faults input.new) (K.faults out.old) (K.faults out.new) (map N.device boards.old.items) (map N.device boards.new.items) }
+    ensures reads { S.faults input.old ≤ S.faults input.new }
+    ensures writes { K.faults out.old ≤ K.faults out.new }
+{
+    match read_input(alloc, input) {
+        Ok(text) => replay_text(alloc, &text, boards, out),
+        Err(ReadStop::Memory) => Status::Memory,
+        Err(ReadStop::ReadFault) => Status::ReadFault,
+    }
+}
+
+/// Replays the script that `input` spells over the boards, and writes the report to `out`. A status other than
+/// [`Status::Done`] writes its line last, where it has one.
+///
+/// No board is used before the `golden` line, and behind it those of the script's motes are. No more than a million events
+/// are played, and no more than 16,777,216 bytes of the input are used.
+pub fn replay<S: Source, K: Sink, N: Nor>(
+    alloc: Global,
+    input: &mut S,
+    out: &mut K,
+    boards: &mut Vec<N>,
+) -> Status
+    // The report is true, whatever frames are brought from outside: it is that of a run of the rules over the items of the
+    // script, and each status comes where the rules say.
+    ensures replayed { Replayed result (S.left input.old) (S.left input.new) (K.written out.old) (K.written out.new)
+        (S.faults input.old) (S.faults input.new) (K.faults out.old) (K.faults out.new) (map N.device boards.old.items) (map N.device boards.new.items) }
+    // Where each frame from outside is honest by the table of its moment, each step is legal after those before it.
+    ensures legal { (x : Replayed result (S.left input.old) (S.left input.new) (K.written out.old) (K.written out.new)
+        (S.faults input.old) (S.faults input.new) (K.faults out.old) (K.faults out.new) (map N.device boards.old.items) (map N.device boards.new.items))
+        → AllByRecursion IsHonestThen x.came.played → EachAfter IsLegal [] x.came.played }
+    // There no version falls, but as a cut in a replacement allows.
+    ensures keeps { (x : Replayed result (S.left input.old) (S.left input.new) (K.written out.old) (K.written out.new)
+        (S.faults input.old) (S.faults input.new) (K.faults out.old) (K.faults out.new) (map N.device boards.old.items) (map N.device boards.new.items))
+        → AllByRecursion IsHonestThen x.came.played → AllByRecursion KeepsAll x.came.played }
+    // There what starts is one row of the table of images, byte for byte.
+    ensures starts { (x : Replayed result (S.left input.old) (S.left input.new) (K.written out.old) (K.written out.new)
+        (S.faults input.old) (S.faults input.new) (K.faults out.old) (K.faults out.new) (map N.device boards.old.items) (map N.device boards.new.items))
+        → AllByRecursion IsHonestThen x.came.played → AllByRecursion StartsRow x.came.played }
+    // There every chip, also one that a cut left half done, every mote that is on and every frame that was sent agrees with the
+    // table: after each item, and in the last world.
+    ensures agrees { (x : Replayed result (S.left input.old) (S.left input.new) (K.written out.old) (K.written out.new)
+        (S.faults input.old) (S.faults input.new) (K.faults out.old) (K.faults out.new) (map N.device boards.old.items) (map N.device boards.new.items))
+        → AllByRecursion IsHonestThen x.came.played → AllByRecursion LeavesAgreement x.came.played × IfSome x.came.last WorldAgrees }
+    // Lines that bring no frame from outside meet that.
+    ensures honest { (x : Replayed result (S.left input.old) (S.left input.new) (K.written out.old) (K.written out.new)
+        (S.faults input.old) (S.faults input.new) (K.faults out.old) (K.faults out.new) (map N.device boards.old.items) (map N.device boards.new.items))
+        → AllByRecursion IsNoFrame x.came.done → AllByRecursion IsHonestThen x.came.played }
+    // There every mote keeps the newest version of every image whole, where the run ends with an undisturbed rest of enough
+    // sweeps.
+    ensures completes { (x : Replayed result (S.left input.old) (S.left input.new) (K.written out.old) (K.written out.new)
+        (S.faults input.old) (S.faults input.new) (K.faults out.old) (K.faults out.new) (map N.device boards.old.items) (map N.device boards.new.items))
+        → (w v : World) (n k : ℕ) → AllByRecursion IsHonestThen x.came.played → x.came.last ≡ Some v → EndsInRest x.came.played w n v → IsEnough w k → k ≤ n → KeepsNewest v }
+    // A mote buffers no more than 256 bytes.
+    ensures buffers { buffered_bytes ≤ most_buffered }
+
+    // A script in its grammar and limits, with boards for its motes, is replayed to its end, unless memory runs out or the outside fails.
+    ensures complete { (bytes : List ℕ) → S.left input.old ≡ Some bytes → InLimits (length boards.old.items) bytes
+        → (Rose (S.faults input.old) (S.faults input.new) → ⊥) → (Rose (K.faults out.old) (K.faults out.new) → ⊥)
+        → (BoardStopped (motes_in (script_of bytes).lines) (map N.device boards.old.items) (map N.device boards.new.items) → ⊥)
+        → (result ≡ Status.Done) ⊎ (result ≡ Status.Memory) }
+
+    // A replay formats its boards itself, so that they are volumes; it refuses nothing but its script; there is no link to a
+    // peer; and golden starts where nothing else does.
+    ensures never { (result ≢ Status.Usage) × (result ≢ Status.NotAVolume) × (result ≢ Status.Refused) × (result ≢ Status.LinkFault) × (result ≢ Status.NoImage) }
+
+    ensures reads { S.faults input.old ≤ S.faults input.new }
+    ensures writes { K.faults out.old ≤ K.faults out.new }
+{
+    replays_keep_the_rules();
+    a_mote_buffers_little();
+    read_and_replay(alloc, input, out, boards)
+}

@@ -1,0 +1,172 @@
+//! Plays the items of a line: an image that is declared, an event, and the events of rounds and sweeps.
+ghost use Rattle.std.specs.Prelude.{◌≡◌, ◌≤◌, ◌∷◌, ◌++◌, [], ℕ, true, false, List, None, map, length, OnOk, OnErr};
+ghost use Rattle.std.specs.List.{AllByRecursion};
+ghost use Rattle.dg_base.specs.declared.events.Step.{Step};
+ghost use Rattle.dg_nor.specs.Device.{Device};
+ghost use Rattle.dg_object.specs.Object.{row_of};
+ghost use Rattle.dg_rounds.specs.Rounds.{times, round, sweep};
+ghost use Rattle.dg_script.specs.Fitting.{IsDeclared};
+ghost use Rattle.dg_script.specs.Items.{Declares, Happens, quietly};
+ghost use Rattle.dg_script.specs.Report.{report_text};
+ghost use Rattle.dg_rules.specs.World.{World as RuleWorld};
+ghost use Rattle.dg_rules.specs.Premises.{LinkFits};
+ghost use Rattle.dg_rules.specs.Ranges.{EventFits, StepFits};
+ghost use Rattle.dg_world.specs.Worlds.{IsWorld};
+ghost use Rattle.dg_replay.specs.Boards.{WorldStands};
+ghost use Rattle.dg_replay.specs.Playing.{ItemsPlayedAs, GoesOn};
+
+use crate::stop::Stop;
+use dg_base::{Bytes, Event, Key, Step};
+use dg_nor::Nor;
+use dg_rounds::{round, sweep};
+use dg_script::{Report, write_report};
+use dg_world::{DeclareFault, World, WorldFault};
+use std::alloc::AllocError;
+
+/// The buffers of a line.
+#[derive(Drop)]
+pub struct Told {
+    /// What one item of it reports.
+    pub reports: Vec<Report>,
+    /// The text of all that it reports.
+    pub text: Vec<u8>,
+}
+
+/// Appends the text of report lines.
+pub fn push_reports(text: &mut Vec<u8>, reports: &[Report]) -> Result<(), AllocError>
+    ensures { OnOk result (text.new.items ≡ text.old.items ++ report_text reports.now) }
+{
+    for report in reports {
+        write_report(report, text)?;
+    }
+    Ok(())
+}
+
+/// Appends the text of what an item reports.
+fn tell(told: &mut Told) -> Result<(), Stop>
+    ensures told { OnOk result (told.new.text.items ≡ told.old.text.items ++ report_text told.old.reports.items) }
+    ensures memory { OnErr result (result ≡ Err Stop.Memory) }
+{
+    match push_reports(&mut told.text, &told.reports) {
+        Ok(()) => Ok(()),
+        Err(AllocError) => Err(Stop::Memory),
+    }
+}
+
+/// Declares an image.
+pub fn play_image(
+    world: &mut World,
+    key: Key,
+    name: Bytes,
+    content: Bytes,
+    told: &mut Told,
+) -> Result<(), Stop>
+    requires fits { IsDeclared key.image key.version name content }
+    ensures { (boards initial : List Device) (w : RuleWorld) → IsWorld world.old boards w → WorldStands w initial boards
+        → ItemsPlayedAs result w (Declares (row_of key.image key.version name content) ∷ []) world.new initial boards told.old.text.items told.new.text.items }
+{
+    let Key { image, version } = key;
+    told.reports.clear();
+    match world.declare(image, version, name, content) {
+        Ok(()) => Ok(()),
+        Err(DeclareFault::Memory) => Err(Stop::Memory),
+        Err(DeclareFault::Taken) => match told.reports.push(Report::Taken { image, version }) {
+            Ok(()) => tell(told),
+            Err(_) => Err(Stop::Memory),
+        },
+    }
+}
+
+/// Plays an event, whose frame is told where `loud` is true.
+pub fn play_step<N: Nor>(
+    world: &mut World,
+    step: &Step,
+    loud: bool,
+    boards: &mut Vec<N>,
+    told: &mut Told,
+) -> Result<(), Stop>
+    requires { (w : RuleWorld) × IsWorld world.old (map N.device boards.old.items) w × StepFits (length w.sites) step.now }
+    ensures goes_on { GoesOn result world.old world.new (map N.device boards.old.items) (map N.device boards.new.items) }
+    ensures played { (w : RuleWorld) (initial : List Device) → IsWorld world.old (map N.device boards.old.items) w → WorldStands w initial (map N.device boards.old.items)
+        → ItemsPlayedAs result w (Happens step.now loud ∷ []) world.new initial (map N.device boards.new.items) told.old.text.items told.new.text.items }
+{
+    told.reports.clear();
+    match world.apply(boards, step, loud, &mut told.reports) {
+        Ok(()) => tell(told),
+        Err(WorldFault::Memory) => Err(Stop::Memory),
+        Err(WorldFault::Flash { .. }) => Err(Stop::FlashFault),
+        Err(WorldFault::TooMany) => Err(Stop::TooMany),
+        Err(WorldFault::NotAVolume) => unreachable!(),
+        Err(WorldFault::NoImage) => Err(Stop::NoImage),
+    }
+}
+
+/// Plays an event that a round gives: its frame is not told.
+fn play_quietly<N: Nor>(
+    world: &mut World,
+    event: Event,
+    boards: &mut Vec<N>,
+    told: &mut Told,
+) -> Result<(), Stop>
+    requires { (w : RuleWorld) × IsWorld world.old (map N.device boards.old.items) w × EventFits (length w.sites) event }
+    ensures goes_on { GoesOn result world.old world.new (map N.device boards.old.items) (map N.device boards.new.items) }
+    ensures played { (w : RuleWorld) (initial : List Device) → IsWorld world.old (map N.device boards.old.items) w → WorldStands w initial (map N.device boards.old.items)
+        → ItemsPlayedAs result w (quietly (event ∷ [])) world.new initial (map N.device boards.new.items) told.old.text.items told.new.text.items }
+{
+    let step = Step { event, cut: None };
+    play_step(world, &step, false, boards, told)
+}
+
+/// Plays the events of a round.
+pub fn play_round<N: Nor>(
+    world: &mut World,
+    a: u8,
+    b: u8,
+    boards: &mut Vec<N>,
+    told: &mut Told,
+) -> Result<(), Stop>
+    requires { (w : RuleWorld) × IsWorld world.old (map N.device boards.old.items) w × LinkFits (length w.sites) (a, b) }
+    ensures { (w : RuleWorld) (initial : List Device) → IsWorld world.old (map N.device boards.old.items) w → WorldStands w initial (map N.device boards.old.items)
+        → ItemsPlayedAs result w (quietly (round a b)) world.new initial (map N.device boards.new.items) told.old.text.items told.new.text.items }
+{
+    for event in round(a, b) {
+        play_quietly(world, event, boards, told)?;
+    }
+    Ok(())
+}
+
+/// Plays the events of a sweep over links.
+fn play_sweep<N: Nor>(
+    world: &mut World,
+    links: &[(u8, u8)],
+    boards: &mut Vec<N>,
+    told: &mut Told,
+) -> Result<(), Stop>
+    requires { (w : RuleWorld) × IsWorld world.old (map N.device boards.old.items) w × AllByRecursion (LinkFits (length w.sites)) links.now }
+    ensures goes_on { GoesOn result world.old world.new (map N.device boards.old.items) (map N.device boards.new.items) }
+    ensures played { (w : RuleWorld) (initial : List Device) → IsWorld world.old (map N.device boards.old.items) w → WorldStands w initial (map N.device boards.old.items)
+        → ItemsPlayedAs result w (quietly (sweep links.now)) world.new initial (map N.device boards.new.items) told.old.text.items told.new.text.items }
+{
+    for event in sweep(links) {
+        play_quietly(world, event, boards, told)?;
+    }
+    Ok(())
+}
+
+/// Plays the events of so many sweeps over links.
+pub fn play_sweeps<N: Nor>(
+    world: &mut World,
+    links: &[(u8, u8)],
+    count: u32,
+    boards: &mut Vec<N>,
+    told: &mut Told,
+) -> Result<(), Stop>
+    requires { (w : RuleWorld) × IsWorld world.old (map N.device boards.old.items) w × AllByRecursion (LinkFits (length w.sites)) links.now }
+    ensures { (w : RuleWorld) (initial : List Device) → IsWorld world.old (map N.device boards.old.items) w → WorldStands w initial (map N.device boards.old.items)
+        → ItemsPlayedAs result w (quietly (times count (sweep links.now))) world.new initial (map N.device boards.new.items) told.old.text.items told.new.text.items }
+{
+    for _ in 0..count {
+        play_sweep(world, links, boards, told)?;
+    }
+    Ok(())
+}

@@ -1,0 +1,19 @@
+//! Replays a script over boards: `replay` reads it, plays it line by line, and writes the report.
+//!
+//! Scripts are of 1 to 16 motes: their chips are formatted, images are declared, injected, ordered and started, time
+//! passes, frames are sent, heard and brought from outside, rounds and sweeps bring pages from mote to mote, and power is
+//! cut.
+#![tactic(auto)]
+
+mod call;
+mod ends;
+mod finish;
+mod input;
+mod items;
+mod laws;
+mod lines;
+mod player;
+mod stop;
+
+pub use call::replay;
+pub use laws::{replays_keep_the_rules, whole_lines_are_longest};

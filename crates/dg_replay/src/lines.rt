@@ -1,0 +1,207 @@
+//! Replays a script over boards.
+ghost use Rattle.std.specs.Prelude.{◌≡◌, ◌≢◌, ◌⊎◌, ◌≤◌, [], ℕ, Bool, List, Option, Ok, map, length, OnOk, OnErr, Err};
+ghost use Rattle.std.specs.Str.Lines.{lines};
+ghost use Rattle.dg_words.specs.Counts.{Rose};
+ghost use Rattle.dg_base.specs.Outside.{Puts, PutsFront};
+ghost use Rattle.dg_nor.specs.Device.{Device};
+ghost use Rattle.dg_script.specs.Fitting.{StandsAt, FitsLine, IsPlayed};
+ghost use Rattle.dg_script.specs.Lines.{line_of};
+ghost use Rattle.dg_script.specs.Places.{first_place};
+ghost use Rattle.dg_script.specs.Script.{script_from};
+ghost use Rattle.dg_rules.specs.World.{World};
+ghost use Rattle.dg_replay.specs.Playing.{Stood, Ready, Passed, MayPlay};
+ghost use Rattle.dg_replay.specs.Replaying.{StopsAtLine, BegunWritten, TextAnswer, LinesAnswer};
+ghost use Rattle.dg_script.specs.declared.line.Line.{Line};
+
+use crate::items::Told;
+use crate::player::{Player, play_line};
+use crate::stop::Stop;
+use dg_base::{Sink, WriteFailed, next_line};
+use dg_nor::Nor;
+use dg_rules::scripts_with_golden;
+use dg_script::{Line, LineFault, Place, read_line};
+use std::alloc::{AllocError, Global};
+
+/// Writes a piece.
+pub fn put_piece<K: Sink>(out: &mut K, piece: &[u8]) -> Result<(), Stop>
+    ensures ok { OnOk result (Puts (K.written out.old) (K.written out.new) piece.now) }
+    ensures cut { OnErr result (PutsFront (K.written out.old) (K.written out.new) piece.now) }
+    ensures cause { OnErr result ((result ≡ Err Stop.WriteFault) × Rose (K.faults out.old) (K.faults out.new)) }
+    ensures counts { K.faults out.old ≤ K.faults out.new }
+    ensures unfailed { result ≢ Err Stop.WriteFault → K.faults out.new ≡ K.faults out.old }
+{
+    match out.write(piece) {
+        Ok(()) => Ok(()),
+        Err(WriteFailed) => Err(Stop::WriteFault),
+    }
+}
+
+/// Writes what is told of a line, in one piece, where it is something.
+fn write_told<K: Sink>(out: &mut K, text: &[u8]) -> Result<(), Stop>
+    ensures ok { OnOk result (Puts (K.written out.old) (K.written out.new) text.now) }
+    ensures cut { OnErr result (PutsFront (K.written out.old) (K.written out.new) text.now × (text.now ≢ [])) }
+    ensures cause { OnErr result ((result ≡ Err Stop.WriteFault) × Rose (K.faults out.old) (K.faults out.new)) }
+    ensures counts { K.faults out.old ≤ K.faults out.new }
+    ensures unfailed { result ≢ Err Stop.WriteFault → K.faults out.new ≡ K.faults out.old }
+{
+    if text.is_empty() {
+        return Ok(());
+    }
+    put_piece(out, text)
+}
+
+/// Writes what is told of the items of a line before the one at which the replay stops, and answers why it does.
+fn write_begun<K: Sink>(out: &mut K, text: &[u8], stop: Stop) -> Stop
+    ensures written { BegunWritten stop result text.now (K.written out.old) (K.written out.new) (Rose (K.faults out.old) (K.faults out.new)) }
+    ensures counts { K.faults out.old ≤ K.faults out.new }
+    ensures unfailed { result ≢ Stop.WriteFault → K.faults out.new ≡ K.faults out.old }
+{
+    match stop {
+        Stop::TooMany | Stop::FlashFault => match write_told(out, text) {
+            Ok(()) => stop,
+            Err(fault) => fault,
+        },
+        Stop::Memory | Stop::NoBoard { .. } | Stop::NoImage => stop,
+        Stop::BadInput { .. } | Stop::WriteFault => stop,
+    }
+}
+
+/// The player's place goes on behind a line.
+fn go_on(player: &mut Player, line: &Line) -> Result<(), Stop>
+    ensures ok { OnOk result (Passed player.old player.new line.now) }
+    ensures err { OnErr result (result ≡ Err Stop.Memory) }
+{
+    match player.place.pass(line) {
+        Ok(()) => Ok(()),
+        Err(AllocError) => Err(Stop::Memory),
+    }
+}
+
+/// Plays a line behind which the player's place went on, and writes what it reports.
+fn play_passed<K: Sink, N: Nor>(
+    alloc: Global,
+    line: Line,
+    player: &mut Player,
+    boards: &mut Vec<N>,
+    out: &mut K,
+    told: &mut Told,
+) -> Result<(), Stop>
+    requires may { MayPlay line player.old (map N.device boards.old.items) }
+    ensures played { (p : Player) (done : List Line) (w : Option World) (initial : List Device) (text : List ℕ) (number : ℕ) → line_of p.place text ≡ Ok line
+        → Passed p player.old line → StandsAt p.place line → FitsLine p.place.motes line → Stood p done w initial (map N.device boards.old.items)
+        → TextAnswer result text number p player.new done w initial (map N.device boards.old.items) (map N.device boards.new.items)
+        (K.written out.old) (K.written out.new) (Rose (K.faults out.old) (K.faults out.new)) }
+    ensures counts { K.faults out.old ≤ K.faults out.new }
+    ensures unfailed { result ≢ Err Stop.WriteFault → K.faults out.new ≡ K.faults out.old }
+{
+    told.text.clear();
+    match play_line(alloc, line, player, boards, told) {
+        Ok(()) => write_told(out, &told.text),
+        Err(stop) => Err(write_begun(out, &told.text, stop)),
+    }
+}
+
+/// Plays a line that was read, and writes what it reports.
+fn play_read<K: Sink, N: Nor>(
+    alloc: Global,
+    line: Line,
+    player: &mut Player,
+    boards: &mut Vec<N>,
+    out: &mut K,
+    told: &mut Told,
+) -> Result<(), Stop>
+    requires ready { Ready player.old (map N.device boards.old.items) }
+    requires stands { StandsAt player.old.place line }
+    requires fits { FitsLine player.old.place.motes line }
+    requires may { IsPlayed line }
+    ensures played { (done : List Line) (w : Option World) (initial : List Device) (text : List ℕ) (number : ℕ) → line_of player.old.place text ≡ Ok line
+        → Stood player.old done w initial (map N.device boards.old.items)
+        → TextAnswer result text number player.old player.new done w initial (map N.device boards.old.items) (map N.device boards.new.items)
+        (K.written out.old) (K.written out.new) (Rose (K.faults out.old) (K.faults out.new)) }
+    ensures counts { K.faults out.old ≤ K.faults out.new }
+    ensures unfailed { result ≢ Err Stop.WriteFault → K.faults out.new ≡ K.faults out.old }
+{
+    match go_on(player, &line) {
+        Ok(()) => play_passed(alloc, line, player, boards, out, told),
+        Err(stop) => Err(stop),
+    }
+}
+
+/// Why a replay ends at a line that was not read.
+fn stop_at(line: u32, fault: LineFault) -> Stop
+    ensures { StopsAtLine result line fault }
+{
+    if fault == LineFault::Memory {
+        return Stop::Memory;
+    }
+    Stop::BadInput { line, fault }
+}
+
+/// Reads the text of line `number`, plays it and writes what it reports.
+fn play_text<K: Sink, N: Nor>(
+    alloc: Global,
+    text: &[u8],
+    number: u32,
+    player: &mut Player,
+    boards: &mut Vec<N>,
+    out: &mut K,
+    told: &mut Told,
+) -> Result<(), Stop>
+    requires { Ready player.old (map N.device boards.old.items) }
+    ensures played { (done : List Line) (w : Option World) (initial : List Device) → Stood player.old done w initial (map N.device boards.old.items)
+        → TextAnswer result text.now number player.old player.new done w initial (map N.device boards.old.items) (map N.device boards.new.items)
+        (K.written out.old) (K.written out.new) (Rose (K.faults out.old) (K.faults out.new)) }
+    ensures counts { K.faults out.old ≤ K.faults out.new }
+    ensures unfailed { result ≢ Err Stop.WriteFault → K.faults out.new ≡ K.faults out.old }
+{
+    match read_line(alloc, text, &player.place) {
+        Ok(line) => play_read(alloc, line, player, boards, out, told),
+        Err(fault) => Err(stop_at(number, fault)),
+    }
+}
+
+/// Plays the lines of a text, one after the other, and answers where the replay then stands, with the number of the line
+/// after the last.
+pub fn play_lines<K: Sink, N: Nor>(
+    alloc: Global,
+    text: &[u8],
+    boards: &mut Vec<N>,
+    out: &mut K,
+) -> Result<(Player, u32), Stop>
+    requires { length text.now ≤ 16777217 }
+    ensures answer { (ends : Bool) → LinesAnswer result ends (script_from ends first_place 1 (lines text.now)) (map N.device boards.old.items) (map N.device boards.new.items)
+        (K.written out.old) (K.written out.new) (Rose (K.faults out.old) (K.faults out.new)) }
+    ensures counts { K.faults out.old ≤ K.faults out.new }
+    ensures unfailed { result ≢ Err Stop.WriteFault → K.faults out.new ≡ K.faults out.old }
+{
+    scripts_with_golden();
+    let mut player = Player {
+        place: Place::first(alloc),
+        cut: None,
+        world: None,
+    };
+    let mut told = Told {
+        reports: Vec::new(alloc),
+        text: Vec::new(alloc),
+    };
+    let mut number = 1;
+    let mut from = 0;
+    while from < text.len() {
+        let (end, next) = next_line(text, from);
+        match play_text(
+            alloc,
+            &text[from..end],
+            number,
+            &mut player,
+            boards,
+            out,
+            &mut told,
+        ) {
+            Ok(()) => {}
+            Err(stop) => return Err(stop),
+        }
+        number += 1;
+        from = next;
+    }
+    Ok((player, number))
+}

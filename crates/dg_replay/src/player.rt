@@ -1,0 +1,176 @@
+//! Plays the lines of a script over its world.
+ghost use Rattle.std.specs.Prelude.{◌≡◌, ◌<◌, ◌≤◌, ◌∷◌, [], ℕ, true, false, List, Option, Some, None, Err, map, length, OnOk, OnErr, IfOk};
+ghost use Rattle.dg_nor.specs.Device.{Device};
+ghost use Rattle.dg_volume.specs.Store.{fresh};
+ghost use Rattle.dg_script.specs.Fitting.{StandsAt, FitsLine, IsGolden};
+ghost use Rattle.dg_rules.specs.World.{World as RuleWorld};
+ghost use Rattle.dg_replay.specs.Playing.{Stood, Passed, MayPlay, Counted, PlayedAs, FormattedAs, LinkedAs};
+
+use crate::items::{Told, play_image, play_round, play_step, play_sweeps};
+use crate::stop::Stop;
+use dg_base::{Bytes, Cut, Key, Pairs, Step};
+use dg_nor::Nor;
+use dg_script::{Line, Place};
+use dg_world::{FormatStopped, World, format_boards};
+use std::alloc::{AllocError, Global};
+
+/// Where a replay stands.
+#[derive(Drop)]
+pub struct Player {
+    pub place: Place,
+    /// The cut that waits for its event.
+    pub cut: Option<Cut>,
+    /// None before the boards are formatted.
+    pub world: Option<World>,
+}
+
+/// There are so many motes, for which boards are needed.
+fn play_motes<N: Nor>(motes: u8, boards: &Vec<N>) -> Result<(), Stop>
+    ensures enough { OnOk result (motes ≤ length boards.now.items) }
+    ensures missing { (stop : Stop) → result ≡ Err stop → (stop ≡ Stop.NoBoard motes (length boards.now.items)) × (length boards.now.items < motes) }
+{
+    let have = boards.len();
+    if have < usize::from(motes) {
+        return Err(Stop::NoBoard {
+            motes,
+            boards: have as u32,
+        });
+    }
+    Ok(())
+}
+
+/// Formats the boards of the motes with golden.
+fn format_first<N: Nor>(
+    boards: &mut [N],
+    motes: u8,
+    name: &Bytes,
+    used: u32,
+    content: &Bytes,
+) -> Result<(), FormatStopped>
+    requires fits { IsGolden name.now used content.now }
+    requires counted { Counted motes (length boards.old) }
+    ensures { FormattedAs result motes (fresh name.now content.now used) (map N.device boards.old) (map N.device boards.new) }
+{
+    let name = name.as_slice();
+    let content = content.as_slice();
+    format_boards(boards, motes, name, content, used)
+}
+
+/// The same over a vector of boards.
+fn format<N: Nor>(
+    boards: &mut Vec<N>,
+    motes: u8,
+    name: &Bytes,
+    used: u32,
+    content: &Bytes,
+) -> Result<(), FormatStopped>
+    requires fits { IsGolden name.now used content.now }
+    requires counted { Counted motes (length boards.old.items) }
+    ensures { FormattedAs result motes (fresh name.now content.now used) (map N.device boards.old.items) (map N.device boards.new.items) }
+{
+    format_first(boards.as_mut_slice(), motes, name, used, content)
+}
+
+/// No motes are neighbours.
+fn no_links(alloc: Global) -> Pairs
+    ensures { result ≡ [] }
+{
+    Pairs::new(Vec::new(alloc))
+}
+
+/// There is golden, with which the boards of the motes are formatted.
+fn play_golden<N: Nor>(
+    alloc: Global,
+    player: &mut Player,
+    name: &Bytes,
+    used: u32,
+    content: &Bytes,
+    boards: &mut Vec<N>,
+) -> Result<(), Stop>
+    requires fits { IsGolden name.now used content.now }
+    requires counted { Counted player.old.place.motes (length boards.old.items) }
+    ensures played { (p : Player) (done : List Line) (w : Option RuleWorld) (initial : List Device) (told : List ℕ) → Passed p player.old (Line.Golden name.now used content.now)
+        → p.place.ready ≡ false → Stood p done w initial (map N.device boards.old.items)
+        → PlayedAs result player.new done w (Line.Golden name.now used content.now) told told initial (map N.device boards.old.items) (map N.device boards.new.items) }
+    ensures place { player.new.place ≡ player.old.place }
+{
+    let motes = player.place.motes;
+    let world = match World::new(alloc, motes, no_links(alloc)) {
+        Ok(world) => world,
+        Err(AllocError) => return Err(Stop::Memory),
+    };
+    match format(boards, motes, name, used, content) {
+        Ok(()) => {
+            player.world = Some(world);
+            Ok(())
+        }
+        Err(FormatStopped { .. }) => Err(Stop::FlashFault),
+    }
+}
+
+/// Two motes become neighbours.
+fn play_link(world: &mut World, a: u8, b: u8) -> Result<(), Stop>
+    ensures { LinkedAs result world.old world.new (a, b) }
+{
+    match world.link(a, b) {
+        Ok(()) => Ok(()),
+        Err(AllocError) => Err(Stop::Memory),
+    }
+}
+
+/// Plays a line that was read, behind which the player's place went on. What is told of it is appended.
+pub fn play_line<N: Nor>(
+    alloc: Global,
+    line: Line,
+    player: &mut Player,
+    boards: &mut Vec<N>,
+    told: &mut Told,
+) -> Result<(), Stop>
+    requires may { MayPlay line player.old (map N.device boards.old.items) }
+    ensures played { (p : Player) (done : List Line) (w : Option RuleWorld) (initial : List Device) → Passed p player.old line → StandsAt p.place line → FitsLine p.place.motes line → Stood p done w initial (map N.device boards.old.items)
+        → PlayedAs result player.new done w line told.old.text.items told.new.text.items initial (map N.device boards.old.items) (map N.device boards.new.items) }
+    ensures place { player.new.place ≡ player.old.place }
+{
+    match line {
+        Line::Nothing => Ok(()),
+        Line::Motes(motes) => play_motes(motes, boards),
+        Line::Golden {
+            name,
+            used,
+            content,
+        } => play_golden(alloc, player, &name, used, &content, boards),
+        Line::Image {
+            image,
+            version,
+            name,
+            content,
+        } => match &mut player.world {
+            Some(world) => play_image(world, Key { image, version }, name, content, told),
+            None => unreachable!(),
+        },
+        Line::Cut(cut) => {
+            player.cut = Some(cut);
+            Ok(())
+        }
+        Line::Happens(event) => {
+            let cut = player.cut.take();
+            match &mut player.world {
+                Some(world) => play_step(world, &Step { event, cut }, true, boards, told),
+                None => unreachable!(),
+            }
+        }
+        Line::Link(a, b) => match &mut player.world {
+            Some(world) => play_link(world, a, b),
+            None => unreachable!(),
+        },
+        Line::Boards => unreachable!(),
+        Line::Round(a, b) => match &mut player.world {
+            Some(world) => play_round(world, a, b, boards, told),
+            None => unreachable!(),
+        },
+        Line::Sweeps(count) => match &mut player.world {
+            Some(world) => play_sweeps(world, player.place.links.as_slice(), count, boards, told),
+            None => unreachable!(),
+        },
+    }
+}
