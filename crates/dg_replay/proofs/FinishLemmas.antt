@@ -12,17 +12,23 @@ use Rattle.dg_rules.specs.Changes.{final_lines}
 use Rattle.dg_replay.specs.Replaying.{EndsWith, FinishesWith}
 use Rattle.dg_rules.specs.World.{World, store_at}
 use Rattle.dg_world.specs.Applied.{SameBoards, ReadFlash}
+use Rattle.dg_world.specs.Counts.{NoneRose}
+use Rattle.dg_world.proofs.CountLemmas.{NoneRose_then}
 use Rattle.dg_replay.specs.Boards.{WorldStands, StoppedIn}
 use Rattle.dg_replay.proofs.BoardLemmas.{boards_through, caused_through, there}
 
--- boards that were only read
-pub stands_read : (w : World) (initial old new : List Device) → SameBoards old new → ((m : ℕ) → length w.sites ≤ m → slice_get new m ≡ slice_get old m) → WorldStands w initial old → WorldStands w initial new
-stands_read w initial old new same others b =
+-- boards that were only read stand for the same stores
+chips_read : (w : World) (initial old new : List Device) → SameBoards old new → WorldStands w initial old → (m : ℕ) (d : Device) → m < length w.sites → slice_get new m ≡ Some d → Stands d.image (store_at w m)
+chips_read w initial old new same b m x inside is =
+    let was : slice_get old m ≡ Some (get_or old m x) = there new old m x (sym same.count) is in
+    subst (λ (image : List ℕ). Stands image (store_at w m)) (sym (same.images m (get_or old m x) x was is)) (b.stands m (get_or old m x) inside was)
+
+pub stands_read : (w : World) (initial old new : List Device) → SameBoards old new → NoneRose old new → ((m : ℕ) → length w.sites ≤ m → slice_get new m ≡ slice_get old m) → WorldStands w initial old → WorldStands w initial new
+stands_read w initial old new same calm others b =
     record {
       all = boards_through initial old new b.all same.count same.endures;
-      stands = λ m x inside is.
-          let was : slice_get old m ≡ Some (get_or old m x) = there new old m x (sym same.count) is in
-          subst (λ (image : List ℕ). Stands image (store_at w m)) (sym (same.images m (get_or old m x) x was is)) (b.stands m (get_or old m x) inside was);
+      calm = NoneRose_then initial old new b.all.count b.calm calm;
+      stands = chips_read w initial old new same b;
       came = b.came;
       others = λ m past. others m past ∙ b.others m past;
     }
@@ -32,7 +38,6 @@ pub read_stopped : (w : World) (board : ℕ) (initial old new : List Device) →
     → (motes : ℕ) → motes ≡ length w.sites → StoppedIn motes [] [] (Some w) initial new
 read_stopped w board initial old new known same others f b motes count =
     let was : slice_get initial board ≡ Some (get_or initial board f.before) = there old initial board f.before (sym b.all.count) f.was in
-    let stood = stands_read w initial old new same others b in
     record {
       stopped = record {
         board = board;
@@ -44,7 +49,15 @@ read_stopped w board initial old new known same others f b motes count =
         stopped = f.stopped;
         cause = caused_through (beneath_of (get_or initial board f.before)) (beneath_of f.before) (beneath_of f.after) (b.all.endures board _ f.before was f.was) (same.counts board f.before f.after f.was f.is) f.cause;
       };
-      there = (stood.stands board f.after known f.is, record { all = stood.all; stands = λ m d within other here. stood.stands m d within here; came = stood.came; others = stood.others });
+      there = (
+        chips_read w initial old new same b board f.after known f.is,
+        record {
+          all = boards_through initial old new b.all same.count same.endures;
+          stands = λ m d within other here. chips_read w initial old new same b m d within here;
+          came = b.came;
+          others = λ m past. others m past ∙ b.others m past;
+        },
+      );
     }
 
 pub finished_as : (result : Status) (w : World) (told lines : List Report) (initial new : List Device) (before after : Option (List ℕ)) (failed : Type 0) → told ≡ lines → lines ≡ final_lines w → EndsWith result status.Done (report_text told) before after failed

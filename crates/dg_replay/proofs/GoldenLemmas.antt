@@ -8,6 +8,7 @@ use Rattle.dg_volume.specs.Store.{golden_row, fresh}
 use Rattle.dg_base.specs.declared.events.Event.{Event}
 use Rattle.dg_base.specs.declared.events.Event.TheVariants.{Tick, Hear, Last, Reset, Inject, Order, Frame}
 use Rattle.dg_base.specs.declared.events.Cut.{Cut as CutOfPower}
+use Rattle.dg_base.specs.declared.events.Step.{Step}
 use Rattle.dg_script.specs.Fitting.{StandsAt, FitsLine, FitsEvent, FitsCut, AreTwo, IsPlayed, IsPlayedEvent, IsGolden, declared_row}
 use Rattle.dg_script.specs.Fitting as script
 use Rattle.dg_script.specs.Lines.{line_of}
@@ -26,10 +27,11 @@ use Rattle.dg_rules.specs.Premises.{IsDeclared, ItemInRange, IsInRange, LinkFits
 use Rattle.dg_rules.specs.Runs.{Played, Plays}
 use Rattle.dg_rules.specs.Events.{Goes, does}
 use Rattle.dg_rules.specs.Golden.{PlaysGolden, FindsImage}
+use Rattle.dg_rules.specs.Promises.{StopsAgree}
 use Rattle.dg_script.specs.Items.{Item, Happens as Happened, quietly, item_by, cut_by, cut_behind, place_behind, items_behind, items_of}
 use Rattle.dg_replay.specs.Items.{BringsNone, IsNoFrame, Beginning, begin_by, begin_behind, beginning_of, with_link, lacking, no_beginning, next_items}
 use Rattle.dg_completion.specs.Completion.{IsEnough}
-use Rattle.dg_completion.specs.Ends.{EndsInRest, KeepsNewest, EndsLaw}
+use Rattle.dg_completion.specs.Ends.{EndsInRest, PagesCome, KeepsNewest, EndsLaw, EndsPipelineLaw}
 use Rattle.dg_completion.proofs.GrowLemmas.{all_append, all_replicate, all_times, all_map}
 use Rattle.dg_replay.specs.Ending.{script_of}
 use Rattle.dg_replay.specs.Outcome.{Progress, RunsTo, item_played}
@@ -405,6 +407,33 @@ ended_complete law input c w v n k honest is ends enough most =
     let P : List Played → Option World → Type 0 = λ ps last. AllByRecursion IsHonestThen ps → last ≡ Some v → EndsInRest ps w n v → KeepsNewest v in
     holds_of_worlds P (λ h e. absurd (let f : None ≡ Some v = e in cc)) (λ name bytes used motes links played u plays h e rests.
     law name bytes used motes links played w v n k (subst (PlaysGolden name bytes used motes links played) (some_is u v e) plays) h rests enough most) input c honest is ends
+
+-- where it ends with a rest of any number of sweeps
+pub ended_pipelined : EndsPipelineLaw → (input : List ℕ) (c : Progress (script_of input)) (w v : World) (t : ℕ) → AllByRecursion IsHonestThen c.played → c.last ≡ Some v → EndsInRest c.played w t v → PagesCome w t v
+ended_pipelined law input c w v t honest is ends =
+    let P : List Played → Option World → Type 0 = λ ps last. AllByRecursion IsHonestThen ps → last ≡ Some v → EndsInRest ps w t v → PagesCome w t v in
+    holds_of_worlds P (λ h e. absurd (let f : None ≡ Some v = e in cc)) (λ name bytes used motes links played u plays h e rests.
+    law name bytes used motes links played w v t (subst (PlaysGolden name bytes used motes links played) (some_is u v e) plays) h rests) input c honest is ends
+
+-- ---- the next event, wherever it is stopped
+
+abbrev pub HalvesLaw : Type 0
+HalvesLaw = (name bytes : List ℕ) (used motes : ℕ) (links : List (ℕ × ℕ)) (played : List Played) (v : World) (e : Event) → PlaysGolden name bytes used motes links played v
+    → AllByRecursion IsHonestThen played → EventFits motes e → HonestEvent v.table e → StopsAgree v e
+
+golden_halves : HalvesLaw → (motes : ℕ) (left : List Item) (played : List Played) (w : World) (step : Step) (loud : Bool) (more : List Item) → GoldenRun motes left played w → AllByRecursion IsHonestThen played → left ≡ Happened step loud ∷ more
+    → HonestEvent w.table step.event → StopsAgree w step.event
+golden_halves law motes left played w step loud more g honest is here =
+    let fits : AllByRecursion (ItemInRange motes) (Happened step loud ∷ more) = subst (AllByRecursion (ItemInRange motes)) is g.left_fits in
+    law g.name g.bytes g.used motes g.links played w step.event g.plays honest fits.0.event here
+
+pub halves_agree : HalvesLaw → (input : List ℕ) (c : Progress (script_of input)) (w : World) (step : Step) (loud : Bool) (more : List Item) → AllByRecursion IsHonestThen c.played → c.last ≡ Some w → c.left ≡ Happened step loud ∷ more
+    → HonestEvent w.table step.event → StopsAgree w step.event
+halves_agree law input c w step loud more honest is next here =
+    let fit = subst (LinesFit first_place) (sym c.lines) (script_of_fits input) in
+    let run = subst (λ (o : Option World). RunsTo (beginning_of c.done).world c.played o) is c.run in
+    let g = golden_run c.done c.rest c.begun c.left c.played w (front_fits first_place c.done c.rest fit) (rest_fits first_place c.done c.rest fit) c.parts c.items run in
+    golden_halves law (beginning_of c.done).motes c.left c.played w step loud more g honest next here
 
 -- ---- lines that bring no frame from outside
 

@@ -17,6 +17,7 @@ use Rattle.dg_script.specs.declared.line.Line.TheVariants.{Nothing, Motes, Golde
 use Rattle.dg_rules.specs.Sizes.{most_motes}
 use Rattle.dg_rules.specs.World.{World, first_world, off_site, no_site}
 use Rattle.dg_world.specs.Worlds.{IsWorld}
+use Rattle.dg_world.specs.Counts.{NoneRose}
 use Rattle.dg_world.specs.Formatted.{FirstBoards, FormatStops}
 use Rattle.dg_world.specs.declared.world.World.{World as KeptWorld}
 use Rattle.dg_world.specs.declared.format.FormatStopped.{FormatStopped}
@@ -120,12 +121,12 @@ endured motes initial old new first others =
 pub golden_played : (p q : Player) (done : List Line) (w : Option World) (name : List ℕ) (used : ℕ) (content : List ℕ) (motes : ℕ) (v : KeptWorld) (told : List ℕ) (initial old new : List Device)
     → p.place.ready ≡ false → motes ≡ p.place.motes → Counted motes (length old) → q.place ≡ place_after p.place (Golden name used content) → q.cut ≡ p.cut → q.world ≡ Some v
     → ((m : ℕ) (d : Device) → m < motes → slice_get new m ≡ Some d → Stands d.image (fresh name content used))
-    → ((m : ℕ) (d : Device) → m < motes → slice_get old m ≡ Some d → d.stopped ≡ false) → FirstBoards motes old new
+    → ((m : ℕ) (d : Device) → m < motes → slice_get old m ≡ Some d → d.stopped ≡ false) → NoneRose old new → FirstBoards motes old new
     → ((boards : List Device) (stores : List Store) (table : List Row) → length stores ≡ motes → motes ≤ length boards
     → ((m : ℕ) (d : Device) → m < motes → slice_get boards m ≡ Some d → Stands d.image (slice_index_or stores m no_site.store)) → IsWorld v boards (first_world table [] stores))
     → Stood p done w initial old → PlayedLine q done w (Golden name used content) told told initial new
-golden_played p q done (Some w) name used content motes v told initial old new unready count counted place cut world formatted awake others begins s = false_not p.place.ready s.world.4 unready
-golden_played p q done None name used content motes v told initial old new unready count counted place cut world formatted awake others begins s =
+golden_played p q done (Some w) name used content motes v told initial old new unready count counted place cut world formatted awake calm others begins s = false_not p.place.ready s.world.4 unready
+golden_played p q done None name used content motes v told initial old new unready count counted place cut world formatted awake calm others begins s =
     let first : old ≡ initial = s.boards in
     let chip : Store = fresh name content used in
     let stores : List Store = replicate motes chip in
@@ -148,6 +149,7 @@ golden_played p q done None name used content motes v told initial old new unrea
           (v, world, is_world, many ∙ sym same, ap (λ (x : Place). x.ready) place, subst (λ (n : ℕ). 0 < n) (sym same) counted.0)
           (record {
             all = endured motes initial old new first others;
+            calm = subst (λ (ds : List Device). NoneRose ds new) first calm;
             stands = λ m d within is. (is_world.sites m d within is).stands;
             came = λ m d within is. awake m d (omega (arith, many, within)) (ap (λ (ds : List Device). slice_get ds m) first ∙ is);
             others = λ m past. others.others m (omega (arith, many, past)) ∙ ap (λ (ds : List Device). slice_get ds m) first;
@@ -203,7 +205,7 @@ link_played (Ok u) p q done (Some w) a b v v2 told initial now stands fits later
           (cut ∙ s.cut)
           (subst (λ (o : Option CutOfPower). IfSome o FitsCut) (sym cut) s.cut_fits)
           (v2, world, linked.linked now w kept, k.3 ∙ sym motes, ap (λ (x : Place). x.ready) place ∙ k.4, subst (λ (n : ℕ). 0 < n) (sym motes) k.5)
-          (record { all = b2.all; stands = b2.stands; came = b2.came; others = b2.others });
+          (record { all = b2.all; calm = b2.calm; stands = b2.stands; came = b2.came; others = b2.others });
       boards_enough = refl;
     }
 link_played (Err stop) p q done (Some w) a b v v2 told initial now stands fits later early has place cut world linked s =

@@ -1,5 +1,5 @@
 -- What playing one item, and one after the other, answers.
-use Rattle.std.proofs.Common.{◌≡◌, ℕ, zero, suc, ◌+◌, ◌-◌, ◌<◌, ◌≤◌, Bool, false, if◌then◌else◌, List, [], ◌∷◌, ◌++◌, length, replicate, get_or, refl, append-nil, append_assoc, ap, sym, ◌∙◌, subst, arith}
+use Rattle.std.proofs.Common.{◌≡◌, ℕ, zero, suc, ◌+◌, ◌-◌, ◌<◌, ◌≤◌, ◌≢◌, ◌⊎◌, ⊎_elim, Bool, false, if◌then◌else◌, List, [], ◌∷◌, ◌++◌, length, replicate, get_or, refl, append-nil, append_assoc, ap, sym, ◌∙◌, subst, arith}
 use Rattle.std.proofs.lemmas.List.{map-append}
 use Rattle.std.specs.List.{filter, AllByRecursion}
 use Rattle.std.specs.Prelude.{Option, Some, None, Result, Ok, Err, OnOk, OnErr, slice_get}
@@ -23,6 +23,10 @@ use Rattle.dg_rules.specs.World.{World}
 use Rattle.dg_rules.specs.Events.{mote_of}
 use Rattle.dg_rules.specs.Sizes.{most_events}
 use Rattle.dg_world.specs.Worlds.{IsWorld}
+use Rattle.dg_world.specs.Counts.{NoneRose}
+use Rattle.dg_world.specs.declared.world.WorldFault.{WorldFault}
+use Rattle.dg_world.specs.declared.world.WorldFault.TheVariants.{Flash, TooMany as TooManyFault, Memory as MemoryFault}
+use Rattle.dg_world.proofs.CountLemmas.{NoneRose_then}
 use Rattle.dg_world.specs.Applied.{Applied, OneBoard, FlashAt, Ended}
 use Rattle.dg_world.specs.declared.world.World.{World as KeptWorld}
 use Rattle.dg_completion.proofs.GrowLemmas.{all_append, all_replicate, all_times}
@@ -36,13 +40,27 @@ use Rattle.dg_replay.proofs.BoardLemmas.{boards_through, caused_through, there}
 
 -- ---- the boards behind an event
 
+-- an event at which a board stopped was not one too many
+pub not_full : (r : Result (Unit {0}) WorldFault) (board n : ℕ) → r ≡ Err (Flash board) → n ≤ most_events → (n ≡ most_events → (r ≡ Err TooManyFault) ⊎ (r ≡ Err MemoryFault)) → n < most_events
+not_full r board n is few full = less n most_events few (λ e. ⊎_elim (λ x. differs (sym is ∙ x)) (λ x. lacks (sym is ∙ x)) (full e))
+  where
+    less : (k m : ℕ) → k ≤ m → k ≢ m → k < m
+    less k m h other = omega arith
+
+    differs : ◌≡◌ {A = Result (Unit {0}) WorldFault} (Err (Flash board)) (Err TooManyFault) → ⊥
+    differs e = cc
+
+    lacks : ◌≡◌ {A = Result (Unit {0}) WorldFault} (Err (Flash board)) (Err MemoryFault) → ⊥
+    lacks e = cc
+
 other_than : (m n k : ℕ) → n < k → k ≤ m → m ≡ n → ⊥
 other_than m n k low high e = omega arith
 
-stands_next : (u z : World) (v2 : KeptWorld) (mote : ℕ) (initial old new : List Device) → mote < length u.sites → length z.sites ≡ length u.sites → IsWorld v2 new z → OneBoard mote old new → WorldStands u initial old → WorldStands z initial new
-stands_next u z v2 mote initial old new within count kept one b =
+stands_next : (u z : World) (v2 : KeptWorld) (mote : ℕ) (initial old new : List Device) → mote < length u.sites → length z.sites ≡ length u.sites → IsWorld v2 new z → OneBoard mote old new → NoneRose old new → WorldStands u initial old → WorldStands z initial new
+stands_next u z v2 mote initial old new within count kept one calm b =
     record {
       all = boards_through initial old new b.all one.count one.endures;
+      calm = NoneRose_then initial old new b.all.count b.calm calm;
       stands = λ m x inside is. (kept.sites m x inside is).stands;
       came = λ m x inside is. b.came m x (omega (arith, inside, count)) is;
       others = λ m past.
@@ -50,8 +68,8 @@ stands_next u z v2 mote initial old new within count kept one b =
           one.others m (other_than m mote (length u.sites) within far) ∙ b.others m far;
     }
 
-flash_next : (u : World) (x : Step) (loud : Bool) (more : List Item) (board : ℕ) (initial old new : List Device) → mote_of x.event < length u.sites → FlashAt u x board old new → WorldStands u initial old → StopsInItem u (Happened x loud ∷ more) initial new
-flash_next u x loud more board initial old new within f b =
+flash_next : (u : World) (x : Step) (loud : Bool) (more : List Item) (board : ℕ) (initial old new : List Device) → u.events < most_events → mote_of x.event < length u.sites → FlashAt u x board old new → WorldStands u initial old → StopsInItem u (Happened x loud ∷ more) initial new
+flash_next u x loud more board initial old new few within f b =
     let was : slice_get initial board ≡ Some (get_or initial board f.before) = there old initial board f.before (sym b.all.count) f.was in
     record {
       stopped = record {
@@ -65,6 +83,7 @@ flash_next u x loud more board initial old new within f b =
         cause = caused_through (beneath_of (get_or initial board f.before)) (beneath_of f.before) (beneath_of f.after) (b.all.endures board _ f.before was f.was) (f.boards.counts board f.before f.after f.was f.is) f.cause;
       };
       there = record {
+        few = few;
         at = f.at;
         there = record { made = f.done; within = f.within; uncut = f.uncut; leaves = f.leaves };
         others = record {
@@ -121,7 +140,7 @@ applied_runs w x loud v2 old new before reports none a =
 
 applied_stands : (w : World) (x : Step) (loud : Bool) (v v2 : KeptWorld) (initial old new : List Device) (before reports : List Report) → MayStep v old x → IsWorld v old w → WorldStands w initial old → (a : Applied w x loud v2 old new before reports) → WorldStands a.world initial new
 applied_stands w x loud v v2 initial old new before reports may is stands a =
-    stands_next w a.world v2 (mote_of x.event) initial old new (step_within v old w x is may) (step_counts w a.world x a.reports a.step).sites a.stood a.boards stands
+    stands_next w a.world v2 (mote_of x.event) initial old new (step_within v old w x is may) (step_counts w a.world x a.reports a.step).sites a.stood a.boards a.calm stands
 
 -- an event was applied, and told
 applied_played : (w : World) (x : Step) (loud : Bool) (v v2 : KeptWorld) (initial old new : List Device) (before reports : List Report) (told_before told : List ℕ) → before ≡ [] → MayStep v old x → Applied w x loud v2 old new before reports
@@ -155,11 +174,11 @@ not_applied w x loud v initial old new told_before told is full same untold stan
     (record { full = full; next = record { step = x; loud = loud; more = []; is = refl } }, subst (λ (ds : List Device). WorldStands w initial ds) (sym same) stands, untold ∙ sym (append-nil told_before))
 
 -- a board stopped in it
-pub stopped_in : (w : World) (x : Step) (loud : Bool) (v : KeptWorld) (board : ℕ) (initial old new : List Device) (told_before told : List ℕ) → MayStep v old x → IsWorld v old w → FlashAt w x board old new → told ≡ told_before → WorldStands w initial old
+pub stopped_in : (w : World) (x : Step) (loud : Bool) (v : KeptWorld) (board : ℕ) (initial old new : List Device) (told_before told : List ℕ) → MayStep v old x → IsWorld v old w → w.events < most_events → FlashAt w x board old new → told ≡ told_before → WorldStands w initial old
     → ItemsBegun w (Happened x loud ∷ []) (λ u left text. StopsInItem u left initial new × (told ≡ told_before ++ text))
-stopped_in w x loud v board initial old new told_before told may is f untold stands =
+stopped_in w x loud v board initial old new told_before told may is few f untold stands =
     begun_none w (Happened x loud ∷ []) (λ u left text. StopsInItem u left initial new × (told ≡ told_before ++ text)) is.few_events
-    (flash_next w x loud [] board initial old new (step_within v old w x is may) f stands, untold ∙ sym (append-nil told_before))
+    (flash_next w x loud [] board initial old new few (step_within v old w x is may) f stands, untold ∙ sym (append-nil told_before))
 
 -- it found no image to start
 pub ended_in : (w : World) (x : Step) (loud : Bool) (v : KeptWorld) (old new : List Device) → IsWorld v old w → Ended w x old new → ItemsBegun w (Happened x loud ∷ []) (λ u left text. LacksImage u left)
@@ -190,6 +209,7 @@ declared_stands w z row reports v2 initial now step kept b =
     let same = (declared_same w z row reports step).sites in
     record {
       all = b.all;
+      calm = b.calm;
       stands = λ m x within is. (kept.sites m x within is).stands;
       came = λ m x within is. b.came m x (omega (arith, within, same)) is;
       others = λ m past. b.others m (omega (arith, past, same));

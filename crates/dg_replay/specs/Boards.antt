@@ -10,9 +10,10 @@ use Rattle.dg_base.specs.declared.events.Cut.{Cut as CutOfPower}
 use Rattle.dg_base.specs.declared.events.Step.{Step}
 use Rattle.dg_script.specs.declared.line.Line.{Line}
 use Rattle.dg_script.specs.declared.line.Line.TheVariants.{Golden}
+use Rattle.dg_rules.specs.Sizes.{most_events}
 use Rattle.dg_rules.specs.World.{World, store_at}
-use Rattle.dg_rules.specs.Events.{does, mote_of}
-use Rattle.dg_world.specs.Turns.{trail_of}
+use Rattle.dg_rules.specs.Events.{does, mote_of, trail_of}
+use Rattle.dg_world.specs.Counts.{NoneRose}
 use Rattle.dg_script.specs.Items.{Item, Happens}
 
 -- No count of a board fell, and a board is stopped only where it was, or where its count rose.
@@ -20,9 +21,10 @@ pub record BoardsEndure (old new : List Device) : Type 0 where
   pub count : length new ≡ length old
   pub endures : (m : ℕ) (a b : Device) → slice_get old m ≡ Some a → slice_get new m ≡ Some b → Endures (beneath_of a) (beneath_of b)
 
--- The boards of a world's motes stand for its stores, and did not come stopped. All others are as before.
+-- The boards of a world's motes stand for its stores, and did not come stopped. All others are as before, and no board's count rose: where one fails, that is told.
 pub record WorldStands (w : World) (old new : List Device) : Type 0 where
   pub all : BoardsEndure old new
+  pub calm : NoneRose old new
   pub stands : (m : ℕ) (d : Device) → m < length w.sites → slice_get new m ≡ Some d → Stands d.image (store_at w m)
   pub came : (m : ℕ) (d : Device) → m < length w.sites → slice_get old m ≡ Some d → d.stopped ≡ false
   pub others : (m : ℕ) → length w.sites ≤ m → slice_get new m ≡ slice_get old m
@@ -66,8 +68,9 @@ pub record StopsOn (trail : Trail Store) (cut : Option CutOfPower) (image : List
   pub uncut : IfSome cut (λ c. made ≤ c.after - 1)
   pub leaves : MayLeave Stands IsNear trail made image
 
--- In an event it is the board of the event's mote.
+-- In an event it is the board of the event's mote. There were no million events before it.
 pub record EventStops (w : World) (step : Step) (board : ℕ) (image : List ℕ) (old new : List Device) : Type 0 where
+  pub few : w.events < most_events
   pub at : board ≡ mote_of step.event
   pub there : StopsOn (trail_of (does w step.event) (store_at w (mote_of step.event))) step.cut image
   pub others : OthersStand w board old new

@@ -14,6 +14,7 @@ use Rattle.dg_rules.specs.Steps.{EndsRun}
 use Rattle.dg_rules.specs.Runs.{Played, Plays}
 use Rattle.dg_volume.specs.Store.{Store}
 use Rattle.dg_volume.specs.Stands.{Stands}
+use Rattle.dg_world.specs.Counts.{NoneRose}
 use Rattle.dg_world.specs.Formatted.{FirstBoards, FormatStops}
 use Rattle.dg_world.specs.declared.format.FormatStopped.{FormatStopped}
 use Rattle.dg_world.specs.Worlds.{IsWorld}
@@ -211,6 +212,7 @@ PlayedAs (Err WriteFault) q done w line told_before told initial old new = ⊥
 -- what formatting the boards of so many motes answers
 pub record FormattedAs (result : Result (Unit {0}) FormatStopped) (motes : ℕ) (chip : Store) (old new : List Device) : Type 0 where
   pub formatted : OnOk result ((m : ℕ) (d : Device) → m < motes → slice_get new m ≡ Some d → Stands d.image chip)
+  pub calm : OnOk result (NoneRose old new)
   pub awake : OnOk result ((m : ℕ) (d : Device) → m < motes → slice_get old m ≡ Some d → d.stopped ≡ false)
   pub others : FirstBoards motes old new
   pub stopped : (e : FormatStopped) → result ≡ Err e → FormatStops e.board motes chip old new

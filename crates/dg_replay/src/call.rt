@@ -1,14 +1,16 @@
 //! The call that replays a script.
-ghost use Rattle.std.specs.Prelude.{◌≡◌, ◌≢◌, ◌⊎◌, ◌≤◌, ℕ, List, [], Some, IfSome, map, length};
+ghost use Rattle.std.specs.Prelude.{◌≡◌, ◌≢◌, ◌⊎◌, ◌≤◌, ℕ, Bool, List, [], ◌∷◌, Some, IfSome, map, length};
 ghost use Rattle.std.specs.List.{AllByRecursion};
 ghost use Rattle.dg_words.specs.Counts.{Rose};
 ghost use Rattle.dg_rules.specs.World.{World};
 ghost use Rattle.dg_rules.specs.Runs.{EachAfter};
-ghost use Rattle.dg_rules.specs.Promises.{IsLegal, KeepsAll, StartsRow};
+ghost use Rattle.dg_rules.specs.Promises.{IsLegal, KeepsAll, StartsRow, StopsAgree};
 ghost use Rattle.dg_mote.specs.Sizes.{buffered_bytes, most_buffered};
-ghost use Rattle.dg_rules.specs.Premises.{IsHonestThen, LeavesAgreement, WorldAgrees};
+ghost use Rattle.dg_rules.specs.Premises.{IsHonestThen, HonestEvent, LeavesAgreement, WorldAgrees};
 ghost use Rattle.dg_completion.specs.Completion.{IsEnough};
-ghost use Rattle.dg_completion.specs.Ends.{EndsInRest, KeepsNewest};
+ghost use Rattle.dg_completion.specs.Ends.{EndsInRest, PagesCome, KeepsNewest};
+ghost use Rattle.dg_base.specs.declared.events.Step.{Step};
+ghost use Rattle.dg_script.specs.Items.{Item, Happens};
 ghost use Rattle.dg_replay.specs.Ending.{InLimits, script_of};
 ghost use Rattle.dg_replay.specs.Items.{motes_in, IsNoFrame};
 ghost use Rattle.dg_replay.specs.Outcome.{Replayed};
@@ -44,7 +46,7 @@ fn read_and_replay<S: Source, K: Sink, N: Nor>(
 /// Replays the script that `input` spells over the boards, and writes the report to `out`. A status other than
 /// [`Status::Done`] writes its line last, where it has one.
 ///
-/// No board is used before the `golden` line, and behind it those of the script's motes are. No more than a million events
+/// From the `golden` line on the boards of the script's motes are used, and no others. No more than a million events
 /// are played, and no more than 16,777,216 bytes of the input are used.
 pub fn replay<S: Source, K: Sink, N: Nor>(
     alloc: Global,
@@ -60,7 +62,8 @@ pub fn replay<S: Source, K: Sink, N: Nor>(
     ensures legal { (x : Replayed result (S.left input.old) (S.left input.new) (K.written out.old) (K.written out.new)
         (S.faults input.old) (S.faults input.new) (K.faults out.old) (K.faults out.new) (map N.device boards.old.items) (map N.device boards.new.items))
         → AllByRecursion IsHonestThen x.came.played → EachAfter IsLegal [] x.came.played }
-    // There no version falls, but as a cut in a replacement allows.
+    // There no version falls and no complete page is lost, but to a newer version of its image, which a cut may have left half
+    // done.
     ensures keeps { (x : Replayed result (S.left input.old) (S.left input.new) (K.written out.old) (K.written out.new)
         (S.faults input.old) (S.faults input.new) (K.faults out.old) (K.faults out.new) (map N.device boards.old.items) (map N.device boards.new.items))
         → AllByRecursion IsHonestThen x.came.played → AllByRecursion KeepsAll x.came.played }
@@ -73,12 +76,22 @@ pub fn replay<S: Source, K: Sink, N: Nor>(
     ensures agrees { (x : Replayed result (S.left input.old) (S.left input.new) (K.written out.old) (K.written out.new)
         (S.faults input.old) (S.faults input.new) (K.faults out.old) (K.faults out.new) (map N.device boards.old.items) (map N.device boards.new.items))
         → AllByRecursion IsHonestThen x.came.played → AllByRecursion LeavesAgreement x.came.played × IfSome x.came.last WorldAgrees }
+    // So does the store of each half-done chip, wherever a stop comes in the next event.
+    ensures halves { (x : Replayed result (S.left input.old) (S.left input.new) (K.written out.old) (K.written out.new)
+        (S.faults input.old) (S.faults input.new) (K.faults out.old) (K.faults out.new) (map N.device boards.old.items) (map N.device boards.new.items))
+        → (w : World) (step : Step) (loud : Bool) (more : List Item) → AllByRecursion IsHonestThen x.came.played → x.came.last ≡ Some w → x.came.left ≡ Happens step loud ∷ more
+        → HonestEvent w.table step.event → StopsAgree w step.event }
     // Lines that bring no frame from outside meet that.
     ensures honest { (x : Replayed result (S.left input.old) (S.left input.new) (K.written out.old) (K.written out.new)
         (S.faults input.old) (S.faults input.new) (K.faults out.old) (K.faults out.new) (map N.device boards.old.items) (map N.device boards.new.items))
         → AllByRecursion IsNoFrame x.came.done → AllByRecursion IsHonestThen x.came.played }
-    // There every mote keeps the newest version of every image whole, where the run ends with an undisturbed rest of enough
-    // sweeps.
+    // There pages go along the links as in a pipeline: where the run ends with an undisturbed rest of t sweeps, in which every
+    // mote is on and has room for three commits at its end, a mote within j links of a whole image has t + 1 - j pages of it,
+    // or all, if every smaller image was whole everywhere.
+    ensures pipeline { (x : Replayed result (S.left input.old) (S.left input.new) (K.written out.old) (K.written out.new)
+        (S.faults input.old) (S.faults input.new) (K.faults out.old) (K.faults out.new) (map N.device boards.old.items) (map N.device boards.new.items))
+        → (w v : World) (t : ℕ) → AllByRecursion IsHonestThen x.came.played → x.came.last ≡ Some v → EndsInRest x.came.played w t v → PagesCome w t v }
+    // There every mote keeps the newest version of every image whole, where the run ends with such a rest of enough sweeps.
     ensures completes { (x : Replayed result (S.left input.old) (S.left input.new) (K.written out.old) (K.written out.new)
         (S.faults input.old) (S.faults input.new) (K.faults out.old) (K.faults out.new) (map N.device boards.old.items) (map N.device boards.new.items))
         → (w v : World) (n k : ℕ) → AllByRecursion IsHonestThen x.came.played → x.came.last ≡ Some v → EndsInRest x.came.played w n v → IsEnough w k → k ≤ n → KeepsNewest v }

@@ -9,7 +9,7 @@ pub enum Stop {
     BadInput { line: u32, fault: LineFault },
     WriteFault,
     FlashFault,
-    /// A million events were played, and the line is one more.
+    /// A million events were played, and there is one more.
     TooMany,
     /// There are fewer boards than motes.
     NoBoard { motes: u8, boards: u32 },

@@ -50,3 +50,15 @@ returns-then-is_replay-clause-completes g c = λ x. c.replays_keep_the_rules.ens
 
 pub returns-clause-completes : goal.returns-clause-completes
 returns-clause-completes g c = λ x. c.replays_keep_the_rules.ensures.completes x.input x.came
+
+pub returns-then-is_replay-clause-halves : goal.returns-then-is_replay-clause-halves
+returns-then-is_replay-clause-halves g c = λ x. c.replays_keep_the_rules.ensures.halves x.input x.came
+
+pub returns-clause-halves : goal.returns-clause-halves
+returns-clause-halves g c = λ x. c.replays_keep_the_rules.ensures.halves x.input x.came
+
+pub returns-then-is_replay-clause-pipeline : goal.returns-then-is_replay-clause-pipeline
+returns-then-is_replay-clause-pipeline g c = λ x. c.replays_keep_the_rules.ensures.pipeline x.input x.came
+
+pub returns-clause-pipeline : goal.returns-clause-pipeline
+returns-clause-pipeline g c = λ x. c.replays_keep_the_rules.ensures.pipeline x.input x.came

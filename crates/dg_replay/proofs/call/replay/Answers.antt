@@ -15,6 +15,12 @@ returns-clause-starts g c = λ x. c.replays_keep_the_rules.ensures.starts x.inpu
 pub returns-clause-agrees : goal.returns-clause-agrees
 returns-clause-agrees g c = λ x. c.replays_keep_the_rules.ensures.agrees x.input x.came
 
+pub returns-clause-halves : goal.returns-clause-halves
+returns-clause-halves g c = λ x. c.replays_keep_the_rules.ensures.halves x.input x.came
+
+pub returns-clause-pipeline : goal.returns-clause-pipeline
+returns-clause-pipeline g c = λ x. c.replays_keep_the_rules.ensures.pipeline x.input x.came
+
 pub returns-clause-honest : goal.returns-clause-honest
 returns-clause-honest g c = λ x. c.replays_keep_the_rules.ensures.honest x.input x.came
 

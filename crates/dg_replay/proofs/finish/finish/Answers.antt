@@ -8,11 +8,11 @@ pub returns-in-Ok-clause-finishes : goal.returns-in-Ok-clause-finishes
 returns-in-Ok-clause-finishes g c = λ w initial is stands.
     finished_as c.end_with_lines.result w c.deref.result.now _ initial _ _ _ _ c.deref.ensures.value
     (c.in-Ok.ensures.finished w is ∙ ap (λ (xs : List Report). xs ++ final_lines w) c.new-reports.ensures.items) c.end_with_lines.ensures.ends
-    (stands_read w initial _ _ c.finish.ensures.boards (c.finish.ensures.others w is) stands)
+    (stands_read w initial _ _ c.finish.ensures.boards c.in-Ok.ensures.calm (c.finish.ensures.others w is) stands)
 
 pub returns-in-Err-Memory-clause-finishes : goal.returns-in-Err-Memory-clause-finishes
 returns-in-Err-Memory-clause-finishes g c = λ w initial is stands.
-    inl (inr (inr (refl, refl)), stands_read w initial _ _ c.finish.ensures.boards (c.finish.ensures.others w is) stands)
+    inl (inr (inr (refl, refl)), stands_read w initial _ _ c.finish.ensures.boards (c.in-Err-Memory.ensures.calm_memory (ap Err c.in-Err-Memory.field-0-is)) (c.finish.ensures.others w is) stands)
 
 pub returns-in-Err-Flash-clause-finishes : goal.returns-in-Err-Flash-clause-finishes
 returns-in-Err-Flash-clause-finishes g c = λ w initial is stands.

@@ -5,7 +5,7 @@ use Rattle.dg_rules.specs.World.{World}
 use Rattle.dg_rules.specs.Runs.{Played, EachAfter}
 use Rattle.dg_rules.specs.Promises.{IsLegal, KeepsAll, StartsRow}
 use Rattle.dg_rules.specs.Premises.{IsHonestThen, LeavesAgreement, WorldAgrees}
-use Rattle.dg_replay.proofs.GoldenLemmas.{holds_of_runs, holds_of_worlds, progress_honest, ended_complete}
+use Rattle.dg_replay.proofs.GoldenLemmas.{holds_of_runs, holds_of_worlds, progress_honest, ended_complete, ended_pipelined, halves_agree}
 use Rattle.dg_replay.specs.Ending.{script_of}
 use Rattle.dg_replay.proofs.laws.replays_keep_the_rules.Goals as goal
 
@@ -23,9 +23,15 @@ pub returns-clause-agrees : goal.returns-clause-agrees
 returns-clause-agrees c =
     holds_of_worlds (λ (ps : List Played) (last : Option World). AllByRecursion IsHonestThen ps → AllByRecursion LeavesAgreement ps × IfSome last WorldAgrees) (λ honest. (tt, tt)) c.scripts_with_golden.ensures.agrees
 
+pub returns-clause-halves : goal.returns-clause-halves
+returns-clause-halves c = λ input came w step loud more honest is next here. halves_agree c.scripts_with_golden.ensures.halves input came w step loud more honest is next here
+
+pub returns-clause-pipeline : goal.returns-clause-pipeline
+returns-clause-pipeline c = λ input came w v t honest is ends. ended_pipelined c.scripts_end_complete.ensures.pipeline input came w v t honest is ends
+
 pub returns-clause-honest : goal.returns-clause-honest
 returns-clause-honest c = λ input came. progress_honest (script_of input) came
 
 pub returns-clause-completes : goal.returns-clause-completes
 returns-clause-completes c = λ input came w v n k honest is ends enough most.
-    ended_complete c.scripts_end_complete.ensures input came w v n k honest is ends enough most
+    ended_complete c.scripts_end_complete.ensures.completes input came w v n k honest is ends enough most
