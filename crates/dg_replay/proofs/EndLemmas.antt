@@ -25,7 +25,7 @@ use Rattle.dg_script.specs.Report.{report_text}
 use Rattle.dg_rules.specs.World.{World}
 use Rattle.dg_replay.specs.Boards.{WorldStands, BoardsStand, BoardStopped, StoppedIn}
 use Rattle.dg_replay.specs.Ending.{Ending, Ends, NoBoards, TooManyEvents, FaultAt, Over, events_in, InBounds, by_fault, by_events, by_boards, ending_from, ending_line, status_of, up_to, whole_lines, used, is_over, script_of, ending_of, InLimits}
-use Rattle.dg_replay.specs.Outcome.{Progress, item_played, played_text, EventNext, AtTooMany, CameTo, closing, IsWholeReport, StopsAt, Wrote, Boards, IsCaused, RunsTo}
+use Rattle.dg_replay.specs.Outcome.{Progress, item_played, played_text, EventNext, AtTooMany, ReachesEnding, closing, IsWholeReport, StopsAt, Wrote, BoardsLeft, IsCaused, RunsTo}
 use Rattle.dg_replay.specs.Replaying.{StopEnds, Reached, PlayedFront, HasFew, LinesAnswer, ReadyToEnd, EndsWith, FinishesWith, ScriptReplayed}
 use Rattle.dg_base.specs.declared.events.Step.{Step}
 use Rattle.dg_replay.specs.declared.player.Player.{Player}
@@ -42,7 +42,7 @@ wrote_whole TooManyEvents c text whole = whole
 wrote_whole (FaultAt line f) c text whole = whole
 wrote_whole Over c text whole = whole
 
-boards_of : {script : Script} (e : Ending) (c : Progress script) (initial now : List Device) → BoardsStand c.last initial now → Boards (status_of e) c initial now
+boards_of : {script : Script} (e : Ending) (c : Progress script) (initial now : List Device) → BoardsStand c.last initial now → BoardsLeft (status_of e) c initial now
 boards_of Ends c initial now stand = stand
 boards_of (NoBoards m b) c initial now stand = stand
 boards_of TooManyEvents c initial now stand = stand
@@ -107,7 +107,7 @@ front_only : (script : Script) (e : Ending) (initial now : List Device) (before 
 front_only script e initial now before after worse f =
     record { came = f.came; text = f.text; written = f.told; report = record { more = f.more; front = f.whole }; limits = f.limits; boards = f.there; caused = tt }
 
-front_cut : (script : Script) (e : Ending) (initial now : List Device) (before after : Option (List ℕ)) (worse : Type 0) → worse → PlayedFront script initial before after (λ c. Boards status.WriteFault c initial now) → ScriptReplayed status.WriteFault script e initial now before after worse
+front_cut : (script : Script) (e : Ending) (initial now : List Device) (before after : Option (List ℕ)) (worse : Type 0) → worse → PlayedFront script initial before after (λ c. BoardsLeft status.WriteFault c initial now) → ScriptReplayed status.WriteFault script e initial now before after worse
 front_cut script e initial now before after worse rose f =
     record { came = f.came; text = f.text; written = f.told; report = record { more = f.more; front = inl f.whole }; limits = f.limits; boards = f.there; caused = rose }
 
@@ -201,7 +201,7 @@ stopped_ends (BadInput line fault) result script ends over initial now before mi
     subst (λ (x : Ending). ScriptReplayed result script x initial now before after worse) (sym e) (ended result script (FaultAt line fault) _ initial now before mid after later worse widen ready done)
 stopped_ends WriteFault result script ends over initial now before mid after failed later worse spread widen (rose, f) (same, told) =
     subst (λ (s : Status). ScriptReplayed s script (ending_from (length initial) over script) initial now before after worse) (sym same)
-    (front_cut script (ending_from (length initial) over script) initial now before after worse (spread rose) (subst (λ (o : Option (List ℕ)). PlayedFront script initial before o (λ c. Boards status.WriteFault c initial now)) (sym told) f))
+    (front_cut script (ending_from (length initial) over script) initial now before after worse (spread rose) (subst (λ (o : Option (List ℕ)). PlayedFront script initial before o (λ c. BoardsLeft status.WriteFault c initial now)) (sym told) f))
 stopped_ends FlashFault result script ends over initial now before mid after failed later worse spread widen f (same, told) =
     let made : ScriptReplayed status.FlashFault script (ending_from (length initial) over script) initial now before after worse = record {
       came = f.came;
@@ -261,7 +261,7 @@ bounds_done : (ends : Bool) (script : Script) (n : ℕ) (p : Player) (initial no
 bounds_done ends script n p initial now before mid r = record { boards_enough = r.boards_enough; few_events = subst (λ (xs : List Item). events_among xs ≤ most_events) (sym r.items) r.few }
 
 -- the last line of a report is to be written
-ready_done : (ends : Bool) (script : Script) (e : Ending) (n : ℕ) (p : Player) (initial now : List Device) (before mid : Option (List ℕ)) → (r : Reached ends script [] n p initial now before mid) → ((c : Progress script) → c.rest ≡ [] → CameTo e c)
+ready_done : (ends : Bool) (script : Script) (e : Ending) (n : ℕ) (p : Player) (initial now : List Device) (before mid : Option (List ℕ)) → (r : Reached ends script [] n p initial now before mid) → ((c : Progress script) → c.rest ≡ [] → ReachesEnding e c)
     → ((w : Option World) → closing e w ≡ ending_line e) → ReadyToEnd script e (ending_line e) initial now before mid
 ready_done ends script e n p initial now before mid r all closes =
     let came = came_to ends script n p initial now before mid r.last r refl in

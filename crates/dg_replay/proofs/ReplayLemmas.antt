@@ -22,7 +22,7 @@ use Rattle.dg_replay.specs.Items.{Beginning, begin_by, begin_behind, beginning_o
 use Rattle.dg_replay.specs.Boards.{BoardsStand, StoppedIn}
 use Rattle.dg_replay.specs.Ending.{events_in, InBounds}
 use Rattle.dg_base.specs.declared.answers.Status.TheVariants as status
-use Rattle.dg_replay.specs.Outcome.{Progress, AtTooMany, EventNext, BoardStoppedThere, Boards as BoardsLeft, RunsTo, item_played, played_text}
+use Rattle.dg_replay.specs.Outcome.{Progress, AtTooMany, EventNext, BoardStoppedThere, BoardsLeft, RunsTo, item_played, played_text}
 use Rattle.dg_replay.specs.Playing.{InWorld, Stood, Ready, Joined, RunsOn, RunsFrom, LineBegun, InSome, IsOneTooMany, LacksImage}
 use Rattle.dg_replay.specs.Replaying.{TextPlayed, TextTold, TextCut, TextRead, NothingDone, TextAnswer, CutAtStop, CutAtTooMany, Reached, PlayedFront, PlayedUpTo, HasFew, LinesAnswer}
 use Rattle.dg_replay.specs.declared.player.Player.{Player}

@@ -72,8 +72,8 @@ read_replayed s text lb la wb wa rb ra kb ka old new n count taken few enough re
       limits = t.limits;
       boards = t.boards;
       caused = caused_too s (ending_of (length old) text) (Rose rb ra) (Rose kb ka) (BoardStopped (motes_in t.came.done) old new) t.caused;
-      reads = λ other. reads;
-      writes = writes;
+      read_faults = λ other. reads;
+      write_faults = writes;
     }
 
 -- before the first line nothing is done
@@ -107,11 +107,11 @@ none_played script = record {
 -- memory ran out in reading, and a read failed
 pub memory_unread : (bytes : List ℕ) (lb la wb : Option (List ℕ)) (rb ra k : ℕ) (old : List Device) → Takes lb la bytes → length bytes ≤ 16777217 → ra ≡ rb → Replayed Memory lb la wb wb rb ra k k old old
 memory_unread bytes lb la wb rb ra k old taken few reads =
-    record { input = bytes; taken = taken; few_bytes = few; came = none_played (script_of bytes); text = []; written = Puts-nil wb; report = record { more = []; front = refl }; enough = inr (none_whole bytes); limits = none_bound (length old); boards = refl; caused = tt; reads = λ other. reads; writes = λ other. refl }
+    record { input = bytes; taken = taken; few_bytes = few; came = none_played (script_of bytes); text = []; written = Puts-nil wb; report = record { more = []; front = refl }; enough = inr (none_whole bytes); limits = none_bound (length old); boards = refl; caused = tt; read_faults = λ other. reads; write_faults = λ other. refl }
 
 pub read_failed : (bytes : List ℕ) (lb la wb : Option (List ℕ)) (rb ra k : ℕ) (old : List Device) → Takes lb la bytes → length bytes ≤ 16777217 → Rose rb ra → Replayed ReadFault lb la wb wb rb ra k k old old
 read_failed bytes lb la wb rb ra k old taken few rose =
-    record { input = bytes; taken = taken; few_bytes = few; came = none_played (script_of bytes); text = []; written = Puts-nil wb; report = (refl, refl); enough = none_whole bytes; limits = none_bound (length old); boards = refl; caused = rose; reads = λ other. absurd (other refl); writes = λ other. refl }
+    record { input = bytes; taken = taken; few_bytes = few; came = none_played (script_of bytes); text = []; written = Puts-nil wb; report = (refl, refl); enough = none_whole bytes; limits = none_bound (length old); boards = refl; caused = rose; read_faults = λ other. absurd (other refl); write_faults = λ other. refl }
 
 -- the same, where the text was read into a vector
 pub vector_replayed : (s : Status) (text items bytes : List ℕ) (lb la wb wa : Option (List ℕ)) (rb ra kb ka : ℕ) (old new : List Device) (n : ℕ) → text ≡ items → items ≡ bytes → n ≡ length old → Takes lb la bytes → length items ≤ 16777217 → AtEnd la ⊎ (16777216 < length items)

@@ -23,7 +23,7 @@ use Rattle.dg_rules.specs.World.{World}
 use Rattle.dg_replay.specs.Boards.{BoardsStand}
 use Rattle.dg_replay.specs.Items.{Beginning, begin_by, beginning_of, no_beginning, golden_world, with_link}
 use Rattle.dg_replay.specs.Outcome.{RunsTo, item_played, played_text}
-use Rattle.dg_replay.specs.Playing.{IsDeclared, Seated, InWorld, Joined, Stood, ItemsRun, ItemsBegun, LineRuns, LineBegun}
+use Rattle.dg_replay.specs.Playing.{IsDeclaration, Seated, InWorld, Joined, Stood, ItemsRun, ItemsBegun, LineRuns, LineBegun}
 use Rattle.dg_replay.specs.declared.player.Player.{Player}
 use Rattle.dg_replay.proofs.ItemLemmas.{some_is, items_next, cut_next, place_next, begin_next, runs_append, runs_from_none, plays_none, played_more, items_run_none}
 
@@ -47,7 +47,7 @@ all_more P [] ys h k = k
 all_more P (x ∷ xs) ys h k = (h.0, all_more P xs ys h.1 k)
 
 -- before the first event, all lines but links and images do nothing to the motes
-early_by : (place at : Place) (cut : Option CutOfPower) (line : Line) → (place_after place line).events ≡ false → (place.events ≡ false) × AllByRecursion IsDeclared (item_by at cut line)
+early_by : (place at : Place) (cut : Option CutOfPower) (line : Line) → (place_after place line).events ≡ false → (place.events ≡ false) × AllByRecursion IsDeclaration (item_by at cut line)
 early_by place at cut Nothing e = (e, tt)
 early_by place at cut (Motes n) e = (e, tt)
 early_by place at cut (Golden name used content) e = (e, tt)
@@ -59,10 +59,10 @@ early_by place at cut (Happens event) e = absurd (let f : true ≡ false = e in 
 early_by place at cut (Round x y) e = absurd (let f : true ≡ false = e in cc)
 early_by place at cut (Sweeps n) e = absurd (let f : true ≡ false = e in cc)
 
-early_next : (place : Place) (done : List Line) (line : Line) → (place.events ≡ false → AllByRecursion IsDeclared (items_of done)) → (place_after place line).events ≡ false → AllByRecursion IsDeclared (items_of (done ++ line ∷ []))
+early_next : (place : Place) (done : List Line) (line : Line) → (place.events ≡ false → AllByRecursion IsDeclaration (items_of done)) → (place_after place line).events ≡ false → AllByRecursion IsDeclaration (items_of (done ++ line ∷ []))
 early_next place done line early e =
     let one = early_by place (place_behind first_place done) (cut_behind None done) line e in
-    subst (λ (xs : List Item). AllByRecursion IsDeclared xs) (sym (items_next done line)) (all_more IsDeclared (items_of done) _ (early one.0) one.1)
+    subst (λ (xs : List Item). AllByRecursion IsDeclaration xs) (sym (items_next done line)) (all_more IsDeclaration (items_of done) _ (early one.0) one.1)
 
 -- where there are no motes, there is no link
 none_joined : (motes : ℕ) (links : List (ℕ × ℕ)) → AllByRecursion (LinkFits 0) links → AllByRecursion (LinkFits motes) links
@@ -149,12 +149,12 @@ declared_linked : (link : ℕ × ℕ) (o : Option Row) (w : World) (row : Row) �
 declared_linked link None w row = refl
 declared_linked link (Some k) w row = refl
 
-item_linked : (link : ℕ × ℕ) (item : Item) (w v : World) (reports : List Report) → IsDeclared item → ItemStep w item v reports → ItemStep (with_link link w) item (with_link link v) reports
+item_linked : (link : ℕ × ℕ) (item : Item) (w v : World) (reports : List Report) → IsDeclaration item → ItemStep w item v reports → ItemStep (with_link link w) item (with_link link v) reports
 item_linked link (Declares row) w v reports is step =
     record { world = ap (with_link link) step.world ∙ declared_linked link (row_at w.declared row.image row.version) w row; told = step.told }
 item_linked link (Happened x loud) w v reports is step = absurd is
 
-plays_linked : (link : ℕ × ℕ) (w v : World) (ps : List Played) → AllByRecursion IsDeclared (map item_played ps) → Plays w ps v → Plays (with_link link w) (map (with_links link) ps) (with_link link v)
+plays_linked : (link : ℕ × ℕ) (w v : World) (ps : List Played) → AllByRecursion IsDeclaration (map item_played ps) → Plays w ps v → Plays (with_link link w) (map (with_links link) ps) (with_link link v)
 unfolding Plays
 plays_linked link w v [] all run = ap (with_link link) run
 plays_linked link w v (p ∷ ps) all run =
@@ -168,17 +168,17 @@ text_linked : (link : ℕ × ℕ) (ps : List Played) → played_text (map (with_
 text_linked link [] = refl
 text_linked link (p ∷ ps) = ap (λ (xs : List ℕ). report_text p.reports ++ xs) (text_linked link ps)
 
-run_linked : (link : ℕ × ℕ) (o : Option World) (ps : List Played) (w : World) → AllByRecursion IsDeclared (map item_played ps) → RunsTo o ps (Some w) → RunsTo (option_map (with_link link) o) (map (with_links link) ps) (Some (with_link link w))
+run_linked : (link : ℕ × ℕ) (o : Option World) (ps : List Played) (w : World) → AllByRecursion IsDeclaration (map item_played ps) → RunsTo o ps (Some w) → RunsTo (option_map (with_link link) o) (map (with_links link) ps) (Some (with_link link w))
 run_linked link None ps w all (none, is) = absurd (let e : Some w ≡ None = is in cc)
 run_linked link (Some u) ps w all (v, is, plays) = (with_link link w, refl, subst (λ (z : World). Plays (with_link link u) (map (with_links link) ps) (with_link link z)) (sym (some_is w v is)) (plays_linked link u v ps all plays))
 
 -- behind a link, the same was played from a world that has it
-pub link_runs : (done : List Line) (a b : ℕ) (w : World) → AllByRecursion IsDeclared (items_of done) → LineRuns done (Link a b) (Some w) (Some (with_link (a, b) w)) []
+pub link_runs : (done : List Line) (a b : ℕ) (w : World) → AllByRecursion IsDeclaration (items_of done) → LineRuns done (Link a b) (Some w) (Some (with_link (a, b) w)) []
 link_runs done a b w all = λ played items r. record {
   now = map (with_links (a, b)) played;
   items = items_linked (a, b) played ∙ items ∙ same_items done (Link a b) refl;
   run = subst (λ (x : Beginning). RunsTo x.world (map (with_links (a, b)) played) (Some (with_link (a, b) w))) (sym (begin_next no_beginning done (Link a b)))
-      (run_linked (a, b) (beginning_of done).world played w (subst (λ (xs : List Item). AllByRecursion IsDeclared xs) (sym items) all) r);
+      (run_linked (a, b) (beginning_of done).world played w (subst (λ (xs : List Item). AllByRecursion IsDeclaration xs) (sym items) all) r);
   told = text_linked (a, b) played ∙ sym (append-nil (played_text played));
 }
 

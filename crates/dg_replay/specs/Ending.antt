@@ -13,7 +13,7 @@ use Rattle.dg_rules.specs.Sizes.{most_events}
 use Rattle.dg_script.specs.Items.{Item, items_of}
 use Rattle.dg_replay.specs.Items.{lacking, events_among}
 
--- the byte, and the bytes up to the last LF behind it
+-- the byte, and the bytes up to the last LF behind it, and nothing where there is no LF
 abbrev pub up_to : ℕ → List ℕ → List ℕ
 up_to c [] = if c == 10 then c ∷ [] else []
 up_to c (d ∷ ds) = c ∷ d ∷ ds
@@ -23,11 +23,11 @@ unfoldable pub whole_lines : List ℕ → List ℕ
 whole_lines [] = []
 whole_lines (c ∷ cs) = up_to c (whole_lines cs)
 
--- the first 16,777,216 bytes of an input are used
+-- an input has more bytes than the 16,777,216 that are used
 abbrev pub is_over : List ℕ → Bool
 is_over input = nat_lt 16777216 (length input)
 
--- where there are more, the lines that end within them
+-- the bytes that are used: all, or where there are more the lines that end within the first 16,777,216
 abbrev pub used : List ℕ → List ℕ
 used input = if is_over input then whole_lines (take 16777216 input) else input
 

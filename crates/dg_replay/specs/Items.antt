@@ -10,7 +10,7 @@ use Rattle.dg_script.specs.declared.line.Line.{Line}
 use Rattle.dg_script.specs.declared.line.Line.TheVariants.{Nothing, Motes, Golden, Boards, Link, Image, Cut, Happens, Round, Sweeps}
 use Rattle.dg_rules.specs.World.{World, first_world}
 
--- How many motes there are, and the world in which their run begins, None before they are formatted. It has all links from its beginning: they stand before the first event
+-- How many motes there are, and the world in which their run begins, None before they are formatted. It has all links of these lines, though an image may be declared before a link: declarations look at no link
 pub record Beginning : Type 0 where
   pub motes : ℕ
   pub world : Option World

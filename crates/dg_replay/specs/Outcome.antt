@@ -33,17 +33,20 @@ abbrev pub RunsTo : Option World → List Played → Option World → Type 0
 RunsTo None played last = (played ≡ []) × (last ≡ None)
 RunsTo (Some w) played last = (v : World) × (last ≡ Some v) × Plays w played v
 
--- How far a replay came in a script. These lines were done, and their items played. Of the next line the first items were played, where the replay stopped within it, and others are left. A run of the rules leads over all items that were played to this world, None before the boards are formatted.
+-- How far a replay came in a script.
 pub record Progress (script : Script) : Type 0 where
+  -- the lines that were done, and those behind them
   pub done : List Line
   pub rest : List Line
+  -- of the items of the next line those that were played, where the replay stopped within it, and the others
   pub begun : List Item
   pub left : List Item
+  -- a run of the rules over all that was played, and the world that it leads to, None before the boards are formatted
   pub played : List Played
   pub last : Option World
   pub lines : done ++ rest ≡ script.lines
   pub parts : next_items done rest ≡ begun ++ left
-  -- a line all of whose items were played is done
+  -- nothing is begun of a line of which nothing is left
   pub within : left ≡ [] → begun ≡ []
   pub items : map item_played played ≡ items_of done ++ begun
   pub run : RunsTo (beginning_of done).world played last
@@ -70,16 +73,16 @@ pub record AtTooMany (left : List Item) (played : List Played) : Type 0 where
   pub next : EventNext left
 
 -- What comes before the ending was played: everything, up to the `motes` line where boards are missing, and a million events where there are more.
-abbrev pub CameTo : {script : Script} → Ending → Progress script → Type 0
-CameTo (NoBoards motes boards) c = (more : List Line) × (c.rest ≡ Motes motes ∷ more)
-CameTo TooManyEvents c = AtTooMany c.left c.played
-CameTo Ends c = c.rest ≡ []
-CameTo (FaultAt line fault) c = c.rest ≡ []
-CameTo Over c = c.rest ≡ []
+abbrev pub ReachesEnding : {script : Script} → Ending → Progress script → Type 0
+ReachesEnding (NoBoards motes boards) c = (more : List Line) × (c.rest ≡ Motes motes ∷ more)
+ReachesEnding TooManyEvents c = AtTooMany c.left c.played
+ReachesEnding Ends c = c.rest ≡ []
+ReachesEnding (FaultAt line fault) c = c.rest ≡ []
+ReachesEnding Over c = c.rest ≡ []
 
 -- the report of the script, up to its end
 pub record IsWholeReport {script : Script} (ending : Ending) (c : Progress script) (text : List ℕ) : Type 0 where
-  pub all : CameTo ending c
+  pub all : ReachesEnding ending c
   pub told : text ≡ played_text c.played ++ closing ending c.last
 
 -- a front of the lines that are reported before the end
@@ -115,10 +118,10 @@ abbrev pub BoardStoppedThere : {script : Script} → Progress script → (old ne
 BoardStoppedThere c old new = StoppedIn (motes_in c.done) c.rest c.left c.last old new
 
 -- How the boards are left. Where a board stops within a round or sweeps, what is told of the events before it may fail to be written.
-abbrev pub Boards : {script : Script} → Status → Progress script → (old new : List Device) → Type 0
-Boards FlashFault c old new = BoardStoppedThere c old new
-Boards WriteFault c old new = BoardsStand c.last old new ⊎ ((c.begun ≢ []) × BoardStoppedThere c old new)
-Boards _ c old new = BoardsStand c.last old new
+abbrev pub BoardsLeft : {script : Script} → Status → Progress script → (old new : List Device) → Type 0
+BoardsLeft FlashFault c old new = BoardStoppedThere c old new
+BoardsLeft WriteFault c old new = BoardsStand c.last old new ⊎ ((c.begun ≢ []) × BoardStoppedThere c old new)
+BoardsLeft _ c old new = BoardsStand c.last old new
 
 -- The status is the one that the rules give to the input. Memory alone is free, and a fault of the outside has risen its count.
 abbrev pub IsCaused : Status → Ending → (reads_failed writes_failed board_stopped : Type 0) → Type 0
@@ -171,9 +174,9 @@ pub record Replayed (status : Status) (left_before left_after written_before wri
   -- nothing behind the ending was done
   pub limits : InBounds (length old) came.done (map item_played came.played)
   -- the boards of the motes stand for that world's stores, but for one that is stopped, and the others are as before
-  pub boards : Boards status came old new
+  pub boards : BoardsLeft status came old new
   -- the status is the one that the rules give to the input, but for want of memory and faults of the outside
   pub caused : IsCaused status (ending_of (length old) input) (Rose reads_before reads_after) (Rose writes_before writes_after) (BoardStopped (motes_in came.done) old new)
   -- a read or a write that fails is always told: its count rises with its own answer alone
-  pub reads : status ≢ ReadFault → reads_after ≡ reads_before
-  pub writes : status ≢ WriteFault → writes_after ≡ writes_before
+  pub read_faults : status ≢ ReadFault → reads_after ≡ reads_before
+  pub write_faults : status ≢ WriteFault → writes_after ≡ writes_before

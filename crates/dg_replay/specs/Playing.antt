@@ -107,9 +107,9 @@ abbrev pub Joined : Place → Type 0
 Joined place = AllByRecursion (LinkFits place.motes) place.links
 
 -- an item that declares an image
-abbrev pub IsDeclared : Item → Type 0
-IsDeclared (Declares row) = Unit {0}
-IsDeclared (Happened step loud) = ⊥
+abbrev pub IsDeclaration : Item → Type 0
+IsDeclaration (Declares row) = Unit {0}
+IsDeclaration (Happened step loud) = ⊥
 
 -- The player and the boards, which were `initial` when the replay began, stand for this world, behind these lines.
 pub record Stood (p : Player) (done : List Line) (w : Option World) (initial now : List Device) : Type 0 where
@@ -120,7 +120,7 @@ pub record Stood (p : Player) (done : List Line) (w : Option World) (initial now
   pub cut_fits : IfSome p.cut FitsCut
   pub motes : p.place.motes ≡ motes_in done
   -- before the first event, all that was played was declared
-  pub early : p.place.events ≡ false → AllByRecursion IsDeclared (items_of done)
+  pub early : p.place.events ≡ false → AllByRecursion IsDeclaration (items_of done)
   pub world : InWorld p w now
   pub boards : BoardsStand w initial now
 

@@ -19,7 +19,7 @@ use Rattle.dg_script.specs.Items.{Item, items_of}
 use Rattle.dg_replay.specs.Boards.{BoardsStand, BoardStopped, StoppedIn}
 use Rattle.dg_replay.specs.Items.{beginning_of, motes_in, lacking}
 use Rattle.dg_replay.specs.Ending.{Ending, NoBoards, TooManyEvents, FaultAt, events_in, InBounds, ending_line}
-use Rattle.dg_replay.specs.Outcome.{Progress, CameTo, AtTooMany, closing, Wrote, Boards, BoardStoppedThere, IsCaused, RunsTo, item_played, played_text}
+use Rattle.dg_replay.specs.Outcome.{Progress, ReachesEnding, AtTooMany, closing, Wrote, BoardsLeft, BoardStoppedThere, IsCaused, RunsTo, item_played, played_text}
 use Rattle.dg_replay.specs.Playing.{Stood, PlayedLine, LineBegun, InSome, IsOneTooMany, LacksBoards, LacksImage}
 use Rattle.dg_replay.specs.declared.player.Player.{Player}
 use Rattle.dg_script.specs.declared.line.Line.{Line}
@@ -127,7 +127,7 @@ pub record PlayedUpTo (script : Script) (initial : List Device) (before after : 
   pub limits : InBounds (length initial) came.done (map item_played came.played)
   pub there : P came
 
--- a script that was played to its first fault, or to its end
+-- a script has no more than a million events, and there are boards for its motes
 pub record HasFew (script : Script) (initial : List Device) : Type 0 where
   pub events : events_in script.lines ≤ most_events
   pub boards_enough : lacking (length initial) script.lines ≡ None
@@ -137,7 +137,7 @@ abbrev pub LinesAnswer : Result (Player × ℕ) Stop → Bool → Script → (in
 LinesAnswer (Ok reached) ends script initial now before after failed = Reached ends script [] reached.1 reached.0 initial now before after
 LinesAnswer (Err Memory) ends script initial now before after failed = PlayedFront script initial before after (λ c. BoardsStand c.last initial now)
 LinesAnswer (Err (BadInput line fault)) ends script initial now before after failed = PlayedUpTo script initial before after (λ c. (c.rest ≡ []) × (script.fault ≡ Some (line, fault)) × BoardsStand c.last initial now × HasFew script initial)
-LinesAnswer (Err WriteFault) ends script initial now before after failed = failed × PlayedFront script initial before after (λ c. Boards status.WriteFault c initial now)
+LinesAnswer (Err WriteFault) ends script initial now before after failed = failed × PlayedFront script initial before after (λ c. BoardsLeft status.WriteFault c initial now)
 LinesAnswer (Err FlashFault) ends script initial now before after failed = PlayedUpTo script initial before after (λ c. ((line : Line) × (more : List Line) × (c.rest ≡ line ∷ more) × UsesBoard line) × BoardStoppedThere c initial now)
 LinesAnswer (Err TooMany) ends script initial now before after failed = PlayedUpTo script initial before after (λ c. AtTooMany c.left c.played × BoardsStand c.last initial now × (lacking (length initial) script.lines ≡ None))
 LinesAnswer (Err (NoBoard motes boards)) ends script initial now before after failed =
@@ -149,7 +149,7 @@ pub record ReadyToEnd (script : Script) (ending : Ending) (piece : List ℕ) (in
   pub came : Progress script
   pub told : Puts before after (played_text came.played)
   pub boards : BoardsStand came.last initial now
-  pub all : CameTo ending came
+  pub all : ReachesEnding ending came
   pub line : closing ending came.last ≡ piece
   pub limits : InBounds (length initial) came.done (map item_played came.played)
 
@@ -183,5 +183,5 @@ pub record ScriptReplayed (status : Status) (script : Script) (ending : Ending) 
   pub written : Puts before after text
   pub report : Wrote status ending came text
   pub limits : InBounds (length initial) came.done (map item_played came.played)
-  pub boards : Boards status came initial now
+  pub boards : BoardsLeft status came initial now
   pub caused : IsCaused status ending ⊥ write_failed (BoardStopped (motes_in came.done) initial now)
