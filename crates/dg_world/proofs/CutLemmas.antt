@@ -41,6 +41,12 @@ uncut (Err (Stopped before)) w m does v u a b x = record { ends = record { stopp
 uncut (Err NoImage) w m does v u a b x = record { ends = record { deed = x.deed; goes = x.goes; none = x.none; whole = refl; stands = x.stands }; endures = Endures_ran x.ran; count = x.ran.faults }
 uncut (Err NotAVolume) w m does v u a b x = absurd x
 
+-- a halt without a cut is told as it is
+pub halted : (h : Halt) → ended false (Err h) ≡ Err h
+halted (Stopped before) = refl
+halted NotAVolume = refl
+halted NoImage = refl
+
 -- ---- over a fuse
 
 -- the device over the board, before and after, as a fuse makes it

@@ -3,7 +3,7 @@ ghost use Rattle.std.specs.Prelude.{◌≡◌, ◌&&◌, not, ◌+◌, ◌≤◌
 ghost use Rattle.dg_rules.specs.Sizes.{most_motes};
 ghost use Rattle.dg_rules.specs.World.{World as RuleWorld, site};
 ghost use Rattle.dg_rules.specs.Events.{does, mote_of, dt_of};
-ghost use Rattle.dg_rules.specs.Ranges.{EventFits, CutFits, StepFits};
+ghost use Rattle.dg_rules.specs.Ranges.{EventFits, CutFits};
 ghost use Rattle.dg_world.specs.Shareds.{IsShared};
 ghost use Rattle.dg_world.specs.Worlds.{SiteStands, MayRun};
 ghost use Rattle.dg_world.specs.Cuts.{ended, Played};
@@ -13,7 +13,7 @@ use crate::shared::Shared;
 use crate::turn::{Ended, Halt, Turn};
 use crate::world::RunningMote;
 use dg_nor::{Fused, Nor};
-use dg_rules::{Cut, Event, Step};
+use dg_rules::{Cut, Event};
 
 /// How an event ended whose cut blew or not, at a board that is stopped itself or not.
 fn end_turn(blown: bool, stopped: bool, turn: Result<Turn, Halt>) -> Result<Ended, Halt>
@@ -35,7 +35,7 @@ fn end_turn(blown: bool, stopped: bool, turn: Result<Turn, Halt>) -> Result<Ende
 
 /// An event whose power is cut, where it makes so many operations. Where the board stops in that operation, it is told as
 /// stopped.
-fn play_cut<N: Nor>(
+pub(crate) fn play_cut<N: Nor>(
     shared: &Shared,
     runs: &mut Option<RunningMote>,
     now: u64,
@@ -56,25 +56,4 @@ fn play_cut<N: Nor>(
     let blown = fused.blown();
     let stopped = board.is_stopped();
     end_turn(blown, stopped, turn)
-}
-
-/// The event of a step at the board of its mote.
-pub(crate) fn play<N: Nor>(
-    shared: &Shared,
-    runs: &mut Option<RunningMote>,
-    now: u64,
-    step: &Step,
-    board: &mut N,
-) -> Result<Ended, Halt>
-    requires fits { (motes : ℕ) × StepFits motes step.now × (motes ≤ most_motes) }
-    requires mote { MayRun (N.device board.old).image now runs.old }
-    requires moment { now < 2 ^ 62 }
-    ensures { (w : RuleWorld) → IsShared shared.now w → SiteStands (N.device board.old) runs.old (site w (mote_of step.now.event))
-        → now ≡ w.moment + dt_of step.now.event
-        → Played result w (mote_of step.now.event) (does w step.now.event) step.now.cut runs.old runs.new (N.device board.old) (N.device board.new) }
-{
-    match &step.cut {
-        None => end_turn(false, false, happen(shared, runs, now, &step.event, board)),
-        Some(cut) => play_cut(shared, runs, now, &step.event, cut, board),
-    }
 }

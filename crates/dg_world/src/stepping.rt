@@ -1,5 +1,5 @@
 //! A step at the board of its mote, and what is told of it.
-ghost use Rattle.std.specs.Prelude.{◌≡◌, ◌+◌, ◌^◌, ◌<◌, ◌≤◌, ◌∷◌, ◌++◌, ℕ, [], Some, length, vec_len, option_map, option_to_list};
+ghost use Rattle.std.specs.Prelude.{◌≡◌, ◌+◌, ◌^◌, ◌<◌, ◌≤◌, ◌∷◌, ◌++◌, ℕ, [], None, Some, length, vec_len, option_map, option_to_list};
 ghost use Rattle.std.specs.List.{filter};
 ghost use Rattle.std.specs.Vec.{vec_capacity};
 ghost use Rattle.dg_volume.specs.Store.{Store};
@@ -15,16 +15,16 @@ ghost use Rattle.dg_world.specs.Worlds.{SiteStands, MayRun};
 ghost use Rattle.dg_world.specs.Turns.{turn_frame, turn_lines, sent_shown};
 ghost use Rattle.dg_world.specs.Stepped.{CutTold, CutLines, Stepped};
 
-use crate::cutting::play;
+use crate::cutting::play_cut;
 use crate::events::mote_at;
-use crate::happening::mount;
+use crate::happening::{happen, mount};
 use crate::shared::Shared;
 use crate::shown::{MOST_CHANGES, Shown, push_changes, push_line, show};
 use crate::turn::{Ended, Halt, StartLine, Turn};
 use crate::world::RunningMote;
 use dg_frame::{Frame, Message, read};
 use dg_nor::Nor;
-use dg_rules::{Cause, Report, Step};
+use dg_rules::{Cause, Cut, Report, Step};
 
 /// The most lines that are told of a step.
 pub(crate) const MOST_LINES: usize = MOST_CHANGES + 1;
@@ -173,6 +173,64 @@ fn tell_turn(mote: u8, turn: Turn, loud: bool, out: &mut Vec<Report>) -> Option<
     turn.into_frame()
 }
 
+/// A step without a cut at the board of its mote, and the frame that it sends. There is room for what is told of it.
+fn step_whole<N: Nor>(
+    shared: &Shared,
+    runs: &mut Option<RunningMote>,
+    now: u64,
+    step: &Step,
+    loud: bool,
+    board: &mut N,
+    out: &mut Vec<Report>,
+) -> Result<Option<Frame>, Halt>
+    requires room { vec_len out.old + MOST_LINES ≤ vec_capacity out.old }
+    requires fits { (motes : ℕ) × StepFits motes step.now × (motes ≤ most_motes) }
+    requires uncut { step.now.cut ≡ None }
+    requires mote { MayRun (N.device board.old).image now runs.old }
+    requires moment { now < 2 ^ 62 }
+    ensures { (w : RuleWorld) → StepFits (length w.sites) step.now → IsShared shared.now w → SiteStands (N.device board.old) runs.old (site w (mote_of step.now.event))
+        → now ≡ w.moment + dt_of step.now.event
+        → Stepped result w step.now loud runs.new (N.device board.old) (N.device board.new) out.old.items out.new.items }
+{
+    let mote = mote_at(&step.event);
+    match happen(shared, runs, now, &step.event, board) {
+        Ok(turn) => Ok(tell_turn(mote, turn, loud, out)),
+        Err(halt) => Err(halt),
+    }
+}
+
+/// A step with this cut at the board of its mote, which is off after it where it blew. There is room for what is told of it.
+fn step_cut<N: Nor>(
+    shared: &Shared,
+    runs: &mut Option<RunningMote>,
+    now: u64,
+    step: &Step,
+    cut: &Cut,
+    loud: bool,
+    board: &mut N,
+    out: &mut Vec<Report>,
+) -> Result<Option<Frame>, Halt>
+    requires room { vec_len out.old + MOST_LINES ≤ vec_capacity out.old }
+    requires fits { (motes : ℕ) × StepFits motes step.now × (motes ≤ most_motes) }
+    requires cut { step.now.cut ≡ Some cut.now }
+    requires mote { MayRun (N.device board.old).image now runs.old }
+    requires moment { now < 2 ^ 62 }
+    ensures { (w : RuleWorld) → StepFits (length w.sites) step.now → IsShared shared.now w → SiteStands (N.device board.old) runs.old (site w (mote_of step.now.event))
+        → now ≡ w.moment + dt_of step.now.event
+        → Stepped result w step.now loud runs.new (N.device board.old) (N.device board.new) out.old.items out.new.items }
+{
+    let mote = mote_at(&step.event);
+    match play_cut(shared, runs, now, &step.event, cut, board) {
+        Ok(Ended::Whole { turn }) => Ok(tell_turn(mote, turn, loud, out)),
+        Ok(Ended::Cut { before }) => {
+            tell_cut(mote, before, board, out)?;
+            *runs = None;
+            Ok(None)
+        }
+        Err(halt) => Err(halt),
+    }
+}
+
 /// A step at the board of its mote, which runs `runs`, and the frame that it sends. There is room for what is told of it.
 pub(crate) fn step_at<N: Nor>(
     shared: &Shared,
@@ -191,14 +249,8 @@ pub(crate) fn step_at<N: Nor>(
         → now ≡ w.moment + dt_of step.now.event
         → Stepped result w step.now loud runs.new (N.device board.old) (N.device board.new) out.old.items out.new.items }
 {
-    let mote = mote_at(&step.event);
-    match play(shared, runs, now, step, board) {
-        Ok(Ended::Whole { turn }) => Ok(tell_turn(mote, turn, loud, out)),
-        Ok(Ended::Cut { before }) => {
-            tell_cut(mote, before, board, out)?;
-            *runs = None;
-            Ok(None)
-        }
-        Err(halt) => Err(halt),
+    match &step.cut {
+        None => step_whole(shared, runs, now, step, loud, board, out),
+        Some(cut) => step_cut(shared, runs, now, step, cut, loud, board, out),
     }
 }
