@@ -132,6 +132,30 @@ fn sent(mut out: Outbox) -> Turn
     }
 }
 
+/// A board starts for its order, and its mote is made anew.
+fn restart<N: Nor>(
+    running: &mut RunningMote,
+    id: u16,
+    now: u64,
+    word: u32,
+    board: &mut N,
+) -> Result<StartLine, Halt>
+    requires moment { now < 2 ^ 62 }
+    ensures begun { IfOk result (λ line. (w : RuleWorld) (m : ℕ) (old : Option KeyValue) (v : Option RunningMote) → Stands (N.device board.old).image (store_at w m)
+        → TurnEnds (Ok (Turn.Starts line)) w m (of_effect w (boots Kind.Order (store_at w m) id now word) old) v (Some running.new) (N.device board.old) (N.device board.new)) }
+    ensures halts { (h : Halt) → result ≡ Err h → (w : RuleWorld) (m : ℕ) (old : Option KeyValue) (v u : Option RunningMote) → Stands (N.device board.old).image (store_at w m)
+        → TurnEnds (Err h) w m (of_effect w (boots Kind.Order (store_at w m) id now word) old) v u (N.device board.old) (N.device board.new) }
+    ensures same_reference { (N.device board.new).references ≡ (N.device board.old).references }
+{
+    match begin(Kind::Order, id, now, word, board) {
+        Ok(begun) => {
+            *running = begun.running;
+            Ok(begun.line)
+        }
+        Err(halt) => Err(halt),
+    }
+}
+
 /// A tick of a mote that is on.
 fn tick_on<N: Nor>(
     running: &mut RunningMote,
@@ -154,9 +178,9 @@ fn tick_on<N: Nor>(
     match did {
         Did::Sent | Did::Idle => Ok(sent(out)),
         Did::Restart => {
-            let begun = begin(Kind::Order, running.mote.id(), now, word, board)?;
-            *running = begun.running;
-            Ok(Turn::Starts { line: begun.line })
+            let id = running.mote.id();
+            let line = restart(running, id, now, word, board)?;
+            Ok(Turn::Starts { line })
         }
     }
 }

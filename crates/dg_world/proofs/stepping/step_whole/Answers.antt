@@ -5,7 +5,7 @@ use Rattle.dg_rules.specs.Events.{does, mote_of}
 use Rattle.dg_world.specs.Cuts.{ended}
 use Rattle.dg_world.specs.Turns.{turn_lines}
 use Rattle.dg_world.proofs.CutLemmas.{uncut, halted, played_as}
-use Rattle.dg_world.proofs.DoneLemmas.{step_turn, step_halts, event_mote, lines_at}
+use Rattle.dg_world.proofs.DoneLemmas.{step_turn, step_halts, event_mote}
 use Rattle.dg_world.proofs.stepping.step_whole.Goals as goal
 
 pub happen-requires-clause-fits : goal.happen-requires-clause-fits
