@@ -1,5 +1,7 @@
 //! An event at a board whose power may be cut in the middle of it.
-ghost use Rattle.std.specs.Prelude.{◌≡◌, ◌&&◌, not, ◌+◌, ◌≤◌, ◌<◌, ◌^◌, ℕ, Some};
+ghost use Rattle.std.specs.Prelude.{◌∷◌, false, ◌≡◌, ◌&&◌, not, ◌+◌, ◌≤◌, ◌<◌, ◌^◌, ℕ, Some};
+ghost use Rattle.dg_nor.specs.Device.{Device};
+ghost use Rattle.dg_nor.specs.Fuse.{inner_of, name_of, mask_of, fused_device, before, beneath_of};
 ghost use Rattle.dg_rules.specs.Sizes.{most_motes};
 ghost use Rattle.dg_rules.specs.World.{World as RuleWorld, site};
 ghost use Rattle.dg_rules.specs.Events.{does, mote_of, dt_of};
@@ -33,6 +35,26 @@ fn end_turn(blown: bool, stopped: bool, turn: Result<Turn, Halt>) -> Result<Ende
     }
 }
 
+/// The fuse of a cut over a board: it interrupts the cut's operation, and leaves the cut's mask there.
+fn fuse_of<'a, N: Nor>(cut: &'a Cut, board: &'a mut N) -> Fused<'a, N>
+    requires { CutFits cut.now }
+    ensures inner { inner_of result ≡ board.old }
+    ensures same_reference { name_of result ≡ board.entry.ghost_name }
+    ensures mask { mask_of result ≡ cut.now.mask }
+    ensures device { fused_device N.device result ≡ record {
+      image = (N.device board.old).image;
+      stopped = (N.device board.old).stopped;
+      faults = (N.device board.old).faults;
+      left = before (Some cut.now.after);
+      taken = (N.device board.old).taken;
+      blown = false;
+      references = board.entry.ghost_name ∷ (N.device board.old).references;
+      beneath = Some (beneath_of (N.device board.old));
+    } }
+{
+    Fused::new(board, Some(cut.after), cut.mask.as_slice())
+}
+
 /// An event whose power is cut, where it makes so many operations. Where the board stops in that operation, it is told as
 /// stopped.
 pub(crate) fn play_cut<N: Nor>(
@@ -51,7 +73,7 @@ pub(crate) fn play_cut<N: Nor>(
         → now ≡ w.moment + dt_of event.now
         → Played result w (mote_of event.now) (does w event.now) (Some cut.now) runs.old runs.new (N.device board.old) (N.device board.new) }
 {
-    let mut fused = Fused::new(board, Some(cut.after), cut.mask.as_slice());
+    let mut fused = fuse_of(cut, board);
     let turn = happen(shared, runs, now, event, &mut fused);
     let blown = fused.blown();
     let stopped = board.is_stopped();

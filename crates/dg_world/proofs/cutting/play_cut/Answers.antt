@@ -20,7 +20,7 @@ begun a d v x same stands = record {
 
 pub happen-turn-requires-clause-mote : goal.happen-turn-requires-clause-mote
 happen-turn-requires-clause-mote g c =
-    let made = ap (λ (d : Device). d.image) c.new-fused.ensures.device in
+    let made = ap (λ (d : Device). d.image) c.fuse_of-fused.ensures.device in
     subst (λ (i : List ℕ). MayRun i c.args.now c.args.runs.now) (sym made) c.requires.mote
 
 pub returns : goal.returns
@@ -28,13 +28,13 @@ returns g c = λ w shared stands at.
     let device = g.N.Nor.device in
     let m = mote_of c.args.event.now in
     let cut = c.args.cut.now in
-    let made = c.new-fused.ensures.device in
+    let made = c.fuse_of-fused.ensures.device in
     let v = c.args.runs.now in
     let u = c.happen-turn.new.runs in
-    let name = sym (same_reference device c.new-fused.result c.happen-turn.new.board c.happen-turn.ensures.same_reference ∙ c.new-fused.ensures.same_reference) in
+    let name = sym (same_reference device c.fuse_of-fused.result c.happen-turn.new.board c.happen-turn.ensures.same_reference ∙ c.fuse_of-fused.ensures.same_reference) in
     let last = c.board-1.given.1 name in
     let here = begun (device c.args.board.now) _ v (site w m) (ap (λ (d : Device). d.image) made) stands in
-    let f = is_fused device cut (device c.args.board.now) c.new-fused.result c.happen-turn.new.board _ c.requires.cut.counted made in
+    let f = is_fused device cut (device c.args.board.now) c.fuse_of-fused.result c.happen-turn.new.board _ c.requires.cut.counted made in
     let p = fused c.happen-turn.result cut w m (does w c.args.event.now) v u _ _ _ _ f (c.happen-turn.ensures.ends w shared here at) in
     let awake = c.is_stopped-stopped.ensures ∙ ap (λ (x : g.row.N.Denot). (device x).stopped) last in
     let e = c.end_turn.ensures
