@@ -1,5 +1,5 @@
 //! How a replay ends.
-ghost use Rattle.std.specs.Prelude.{◌≡◌, ◌≢◌, ◌≤◌, ℕ, Bool, not, List, [], Option, map, length, take};
+ghost use Rattle.std.specs.Prelude.{◌⊎◌, true, ◌≡◌, ◌≢◌, ◌≤◌, ℕ, Bool, not, List, [], Option, map, length, take};
 ghost use Rattle.dg_words.specs.Counts.{Rose};
 ghost use Rattle.dg_nor.specs.Device.{Device};
 ghost use Rattle.dg_script.specs.Script.{Script};
@@ -18,6 +18,7 @@ use std::alloc::Global;
 
 /// The status of a replay that stopped, whose last line is written where it has one.
 fn end_at_stop<K: Sink>(alloc: Global, out: &mut K, stop: Stop) -> Status
+    ensures full { stop ≡ Stop.TooMany → (result ≡ Status.TooMany) ⊎ (result ≡ Status.WriteFault) }
     ensures ends { StopEnds stop result (K.written out.old) (K.written out.new) (Rose (K.faults out.old) (K.faults out.new)) }
     ensures counts { K.faults out.old ≤ K.faults out.new }
     ensures unfailed { result ≢ Status.WriteFault → K.faults out.new ≡ K.faults out.old }
@@ -76,6 +77,7 @@ fn end_script<K: Sink, N: Nor>(
     out: &mut K,
 ) -> Status
     requires { Ready player.now (map N.device boards.old.items) }
+    ensures long { over ≡ true → (result ≡ Status.TooLong) ⊎ (result ≡ Status.WriteFault) }
     ensures ends { (script : Script) (initial : List Device) (before : Option (List ℕ)) (faults : ℕ) → faults ≤ K.faults out.old
         → Reached (not over) script [] number player.now initial (map N.device boards.old.items) before (K.written out.old)
         → ScriptReplayed result script (ending_from (length initial) over script) initial (map N.device boards.new.items) before (K.written out.new) (Rose faults (K.faults out.new)) }
