@@ -87,6 +87,7 @@ pub fn play_step<N: Nor>(
 ) -> Result<(), Stop>
     requires { (w : RuleWorld) × IsWorld world.old (map N.device boards.old.items) w × StepFits (length w.sites) step.now }
     ensures goes_on { GoesOn result world.old world.new (map N.device boards.old.items) (map N.device boards.new.items) }
+    ensures full { (w : RuleWorld) → IsWorld world.old (map N.device boards.old.items) w → w.events ≡ 1000000 → result ≡ Err Stop.TooMany }
     ensures played { (w : RuleWorld) (initial : List Device) → IsWorld world.old (map N.device boards.old.items) w → WorldStands w initial (map N.device boards.old.items)
         → ItemsPlayedAs result w (Happens step.now loud ∷ []) world.new initial (map N.device boards.new.items) told.old.text.items told.new.text.items }
 {

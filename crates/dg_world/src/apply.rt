@@ -33,7 +33,7 @@ impl World {
         // a world that is told to have made all its events tells it exactly then, but for want of memory
         ensures too_many { result ≡ Err WorldFault.TooMany → (w : RuleWorld) → IsWorld self.old (map N.device boards.old.items) w → w.events ≡ most_events }
         ensures full { (w : RuleWorld) → IsWorld self.old (map N.device boards.old.items) w → w.events ≡ most_events
-            → (result ≡ Err WorldFault.TooMany) ⊎ (result ≡ Err WorldFault.Memory) }
+            → result ≡ Err WorldFault.TooMany }
         ensures unchanged { (result ≡ Err WorldFault.TooMany) ⊎ (result ≡ Err WorldFault.Memory)
             → ((w : RuleWorld) → IsWorld self.old (map N.device boards.old.items) w → IsWorld self.new (map N.device boards.new.items) w)
             × (map N.device boards.new.items ≡ map N.device boards.old.items) }
@@ -44,6 +44,9 @@ impl World {
             → Ended w step.now (map N.device boards.old.items) (map N.device boards.new.items) }
         ensures a_volume { result ≡ Err WorldFault.NotAVolume → ⊥ }
     {
+        if self.events >= MOST_EVENTS {
+            return Err(WorldFault::TooMany);
+        }
         if self.shared.air.reserve().is_err() {
             return Err(WorldFault::Memory);
         }
@@ -64,7 +67,7 @@ impl World {
             → Applied w step.now loud self.new (map N.device boards.old.items) (map N.device boards.new.items) out.old.items out.new.items) }
         ensures too_many { result ≡ Err WorldFault.TooMany → (w : RuleWorld) → IsWorld self.old (map N.device boards.old.items) w → w.events ≡ most_events }
         ensures full { (w : RuleWorld) → IsWorld self.old (map N.device boards.old.items) w → w.events ≡ most_events
-            → (result ≡ Err WorldFault.TooMany) ⊎ (result ≡ Err WorldFault.Memory) }
+            → result ≡ Err WorldFault.TooMany }
         ensures unchanged { (result ≡ Err WorldFault.TooMany) ⊎ (result ≡ Err WorldFault.Memory)
             → ((w : RuleWorld) → IsWorld self.old (map N.device boards.old.items) w → IsWorld self.new (map N.device boards.new.items) w)
             × (map N.device boards.new.items ≡ map N.device boards.old.items) }

@@ -19,7 +19,7 @@ returns-in-Err-Memory-clause-played g c = λ w initial is stands.
 pub returns-in-Err-Flash-clause-played : goal.returns-in-Err-Flash-clause-played
 returns-in-Err-Flash-clause-played g c = λ w initial is stands.
     stopped_in w c.args.step.now c.args.loud c.args.world.now c.in-Err-Flash.field-0-0 initial _ _ c.args.told.now.text.items c.args.told.now.text.items
-    c.requires is (not_full _ _ w.events (ap Err c.in-Err-Flash.field-0-is) is.few_events (c.in-Err-Flash.ensures.full w is)) (c.in-Err-Flash.ensures.flash c.in-Err-Flash.field-0-0 (ap Err c.in-Err-Flash.field-0-is) w is) refl stands
+    c.requires is (not_full _ _ w.events (ap Err c.in-Err-Flash.field-0-is) is.few_events (λ e. inl (c.in-Err-Flash.ensures.full w is e))) (c.in-Err-Flash.ensures.flash c.in-Err-Flash.field-0-0 (ap Err c.in-Err-Flash.field-0-is) w is) refl stands
 
 pub returns-in-Err-TooMany-clause-played : goal.returns-in-Err-TooMany-clause-played
 returns-in-Err-TooMany-clause-played g c = λ w initial is stands.
