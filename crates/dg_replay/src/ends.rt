@@ -1,5 +1,5 @@
 //! How a replay ends.
-ghost use Rattle.std.specs.Prelude.{◌⊎◌, true, ◌≡◌, ◌≢◌, ◌≤◌, ℕ, Bool, not, List, [], Option, map, length, take};
+ghost use Rattle.std.specs.Prelude.{◌≡◌, ◌≢◌, ◌⊎◌, ◌≤◌, ℕ, Bool, true, not, List, [], Option, map, length, take};
 ghost use Rattle.dg_words.specs.Counts.{Rose};
 ghost use Rattle.dg_nor.specs.Device.{Device};
 ghost use Rattle.dg_script.specs.Script.{Script};

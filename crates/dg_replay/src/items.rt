@@ -8,6 +8,7 @@ ghost use Rattle.dg_rounds.specs.Rounds.{times, round, sweep};
 ghost use Rattle.dg_script.specs.Fitting.{IsDeclared};
 ghost use Rattle.dg_script.specs.Items.{Declares, Happens, quietly};
 ghost use Rattle.dg_script.specs.Report.{report_text};
+ghost use Rattle.dg_rules.specs.Sizes.{most_events};
 ghost use Rattle.dg_rules.specs.World.{World as RuleWorld};
 ghost use Rattle.dg_rules.specs.Premises.{LinkFits};
 ghost use Rattle.dg_rules.specs.Ranges.{EventFits, StepFits};
@@ -87,7 +88,7 @@ pub fn play_step<N: Nor>(
 ) -> Result<(), Stop>
     requires { (w : RuleWorld) × IsWorld world.old (map N.device boards.old.items) w × StepFits (length w.sites) step.now }
     ensures goes_on { GoesOn result world.old world.new (map N.device boards.old.items) (map N.device boards.new.items) }
-    ensures full { (w : RuleWorld) → IsWorld world.old (map N.device boards.old.items) w → w.events ≡ 1000000 → result ≡ Err Stop.TooMany }
+    ensures full { (w : RuleWorld) → IsWorld world.old (map N.device boards.old.items) w → w.events ≡ most_events → result ≡ Err Stop.TooMany }
     ensures played { (w : RuleWorld) (initial : List Device) → IsWorld world.old (map N.device boards.old.items) w → WorldStands w initial (map N.device boards.old.items)
         → ItemsPlayedAs result w (Happens step.now loud ∷ []) world.new initial (map N.device boards.new.items) told.old.text.items told.new.text.items }
 {

@@ -30,7 +30,7 @@ impl World {
         requires world { (w : RuleWorld) × IsWorld self.old (map N.device boards.old.items) w × StepFits (length w.sites) step.now }
         ensures applied { OnOk result ((w : RuleWorld) → IsWorld self.old (map N.device boards.old.items) w
             → Applied w step.now loud self.new (map N.device boards.old.items) (map N.device boards.new.items) out.old.items out.new.items) }
-        // a world that is told to have made all its events tells it exactly then, but for want of memory
+        // a world that has made all its events tells it, and only such a one
         ensures too_many { result ≡ Err WorldFault.TooMany → (w : RuleWorld) → IsWorld self.old (map N.device boards.old.items) w → w.events ≡ most_events }
         ensures full { (w : RuleWorld) → IsWorld self.old (map N.device boards.old.items) w → w.events ≡ most_events
             → result ≡ Err WorldFault.TooMany }
