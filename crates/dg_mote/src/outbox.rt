@@ -19,6 +19,13 @@ impl Outbox {
         Outbox { frame: None }
     }
 
+    /// The frame, if there is one.
+    pub fn frame(&self) -> Option<&Frame>
+        ensures { option_map (λ f. f.now.items) result ≡ sent_in self.now }
+    {
+        self.frame.as_ref()
+    }
+
     /// Takes the frame out, if there is one.
     pub fn take(&mut self) -> Option<Frame>
         ensures taken { option_map (λ f. f.items) result ≡ sent_in self.old }
