@@ -71,7 +71,7 @@ module _ (old new : Air) (by n : ℕ) (before : List Sent) (s : Sent) (is_by : s
       ∙ ap (λ (b : Bool). cond b (Some s) (last_by m before None)) (sym (ap (λ (k : ℕ). k == m) is_by ∙ other)) ∙ sym (last_behind m before s None)
 
 pub pushed : (old new : Air) (by n : ℕ) (frame : ArrayVec ℕ) (before : List Sent) → new.frames.items ≡ old.frames.items ++ record { by = by; frame = frame } ∷ [] → n ≡ length new.frames.items → new.last ≡ set old.last by n → by < most_motes
-    → Carries old before → Carries new (before ++ sent_now by (Some frame))
+    → Carries old before → Carries new (before ++ sent_now by (Some frame.items))
 pushed old new by n frame before is count last known carries =
     let s : Sent = record { by = by; bytes = frame.items } in
     let f : SentFrame = record { by = by; frame = frame } in

@@ -19,12 +19,8 @@ use Rattle.dg_base.specs.declared.events.Cut.{Cut as PowerCut}
 use Rattle.dg_world.specs.Turns.{Tells, Went, StoppedOn, TurnEnds}
 use Rattle.dg_world.specs.Cuts.{ended, IsWhole, IsBlown, IsStopped, Played}
 use Rattle.dg_world.specs.declared.shown.Shown.{Shown}
-use Rattle.dg_world.specs.declared.turn.Turn.{Turn}
-use Rattle.dg_world.specs.declared.turn.Turn.TheVariants.{Refused, Rests, Sends, Changes, Starts}
-use Rattle.dg_world.specs.declared.turn.Ended.{Ended}
-use Rattle.dg_world.specs.declared.turn.Halt.{Halt}
 use Rattle.dg_world.specs.declared.world.RunningMote.{RunningMote}
-use Rattle.dg_world.specs.declared.turn.Halt.TheVariants.{Stopped, NotAVolume, NoImage}
+use Rattle.dg_world.specs.Turn.{Turn, Refused, Rests, Sends, Changes, Starts, Ended, Halt, Stopped, NotAVolume, NoImage}
 
 -- ---- without a cut
 

@@ -1,11 +1,10 @@
 -- A step that was done at its board, as a step of the world.
-use Rattle.std.proofs.Common.{◌≡◌, ℕ, ◌-◌, ◌<◌, ◌≤◌, Bool, true, false, List, [], ◌∷◌, ◌++◌, length, get_or, set, append-nil, refl, ap, sym, ◌∙◌, subst, arith}
+use Rattle.std.proofs.Common.{◌≡◌, ℕ, ◌-◌, ◌<◌, ◌≤◌, Bool, true, false, List, [], ◌∷◌, ◌++◌, length, get_or, set, append-nil, append_assoc, refl, ap, sym, ◌∙◌, subst, arith}
 use Rattle.std.specs.Prelude.{Option, Some, None, IfSome, nat_le, option_map, Result, Ok, Err, IsErrAnd}
 use Rattle.std.specs.List.{filter}
 use Rattle.std.proofs.lemmas.Bool.Decides.{nat_tests}
 use Rattle.std.proofs.lemmas.List.{set-get_or}
 use Rattle.std.proofs.lemmas.Option.{same_Some}
-use Rattle.arrayvec.specs.ArrayVec.{ArrayVec}
 use Rattle.dg_nor.specs.Device.{Device}
 use Rattle.dg_nor.specs.Fuse.{beneath_of}
 use Rattle.dg_nor.specs.Trail.{Trail, operations, last, MayLeave}
@@ -32,15 +31,15 @@ use Rattle.dg_world.specs.Airs.{sent_now}
 use Rattle.dg_world.specs.Worlds.{MoteStands, SiteStands}
 use Rattle.dg_world.specs.Turns.{turn_frame, turn_lines}
 use Rattle.dg_world.specs.Cuts.{IsWhole, IsBlown, Played}
-use Rattle.dg_world.specs.Stepped.{CutLinesAre, CutLines, StepDone, Stepped}
+use Rattle.dg_world.specs.Stepped.{CutChangesAre, CutTold, StepDone, Stepped}
 use Rattle.dg_world.specs.declared.shown.Shown.{Shown}
-use Rattle.dg_world.specs.declared.turn.Turn.{Turn}
-use Rattle.dg_world.specs.declared.turn.Turn.TheVariants.{Refused, Rests, Sends, Changes, Starts}
-use Rattle.dg_world.specs.declared.turn.Ended.TheVariants.{Whole, Cut}
-use Rattle.dg_world.specs.declared.turn.Halt.{Halt}
-use Rattle.dg_world.specs.declared.turn.Halt.TheVariants.{Stopped, NotAVolume, NoImage}
 use Rattle.dg_world.specs.declared.world.RunningMote.{RunningMote}
+use Rattle.dg_world.specs.declared.telling.Telling.{Telling}
+use Rattle.dg_world.specs.declared.telling.Fault.{Fault}
+use Rattle.dg_world.specs.declared.telling.Fault.TheVariants as fault
+use Rattle.dg_world.specs.Tellings.{halt_of, stepped}
 use Rattle.dg_world.proofs.ShownLemmas.{cut_told}
+use Rattle.dg_world.specs.Turn.{Turn, Refused, Rests, Sends, Changes, Starts, Whole, Cut, Halt, Stopped, NotAVolume, NoImage}
 
 same_deed : (d e : Deed) → Goes d ≡ Goes e → d ≡ e
 same_deed d e h = cc
@@ -79,21 +78,21 @@ same_but w m None = record { moment = refl; events = refl; declared = refl; link
 same_but w m (Some message) = record { moment = refl; events = refl; declared = refl; links = refl; sites = refl }
 
 -- a frame and a message that spells it
-sent_with : (w : RuleWorld) (m : ℕ) (frame : Option (ArrayVec ℕ)) (message : Option Message) → option_map (λ f. f.items) frame ≡ option_map frame_of message → (and_sent w m message).sent ≡ w.sent ++ sent_now m frame
+sent_with : (w : RuleWorld) (m : ℕ) (frame : Option (List ℕ)) (message : Option Message) → frame ≡ option_map frame_of message → (and_sent w m message).sent ≡ w.sent ++ sent_now m frame
 sent_with w m None None e = sym (append-nil w.sent)
 sent_with w m (Some frame) None e = absurd cc
 sent_with w m None (Some message) e = absurd cc
 sent_with w m (Some frame) (Some message) e =
-    ap (λ (bytes : List ℕ). w.sent ++ record { by = m; bytes = bytes } ∷ []) (same_Some (frame_of message) frame.items (sym e))
+    ap (λ (bytes : List ℕ). w.sent ++ record { by = m; bytes = bytes } ∷ []) (same_Some (frame_of message) frame (sym e))
 
-none_sent : (w : RuleWorld) (m : ℕ) (frame : Option (ArrayVec ℕ)) → option_map (λ f. f.items) frame ≡ None → w.sent ≡ w.sent ++ sent_now m frame
+none_sent : (w : RuleWorld) (m : ℕ) (frame : Option (List ℕ)) → frame ≡ None → w.sent ≡ w.sent ++ sent_now m frame
 none_sent w m None e = sym (append-nil w.sent)
 none_sent w m (Some frame) e = absurd cc
 
 -- ---- what ended the event
 
-pub refused_done : (w : RuleWorld) (x : Step) (loud : Bool) (v u : Option RunningMote) (frame : Option (ArrayVec ℕ)) (why : Cause) (a b : Device) (start end : List Report) → mote_of x.event < length w.sites
-    → SiteStands a v (site w (mote_of x.event)) → does w x.event ≡ Refuses why → b.image ≡ a.image → u ≡ v → option_map (λ f. f.items) frame ≡ turn_frame (Refused why) → end ≡ start ++ filter (is_told loud) (turn_lines (mote_of x.event) (Refused why))
+pub refused_done : (w : RuleWorld) (x : Step) (loud : Bool) (v u : Option RunningMote) (frame : Option (List ℕ)) (why : Cause) (a b : Device) (start end : List Report) → mote_of x.event < length w.sites
+    → SiteStands a v (site w (mote_of x.event)) → does w x.event ≡ Refuses why → b.image ≡ a.image → u ≡ v → frame ≡ turn_frame (Refused why) → end ≡ start ++ filter (is_told loud) (turn_lines (mote_of x.event) (Refused why))
     → StepDone w x loud u frame b start end
 refused_done w x loud v u frame why a b start end known stands is same at none told =
     let here = site w (mote_of x.event) in
@@ -115,8 +114,8 @@ refused_done w x loud v u frame why a b start end known stands is same at none t
       memory = λ d r goes whole some. absurd (refuses_goes why d (sym is ∙ goes));
     }
 
-pub whole_done : (w : RuleWorld) (x : Step) (loud : Bool) (u : Option RunningMote) (frame : Option (ArrayVec ℕ)) (turn : Turn) (b : Device) (start end : List Report)
-    → IsWhole w (mote_of x.event) (does w x.event) x.cut u b.image turn → option_map (λ f. f.items) frame ≡ turn_frame turn → end ≡ start ++ filter (is_told loud) (turn_lines (mote_of x.event) turn) → StepDone w x loud u frame b start end
+pub whole_done : (w : RuleWorld) (x : Step) (loud : Bool) (u : Option RunningMote) (frame : Option (List ℕ)) (turn : Turn) (b : Device) (start end : List Report)
+    → IsWhole w (mote_of x.event) (does w x.event) x.cut u b.image turn → frame ≡ turn_frame turn → end ≡ start ++ filter (is_told loud) (turn_lines (mote_of x.event) turn) → StepDone w x loud u frame b start end
 whole_done w x loud u frame turn b start end is sends told =
     let m = mote_of x.event in
     let d = is.deed in
@@ -142,9 +141,9 @@ whole_done w x loud u frame turn b start end is sends told =
           subst P (ap (λ (y : Deed). y.started) (same_deed d e (sym is.goes ∙ goes)) ∙ some) is.tells.memory;
     }
 
-pub cut_done : (w : RuleWorld) (x : Step) (loud : Bool) (before : Option Shown) (b c : Device) (start end : List Report) → (is : IsBlown w (mote_of x.event) (does w x.event) x.cut b.image before)
-    → CutLinesAre (mote_of x.event) before is.leaves.store start end → c.image ≡ b.image → StepDone w x loud None None c start end
-cut_done w x loud before b c start end is lines same =
+pub cut_done : (w : RuleWorld) (x : Step) (loud : Bool) (before : Option Shown) (b c : Device) (start mid end : List Report) → (is : IsBlown w (mote_of x.event) (does w x.event) x.cut b.image before)
+    → CutChangesAre (mote_of x.event) before is.leaves.store start mid → end ≡ mid ++ Off (mote_of x.event) ∷ [] → c.image ≡ b.image → StepDone w x loud None None c start end
+cut_done w x loud before b c start mid end is lines off same =
     let m = mote_of x.event in
     let d = is.deed in
     let s = is.leaves.store in
@@ -153,7 +152,7 @@ cut_done w x loud before b c start end is lines same =
       world = cut_world w m (dt_of x.event) d s;
       reports = changes m (store_at w m) s ++ Off m ∷ [];
       step = world_step w x d true _ _ is.goes is.blown (record { store = s; allowed = is.leaves.allowed; world = refl; report = refl });
-      told_now = lines.told_now ∙ ap (λ (l : List Report). start ++ (l ++ Off m ∷ [])) told ∙ ap (λ (l : List Report). start ++ l) (sym (cut_told loud m (store_at w m) s));
+      told_now = off ∙ ap (λ (l : List Report). l ++ Off m ∷ []) lines.told_now ∙ append_assoc start lines.lines (Off m ∷ []) ∙ ap (λ (l : List Report). start ++ (l ++ Off m ∷ [])) told ∙ ap (λ (l : List Report). start ++ l) (sym (cut_told loud m (store_at w m) s));
       here = record { store = s; runs = None };
       moment = refl;
       events = refl;
@@ -168,8 +167,8 @@ cut_done w x loud before b c start end is lines same =
 
 -- ---- what the step ends with
 
-pub step_turn : (w : RuleWorld) (x : Step) (loud : Bool) (v u : Option RunningMote) (frame : Option (ArrayVec ℕ)) (turn : Turn) (a b : Device) (start end : List Report) → mote_of x.event < length w.sites → SiteStands a v (site w (mote_of x.event))
-    → Played (Ok (Whole turn)) w (mote_of x.event) (does w x.event) x.cut v u a b → option_map (λ f. f.items) frame ≡ turn_frame turn → end ≡ start ++ filter (is_told loud) (turn_lines (mote_of x.event) turn)
+pub step_turn : (w : RuleWorld) (x : Step) (loud : Bool) (v u : Option RunningMote) (frame : Option (List ℕ)) (turn : Turn) (a b : Device) (start end : List Report) → mote_of x.event < length w.sites → SiteStands a v (site w (mote_of x.event))
+    → Played (Ok (Whole turn)) w (mote_of x.event) (does w x.event) x.cut v u a b → frame ≡ turn_frame turn → end ≡ start ++ filter (is_told loud) (turn_lines (mote_of x.event) turn)
     → Stepped (Ok frame) w x loud u a b start end
 step_turn w x loud v u frame (Refused why) a b start end known stands p sends told =
     record { ends = refused_done w x loud v u frame why a b start end known stands p.ends.0 p.ends.1 p.ends.2 sends told; endures = p.endures; count = p.count }
@@ -193,19 +192,19 @@ cut_itself : (cut : Option PowerCut) → IfSome cut (λ c. before_cut cut ≤ c.
 cut_itself None = tt
 cut_itself (Some c) = omega arith
 
-pub step_cut : (w : RuleWorld) (x : Step) (loud : Bool) (v u : Option RunningMote) (before : Option Shown) (q : Result (Unit {0}) Halt) (y : Unit {0}) (a b c : Device) (start end : List Report) → (p : Played (Ok (Cut before)) w (mote_of x.event) (does w x.event) x.cut v u a b)
-    → q ≡ Ok y → CutLines q (mote_of x.event) before p.ends.leaves.store b c start end → Stepped (Ok None) w x loud None a c start end
-step_cut w x loud v u before q y a b c start end p is lines =
-    let l : CutLines (Ok y) (mote_of x.event) before p.ends.leaves.store b c start end = subst (λ (z : Result (Unit {0}) Halt). CutLines z (mote_of x.event) before p.ends.leaves.store b c start end) is lines in
+pub step_cut : (w : RuleWorld) (x : Step) (loud : Bool) (v u : Option RunningMote) (before : Option Shown) (q : Result (Unit {0}) Fault) (y : Unit {0}) (a b c : Device) (start mid end : List Report) → (p : Played (Ok (Cut before)) w (mote_of x.event) (does w x.event) x.cut v u a b)
+    → q ≡ Ok y → CutTold q (mote_of x.event) before p.ends.leaves.store b c start mid → end ≡ mid ++ Off (mote_of x.event) ∷ [] → Stepped (Ok None) w x loud None a c start end
+step_cut w x loud v u before q y a b c start mid end p is told off =
+    let l : CutTold (Ok y) (mote_of x.event) before p.ends.leaves.store b c start mid = subst (λ (z : Result (Unit {0}) Fault). CutTold z (mote_of x.event) before p.ends.leaves.store b c start mid) is told in
     record {
-      ends = cut_done w x loud before b c start end p.ends l.0 l.1.same_image;
+      ends = cut_done w x loud before b c start mid end p.ends l.0 off l.1.same_image;
       endures = Endures_then (beneath_of a) (beneath_of b) (beneath_of c) p.endures l.1.endures;
       count = l.2 ∙ p.count;
     }
 
-cut_halts : (h : Halt) (w : RuleWorld) (x : Step) (loud : Bool) (v u o : Option RunningMote) (before : Option Shown) (a b c : Device) (start end : List Report) → (p : Played (Ok (Cut before)) w (mote_of x.event) (does w x.event) x.cut v u a b)
-    → CutLines (Err h) (mote_of x.event) before p.ends.leaves.store b c start end → Stepped (Err h) w x loud o a c start end
-cut_halts (Stopped k) w x loud v u o before a b c start end p lines = record {
+cut_halts : (f : Fault) (w : RuleWorld) (x : Step) (loud : Bool) (v u o : Option RunningMote) (before k : Option Shown) (a b c : Device) (start end : List Report) → (p : Played (Ok (Cut before)) w (mote_of x.event) (does w x.event) x.cut v u a b)
+    → CutTold (Err f) (mote_of x.event) before p.ends.leaves.store b c start end → Stepped (Err (halt_of f k)) w x loud o a c start end
+cut_halts fault.Stopped w x loud v u o before k a b c start end p lines = record {
   ends = (
     record {
       stopped = lines.0;
@@ -220,20 +219,27 @@ cut_halts (Stopped k) w x loud v u o before a b c start end p lines = record {
   endures = Endures_then (beneath_of a) (beneath_of b) (beneath_of c) p.endures lines.1.endures;
   count = tt;
 }
-cut_halts NotAVolume w x loud v u o before a b c start end p lines = absurd lines
-cut_halts NoImage w x loud v u o before a b c start end p lines = absurd lines
+cut_halts fault.NotAVolume w x loud v u o before k a b c start end p lines = absurd lines
+cut_halts fault.NoImage w x loud v u o before k a b c start end p lines = absurd lines
 
-pub step_cut_halts : (r : Result (Option (ArrayVec ℕ)) Halt) (q : Result (Unit {0}) Halt) (h : Halt) (w : RuleWorld) (x : Step) (loud : Bool) (v u o : Option RunningMote) (before : Option Shown) (a b c : Device) (start end : List Report) → IsErrAnd r (λ e. e ≡ h) → q ≡ Err h
-    → (p : Played (Ok (Cut before)) w (mote_of x.event) (does w x.event) x.cut v u a b) → CutLines q (mote_of x.event) before p.ends.leaves.store b c start end → Stepped r w x loud o a c start end
-step_cut_halts (Ok f) q h w x loud v u o before a b c start end is e p lines = absurd is
-step_cut_halts (Err y) q h w x loud v u o before a b c start end is e p lines =
-    let P : Halt → Type 0 = λ z. Stepped (Err z) w x loud o a c start end in
-    subst P (sym is) (cut_halts h w x loud v u o before a b c start end p (subst (λ (z : Result (Unit {0}) Halt). CutLines z (mote_of x.event) before p.ends.leaves.store b c start end) e lines))
+pub step_cut_halts : (r q : Result (Unit {0}) Fault) (t : Telling) (f : Fault) (w : RuleWorld) (x : Step) (loud : Bool) (v u o : Option RunningMote) (before : Option Shown) (a b c : Device) (start end : List Report) → IsErrAnd r (λ e. e ≡ f) → q ≡ Err f
+    → (p : Played (Ok (Cut before)) w (mote_of x.event) (does w x.event) x.cut v u a b) → CutTold q (mote_of x.event) before p.ends.leaves.store b c start end → Stepped (stepped r t) w x loud o a c start end
+step_cut_halts (Ok y) q t f w x loud v u o before a b c start end is e p lines = absurd is
+step_cut_halts (Err y) q t f w x loud v u o before a b c start end is e p lines =
+    let P : Fault → Type 0 = λ z. Stepped (Err (halt_of z t.before)) w x loud o a c start end in
+    subst P (sym is) (cut_halts f w x loud v u o before t.before a b c start end p (subst (λ (z : Result (Unit {0}) Fault). CutTold z (mote_of x.event) before p.ends.leaves.store b c start end) e lines))
 
 pub step_halts : (h : Halt) (w : RuleWorld) (x : Step) (loud : Bool) (v u : Option RunningMote) (a b : Device) (told : List Report) → Played (Err h) w (mote_of x.event) (does w x.event) x.cut v u a b → Stepped (Err h) w x loud u a b told told
 step_halts (Stopped k) w x loud v u a b told p = record { ends = (p.ends, refl); endures = p.endures; count = tt }
 step_halts NotAVolume w x loud v u a b told p = absurd p.ends
 step_halts NoImage w x loud v u a b told p = record { ends = (p.ends, refl); endures = p.endures; count = p.count }
+
+pub step_fails : (r : Result (Unit {0}) Fault) (f : Fault) (t : Telling) (w : RuleWorld) (x : Step) (loud : Bool) (v u : Option RunningMote) (a b : Device) (told : List Report) → IsErrAnd r (λ e. e ≡ f)
+    → Played (Err (halt_of f t.before)) w (mote_of x.event) (does w x.event) x.cut v u a b → Stepped (stepped r t) w x loud u a b told told
+step_fails (Ok y) f t w x loud v u a b told is p = absurd is
+step_fails (Err e) f t w x loud v u a b told is p =
+    let P : Fault → Type 0 = λ z. Stepped (Err (halt_of z t.before)) w x loud u a b told told in
+    subst P (sym is) (step_halts (halt_of f t.before) w x loud v u a b told p)
 
 -- the mote of a step that fits is one of the world
 pub event_mote : (motes : ℕ) (event : Event) → EventFits motes event → mote_of event < motes
@@ -245,5 +251,5 @@ event_mote motes (Reset m dt word) fits = fits
 event_mote motes (Inject m image version dt word) fits = fits.0
 event_mote motes (OrderEvent m number image version dt word) fits = fits.0
 
-pub lines_at : (r : Result (Unit {0}) Halt) (m n : ℕ) (before : Option Shown) (s : Store) (a b : Device) (start end : List Report) → m ≡ n → CutLines r m before s a b start end → CutLines r n before s a b start end
-lines_at r m n before s a b start end e lines = subst (λ (k : ℕ). CutLines r k before s a b start end) e lines
+pub told_at : (r : Result (Unit {0}) Fault) (m n : ℕ) (before : Option Shown) (s : Store) (a b : Device) (start end : List Report) → m ≡ n → CutTold r m before s a b start end → CutTold r n before s a b start end
+told_at r m n before s a b start end e told = subst (λ (k : ℕ). CutTold r k before s a b start end) e told

@@ -26,10 +26,8 @@ use Rattle.dg_world.specs.Worlds.{MoteStands, SiteStands}
 use Rattle.dg_world.specs.Turns.{TurnEnds}
 use Rattle.dg_world.specs.declared.happening.Begun.{Begun}
 use Rattle.dg_world.specs.declared.shared.Shared.{Shared}
-use Rattle.dg_world.specs.declared.turn.Turn.{Turn}
-use Rattle.dg_world.specs.declared.turn.Turn.TheVariants.{Refused, Starts}
-use Rattle.dg_world.specs.declared.turn.Halt.{Halt}
 use Rattle.dg_world.specs.declared.world.RunningMote.{RunningMote}
+use Rattle.dg_world.specs.Turn.{Turn, Refused, Starts, Halt}
 
 -- what `happen` ensures
 abbrev pub Happens : Result Turn Halt → RuleWorld → Shared → (v u : Option RunningMote) → ℕ → Device → Device → Event → Type 0

@@ -1,6 +1,6 @@
 -- What injections and orders do at a board.
 use Rattle.std.proofs.Common.{◌≡◌, ◌≢◌, ◌⊎◌, ℕ, Bool, false, List, [], ◌++◌, refl, ap, sym, ◌∙◌, subst, ⊎_elim, inl, inr, arith}
-use Rattle.std.specs.Prelude.{◌==◌, if◌then◌else◌, Option, Some, None, Result, Ok, Err}
+use Rattle.std.specs.Prelude.{◌==◌, if◌then◌else◌, Option, Some, None, Result, Ok, Err, IsErrAnd}
 use Rattle.std.proofs.lemmas.List.{append-nil}
 use Rattle.std.proofs.lemmas.Bool.Decides.{nat_tests}
 use Rattle.dg_nor.specs.Device.{Device}
@@ -30,13 +30,14 @@ use Rattle.dg_world.specs.Shown.{Shows}
 use Rattle.dg_world.specs.Worlds.{MoteStands}
 use Rattle.dg_world.specs.Turns.{Went, TurnEnds}
 use Rattle.dg_world.specs.declared.shown.Shown.{Shown}
-use Rattle.dg_world.specs.declared.turn.Turn.{Turn}
-use Rattle.dg_world.specs.declared.turn.Turn.TheVariants.{Refused, Changes}
-use Rattle.dg_world.specs.declared.turn.Halt.{Halt}
 use Rattle.dg_world.specs.declared.world.RunningMote.{RunningMote}
-use Rattle.dg_world.specs.declared.turn.Halt.TheVariants.{Stopped}
 use Rattle.dg_world.proofs.ShownLemmas.{changes_told}
 use Rattle.dg_world.proofs.TurnLemmas.{turn_after}
+use Rattle.dg_world.specs.Turn.{Turn, Refused, Changes, Halt, Stopped}
+use Rattle.dg_world.specs.Tellings.{halt_of, turned}
+use Rattle.dg_world.specs.declared.telling.Telling.{Telling}
+use Rattle.dg_world.specs.declared.telling.Fault.{Fault}
+use Rattle.dg_world.specs.declared.telling.Fault.TheVariants as fault
 
 -- ---- acts that are reported
 
@@ -222,3 +223,44 @@ order_faulted w m now word o p a b c before e r stopped refused allowed some loo
 
 pub not_zero : (n : ℕ) → (n ≡ 0 → ⊥) → (n == 0) ≡ false
 not_zero n other = grind (arith, nat_tests, other)
+
+-- ---- a cause, or a stop
+
+abbrev cause_ok : Cause → Result Cause Fault
+cause_ok x = Ok x
+
+abbrev cause_err : Fault → Result Cause Fault
+cause_err f = Err f
+
+abbrev turn_ok : Turn → Result Turn Halt
+turn_ok t = Ok t
+
+abbrev turn_err : Halt → Result Turn Halt
+turn_err h = Err h
+
+ok_err : (x : Cause) (f : Fault) → cause_ok x ≡ cause_err f → ⊥
+ok_err x f e = cc
+
+same_cause : (x y : Cause) → cause_ok x ≡ cause_ok y → x ≡ y
+same_cause x y e = cc
+
+same_stop : (f g : Fault) → cause_err f ≡ cause_err g → f ≡ g
+same_stop f g e = cc
+
+-- a cause was found
+pub cause_stopped : (S : Type 0) (q : Result Cause Fault) (x : Cause) (r : Result Turn Halt) (before : Shown) → q ≡ Ok x → (S → q ≡ Err fault.Stopped) → S → r ≡ Err (Stopped (Some before))
+cause_stopped S q x r before is stopped s = absurd (ok_err x fault.Stopped (sym is ∙ stopped s))
+
+pub cause_refused : (S : Type 0) (q : Result Cause Fault) (x why : Cause) (t : Turn) → q ≡ Ok x → (S → q ≡ Ok why) → t ≡ Refused x → S → turn_ok t ≡ turn_ok (Refused why)
+cause_refused S q x why t is refused told s = ap turn_ok (told ∙ ap Refused (same_cause x why (sym is ∙ refused s)))
+
+-- none was, since the board stopped
+pub stop_stopped : (S : Type 0) (q : Result Cause Fault) (f : Fault) (r : Result (Unit {0}) Fault) (t : Telling) (before : Shown) → q ≡ Err f → IsErrAnd r (λ e. e ≡ f) → t.before ≡ Some before → (S → q ≡ Err fault.Stopped) → S
+    → turned r t ≡ Err (Stopped (Some before))
+stop_stopped S q f (Ok u) t before is same was stopped s = absurd same
+stop_stopped S q f (Err e) t before is same was stopped s =
+    let at : e ≡ fault.Stopped = same ∙ same_stop f fault.Stopped (sym is ∙ stopped s) in
+    ap (λ (x : Fault). turn_err (halt_of x t.before)) at ∙ ap (λ (o : Option Shown). turn_err (Stopped o)) was
+
+pub stop_refused : (S : Type 0) (q : Result Cause Fault) (f : Fault) (why : Cause) (r : Result Turn Halt) → q ≡ Err f → (S → q ≡ Ok why) → S → r ≡ Ok (Refused why)
+stop_refused S q f why r is refused s = absurd (ok_err why f (sym (refused s) ∙ is))

@@ -3,6 +3,7 @@ pub mod ImageLemmas
 pub mod WorldLemmas
 pub mod ShownLemmas
 pub mod TurnLemmas
+pub mod TellingLemmas
 pub mod StartLemmas
 pub mod TickLemmas
 pub mod InjectLemmas

@@ -15,7 +15,6 @@ use Rattle.dg_volume.specs.Stands.{Stands}
 use Rattle.dg_rules.specs.Sizes.{most_events}
 use Rattle.dg_mote.specs.Timely.{Timely}
 use Rattle.dg_mote.proofs.TimelyLemmas.{timely_later}
-use Rattle.arrayvec.specs.ArrayVec.{ArrayVec}
 use Rattle.dg_rules.specs.World.{World as RuleWorld, Running, Site, Sent, no_site, site, store_at}
 use Rattle.dg_rules.specs.Premises.{WorldTimely}
 use Rattle.dg_rules.specs.Events.{does, mote_of, dt_of}
@@ -34,11 +33,10 @@ use Rattle.dg_world.specs.Cuts.{IsStopped, IsLacking}
 use Rattle.dg_world.specs.Stepped.{StepDone, Stepped}
 use Rattle.dg_world.specs.declared.air.Air.{Air}
 use Rattle.dg_world.specs.declared.images.Images.{Images}
-use Rattle.dg_world.specs.declared.turn.Halt.{Halt}
-use Rattle.dg_world.specs.declared.turn.Halt.TheVariants.{Stopped, NotAVolume, NoImage}
 use Rattle.dg_world.specs.declared.world.WorldFault.{WorldFault}
 use Rattle.dg_world.specs.declared.world.World.{World}
 use Rattle.dg_world.specs.declared.world.RunningMote.{RunningMote}
+use Rattle.dg_world.specs.Turn.{Halt, Stopped, NotAVolume, NoImage}
 
 -- ---- lists by their indices
 
@@ -101,7 +99,7 @@ calm_board bs i a b known here kept = λ k p q old new.
 -- ---- the world then
 
 -- the code's world after a step
-pub record Moves (v u : World) (i : ℕ) (moment : ℕ) (runs : Option RunningMote) (frame : Option (ArrayVec ℕ)) : Type 0 where
+pub record Moves (v u : World) (i : ℕ) (moment : ℕ) (runs : Option RunningMote) (frame : Option (List ℕ)) : Type 0 where
   pub moment_then : u.moment ≡ moment
   pub events : u.events ≡ v.events + 1
   pub images : u.shared.images ≡ v.shared.images
@@ -109,7 +107,7 @@ pub record Moves (v u : World) (i : ℕ) (moment : ℕ) (runs : Option RunningMo
   pub sends : (before : List Sent) → Carries v.shared.air before → Carries u.shared.air (before ++ sent_now i frame)
   pub motes : u.motes.items ≡ set v.motes.items i runs
 
-module _ (v u : World) (bs : List Device) (w : RuleWorld) (x : Step) (loud : Bool) (i : ℕ) (runs : Option RunningMote) (frame : Option (ArrayVec ℕ)) (b : Device) (start end : List Report) (is : IsWorld v bs w) (at : i ≡ mote_of x.event) (known : i < length w.sites) (moves : Moves v u i (w.moment + dt_of x.event) runs frame) (s : StepDone w x loud runs frame b start end) where
+module _ (v u : World) (bs : List Device) (w : RuleWorld) (x : Step) (loud : Bool) (i : ℕ) (runs : Option RunningMote) (frame : Option (List ℕ)) (b : Device) (start end : List Report) (is : IsWorld v bs w) (at : i ≡ mote_of x.event) (known : i < length w.sites) (moves : Moves v u i (w.moment + dt_of x.event) runs frame) (s : StepDone w x loud runs frame b start end) where
   sites_are : s.world.sites ≡ set w.sites i s.here
   sites_are = s.sites ∙ ap (λ (j : ℕ). set w.sites j s.here) (sym at)
 
@@ -262,7 +260,7 @@ pub fits_each : (v : World) (bs : List Device) (w u : RuleWorld) (x : Step) → 
 fits_each v bs w u x is other fits = subst (λ (n : ℕ). StepFits n x) (is.motes ∙ sym other.motes) fits
 
 -- the same over boards that are given by an equation
-pub applied_at : (v u : World) (bs cs : List Device) (w : RuleWorld) (x : Step) (loud : Bool) (i : ℕ) (runs : Option RunningMote) (frame : Option (ArrayVec ℕ)) (a b : Device) (start end : List Report) → cs ≡ set bs i b → IsWorld v bs w → i ≡ mote_of x.event → i < length w.sites → v.events < most_events → dt_of x.event < 2 ^ 32
+pub applied_at : (v u : World) (bs cs : List Device) (w : RuleWorld) (x : Step) (loud : Bool) (i : ℕ) (runs : Option RunningMote) (frame : Option (List ℕ)) (a b : Device) (start end : List Report) → cs ≡ set bs i b → IsWorld v bs w → i ≡ mote_of x.event → i < length w.sites → v.events < most_events → dt_of x.event < 2 ^ 32
     → Moves v u i (w.moment + dt_of x.event) runs frame → slice_get bs i ≡ Some a → (s : Stepped (Ok frame) w x loud runs a b start end) → ((z : RuleWorld) (reports : List Report) → WorldStep w x z reports → WorldTimely z) → Applied w x loud u bs cs start end
 applied_at v u bs cs w x loud i runs frame a b start end e is at known few short moves here s timely =
     subst (λ (ds : List Device). Applied w x loud u bs ds start end) (sym e)
@@ -273,7 +271,7 @@ pub halts_there : (h : Halt) (f : WorldFault) (v u : World) (bs cs : List Device
 halts_there h f v u bs cs w x loud runs i mote a b start end e is_fault same is at known here s =
     subst (λ (ds : List Device). ApplyEnds (Err f) w x loud u bs ds start end) (sym e) (halts_at h f v u bs w x loud runs i mote a b start end is_fault same is at known here s)
 
-pub sent_at : (m i : ℕ) (frame : Option (ArrayVec ℕ)) (before : List Sent) (air : Air) → i ≡ m → Carries air (before ++ sent_now m frame) → Carries air (before ++ sent_now i frame)
+pub sent_at : (m i : ℕ) (frame : Option (List ℕ)) (before : List Sent) (air : Air) → i ≡ m → Carries air (before ++ sent_now m frame) → Carries air (before ++ sent_now i frame)
 sent_at m i frame before air same carries = subst (λ (j : ℕ). Carries air (before ++ sent_now j frame)) (sym same) carries
 
 -- room for a frame changes nothing

@@ -50,15 +50,15 @@ use Rattle.dg_world.specs.Worlds.{MoteStands}
 use Rattle.dg_world.specs.Turns.{SameShown, BeginsOver, turn_frame, turn_sent, turn_lines, sent_shown, Went, Lacked, TurnEnds}
 use Rattle.dg_world.specs.declared.happening.Begun.{Begun}
 use Rattle.dg_world.specs.declared.shown.Shown.{Shown}
-use Rattle.dg_world.specs.declared.turn.StartLine.{StartLine}
-use Rattle.dg_world.specs.declared.turn.Turn.{Turn}
-use Rattle.dg_world.specs.declared.turn.Turn.TheVariants.{Refused, Changes, Starts}
-use Rattle.dg_world.specs.declared.turn.Halt.{Halt}
-use Rattle.dg_world.specs.declared.turn.Halt.TheVariants.{Stopped}
+use Rattle.dg_world.specs.declared.telling.StartLine.{StartLine}
 use Rattle.dg_world.specs.declared.world.RunningMote.{RunningMote}
+use Rattle.dg_world.specs.declared.telling.Fault.{Fault}
+use Rattle.dg_world.specs.declared.telling.Fault.TheVariants as fault
+use Rattle.dg_world.specs.Tellings.{halt_of}
 use Rattle.dg_world.proofs.ShownLemmas.{changes_same, changes_told}
 use Rattle.dg_world.proofs.StartLemmas.{boot_same, boot_same_from, clear_same, same_shown, leaves_same}
-use Rattle.dg_world.proofs.TurnLemmas.{halted, same_err, start_after, halt_after}
+use Rattle.dg_world.proofs.TurnLemmas.{failed, same_fault, start_after, halt_after}
+use Rattle.dg_world.specs.Turn.{Turn, Refused, Changes, Starts, Halt, Stopped}
 
 -- ---- acts that are not reported
 
@@ -125,14 +125,14 @@ module _ (w : RuleWorld) (m : ℕ) (k : Kind) (id now word : ℕ) (old : Option 
     stands = l.stands;
   }
 
-  abbrev Ends : (v u : Option RunningMote) (a b : Device) → Halt → Type 0
-  Ends v u a b h = TurnEnds (Err h) w m (of_effect w (boots k s id now word) old) v u a b
+  abbrev Ends : (v u : Option RunningMote) (a b : Device) → Fault → Type 0
+  Ends v u a b f = TurnEnds (Err (halt_of f None)) w m (of_effect w (boots k s id now word) old) v u a b
 
-  pub begin_stopped : (T : Type 0) (h : Halt) (v u : Option RunningMote) (a b : Device) → halted T (Stopped None) ≡ halted T h → Stops t a b → Ends v u a b h
-  begin_stopped T h v u a b is stops = subst (Ends v u a b) (same_err T (Stopped None) h is) (start_stopped v u a b stops)
+  pub begin_stopped : (T : Type 0) (f : Fault) (v u : Option RunningMote) (a b : Device) → failed T fault.Stopped ≡ failed T f → Stops t a b → Ends v u a b f
+  begin_stopped T f v u a b is stops = subst (Ends v u a b) (same_fault T fault.Stopped f is) (start_stopped v u a b stops)
 
-  pub begin_lacks : (T : Type 0) (h : Halt) (v u : Option RunningMote) (a b : Device) → halted T Rattle.dg_world.specs.declared.turn.Halt.TheVariants.NoImage ≡ halted T h → Lacks (boot k s) a b → Ends v u a b h
-  begin_lacks T h v u a b is l = subst (Ends v u a b) (same_err T Rattle.dg_world.specs.declared.turn.Halt.TheVariants.NoImage h is) (start_lacks v u a b l)
+  pub begin_lacks : (T : Type 0) (f : Fault) (v u : Option RunningMote) (a b : Device) → failed T fault.NoImage ≡ failed T f → Lacks (boot k s) a b → Ends v u a b f
+  begin_lacks T f v u a b is l = subst (Ends v u a b) (same_fault T fault.NoImage f is) (start_lacks v u a b l)
 
 -- ---- ticks
 

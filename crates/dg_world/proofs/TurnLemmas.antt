@@ -1,6 +1,6 @@
 -- What an event does at a board, from what the acts on its volume did.
 use Rattle.std.proofs.Common.{◌≡◌, ℕ, ◌+◌, true, false, List, [], ◌∷◌, refl, sym, ◌∙◌, subst, inl, inr, ⊎_elim, arith}
-use Rattle.std.specs.Prelude.{Option, None, Result, Ok, Err, IsErrAnd}
+use Rattle.std.specs.Prelude.{Option, None, Result, Ok, Err}
 use Rattle.std.proofs.lemmas.Bool.{both_ways}
 use Rattle.dg_nor.specs.Device.{Device, Ran, Halts, Halted}
 use Rattle.dg_nor.specs.Trail.{Stage, Trail, operations, LeavesFrom, Leaves, EachWorks, MayLeave}
@@ -12,12 +12,12 @@ use Rattle.dg_volume.specs.Trails.{BeginsAt}
 use Rattle.dg_rules.specs.World.{World as RuleWorld, store_at}
 use Rattle.dg_rules.specs.Events.{Does, trail_of}
 use Rattle.dg_world.specs.Turns.{Went, TurnEnds}
-use Rattle.dg_world.specs.declared.turn.StartLine.{StartLine}
-use Rattle.dg_world.specs.declared.turn.Turn.{Turn}
-use Rattle.dg_world.specs.declared.turn.Turn.TheVariants.{Refused, Rests, Sends, Changes, Starts}
-use Rattle.dg_world.specs.declared.turn.Halt.{Halt}
+use Rattle.dg_world.specs.declared.telling.StartLine.{StartLine}
 use Rattle.dg_world.specs.declared.world.RunningMote.{RunningMote}
-use Rattle.dg_world.specs.declared.turn.Halt.TheVariants.{Stopped, NotAVolume, NoImage}
+use Rattle.dg_world.specs.declared.telling.Fault.{Fault}
+use Rattle.dg_world.specs.declared.telling.Fault.TheVariants as fault
+use Rattle.dg_world.specs.Tellings.{halt_of}
+use Rattle.dg_world.specs.Turn.{Turn, Refused, Rests, Sends, Changes, Starts, Halt, Stopped, NotAVolume, NoImage}
 
 -- ---- before the first operation
 
@@ -85,21 +85,14 @@ turn_after (Ok (Changes p q)) w m does v u a b c l x = went_after w m does u a b
 turn_after (Ok (Starts p)) w m does v u a b c l x = went_after w m does u a b c (Starts p) l.ran x
 turn_after (Err h) w m does v u a b c l x = halt_after h w m does v u a b c l.ran x
 
-abbrev pub halted : (T : Type 0) → Halt → Result T Halt
-halted T h = Err h
+abbrev pub failed : (T : Type 0) → Fault → Result T Fault
+failed T f = Err f
 
-pub same_err : (T : Type 0) (x y : Halt) → halted T x ≡ halted T y → x ≡ y
-same_err T x y e = cc
+pub same_fault : (T : Type 0) (x y : Fault) → failed T x ≡ failed T y → x ≡ y
+same_fault T x y e = cc
 
-pub read_halts : (T : Type 0) (w : RuleWorld) (m : ℕ) (does : Does) (v u : Option RunningMote) (a b : Device) (h : Halt) → halted T (Stopped None) ≡ halted T h → BeginsAt (store_at w m) (trail_of does (store_at w m)) → Stands a.image (store_at w m) → ReadStopped a b
-    → TurnEnds (Err h) w m does v u a b
-read_halts T w m does v u a b h is begins stands r =
-    let P : Halt → Type 0 = λ x. TurnEnds (Err x) w m does v u a b in
-    subst P (same_err T (Stopped None) h is) (read_stopped w m does v u a b begins stands r)
-
-pub turn_err : (r : Result Turn Halt) (x : Halt) (w : RuleWorld) (m : ℕ) (does : Does) (v u : Option RunningMote) (a b : Device) → IsErrAnd r (λ e. e ≡ x) → TurnEnds (Err x) w m does v u a b → TurnEnds r w m does v u a b
-turn_err (Ok t) x w m does v u a b is ends = absurd is
-turn_err (Err e) x w m does v u a b is ends = subst (λ (h : Halt). TurnEnds (Err h) w m does v u a b) (sym is) ends
-
-pub stopped_none : (T : Type 0) (h : Halt) → halted T (Stopped None) ≡ halted T h → h ≡ Stopped None
-stopped_none T h e = cc
+pub read_halts : (T : Type 0) (w : RuleWorld) (m : ℕ) (does : Does) (v u : Option RunningMote) (a b : Device) (f : Fault) → failed T fault.Stopped ≡ failed T f → BeginsAt (store_at w m) (trail_of does (store_at w m)) → Stands a.image (store_at w m) → ReadStopped a b
+    → TurnEnds (Err (halt_of f None)) w m does v u a b
+read_halts T w m does v u a b f is begins stands r =
+    let P : Fault → Type 0 = λ x. TurnEnds (Err (halt_of x None)) w m does v u a b in
+    subst P (same_fault T fault.Stopped f is) (read_stopped w m does v u a b begins stands r)

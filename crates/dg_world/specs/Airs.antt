@@ -1,6 +1,5 @@
 -- The frames that the code keeps are those that were sent.
 use Rattle.std.specs.Prelude.{◌≡◌, ℕ, ◌-◌, ◌<◌, ◌≤◌, nat_le, if◌then◌else◌, List, [], ◌∷◌, length, map, slice_get, slice_index_or, Option, Some, None}
-use Rattle.arrayvec.specs.ArrayVec.{ArrayVec}
 use Rattle.dg_rules.specs.Sizes.{most_motes}
 use Rattle.dg_rules.specs.World.{Sent, last_by}
 use Rattle.dg_world.specs.declared.air.SentFrame.{SentFrame}
@@ -10,9 +9,9 @@ abbrev pub sent_of : SentFrame → Sent
 sent_of f = record { by = f.by; bytes = f.frame.items }
 
 -- a frame that a mote sends, if it does
-abbrev pub sent_now : ℕ → Option (ArrayVec ℕ) → List Sent
+abbrev pub sent_now : ℕ → Option (List ℕ) → List Sent
 sent_now m None = []
-sent_now m (Some frame) = record { by = m; bytes = frame.items } ∷ []
+sent_now m (Some bytes) = record { by = m; bytes = bytes } ∷ []
 
 -- the frame with a number: the first one has number 1
 abbrev pub frame_in : List Sent → ℕ → Option Sent

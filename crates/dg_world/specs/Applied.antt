@@ -15,13 +15,12 @@ use Rattle.dg_rules.specs.Changes.{is_told}
 use Rattle.dg_rules.specs.Steps.{WorldStep, EndsRun, blows}
 use Rattle.dg_base.specs.declared.events.Step.{Step}
 use Rattle.dg_script.specs.declared.report.Report.{Report}
-use Rattle.dg_world.specs.declared.turn.Halt.{Halt}
-use Rattle.dg_world.specs.declared.turn.Halt.TheVariants.{Stopped, NotAVolume, NoImage}
 use Rattle.dg_world.specs.declared.world.WorldFault.{WorldFault}
 use Rattle.dg_world.specs.declared.world.WorldFault.TheVariants.{Memory, Flash, TooMany, NotAVolume as NotAVolumeFault, NoImage as NoImageFault}
 use Rattle.dg_world.specs.declared.world.World.{World}
 use Rattle.dg_world.specs.Worlds.{IsWorld}
 use Rattle.dg_world.specs.Counts.{NoneRose}
+use Rattle.dg_world.specs.Turn.{Halt, Stopped, NotAVolume, NoImage}
 
 -- No board but this one was used. No count fell, and a board is stopped only where it was, or where its count rose.
 pub record OneBoard (board : ℕ) (old new : List Device) : Type 0 where

@@ -13,12 +13,7 @@ use Rattle.dg_world.specs.Turns.{Tells, BeforeShows}
 use Rattle.dg_world.specs.Counts.{CountStays}
 use Rattle.dg_world.specs.declared.shown.Shown.{Shown}
 use Rattle.dg_world.specs.declared.world.RunningMote.{RunningMote}
-use Rattle.dg_world.specs.declared.turn.Turn.{Turn}
-use Rattle.dg_world.specs.declared.turn.Turn.TheVariants.{Refused, Rests, Sends, Changes, Starts}
-use Rattle.dg_world.specs.declared.turn.Halt.{Halt}
-use Rattle.dg_world.specs.declared.turn.Halt.TheVariants.{Stopped, NotAVolume, NoImage}
-use Rattle.dg_world.specs.declared.turn.Ended.{Ended}
-use Rattle.dg_world.specs.declared.turn.Ended.TheVariants.{Whole, Cut}
+use Rattle.dg_world.specs.Turn.{Turn, Refused, Rests, Sends, Changes, Starts, Halt, Stopped, NotAVolume, NoImage, Ended, Whole, Cut}
 
 -- how an event ended that answered this, where a cut blew over a board that is not stopped itself, or not
 abbrev pub ended : Bool → Result Turn Halt → Result Ended Halt

@@ -6,7 +6,9 @@ pub mod Counts
 pub mod Applied
 pub mod Formatted
 pub mod Shown
+pub mod Turn
 pub mod Turns
+pub mod Tellings
 pub mod Cuts
 pub mod Stepped
 pub mod Finished

@@ -1,7 +1,6 @@
 -- What is told of a step, and where it leaves the board.
-use Rattle.std.specs.Prelude.{◌≡◌, ℕ, ◌+◌, Bool, true, false, slice_set, length, List, ◌∷◌, [], ◌++◌, Option, Some, Result, Ok, Err}
+use Rattle.std.specs.Prelude.{◌≡◌, ℕ, ◌+◌, Bool, true, false, slice_set, length, List, ◌++◌, Option, Some, Result, Ok, Err}
 use Rattle.std.specs.List.{filter}
-use Rattle.arrayvec.specs.ArrayVec.{ArrayVec}
 use Rattle.dg_nor.specs.Device.{Device, Endures}
 use Rattle.dg_nor.specs.Fuse.{beneath_of}
 use Rattle.dg_nor.specs.Trail.{Trail, Leaves}
@@ -15,48 +14,37 @@ use Rattle.dg_rules.specs.Steps.{WorldStep, blows}
 use Rattle.dg_base.specs.declared.events.Step.{Step}
 use Rattle.dg_rules.specs.Changes.{changes, is_told}
 use Rattle.dg_script.specs.declared.report.Report.{Report}
-use Rattle.dg_script.specs.declared.report.Report.TheVariants.{Off}
 use Rattle.dg_world.specs.Airs.{sent_now}
 use Rattle.dg_world.specs.Worlds.{MoteStands}
 use Rattle.dg_world.specs.Counts.{CountStays}
 use Rattle.dg_world.specs.Cuts.{IsStopped, IsLacking}
-use Rattle.dg_world.specs.Turns.{BeforeShows, turn_lines}
+use Rattle.dg_world.specs.Turns.{BeforeShows}
 use Rattle.dg_world.specs.declared.shown.Shown.{Shown}
-use Rattle.dg_world.specs.declared.turn.Turn.{Turn}
-use Rattle.dg_world.specs.declared.turn.Halt.{Halt}
-use Rattle.dg_world.specs.declared.turn.Halt.TheVariants.{Stopped, NotAVolume, NoImage}
 use Rattle.dg_world.specs.declared.world.RunningMote.{RunningMote}
+use Rattle.dg_world.specs.Turn.{Halt, Stopped, NotAVolume, NoImage}
+use Rattle.dg_world.specs.declared.telling.Fault.{Fault}
+use Rattle.dg_world.specs.declared.telling.Fault.TheVariants as fault
 
 -- the board was only read
 pub record IsRead (old new : Device) : Type 0 where
   pub same_image : new.image ≡ old.image
   pub endures : Endures (beneath_of old) (beneath_of new)
 
--- the lines on what changed from s to t, of a trail that leaves t there
-abbrev pub TellsCut : (before : Option Shown) (t : Store) → ((m : ℕ) → List Report) → Type 0
-TellsCut before t lines = (m k : ℕ) (s : Store) (trail : Trail Store) → Leaves IsNear trail k t → BeforeShows before trail s → lines m ≡ changes m s t
-
--- what a cut changed was found in a reading of the board, which stands for t
-abbrev pub CutTold : Result Turn Halt → Option Shown → Store → Device → Device → Type 0
-CutTold (Ok turn) before t old new = TellsCut before t (λ m. turn_lines m turn) × IsRead old new × (new.faults ≡ old.faults)
-CutTold (Err (Stopped x)) before t old new = (new.stopped ≡ true) × IsRead old new
-CutTold (Err NotAVolume) before t old new = ⊥
-CutTold (Err NoImage) before t old new = ⊥
-
--- the lines of a cut were appended
-pub record CutLinesAre (m : ℕ) (before : Option Shown) (t : Store) (told_before told : List Report) : Type 0 where
+-- the lines of what a cut changed were appended
+pub record CutChangesAre (m : ℕ) (before : Option Shown) (t : Store) (told_before told : List Report) : Type 0 where
   pub lines : List Report
   pub tells : (k : ℕ) (s : Store) (trail : Trail Store) → Leaves IsNear trail k t → BeforeShows before trail s → lines ≡ changes m s t
-  pub told_now : told ≡ told_before ++ (lines ++ Off m ∷ [])
+  pub told_now : told ≡ told_before ++ lines
 
-abbrev pub CutLines : Result (Unit {0}) Halt → ℕ → Option Shown → Store → Device → Device → List Report → List Report → Type 0
-CutLines (Ok u) m before t old new told_before told = CutLinesAre m before t told_before told × IsRead old new × (new.faults ≡ old.faults)
-CutLines (Err (Stopped x)) m before t old new told_before told = (new.stopped ≡ true) × IsRead old new × (told ≡ told_before)
-CutLines (Err NotAVolume) m before t old new told_before told = ⊥
-CutLines (Err NoImage) m before t old new told_before told = ⊥
+-- they were found in a reading of the board, which stands for t
+abbrev pub CutTold : Result (Unit {0}) Fault → ℕ → Option Shown → Store → Device → Device → List Report → List Report → Type 0
+CutTold (Ok u) m before t old new told_before told = CutChangesAre m before t told_before told × IsRead old new × (new.faults ≡ old.faults)
+CutTold (Err fault.Stopped) m before t old new told_before told = (new.stopped ≡ true) × IsRead old new × (told ≡ told_before)
+CutTold (Err fault.NotAVolume) m before t old new told_before told = ⊥
+CutTold (Err fault.NoImage) m before t old new told_before told = ⊥
 
 -- A step was done at its board, which stood for the mote's store: what the rules allow, where the mote and the board are then, what was told, and what was sent.
-pub record StepDone (w : RuleWorld) (x : Step) (loud : Bool) (u : Option RunningMote) (frame : Option (ArrayVec ℕ)) (new : Device) (told_before told : List Report) : Type 0 where
+pub record StepDone (w : RuleWorld) (x : Step) (loud : Bool) (u : Option RunningMote) (frame : Option (List ℕ)) (new : Device) (told_before told : List Report) : Type 0 where
   pub world : RuleWorld
   pub reports : List Report
   pub step : WorldStep w x world reports
@@ -72,14 +60,14 @@ pub record StepDone (w : RuleWorld) (x : Step) (loud : Bool) (u : Option Running
   pub mote : MoteStands new.image u here.store here.runs
   pub memory : (d : Deed) (r : Runs) → does w x.event ≡ Goes d → blows x.cut d.trail ≡ false → d.started ≡ Some r → program new.image (length r.pages) ≡ r.pages
 
-abbrev pub StepEnds : Result (Option (ArrayVec ℕ)) Halt → RuleWorld → Step → (loud : Bool) → Option RunningMote → Device → List Report → List Report → Type 0
+abbrev pub StepEnds : Result (Option (List ℕ)) Halt → RuleWorld → Step → (loud : Bool) → Option RunningMote → Device → List Report → List Report → Type 0
 StepEnds (Ok frame) w x loud u new told_before told = StepDone w x loud u frame new told_before told
 StepEnds (Err (Stopped b)) w x loud u new told_before told = IsStopped w (mote_of x.event) (does w x.event) x.cut new × (told ≡ told_before)
 StepEnds (Err NoImage) w x loud u new told_before told = IsLacking (does w x.event) x.cut new.image × (told ≡ told_before)
 StepEnds (Err NotAVolume) w x loud u new told_before told = ⊥
 
 -- the step ended so at its board, whose count did not fall, and stays unless the board stopped, and left this of its mote
-pub record Stepped (r : Result (Option (ArrayVec ℕ)) Halt) (w : RuleWorld) (x : Step) (loud : Bool) (u : Option RunningMote) (old new : Device) (told_before told : List Report) : Type 0 where
+pub record Stepped (r : Result (Option (List ℕ)) Halt) (w : RuleWorld) (x : Step) (loud : Bool) (u : Option RunningMote) (old new : Device) (told_before told : List Report) : Type 0 where
   pub ends : StepEnds r w x loud u new told_before told
   pub endures : Endures (beneath_of old) (beneath_of new)
   pub count : CountStays r old new

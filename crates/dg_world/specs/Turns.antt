@@ -24,22 +24,19 @@ use Rattle.dg_world.specs.Worlds.{MoteStands}
 use Rattle.dg_world.specs.declared.happening.Begun.{Begun}
 use Rattle.dg_world.specs.declared.world.RunningMote.{RunningMote}
 use Rattle.dg_world.specs.declared.shown.Shown.{Shown}
-use Rattle.dg_world.specs.declared.turn.Turn.{Turn}
-use Rattle.dg_world.specs.declared.turn.Turn.TheVariants.{Refused, Rests, Sends, Changes, Starts}
-use Rattle.dg_world.specs.declared.turn.Halt.{Halt}
-use Rattle.dg_world.specs.declared.turn.Halt.TheVariants.{Stopped, NotAVolume, NoImage}
+use Rattle.dg_world.specs.Turn.{Turn, Refused, Rests, Sends, Changes, Starts, Halt, Stopped, NotAVolume, NoImage}
 
 -- the frame of a turn, and the turn of what a tick sent, if anything
 abbrev pub turn_frame : Turn → Option (List ℕ)
 turn_frame (Refused why) = None
 turn_frame Rests = None
-turn_frame (Sends frame) = Some frame.items
+turn_frame (Sends bytes) = Some bytes
 turn_frame (Changes old new) = None
 turn_frame (Starts x) = None
 
 abbrev pub turn_sent : Option (List ℕ) → Turn
 turn_sent None = Rests
-turn_sent (Some bytes) = Sends (record { items = bytes })
+turn_sent (Some bytes) = Sends bytes
 
 -- the line on a frame
 abbrev pub sent_shown : ℕ → Result Message FrameFault → List Report
@@ -49,7 +46,7 @@ sent_shown m (Ok message) = sent_line m (Some message)
 abbrev pub turn_lines : ℕ → Turn → List Report
 turn_lines m (Refused why) = RefusedLine m why ∷ []
 turn_lines m Rests = []
-turn_lines m (Sends frame) = sent_shown m (message_of frame.items)
+turn_lines m (Sends bytes) = sent_shown m (message_of bytes)
 turn_lines m (Changes old new) = changes_shown m old new
 turn_lines m (Starts x) = Start m x.key.image x.key.version x.length x.crc ∷ []
 
@@ -104,7 +101,7 @@ pub record Lacked (does : Does) (old new : Device) : Type 0 where
 abbrev pub TurnEnds : Result Turn Halt → RuleWorld → (m : ℕ) → Does → (v u : Option RunningMote) → Device → Device → Type 0
 TurnEnds (Ok (Refused why)) w m does v u old new = (does ≡ Refuses why) × Looked old new × (u ≡ v)
 TurnEnds (Ok Rests) w m does v u old new = Went w m does u old new Rests
-TurnEnds (Ok (Sends frame)) w m does v u old new = Went w m does u old new (Sends frame)
+TurnEnds (Ok (Sends bytes)) w m does v u old new = Went w m does u old new (Sends bytes)
 TurnEnds (Ok (Changes a b)) w m does v u old new = Went w m does u old new (Changes a b)
 TurnEnds (Ok (Starts x)) w m does v u old new = Went w m does u old new (Starts x)
 TurnEnds (Err (Stopped before)) w m does v u old new = StoppedOn does (store_at w m) old new before

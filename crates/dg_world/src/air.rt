@@ -1,11 +1,13 @@
 //! The frames that were sent.
 ghost use Rattle.std.specs.Prelude.{◌≡◌, ◌+◌, ◌<◌, ◌≤◌, ◌++◌, List, [], Some, None, vec_len, OnOk, option_map};
 ghost use Rattle.std.specs.Vec.{vec_capacity};
+ghost use Rattle.dg_mote.specs.Motes.{sent_in};
 ghost use Rattle.dg_rules.specs.Sizes.{most_motes};
 ghost use Rattle.dg_rules.specs.World.{Sent, last_by};
 ghost use Rattle.dg_world.specs.Airs.{Carries, sent_of, sent_now, frame_in};
 
 use dg_frame::Frame;
+use dg_mote::Outbox;
 use std::alloc::{AllocError, Global};
 
 /// The most motes of a world.
@@ -47,13 +49,13 @@ impl Air {
         }
     }
 
-    /// A mote sends a frame, if it does, which gets the next number. There is room for it.
-    pub(crate) fn send(&mut self, by: u8, sent: Option<Frame>)
+    /// A mote sends the frame of its outbox, if there is one, which gets the next number. There is room for it.
+    pub(crate) fn send(&mut self, by: u8, outbox: &mut Outbox)
         requires known { by < most_motes }
         requires room { vec_len self.old.frames + 1 ≤ vec_capacity self.old.frames }
-        ensures { (before : List Sent) → Carries self.old before → Carries self.new (before ++ sent_now by sent) }
+        ensures { (before : List Sent) → Carries self.old before → Carries self.new (before ++ sent_now by (sent_in outbox.old)) }
     {
-        if let Some(frame) = sent {
+        if let Some(frame) = outbox.take() {
             self.push(by, frame);
         }
     }
@@ -62,7 +64,7 @@ impl Air {
     fn push(&mut self, by: u8, frame: Frame)
         requires known { by < most_motes }
         requires room { vec_len self.old.frames + 1 ≤ vec_capacity self.old.frames }
-        ensures { (before : List Sent) → Carries self.old before → Carries self.new (before ++ sent_now by (Some frame)) }
+        ensures { (before : List Sent) → Carries self.old before → Carries self.new (before ++ sent_now by (Some frame.items)) }
     {
         self.frames.push_reserved(SentFrame { by, frame });
         self.last[usize::from(by)] = self.frames.len();

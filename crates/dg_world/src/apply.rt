@@ -1,5 +1,5 @@
 //! The steps of a world.
-ghost use Rattle.std.specs.Prelude.{◌≡◌, ◌⊎◌, ◌+◌, ◌<◌, ◌≤◌, ℕ, map, length, Err, OnOk, OnErr, vec_len};
+ghost use Rattle.std.specs.Prelude.{◌≡◌, ◌≢◌, ◌⊎◌, ◌+◌, ◌<◌, ◌≤◌, ℕ, Option, map, length, Err, OnOk, OnErr, vec_len};
 ghost use Rattle.std.specs.Vec.{vec_capacity};
 ghost use Rattle.dg_nor.specs.Device.{Device};
 ghost use Rattle.dg_rules.specs.Sizes.{most_events};
@@ -7,10 +7,12 @@ ghost use Rattle.dg_rules.specs.World.{World as RuleWorld};
 ghost use Rattle.dg_rules.specs.Ranges.{StepFits};
 ghost use Rattle.dg_world.specs.Worlds.{IsWorld};
 ghost use Rattle.dg_world.specs.Applied.{Applied, FlashAt, Ended, ApplyEnds, fault_of};
+ghost use Rattle.dg_world.specs.Tellings.{halt_of};
+ghost use Rattle.dg_world.specs.declared.shown.Shown.{Shown};
 
 use crate::events::{dt_at, mote_at};
 use crate::stepping::{MOST_LINES, step_at};
-use crate::turn::Halt;
+use crate::telling::{Fault, Telling};
 use crate::world::{World, WorldFault};
 use dg_nor::Nor;
 use dg_rules::{Report, Step, agreement_is_kept};
@@ -53,7 +55,7 @@ impl World {
         self.apply_roomy(boards, step, loud, out)
     }
 
-    /// The same, where there is room for a frame that is sent.
+    /// The same, where one event more may be applied and there is room for a frame that is sent.
     fn apply_roomy<N: Nor>(
         &mut self,
         boards: &mut Vec<N>,
@@ -61,14 +63,13 @@ impl World {
         loud: bool,
         out: &mut Vec<Report>,
     ) -> Result<(), WorldFault>
+        requires few { self.old.events < most_events }
         requires place { vec_len self.old.shared.air.frames + 1 ≤ vec_capacity self.old.shared.air.frames }
         requires world { (w : RuleWorld) × IsWorld self.old (map N.device boards.old.items) w × StepFits (length w.sites) step.now }
         ensures applied { OnOk result ((w : RuleWorld) → IsWorld self.old (map N.device boards.old.items) w
             → Applied w step.now loud self.new (map N.device boards.old.items) (map N.device boards.new.items) out.old.items out.new.items) }
-        ensures too_many { result ≡ Err WorldFault.TooMany → (w : RuleWorld) → IsWorld self.old (map N.device boards.old.items) w → w.events ≡ most_events }
-        ensures full { (w : RuleWorld) → IsWorld self.old (map N.device boards.old.items) w → w.events ≡ most_events
-            → result ≡ Err WorldFault.TooMany }
-        ensures unchanged { (result ≡ Err WorldFault.TooMany) ⊎ (result ≡ Err WorldFault.Memory)
+        ensures few { result ≢ Err WorldFault.TooMany }
+        ensures unchanged { result ≡ Err WorldFault.Memory
             → ((w : RuleWorld) → IsWorld self.old (map N.device boards.old.items) w → IsWorld self.new (map N.device boards.new.items) w)
             × (map N.device boards.new.items ≡ map N.device boards.old.items) }
         ensures untold { OnErr result (out.new.items ≡ out.old.items) }
@@ -78,9 +79,6 @@ impl World {
             → Ended w step.now (map N.device boards.old.items) (map N.device boards.new.items) }
         ensures a_volume { result ≡ Err WorldFault.NotAVolume → ⊥ }
     {
-        if self.events >= MOST_EVENTS {
-            return Err(WorldFault::TooMany);
-        }
         if out.reserve(MOST_LINES).is_err() {
             return Err(WorldFault::Memory);
         }
@@ -107,25 +105,36 @@ impl World {
         let index = usize::from(mote);
         let now = self.moment + u64::from(dt_at(&step.event));
         let runs = &mut self.motes[index];
-        match step_at(&self.shared, runs, now, step, loud, &mut boards[index], out) {
-            Ok(sent) => {
+        let board = &mut boards[index];
+        let mut telling = Telling::new();
+        match step_at(
+            &self.shared,
+            runs,
+            now,
+            step,
+            loud,
+            board,
+            &mut telling,
+            out,
+        ) {
+            Ok(()) => {
                 self.moment = now;
                 self.events += 1;
-                self.shared.air.send(mote, sent);
+                self.shared.air.send(mote, &mut telling.outbox);
                 Ok(())
             }
-            Err(halt) => Err(fault_at(halt, mote)),
+            Err(fault) => Err(fault_at(fault, mote)),
         }
     }
 }
 
 /// Why an event was not applied at this mote.
-fn fault_at(halt: Halt, mote: u8) -> WorldFault
-    ensures { result ≡ fault_of halt mote }
+fn fault_at(fault: Fault, mote: u8) -> WorldFault
+    ensures { (before : Option Shown) → result ≡ fault_of (halt_of fault before) mote }
 {
-    match halt {
-        Halt::Stopped { .. } => WorldFault::Flash { board: mote },
-        Halt::NotAVolume => WorldFault::NotAVolume,
-        Halt::NoImage => WorldFault::NoImage,
+    match fault {
+        Fault::Stopped => WorldFault::Flash { board: mote },
+        Fault::NotAVolume => WorldFault::NotAVolume,
+        Fault::NoImage => WorldFault::NoImage,
     }
 }

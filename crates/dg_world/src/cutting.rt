@@ -9,29 +9,23 @@ ghost use Rattle.dg_rules.specs.Ranges.{EventFits, CutFits};
 ghost use Rattle.dg_world.specs.Shareds.{IsShared};
 ghost use Rattle.dg_world.specs.Worlds.{SiteStands, MayRun};
 ghost use Rattle.dg_world.specs.Cuts.{ended, Played};
+ghost use Rattle.dg_world.specs.Tellings.{IsNothing, turned, ended_as};
 
 use crate::happening::happen;
 use crate::shared::Shared;
-use crate::turn::{Ended, Halt, Turn};
+use crate::telling::{Fault, Power, Telling};
 use crate::world::RunningMote;
 use dg_nor::{Fused, Nor};
 use dg_rules::{Cut, Event};
 
 /// How an event ended whose cut blew or not, at a board that is stopped itself or not.
-fn end_turn(blown: bool, stopped: bool, turn: Result<Turn, Halt>) -> Result<Ended, Halt>
-    ensures { result ≡ ended (blown && not stopped) turn }
+fn end_turn(blown: bool, stopped: bool, done: Result<(), Fault>) -> Result<Power, Fault>
+    ensures { (t : Telling) → ended_as result t ≡ ended (blown && not stopped) (turned done t) }
 {
-    match turn {
-        Ok(turn) => Ok(Ended::Whole { turn }),
-        Err(Halt::Stopped { before }) => {
-            if blown && !stopped {
-                Ok(Ended::Cut { before })
-            } else {
-                Err(Halt::Stopped { before })
-            }
-        }
-        Err(Halt::NotAVolume) => Err(Halt::NotAVolume),
-        Err(Halt::NoImage) => Err(Halt::NoImage),
+    match done {
+        Ok(()) => Ok(Power::Stays),
+        Err(Fault::Stopped) if blown && !stopped => Ok(Power::Cut),
+        Err(fault) => Err(fault),
     }
 }
 
@@ -64,18 +58,20 @@ pub(crate) fn play_cut<N: Nor>(
     event: &Event,
     cut: &Cut,
     board: &mut N,
-) -> Result<Ended, Halt>
+    telling: &mut Telling,
+) -> Result<Power, Fault>
     requires fits { (motes : ℕ) × EventFits motes event.now × (motes ≤ most_motes) }
     requires cut { CutFits cut.now }
     requires mote { MayRun (N.device board.old).image now runs.old }
     requires moment { now < 2 ^ 62 }
+    requires nothing { IsNothing telling.old }
     ensures { (w : RuleWorld) → IsShared shared.now w → SiteStands (N.device board.old) runs.old (site w (mote_of event.now))
         → now ≡ w.moment + dt_of event.now
-        → Played result w (mote_of event.now) (does w event.now) (Some cut.now) runs.old runs.new (N.device board.old) (N.device board.new) }
+        → Played (ended_as result telling.new) w (mote_of event.now) (does w event.now) (Some cut.now) runs.old runs.new (N.device board.old) (N.device board.new) }
 {
     let mut fused = fuse_of(cut, board);
-    let turn = happen(shared, runs, now, event, &mut fused);
+    let done = happen(shared, runs, now, event, &mut fused, telling);
     let blown = fused.blown();
     let stopped = board.is_stopped();
-    end_turn(blown, stopped, turn)
+    end_turn(blown, stopped, done)
 }

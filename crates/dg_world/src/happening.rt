@@ -18,34 +18,36 @@ ghost use Rattle.dg_base.specs.declared.events.Key.{Key as KeyValue};
 ghost use Rattle.dg_world.specs.Images.{Declares, row_of_image};
 ghost use Rattle.dg_world.specs.Shareds.{IsShared};
 ghost use Rattle.dg_world.specs.Worlds.{MoteStands, SiteStands, IsTimelyMote, MayRun};
-ghost use Rattle.dg_world.specs.Turns.{BeginsOver, turn_sent, TurnEnds};
+ghost use Rattle.dg_world.specs.Turn.{Starts, Changes};
+ghost use Rattle.dg_world.specs.Turns.{BeginsOver, TurnEnds};
+ghost use Rattle.dg_world.specs.Tellings.{IsNothing, halt_of, turned};
 
 use crate::images::{Image, Images};
 use crate::shared::Shared;
-use crate::shown::{Shown, show};
-use crate::turn::{Halt, StartLine, Turn};
+use crate::shown::show;
+use crate::telling::{Fault, StartLine, Telling};
 use crate::world::RunningMote;
 use dg_boot::{BootFault, Kind, Started, start};
-use dg_mote::{Did, Mote, Outbox, a_restart_is_for_the_order};
+use dg_mote::{Did, Mote, a_restart_is_for_the_order};
 use dg_nor::{Nor, Stopped};
 use dg_rules::{Cause, Event, Key};
 use dg_volume::{InjectFault, MountFault, OrderFault, Volume};
 
 /// Mounts a board.
-pub(crate) fn mount<N: Nor>(board: &mut N) -> Result<Volume, Halt>
+pub(crate) fn mount<N: Nor>(board: &mut N) -> Result<Volume, Fault>
     ensures mounted { IfOk result (λ v. (s : Store) → Stands (N.device board.old).image s → Mounted (N.device board.new).image v s) }
     ensures volume { IfOk result (λ v. IsMounted (N.device board.new).image v) }
     ensures free { IfOk result NothingLent }
     ensures looked { OnOk result (Looked (N.device board.old) (N.device board.new)) }
     ensures same_reference { (N.device board.new).references ≡ (N.device board.old).references }
-    ensures refused { (h : Halt) → result ≡ Err h → (s : Store) → Stands (N.device board.old).image s → (h ≡ Halt.Stopped None) × ReadStopped (N.device board.old) (N.device board.new) }
-    ensures halts { (h : Halt) → result ≡ Err h → (w : RuleWorld) (m : ℕ) (does : Does) (v u : Option RunningMote) → Stands (N.device board.old).image (store_at w m)
-        → BeginsAt (store_at w m) (trail_of does (store_at w m)) → TurnEnds (Err h) w m does v u (N.device board.old) (N.device board.new) }
+    ensures refused { (f : Fault) → result ≡ Err f → (s : Store) → Stands (N.device board.old).image s → (f ≡ Fault.Stopped) × ReadStopped (N.device board.old) (N.device board.new) }
+    ensures halts { (f : Fault) → result ≡ Err f → (w : RuleWorld) (m : ℕ) (does : Does) (v u : Option RunningMote) → Stands (N.device board.old).image (store_at w m)
+        → BeginsAt (store_at w m) (trail_of does (store_at w m)) → TurnEnds (Err (halt_of f None)) w m does v u (N.device board.old) (N.device board.new) }
 {
     match Volume::mount(board) {
         Ok(volume) => Ok(volume),
-        Err(MountFault::Stopped) => Err(Halt::Stopped { before: None }),
-        Err(MountFault::NotAVolume) => Err(Halt::NotAVolume),
+        Err(MountFault::Stopped) => Err(Fault::Stopped),
+        Err(MountFault::NotAVolume) => Err(Fault::NotAVolume),
     }
 }
 
@@ -57,19 +59,19 @@ struct Begun {
 }
 
 /// A board starts, and its mote is made anew.
-fn begin<N: Nor>(kind: Kind, id: u16, now: u64, word: u32, board: &mut N) -> Result<Begun, Halt>
+fn begin<N: Nor>(kind: Kind, id: u16, now: u64, word: u32, board: &mut N) -> Result<Begun, Fault>
     requires moment { now < 2 ^ 62 }
     ensures begun { IfOk result (λ b. (w : RuleWorld) (m : ℕ) (old : Option KeyValue) (v : Option RunningMote) → Stands (N.device board.old).image (store_at w m)
-        → TurnEnds (Ok (Turn.Starts b.line)) w m (of_effect w (boots kind (store_at w m) id now word) old) v (Some b.running) (N.device board.old) (N.device board.new)) }
-    ensures halts { (h : Halt) → result ≡ Err h → (w : RuleWorld) (m : ℕ) (old : Option KeyValue) (v u : Option RunningMote) → Stands (N.device board.old).image (store_at w m)
-        → TurnEnds (Err h) w m (of_effect w (boots kind (store_at w m) id now word) old) v u (N.device board.old) (N.device board.new) }
+        → TurnEnds (Ok (Starts b.line)) w m (of_effect w (boots kind (store_at w m) id now word) old) v (Some b.running) (N.device board.old) (N.device board.new)) }
+    ensures halts { (f : Fault) → result ≡ Err f → (w : RuleWorld) (m : ℕ) (old : Option KeyValue) (v u : Option RunningMote) → Stands (N.device board.old).image (store_at w m)
+        → TurnEnds (Err (halt_of f None)) w m (of_effect w (boots kind (store_at w m) id now word) old) v u (N.device board.old) (N.device board.new) }
     ensures same_reference { (N.device board.new).references ≡ (N.device board.old).references }
 {
     match start(board, kind) {
         Ok(started) => Ok(mote_of_start(started, id, now, word)),
-        Err(BootFault::Stopped) => Err(Halt::Stopped { before: None }),
-        Err(BootFault::NotAVolume) => Err(Halt::NotAVolume),
-        Err(BootFault::NoImage) => Err(Halt::NoImage),
+        Err(BootFault::Stopped) => Err(Fault::Stopped),
+        Err(BootFault::NotAVolume) => Err(Fault::NotAVolume),
+        Err(BootFault::NoImage) => Err(Fault::NoImage),
     }
 }
 
@@ -111,25 +113,18 @@ fn reset<N: Nor>(
     now: u64,
     word: u32,
     board: &mut N,
-) -> Result<Turn, Halt>
+    telling: &mut Telling,
+) -> Result<(), Fault>
     requires moment { now < 2 ^ 62 }
+    requires nothing { IsNothing telling.old }
     ensures ends { (w : RuleWorld) (m : ℕ) → m ≡ id → Stands (N.device board.old).image (store_at w m)
-        → TurnEnds result w m (of_effect w (reset_effect (store_at w m) m now word) None) runs.old runs.new (N.device board.old) (N.device board.new) }
+        → TurnEnds (turned result telling.new) w m (of_effect w (reset_effect (store_at w m) m now word) None) runs.old runs.new (N.device board.old) (N.device board.new) }
     ensures same_reference { (N.device board.new).references ≡ (N.device board.old).references }
 {
     let begun = begin(Kind::Power, id, now, word, board)?;
     *runs = Some(begun.running);
-    Ok(Turn::Starts { line: begun.line })
-}
-
-/// What a tick did that starts nothing.
-fn sent(mut out: Outbox) -> Turn
-    ensures { result ≡ turn_sent (sent_in out) }
-{
-    match out.take() {
-        Some(frame) => Turn::Sends { frame },
-        None => Turn::Rests,
-    }
+    telling.started = Some(begun.line);
+    Ok(())
 }
 
 /// A board starts for its order, and its mote is made anew.
@@ -139,12 +134,12 @@ fn restart<N: Nor>(
     now: u64,
     word: u32,
     board: &mut N,
-) -> Result<StartLine, Halt>
+) -> Result<StartLine, Fault>
     requires moment { now < 2 ^ 62 }
     ensures begun { IfOk result (λ line. (w : RuleWorld) (m : ℕ) (old : Option KeyValue) (v : Option RunningMote) → Stands (N.device board.old).image (store_at w m)
-        → TurnEnds (Ok (Turn.Starts line)) w m (of_effect w (boots Kind.Order (store_at w m) id now word) old) v (Some running.new) (N.device board.old) (N.device board.new)) }
-    ensures halts { (h : Halt) → result ≡ Err h → (w : RuleWorld) (m : ℕ) (old : Option KeyValue) (v u : Option RunningMote) → Stands (N.device board.old).image (store_at w m)
-        → TurnEnds (Err h) w m (of_effect w (boots Kind.Order (store_at w m) id now word) old) v u (N.device board.old) (N.device board.new) }
+        → TurnEnds (Ok (Starts line)) w m (of_effect w (boots Kind.Order (store_at w m) id now word) old) v (Some running.new) (N.device board.old) (N.device board.new)) }
+    ensures halts { (f : Fault) → result ≡ Err f → (w : RuleWorld) (m : ℕ) (old : Option KeyValue) (v u : Option RunningMote) → Stands (N.device board.old).image (store_at w m)
+        → TurnEnds (Err (halt_of f None)) w m (of_effect w (boots Kind.Order (store_at w m) id now word) old) v u (N.device board.old) (N.device board.new) }
     ensures same_reference { (N.device board.new).references ≡ (N.device board.old).references }
 {
     match begin(Kind::Order, id, now, word, board) {
@@ -152,7 +147,7 @@ fn restart<N: Nor>(
             *running = begun.running;
             Ok(begun.line)
         }
-        Err(halt) => Err(halt),
+        Err(fault) => Err(fault),
     }
 }
 
@@ -162,25 +157,27 @@ fn tick_on<N: Nor>(
     now: u64,
     word: u32,
     board: &mut N,
-) -> Result<Turn, Halt>
+    telling: &mut Telling,
+) -> Result<(), Fault>
     requires mote { IsTimelyMote (N.device board.old).image now running.old }
     requires moment { now < 2 ^ 62 }
+    requires nothing { IsNothing telling.old }
     ensures ends { (w : RuleWorld) (m : ℕ) (r : Running) → Stands (N.device board.old).image (store_at w m)
         → MoteStands (N.device board.old).image (Some running.old) (store_at w m) (Some r)
-        → TurnEnds result w m (of_effect w (tick_effect r.mote (store_at w m) now word) (Some r.key)) (Some running.old) (Some running.new) (N.device board.old) (N.device board.new) }
+        → TurnEnds (turned result telling.new) w m (of_effect w (tick_effect r.mote (store_at w m) now word) (Some r.key)) (Some running.old) (Some running.new) (N.device board.old) (N.device board.new) }
     ensures same_reference { (N.device board.new).references ≡ (N.device board.old).references }
 {
     a_restart_is_for_the_order();
-    let mut out = Outbox::new();
-    let Ok(did) = running.mote.tick(board, now, word, &mut out) else {
-        return Err(Halt::Stopped { before: None });
+    let Ok(did) = running.mote.tick(board, now, word, &mut telling.outbox) else {
+        return Err(Fault::Stopped);
     };
     match did {
-        Did::Sent | Did::Idle => Ok(sent(out)),
+        Did::Sent | Did::Idle => Ok(()),
         Did::Restart => {
             let id = running.mote.id();
             let line = restart(running, id, now, word, board)?;
-            Ok(Turn::Starts { line })
+            telling.started = Some(line);
+            Ok(())
         }
     }
 }
@@ -191,16 +188,21 @@ fn tick<N: Nor>(
     now: u64,
     word: u32,
     board: &mut N,
-) -> Result<Turn, Halt>
+    telling: &mut Telling,
+) -> Result<(), Fault>
     requires mote { MayRun (N.device board.old).image now runs.old }
     requires moment { now < 2 ^ 62 }
+    requires nothing { IsNothing telling.old }
     ensures ends { (w : RuleWorld) (m : ℕ) → SiteStands (N.device board.old) runs.old (site w m)
-        → TurnEnds result w m (tick_by w (store_at w m) (site w m).runs now word) runs.old runs.new (N.device board.old) (N.device board.new) }
+        → TurnEnds (turned result telling.new) w m (tick_by w (store_at w m) (site w m).runs now word) runs.old runs.new (N.device board.old) (N.device board.new) }
     ensures same_reference { (N.device board.new).references ≡ (N.device board.old).references }
 {
     match runs {
-        None => Ok(Turn::Refused { cause: Cause::Off }),
-        Some(running) => tick_on(running, now, word, board),
+        None => {
+            telling.refused = Some(Cause::Off);
+            Ok(())
+        }
+        Some(running) => tick_on(running, now, word, board, telling),
     }
 }
 
@@ -211,23 +213,23 @@ fn hear_on<N: Nor>(
     word: u32,
     bytes: &[u8],
     board: &mut N,
-) -> Result<Turn, Halt>
+    telling: &mut Telling,
+) -> Result<(), Fault>
     requires mote { IsTimelyMote (N.device board.old).image now running.old }
     requires moment { now < 2 ^ 62 }
+    requires nothing { IsNothing telling.old }
     ensures ends { (w : RuleWorld) (m : ℕ) (r : Running) → Stands (N.device board.old).image (store_at w m)
         → MoteStands (N.device board.old).image (Some running.old) (store_at w m) (Some r)
-        → TurnEnds result w m (of_effect w (frame_effect r.mote (store_at w m) now word bytes.now) (Some r.key)) (Some running.old) (Some running.new) (N.device board.old) (N.device board.new) }
+        → TurnEnds (turned result telling.new) w m (of_effect w (frame_effect r.mote (store_at w m) now word bytes.now) (Some r.key)) (Some running.old) (Some running.new) (N.device board.old) (N.device board.new) }
     ensures same_reference { (N.device board.new).references ≡ (N.device board.old).references }
 {
-    let before = show(running.mote.volume());
+    telling.before = Some(show(running.mote.volume()));
     match running.mote.hear(board, now, word, bytes) {
-        Ok(_) => Ok(Turn::Changes {
-            before,
-            after: show(running.mote.volume()),
-        }),
-        Err(Stopped) => Err(Halt::Stopped {
-            before: Some(before),
-        }),
+        Ok(_) => {
+            telling.after = Some(show(running.mote.volume()));
+            Ok(())
+        }
+        Err(Stopped) => Err(Fault::Stopped),
     }
 }
 
@@ -238,16 +240,21 @@ fn hear<N: Nor>(
     word: u32,
     bytes: &[u8],
     board: &mut N,
-) -> Result<Turn, Halt>
+    telling: &mut Telling,
+) -> Result<(), Fault>
     requires mote { MayRun (N.device board.old).image now runs.old }
     requires moment { now < 2 ^ 62 }
+    requires nothing { IsNothing telling.old }
     ensures ends { (w : RuleWorld) (m : ℕ) → SiteStands (N.device board.old) runs.old (site w m)
-        → TurnEnds result w m (hear_by w (store_at w m) (site w m).runs now word bytes.now) runs.old runs.new (N.device board.old) (N.device board.new) }
+        → TurnEnds (turned result telling.new) w m (hear_by w (store_at w m) (site w m).runs now word bytes.now) runs.old runs.new (N.device board.old) (N.device board.new) }
     ensures same_reference { (N.device board.new).references ≡ (N.device board.old).references }
 {
     match runs {
-        None => Ok(Turn::Refused { cause: Cause::Off }),
-        Some(running) => hear_on(running, now, word, bytes, board),
+        None => {
+            telling.refused = Some(Cause::Off);
+            Ok(())
+        }
+        Some(running) => hear_on(running, now, word, bytes, board, telling),
     }
 }
 
@@ -260,25 +267,30 @@ fn hear_numbered<N: Nor>(
     now: u64,
     word: u32,
     board: &mut N,
-) -> Result<Turn, Halt>
+    telling: &mut Telling,
+) -> Result<(), Fault>
     requires mote { MayRun (N.device board.old).image now runs.old }
     requires moment { now < 2 ^ 62 }
+    requires nothing { IsNothing telling.old }
     ensures ends { (w : RuleWorld) → IsShared shared.now w → SiteStands (N.device board.old) runs.old (site w mote)
-        → TurnEnds result w mote (unless_off (site w mote).runs (heard_sent w mote now word (frame_at w number))) runs.old runs.new (N.device board.old) (N.device board.new) }
+        → TurnEnds (turned result telling.new) w mote (unless_off (site w mote).runs (heard_sent w mote now word (frame_at w number))) runs.old runs.new (N.device board.old) (N.device board.new) }
     ensures same_reference { (N.device board.new).references ≡ (N.device board.old).references }
 {
     if runs.is_none() {
-        return Ok(Turn::Refused { cause: Cause::Off });
+        telling.refused = Some(Cause::Off);
+        return Ok(());
     }
     match shared.air.get(number as usize) {
-        None => Ok(Turn::Refused {
-            cause: Cause::Frame,
-        }),
+        None => {
+            telling.refused = Some(Cause::Frame);
+            Ok(())
+        }
         Some(sent) => {
             if shared.is_linked(sent.by, mote) {
-                hear(runs, now, word, sent.frame.as_slice(), board)
+                hear(runs, now, word, sent.frame.as_slice(), board, telling)
             } else {
-                Ok(Turn::Refused { cause: Cause::Link })
+                telling.refused = Some(Cause::Link);
+                Ok(())
             }
         }
     }
@@ -293,25 +305,30 @@ fn hear_last<N: Nor>(
     now: u64,
     word: u32,
     board: &mut N,
-) -> Result<Turn, Halt>
+    telling: &mut Telling,
+) -> Result<(), Fault>
     requires known { from < most_motes }
     requires mote { MayRun (N.device board.old).image now runs.old }
     requires moment { now < 2 ^ 62 }
+    requires nothing { IsNothing telling.old }
     ensures ends { (w : RuleWorld) → IsShared shared.now w → SiteStands (N.device board.old) runs.old (site w to)
-        → TurnEnds result w to (unless_off (site w to).runs (if linked w from to then heard_last w from to now word (last_frame w from) else Refuses Cause.Link)) runs.old runs.new (N.device board.old) (N.device board.new) }
+        → TurnEnds (turned result telling.new) w to (unless_off (site w to).runs (if linked w from to then heard_last w from to now word (last_frame w from) else Refuses Cause.Link)) runs.old runs.new (N.device board.old) (N.device board.new) }
     ensures same_reference { (N.device board.new).references ≡ (N.device board.old).references }
 {
     if runs.is_none() {
-        return Ok(Turn::Refused { cause: Cause::Off });
+        telling.refused = Some(Cause::Off);
+        return Ok(());
     }
     if !shared.is_linked(from, to) {
-        return Ok(Turn::Refused { cause: Cause::Link });
+        telling.refused = Some(Cause::Link);
+        return Ok(());
     }
     match shared.air.last_of(from) {
-        None => Ok(Turn::Refused {
-            cause: Cause::Frame,
-        }),
-        Some(sent) => hear(runs, now, word, sent.frame.as_slice(), board),
+        None => {
+            telling.refused = Some(Cause::Frame);
+            Ok(())
+        }
+        Some(sent) => hear(runs, now, word, sent.frame.as_slice(), board, telling),
     }
 }
 
@@ -335,51 +352,51 @@ fn inject_image<N: Nor>(
     now: u64,
     word: u32,
     board: &mut N,
-) -> Result<Turn, Halt>
+    telling: &mut Telling,
+) -> Result<(), Fault>
     requires known_image { key.image < images }
     requires some_version { 1 ≤ key.version }
     requires mote { MayRun (N.device board.old).image now runs.old }
     requires moment { now < 2 ^ 62 }
+    requires nothing { IsNothing telling.old }
     ensures ends { (w : RuleWorld) (m : ℕ) → SiteStands (N.device board.old) runs.old (site w m)
-        → TurnEnds result w m (inject_row w m (Some (row_of_image key image.now)) now word) runs.old runs.new (N.device board.old) (N.device board.new) }
+        → TurnEnds (turned result telling.new) w m (inject_row w m (Some (row_of_image key image.now)) now word) runs.old runs.new (N.device board.old) (N.device board.new) }
     ensures same_reference { (N.device board.new).references ≡ (N.device board.old).references }
 {
     let mut volume = mount(board)?;
-    let before = show(&volume);
+    telling.before = Some(show(&volume));
     let name = image.name.as_slice();
     let content = image.content.as_slice();
     match volume.inject(board, key.image, key.version, name, content) {
         Ok(_) => {
-            let after = show(&volume);
+            telling.after = Some(show(&volume));
             reload(runs, volume, now, word);
-            Ok(Turn::Changes { before, after })
+            Ok(())
         }
-        Err(fault) => inject_fault(fault, before, content.len()),
+        Err(fault) => {
+            telling.refused = Some(inject_fault(fault, content.len())?);
+            Ok(())
+        }
     }
 }
 
-/// What an event answers whose injection of so many bytes was not done.
-fn inject_fault(fault: InjectFault, before: Shown, bytes: usize) -> Result<Turn, Halt>
+/// Why an injection of so many bytes is refused that was not done, unless the board stopped.
+fn inject_fault(fault: InjectFault, bytes: usize) -> Result<Cause, Fault>
     requires { bytes < 2 ^ 32 }
-    ensures stopped { fault ≡ InjectFault.Stopped → result ≡ Err (Halt.Stopped (Some before)) }
-    ensures refused { fault ≢ InjectFault.Stopped → (row : Row) → length row.bytes ≡ bytes → result ≡ Ok (Turn.Refused (inject_cause row fault)) }
+    ensures stopped { fault ≡ InjectFault.Stopped → result ≡ Err Fault.Stopped }
+    ensures refused { fault ≢ InjectFault.Stopped → (row : Row) → length row.bytes ≡ bytes → result ≡ Ok (inject_cause row fault) }
 {
-    let cause = match fault {
-        InjectFault::Stopped => {
-            return Err(Halt::Stopped {
-                before: Some(before),
-            });
-        }
-        InjectFault::TooLarge => Cause::TooLarge {
+    match fault {
+        InjectFault::Stopped => Err(Fault::Stopped),
+        InjectFault::TooLarge => Ok(Cause::TooLarge {
             length: bytes as u32,
-        },
-        InjectFault::Empty => Cause::Empty,
-        InjectFault::Stale { kept } => Cause::Stale { version: kept },
-        InjectFault::Reserved => Cause::Reserved,
-        InjectFault::Worn { room } => Cause::Worn { room },
-        InjectFault::Taken => Cause::Taken,
-    };
-    Ok(Turn::Refused { cause })
+        }),
+        InjectFault::Empty => Ok(Cause::Empty),
+        InjectFault::Stale { kept } => Ok(Cause::Stale { version: kept }),
+        InjectFault::Reserved => Ok(Cause::Reserved),
+        InjectFault::Worn { room } => Ok(Cause::Worn { room }),
+        InjectFault::Taken => Ok(Cause::Taken),
+    }
 }
 
 /// Injects the image with this key, if it was declared.
@@ -390,25 +407,27 @@ fn inject<N: Nor>(
     now: u64,
     word: u32,
     board: &mut N,
-) -> Result<Turn, Halt>
+    telling: &mut Telling,
+) -> Result<(), Fault>
     requires known_image { key.image < images }
     requires some_version { 1 ≤ key.version }
     requires mote { MayRun (N.device board.old).image now runs.old }
     requires moment { now < 2 ^ 62 }
+    requires nothing { IsNothing telling.old }
     ensures ends { (w : RuleWorld) (m : ℕ) → Declares declared.now w.declared → SiteStands (N.device board.old) runs.old (site w m)
-        → TurnEnds result w m (if key.image == 0 then Refuses Cause.Reserved else inject_row w m (row_at w.declared key.image key.version) now word) runs.old runs.new (N.device board.old) (N.device board.new) }
+        → TurnEnds (turned result telling.new) w m (if key.image == 0 then Refuses Cause.Reserved else inject_row w m (row_at w.declared key.image key.version) now word) runs.old runs.new (N.device board.old) (N.device board.new) }
     ensures same_reference { (N.device board.new).references ≡ (N.device board.old).references }
 {
     if key.image == 0 {
-        return Ok(Turn::Refused {
-            cause: Cause::Reserved,
-        });
+        telling.refused = Some(Cause::Reserved);
+        return Ok(());
     }
     match declared.get(key) {
-        None => Ok(Turn::Refused {
-            cause: Cause::Image,
-        }),
-        Some(image) => inject_image(runs, key, image, now, word, board),
+        None => {
+            telling.refused = Some(Cause::Image);
+            Ok(())
+        }
+        Some(image) => inject_image(runs, key, image, now, word, board, telling),
     }
 }
 
@@ -420,44 +439,44 @@ fn order<N: Nor>(
     now: u64,
     word: u32,
     board: &mut N,
-) -> Result<Turn, Halt>
+    telling: &mut Telling,
+) -> Result<(), Fault>
     requires some_number { 1 ≤ number }
     requires known_image { key.image < images }
     requires some_version { 1 ≤ key.version }
     requires mote { MayRun (N.device board.old).image now runs.old }
     requires moment { now < 2 ^ 62 }
+    requires nothing { IsNothing telling.old }
     ensures ends { (w : RuleWorld) (m : ℕ) → SiteStands (N.device board.old) runs.old (site w m)
-        → TurnEnds result w m (order_unless (order_refusal (store_at w m) (record { number = number; image = key.image; version = key.version })) w m
+        → TurnEnds (turned result telling.new) w m (order_unless (order_refusal (store_at w m) (record { number = number; image = key.image; version = key.version })) w m
         (record { number = number; image = key.image; version = key.version }) now word) runs.old runs.new (N.device board.old) (N.device board.new) }
     ensures same_reference { (N.device board.new).references ≡ (N.device board.old).references }
 {
     let mut volume = mount(board)?;
-    let before = show(&volume);
+    telling.before = Some(show(&volume));
     match volume.order(board, number, key.image, key.version) {
         Ok(()) => {
-            let after = show(&volume);
+            telling.after = Some(show(&volume));
             reload(runs, volume, now, word);
-            Ok(Turn::Changes { before, after })
+            Ok(())
         }
-        Err(fault) => order_fault(fault, before),
+        Err(fault) => {
+            telling.refused = Some(order_fault(fault)?);
+            Ok(())
+        }
     }
 }
 
-/// What an event answers whose order was not kept.
-fn order_fault(fault: OrderFault, before: Shown) -> Result<Turn, Halt>
-    ensures stopped { fault ≡ OrderFault.Stopped → result ≡ Err (Halt.Stopped (Some before)) }
-    ensures refused { fault ≢ OrderFault.Stopped → result ≡ Ok (Turn.Refused (order_cause fault)) }
+/// Why an order is refused that was not kept, unless the board stopped.
+fn order_fault(fault: OrderFault) -> Result<Cause, Fault>
+    ensures stopped { fault ≡ OrderFault.Stopped → result ≡ Err Fault.Stopped }
+    ensures refused { fault ≢ OrderFault.Stopped → result ≡ Ok (order_cause fault) }
 {
-    let cause = match fault {
-        OrderFault::Stopped => {
-            return Err(Halt::Stopped {
-                before: Some(before),
-            });
-        }
-        OrderFault::Worn { room } => Cause::Worn { room },
-        OrderFault::OldOrder { kept } => Cause::OldOrder { number: kept },
-    };
-    Ok(Turn::Refused { cause })
+    match fault {
+        OrderFault::Stopped => Err(Fault::Stopped),
+        OrderFault::Worn { room } => Ok(Cause::Worn { room }),
+        OrderFault::OldOrder { kept } => Ok(Cause::OldOrder { number: kept }),
+    }
 }
 
 /// What an event does at the board of its mote, which runs `runs`, at the moment `now`.
@@ -467,27 +486,43 @@ pub(crate) fn happen<N: Nor>(
     now: u64,
     event: &Event,
     board: &mut N,
-) -> Result<Turn, Halt>
+    telling: &mut Telling,
+) -> Result<(), Fault>
     requires fits { (motes : ℕ) × EventFits motes event.now × (motes ≤ most_motes) }
     requires mote { MayRun (N.device board.old).image now runs.old }
     requires moment { now < 2 ^ 62 }
+    requires nothing { IsNothing telling.old }
     ensures ends { (w : RuleWorld) → IsShared shared.now w → SiteStands (N.device board.old) runs.old (site w (mote_of event.now)) → now ≡ w.moment + dt_of event.now
-        → TurnEnds result w (mote_of event.now) (does w event.now) runs.old runs.new (N.device board.old) (N.device board.new) }
+        → TurnEnds (turned result telling.new) w (mote_of event.now) (does w event.now) runs.old runs.new (N.device board.old) (N.device board.new) }
     ensures same_reference { (N.device board.new).references ≡ (N.device board.old).references }
 {
     match event {
-        Event::Tick { word, .. } => tick(runs, now, *word, board),
+        Event::Tick { word, .. } => tick(runs, now, *word, board, telling),
         Event::Hear {
             mote,
             word,
             frame,
             ..
-        } => hear_numbered(shared, runs, *mote, *frame, now, *word, board),
+        } => hear_numbered(shared, runs, *mote, *frame, now, *word, board, telling),
         Event::Last { from, to, word, .. } => {
-            hear_last(shared, runs, *from, *to, now, *word, board)
+            hear_last(shared, runs, *from, *to, now, *word, board, telling)
         }
-        Event::Frame { word, bytes, .. } => hear(runs, now, *word, bytes.as_slice(), board),
-        Event::Reset { mote, word, .. } => reset(runs, u16::from(*mote), now, *word, board),
+        Event::Frame { word, bytes, .. } => hear(
+            runs,
+            now,
+            *word,
+            bytes.as_slice(),
+            board,
+            telling,
+        ),
+        Event::Reset { mote, word, .. } => reset(
+            runs,
+            u16::from(*mote),
+            now,
+            *word,
+            board,
+            telling,
+        ),
         Event::Inject {
             image,
             version,
@@ -498,7 +533,7 @@ pub(crate) fn happen<N: Nor>(
                 image: *image,
                 version: *version,
             };
-            inject(&shared.images, runs, key, now, *word, board)
+            inject(&shared.images, runs, key, now, *word, board, telling)
         }
         Event::Order {
             number,
@@ -511,7 +546,7 @@ pub(crate) fn happen<N: Nor>(
                 image: *image,
                 version: *version,
             };
-            order(runs, *number, key, now, *word, board)
+            order(runs, *number, key, now, *word, board, telling)
         }
     }
 }

@@ -13,7 +13,7 @@ mod images;
 mod shared;
 mod shown;
 mod stepping;
-mod turn;
+mod telling;
 mod world;
 
 pub use air::{Air, SentFrame};

@@ -1,5 +1,5 @@
 //! A step at the board of its mote, and what is told of it.
-ghost use Rattle.std.specs.Prelude.{◌≡◌, ◌+◌, ◌^◌, ◌<◌, ◌≤◌, ◌∷◌, ◌++◌, ℕ, [], None, Some, length, vec_len, option_map, option_to_list};
+ghost use Rattle.std.specs.Prelude.{◌≡◌, ◌+◌, ◌^◌, ◌<◌, ◌≤◌, ◌∷◌, ◌++◌, ℕ, [], None, Some, length, vec_len, option_to_list};
 ghost use Rattle.std.specs.List.{filter};
 ghost use Rattle.std.specs.Vec.{vec_capacity};
 ghost use Rattle.dg_volume.specs.Store.{Store};
@@ -12,36 +12,39 @@ ghost use Rattle.dg_rules.specs.Events.{mote_of, dt_of};
 ghost use Rattle.dg_rules.specs.Ranges.{StepFits};
 ghost use Rattle.dg_world.specs.Shareds.{IsShared};
 ghost use Rattle.dg_world.specs.Worlds.{SiteStands, MayRun};
-ghost use Rattle.dg_world.specs.Turns.{turn_frame, turn_lines, sent_shown};
-ghost use Rattle.dg_world.specs.Stepped.{CutTold, CutLines, Stepped};
+ghost use Rattle.dg_world.specs.Turn.{Refused, Starts};
+ghost use Rattle.dg_world.specs.Turns.{turn_lines, sent_shown};
+ghost use Rattle.dg_world.specs.Tellings.{IsNothing, turn_of, stepped};
+ghost use Rattle.dg_world.specs.Stepped.{CutTold, Stepped};
 
 use crate::cutting::play_cut;
 use crate::events::mote_at;
 use crate::happening::{happen, mount};
 use crate::shared::Shared;
 use crate::shown::{MOST_CHANGES, Shown, push_changes, push_line, show};
-use crate::turn::{Ended, Halt, StartLine, Turn};
+use crate::telling::{Fault, Power, StartLine, Telling};
 use crate::world::RunningMote;
 use dg_frame::{Frame, Message, read};
+use dg_mote::Outbox;
 use dg_nor::Nor;
 use dg_rules::{Cause, Cut, Report, Step};
 
 /// The most lines that are told of a step.
 pub(crate) const MOST_LINES: usize = MOST_CHANGES + 1;
 
-/// Appends what is told of a turn. There is room for it.
-fn push_turn(mote: u8, turn: &Turn, loud: bool, out: &mut Vec<Report>)
+/// Appends the lines of what is told. There is room for them.
+fn push_told(mote: u8, telling: &Telling, loud: bool, out: &mut Vec<Report>)
     requires room { vec_len out.old + MOST_CHANGES ≤ vec_capacity out.old }
-    ensures told { out.new.items ≡ out.old.items ++ filter (is_told loud) (turn_lines mote turn.now) }
-    ensures room { vec_capacity out.new ≡ vec_capacity out.old }
-    ensures few { vec_len out.new ≤ vec_len out.old + MOST_CHANGES }
+    ensures { out.new.items ≡ out.old.items ++ filter (is_told loud) (turn_lines mote (turn_of telling.now)) }
 {
-    match turn {
-        Turn::Refused { cause } => push_refused(mote, *cause, out),
-        Turn::Rests => {}
-        Turn::Sends { frame } => push_sent(mote, frame, loud, out),
-        Turn::Changes { before, after } => push_changes(mote, before, after, out),
-        Turn::Starts { line } => push_start(mote, *line, out),
+    if let Some(frame) = telling.outbox.frame() {
+        push_sent(mote, frame, loud, out);
+    } else if let Some(cause) = telling.refused {
+        push_refused(mote, cause, out);
+    } else if let Some(line) = telling.started {
+        push_start(mote, line, out);
+    } else if let (Some(before), Some(after)) = (&telling.before, &telling.after) {
+        push_changes(mote, before, after, out);
     }
 }
 
@@ -105,7 +108,7 @@ fn message_line(mote: u8, message: &Message) -> Report
 
 fn push_refused(mote: u8, cause: Cause, out: &mut Vec<Report>)
     requires room { vec_len out.old + 1 ≤ vec_capacity out.old }
-    ensures told { out.new.items ≡ out.old.items ++ turn_lines mote (Turn.Refused cause) }
+    ensures told { out.new.items ≡ out.old.items ++ turn_lines mote (Refused cause) }
     ensures room { vec_capacity out.new ≡ vec_capacity out.old }
     ensures few { vec_len out.new ≤ vec_len out.old + 1 }
 {
@@ -114,7 +117,7 @@ fn push_refused(mote: u8, cause: Cause, out: &mut Vec<Report>)
 
 fn push_start(mote: u8, line: StartLine, out: &mut Vec<Report>)
     requires room { vec_len out.old + 1 ≤ vec_capacity out.old }
-    ensures told { out.new.items ≡ out.old.items ++ turn_lines mote (Turn.Starts line) }
+    ensures told { out.new.items ≡ out.old.items ++ turn_lines mote (Starts line) }
     ensures room { vec_capacity out.new ≡ vec_capacity out.old }
     ensures few { vec_len out.new ≤ vec_len out.old + 1 }
 {
@@ -127,53 +130,44 @@ fn push_start(mote: u8, line: StartLine, out: &mut Vec<Report>)
     });
 }
 
-/// What a cut changed of what is reported, read from the board where it may be something.
-fn after_cut<N: Nor>(before: Option<Shown>, board: &mut N) -> Result<Turn, Halt>
-    ensures { (s : Store) → Stands (N.device board.old).image s → CutTold result before s (N.device board.old) (N.device board.new) }
-{
-    match before {
-        None => Ok(Turn::Rests),
-        Some(before) => look_again(before, board),
-    }
-}
-
-fn look_again<N: Nor>(before: Shown, board: &mut N) -> Result<Turn, Halt>
-    ensures { (s : Store) → Stands (N.device board.old).image s → CutTold result (Some before) s (N.device board.old) (N.device board.new) }
-{
-    let volume = mount(board)?;
-    Ok(Turn::Changes {
-        before,
-        after: show(&volume),
-    })
-}
-
-/// Tells of a cut that blew. There is room for it.
-fn tell_cut<N: Nor>(
+/// Appends the lines of what a cut changed of what is reported, which is read from the board. There is room for them.
+fn look_again<N: Nor>(
     mote: u8,
-    before: Option<Shown>,
+    before: &Shown,
     board: &mut N,
     out: &mut Vec<Report>,
-) -> Result<(), Halt>
-    requires room { vec_len out.old + MOST_LINES ≤ vec_capacity out.old }
-    ensures { (s : Store) → Stands (N.device board.old).image s → CutLines result mote before s (N.device board.old) (N.device board.new) out.old.items out.new.items }
+) -> Result<(), Fault>
+    requires room { vec_len out.old + MOST_CHANGES ≤ vec_capacity out.old }
+    ensures told { (s : Store) → Stands (N.device board.old).image s
+        → CutTold result mote (Some before.now) s (N.device board.old) (N.device board.new) out.old.items out.new.items }
+    ensures room { vec_capacity out.new ≡ vec_capacity out.old }
+    ensures few { vec_len out.new ≤ vec_len out.old + MOST_CHANGES }
 {
-    let turn = after_cut(before, board)?;
-    push_turn(mote, &turn, true, out);
-    out.push_reserved(Report::Off { mote });
+    let volume = mount(board)?;
+    push_changes(mote, before, &show(&volume), out);
     Ok(())
 }
 
-/// Tells of a turn, and answers the frame that it sends. There is room for it.
-fn tell_turn(mote: u8, turn: Turn, loud: bool, out: &mut Vec<Report>) -> Option<Frame>
-    requires room { vec_len out.old + MOST_LINES ≤ vec_capacity out.old }
-    ensures sent { option_map (λ f. f.items) result ≡ turn_frame turn }
-    ensures told { out.new.items ≡ out.old.items ++ filter (is_told loud) (turn_lines mote turn) }
+/// The same, where this was reported of the chip before the cut if it may be something else now.
+fn tell_changes<N: Nor>(
+    mote: u8,
+    before: &Option<Shown>,
+    board: &mut N,
+    out: &mut Vec<Report>,
+) -> Result<(), Fault>
+    requires room { vec_len out.old + MOST_CHANGES ≤ vec_capacity out.old }
+    ensures told { (s : Store) → Stands (N.device board.old).image s
+        → CutTold result mote before.now s (N.device board.old) (N.device board.new) out.old.items out.new.items }
+    ensures room { vec_capacity out.new ≡ vec_capacity out.old }
+    ensures few { vec_len out.new ≤ vec_len out.old + MOST_CHANGES }
 {
-    push_turn(mote, &turn, loud, out);
-    turn.into_frame()
+    match before {
+        None => Ok(()),
+        Some(before) => look_again(mote, before, board, out),
+    }
 }
 
-/// A step without a cut at the board of its mote, and the frame that it sends. There is room for what is told of it.
+/// A step without a cut at the board of its mote, whose frame is left in the outbox. There is room for what is told of it.
 fn step_whole<N: Nor>(
     shared: &Shared,
     runs: &mut Option<RunningMote>,
@@ -181,22 +175,23 @@ fn step_whole<N: Nor>(
     step: &Step,
     loud: bool,
     board: &mut N,
+    telling: &mut Telling,
     out: &mut Vec<Report>,
-) -> Result<Option<Frame>, Halt>
+) -> Result<(), Fault>
     requires room { vec_len out.old + MOST_LINES ≤ vec_capacity out.old }
     requires fits { (motes : ℕ) × StepFits motes step.now × (motes ≤ most_motes) }
     requires uncut { step.now.cut ≡ None }
     requires mote { MayRun (N.device board.old).image now runs.old }
     requires moment { now < 2 ^ 62 }
+    requires nothing { IsNothing telling.old }
     ensures { (w : RuleWorld) → StepFits (length w.sites) step.now → IsShared shared.now w → SiteStands (N.device board.old) runs.old (site w (mote_of step.now.event))
         → now ≡ w.moment + dt_of step.now.event
-        → Stepped result w step.now loud runs.new (N.device board.old) (N.device board.new) out.old.items out.new.items }
+        → Stepped (stepped result telling.new) w step.now loud runs.new (N.device board.old) (N.device board.new) out.old.items out.new.items }
 {
     let mote = mote_at(&step.event);
-    match happen(shared, runs, now, &step.event, board) {
-        Ok(turn) => Ok(tell_turn(mote, turn, loud, out)),
-        Err(halt) => Err(halt),
-    }
+    happen(shared, runs, now, &step.event, board, telling)?;
+    push_told(mote, telling, loud, out);
+    Ok(())
 }
 
 /// A step with this cut at the board of its mote, which is off after it where it blew. There is room for what is told of it.
@@ -208,30 +203,33 @@ fn step_cut<N: Nor>(
     cut: &Cut,
     loud: bool,
     board: &mut N,
+    telling: &mut Telling,
     out: &mut Vec<Report>,
-) -> Result<Option<Frame>, Halt>
+) -> Result<(), Fault>
     requires room { vec_len out.old + MOST_LINES ≤ vec_capacity out.old }
     requires fits { (motes : ℕ) × StepFits motes step.now × (motes ≤ most_motes) }
     requires cut { step.now.cut ≡ Some cut.now }
     requires mote { MayRun (N.device board.old).image now runs.old }
     requires moment { now < 2 ^ 62 }
+    requires nothing { IsNothing telling.old }
     ensures { (w : RuleWorld) → StepFits (length w.sites) step.now → IsShared shared.now w → SiteStands (N.device board.old) runs.old (site w (mote_of step.now.event))
         → now ≡ w.moment + dt_of step.now.event
-        → Stepped result w step.now loud runs.new (N.device board.old) (N.device board.new) out.old.items out.new.items }
+        → Stepped (stepped result telling.new) w step.now loud runs.new (N.device board.old) (N.device board.new) out.old.items out.new.items }
 {
     let mote = mote_at(&step.event);
-    match play_cut(shared, runs, now, &step.event, cut, board) {
-        Ok(Ended::Whole { turn }) => Ok(tell_turn(mote, turn, loud, out)),
-        Ok(Ended::Cut { before }) => {
-            tell_cut(mote, before, board, out)?;
+    match play_cut(shared, runs, now, &step.event, cut, board, telling)? {
+        Power::Stays => push_told(mote, telling, loud, out),
+        Power::Cut => {
+            tell_changes(mote, &telling.before, board, out)?;
+            out.push_reserved(Report::Off { mote });
             *runs = None;
-            Ok(None)
+            telling.outbox = Outbox::new();
         }
-        Err(halt) => Err(halt),
     }
+    Ok(())
 }
 
-/// A step at the board of its mote, which runs `runs`, and the frame that it sends. There is room for what is told of it.
+/// A step at the board of its mote, which runs `runs`. Its frame is left in the outbox. There is room for what is told of it.
 pub(crate) fn step_at<N: Nor>(
     shared: &Shared,
     runs: &mut Option<RunningMote>,
@@ -239,18 +237,20 @@ pub(crate) fn step_at<N: Nor>(
     step: &Step,
     loud: bool,
     board: &mut N,
+    telling: &mut Telling,
     out: &mut Vec<Report>,
-) -> Result<Option<Frame>, Halt>
+) -> Result<(), Fault>
     requires room { vec_len out.old + MOST_LINES ≤ vec_capacity out.old }
     requires fits { (motes : ℕ) × StepFits motes step.now × (motes ≤ most_motes) }
     requires mote { MayRun (N.device board.old).image now runs.old }
     requires moment { now < 2 ^ 62 }
+    requires nothing { IsNothing telling.old }
     ensures { (w : RuleWorld) → StepFits (length w.sites) step.now → IsShared shared.now w → SiteStands (N.device board.old) runs.old (site w (mote_of step.now.event))
         → now ≡ w.moment + dt_of step.now.event
-        → Stepped result w step.now loud runs.new (N.device board.old) (N.device board.new) out.old.items out.new.items }
+        → Stepped (stepped result telling.new) w step.now loud runs.new (N.device board.old) (N.device board.new) out.old.items out.new.items }
 {
     match &step.cut {
-        None => step_whole(shared, runs, now, step, loud, board, out),
-        Some(cut) => step_cut(shared, runs, now, step, cut, loud, board, out),
+        None => step_whole(shared, runs, now, step, loud, board, telling, out),
+        Some(cut) => step_cut(shared, runs, now, step, cut, loud, board, telling, out),
     }
 }

@@ -1,9 +1,8 @@
-//! What an event does at a mote.
-ghost use Rattle.std.specs.Prelude.{◌≡◌, option_map};
-ghost use Rattle.dg_world.specs.Turns.{turn_frame};
+//! What is told of an event at a mote.
+ghost use Rattle.dg_world.specs.Tellings.{IsNothing};
 
 use crate::shown::Shown;
-use dg_frame::Frame;
+use dg_mote::Outbox;
 use dg_rules::{Cause, Key};
 
 /// An image that was started.
@@ -14,45 +13,49 @@ pub(crate) struct StartLine {
     pub(crate) crc: u16,
 }
 
-/// What an event did that was not stopped.
+/// What is told of an event. It is filled in as the event goes on, where it stands: most events tell little, and all of
+/// this is large.
 #[derive(Drop)]
-pub(crate) enum Turn {
-    Refused { cause: Cause },
-    /// Nothing that is reported.
-    Rests,
-    /// A frame is sent, and the chip stays as it is.
-    Sends { frame: Frame },
-    /// What is reported of the chip may be something else.
-    Changes { before: Shown, after: Shown },
-    Starts { line: StartLine },
+pub(crate) struct Telling {
+    /// Why the event was refused.
+    pub(crate) refused: Option<Cause>,
+    /// What is reported of the chip before the event, where the event may make something else of it.
+    pub(crate) before: Option<Shown>,
+    /// What is reported of it after the event.
+    pub(crate) after: Option<Shown>,
+    pub(crate) started: Option<StartLine>,
+    /// The frame that is sent.
+    pub(crate) outbox: Outbox,
 }
 
-impl Turn {
-    /// The frame that is sent.
-    pub(crate) fn into_frame(self) -> Option<Frame>
-        ensures { option_map (λ f. f.items) result ≡ turn_frame self }
+impl Telling {
+    /// Nothing is told yet.
+    pub(crate) fn new() -> Telling
+        ensures { IsNothing result }
     {
-        match self {
-            Turn::Sends { frame } => Some(frame),
-            Turn::Refused { .. } | Turn::Rests | Turn::Changes { .. } | Turn::Starts { .. } => None,
+        Telling {
+            refused: None,
+            before: None,
+            after: None,
+            started: None,
+            outbox: Outbox::new(),
         }
     }
 }
 
 /// Why an event was not done.
 #[derive(Clone, Copy, Debug, PartialEq, Eq)]
-pub(crate) enum Halt {
-    /// The board is stopped. What is reported of the chip was this before, and is the same after a stop where this is
-    /// None.
-    Stopped { before: Option<Shown> },
+pub(crate) enum Fault {
+    /// The board is stopped.
+    Stopped,
     NotAVolume,
     NoImage,
 }
 
 /// How an event ended whose power may have been cut.
-#[derive(Drop)]
-pub(crate) enum Ended {
-    Whole { turn: Turn },
-    /// The cut blew. What is reported of the chip was this before, and is the same after it where this is None.
-    Cut { before: Option<Shown> },
+#[derive(Clone, Copy, Debug, PartialEq, Eq)]
+pub(crate) enum Power {
+    Stays,
+    /// The cut blew.
+    Cut,
 }

@@ -8,6 +8,7 @@ use Rattle.dg_rules.specs.Events.{does, mote_of}
 use Rattle.dg_world.specs.Worlds.{MoteStands, SiteStands, MayRun}
 use Rattle.dg_world.specs.declared.world.RunningMote.{RunningMote}
 use Rattle.dg_world.specs.Cuts.{ended, Played}
+use Rattle.dg_world.specs.Tellings.{turned, ended_as}
 use Rattle.dg_world.proofs.CutLemmas.{is_fused, fused, played_as}
 use Rattle.dg_world.proofs.cutting.play_cut.Goals as goal
 
@@ -18,8 +19,8 @@ begun a d v x same stands = record {
   mote = subst (λ (c : List ℕ). MoteStands c v x.store x.runs) (sym same) stands.mote;
 }
 
-pub happen-turn-requires-clause-mote : goal.happen-turn-requires-clause-mote
-happen-turn-requires-clause-mote g c =
+pub happen-done-requires-clause-mote : goal.happen-done-requires-clause-mote
+happen-done-requires-clause-mote g c =
     let made = ap (λ (d : Device). d.image) c.fuse_of-fused.ensures.device in
     subst (λ (i : List ℕ). MayRun i c.args.now c.args.runs.now) (sym made) c.requires.mote
 
@@ -30,15 +31,16 @@ returns g c = λ w shared stands at.
     let cut = c.args.cut.now in
     let made = c.fuse_of-fused.ensures.device in
     let v = c.args.runs.now in
-    let u = c.happen-turn.new.runs in
-    let name = sym (same_reference device c.fuse_of-fused.result c.happen-turn.new.board c.happen-turn.ensures.same_reference ∙ c.fuse_of-fused.ensures.same_reference) in
+    let u = c.happen-done.new.runs in
+    let t = c.happen-done.new.telling in
+    let name = sym (same_reference device c.fuse_of-fused.result c.happen-done.new.board c.happen-done.ensures.same_reference ∙ c.fuse_of-fused.ensures.same_reference) in
     let last = c.board-1.given.1 name in
     let here = begun (device c.args.board.now) _ v (site w m) (ap (λ (d : Device). d.image) made) stands in
-    let f = is_fused device cut (device c.args.board.now) c.fuse_of-fused.result c.happen-turn.new.board _ c.requires.cut.counted made in
-    let p = fused c.happen-turn.result cut w m (does w c.args.event.now) v u _ _ _ _ f (c.happen-turn.ensures.ends w shared here at) in
+    let f = is_fused device cut (device c.args.board.now) c.fuse_of-fused.result c.happen-done.new.board _ c.requires.cut.counted made in
+    let p = fused (turned c.happen-done.result t) cut w m (does w c.args.event.now) v u _ _ _ _ f (c.happen-done.ensures.ends w shared here at) in
     let awake = c.is_stopped-stopped.ensures ∙ ap (λ (x : g.row.N.Denot). (device x).stopped) last in
-    let e = c.end_turn.ensures
-    ∙ ap (λ b. ended (b && not c.is_stopped-stopped.result) c.happen-turn.result) c.blown-blown.ensures
-    ∙ ap (λ b. ended (c.happen-turn.new.board.blown && not b) c.happen-turn.result) awake in
-    let P : g.row.N.Denot → Type 0 = λ x. Played c.end_turn.result w m (does w c.args.event.now) (Some cut) v u (device c.args.board.now) (device x) in
-    subst P (sym last) (played_as c.end_turn.result _ (Some cut) (Some cut) w m (does w c.args.event.now) v u _ _ e refl p)
+    let e = c.end_turn.ensures t
+    ∙ ap (λ b. ended (b && not c.is_stopped-stopped.result) (turned c.happen-done.result t)) c.blown-blown.ensures
+    ∙ ap (λ b. ended (c.happen-done.new.board.blown && not b) (turned c.happen-done.result t)) awake in
+    let P : g.row.N.Denot → Type 0 = λ x. Played (ended_as c.end_turn.result t) w m (does w c.args.event.now) (Some cut) v u (device c.args.board.now) (device x) in
+    subst P (sym last) (played_as (ended_as c.end_turn.result t) _ (Some cut) (Some cut) w m (does w c.args.event.now) v u _ _ e refl p)

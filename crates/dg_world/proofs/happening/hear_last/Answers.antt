@@ -5,13 +5,16 @@ use Rattle.dg_rules.specs.World.{Sent, site, store_at, last_frame, linked}
 use Rattle.dg_rules.specs.Events.{Does, Refuses, hear_by, heard_last}
 use Rattle.dg_script.specs.declared.report.Cause.TheVariants as cause
 use Rattle.dg_script.specs.Places.{is_linked}
-use Rattle.dg_world.specs.declared.turn.Turn.TheVariants.{Refused}
+use Rattle.dg_world.specs.Tellings.{turned}
+use Rattle.dg_world.proofs.TellingLemmas.{told_as, is_refused}
 use Rattle.dg_world.proofs.HappenLemmas.{not_off, is_off, refuses_at, ends_at, none_told}
 use Rattle.dg_world.proofs.happening.hear_last.Goals as goal
+use Rattle.dg_world.specs.Turn.{Refused}
 
 pub returns-then-is_none-clause-ends : goal.returns-then-is_none-clause-ends
 returns-then-is_none-clause-ends g c = λ w is stands.
-    is_off w c.args.to _ c.args.runs.now _ (store_at w c.args.to) (site w c.args.to).runs _ stands.mote (none_told c.args.runs.now c.is_none.result true c.is_none.ensures c.if-is_none.true) (Looked-none _)
+    told_as w c.args.to _ _ _ _ _ _ _ (is_refused _ _ _ _ _ c.requires.nothing.sent)
+    (is_off w c.args.to _ c.args.runs.now _ (store_at w c.args.to) (site w c.args.to).runs _ stands.mote (none_told c.args.runs.now c.is_none.result true c.is_none.ensures c.if-is_none.true) (Looked-none _))
 
 pub returns-then-not-is_linked-clause-ends : goal.returns-then-not-is_linked-clause-ends
 returns-then-not-is_linked-clause-ends g c = λ w is stands.
@@ -20,8 +23,9 @@ returns-then-not-is_linked-clause-ends g c = λ w is stands.
     let a = g.N.Nor.device c.args.board.now in
     let L : Bool → Does = λ b. if b then heard_last w c.args.from m c.args.now c.args.word (last_frame w c.args.from) else Refuses cause.Link in
     let far : linked w c.args.from m ≡ false = ap (λ links. is_linked links c.args.from m) is.links ∙ sym c.is_linked.ensures ∙ c.if-not-is_linked.true in
-    not_off (Ok (Refused cause.Link)) w c.args.shared.now v v c.args.now a a m (L (linked w c.args.from m)) a.image (store_at w m) (site w m).runs stands.mote (none_told c.args.runs.now c.is_none.result false c.is_none.ensures c.if-is_none.false)
-    (refuses_at L (linked w c.args.from m) false cause.Link w m v a far refl (Looked-none a))
+    told_as w c.args.to _ _ _ _ _ _ _ (is_refused _ _ _ _ _ c.requires.nothing.sent)
+    (not_off (Ok (Refused cause.Link)) w c.args.shared.now v v c.args.now a a m (L (linked w c.args.from m)) a.image (store_at w m) (site w m).runs stands.mote (none_told c.args.runs.now c.is_none.result false c.is_none.ensures c.if-is_none.false)
+    (refuses_at L (linked w c.args.from m) false cause.Link w m v a far refl (Looked-none a)))
 
 pub returns-in-None-clause-ends : goal.returns-in-None-clause-ends
 returns-in-None-clause-ends g c = λ w is stands.
@@ -31,8 +35,9 @@ returns-in-None-clause-ends g c = λ w is stands.
     let D : Option Sent → Does = λ x. heard_last w c.args.from m c.args.now c.args.word x in
     let L : Bool → Does = λ b. if b then D (last_frame w c.args.from) else Refuses cause.Link in
     let near : linked w c.args.from m ≡ true = ap (λ links. is_linked links c.args.from m) is.links ∙ sym c.is_linked.ensures ∙ c.if-not-is_linked.false in
-    not_off (Ok (Refused cause.Frame)) w c.args.shared.now v v c.args.now a a m (L (linked w c.args.from m)) a.image (store_at w m) (site w m).runs stands.mote (none_told c.args.runs.now c.is_none.result false c.is_none.ensures c.if-is_none.false)
-    (refuses_at L (linked w c.args.from m) true cause.Frame w m v a near (ap D (sym (c.in-None.ensures w.sent is.sent))) (Looked-none a))
+    told_as w c.args.to _ _ _ _ _ _ _ (is_refused _ _ _ _ _ c.requires.nothing.sent)
+    (not_off (Ok (Refused cause.Frame)) w c.args.shared.now v v c.args.now a a m (L (linked w c.args.from m)) a.image (store_at w m) (site w m).runs stands.mote (none_told c.args.runs.now c.is_none.result false c.is_none.ensures c.if-is_none.false)
+    (refuses_at L (linked w c.args.from m) true cause.Frame w m v a near (ap D (sym (c.in-None.ensures w.sent is.sent))) (Looked-none a)))
 
 pub returns-in-Some-clause-ends : goal.returns-in-Some-clause-ends
 returns-in-Some-clause-ends g c = λ w is stands.
@@ -46,7 +51,7 @@ returns-in-Some-clause-ends g c = λ w is stands.
     let D : Option Sent → Does = λ x. heard_last w c.args.from m c.args.now c.args.word x in
     let L : Bool → Does = λ b. if b then D (last_frame w c.args.from) else Refuses cause.Link in
     let near : linked w c.args.from m ≡ true = ap (λ links. is_linked links c.args.from m) is.links ∙ sym c.is_linked.ensures ∙ c.if-not-is_linked.false in
-    not_off c.hear.result w c.args.shared.now v u c.args.now a _ m (L (linked w c.args.from m)) a.image (store_at w m) (site w m).runs stands.mote (none_told c.args.runs.now c.is_none.result false c.is_none.ensures c.if-is_none.false)
-    (ends_at L (linked w c.args.from m) true c.hear.result w m v u a _ near
-    (ends_at D (last_frame w c.args.from) (Some sent) c.hear.result w m v u a _ (sym (c.in-Some.ensures w.sent is.sent))
-    (ends_at H f.frame.items c.as_slice.result.now c.hear.result w m v u a _ (sym c.as_slice.ensures.value) (c.hear.ensures.ends w m stands))))
+    not_off (turned c.hear.result c.hear.new.telling) w c.args.shared.now v u c.args.now a _ m (L (linked w c.args.from m)) a.image (store_at w m) (site w m).runs stands.mote (none_told c.args.runs.now c.is_none.result false c.is_none.ensures c.if-is_none.false)
+    (ends_at L (linked w c.args.from m) true (turned c.hear.result c.hear.new.telling) w m v u a _ near
+    (ends_at D (last_frame w c.args.from) (Some sent) (turned c.hear.result c.hear.new.telling) w m v u a _ (sym (c.in-Some.ensures w.sent is.sent))
+    (ends_at H f.frame.items c.as_slice.result.now (turned c.hear.result c.hear.new.telling) w m v u a _ (sym c.as_slice.ensures.value) (c.hear.ensures.ends w m stands))))

@@ -5,13 +5,16 @@ use Rattle.dg_rules.specs.World.{Sent, site, store_at, frame_at, linked}
 use Rattle.dg_rules.specs.Events.{Does, Refuses, hear_by, heard_sent}
 use Rattle.dg_script.specs.declared.report.Cause.TheVariants as cause
 use Rattle.dg_script.specs.Places.{is_linked}
-use Rattle.dg_world.specs.declared.turn.Turn.TheVariants.{Refused}
+use Rattle.dg_world.specs.Tellings.{turned}
+use Rattle.dg_world.proofs.TellingLemmas.{told_as, is_refused}
 use Rattle.dg_world.proofs.HappenLemmas.{not_off, is_off, refuses_at, ends_at, none_told}
 use Rattle.dg_world.proofs.happening.hear_numbered.Goals as goal
+use Rattle.dg_world.specs.Turn.{Refused}
 
 pub returns-then-is_none-clause-ends : goal.returns-then-is_none-clause-ends
 returns-then-is_none-clause-ends g c = λ w is stands.
-    is_off w c.args.mote _ c.args.runs.now _ (store_at w c.args.mote) (site w c.args.mote).runs _ stands.mote (none_told c.args.runs.now c.is_none.result true c.is_none.ensures c.if-is_none.true) (Looked-none _)
+    told_as w c.args.mote _ _ _ _ _ _ _ (is_refused _ _ _ _ _ c.requires.nothing.sent)
+    (is_off w c.args.mote _ c.args.runs.now _ (store_at w c.args.mote) (site w c.args.mote).runs _ stands.mote (none_told c.args.runs.now c.is_none.result true c.is_none.ensures c.if-is_none.true) (Looked-none _))
 
 pub returns-in-None-clause-ends : goal.returns-in-None-clause-ends
 returns-in-None-clause-ends g c = λ w is stands.
@@ -19,8 +22,9 @@ returns-in-None-clause-ends g c = λ w is stands.
     let v = c.args.runs.now in
     let a = g.N.Nor.device c.args.board.now in
     let D : Option Sent → Does = λ x. heard_sent w m c.args.now c.args.word x in
-    not_off (Ok (Refused cause.Frame)) w c.args.shared.now v v c.args.now a a m (D (frame_at w c.args.number)) a.image (store_at w m) (site w m).runs stands.mote (none_told c.args.runs.now c.is_none.result false c.is_none.ensures c.if-is_none.false)
-    (refuses_at D (frame_at w c.args.number) None cause.Frame w m v a (sym (c.in-None.ensures w.sent is.sent)) refl (Looked-none a))
+    told_as w c.args.mote _ _ _ _ _ _ _ (is_refused _ _ _ _ _ c.requires.nothing.sent)
+    (not_off (Ok (Refused cause.Frame)) w c.args.shared.now v v c.args.now a a m (D (frame_at w c.args.number)) a.image (store_at w m) (site w m).runs stands.mote (none_told c.args.runs.now c.is_none.result false c.is_none.ensures c.if-is_none.false)
+    (refuses_at D (frame_at w c.args.number) None cause.Frame w m v a (sym (c.in-None.ensures w.sent is.sent)) refl (Looked-none a)))
 
 pub returns-then-is_linked-clause-ends : goal.returns-then-is_linked-clause-ends
 returns-then-is_linked-clause-ends g c = λ w is stands.
@@ -33,10 +37,10 @@ returns-then-is_linked-clause-ends g c = λ w is stands.
     let H : List ℕ → Does = λ bytes. hear_by w (store_at w m) (site w m).runs c.args.now c.args.word bytes in
     let L : Bool → Does = λ b. if b then H f.frame.items else Refuses cause.Link in
     let near : linked w f.by m ≡ true = ap (λ links. is_linked links f.by m) is.links ∙ sym c.is_linked.ensures ∙ c.if-is_linked.true in
-    not_off c.hear.result w c.args.shared.now v c.hear.new.runs c.args.now a _ m (D (frame_at w c.args.number)) a.image (store_at w m) (site w m).runs stands.mote (none_told c.args.runs.now c.is_none.result false c.is_none.ensures c.if-is_none.false)
-    (ends_at D (frame_at w c.args.number) (Some sent) c.hear.result w m v c.hear.new.runs a _ (sym (c.in-Some.ensures w.sent is.sent))
-    (ends_at L (linked w f.by m) true c.hear.result w m v c.hear.new.runs a _ near
-    (ends_at H f.frame.items c.as_slice.result.now c.hear.result w m v c.hear.new.runs a _ (sym c.as_slice.ensures.value) (c.hear.ensures.ends w m stands))))
+    not_off (turned c.hear.result c.hear.new.telling) w c.args.shared.now v c.hear.new.runs c.args.now a _ m (D (frame_at w c.args.number)) a.image (store_at w m) (site w m).runs stands.mote (none_told c.args.runs.now c.is_none.result false c.is_none.ensures c.if-is_none.false)
+    (ends_at D (frame_at w c.args.number) (Some sent) (turned c.hear.result c.hear.new.telling) w m v c.hear.new.runs a _ (sym (c.in-Some.ensures w.sent is.sent))
+    (ends_at L (linked w f.by m) true (turned c.hear.result c.hear.new.telling) w m v c.hear.new.runs a _ near
+    (ends_at H f.frame.items c.as_slice.result.now (turned c.hear.result c.hear.new.telling) w m v c.hear.new.runs a _ (sym c.as_slice.ensures.value) (c.hear.ensures.ends w m stands))))
 
 pub returns-else-is_linked-clause-ends : goal.returns-else-is_linked-clause-ends
 returns-else-is_linked-clause-ends g c = λ w is stands.
@@ -48,5 +52,6 @@ returns-else-is_linked-clause-ends g c = λ w is stands.
     let sent : Sent = record { by = f.by; bytes = f.frame.items } in
     let L : Bool → Does = λ b. if b then hear_by w (store_at w m) (site w m).runs c.args.now c.args.word f.frame.items else Refuses cause.Link in
     let far : linked w f.by m ≡ false = ap (λ links. is_linked links f.by m) is.links ∙ sym c.is_linked.ensures ∙ c.if-is_linked.false in
-    not_off (Ok (Refused cause.Link)) w c.args.shared.now v v c.args.now a a m (D (frame_at w c.args.number)) a.image (store_at w m) (site w m).runs stands.mote (none_told c.args.runs.now c.is_none.result false c.is_none.ensures c.if-is_none.false)
-    (refuses_at D (frame_at w c.args.number) (Some sent) cause.Link w m v a (sym (c.in-Some.ensures w.sent is.sent)) (ap L far) (Looked-none a))
+    told_as w c.args.mote _ _ _ _ _ _ _ (is_refused _ _ _ _ _ c.requires.nothing.sent)
+    (not_off (Ok (Refused cause.Link)) w c.args.shared.now v v c.args.now a a m (D (frame_at w c.args.number)) a.image (store_at w m) (site w m).runs stands.mote (none_told c.args.runs.now c.is_none.result false c.is_none.ensures c.if-is_none.false)
+    (refuses_at D (frame_at w c.args.number) (Some sent) cause.Link w m v a (sym (c.in-Some.ensures w.sent is.sent)) (ap L far) (Looked-none a)))

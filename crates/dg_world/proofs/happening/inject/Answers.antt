@@ -1,5 +1,6 @@
 use Rattle.dg_volume.specs.Table.{row_at}
 use Rattle.dg_world.specs.Images.{row_of_image}
+use Rattle.dg_world.specs.Tellings.{turned}
 use Rattle.dg_world.proofs.ImageLemmas.{known_row}
 use Rattle.dg_world.proofs.InjectLemmas.{known_image, not_zero}
 use Rattle.dg_world.proofs.happening.inject.Goals as goal
@@ -7,5 +8,5 @@ use Rattle.dg_world.proofs.happening.inject.Goals as goal
 pub returns-in-Some-clause-ends : goal.returns-in-Some-clause-ends
 returns-in-Some-clause-ends g c = λ w m declares stands.
     let key = c.args.key in
-    known_image c.inject_image.result w m c.args.now c.args.word key.image (row_at w.declared key.image key.version) (row_of_image key c.in-Some.image.now) c.args.runs.now c.inject_image.new.runs _ _ (not_zero key.image c.if-key-eq0.false)
+    known_image (turned c.inject_image.result c.inject_image.new.telling) w m c.args.now c.args.word key.image (row_at w.declared key.image key.version) (row_of_image key c.in-Some.image.now) c.args.runs.now c.inject_image.new.runs _ _ (not_zero key.image c.if-key-eq0.false)
     (known_row c.args.declared.now w.declared key c.in-Some.image.now declares c.in-Some.ensures) (c.inject_image.ensures.ends w m stands)

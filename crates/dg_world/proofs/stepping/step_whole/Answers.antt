@@ -4,28 +4,31 @@ use Rattle.dg_rules.specs.Changes.{is_told}
 use Rattle.dg_rules.specs.Events.{does, mote_of}
 use Rattle.dg_world.specs.Cuts.{ended}
 use Rattle.dg_world.specs.Turns.{turn_lines}
+use Rattle.dg_world.specs.Tellings.{turn_of, halt_of, turned}
 use Rattle.dg_world.proofs.CutLemmas.{uncut, halted, played_as}
-use Rattle.dg_world.proofs.DoneLemmas.{step_turn, step_halts, event_mote}
+use Rattle.dg_world.proofs.TellingLemmas.{frame_told}
+use Rattle.dg_world.proofs.DoneLemmas.{step_turn, step_fails, event_mote}
 use Rattle.dg_world.proofs.stepping.step_whole.Goals as goal
 
 pub happen-requires-clause-fits : goal.happen-requires-clause-fits
 happen-requires-clause-fits g c = let x = c.requires.fits in (x.0, x.1.event, x.2)
 
-pub returns-in-Ok : goal.returns-in-Ok
-returns-in-Ok g c = λ w fits shared stands at.
+pub returns : goal.returns
+returns g c = λ w fits shared stands at.
     let x = c.args.step.now in
-    let turn = c.in-Ok.turn in
+    let t = c.happen.new.telling in
     let m = mote_of x.event in
-    let p = played_as _ (ended false c.happen.result) x.cut None w m (does w x.event) _ _ _ _ (sym (ap (λ r. ended false r) c.in-Ok.is)) c.requires.uncut
-    (uncut c.happen.result w m (does w x.event) _ _ _ _ (c.happen.ensures.ends w shared stands at)) in
-    step_turn w x c.args.loud _ _ c.tell_turn.result turn _ _ c.args.out.now.items c.tell_turn.new.out.items (event_mote _ x.event fits.event) stands p c.tell_turn.ensures.sent
-    (c.tell_turn.ensures.told ∙ ap (λ m. c.args.out.now.items ++ filter (is_told c.args.loud) (turn_lines m turn)) c.mote_at-mote.ensures)
+    let p = played_as _ (ended false (turned c.happen.result t)) x.cut None w m (does w x.event) _ _ _ _ (sym (ap (λ r. ended false (turned r t)) c.in_ok-happen.was)) c.requires.uncut
+    (uncut (turned c.happen.result t) w m (does w x.event) _ _ _ _ (c.happen.ensures.ends w shared stands at)) in
+    step_turn w x c.args.loud _ _ _ (turn_of t) _ _ c.args.out.now.items c.push_told.new.out.items (event_mote _ x.event fits.event) stands p (frame_told t)
+    (c.push_told.ensures ∙ ap (λ m. c.args.out.now.items ++ filter (is_told c.args.loud) (turn_lines m (turn_of t))) c.mote_at-mote.ensures)
 
-pub returns-in-Err : goal.returns-in-Err
-returns-in-Err g c = λ w fits shared stands at.
+pub returns-in_err-happen : goal.returns-in_err-happen
+returns-in_err-happen g c = λ w fits shared stands at.
     let x = c.args.step.now in
+    let t = c.happen.new.telling in
     let m = mote_of x.event in
-    let h = c.in-Err.halt in
-    let p = played_as _ (ended false c.happen.result) x.cut None w m (does w x.event) _ _ _ _ (sym (ap (λ r. ended false r) c.in-Err.is ∙ halted h)) c.requires.uncut
-    (uncut c.happen.result w m (does w x.event) _ _ _ _ (c.happen.ensures.ends w shared stands at)) in
-    step_halts h w x c.args.loud _ _ _ _ c.args.out.now.items p
+    let f = c.in_err-happen.field-0.0 in
+    let p = played_as _ (ended false (turned c.happen.result t)) x.cut None w m (does w x.event) _ _ _ _ (sym (ap (λ r. ended false (turned r t)) c.in_err-happen.was ∙ halted (halt_of f t.before))) c.requires.uncut
+    (uncut (turned c.happen.result t) w m (does w x.event) _ _ _ _ (c.happen.ensures.ends w shared stands at)) in
+    step_fails c.from_residual.result f t w x c.args.loud _ _ _ _ c.args.out.now.items c.from_residual.ensures.1 p

@@ -1,4 +1,4 @@
-use Rattle.std.proofs.Common.{refl}
+use Rattle.std.proofs.Common.{refl, ⊎_elim, arith}
 use Rattle.dg_world.proofs.PlaceLemmas.{reserved, on_ok}
 use Rattle.dg_world.proofs.world.World.apply.Goals as goal
 
@@ -14,15 +14,16 @@ pub returns-clause-applied : goal.returns-clause-applied
 returns-clause-applied g c = on_ok c.apply_roomy.result (λ applied w is. applied w (reserved c.args.self.now c.reserve.new.self _ w c.reserve.ensures.same is)) c.apply_roomy.ensures.applied
 
 pub returns-clause-too_many : goal.returns-clause-too_many
-returns-clause-too_many g c = λ fault w is. c.apply_roomy.ensures.too_many fault w (reserved c.args.self.now c.reserve.new.self _ w c.reserve.ensures.same is)
+returns-clause-too_many g c = λ full. absurd (c.apply_roomy.ensures.few full)
 
 pub returns-clause-full : goal.returns-clause-full
-returns-clause-full g c = λ w is most. c.apply_roomy.ensures.full w (reserved c.args.self.now c.reserve.new.self _ w c.reserve.ensures.same is) most
+returns-clause-full g c = λ w is most. absurd (omega (arith, is.events, most, c.if-self-ge-MOST_EVENTS.false))
 
 pub returns-clause-unchanged : goal.returns-clause-unchanged
-returns-clause-unchanged g c = λ fault.
-    let same = c.apply_roomy.ensures.unchanged fault in
-    (λ w is. same.0 w (reserved c.args.self.now c.reserve.new.self _ w c.reserve.ensures.same is), same.1)
+returns-clause-unchanged g c = λ fault. ⊎_elim
+    (λ full. absurd (c.apply_roomy.ensures.few full))
+    (λ memory. let same = c.apply_roomy.ensures.unchanged memory in (λ w is. same.0 w (reserved c.args.self.now c.reserve.new.self _ w c.reserve.ensures.same is), same.1))
+    fault
 
 pub returns-clause-untold : goal.returns-clause-untold
 returns-clause-untold g c = c.apply_roomy.ensures.untold

@@ -1,6 +1,8 @@
 use Rattle.std.proofs.Common.{◌≡◌, ◌+◌, ◌<◌, ◌^◌, length, map, refl, ◌∙◌, arith}
 use Rattle.std.proofs.lemmas.List.{map-set, length-map}
 use Rattle.dg_rules.specs.Events.{mote_of, dt_of}
+use Rattle.dg_mote.specs.Motes.{sent_in}
+use Rattle.dg_world.specs.Tellings.{halt_of}
 use Rattle.dg_world.proofs.DoneLemmas.{event_mote}
 use Rattle.dg_world.proofs.PlaceLemmas.{got_or, sent_at, stands_at, runs_at, applied_at, halts_there}
 use Rattle.dg_world.proofs.world.World.apply_at.Goals as goal
@@ -50,8 +52,8 @@ returns-in-Ok g c = λ w is fits.
     let now : c.args.self.now.moment + c.from.result ≡ w.moment + dt_of x.event = omega (arith, is.moment, c.from.ensures, c.dt_at.ensures) in
     let short : dt_of x.event < 2 ^ 32 = omega (arith, c.dt_at.ensures, c.dt_at.type_inv) in
     let stepped = c.in-Ok.ensures w fits is.shared s now in
-    applied_at c.args.self.now _ (map device boards) _ w x c.args.loud i c.step_at.new.runs c.in-Ok.sent _ (device c.step_at.new.board) c.args.out.now.items c.step_at.new.out.items (map-set device boards i c.step_at.new.board) is at known c.requires.few short
-    (record { moment_then = now; events = refl; images = refl; links = refl; sends = λ before carries. sent_at c.mote_at-mote.result i c.in-Ok.sent before c.send.new.self c.from-index.ensures (c.send.ensures before carries); motes = refl }) here stepped
+    applied_at c.args.self.now _ (map device boards) _ w x c.args.loud i c.step_at.new.runs (sent_in c.step_at.new.telling.outbox) _ (device c.step_at.new.board) c.args.out.now.items c.step_at.new.out.items (map-set device boards i c.step_at.new.board) is at known c.requires.few short
+    (record { moment_then = now; events = refl; images = refl; links = refl; sends = λ before carries. sent_at c.mote_at-mote.result i (sent_in c.step_at.new.telling.outbox) before c.send.new.self c.from-index.ensures (c.send.ensures before carries); motes = refl }) here stepped
     (λ z reports step. c.agreement_is_kept.ensures.timely w z x reports is.timely fits step)
 
 pub returns-in-Err : goal.returns-in-Err
@@ -68,4 +70,4 @@ returns-in-Err g c = λ w is fits.
     let s = stands_at c.args.self.now (map device boards) w i (mote_of x.event) _ c.index_mut-runs.result.now is at known here c.index_mut-runs.ensures.value in
     let now : c.args.self.now.moment + c.from.result ≡ w.moment + dt_of x.event = omega (arith, is.moment, c.from.ensures, c.dt_at.ensures) in
     let stepped = c.in-Err.ensures w fits is.shared s now in
-    halts_there c.in-Err.halt c.fault_at.result c.args.self.now _ (map device boards) _ w x c.args.loud _ i c.mote_at-mote.result _ (device c.step_at.new.board) c.args.out.now.items c.step_at.new.out.items (map-set device boards i c.step_at.new.board) c.fault_at.ensures c.from-index.ensures is at known here stepped
+    halts_there (halt_of c.in-Err.fault c.step_at.new.telling.before) c.fault_at.result c.args.self.now _ (map device boards) _ w x c.args.loud _ i c.mote_at-mote.result _ (device c.step_at.new.board) c.args.out.now.items c.step_at.new.out.items (map-set device boards i c.step_at.new.board) (c.fault_at.ensures c.step_at.new.telling.before) c.from-index.ensures is at known here stepped
