@@ -111,7 +111,8 @@ pub enum Event {
         mote: u8,
         dt: u32,
         word: u32,
-        bytes: FrameBytes,
+        /// At most [`LONGEST_FRAME`] of them.
+        bytes: Bytes,
     },
 }
 

@@ -182,7 +182,7 @@ fn events(rt: HostRuntime) -> Result<(), Fail> {
             mote: 0,
             dt: 16,
             word: 7,
-            bytes: frame,
+            bytes: Bytes::new(vec![in rt.alloc(); 0x01]?),
         },
         cut: Some(Cut {
             after: 1,

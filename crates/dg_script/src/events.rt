@@ -11,7 +11,7 @@ use crate::line::Line;
 use crate::place::Place;
 use crate::verbs::Verb;
 use crate::words::{five_words, four_words, six_words, three_words};
-use dg_base::{Event, FrameBytes, LONGEST_FRAME};
+use dg_base::{Event, LONGEST_FRAME};
 use std::alloc::Global;
 
 /// `tick M DT WORD`
@@ -127,8 +127,7 @@ pub fn frame_line(alloc: Global, fields: &[u8], place: &Place) -> Result<Line, L
     let mote = mote(at, place.motes)?;
     let dt = number(dt)?;
     let word = number(word)?;
-    let content = sized_content(alloc, content, 0, LONGEST_FRAME)?;
-    let bytes = FrameBytes::new(content.as_slice());
+    let bytes = sized_content(alloc, content, 0, LONGEST_FRAME)?;
     Ok(Line::Happens(Event::Frame {
         mote,
         dt,
