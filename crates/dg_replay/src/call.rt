@@ -1,19 +1,11 @@
 //! The call that replays a script.
-ghost use Rattle.std.specs.Prelude.{◌≡◌, ◌≢◌, ◌⊎◌, ◌≤◌, ℕ, Bool, List, [], ◌∷◌, Some, IfSome, map, length};
-ghost use Rattle.std.specs.List.{AllByRecursion};
+ghost use Rattle.std.specs.Prelude.{◌≡◌, ◌≢◌, ◌⊎◌, ◌≤◌, ℕ, List, Some, map, length};
 ghost use Rattle.dg_words.specs.Counts.{Rose};
-ghost use Rattle.dg_rules.specs.World.{World};
-ghost use Rattle.dg_rules.specs.Runs.{EachAfter};
-ghost use Rattle.dg_rules.specs.Promises.{IsLegal, KeepsAll, StartsRow, StopsAgree};
 ghost use Rattle.dg_mote.specs.Sizes.{buffered_bytes, most_buffered};
-ghost use Rattle.dg_rules.specs.Premises.{IsHonestThen, HonestEvent, LeavesAgreement, WorldAgrees};
-ghost use Rattle.dg_completion.specs.Completion.{IsEnough};
-ghost use Rattle.dg_completion.specs.Ends.{EndsInRest, PagesCome, KeepsNewest};
-ghost use Rattle.dg_base.specs.declared.events.Step.{Step};
-ghost use Rattle.dg_script.specs.Items.{Item, Happens};
 ghost use Rattle.dg_replay.specs.Ending.{InLimits, script_of};
-ghost use Rattle.dg_replay.specs.Items.{motes_in, IsNoFrame};
+ghost use Rattle.dg_replay.specs.Items.{motes_in};
 ghost use Rattle.dg_replay.specs.Outcome.{Replayed};
+ghost use Rattle.dg_replay.specs.Promised.{StepsAreLegal, PagesStay, RowsStart, AllAgrees, HalvesAgree, IsHonestWithoutFrames, RestsFillThePipeline, RestsComplete};
 ghost use Rattle.dg_replay.specs.Boards.{BoardStopped};
 
 use crate::ends::replay_text;
@@ -61,40 +53,39 @@ pub fn replay<S: Source, K: Sink, N: Nor>(
     // Where each frame from outside is honest by the table of its moment, each step is legal after those before it.
     ensures legal { (x : Replayed result (S.left input.old) (S.left input.new) (K.written out.old) (K.written out.new)
         (S.faults input.old) (S.faults input.new) (K.faults out.old) (K.faults out.new) (map N.device boards.old.items) (map N.device boards.new.items))
-        → AllByRecursion IsHonestThen x.came.played → EachAfter IsLegal [] x.came.played }
+        → StepsAreLegal x.came }
     // There no version falls and no complete page is lost, but to a newer version of its image, which a cut may have left half
     // done.
     ensures keeps { (x : Replayed result (S.left input.old) (S.left input.new) (K.written out.old) (K.written out.new)
         (S.faults input.old) (S.faults input.new) (K.faults out.old) (K.faults out.new) (map N.device boards.old.items) (map N.device boards.new.items))
-        → AllByRecursion IsHonestThen x.came.played → AllByRecursion KeepsAll x.came.played }
+        → PagesStay x.came }
     // There what starts is one row of the table of images, byte for byte.
     ensures starts { (x : Replayed result (S.left input.old) (S.left input.new) (K.written out.old) (K.written out.new)
         (S.faults input.old) (S.faults input.new) (K.faults out.old) (K.faults out.new) (map N.device boards.old.items) (map N.device boards.new.items))
-        → AllByRecursion IsHonestThen x.came.played → AllByRecursion StartsRow x.came.played }
+        → RowsStart x.came }
     // There every chip, also one that a cut left half done, every mote that is on and every frame that was sent agrees with the
     // table: after each item, and in the last world.
     ensures agrees { (x : Replayed result (S.left input.old) (S.left input.new) (K.written out.old) (K.written out.new)
         (S.faults input.old) (S.faults input.new) (K.faults out.old) (K.faults out.new) (map N.device boards.old.items) (map N.device boards.new.items))
-        → AllByRecursion IsHonestThen x.came.played → AllByRecursion LeavesAgreement x.came.played × IfSome x.came.last WorldAgrees }
+        → AllAgrees x.came }
     // So does the store of each half-done chip, wherever a stop comes in the next event.
     ensures halves { (x : Replayed result (S.left input.old) (S.left input.new) (K.written out.old) (K.written out.new)
         (S.faults input.old) (S.faults input.new) (K.faults out.old) (K.faults out.new) (map N.device boards.old.items) (map N.device boards.new.items))
-        → (w : World) (step : Step) (loud : Bool) (more : List Item) → AllByRecursion IsHonestThen x.came.played → x.came.last ≡ Some w → x.came.left ≡ Happens step loud ∷ more
-        → HonestEvent w.table step.event → StopsAgree w step.event }
+        → HalvesAgree x.came }
     // Lines that bring no frame from outside meet that.
     ensures honest { (x : Replayed result (S.left input.old) (S.left input.new) (K.written out.old) (K.written out.new)
         (S.faults input.old) (S.faults input.new) (K.faults out.old) (K.faults out.new) (map N.device boards.old.items) (map N.device boards.new.items))
-        → AllByRecursion IsNoFrame x.came.done → AllByRecursion IsHonestThen x.came.played }
+        → IsHonestWithoutFrames x.came }
     // There pages go along the links as in a pipeline: where the run ends with an undisturbed rest of t sweeps, in which every
     // mote is on and has room for three commits at its end, a mote within j links of a whole image has t + 1 - j pages of it,
     // or all, if every smaller image was whole everywhere.
     ensures pipeline { (x : Replayed result (S.left input.old) (S.left input.new) (K.written out.old) (K.written out.new)
         (S.faults input.old) (S.faults input.new) (K.faults out.old) (K.faults out.new) (map N.device boards.old.items) (map N.device boards.new.items))
-        → (w v : World) (t : ℕ) → AllByRecursion IsHonestThen x.came.played → x.came.last ≡ Some v → EndsInRest x.came.played w t v → PagesCome w t v }
+        → RestsFillThePipeline x.came }
     // There every mote keeps the newest version of every image whole, where the run ends with such a rest of enough sweeps.
     ensures completes { (x : Replayed result (S.left input.old) (S.left input.new) (K.written out.old) (K.written out.new)
         (S.faults input.old) (S.faults input.new) (K.faults out.old) (K.faults out.new) (map N.device boards.old.items) (map N.device boards.new.items))
-        → (w v : World) (n k : ℕ) → AllByRecursion IsHonestThen x.came.played → x.came.last ≡ Some v → EndsInRest x.came.played w n v → IsEnough w k → k ≤ n → KeepsNewest v }
+        → RestsComplete x.came }
     // A mote buffers no more than 256 bytes.
     ensures buffers { buffered_bytes ≤ most_buffered }
 
