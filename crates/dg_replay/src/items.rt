@@ -48,6 +48,10 @@ fn tell(told: &mut Told) -> Result<(), Stop>
     ensures told { OnOk result (told.new.text.items ≡ told.old.text.items ++ report_text told.old.reports.items) }
     ensures memory { OnErr result (result ≡ Err Stop.Memory) }
 {
+    // Most events of a round report nothing.
+    if told.reports.is_empty() {
+        return Ok(());
+    }
     match push_reports(&mut told.text, &told.reports) {
         Ok(()) => Ok(()),
         Err(AllocError) => Err(Stop::Memory),

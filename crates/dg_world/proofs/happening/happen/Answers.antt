@@ -29,7 +29,7 @@ returns-in-Frame-clause-ends g c = λ w.
     let x = c.hear in
     subst (Happens (turned x.result x.new.telling) w c.args.shared.now c.args.runs.now x.new.runs c.args.now _ _) (sym e.is)
     (frame_happens (turned x.result x.new.telling) w c.args.shared.now c.args.runs.now x.new.runs c.args.now _ _ e.mote e.dt e.word e.bytes (λ stands.
-    ends_at (λ bytes. hear_by w (store_at w e.mote) (site w e.mote).runs c.args.now e.word bytes) e.bytes c.as_slice.result.now (turned x.result x.new.telling) w e.mote c.args.runs.now x.new.runs _ _ (sym c.as_slice.ensures.value) (x.ensures.ends w e.mote stands)))
+    ends_at (λ bytes. hear_by w (store_at w e.mote) (site w e.mote).runs c.args.now e.word bytes) e.bytes c.as_slice.result.now (turned x.result x.new.telling) w e.mote c.args.runs.now x.new.runs _ _ (sym c.as_slice.ensures) (x.ensures.ends w e.mote stands)))
 
 pub returns-in-Reset-clause-ends : goal.returns-in-Reset-clause-ends
 returns-in-Reset-clause-ends g c = λ w.
