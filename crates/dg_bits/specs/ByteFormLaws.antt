@@ -14,7 +14,7 @@ use Rattle.std.specs.Int.RustNames.{bit_or}
 use Rattle.std.specs.FinSet as set
 use Rattle.dg_bits.specs.Sets.{Numbers, AllBelow, IsLeast, same}
 use Rattle.dg_bits.specs.ByteForm.{is_marked, numbers_of, bit_of, byte_of, byte_form, IsPacked}
-use Rattle.dg_bits.specs.SetLaws.{same_numbers, same_decides, any_in_range, contains-none, contains-put, contains-without, contains-both}
+use Rattle.dg_bits.specs.SetLaws.{same_numbers, same_decides, any_in_range, contains-none, contains-put, contains-without, contains-both, up_to, len-up_to_in, len-up_to_out}
 
 no_bit : (b i : ℕ) → b ≡ 0 → eqb (bit_at b i) 1 ≡ false
 no_bit b i e = ap (λ x. eqb (bit_at x i) 1) e ∙ ap (λ x. eqb x 1) (bit_at-zero i)
@@ -95,6 +95,67 @@ empty_unmarked size bytes s e low high =
     contains-numbers_of bytes q
     ∙ elim (cases_lt q size) as (λ _. is_marked bytes q ≡ false) [ inl h ↦ low q h | inr h ↦ high q h ]
     ∙ sym (contains-none q))
+
+-- ---- a byte at a time
+
+-- a byte of 0 has no number
+pub unmarked_zero : (bytes : List ℕ) (n : ℕ) → get_or bytes (n / 8) 0 ≡ 0 → is_marked bytes n ≡ false
+unfolding is_marked
+unmarked_zero bytes n e = no_bit _ _ e
+
+-- bit 7 − r of byte k is that of number 8k + r
+marked_placed : (bytes : List ℕ) (n k r : ℕ) → n / 8 ≡ k → n % 8 ≡ r → is_marked bytes n ≡ eqb (bit_at (get_or bytes k 0) (7 - r)) 1
+unfolding is_marked
+marked_placed bytes n k r place at i = eqb (bit_at (get_or bytes (place i) 0) (7 - at i)) 1
+
+-- r bits stand above the highest one of a byte
+pub record IsFirstBit (b r : ℕ) : Type 0 where
+  pub below : r < 8
+  pub here : bit_at b (7 - r) ≡ 1
+  pub before : (i : ℕ) → i < r → bit_at b (7 - i) ≡ 0
+
+-- the highest bit of the first byte that is not 0 is the set's least number
+pub IsLeast-first_bit : (bytes : List ℕ) (s : Numbers) (k r : ℕ) → numbers_of bytes ≡ s → ((i : ℕ) → i < k → get_or bytes i 0 ≡ 0) → IsFirstBit (get_or bytes k 0) r → IsLeast s (8 * k + r)
+IsLeast-first_bit bytes s k r e zero_before first =
+    IsLeast-marked bytes s (8 * k + r) e
+    (marked_placed bytes (8 * k + r) k r (omega (arith, first.below)) (omega (arith, first.below)) ∙ ap (λ x. eqb x 1) first.here)
+    (λ q lt.
+    elim (cases_lt (q / 8) k) [
+      | inl earlier ↦ unmarked_zero bytes q (zero_before (q / 8) earlier)
+      | inr here ↦ marked_placed bytes q k (q % 8) (omega (arith, first.below)) refl ∙ ap (λ x. eqb x 1) (first.before (q % 8) (omega (arith, first.below)))
+    ])
+
+count_step : (bytes : List ℕ) (n d : ℕ) → d < 2 → is_marked bytes n ≡ eqb d 1 → set.len (up_to (numbers_of bytes) (n + 1)) ≡ set.len (up_to (numbers_of bytes) n) + d
+count_step bytes n zero lt e = omega (arith, len-up_to_out (numbers_of bytes) n (contains-numbers_of bytes n ∙ e))
+count_step bytes n (suc zero) lt e = len-up_to_in (numbers_of bytes) n (contains-numbers_of bytes n ∙ e)
+count_step bytes n (suc (suc d)) lt e = absurd (omega arith)
+
+-- a number adds its bit to the count of those below
+counts_bit : (bytes : List ℕ) (k r : ℕ) → r < 8 → set.len (up_to (numbers_of bytes) (8 * k + (r + 1))) ≡ set.len (up_to (numbers_of bytes) (8 * k + r)) + bit_at (get_or bytes k 0) (7 - r)
+counts_bit bytes k r lt =
+    let next : 8 * k + (r + 1) ≡ 8 * k + r + 1 = omega arith in
+    ap (λ n. set.len (up_to (numbers_of bytes) n)) next
+    ∙ count_step bytes (8 * k + r) _ (bit_at-lt (get_or bytes k 0) (7 - r)) (marked_placed bytes (8 * k + r) k r (omega arith) (omega arith))
+
+add_eight : (f : ℕ → ℕ) (d : ℕ → ℕ) (n : ℕ) → ((r : ℕ) → r < 8 → f (n + (r + 1)) ≡ f (n + r) + d (7 - r)) → f (n + 8) ≡ f n + (d 7 + d 6 + d 5 + d 4 + d 3 + d 2 + d 1 + d 0)
+add_eight f d n step =
+    let start : f (n + 0) ≡ f n = ap f (omega arith) in
+    let e0 : f (n + 1) ≡ f (n + 0) + d 7 = step 0 (omega arith) in
+    let e1 : f (n + 2) ≡ f (n + 1) + d 6 = step 1 (omega arith) in
+    let e2 : f (n + 3) ≡ f (n + 2) + d 5 = step 2 (omega arith) in
+    let e3 : f (n + 4) ≡ f (n + 3) + d 4 = step 3 (omega arith) in
+    let e4 : f (n + 5) ≡ f (n + 4) + d 3 = step 4 (omega arith) in
+    let e5 : f (n + 6) ≡ f (n + 5) + d 2 = step 5 (omega arith) in
+    let e6 : f (n + 7) ≡ f (n + 6) + d 1 = step 6 (omega arith) in
+    let e7 : f (n + 8) ≡ f (n + 7) + d 0 = step 7 (omega arith) in
+    omega arith
+
+-- a byte adds its bits
+pub counts_byte : (bytes : List ℕ) (k : ℕ) → let b = get_or bytes k 0 in set.len (up_to (numbers_of bytes) (8 * (k + 1))) ≡ set.len (up_to (numbers_of bytes) (8 * k)) + (bit_at b 7 + bit_at b 6 + bit_at b 5 + bit_at b 4 + bit_at b 3 + bit_at b 2 + bit_at b 1 + bit_at b 0)
+counts_byte bytes k =
+    let whole : 8 * (k + 1) ≡ 8 * k + 8 = omega arith in
+    ap (λ n. set.len (up_to (numbers_of bytes) n)) whole
+    ∙ add_eight (λ n. set.len (up_to (numbers_of bytes) n)) (bit_at (get_or bytes k 0)) (8 * k) (counts_bit bytes k)
 
 -- ---- one byte is changed
 
@@ -351,6 +412,13 @@ same_packed size a b pa pb e =
 
 lists_decide : (xs ys : List ℕ) → Decides (pointwise eqb xs ys) (xs ≡ ys)
 lists_decide xs ys = bytes_decides xs ys
+
+-- packed bytes are all 0 exactly where their set is empty
+pub empty_zeros : (size : ℕ) (bytes : List ℕ) (s : Numbers) → IsPacked size bytes → numbers_of bytes ≡ s → Decides (pointwise eqb bytes (replicate 9 0)) (s ≡ set.empty)
+empty_zeros size bytes s packed e =
+    Decides-like _ (λ all. sym e ∙ ap numbers_of all ∙ numbers_of-zeros 9)
+    (λ none. same_packed size bytes (zeros 9) packed (IsPacked-zeros size packed.not_empty packed.not_over) (e ∙ none ∙ sym (numbers_of-zeros 9)))
+    (lists_decide bytes (zeros 9))
 
 -- the test of equal bytes is that of equal sets
 pub same-packed : (size : ℕ) (a b : List ℕ) → IsPacked size a → IsPacked size b → pointwise eqb a b ≡ same (numbers_of a) (numbers_of b)

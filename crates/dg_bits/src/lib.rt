@@ -4,7 +4,7 @@
 //! headers carry: number n is bit 7 − (n mod 8) of byte n / 8.
 #![tactic(auto)]
 
-ghost use Rattle.std.specs.Prelude.{◌≡◌, ◌≢◌, ℕ, ◌+◌, ◌-◌, ◌*◌, ◌/◌, ◌%◌, ◌<◌, ◌≤◌, ◌↔◌, true, List, Some, length, IsNone, IfSome, MatchOption, slice_index, bit_or};
+ghost use Rattle.std.specs.Prelude.{◌≡◌, ◌≢◌, ℕ, ◌+◌, ◌-◌, ◌*◌, ◌/◌, ◌%◌, ◌<◌, ◌≤◌, ◌↔◌, true, List, Some, length, IsNone, IfSome, IsTrue, MatchOption, slice_index, bit_or};
 ghost use Rattle.std.specs.FinSet as set;
 ghost use Rattle.std.specs.Int.{bit_at};
 ghost use Rattle.dg_bits.specs.Sets.{Numbers, below, AllBelow, IsLeast, least};
@@ -117,9 +117,10 @@ impl<const N: usize> PageBits<N> {
         ensures cases { MatchOption result (self.now ≡ set.empty) (λ n. IsLeast self.now n) }
         ensures within { AllBelow N self.now }
     {
-        let bytes = &self.bytes;
-        for n in 0..N as u8 {
-            if is_set(bytes, n as usize) {
+        for k in 0..WIDTH {
+            let byte = self.bytes[k];
+            if byte != 0 {
+                let n = 8 * k as u8 + first_bit(byte);
                 return Some(n);
             }
         }
@@ -138,14 +139,18 @@ impl<const N: usize> PageBits<N> {
         ensures value { result ≡ set.len self.now }
         ensures within { AllBelow N self.now }
     {
-        let bytes = &self.bytes;
         let mut members = 0;
-        for n in 0..N as u8 {
-            if is_set(bytes, n as usize) {
-                members += 1;
-            }
+        for k in 0..WIDTH {
+            members += bits_set(self.bytes[k]);
         }
         members
+    }
+
+    /// Whether the set has no number.
+    pub fn is_empty(&self) -> bool
+        ensures { IsTrue result ↔ (self.now ≡ set.empty) }
+    {
+        self.bytes == [0; WIDTH]
     }
 
     /// Writes the byte form, of (N + 7) / 8 bytes.
@@ -200,6 +205,25 @@ fn is_set(bytes: &[u8], n: usize) -> bool
     ensures { result ≡ is_marked bytes.now n }
 {
     bytes[n / 8] >> (7 - n % 8) & 1 == 1
+}
+
+// How many bits stand above the highest one that is set.
+fn first_bit(byte: u8) -> u8
+    requires { 0 < byte }
+    ensures below { result < 8 }
+    ensures here { bit_at byte (7 - result) ≡ 1 }
+    ensures before { (i : ℕ) → i < result → bit_at byte (7 - i) ≡ 0 }
+{
+    byte.leading_zeros() as u8
+}
+
+// How many bits are set.
+fn bits_set(byte: u8) -> u8
+    ensures few { result ≤ 8 }
+    ensures bits { result ≡ bit_at byte 7 + bit_at byte 6 + bit_at byte 5 + bit_at byte 4
+        + bit_at byte 3 + bit_at byte 2 + bit_at byte 1 + bit_at byte 0 }
+{
+    byte.count_ones() as u8
 }
 
 // The byte with the bit at `place` set.
@@ -267,6 +291,7 @@ mod tests {
 
         let mut both = PageBits::none();
         assert_eq!(rt; both.first(), None);
+        assert!(rt; both.is_empty() && !evens.is_empty());
         both.set(5);
         both.union(&evens);
         assert_eq!(rt; both.count(), 4);

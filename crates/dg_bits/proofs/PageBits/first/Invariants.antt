@@ -1,7 +1,6 @@
-use Rattle.std.proofs.Common.{◌≡◌, ℕ, ◌<◌, false}
-use Rattle.dg_bits.specs.ByteForm.{is_marked}
+use Rattle.std.proofs.Common.{◌≡◌, ℕ, ◌<◌, slice_index}
 use Rattle.dg_bits.proofs.PageBits.first.Given as goal
 
--- no number so far is in the set
-abbrev pub invariant-loop-n : goal.invariant-loop-n
-invariant-loop-n g l = (q : ℕ) → q < l.n → is_marked l.bytes q ≡ false
+-- each byte so far is 0
+abbrev pub invariant-loop-k : goal.invariant-loop-k
+invariant-loop-k g l = (i : ℕ) → i < l.k → slice_index l.self-inside.bytes i ≡ 0
