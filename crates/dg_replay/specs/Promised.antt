@@ -14,38 +14,38 @@ use Rattle.dg_replay.specs.Items.{IsNoFrame}
 use Rattle.dg_replay.specs.Outcome.{Progress}
 
 -- each frame from outside is honest by the table of its moment
-abbrev pub IsHonest : {script : Script} → Progress script → Type 0
-IsHonest c = AllByRecursion IsHonestThen c.played
+abbrev pub FramesAreHonest : {script : Script} → Progress script → Type 0
+FramesAreHonest c = AllByRecursion IsHonestThen c.played
 
 -- lines that bring no frame from outside meet that
-abbrev pub IsHonestWithoutFrames : {script : Script} → Progress script → Type 0
-IsHonestWithoutFrames c = AllByRecursion IsNoFrame c.done → IsHonest c
+abbrev pub HonestWithoutFrames : {script : Script} → Progress script → Type 0
+HonestWithoutFrames c = AllByRecursion IsNoFrame c.done → FramesAreHonest c
 
 -- where it is honest, each step is legal after those before it
 abbrev pub StepsAreLegal : {script : Script} → Progress script → Type 0
-StepsAreLegal c = IsHonest c → EachAfter IsLegal [] c.played
+StepsAreLegal c = FramesAreHonest c → EachAfter IsLegal [] c.played
 
 -- where it is honest, no version falls, and a complete page stays unless a newer version of its image replaces it, which a cut may have left half done
 abbrev pub PagesStay : {script : Script} → Progress script → Type 0
-PagesStay c = IsHonest c → AllByRecursion KeepsAll c.played
+PagesStay c = FramesAreHonest c → AllByRecursion KeepsAll c.played
 
 -- where it is honest, what starts is a row of the table
 abbrev pub RowsStart : {script : Script} → Progress script → Type 0
-RowsStart c = IsHonest c → AllByRecursion StartsRow c.played
+RowsStart c = FramesAreHonest c → AllByRecursion StartsRow c.played
 
 -- where it is honest, the world behind each item agrees with its table, and so does the last world
 abbrev pub AllAgrees : {script : Script} → Progress script → Type 0
-AllAgrees c = IsHonest c → AllByRecursion LeavesAgreement c.played × IfSome c.last WorldAgrees
+AllAgrees c = FramesAreHonest c → AllByRecursion LeavesAgreement c.played × IfSome c.last WorldAgrees
 
 -- Where it is honest, and so is the next event, each store that the chip may stand for, wherever a stop comes in that event, agrees with the table behind it.
 abbrev pub HalvesAgree : {script : Script} → Progress script → Type 0
-HalvesAgree c = (w : World) (step : Step) (loud : Bool) (more : List Item) → IsHonest c → c.last ≡ Some w → c.left ≡ Happens step loud ∷ more
+HalvesAgree c = (w : World) (step : Step) (loud : Bool) (more : List Item) → FramesAreHonest c → c.last ≡ Some w → c.left ≡ Happens step loud ∷ more
     → HonestEvent w.table step.event → StopsAgree w step.event
 
 -- where it is honest and ends with a rest, pages came along the links as in a pipeline, by so many sweeps as the rest has
 abbrev pub RestsFillThePipeline : {script : Script} → Progress script → Type 0
-RestsFillThePipeline c = (w v : World) (t : ℕ) → IsHonest c → c.last ≡ Some v → EndsInRest c.played w t v → PagesCome w t v
+RestsFillThePipeline c = (w v : World) (t : ℕ) → FramesAreHonest c → c.last ≡ Some v → EndsInRest c.played w t v → PagesCome w t v
 
 -- where it is honest and ends with a rest of enough sweeps, every mote keeps the newest version of each image whole
 abbrev pub RestsComplete : {script : Script} → Progress script → Type 0
-RestsComplete c = (w v : World) (n k : ℕ) → IsHonest c → c.last ≡ Some v → EndsInRest c.played w n v → IsEnough w k → k ≤ n → KeepsNewest v
+RestsComplete c = (w v : World) (n k : ℕ) → FramesAreHonest c → c.last ≡ Some v → EndsInRest c.played w n v → IsEnough w k → k ≤ n → KeepsNewest v

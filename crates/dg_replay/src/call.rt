@@ -5,7 +5,7 @@ ghost use Rattle.dg_mote.specs.Sizes.{buffered_bytes, most_buffered};
 ghost use Rattle.dg_replay.specs.Ending.{InLimits, script_of};
 ghost use Rattle.dg_replay.specs.Items.{motes_in};
 ghost use Rattle.dg_replay.specs.Outcome.{Replayed};
-ghost use Rattle.dg_replay.specs.Promised.{StepsAreLegal, PagesStay, RowsStart, AllAgrees, HalvesAgree, IsHonestWithoutFrames, RestsFillThePipeline, RestsComplete};
+ghost use Rattle.dg_replay.specs.Promised.{StepsAreLegal, PagesStay, RowsStart, AllAgrees, HalvesAgree, HonestWithoutFrames, RestsFillThePipeline, RestsComplete};
 ghost use Rattle.dg_replay.specs.Boards.{BoardStopped};
 
 use crate::ends::replay_text;
@@ -75,7 +75,7 @@ pub fn replay<S: Source, K: Sink, N: Nor>(
     // Lines that bring no frame from outside meet that.
     ensures honest { (x : Replayed result (S.left input.old) (S.left input.new) (K.written out.old) (K.written out.new)
         (S.faults input.old) (S.faults input.new) (K.faults out.old) (K.faults out.new) (map N.device boards.old.items) (map N.device boards.new.items))
-        → IsHonestWithoutFrames x.came }
+        → HonestWithoutFrames x.came }
     // There pages go along the links as in a pipeline: where the run ends with an undisturbed rest of t sweeps, in which every
     // mote is on and has room for three commits at its end, a mote within j links of a whole image has t + 1 - j pages of it,
     // or all, if every smaller image was whole everywhere.

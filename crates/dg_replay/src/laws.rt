@@ -2,7 +2,7 @@
 ghost use Rattle.std.specs.Prelude.{ℕ, List};
 ghost use Rattle.dg_replay.specs.Ending.{script_of, whole_lines};
 ghost use Rattle.dg_replay.specs.Outcome.{Progress};
-ghost use Rattle.dg_replay.specs.Promised.{StepsAreLegal, PagesStay, RowsStart, AllAgrees, HalvesAgree, IsHonestWithoutFrames, RestsFillThePipeline, RestsComplete};
+ghost use Rattle.dg_replay.specs.Promised.{StepsAreLegal, PagesStay, RowsStart, AllAgrees, HalvesAgree, HonestWithoutFrames, RestsFillThePipeline, RestsComplete};
 ghost use Rattle.dg_replay.specs.WholeLines.{AreWholeLines};
 
 use dg_completion::scripts_end_complete;
@@ -24,7 +24,7 @@ pub fn replays_keep_the_rules()
     ensures starts { (input : List ℕ) (c : Progress (script_of input)) → RowsStart c }
     ensures agrees { (input : List ℕ) (c : Progress (script_of input)) → AllAgrees c }
     ensures halves { (input : List ℕ) (c : Progress (script_of input)) → HalvesAgree c }
-    ensures honest { (input : List ℕ) (c : Progress (script_of input)) → IsHonestWithoutFrames c }
+    ensures honest { (input : List ℕ) (c : Progress (script_of input)) → HonestWithoutFrames c }
     ensures pipeline { (input : List ℕ) (c : Progress (script_of input)) → RestsFillThePipeline c }
     ensures completes { (input : List ℕ) (c : Progress (script_of input)) → RestsComplete c }
 {
