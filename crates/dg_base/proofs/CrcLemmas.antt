@@ -286,31 +286,31 @@ crc_more-first b n bytes e h k =
     ∙ ap (λ t. bit_xor t (crc_more 0 bytes)) (ap (λ m. shifted m (shifted 8 (b * 2 ^ 8))) (sym e) ∙ shifted-shifted 8 n (b * 2 ^ 8))
 
 -- the register stands over the first two bytes
-register : (r b c : ℕ) → r < 2 ^ 16 → b < 2 ^ 8 → c < 2 ^ 8
-    → bit_xor (shifted 64 r) (bit_xor (shifted 64 (b * 2 ^ 8)) (shifted 56 (c * 2 ^ 8)))
-    ≡ bit_xor (shifted 64 (bit_xor (r / 2 ^ 8) b * 2 ^ 8)) (shifted 56 (bit_xor (r % 2 ^ 8) c * 2 ^ 8))
-register r b c h k l =
+register : (m n r b c : ℕ) → m ≡ 8 + n → r < 2 ^ 16 → b < 2 ^ 8 → c < 2 ^ 8
+    → bit_xor (shifted m r) (bit_xor (shifted m (b * 2 ^ 8)) (shifted n (c * 2 ^ 8)))
+    ≡ bit_xor (shifted m (bit_xor (r / 2 ^ 8) b * 2 ^ 8)) (shifted n (bit_xor (r % 2 ^ 8) c * 2 ^ 8))
+register m n r b c e h k l =
     let high = r / 2 ^ 8 in
     let low = r % 2 ^ 8 in
     let whole : bit_xor (high * 2 ^ 8) low ≡ r =
     ap₂ bit_xor (let e : high * 2 ^ 8 ≡ high * 2 ^ 8 + 0 = omega arith in e) (let e : low ≡ 0 * 2 ^ 8 + low = omega arith in e)
     ∙ xor_block 8 high 0 0 low (omega arith) (omega arith) ∙ ap₂ (λ t u. t * 2 ^ 8 + u) (xor_zero_r high) (xor_zero_l low)
     ∙ (let e : high * 2 ^ 8 + low ≡ r = omega arith in e) in
-    let parted : shifted 64 r ≡ bit_xor (shifted 64 (high * 2 ^ 8)) (shifted 56 (low * 2 ^ 8)) =
-    ap (shifted 64) (sym whole) ∙ shifted-xor 64 (high * 2 ^ 8) low (omega arith) (omega arith)
-    ∙ ap (bit_xor (shifted 64 (high * 2 ^ 8))) (sym (shifted-shifted 8 56 low) ∙ ap (shifted 56) (shifted-low 8 low (omega arith))) in
-    ap (λ t. bit_xor t (bit_xor (shifted 64 (b * 2 ^ 8)) (shifted 56 (c * 2 ^ 8)))) parted
-    ∙ xor_swap (shifted 64 (high * 2 ^ 8)) (shifted 56 (low * 2 ^ 8)) (shifted 64 (b * 2 ^ 8)) (shifted 56 (c * 2 ^ 8))
-    ∙ ap₂ bit_xor (at_top 64 high b (omega arith) k) (at_top 56 low c (omega arith) l)
+    let parted : shifted m r ≡ bit_xor (shifted m (high * 2 ^ 8)) (shifted n (low * 2 ^ 8)) =
+    ap (shifted m) (sym whole) ∙ shifted-xor m (high * 2 ^ 8) low (omega arith) (omega arith)
+    ∙ ap (bit_xor (shifted m (high * 2 ^ 8))) (ap (λ t. shifted t low) e ∙ sym (shifted-shifted 8 n low) ∙ ap (shifted n) (shifted-low 8 low (omega arith))) in
+    ap (λ t. bit_xor t (bit_xor (shifted m (b * 2 ^ 8)) (shifted n (c * 2 ^ 8)))) parted
+    ∙ xor_swap (shifted m (high * 2 ^ 8)) (shifted n (low * 2 ^ 8)) (shifted m (b * 2 ^ 8)) (shifted n (c * 2 ^ 8))
+    ∙ ap₂ bit_xor (at_top m high b (omega arith) k) (at_top n low c (omega arith) l)
 
 grouped : (z a b c d e f g h : ℕ) → bit_xor z (bit_xor a (bit_xor b (bit_xor c (bit_xor d (bit_xor e (bit_xor f (bit_xor g (bit_xor h 0))))))))
     ≡ bit_xor (bit_xor z (bit_xor a b)) (bit_xor (bit_xor (bit_xor c d) e) (bit_xor (bit_xor f g) h))
 grouped z a b c d e f g h = simp (xor_assoc, xor_zero_r)
 
 pub crc_more-eight : (r a b c d e f g h : ℕ) (rest : List ℕ) → r < 2 ^ 16 → a < 2 ^ 8 → b < 2 ^ 8 → c < 2 ^ 8 → d < 2 ^ 8 → e < 2 ^ 8 → f < 2 ^ 8 → g < 2 ^ 8 → h < 2 ^ 8
-    → crc_more (bit_xor (bit_xor (shifted 64 (bit_xor (r / 2 ^ 8) a * 2 ^ 8)) (shifted 56 (bit_xor (r % 2 ^ 8) b * 2 ^ 8)))
-    (bit_xor (bit_xor (bit_xor (shifted 48 (c * 2 ^ 8)) (shifted 40 (d * 2 ^ 8))) (shifted 32 (e * 2 ^ 8)))
-    (bit_xor (bit_xor (shifted 24 (f * 2 ^ 8)) (shifted 16 (g * 2 ^ 8))) (shifted 8 (h * 2 ^ 8))))) rest
+    → crc_more (bit_xor (bit_xor (bit_xor (bit_xor (shifted 48 (c * 2 ^ 8)) (shifted 40 (d * 2 ^ 8))) (shifted 32 (e * 2 ^ 8)))
+    (bit_xor (bit_xor (shifted 24 (f * 2 ^ 8)) (shifted 16 (g * 2 ^ 8))) (shifted 8 (h * 2 ^ 8))))
+    (bit_xor (shifted 64 (bit_xor (r / 2 ^ 8) a * 2 ^ 8)) (shifted 56 (bit_xor (r % 2 ^ 8) b * 2 ^ 8)))) rest
     ≡ crc_more r (a ∷ b ∷ c ∷ d ∷ e ∷ f ∷ g ∷ h ∷ rest)
 crc_more-eight r a b c d e f g h rest low la lb lc ld le lf lg lh =
     let P : ℕ → Type 0 = λ b. b < 2 ^ 8 in
@@ -339,9 +339,36 @@ crc_more-eight r a b c d e f g h rest low la lb lc ld le lf lg lh =
     crc_more-parts r bytes low (All-cons P a (b ∷ c ∷ d ∷ e ∷ f ∷ g ∷ h ∷ []) la kb) ∙ ap (x (shifted 64 r)) e8
     ∙ grouped (shifted 64 r) (s 64 a) (s 56 b) (s 48 c) (s 40 d) (s 32 e) (s 24 f) (s 16 g) (s 8 h) in
     let tail = x (x (x (s 48 c) (s 40 d)) (s 32 e)) (x (x (s 24 f) (s 16 g)) (s 8 h)) in
-    ap (λ t. crc_more (x t tail) rest) (sym (register r a b low la lb)) ∙ ap (λ t. crc_more t rest) (sym all) ∙ crc_more-append r bytes rest
+    ap (λ t. crc_more t rest) (xor_comm tail _ ∙ ap (λ t. x t tail) (sym (register 64 56 r a b refl low la lb)) ∙ sym all) ∙ crc_more-append r bytes rest
 
--- eight bytes at a place
+-- ---- four bytes at a time
+
+grouped_four : (z a b c d : ℕ) → bit_xor z (bit_xor a (bit_xor b (bit_xor c (bit_xor d 0)))) ≡ bit_xor (bit_xor z (bit_xor a b)) (bit_xor c d)
+grouped_four z a b c d = simp (xor_assoc, xor_zero_r)
+
+pub crc_more-four : (r a b c d : ℕ) (rest : List ℕ) → r < 2 ^ 16 → a < 2 ^ 8 → b < 2 ^ 8 → c < 2 ^ 8 → d < 2 ^ 8
+    → crc_more (bit_xor (bit_xor (shifted 16 (c * 2 ^ 8)) (shifted 8 (d * 2 ^ 8)))
+    (bit_xor (shifted 32 (bit_xor (r / 2 ^ 8) a * 2 ^ 8)) (shifted 24 (bit_xor (r % 2 ^ 8) b * 2 ^ 8)))) rest
+    ≡ crc_more r (a ∷ b ∷ c ∷ d ∷ rest)
+crc_more-four r a b c d rest low la lb lc ld =
+    let P : ℕ → Type 0 = λ b. b < 2 ^ 8 in
+    let kd : All P (d ∷ []) = All-cons P d [] ld (All-nil P) in
+    let kc : All P (c ∷ d ∷ []) = All-cons P c (d ∷ []) lc kd in
+    let kb : All P (b ∷ c ∷ d ∷ []) = All-cons P b (c ∷ d ∷ []) lb kc in
+    let bytes = a ∷ b ∷ c ∷ d ∷ [] in
+    let x = bit_xor in
+    let s = λ (n b : ℕ). shifted n (b * 2 ^ 8) in
+    let e1 : crc_more 0 (d ∷ []) ≡ x (s 8 d) 0 = crc_more-first d 0 [] refl ld (All-nil P) ∙ ap (x (s 8 d)) (crc_more-nil 0) in
+    let e2 : crc_more 0 (c ∷ d ∷ []) ≡ x (s 16 c) (x (s 8 d) 0) = crc_more-first c 8 _ refl lc kd ∙ ap (x (s 16 c)) e1 in
+    let e3 : crc_more 0 (b ∷ c ∷ d ∷ []) ≡ x (s 24 b) (x (s 16 c) (x (s 8 d) 0)) = crc_more-first b 16 _ refl lb kc ∙ ap (x (s 24 b)) e2 in
+    let e4 : crc_more 0 bytes ≡ x (s 32 a) (x (s 24 b) (x (s 16 c) (x (s 8 d) 0))) = crc_more-first a 24 _ refl la kb ∙ ap (x (s 32 a)) e3 in
+    let all : crc_more r bytes ≡ x (x (shifted 32 r) (x (s 32 a) (s 24 b))) (x (s 16 c) (s 8 d)) =
+    crc_more-parts r bytes low (All-cons P a (b ∷ c ∷ d ∷ []) la kb) ∙ ap (x (shifted 32 r)) e4 ∙ grouped_four (shifted 32 r) (s 32 a) (s 24 b) (s 16 c) (s 8 d) in
+    let tail = x (s 16 c) (s 8 d) in
+    ap (λ t. crc_more t rest) (xor_comm tail _ ∙ ap (λ t. x t tail) (sym (register 32 24 r a b refl low la lb)) ∙ sym all) ∙ crc_more-append r bytes rest
+
+-- ---- the bytes at a place
+
 drop_next : (bytes : List ℕ) (at k j : ℕ) → at + k + 1 ≡ at + j → at + k < length bytes → drop (at + k) bytes ≡ get_or bytes (at + k) 0 ∷ drop (at + j) bytes
 drop_next bytes at k j e h = drop_more bytes (at + k) 0 h ∙ ap (λ n. get_or bytes (at + k) 0 ∷ drop n bytes) e
 
@@ -357,3 +384,12 @@ drop_eight bytes at h =
     ∙ ap (λ t. g (at + 4) ∷ t) (drop_next bytes at 5 6 (omega arith) (omega arith)
     ∙ ap (λ t. g (at + 5) ∷ t) (drop_next bytes at 6 7 (omega arith) (omega arith)
     ∙ ap (λ t. g (at + 6) ∷ t) (drop_next bytes at 7 8 (omega arith) (omega arith))))))))
+
+pub drop_four : (bytes : List ℕ) (at : ℕ) → at + 4 ≤ length bytes
+    → drop at bytes ≡ get_or bytes at 0 ∷ get_or bytes (at + 1) 0 ∷ get_or bytes (at + 2) 0 ∷ get_or bytes (at + 3) 0 ∷ drop (at + 4) bytes
+drop_four bytes at h =
+    let g = λ (n : ℕ). get_or bytes n 0 in
+    drop_more bytes at 0 (omega arith)
+    ∙ ap (λ t. g at ∷ t) (drop_next bytes at 1 2 (omega arith) (omega arith)
+    ∙ ap (λ t. g (at + 1) ∷ t) (drop_next bytes at 2 3 (omega arith) (omega arith)
+    ∙ ap (λ t. g (at + 2) ∷ t) (drop_next bytes at 3 4 (omega arith) (omega arith))))

@@ -8,6 +8,7 @@ use crate::checksum_tables::{
 
 /// The checksum of `bytes` by the polynomial x^16 + x^12 + x^5 + 1, start 0, most significant bit
 /// first, no final change.
+#[inline(always)]
 pub fn crc16(bytes: &[u8]) -> u16
     ensures { result ≡ crc_of bytes.now }
 {
@@ -15,6 +16,7 @@ pub fn crc16(bytes: &[u8]) -> u16
 }
 
 /// The checksum of bytes whose checksum is `before`, and `bytes` behind them.
+#[inline(always)]
 pub fn crc16_more(before: u16, bytes: &[u8]) -> u16
     ensures { result ≡ crc_more before bytes.now }
 {
@@ -27,8 +29,22 @@ pub fn crc16_more(before: u16, bytes: &[u8]) -> u16
     with_rest(crc, bytes, at)
 }
 
-// The checksum with the bytes from `at` on, one at a time.
+// The checksum with the bytes from `at` on: four at once where there are four, and the others one at a time.
+#[inline(always)]
 fn with_rest(before: u16, bytes: &[u8], at: usize) -> u16
+    requires { at ≤ length bytes.now }
+    ensures { result ≡ crc_more before (drop at bytes.now) }
+{
+    if bytes.len() - at >= 4 {
+        with_each(with_four(before, bytes, at), bytes, at + 4)
+    } else {
+        with_each(before, bytes, at)
+    }
+}
+
+// The checksum with the bytes from `at` on, one at a time.
+#[inline]
+fn with_each(before: u16, bytes: &[u8], at: usize) -> u16
     requires { at ≤ length bytes.now }
     ensures { result ≡ crc_more before (drop at bytes.now) }
 {
@@ -56,10 +72,23 @@ fn with_eight(crc: u16, bytes: &[u8], at: usize) -> u16
 {
     let high = (crc >> 8) as u8;
     let low = (crc % 256) as u8;
-    let first = after_8(high ^ bytes[at]) ^ after_7(low ^ bytes[at + 1]);
     let middle = after_6(bytes[at + 2]) ^ after_5(bytes[at + 3]) ^ after_4(bytes[at + 4]);
     let last = after_3(bytes[at + 5]) ^ after_2(bytes[at + 6]) ^ after_1(bytes[at + 7]);
-    first ^ (middle ^ last)
+    let first = after_8(high ^ bytes[at]) ^ after_7(low ^ bytes[at + 1]);
+    (middle ^ last) ^ first
+}
+
+// The checksum with the four bytes at `at`: the register stands over the first two.
+#[inline]
+fn with_four(crc: u16, bytes: &[u8], at: usize) -> u16
+    requires { at + 4 ≤ length bytes.now }
+    ensures { crc_more result (drop (at + 4) bytes.now) ≡ crc_more crc (drop at bytes.now) }
+{
+    let high = (crc >> 8) as u8;
+    let low = (crc % 256) as u8;
+    let last = after_2(bytes[at + 2]) ^ after_1(bytes[at + 3]);
+    let first = after_4(high ^ bytes[at]) ^ after_3(low ^ bytes[at + 1]);
+    last ^ first
 }
 
 // What a byte at the top of the register becomes once one byte, or more, are shifted out.

@@ -11,8 +11,8 @@ returns c =
     let fits : (n : ℕ) → g n < 2 ^ 8 = λ n. omega (arith, c.type_inv.bytes n) in
     let x = bit_xor in
     ap (λ t. crc_more t (drop (at + 8) bytes))
-    (ap₂ x (ap₂ x c.after_8.ensures c.after_7.ensures)
-    (ap₂ x (ap₂ x (ap₂ x c.after_6.ensures c.after_5.ensures) c.after_4.ensures) (ap₂ x (ap₂ x c.after_3.ensures c.after_2.ensures) c.after_1.ensures)))
+    (ap₂ x (ap₂ x (ap₂ x (ap₂ x c.after_6.ensures c.after_5.ensures) c.after_4.ensures) (ap₂ x (ap₂ x c.after_3.ensures c.after_2.ensures) c.after_1.ensures))
+    (ap₂ x c.after_8.ensures c.after_7.ensures))
     ∙ crc_more-eight c.args.crc (g at) (g (at + 1)) (g (at + 2)) (g (at + 3)) (g (at + 4)) (g (at + 5)) (g (at + 6)) (g (at + 7)) (drop (at + 8) bytes) (omega arith)
     (fits at) (fits (at + 1)) (fits (at + 2)) (fits (at + 3)) (fits (at + 4)) (fits (at + 5)) (fits (at + 6)) (fits (at + 7))
     ∙ ap (crc_more c.args.crc) (sym (drop_eight bytes at c.requires))

@@ -1,7 +1,7 @@
 use Rattle.std.proofs.Common.{sym, ap, ◌∙◌, drop, ◌+◌, arith}
 use Rattle.dg_base.specs.Crc.{crc_more}
 use Rattle.dg_base.proofs.CrcLemmas.{crc_more-drop, crc_more-drop_all}
-use Rattle.dg_base.proofs.checksum.with_rest.Goals as goal
+use Rattle.dg_base.proofs.checksum.with_each.Goals as goal
 
 pub loop-next-preserved : goal.loop-next-preserved
 loop-next-preserved c =
