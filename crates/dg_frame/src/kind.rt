@@ -4,6 +4,13 @@ ghost use Rattle.std.specs.Option.{option_map};
 ghost use Rattle.dg_frame.specs.Grammar.{kind_of};
 ghost use Rattle.dg_frame.specs.Kinds.{number_of, row_of};
 
+/// The bytes of each kind of frame.
+pub(crate) const ADVERT_BYTES: usize = 38;
+
+pub(crate) const REQUEST_BYTES: usize = 19;
+
+pub(crate) const PACKET_FRAME_BYTES: usize = 35;
+
 /// The kind of a frame, and its first byte.
 #[derive(Clone, Copy, Debug, PartialEq, Eq)]
 pub(crate) enum Kind {
@@ -37,9 +44,9 @@ impl Kind {
         ensures { result ≡ (row_of self).0 }
     {
         match self {
-            Kind::Advert => 38,
-            Kind::Request => 19,
-            Kind::Packet => 35,
+            Kind::Advert => ADVERT_BYTES,
+            Kind::Request => REQUEST_BYTES,
+            Kind::Packet => PACKET_FRAME_BYTES,
         }
     }
 }

@@ -1,13 +1,14 @@
 //! From bytes to messages.
-ghost use Rattle.std.specs.Prelude.{◌≡◌, length, IfOk};
+ghost use Rattle.std.specs.Prelude.{◌≡◌, ◌==◌, ◌+◌, ◌-◌, ◌≤◌, length, take, IfOk};
+ghost use Rattle.dg_base.specs.Crc.{crc_of};
 ghost use Rattle.dg_frame.specs.Sizes.{advert_size, request_size, packet_size};
 ghost use Rattle.dg_frame.specs.Kinds.{row_of};
 ghost use Rattle.dg_frame.specs.Spelling.{frame_of};
 ghost use Rattle.dg_frame.specs.Readings.{IsReading};
-ghost use Rattle.dg_frame.specs.Grammar.{advert_in, request_in, packet_in, message_of};
+ghost use Rattle.dg_frame.specs.Grammar.{half_at, advert_in, request_in, packet_in, message_of};
 
 use crate::fields::{entry_at, half_at, order_at, set_at, word_at};
-use crate::kind::Kind;
+use crate::kind::{ADVERT_BYTES, Kind, PACKET_FRAME_BYTES, REQUEST_BYTES};
 use crate::ranges::in_range;
 use crate::{FrameFault, Message, PACKET_BYTES};
 use dg_base::crc16;
@@ -31,8 +32,7 @@ pub fn read(bytes: &[u8]) -> Result<Message, FrameFault>
     if bytes.len() != kind.size() {
         return Err(FrameFault::Length);
     }
-    let at = bytes.len() - 2;
-    if half_at(bytes, at) != crc16(&bytes[..at]) {
+    if !is_checked(kind, bytes) {
         return Err(FrameFault::Check);
     }
     let message = fields(kind, bytes);
@@ -41,6 +41,28 @@ pub fn read(bytes: &[u8]) -> Result<Message, FrameFault>
     } else {
         Err(FrameFault::Range)
     }
+}
+
+/// Whether the last two bytes of a frame of a kind are the CRC of those before them.
+fn is_checked(kind: Kind, bytes: &[u8]) -> bool
+    requires { length bytes.now ≡ (row_of kind).0 }
+    ensures { result ≡ (half_at bytes.now (length bytes.now - 2) == crc_of (take (length bytes.now - 2) bytes.now)) }
+{
+    match kind {
+        Kind::Advert => has_crc_at(bytes, ADVERT_BYTES - 2),
+        Kind::Request => has_crc_at(bytes, REQUEST_BYTES - 2),
+        Kind::Packet => has_crc_at(bytes, PACKET_FRAME_BYTES - 2),
+    }
+}
+
+/// Whether the CRC of the bytes before a place stands there. It is inlined where the place is known, so that the
+/// compiler knows the steps of the CRC.
+#[inline(always)]
+fn has_crc_at(bytes: &[u8], at: usize) -> bool
+    requires { at + 2 ≤ length bytes.now }
+    ensures { result ≡ (half_at bytes.now at == crc_of (take at bytes.now)) }
+{
+    half_at(bytes, at) == crc16(&bytes[..at])
 }
 
 /// The fields of a frame of a kind.

@@ -4,7 +4,8 @@ ghost use Rattle.std.specs.Int.{to_be_bytes, w16};
 ghost use Rattle.arrayvec.specs.ArrayVec.{array_vec_len};
 ghost use Rattle.dg_frame.specs.Sizes.{advert_size, request_size, packet_size};
 ghost use Rattle.dg_frame.specs.Kinds.{number_of, row_of};
-ghost use Rattle.dg_frame.specs.Spelling.{unchecked, frame_of, FitsTypes};
+ghost use Rattle.dg_base.specs.Crc.{crc_of};
+ghost use Rattle.dg_frame.specs.Spelling.{frame_of, FitsTypes};
 ghost use Rattle.dg_frame.specs.Grammar.{in_range, message_of};
 ghost use Rattle.dg_frame.specs.declared.Message.TheVariants as message;
 
@@ -22,16 +23,12 @@ pub fn write(message: &Message) -> Frame
     ensures spelled { result.items ≡ frame_of message.now }
     ensures reads_back { message_of result.items ≡ Ok message.now }
 {
-    let mut frame = unchecked(message);
-    let crc = crc16(frame.as_slice());
-    put_half(&mut frame, crc);
-    frame
+    frame(message)
 }
 
-/// A message's frame without the CRC.
-fn unchecked(message: &Message) -> Frame
-    ensures items { result.items ≡ unchecked message.now }
-    ensures room { array_vec_len result + 2 ≤ FRAME_BYTES }
+/// The frame of a message, whatever its fields are.
+fn frame(message: &Message) -> Frame
+    ensures items { result.items ≡ frame_of message.now }
     ensures fits { FitsTypes message.now }
 {
     match message {
@@ -59,6 +56,62 @@ fn unchecked(message: &Message) -> Frame
     }
 }
 
+#[tactic(auto, unfolding(crate::specs::Spelling::frame_of))]
+fn advert(source: u16, entries: &[Entry; FRAME_IMAGES], order: &Order) -> Frame
+    ensures items { result.items ≡ frame_of (message.Advert source entries.now order.now) }
+    ensures fits { FitsTypes (message.Advert source entries.now order.now) }
+{
+    let mut frame = begun(Kind::Advert, source);
+    put_entries(&mut frame, entries);
+    put_order(&mut frame, order);
+    end(&mut frame);
+    frame
+}
+
+#[tactic(auto, unfolding(crate::specs::Spelling::frame_of))]
+fn request(
+    source: u16,
+    to: u16,
+    image: u8,
+    version: u32,
+    page: u8,
+    want: &PageBits<PACKETS>,
+) -> Frame
+    ensures items { result.items ≡ frame_of (message.Request source to image version page want.now) }
+    ensures fits { FitsTypes (message.Request source to image version page want.now) }
+{
+    let mut frame = begun(Kind::Request, source);
+    put_half(&mut frame, to);
+    frame.push(image);
+    put_word(&mut frame, version);
+    frame.push(page);
+    put_set(&mut frame, want);
+    end(&mut frame);
+    frame
+}
+
+#[tactic(auto, unfolding(crate::specs::Spelling::frame_of))]
+fn packet_frame(
+    source: u16,
+    image: u8,
+    version: u32,
+    page: u8,
+    packet: u8,
+    bytes: &[u8; PACKET_BYTES],
+) -> Frame
+    ensures items { result.items ≡ frame_of (message.Packet source image version page packet bytes.now) }
+    ensures fits { FitsTypes (message.Packet source image version page packet bytes.now) }
+{
+    let mut frame = begun(Kind::Packet, source);
+    frame.push(image);
+    put_word(&mut frame, version);
+    frame.push(page);
+    frame.push(packet);
+    put(&mut frame, bytes);
+    end(&mut frame);
+    frame
+}
+
 /// A frame's kind and source.
 fn begun(kind: Kind, source: u16) -> Frame
     ensures items { result.items ≡ number_of kind ∷ to_be_bytes w16 source }
@@ -70,55 +123,13 @@ fn begun(kind: Kind, source: u16) -> Frame
     frame
 }
 
-fn advert(source: u16, entries: &[Entry; FRAME_IMAGES], order: &Order) -> Frame
-    ensures items { result.items ≡ unchecked (message.Advert source entries.now order.now) }
-    ensures len { array_vec_len result + 2 ≡ advert_size }
-    ensures fits { FitsTypes (message.Advert source entries.now order.now) }
+/// Appends the CRC of what is there. It is inlined where the length is known, so that the compiler knows the steps
+/// of the CRC.
+#[inline(always)]
+fn end(frame: &mut Frame)
+    requires { array_vec_len frame.old + 2 ≤ FRAME_BYTES }
+    ensures { frame.new.items ≡ frame.old.items ++ to_be_bytes w16 (crc_of frame.old.items) }
 {
-    let mut frame = begun(Kind::Advert, source);
-    put_entries(&mut frame, entries);
-    put_order(&mut frame, order);
-    frame
-}
-
-fn request(
-    source: u16,
-    to: u16,
-    image: u8,
-    version: u32,
-    page: u8,
-    want: &PageBits<PACKETS>,
-) -> Frame
-    ensures items { result.items ≡ unchecked (message.Request source to image version page want.now) }
-    ensures len { array_vec_len result + 2 ≡ request_size }
-    ensures fits { FitsTypes (message.Request source to image version page want.now) }
-{
-    let mut frame = begun(Kind::Request, source);
-    put_half(&mut frame, to);
-    frame.push(image);
-    put_word(&mut frame, version);
-    frame.push(page);
-    put_set(&mut frame, want);
-    frame
-}
-
-fn packet_frame(
-    source: u16,
-    image: u8,
-    version: u32,
-    page: u8,
-    packet: u8,
-    bytes: &[u8; PACKET_BYTES],
-) -> Frame
-    ensures items { result.items ≡ unchecked (message.Packet source image version page packet bytes.now) }
-    ensures len { array_vec_len result + 2 ≡ packet_size }
-    ensures fits { FitsTypes (message.Packet source image version page packet bytes.now) }
-{
-    let mut frame = begun(Kind::Packet, source);
-    frame.push(image);
-    put_word(&mut frame, version);
-    frame.push(page);
-    frame.push(packet);
-    put(&mut frame, bytes);
-    frame
+    let crc = crc16(frame.as_slice());
+    put_half(frame, crc);
 }

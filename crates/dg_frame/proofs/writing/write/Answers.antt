@@ -6,8 +6,7 @@ use Rattle.dg_frame.proofs.SpellingLemmas.{written}
 use Rattle.dg_frame.proofs.writing.write.Goals as goal
 
 pub returns-clause-reads_back : goal.returns-clause-reads_back
-unfolding frame_of
 returns-clause-reads_back c =
     let m = c.args.message.now in
-    let spelled : c.put_half.new.frame.items ≡ frame_of m = search rules in
-    ap message_of spelled ∙ is_read (frame_of m) (Ok m) (written m c.unchecked-frame.ensures.fits c.requires)
+    let spelled : c.frame.result.items ≡ frame_of m = search rules in
+    ap message_of spelled ∙ is_read (frame_of m) (Ok m) (written m c.frame.ensures.fits c.requires)
