@@ -117,8 +117,9 @@ impl<const N: usize> PageBits<N> {
         ensures cases { MatchOption result (self.now ≡ set.empty) (λ n. IsLeast self.now n) }
         ensures within { AllBelow N self.now }
     {
-        for k in 0..WIDTH {
-            let byte = self.bytes[k];
+        let bytes = &self.bytes;
+        for k in 0..(N + 7) / 8 {
+            let byte = bytes[k];
             if byte != 0 {
                 let n = 8 * k as u8 + first_bit(byte);
                 return Some(n);
@@ -139,9 +140,10 @@ impl<const N: usize> PageBits<N> {
         ensures value { result ≡ set.len self.now }
         ensures within { AllBelow N self.now }
     {
+        let bytes = &self.bytes;
         let mut members = 0;
-        for k in 0..WIDTH {
-            members += bits_set(self.bytes[k]);
+        for k in 0..(N + 7) / 8 {
+            members += bits_set(bytes[k]);
         }
         members
     }

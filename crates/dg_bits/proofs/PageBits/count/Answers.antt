@@ -1,4 +1,4 @@
-use Rattle.std.proofs.Common.{◌≡◌, ◌+◌, ◌*◌, ap, sym, ◌∙◌, arith}
+use Rattle.std.proofs.Common.{◌+◌, ◌*◌, ap, sym, ◌∙◌, arith}
 use Rattle.std.specs.FinSet as set
 use Rattle.dg_bits.specs.ByteForm.{numbers_of}
 use Rattle.dg_bits.specs.SetLaws.{up_to, up_to-none, up_to-all}
@@ -22,10 +22,9 @@ loop-k-preserved g c =
 pub returns-clause-value : goal.returns-clause-value
 returns-clause-value g c =
     let all = AllBelow-packed g.row.N c.self.inside.bytes c.args.self.now c.self.view_is c.self.invariant.within in
-    let end : 8 * c.loop-k.k ≡ 72 = omega arith in
     c.loop-k.invariant.counted
-    ∙ (λ i. set.len (up_to (c.self.view_is i) (end i)))
-    ∙ ap set.len (up_to-all c.args.self.now 72 (AllBelow-wider g.row.N 72 c.args.self.now c.self.invariant.not_over all))
+    ∙ ap (λ s. set.len (up_to s (8 * c.loop-k.k))) c.self.view_is
+    ∙ ap set.len (up_to-all c.args.self.now (8 * c.loop-k.k) (AllBelow-wider g.row.N (8 * c.loop-k.k) c.args.self.now (omega arith) all))
 
 pub returns-clause-within : goal.returns-clause-within
 returns-clause-within g c = AllBelow-packed g.row.N c.self.inside.bytes c.args.self.now c.self.view_is c.self.invariant.within

@@ -6,4 +6,4 @@ use Rattle.dg_bits.proofs.PageBits.count.Given as goal
 
 -- the numbers of the bytes so far are counted
 abbrev pub invariant-loop-k : goal.invariant-loop-k
-invariant-loop-k g l = record { counted : l.members ≡ set.len (up_to (numbers_of l.self-inside.bytes) (8 * l.k)); few : l.members ≤ 8 * l.k }
+invariant-loop-k g l = record { counted : l.members ≡ set.len (up_to (numbers_of l.bytes) (8 * l.k)); few : l.members ≤ 8 * l.k }

@@ -22,7 +22,7 @@ returns-then-byte-ne0-clause-within g c = AllBelow-packed g.row.N c.self.inside.
 
 nothing : (g : _) (c : After-loop-k g) → c.args.self.now ≡ set.empty
 nothing g c =
-    empty_unmarked g.row.N c.self.inside.bytes c.args.self.now c.self.view_is (λ q lt. unmarked_zero c.self.inside.bytes q (c.loop-k.invariant (q / 8) (omega (arith, c.self.invariant.not_over)))) c.self.invariant.within
+    empty_unmarked g.row.N c.self.inside.bytes c.args.self.now c.self.view_is (λ q lt. unmarked_zero c.self.inside.bytes q (c.loop-k.invariant (q / 8) (omega arith))) c.self.invariant.within
 
 pub returns-clause-value : goal.returns-clause-value
 returns-clause-value g c = sym (ap least (nothing g c) ∙ least-none)

@@ -3,4 +3,4 @@ use Rattle.dg_bits.proofs.PageBits.first.Given as goal
 
 -- each byte so far is 0
 abbrev pub invariant-loop-k : goal.invariant-loop-k
-invariant-loop-k g l = (i : ℕ) → i < l.k → slice_index l.self-inside.bytes i ≡ 0
+invariant-loop-k g l = (i : ℕ) → i < l.k → slice_index l.bytes i ≡ 0
