@@ -8,7 +8,7 @@ ghost use Rattle.dg_replay.specs.Playing.{Stood, Passed, MayPlay, Counted, Playe
 
 use crate::items::{Told, play_image, play_round, play_step, play_sweeps};
 use crate::stop::Stop;
-use dg_base::{Bytes, Cut, Key, Pairs, Step};
+use dg_base::{Bytes, Cut, Key, Step};
 use dg_nor::Nor;
 use dg_script::{Line, Place};
 use dg_world::{FormatStopped, World, format_boards};
@@ -71,13 +71,6 @@ fn format<N: Nor>(
     format_first(boards.as_mut_slice(), motes, name, used, content)
 }
 
-/// No motes are neighbours.
-fn no_links(alloc: Global) -> Pairs
-    ensures { result ≡ [] }
-{
-    Pairs::new(Vec::new(alloc))
-}
-
 /// There is golden, with which the boards of the motes are formatted.
 fn play_golden<N: Nor>(
     alloc: Global,
@@ -95,7 +88,7 @@ fn play_golden<N: Nor>(
     ensures place { player.new.place ≡ player.old.place }
 {
     let motes = player.place.motes;
-    let world = match World::new(alloc, motes, no_links(alloc)) {
+    let world = match World::new(alloc, motes) {
         Ok(world) => world,
         Err(AllocError) => return Err(Stop::Memory),
     };

@@ -8,7 +8,7 @@ use Rattle.arrayvec.specs.ArrayVec.{ArrayVec}
 use Rattle.dg_rules.specs.Sizes.{most_motes}
 use Rattle.dg_rules.specs.World.{Sent, last_by}
 use Rattle.dg_world.specs.Airs.{Carries, sent_of, sent_now, frame_in, last_number}
-use Rattle.dg_world.specs.declared.air.SentFrame.{SentFrame}
+use Rattle.dg_world.specs.declared.sent.SentFrame.{SentFrame}
 use Rattle.dg_world.specs.declared.air.Air.{Air}
 
 last_behind : (m : ℕ) (xs : List Sent) (s : Sent) (found : Option Sent) → last_by m (xs ++ s ∷ []) found ≡ cond (s.by == m) (Some s) (last_by m xs found)
@@ -36,14 +36,14 @@ in_before xs ys (suc n) h = in_some (xs ++ ys) (suc n) n refl ∙ get_before xs 
 in_behind : (xs : List Sent) (s : Sent) (n : ℕ) → n ≡ suc (length xs) → frame_in (xs ++ s ∷ []) n ≡ Some s
 in_behind xs s n e = in_some (xs ++ s ∷ []) n (length xs) e ∙ get_behind xs s
 
-same_or : (k i : ℕ) → (k ≡ i) ⊎ ((k == i) ≡ false)
+pub same_or : (k i : ℕ) → (k ≡ i) ⊎ ((k == i) ≡ false)
 same_or k i = ⊎_elim (λ is. inl (eqb-true k i is)) (λ other. inr other) (bool_is (k == i))
   where
     bool_is : (b : Bool) → (b ≡ true) ⊎ (b ≡ false)
     bool_is true = inl refl
     bool_is false = inr refl
 
-by_other : (k i : ℕ) → (k == i) ≡ false → i ≢ k
+pub by_other : (k i : ℕ) → (k == i) ≡ false → i ≢ k
 by_other k i e = λ h. both_ways (k == i) e (eq-eqb k i (sym h))
 
 -- one mote's last frame, where a frame was appended that another sent, or that it sent itself
@@ -70,11 +70,11 @@ module _ (old new : Air) (by n : ℕ) (before : List Sent) (s : Sent) (is_by : s
       ap (frame_in (before ++ s ∷ [])) n_is ∙ in_before before (s ∷ []) (last_number old m) (carries.numbers m h) ∙ carries.last m h
       ∙ ap (λ (b : Bool). cond b (Some s) (last_by m before None)) (sym (ap (λ (k : ℕ). k == m) is_by ∙ other)) ∙ sym (last_behind m before s None)
 
-pub pushed : (old new : Air) (by n : ℕ) (frame : ArrayVec ℕ) (before : List Sent) → new.frames.items ≡ old.frames.items ++ record { by = by; frame = frame } ∷ [] → n ≡ length new.frames.items → new.last ≡ set old.last by n → by < most_motes
+pub pushed : (old new : Air) (by n : ℕ) (frame : ArrayVec ℕ) (before : List Sent) → (known : by < most_motes) → new.frames.items ≡ old.frames.items ++ record { by = by; frame = frame; known = known } ∷ [] → n ≡ length new.frames.items → new.last ≡ set old.last by n
     → Carries old before → Carries new (before ++ sent_now by (Some frame.items))
-pushed old new by n frame before is count last known carries =
+pushed old new by n frame before known is count last carries =
     let s : Sent = record { by = by; bytes = frame.items } in
-    let f : SentFrame = record { by = by; frame = frame } in
+    let f : SentFrame = record { by = by; frame = frame; known = known } in
     let long : length before ≡ length old.frames.items = ap length (sym carries.frames) ∙ length-map old.frames.items sent_of in
     let longer : n ≡ suc (length before) = omega (arith, count, ap length is, length-append old.frames.items (f ∷ []), long) in
     record {

@@ -1,4 +1,5 @@
 pub mod AirLemmas
+pub mod LinkLemmas
 pub mod ImageLemmas
 pub mod WorldLemmas
 pub mod ShownLemmas

@@ -26,6 +26,7 @@ use Rattle.dg_object.specs.Object.{Row}
 use Rattle.dg_world.specs.Airs.{Carries, sent_now}
 use Rattle.dg_world.specs.Images.{Declares}
 use Rattle.dg_world.specs.Shareds.{IsShared}
+use Rattle.dg_world.specs.declared.links.Links.{Links}
 use Rattle.dg_world.specs.Worlds.{MoteStands, SiteStands, MayRun, IsWorld}
 use Rattle.dg_world.specs.Counts.{NoneRose}
 use Rattle.dg_world.specs.Applied.{OneBoard, Applied, FlashAt, Ended, ApplyEnds, fault_of}
@@ -140,7 +141,7 @@ module _ (v u : World) (bs : List Device) (w : RuleWorld) (x : Step) (loud : Boo
       let Q : List Sent → Type 0 = λ sent. Carries u.shared.air sent in
       record {
         declared = subst (λ (y : Images). P y s.world.declared) (sym moves.images) (subst (P v.shared.images) (sym s.declared) is.shared.declared);
-        links = s.links ∙ is.shared.links ∙ sym moves.links;
+        links = s.links ∙ is.shared.links ∙ sym (ap (λ (l : Links). l.pairs) moves.links);
         sent = subst Q (ap (λ (j : ℕ). w.sent ++ sent_now j frame) at ∙ sym s.sent) (moves.sends w.sent is.shared.sent);
       }
 

@@ -29,7 +29,7 @@ stands_off d v x s off at stands =
 off_timely : (x : Site) (s : Store) (now : ℕ) → x ≡ off_site s → IfSome x.runs (λ r. Timely r.mote now)
 off_timely x s now at = subst (λ (y : Site). IfSome y.runs (λ r. Timely r.mote now)) (sym at) tt
 
-pub begins : (v : World) (boards : List Device) (stores : List Store) (table : List Row) (links : List (ℕ × ℕ)) (n : ℕ) → v.moment ≡ 0 → v.events ≡ 0 → NothingDeclared v.shared.images → links ≡ v.shared.links → Carries v.shared.air []
+pub begins : (v : World) (boards : List Device) (stores : List Store) (table : List Row) (links : List (ℕ × ℕ)) (n : ℕ) → v.moment ≡ 0 → v.events ≡ 0 → NothingDeclared v.shared.images → links ≡ v.shared.links.pairs → Carries v.shared.air []
     → v.motes.items ≡ replicate n None → n ≤ most_motes → length stores ≡ n → n ≤ length boards → ((m : ℕ) (d : Device) → m < n → slice_get boards m ≡ Some d → Stands d.image (slice_index_or stores m no_site.store))
     → IsWorld v boards (first_world table links stores)
 begins v boards stores table links n start none nothing linked silent off few count enough stand =

@@ -2,7 +2,7 @@
 use Rattle.std.specs.Prelude.{◌≡◌, ℕ, ◌-◌, ◌<◌, ◌≤◌, nat_le, if◌then◌else◌, List, [], ◌∷◌, length, map, slice_get, slice_index_or, Option, Some, None}
 use Rattle.dg_rules.specs.Sizes.{most_motes}
 use Rattle.dg_rules.specs.World.{Sent, last_by}
-use Rattle.dg_world.specs.declared.air.SentFrame.{SentFrame}
+use Rattle.dg_world.specs.declared.sent.SentFrame.{SentFrame}
 use Rattle.dg_world.specs.declared.air.Air.{Air}
 
 abbrev pub sent_of : SentFrame → Sent

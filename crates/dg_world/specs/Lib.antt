@@ -1,5 +1,6 @@
 pub mod Images
 pub mod Airs
+pub mod Neighbours
 pub mod Shareds
 pub mod Worlds
 pub mod Counts

@@ -7,5 +7,5 @@ use Rattle.dg_world.specs.declared.shared.Shared.{Shared}
 
 pub record IsShared (v : Shared) (w : RuleWorld) : Type 0 where
   pub declared : Declares v.images w.declared
-  pub links : w.links ≡ v.links
+  pub links : w.links ≡ v.links.pairs
   pub sent : Carries v.air w.sent

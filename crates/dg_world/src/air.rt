@@ -6,19 +6,11 @@ ghost use Rattle.dg_rules.specs.Sizes.{most_motes};
 ghost use Rattle.dg_rules.specs.World.{Sent, last_by};
 ghost use Rattle.dg_world.specs.Airs.{Carries, sent_of, sent_now, frame_in};
 
+use crate::links::MOST_MOTES;
+use crate::sent::SentFrame;
 use dg_frame::Frame;
 use dg_mote::Outbox;
 use std::alloc::{AllocError, Global};
-
-/// The most motes of a world.
-const MOST_MOTES: usize = 16;
-
-/// A frame that was sent, and by which mote.
-#[derive(Drop)]
-pub struct SentFrame {
-    pub(crate) by: u8,
-    pub(crate) frame: Frame,
-}
 
 /// The frames that were sent, the first one first. Each is found by its number, and the last one of a mote by the mote.
 #[derive(Drop)]

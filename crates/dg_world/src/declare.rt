@@ -17,27 +17,29 @@ ghost use Rattle.dg_world.specs.Worlds.{IsWorld};
 
 use crate::air::Air;
 use crate::images::{Image, Images};
+use crate::links::Links;
 use crate::shared::Shared;
 use crate::world::{DeclareFault, RunningMote, World};
-use dg_base::{Bytes, Pairs};
+use dg_base::Bytes;
 use dg_rules::Key;
 use std::alloc::{AllocError, Global};
 
 impl World {
-    /// A world at moment 0 in which no event was applied, nothing is declared and nothing was sent. All motes are off.
-    pub fn new(alloc: Global, motes: u8, links: Pairs) -> Result<World, AllocError>
+    /// A world at moment 0 in which no event was applied, nothing is declared and nothing was sent. No motes are neighbours,
+    /// and all are off.
+    pub fn new(alloc: Global, motes: u8) -> Result<World, AllocError>
         requires some { 1 ≤ motes }
         requires few { motes ≤ most_motes }
         ensures { IfOk result (λ v. (boards : List Device) (stores : List Store) (table : List Row) → length stores ≡ motes → motes ≤ length boards
             → ((m : ℕ) (d : Device) → m < motes → slice_get boards m ≡ Some d → Stands d.image (slice_index_or stores m no_site.store))
-            → IsWorld v boards (first_world table links stores)) }
+            → IsWorld v boards (first_world table [] stores)) }
     {
         Ok(World {
             moment: 0,
             events: 0,
             shared: Shared {
                 images: Images::new(alloc),
-                links,
+                links: Links::none(alloc),
                 air: Air::new(alloc),
             },
             motes: all_off(alloc, motes)?,
@@ -50,7 +52,7 @@ impl World {
             → IsWorld self.new boards (record w { links = w.links ++ (a, b) ∷ [] })) }
         ensures unchanged { OnErr result ((boards : List Device) (w : RuleWorld) → IsWorld self.old boards w → IsWorld self.new boards w) }
     {
-        self.shared.links.push((a, b))
+        self.shared.links.join(a, b)
     }
 
     /// Declares an image, unless its key has another name or content.

@@ -269,6 +269,7 @@ fn hear_numbered<N: Nor>(
     board: &mut N,
     telling: &mut Telling,
 ) -> Result<(), Fault>
+    requires known { mote < most_motes }
     requires mote { MayRun (N.device board.old).image now runs.old }
     requires moment { now < 2 ^ 62 }
     requires nothing { IsNothing telling.old }
@@ -286,7 +287,7 @@ fn hear_numbered<N: Nor>(
             Ok(())
         }
         Some(sent) => {
-            if shared.is_linked(sent.by, mote) {
+            if shared.links.are_joined(sent.by, mote) {
                 hear(runs, now, word, sent.frame.as_slice(), board, telling)
             } else {
                 telling.refused = Some(Cause::Link);
@@ -307,7 +308,8 @@ fn hear_last<N: Nor>(
     board: &mut N,
     telling: &mut Telling,
 ) -> Result<(), Fault>
-    requires known { from < most_motes }
+    requires sender { from < most_motes }
+    requires known { to < most_motes }
     requires mote { MayRun (N.device board.old).image now runs.old }
     requires moment { now < 2 ^ 62 }
     requires nothing { IsNothing telling.old }
@@ -319,7 +321,7 @@ fn hear_last<N: Nor>(
         telling.refused = Some(Cause::Off);
         return Ok(());
     }
-    if !shared.is_linked(from, to) {
+    if !shared.links.are_joined(from, to) {
         telling.refused = Some(Cause::Link);
         return Ok(());
     }

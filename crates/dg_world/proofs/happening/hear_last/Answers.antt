@@ -16,13 +16,13 @@ returns-then-is_none-clause-ends g c = λ w is stands.
     told_as w c.args.to _ _ _ _ _ _ _ (is_refused _ _ _ _ _ c.requires.nothing.sent)
     (is_off w c.args.to _ c.args.runs.now _ (store_at w c.args.to) (site w c.args.to).runs _ stands.mote (none_told c.args.runs.now c.is_none.result true c.is_none.ensures c.if-is_none.true) (Looked-none _))
 
-pub returns-then-not-is_linked-clause-ends : goal.returns-then-not-is_linked-clause-ends
-returns-then-not-is_linked-clause-ends g c = λ w is stands.
+pub returns-then-not-are_joined-clause-ends : goal.returns-then-not-are_joined-clause-ends
+returns-then-not-are_joined-clause-ends g c = λ w is stands.
     let m = c.args.to in
     let v = c.args.runs.now in
     let a = g.N.Nor.device c.args.board.now in
     let L : Bool → Does = λ b. if b then heard_last w c.args.from m c.args.now c.args.word (last_frame w c.args.from) else Refuses cause.Link in
-    let far : linked w c.args.from m ≡ false = ap (λ links. is_linked links c.args.from m) is.links ∙ sym c.is_linked.ensures ∙ c.if-not-is_linked.true in
+    let far : linked w c.args.from m ≡ false = ap (λ links. is_linked links c.args.from m) is.links ∙ sym c.are_joined.ensures ∙ c.if-not-are_joined.true in
     told_as w c.args.to _ _ _ _ _ _ _ (is_refused _ _ _ _ _ c.requires.nothing.sent)
     (not_off (Ok (Refused cause.Link)) w c.args.shared.now v v c.args.now a a m (L (linked w c.args.from m)) a.image (store_at w m) (site w m).runs stands.mote (none_told c.args.runs.now c.is_none.result false c.is_none.ensures c.if-is_none.false)
     (refuses_at L (linked w c.args.from m) false cause.Link w m v a far refl (Looked-none a)))
@@ -34,7 +34,7 @@ returns-in-None-clause-ends g c = λ w is stands.
     let a = g.N.Nor.device c.args.board.now in
     let D : Option Sent → Does = λ x. heard_last w c.args.from m c.args.now c.args.word x in
     let L : Bool → Does = λ b. if b then D (last_frame w c.args.from) else Refuses cause.Link in
-    let near : linked w c.args.from m ≡ true = ap (λ links. is_linked links c.args.from m) is.links ∙ sym c.is_linked.ensures ∙ c.if-not-is_linked.false in
+    let near : linked w c.args.from m ≡ true = ap (λ links. is_linked links c.args.from m) is.links ∙ sym c.are_joined.ensures ∙ c.if-not-are_joined.false in
     told_as w c.args.to _ _ _ _ _ _ _ (is_refused _ _ _ _ _ c.requires.nothing.sent)
     (not_off (Ok (Refused cause.Frame)) w c.args.shared.now v v c.args.now a a m (L (linked w c.args.from m)) a.image (store_at w m) (site w m).runs stands.mote (none_told c.args.runs.now c.is_none.result false c.is_none.ensures c.if-is_none.false)
     (refuses_at L (linked w c.args.from m) true cause.Frame w m v a near (ap D (sym (c.in-None.ensures w.sent is.sent))) (Looked-none a)))
@@ -50,7 +50,7 @@ returns-in-Some-clause-ends g c = λ w is stands.
     let H : List ℕ → Does = λ bytes. hear_by w (store_at w m) (site w m).runs c.args.now c.args.word bytes in
     let D : Option Sent → Does = λ x. heard_last w c.args.from m c.args.now c.args.word x in
     let L : Bool → Does = λ b. if b then D (last_frame w c.args.from) else Refuses cause.Link in
-    let near : linked w c.args.from m ≡ true = ap (λ links. is_linked links c.args.from m) is.links ∙ sym c.is_linked.ensures ∙ c.if-not-is_linked.false in
+    let near : linked w c.args.from m ≡ true = ap (λ links. is_linked links c.args.from m) is.links ∙ sym c.are_joined.ensures ∙ c.if-not-are_joined.false in
     not_off (turned c.hear.result c.hear.new.telling) w c.args.shared.now v u c.args.now a _ m (L (linked w c.args.from m)) a.image (store_at w m) (site w m).runs stands.mote (none_told c.args.runs.now c.is_none.result false c.is_none.ensures c.if-is_none.false)
     (ends_at L (linked w c.args.from m) true (turned c.hear.result c.hear.new.telling) w m v u a _ near
     (ends_at D (last_frame w c.args.from) (Some sent) (turned c.hear.result c.hear.new.telling) w m v u a _ (sym (c.in-Some.ensures w.sent is.sent))

@@ -26,8 +26,8 @@ returns-in-None-clause-ends g c = λ w is stands.
     (not_off (Ok (Refused cause.Frame)) w c.args.shared.now v v c.args.now a a m (D (frame_at w c.args.number)) a.image (store_at w m) (site w m).runs stands.mote (none_told c.args.runs.now c.is_none.result false c.is_none.ensures c.if-is_none.false)
     (refuses_at D (frame_at w c.args.number) None cause.Frame w m v a (sym (c.in-None.ensures w.sent is.sent)) refl (Looked-none a)))
 
-pub returns-then-is_linked-clause-ends : goal.returns-then-is_linked-clause-ends
-returns-then-is_linked-clause-ends g c = λ w is stands.
+pub returns-then-are_joined-clause-ends : goal.returns-then-are_joined-clause-ends
+returns-then-are_joined-clause-ends g c = λ w is stands.
     let m = c.args.mote in
     let v = c.args.runs.now in
     let a = g.N.Nor.device c.args.board.now in
@@ -36,14 +36,14 @@ returns-then-is_linked-clause-ends g c = λ w is stands.
     let sent : Sent = record { by = f.by; bytes = f.frame.items } in
     let H : List ℕ → Does = λ bytes. hear_by w (store_at w m) (site w m).runs c.args.now c.args.word bytes in
     let L : Bool → Does = λ b. if b then H f.frame.items else Refuses cause.Link in
-    let near : linked w f.by m ≡ true = ap (λ links. is_linked links f.by m) is.links ∙ sym c.is_linked.ensures ∙ c.if-is_linked.true in
+    let near : linked w f.by m ≡ true = ap (λ links. is_linked links f.by m) is.links ∙ sym c.are_joined.ensures ∙ c.if-are_joined.true in
     not_off (turned c.hear.result c.hear.new.telling) w c.args.shared.now v c.hear.new.runs c.args.now a _ m (D (frame_at w c.args.number)) a.image (store_at w m) (site w m).runs stands.mote (none_told c.args.runs.now c.is_none.result false c.is_none.ensures c.if-is_none.false)
     (ends_at D (frame_at w c.args.number) (Some sent) (turned c.hear.result c.hear.new.telling) w m v c.hear.new.runs a _ (sym (c.in-Some.ensures w.sent is.sent))
     (ends_at L (linked w f.by m) true (turned c.hear.result c.hear.new.telling) w m v c.hear.new.runs a _ near
     (ends_at H f.frame.items c.as_slice.result.now (turned c.hear.result c.hear.new.telling) w m v c.hear.new.runs a _ (sym c.as_slice.ensures.value) (c.hear.ensures.ends w m stands))))
 
-pub returns-else-is_linked-clause-ends : goal.returns-else-is_linked-clause-ends
-returns-else-is_linked-clause-ends g c = λ w is stands.
+pub returns-else-are_joined-clause-ends : goal.returns-else-are_joined-clause-ends
+returns-else-are_joined-clause-ends g c = λ w is stands.
     let m = c.args.mote in
     let v = c.args.runs.now in
     let a = g.N.Nor.device c.args.board.now in
@@ -51,7 +51,7 @@ returns-else-is_linked-clause-ends g c = λ w is stands.
     let f = c.in-Some.sent.now in
     let sent : Sent = record { by = f.by; bytes = f.frame.items } in
     let L : Bool → Does = λ b. if b then hear_by w (store_at w m) (site w m).runs c.args.now c.args.word f.frame.items else Refuses cause.Link in
-    let far : linked w f.by m ≡ false = ap (λ links. is_linked links f.by m) is.links ∙ sym c.is_linked.ensures ∙ c.if-is_linked.false in
+    let far : linked w f.by m ≡ false = ap (λ links. is_linked links f.by m) is.links ∙ sym c.are_joined.ensures ∙ c.if-are_joined.false in
     told_as w c.args.mote _ _ _ _ _ _ _ (is_refused _ _ _ _ _ c.requires.nothing.sent)
     (not_off (Ok (Refused cause.Link)) w c.args.shared.now v v c.args.now a a m (D (frame_at w c.args.number)) a.image (store_at w m) (site w m).runs stands.mote (none_told c.args.runs.now c.is_none.result false c.is_none.ensures c.if-is_none.false)
     (refuses_at D (frame_at w c.args.number) (Some sent) cause.Link w m v a (sym (c.in-Some.ensures w.sent is.sent)) (ap L far) (Looked-none a)))

@@ -1,0 +1,13 @@
+//! A frame that was sent.
+ghost use Rattle.std.specs.Prelude.{◌<◌};
+ghost use Rattle.dg_rules.specs.Sizes.{most_motes};
+
+use dg_frame::Frame;
+
+/// A frame that was sent, and by which mote.
+#[derive(Drop)]
+pub struct SentFrame {
+    pub(crate) by: u8,
+    pub(crate) frame: Frame,
+    ghost known: { by < most_motes },
+}
