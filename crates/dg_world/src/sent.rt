@@ -7,7 +7,8 @@ use dg_frame::Frame;
 /// A frame that was sent, and by which mote.
 #[derive(Drop)]
 pub struct SentFrame {
-    pub(crate) by: u8,
+    // It stands first, so that it is copied in one piece.
     pub(crate) frame: Frame,
+    pub(crate) by: u8,
     ghost known: { by < most_motes },
 }
