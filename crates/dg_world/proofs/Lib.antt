@@ -6,6 +6,7 @@ pub mod ShownLemmas
 pub mod TurnLemmas
 pub mod TellingLemmas
 pub mod StartLemmas
+pub mod SameLemmas
 pub mod TickLemmas
 pub mod InjectLemmas
 pub mod HappenLemmas

@@ -6,7 +6,7 @@ use Rattle.dg_mote.specs.Motes.{sent_in}
 use Rattle.dg_rules.specs.World.{World as RuleWorld}
 use Rattle.dg_rules.specs.Events.{Does}
 use Rattle.dg_script.specs.declared.report.Cause.{Cause}
-use Rattle.dg_world.specs.Turn.{Turn, Refused, Changes, Starts}
+use Rattle.dg_world.specs.Turn.{Turn, Refused, Rests, Changes, Starts}
 use Rattle.dg_world.specs.Turns.{turn_frame, turn_sent, TurnEnds}
 use Rattle.dg_world.specs.Tellings.{turn_by, turn_of, halt_of, turned}
 use Rattle.dg_world.specs.declared.shown.Shown.{Shown}
@@ -31,6 +31,14 @@ is_changed None None None a b e f g = refl
 is_changed None None (Some x) a b e f g = absurd cc
 is_changed None (Some why) x a b e f g = absurd cc
 is_changed (Some bytes) why x a b e f g = absurd cc
+
+-- what was reported before is known, and nothing of what is reported after
+pub is_begun : (o : Option (List ℕ)) (why : Option Cause) (x : Option StartLine) (a : Shown) (b : Option Shown) → o ≡ None → why ≡ None → x ≡ None → b ≡ None → turn_by o why x (Some a) b ≡ Rests
+is_begun None None None a None e f g h = refl
+is_begun None None None a (Some b) e f g h = absurd cc
+is_begun None None (Some x) a b e f g h = absurd cc
+is_begun None (Some why) x a b e f g h = absurd cc
+is_begun (Some bytes) why x a b e f g h = absurd cc
 
 pub is_sent : (o : Option (List ℕ)) (why : Option Cause) (x : Option StartLine) (a b : Option Shown) → why ≡ None → x ≡ None → a ≡ None → turn_by o why x a b ≡ turn_sent o
 is_sent (Some bytes) why x a b e f g = refl

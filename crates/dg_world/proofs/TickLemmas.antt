@@ -38,6 +38,7 @@ use Rattle.dg_mote.specs.Motes.{Done, IsRead}
 use Rattle.dg_mote.specs.declared.mote.Did.{Did}
 use Rattle.dg_mote.specs.declared.mote.Did.TheVariants as did
 use Rattle.dg_mote.specs.declared.mote.Heard.{Heard}
+use Rattle.dg_mote.specs.declared.mote.Heard.TheVariants as heard_as
 use Rattle.dg_rules.specs.World.{World as RuleWorld, Running, store_at}
 use Rattle.dg_rules.specs.Events.{Does, Refuses, trail_of, key_of, of_effect}
 use Rattle.dg_rules.specs.Changes.{changes, start_line, sent_line}
@@ -57,8 +58,9 @@ use Rattle.dg_world.specs.declared.telling.Fault.TheVariants as fault
 use Rattle.dg_world.specs.Tellings.{halt_of}
 use Rattle.dg_world.proofs.ShownLemmas.{changes_same, changes_told}
 use Rattle.dg_world.proofs.StartLemmas.{boot_same, boot_same_from, clear_same, same_shown, leaves_same}
+use Rattle.dg_world.proofs.SameLemmas.{heard_calm}
 use Rattle.dg_world.proofs.TurnLemmas.{failed, same_fault, start_after, halt_after}
-use Rattle.dg_world.specs.Turn.{Turn, Refused, Changes, Starts, Halt, Stopped}
+use Rattle.dg_world.specs.Turn.{Turn, Refused, Changes, Starts, Halt, Stopped, Rests}
 
 -- ---- acts that are not reported
 
@@ -323,6 +325,27 @@ module _ (w : RuleWorld) (m : ℕ) (r : Running) (now word : ℕ) (bytes : List 
       memory = tt;
     };
   }
+
+  -- nothing changed that is reported
+  pub hear_rests : (v u : RunningMote) (a b : Device) (d : Heard) → v.key ≡ r.key → u.key ≡ v.key → Done heard a b u.mote d → d ≡ heard_as.Same → TurnEnds (Ok Rests) w m hears (Some v) (Some u) a b
+  unfolding frame_effect
+  hear_rests v u a b d key same done is =
+      let through = heard_calm (store_at w m) r.mote now word bytes (sym done.answers ∙ is) in
+      let e : changes m (store_at w m) (last heard.trail) ≡ [] = changes_same m (store_at w m) (last heard.trail) (Through-last (SameShown (store_at w m)) heard.trail through) in
+      record {
+        deed = record { trail = heard.trail; table = w.table; started = None; sent = None; runs = Some (Some (record { key = r.key; mote = heard.mote })) };
+        goes = refl;
+        ran = done.ran;
+        tells = record {
+          runs = Some (record { key = r.key; mote = heard.mote });
+          runs_then = refl;
+          mote = (same ∙ key, done.mote);
+          lines = ap (λ (l : List Report). (l ++ []) ++ []) (sym e);
+          sent = refl;
+          stands = done.mote.mounted.stands;
+          memory = tt;
+        };
+      }
 
   pub hear_stopped : (v u : Option RunningMote) (a b : Device) (before : Shown) → Stops heard.trail a b → Shows before (store_at w m) → TurnEnds (Err (Stopped (Some before))) w m hears v u a b
   unfolding frame_effect

@@ -28,7 +28,7 @@ use crate::shown::show;
 use crate::telling::{Fault, StartLine, Telling};
 use crate::world::RunningMote;
 use dg_boot::{BootFault, Kind, Started, start};
-use dg_mote::{Did, Mote, a_restart_is_for_the_order};
+use dg_mote::{Did, Heard, Mote, a_restart_is_for_the_order};
 use dg_nor::{Nor, Stopped};
 use dg_rules::{Cause, Event, Key};
 use dg_volume::{InjectFault, MountFault, OrderFault, Volume};
@@ -225,6 +225,8 @@ fn hear_on<N: Nor>(
 {
     telling.before = Some(show(running.mote.volume()));
     match running.mote.hear(board, now, word, bytes) {
+        // What it keeps is what it heard, and stays.
+        Ok(Heard::Same) => Ok(()),
         Ok(_) => {
             telling.after = Some(show(running.mote.volume()));
             Ok(())

@@ -4,8 +4,8 @@ use Rattle.dg_volume.specs.Stands.{Tells}
 use Rattle.dg_rules.specs.World.{store_at}
 use Rattle.dg_mote.specs.Hears.{heard_of}
 use Rattle.dg_world.specs.declared.world.RunningMote.{RunningMote}
-use Rattle.dg_world.proofs.TellingLemmas.{told_as, is_changed}
-use Rattle.dg_world.proofs.TickLemmas.{hear_changes, hear_stopped}
+use Rattle.dg_world.proofs.TellingLemmas.{told_as, is_begun, is_changed}
+use Rattle.dg_world.proofs.TickLemmas.{hear_changes, hear_rests, hear_stopped}
 use Rattle.dg_world.proofs.happening.hear_on.Goals as goal
 
 pub returns-in-Ok-clause-ends : goal.returns-in-Ok-clause-ends
@@ -25,3 +25,10 @@ returns-in-Err-clause-ends g c = λ w m r stands mote.
     let u : RunningMote = record { key = c.args.running.now.key; mote = c.hear.new.self } in
     hear_stopped w m r c.args.now c.args.word c.args.bytes.now (Some c.args.running.now) (Some u) _ _ c.show.result (c.in-Err.ensures.stopped r.mote s mote.1)
     (c.show.ensures s (subst (λ v. Tells v s) (sym c.volume.ensures) mote.1.mounted.tells))
+
+pub returns-in-Ok-Same-clause-ends : goal.returns-in-Ok-Same-clause-ends
+returns-in-Ok-Same-clause-ends g c = λ w m r stands mote.
+    let u : RunningMote = record { key = c.args.running.now.key; mote = c.hear.new.self } in
+    let n = c.requires.nothing in
+    told_as w m _ _ _ _ _ _ _ (is_begun _ _ _ c.show.result _ n.sent n.refused n.started n.after)
+    (hear_rests w m r c.args.now c.args.word c.args.bytes.now c.args.running.now u _ _ _ mote.0 refl (c.in-Ok-Same.ensures.done r.mote (store_at w m) mote.1) c.in-Ok-Same.field-0-is)

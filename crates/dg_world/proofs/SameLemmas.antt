@@ -1,0 +1,141 @@
+-- An advert that equals what a mote would say changes neither what is kept nor the order.
+use Rattle.std.proofs.Common.{◌≡◌, ℕ, Bool, true, false, cond, List, refl, ap, sym, subst, arith}
+use Rattle.std.specs.Prelude.{◌&&◌, ◌==◌, nat_le, Option, Some, None, Result, Ok, Err}
+use Rattle.std.proofs.lemmas.Bool.{cond_both, le-ltb, and_parts, eqb-true}
+use Rattle.std.specs.List.{list_all}
+use Rattle.dg_nor.specs.Trail.{last, joined, resting, stepping}
+use Rattle.dg_nor.specs.Through.{Through}
+use Rattle.dg_nor.proofs.ThroughLemmas.{Through-joined, Through-resting, Through-last}
+use Rattle.dg_trickle.specs.Timer.{Timer}
+use Rattle.dg_control.specs.declared.snapshot.Order.{Order}
+use Rattle.std.specs.FinSet as set
+use Rattle.dg_slot.specs.Layout.{packets}
+use Rattle.dg_slot.specs.Jobs.{page_from}
+use Rattle.dg_slot.specs.Fits.{may_seal}
+use Rattle.dg_volume.specs.Changes.{paged}
+use Rattle.dg_slot.specs.Kept.{Held}
+use Rattle.dg_volume.specs.Store.{Store, held}
+use Rattle.dg_volume.specs.Trails.{order_trail}
+use Rattle.dg_frame.specs.Grammar.{message_of}
+use Rattle.dg_frame.specs.declared.Entry.{Entry}
+use Rattle.dg_frame.specs.declared.FrameFault.{FrameFault}
+use Rattle.dg_frame.specs.declared.Message.{Message}
+use Rattle.dg_frame.specs.declared.Message.TheVariants.{Advert, Request, Packet}
+use Rattle.dg_bits.specs.Sets.{Numbers}
+use Rattle.dg_mote.specs.Model.{MoteState, Mode, Maintain, Receive, Transmit, Receiving, came, maintains, Turn}
+use Rattle.dg_mote.specs.Summary.{is_own, same_order, same_entry, entry_for, entry_by, named, ahead_in}
+use Rattle.dg_mote.specs.Adverts.{heed_trail, asks, asking, noting, by_ahead, advert_heard, dropped, on_advert}
+use Rattle.dg_mote.specs.Requests.{overheard, to_it, on_request}
+use Rattle.dg_mote.specs.Packets.{is_wanted, accepted, seal_by, takes, on_packet}
+use Rattle.dg_mote.specs.Hears.{source_of, on_message, by_message, heard_of}
+use Rattle.dg_mote.specs.declared.mote.Heard.{Heard}
+use Rattle.dg_mote.specs.declared.mote.Heard.TheVariants.{Same, Asks, Sealed, Bad}
+use Rattle.dg_world.specs.Turns.{SameShown}
+use Rattle.dg_world.proofs.StartLemmas.{same_shown}
+
+asks_other : (i : ℕ) (answer : Heard) {p : ℕ} → answer ≡ Asks i p → answer ≡ Same → ⊥
+asks_other i answer e is = cc
+
+sealed_other : (i p : ℕ) → Sealed i p ≡ Same → ⊥
+sealed_other i p is = cc
+
+-- an answer that is `Same` comes with a trail of stores that all show the same
+abbrev IsCalm : Store → Turn Heard → Type 0
+IsCalm s turn = turn.answer ≡ Same → Through (SameShown s) turn.trail
+
+module _ (s : Store) where
+  rests : (n : ℕ) → Through (SameShown s) (resting s n)
+  rests n = Through-resting (SameShown s) s n (same_shown s)
+
+  -- ---- adverts
+
+  own_order : (entries : List Entry) (order : Order) → is_own entries order s ≡ true → s.order.number ≡ order.number
+  unfolding is_own
+  own_order entries order own =
+      let parts = and_parts (list_all (λ i. same_entry (entry_for entries i) (entry_by (held s i))) (named entries)) (same_order order s.order) own in
+      let two = and_parts ((order.number == s.order.number) && (order.image == s.order.image)) (order.version == s.order.version) parts.1 in
+      sym (eqb-true order.number s.order.number (and_parts (order.number == s.order.number) (order.image == s.order.image) two.0).0)
+
+  own_rests : (entries : List Entry) (order : Order) → is_own entries order s ≡ true → Through (SameShown s) (heed_trail s order)
+  unfolding heed_trail
+  own_rests entries order own =
+      let same = own_order entries order own in
+      subst (Through (SameShown s)) (sym (ap (λ (b : Bool). cond (b && nat_le 1 s.room) (order_trail s order) (resting s 0)) (le-ltb s.order.number order.number (omega (arith, same))))) (rests 0)
+
+  -- what is said of an advert that is heard behind this
+  abbrev IsOwn : Store → Bool → Turn Heard → Type 0
+  IsOwn x own turn = turn.answer ≡ Same → (own ≡ true) × (turn.trail ≡ resting x 0)
+
+  noting_own : (m : MoteState) (timer : Timer) (x : Store) (now word : ℕ) (own : Bool) → IsOwn x own (noting m timer x now word own)
+  noting_own m timer x now word true = λ is. (refl, refl)
+  noting_own m timer x now word false = λ is. absurd cc
+
+  ahead_own : (o : Option ℕ) (m : MoteState) (timer : Timer) (x : Store) (now word source : ℕ) (entries : List Entry) (own : Bool) → IsOwn x own (by_ahead o m timer x now word source entries own)
+  ahead_own None m timer x now word source entries own = noting_own m timer x now word own
+  ahead_own (Some i) m timer x now word source entries own =
+      cond_both (asks m x now i (entry_for entries i)) (asking m x now word source i (entry_for entries i)) (noting m timer x now word own) (IsOwn x own)
+      (λ _. λ is. absurd (asks_other i (asking m x now word source i (entry_for entries i)).answer refl is)) (λ _. noting_own m timer x now word own)
+
+  advert_calm : (m : MoteState) (timer : Timer) (now word source : ℕ) (entries : List Entry) (order : Order) → IsCalm s (advert_heard m timer s now word source entries order)
+  unfolding advert_heard
+  advert_calm m timer now word source entries order = λ is.
+      let t = heed_trail s order in
+      let x = last t in
+      let h = ahead_own (ahead_in entries x) m timer x now word source entries (is_own entries order s) is in
+      let first = own_rests entries order h.0 in
+      Through-joined (SameShown s) t _ first (subst (Through (SameShown s)) (sym h.1) (Through-resting (SameShown s) x 0 (Through-last (SameShown s) t first)))
+
+  on_advert_calm : (mode : Mode) (m : MoteState) (now word source : ℕ) (entries : List Entry) (order : Order) → IsCalm s (on_advert mode m s now word source entries order)
+  on_advert_calm (Maintain timer) m now word source entries order = advert_calm m timer now word source entries order
+  on_advert_calm (Receive r) m now word source entries order = λ is. rests 0
+  on_advert_calm (Transmit t) m now word source entries order = λ is. rests 0
+
+  -- ---- requests and packets
+
+  to_it_calm : (mode : Mode) (m : MoteState) (now image version page : ℕ) (want : Numbers) → IsCalm s (to_it mode m s now image version page want)
+  to_it_calm (Maintain timer) m now image version page want = cond_both _ _ _ (IsCalm s) (λ _. λ is. rests 0) (λ _. λ is. rests 0)
+  to_it_calm (Transmit t) m now image version page want = cond_both _ _ _ (IsCalm s) (λ _. λ is. rests 0) (λ _. λ is. rests 0)
+  to_it_calm (Receive r) m now image version page want = λ is. rests 0
+
+  overheard_calm : (m : MoteState) (now image version page : ℕ) → IsCalm s (overheard m s now image version page)
+  overheard_calm m now image version page = cond_both _ _ _ (IsCalm s) (λ _. λ is. rests 0) (λ _. λ is. rests 0)
+
+  on_request_calm : (m : MoteState) (now to image version page : ℕ) (want : Numbers) → IsCalm s (on_request m s now to image version page want)
+  on_request_calm m now to image version page want =
+      cond_both (to == m.id) (to_it m.mode m s now image version page want) (overheard m s now image version page) (IsCalm s)
+      (λ _. to_it_calm m.mode m now image version page want) (λ _. overheard_calm m now image version page)
+
+  seal_calm : (o : Option Held) (m : MoteState) (r : Receiving) (now word : ℕ) (page : List ℕ) → IsCalm s (seal_by o m r s now word page)
+  seal_calm None m r now word page = λ is. rests 0
+  seal_calm (Some h) m r now word page =
+      let sealed : Turn Heard = record { mote = maintains m now word; trail = joined (resting s 1) (stepping s 1 (paged r.image page s)); sent = None; answer = Sealed r.image r.page } in
+      let bad : Turn Heard = record { mote = maintains m now word; trail = resting s 1; sent = None; answer = Bad r.image r.page } in
+      cond_both (may_seal r.image h page) sealed bad (IsCalm s) (λ _. λ is. absurd (sealed_other r.image r.page is)) (λ _. λ is. rests 1)
+
+  takes_calm : (m : MoteState) (r : Receiving) (now word q : ℕ) (bytes : List ℕ) → IsCalm s (takes m r s now word q bytes)
+  takes_calm m r now word q bytes =
+      let a = accepted r now q bytes in
+      cond_both (set.len (came a.packets) == packets) (seal_by (held s r.image) m r s now word (page_from a.packets)) _ (IsCalm s)
+      (λ _. seal_calm (held s r.image) m r now word (page_from a.packets)) (λ _. λ is. rests 1)
+
+  on_packet_calm : (mode : Mode) (m : MoteState) (now word image version page q : ℕ) (bytes : List ℕ) → IsCalm s (on_packet mode m s now word image version page q bytes)
+  on_packet_calm (Receive r) m now word image version page q bytes =
+      cond_both (is_wanted r image version page q) (takes m r s now word q bytes) (dropped m s) (IsCalm s) (λ _. takes_calm m r now word q bytes) (λ _. λ is. rests 0)
+  on_packet_calm (Maintain timer) m now word image version page q bytes = cond_both _ _ _ (IsCalm s) (λ _. λ is. rests 0) (λ _. λ is. rests 0)
+  on_packet_calm (Transmit t) m now word image version page q bytes = λ is. rests 0
+
+  -- ---- frames
+
+  message_calm : (message : Message) (m : MoteState) (now word : ℕ) → IsCalm s (on_message m s now word message)
+  message_calm (Advert source entries order) m now word = on_advert_calm m.mode m now word source entries order
+  message_calm (Request source to image version page want) m now word = on_request_calm m now to image version page want
+  message_calm (Packet source image version page packet bytes) m now word = on_packet_calm m.mode m now word image version page packet bytes
+
+  by_message_calm : (r : Result Message FrameFault) (m : MoteState) (now word : ℕ) → IsCalm s (by_message r m s now word)
+  by_message_calm (Err fault) m now word = λ is. rests 0
+  by_message_calm (Ok message) m now word =
+      cond_both (source_of message == m.id) (dropped m s) (on_message m s now word message) (IsCalm s) (λ _. λ is. rests 0) (λ _. message_calm message m now word)
+
+  pub heard_calm : (m : MoteState) (now word : ℕ) (bytes : List ℕ) → IsCalm s (heard_of m s now word bytes)
+  unfolding heard_of
+  heard_calm m now word bytes = by_message_calm (message_of bytes) m now word
