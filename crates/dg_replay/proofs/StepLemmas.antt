@@ -1,5 +1,5 @@
 -- What playing one item, and one after the other, answers.
-use Rattle.std.proofs.Common.{◌≡◌, ℕ, zero, suc, ◌+◌, ◌-◌, ◌<◌, ◌≤◌, ◌≢◌, ◌⊎◌, ⊎_elim, Bool, false, if◌then◌else◌, List, [], ◌∷◌, ◌++◌, length, replicate, get_or, refl, append-nil, append_assoc, ap, sym, ◌∙◌, subst, arith}
+use Rattle.std.proofs.Common.{◌≡◌, ℕ, zero, suc, ◌+◌, ◌-◌, ◌<◌, ◌≤◌, ◌≢◌, ◌⊎◌, inl, inr, ⊎_elim, Bool, false, if◌then◌else◌, List, [], ◌∷◌, ◌++◌, length, replicate, get_or, take, drop, refl, append-nil, append_assoc, ap, sym, ◌∙◌, subst, arith}
 use Rattle.std.proofs.lemmas.List.{map-append}
 use Rattle.std.specs.List.{filter, AllByRecursion}
 use Rattle.std.specs.Prelude.{Option, Some, None, Result, Ok, Err, OnOk, OnErr, slice_get}
@@ -32,6 +32,7 @@ use Rattle.dg_world.specs.declared.world.World.{World as KeptWorld}
 use Rattle.dg_completion.proofs.GrowLemmas.{all_append, all_replicate, all_times}
 use Rattle.dg_replay.specs.Boards.{WorldStands, ItemStops}
 use Rattle.dg_replay.specs.Outcome.{EventNext}
+use Rattle.dg_replay.specs.Quiet.{IsOfRound}
 use Rattle.dg_replay.specs.Playing.{GoesOn, ItemsRun, ItemsPlayed, ItemsBegun, ItemsPlayedAs, IsOneTooMany, StopsInItem, LacksImage}
 use Rattle.dg_replay.specs.declared.stop.Stop.{Stop}
 use Rattle.dg_replay.specs.declared.stop.Stop.TheVariants.{Memory, BadInput, WriteFault, FlashFault, TooMany, NoBoard, NoImage}
@@ -345,6 +346,11 @@ all_at {A = A} P xs y ys all e h = behind xs (subst (λ (zs : List A). AllByRecu
     behind [] h = h.0
     behind (x ∷ xs) h = behind xs h.1
 
+pub all_get : {A : Type 0} (P : A → Type 0) (xs : List A) (i : ℕ) (d : A) → i < length xs → AllByRecursion P xs → P (get_or xs i d)
+all_get P [] i d h each = absurd (omega arith)
+all_get P (x ∷ xs) zero d h each = each.0
+all_get P (x ∷ xs) (suc i) d h each = all_get P xs i d (omega arith) each.1
+
 -- the events of a round are at its two motes
 pub round_fits : (n a b : ℕ) → LinkFits n (a, b) → AllByRecursion (EventFits n) (round a b)
 unfolding round
@@ -359,15 +365,21 @@ round_fits n a b l =
     let rested : AllByRecursion P (replicate 50 (paced b) ++ (replicate 3 (paced a) ++ asks)) = all_append P (replicate 50 (paced b)) (replicate 3 (paced a) ++ asks) (all_replicate P 50 (paced b) l.second) told in
     all_append P (replicate 50 (paced a)) (replicate 50 (paced b) ++ (replicate 3 (paced a) ++ asks)) (all_replicate P 50 (paced a) l.first) rested
 
-link_back : (n : ℕ) (l : ℕ × ℕ) → LinkFits n l → LinkFits n (l.1, l.0)
-link_back n l h = record { first = h.second; second = h.first; two = λ e. h.two (sym e) }
-
-pub sweep_fits : (n : ℕ) (links : List (ℕ × ℕ)) → AllByRecursion (LinkFits n) links → AllByRecursion (EventFits n) (sweep links)
-unfolding sweep
-sweep_fits n [] h = tt
-sweep_fits n (l ∷ links) h =
-    all_append (EventFits n) (round l.0 l.1) _ (round_fits n l.0 l.1 h.0)
-    (all_append (EventFits n) (round l.1 l.0) _ (round_fits n l.1 l.0 (link_back n l h.0)) (sweep_fits n links h.1))
+-- each is one of four
+pub round_is : (a b : ℕ) → AllByRecursion (IsOfRound a b) (round a b)
+unfolding round
+round_is a b =
+    let P : Event → Type 0 = IsOfRound a b in
+    let one : P (paced a) = inl refl in
+    let two : P (paced b) = inr (inl refl) in
+    let there : P (passed a b) = inr (inr (inl refl)) in
+    let back : P (passed b a) = inr (inr (inr refl)) in
+    let pages : List Event = times 48 (paced a ∷ passed a b ∷ []) in
+    let asks : List Event = passed a b ∷ paced b ∷ passed b a ∷ pages in
+    let asked : AllByRecursion P asks = (there, (two, (back, all_times P 48 (paced a ∷ passed a b ∷ []) (one, (there, tt))))) in
+    let told : AllByRecursion P (replicate 3 (paced a) ++ asks) = all_append P (replicate 3 (paced a)) asks (all_replicate P 3 (paced a) one) asked in
+    let rested : AllByRecursion P (replicate 50 (paced b) ++ (replicate 3 (paced a) ++ asks)) = all_append P (replicate 50 (paced b)) (replicate 3 (paced a) ++ asks) (all_replicate P 50 (paced b) two) told in
+    all_append P (replicate 50 (paced a)) (replicate 50 (paced b) ++ (replicate 3 (paced a) ++ asks)) (all_replicate P 50 (paced a) one) rested
 
 times_split : {A : Type 0} (m n : ℕ) (xs : List A) → times (m + n) xs ≡ times m xs ++ times n xs
 unfolding times
@@ -397,6 +409,13 @@ events_may all given left others event first kept old now told_before told s nex
     let on = s.so_far.goes z is in
     let at : given ++ event ∷ others ≡ all = ap (λ (xs : List Event). given ++ xs) (sym next) ∙ s.parts in
     (on.0, on.1, subst (λ (n : ℕ). EventFits n event) (sym on.2) (all_at (EventFits (length z.sites)) given event others all at fits))
+
+-- and it is one of those
+pub event_is : (P : Event → Type 0) (all given left others : List Event) (event : Event) (first kept : KeptWorld) (old now : List Device) (told_before told : List ℕ) → EventsSoFar all given left first kept old now told_before told → left ≡ event ∷ others
+    → AllByRecursion P all → P event
+event_is P all given left others event first kept old now told_before told s next each =
+    let at : given ++ event ∷ others ≡ all = ap (λ (xs : List Event). given ++ xs) (sym next) ∙ s.parts in
+    all_at P given event others all at each
 
 pub events_more : (all given left others : List Event) (event : Event) (first k k2 : KeptWorld) (old mid now : List Device) (t0 t1 t2 : List ℕ) → EventsSoFar all given left first k old mid t0 t1 → left ≡ event ∷ others
     → ((w : World) → IsWorld k mid w → (v : World) × IsWorld k2 now v × (length v.sites ≡ length w.sites))
@@ -454,3 +473,73 @@ pub at_end : (k n : ℕ) (events : List Event) (first kept : KeptWorld) (old now
 at_end k n events first kept old now told_before told low high s =
     let e : k ≡ n = omega arith in
     (subst (λ (m : ℕ). PlayedSoFar (quietly (times m events)) first kept old now told_before told) e s).played
+
+-- ---- the rounds of a sweep
+
+-- one call was made
+pub so_far_one : (xs : List Item) (first kept : KeptWorld) (old now : List Device) (told_before told : List ℕ)
+    → ((w : World) → IsWorld first old w → (v : World) × IsWorld kept now v × (length v.sites ≡ length w.sites))
+    → ((w : World) (initial : List Device) → IsWorld first old w → WorldStands w initial old → ItemsPlayed w xs kept initial now told_before told)
+    → PlayedSoFar xs first kept old now told_before told
+so_far_one xs first kept old now told_before told goes played = record { goes = goes; played = played }
+
+-- a call behind others
+pub so_far_then : (xs ys : List Event) (first k k2 : KeptWorld) (old mid now : List Device) (t0 t1 t2 : List ℕ) → PlayedSoFar (quietly xs) first k old mid t0 t1
+    → ((w : World) → IsWorld k mid w → (v : World) × IsWorld k2 now v × (length v.sites ≡ length w.sites))
+    → ((w : World) (initial : List Device) → IsWorld k mid w → WorldStands w initial mid → ItemsPlayed w (quietly ys) k2 initial now t1 t2)
+    → PlayedSoFar (quietly (xs ++ ys)) first k2 old now t0 t2
+so_far_then xs ys first k k2 old mid now t0 t1 t2 s goes played =
+    subst (λ (zs : List Item). PlayedSoFar zs first k2 old now t0 t2) (sym (quietly-append xs ys)) (so_far_more (quietly xs) (quietly ys) first k k2 old mid now t0 t1 t2 s goes played)
+
+-- a call behind others at which the replay stops
+pub so_far_stop : (stop : Stop) (xs ys more all : List Event) (first k k2 : KeptWorld) (old mid now : List Device) (t0 t1 t2 : List ℕ) → PlayedSoFar (quietly xs) first k old mid t0 t1
+    → ((w : World) (initial : List Device) → IsWorld k mid w → WorldStands w initial mid → ItemsPlayedAs (Err stop) w (quietly ys) k2 initial now t1 t2) → xs ++ (ys ++ more) ≡ all
+    → (w : World) (initial : List Device) → IsWorld first old w → WorldStands w initial old → ItemsPlayedAs (Err stop) w (quietly all) k2 initial now t0 t2
+so_far_stop stop xs ys more all first k k2 old mid now t0 t1 t2 s played parts =
+    so_far_stops stop (quietly xs) (quietly ys) (quietly more) (quietly all) first k k2 old mid now t0 t1 t2 s played (quietly_join xs ys more all parts)
+
+-- the rounds over a link, one in each direction
+abbrev pub both : ℕ × ℕ → List Event
+both l = round l.0 l.1 ++ round l.1 l.0
+
+sweep_nil : sweep [] ≡ []
+unfolding sweep
+sweep_nil = refl
+
+pub sweep_none : quietly (sweep []) ≡ []
+sweep_none = ap quietly sweep_nil
+
+sweep_first : (l : ℕ × ℕ) (links : List (ℕ × ℕ)) → sweep (l ∷ links) ≡ both l ++ sweep links
+unfolding sweep
+sweep_first l links = sym (append_assoc (round l.0 l.1) (round l.1 l.0) _)
+
+-- the rounds over the link at a place, and those before and behind
+pub sweep_at : (links : List (ℕ × ℕ)) (i : ℕ) (d : ℕ × ℕ) → i < length links → sweep (take i links) ++ (both (get_or links i d) ++ sweep (drop (i + 1) links)) ≡ sweep links
+sweep_at [] i d h = absurd (omega arith)
+sweep_at (l ∷ links) zero d h = ap (λ (zs : List Event). zs ++ (both l ++ sweep links)) sweep_nil ∙ sym (sweep_first l links)
+sweep_at (l ∷ links) (suc i) d h =
+    let rest = both (get_or links i d) ++ sweep (drop (i + 1) links) in
+    let e : suc i + 1 ≡ suc (i + 1) = omega arith in
+    ap (λ (zs : List Event). zs ++ (both (get_or links i d) ++ sweep (drop (suc i + 1) (l ∷ links)))) (sweep_first l (take i links))
+    ∙ ap (λ (k : ℕ). (both l ++ sweep (take i links)) ++ (both (get_or links i d) ++ sweep (drop k (l ∷ links)))) e
+    ∙ append_assoc (both l) (sweep (take i links)) rest ∙ ap (λ (zs : List Event). both l ++ zs) (sweep_at links i d (omega arith)) ∙ sym (sweep_first l links)
+
+pub sweep_more : (links : List (ℕ × ℕ)) (i : ℕ) (d : ℕ × ℕ) → i < length links → sweep (take (i + 1) links) ≡ sweep (take i links) ++ both (get_or links i d)
+sweep_more [] i d h = absurd (omega arith)
+sweep_more (l ∷ links) zero d h = sweep_first l [] ∙ ap (λ (zs : List Event). both l ++ zs) sweep_nil ∙ append-nil (both l) ∙ sym (ap (λ (zs : List Event). zs ++ both l) sweep_nil)
+sweep_more (l ∷ links) (suc i) d h =
+    let e : suc i + 1 ≡ suc (i + 1) = omega arith in
+    ap (λ (k : ℕ). sweep (take k (l ∷ links))) e ∙ sweep_first l (take (i + 1) links) ∙ ap (λ (zs : List Event). both l ++ zs) (sweep_more links i d (omega arith))
+    ∙ sym (append_assoc (both l) (sweep (take i links)) (both (get_or links i d))) ∙ ap (λ (zs : List Event). zs ++ both (get_or links i d)) (sym (sweep_first l (take i links)))
+
+-- the link at a place is of the world
+pub link_at : (n m : ℕ) (links : List (ℕ × ℕ)) (i : ℕ) (d : ℕ × ℕ) → n ≡ m → i < length links → AllByRecursion (LinkFits m) links → LinkFits n (get_or links i d)
+link_at n m links i d e low each = subst (λ (k : ℕ). LinkFits k (get_or links i d)) (sym e) (all_get (LinkFits m) links i d low each)
+
+pub sweep_goes_on : (links : List (ℕ × ℕ)) (i : ℕ) (d : ℕ × ℕ) (first k k2 : KeptWorld) (old mid now : List Device) (t0 t1 t2 : List ℕ) → i < length links → PlayedSoFar (quietly (sweep (take i links))) first k old mid t0 t1
+    → ((w : World) → IsWorld k mid w → (v : World) × IsWorld k2 now v × (length v.sites ≡ length w.sites))
+    → ((w : World) (initial : List Device) → IsWorld k mid w → WorldStands w initial mid → ItemsPlayed w (quietly (both (get_or links i d))) k2 initial now t1 t2)
+    → PlayedSoFar (quietly (sweep (take (i + 1) links))) first k2 old now t0 t2
+sweep_goes_on links i d first k k2 old mid now t0 t1 t2 low s goes played =
+    subst (λ (xs : List Event). PlayedSoFar (quietly xs) first k2 old now t0 t2) (sym (sweep_more links i d low))
+    (so_far_then (sweep (take i links)) (both (get_or links i d)) first k k2 old mid now t0 t1 t2 s goes played)

@@ -14,12 +14,14 @@ ghost use Rattle.dg_rules.specs.Premises.{LinkFits};
 ghost use Rattle.dg_rules.specs.Ranges.{EventFits, StepFits};
 ghost use Rattle.dg_world.specs.Worlds.{IsWorld};
 ghost use Rattle.dg_replay.specs.Boards.{WorldStands};
+ghost use Rattle.dg_replay.specs.Quiet.{IsOfRound};
 ghost use Rattle.dg_replay.specs.Playing.{ItemsPlayedAs, GoesOn};
 
+use crate::quiet::RoundSteps;
 use crate::stop::Stop;
 use dg_base::{Bytes, Event, Key, Step};
 use dg_nor::Nor;
-use dg_rounds::{round, sweep};
+use dg_rounds::round;
 use dg_script::{Report, write_report};
 use dg_world::{DeclareFault, World, WorldFault};
 use std::alloc::AllocError;
@@ -107,20 +109,21 @@ pub fn play_step<N: Nor>(
     }
 }
 
-/// Plays an event that a round gives: its frame is not told.
+/// Plays an event of a round: its frame is not told.
 fn play_quietly<N: Nor>(
     world: &mut World,
+    steps: &RoundSteps,
     event: Event,
     boards: &mut Vec<N>,
     told: &mut Told,
 ) -> Result<(), Stop>
-    requires { (w : RuleWorld) × IsWorld world.old (map N.device boards.old.items) w × EventFits (length w.sites) event }
+    requires world { (w : RuleWorld) × IsWorld world.old (map N.device boards.old.items) w × EventFits (length w.sites) event }
+    requires of_round { IsOfRound steps.now.first steps.now.second event }
     ensures goes_on { GoesOn result world.old world.new (map N.device boards.old.items) (map N.device boards.new.items) }
     ensures played { (w : RuleWorld) (initial : List Device) → IsWorld world.old (map N.device boards.old.items) w → WorldStands w initial (map N.device boards.old.items)
         → ItemsPlayedAs result w (quietly (event ∷ [])) world.new initial (map N.device boards.new.items) told.old.text.items told.new.text.items }
 {
-    let step = Step { event, cut: None };
-    play_step(world, &step, false, boards, told)
+    play_step(world, steps.of(&event), false, boards, told)
 }
 
 /// Plays the events of a round.
@@ -132,12 +135,32 @@ pub fn play_round<N: Nor>(
     told: &mut Told,
 ) -> Result<(), Stop>
     requires { (w : RuleWorld) × IsWorld world.old (map N.device boards.old.items) w × LinkFits (length w.sites) (a, b) }
-    ensures { (w : RuleWorld) (initial : List Device) → IsWorld world.old (map N.device boards.old.items) w → WorldStands w initial (map N.device boards.old.items)
+    ensures goes_on { GoesOn result world.old world.new (map N.device boards.old.items) (map N.device boards.new.items) }
+    ensures played { (w : RuleWorld) (initial : List Device) → IsWorld world.old (map N.device boards.old.items) w → WorldStands w initial (map N.device boards.old.items)
         → ItemsPlayedAs result w (quietly (round a b)) world.new initial (map N.device boards.new.items) told.old.text.items told.new.text.items }
 {
+    let steps = RoundSteps::new(a, b);
     for event in round(a, b) {
-        play_quietly(world, event, boards, told)?;
+        play_quietly(world, &steps, event, boards, told)?;
     }
+    Ok(())
+}
+
+/// Plays the rounds over a link, one in each direction.
+fn play_both<N: Nor>(
+    world: &mut World,
+    a: u8,
+    b: u8,
+    boards: &mut Vec<N>,
+    told: &mut Told,
+) -> Result<(), Stop>
+    requires { (w : RuleWorld) × IsWorld world.old (map N.device boards.old.items) w × LinkFits (length w.sites) (a, b) }
+    ensures goes_on { GoesOn result world.old world.new (map N.device boards.old.items) (map N.device boards.new.items) }
+    ensures played { (w : RuleWorld) (initial : List Device) → IsWorld world.old (map N.device boards.old.items) w → WorldStands w initial (map N.device boards.old.items)
+        → ItemsPlayedAs result w (quietly (round a b ++ round b a)) world.new initial (map N.device boards.new.items) told.old.text.items told.new.text.items }
+{
+    play_round(world, a, b, boards, told)?;
+    play_round(world, b, a, boards, told)?;
     Ok(())
 }
 
@@ -153,8 +176,8 @@ fn play_sweep<N: Nor>(
     ensures played { (w : RuleWorld) (initial : List Device) → IsWorld world.old (map N.device boards.old.items) w → WorldStands w initial (map N.device boards.old.items)
         → ItemsPlayedAs result w (quietly (sweep links.now)) world.new initial (map N.device boards.new.items) told.old.text.items told.new.text.items }
 {
-    for event in sweep(links) {
-        play_quietly(world, event, boards, told)?;
+    for link in links {
+        play_both(world, link.0, link.1, boards, told)?;
     }
     Ok(())
 }

@@ -13,6 +13,7 @@ mod items;
 mod laws;
 mod lines;
 mod player;
+mod quiet;
 mod stop;
 
 pub use call::replay;

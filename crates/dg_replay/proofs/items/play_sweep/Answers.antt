@@ -1,33 +1,31 @@
-use Rattle.std.proofs.Common.{ap, ◌∙◌}
+use Rattle.std.proofs.Common.{List, ◌+◌, map, take, drop, sym, subst}
 use Rattle.std.proofs.lemmas.Result.{err_from_is_err_and}
-use Rattle.dg_rounds.specs.Left.{left_of_sweep}
 use Rattle.dg_rounds.specs.Rounds.{sweep}
-use Rattle.dg_replay.proofs.StepLemmas.{events_none, events_may, events_more, events_stop, events_all, sweep_fits}
+use Rattle.dg_script.specs.Items.{Item}
+use Rattle.dg_replay.proofs.StepLemmas.{PlayedSoFar, so_far_none, so_far_stop, sweep_none, sweep_at, sweep_goes_on, link_at}
 use Rattle.dg_replay.proofs.items.play_sweep.Goals as goal
 
-pub loop-event-init : goal.loop-event-init
-loop-event-init g c = events_none (sweep c.args.links.now) _ c.args.world.now _ c.args.told.now.text.items (ap left_of_sweep c.into_iter-event-iterator.ensures.into_iter_gives ∙ c.sweep-event-items.ensures)
+pub loop-link-init : goal.loop-link-init
+loop-link-init g c =
+    let boards = map g.N.Nor.device c.args.boards.now.items in
+    let told = c.args.told.now.text.items in
+    subst (λ (xs : List Item). PlayedSoFar xs c.args.world.now c.args.world.now boards boards told told) (sym sweep_none) (so_far_none c.args.world.now boards told)
 
-pub play_quietly-requires : goal.play_quietly-requires
-play_quietly-requires g c =
-    events_may (sweep c.args.links.now) c.loop-event.yielded _ (left_of_sweep c.next.new.self) c.in-Some.event c.args.world.now c.loop-event.world _ _ c.args.told.now.text.items c.loop-event.told.text.items
-    c.loop-event.invariant c.in-Some.ensures.steps c.requires.0 c.requires.1 (sweep_fits _ c.args.links.now c.requires.2)
+pub play_both-requires : goal.play_both-requires
+play_both-requires g c =
+    let on = c.loop-link.invariant.goes c.requires.0 c.requires.1 in
+    (on.0, on.1, link_at _ _ c.args.links.now c.loop-link.link-index _ on.2 c.loop-link-test.true c.requires.2)
 
-pub loop-event-preserved : goal.loop-event-preserved
-loop-event-preserved g c =
-    events_more (sweep c.args.links.now) c.loop-event.yielded _ (left_of_sweep c.next.new.self) c.in-Some.event c.args.world.now c.loop-event.world c.play_quietly.new.world _ _ _ c.args.told.now.text.items c.loop-event.told.text.items c.play_quietly.new.told.text.items
-    c.loop-event.invariant c.in-Some.ensures.steps c.in_ok-play_quietly.ensures.goes_on c.in_ok-play_quietly.ensures.played
-
-pub returns-in_err-play_quietly-clause-played : goal.returns-in_err-play_quietly-clause-played
-returns-in_err-play_quietly-clause-played g c =
+pub returns-in_err-play_both-clause-played : goal.returns-in_err-play_both-clause-played
+returns-in_err-play_both-clause-played g c =
     let p = err_from_is_err_and c.from_residual.result c.from_residual.ensures.1 in
+    let links = c.args.links.now in
+    let i = c.loop-link.link-index in
     rw (p.1, p.2)
-    (events_stop c.in_err-play_quietly.field-0.0 (sweep c.args.links.now) c.loop-event.yielded _ (left_of_sweep c.next.new.self) c.in-Some.event c.args.world.now c.loop-event.world c.play_quietly.new.world _ _ _ c.args.told.now.text.items c.loop-event.told.text.items c.play_quietly.new.told.text.items
-    c.loop-event.invariant c.in-Some.ensures.steps c.in_err-play_quietly.ensures.played)
+    (so_far_stop c.in_err-play_both.field-0.0 (sweep (take i links)) _ (sweep (drop (i + 1) links)) (sweep links) c.args.world.now c.loop-link.world c.play_both.new.world _ _ _ c.args.told.now.text.items c.loop-link.told.text.items c.play_both.new.told.text.items
+    c.loop-link.invariant c.in_err-play_both.ensures.played (sweep_at links i _ c.loop-link-test.true))
 
-pub returns-clause-played : goal.returns-clause-played
-returns-clause-played g c =
-    (events_all (sweep c.args.links.now) c.loop-event.yielded _ c.args.world.now c.loop-event.world _ _ c.args.told.now.text.items c.loop-event.told.text.items c.loop-event.invariant c.in-None.ensures.steps.0).played
-
-pub returns-clause-goes_on : goal.returns-clause-goes_on
-returns-clause-goes_on g c = c.loop-event.invariant.so_far.goes
+pub loop-link-preserved : goal.loop-link-preserved
+loop-link-preserved g c =
+    sweep_goes_on c.args.links.now c.loop-link.link-index _ c.args.world.now c.loop-link.world c.play_both.new.world _ _ _ c.args.told.now.text.items c.loop-link.told.text.items c.play_both.new.told.text.items
+    c.loop-link-test.true c.loop-link.invariant c.in_ok-play_both.ensures.goes_on c.in_ok-play_both.ensures.played

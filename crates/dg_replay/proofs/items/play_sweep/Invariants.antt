@@ -1,10 +1,10 @@
-use Rattle.std.proofs.Common.{map}
-use Rattle.dg_rounds.specs.Left.{left_of_sweep}
+use Rattle.std.proofs.Common.{map, take}
 use Rattle.dg_rounds.specs.Rounds.{sweep}
-use Rattle.dg_replay.proofs.StepLemmas.{EventsSoFar}
+use Rattle.dg_script.specs.Items.{quietly}
+use Rattle.dg_replay.proofs.StepLemmas.{PlayedSoFar}
 use Rattle.dg_replay.proofs.items.play_sweep.Given as goal
 
--- the events that were given are played
-abbrev pub invariant-loop-event : goal.invariant-loop-event
-invariant-loop-event g l =
-    EventsSoFar (sweep l.links) l.yielded (left_of_sweep l.event-iterator) l.fn.world l.world (map g.N.Nor.device l.fn.boards.items) (map g.N.Nor.device l.boards.items) l.fn.told.text.items l.told.text.items
+-- the rounds over so many links are played
+abbrev pub invariant-loop-link : goal.invariant-loop-link
+invariant-loop-link g l =
+    PlayedSoFar (quietly (sweep (take l.link-index l.links))) l.fn.world l.world (map g.N.Nor.device l.fn.boards.items) (map g.N.Nor.device l.boards.items) l.fn.told.text.items l.told.text.items

@@ -52,7 +52,7 @@ returns-in-Some-world-3-clause-played g c = λ p done w initial passed stands fi
     let e = c.in-Round in
     let ps = rw e.is at passed in
     rw e.is (busy_in c.play_round.result p _ done w _ _ c.in-Some-world-3.world c.play_round.new.world _ _ initial _ _ (round_has done e.a e.b) (rw e.is at stands) (rw e.is at fits)
-    (round_at p.place e.a e.b (rw e.is at stands)).0 (sym ps.world ∙ c.in-Some-world-3.is) ps.place ps.cut refl stood (λ u is there. c.play_round.ensures u initial is there))
+    (round_at p.place e.a e.b (rw e.is at stands)).0 (sym ps.world ∙ c.in-Some-world-3.is) ps.place ps.cut refl stood (λ u is there. c.play_round.ensures.played u initial is there))
 
 pub returns-in-Some-world-4-clause-played : goal.returns-in-Some-world-4-clause-played
 returns-in-Some-world-4-clause-played g c = λ p done w initial passed stands fits stood.
