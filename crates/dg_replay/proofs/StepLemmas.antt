@@ -32,7 +32,7 @@ use Rattle.dg_world.specs.declared.world.World.{World as KeptWorld}
 use Rattle.dg_completion.proofs.GrowLemmas.{all_append, all_replicate, all_times}
 use Rattle.dg_replay.specs.Boards.{WorldStands, ItemStops}
 use Rattle.dg_replay.specs.Outcome.{EventNext}
-use Rattle.dg_replay.specs.Quiet.{IsOfRound}
+use Rattle.dg_replay.specs.Steps.{IsOfRound}
 use Rattle.dg_replay.specs.Playing.{GoesOn, ItemsRun, ItemsPlayed, ItemsBegun, ItemsPlayedAs, IsOneTooMany, StopsInItem, LacksImage}
 use Rattle.dg_replay.specs.declared.stop.Stop.{Stop}
 use Rattle.dg_replay.specs.declared.stop.Stop.TheVariants.{Memory, BadInput, WriteFault, FlashFault, TooMany, NoBoard, NoImage}

@@ -4,6 +4,6 @@ pub mod Ending
 pub mod WholeLines
 pub mod Outcome
 pub mod Promised
-pub mod Quiet
+pub mod Steps
 pub mod Playing
 pub mod Replaying

@@ -14,10 +14,10 @@ ghost use Rattle.dg_rules.specs.Premises.{LinkFits};
 ghost use Rattle.dg_rules.specs.Ranges.{EventFits, StepFits};
 ghost use Rattle.dg_world.specs.Worlds.{IsWorld};
 ghost use Rattle.dg_replay.specs.Boards.{WorldStands};
-ghost use Rattle.dg_replay.specs.Quiet.{IsOfRound};
+ghost use Rattle.dg_replay.specs.Steps.{IsOfRound};
 ghost use Rattle.dg_replay.specs.Playing.{ItemsPlayedAs, GoesOn};
 
-use crate::quiet::RoundSteps;
+use crate::steps::RoundSteps;
 use crate::stop::Stop;
 use dg_base::{Bytes, Event, Key, Step};
 use dg_nor::Nor;

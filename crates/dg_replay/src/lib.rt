@@ -13,7 +13,7 @@ mod items;
 mod laws;
 mod lines;
 mod player;
-mod quiet;
+mod steps;
 mod stop;
 
 pub use call::replay;

@@ -2,7 +2,7 @@ use Rattle.std.proofs.Common.{ℕ, ap, sym, subst, ◌∙◌}
 use Rattle.std.proofs.lemmas.Result.{err_from_is_err_and}
 use Rattle.dg_rounds.specs.Left.{left_of_round}
 use Rattle.dg_rounds.specs.Rounds.{round}
-use Rattle.dg_replay.specs.Quiet.{IsOfRound}
+use Rattle.dg_replay.specs.Steps.{IsOfRound}
 use Rattle.dg_replay.proofs.StepLemmas.{events_none, events_may, event_is, events_more, events_stop, events_all, round_fits, round_is}
 use Rattle.dg_replay.proofs.items.play_round.Goals as goal
 

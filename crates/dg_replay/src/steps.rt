@@ -1,7 +1,7 @@
 //! The steps of a round, each made once.
 ghost use Rattle.std.specs.Prelude.{◌≡◌, None};
 ghost use Rattle.dg_rounds.specs.Rounds.{paced, passed};
-ghost use Rattle.dg_replay.specs.Quiet.{IsOfRound, IsQuiet};
+ghost use Rattle.dg_replay.specs.Steps.{IsOfRound, IsUncut};
 
 use dg_base::{Event, Step};
 
@@ -17,10 +17,10 @@ pub struct RoundSteps {
     second_ticks: Step,
     second_hears: Step,
     first_hears: Step,
-    ghost first_ticks_is: { IsQuiet first_ticks (paced first) },
-    ghost second_ticks_is: { IsQuiet second_ticks (paced second) },
-    ghost second_hears_is: { IsQuiet second_hears (passed first second) },
-    ghost first_hears_is: { IsQuiet first_hears (passed second first) },
+    ghost first_ticks_is: { IsUncut first_ticks (paced first) },
+    ghost second_ticks_is: { IsUncut second_ticks (paced second) },
+    ghost second_hears_is: { IsUncut second_hears (passed first second) },
+    ghost first_hears_is: { IsUncut first_hears (passed second first) },
 }
 
 impl RoundSteps {
@@ -42,7 +42,7 @@ impl RoundSteps {
     /// The step of an event of the round.
     pub fn of(&self, event: &Event) -> &Step
         requires { IsOfRound self.now.first self.now.second event.now }
-        ensures { IsQuiet result.now event.now }
+        ensures { IsUncut result.now event.now }
     {
         match event {
             Event::Tick { mote, .. } => {
@@ -66,7 +66,7 @@ impl RoundSteps {
 
 /// A mote ticks at the pace of a round.
 fn tick(mote: u8) -> Step
-    ensures { IsQuiet result (paced mote) }
+    ensures { IsUncut result (paced mote) }
 {
     let event = Event::Tick {
         mote,
@@ -78,7 +78,7 @@ fn tick(mote: u8) -> Step
 
 /// A mote hears the last frame of another.
 fn hear(from: u8, to: u8) -> Step
-    ensures { IsQuiet result (passed from to) }
+    ensures { IsUncut result (passed from to) }
 {
     let event = Event::Last {
         from,

@@ -5,8 +5,8 @@ use Rattle.dg_base.specs.declared.events.Step.{Step}
 use Rattle.dg_rounds.specs.Rounds.{paced, passed}
 
 -- the step of an event without a cut
-abbrev pub IsQuiet : Step → Event → Type 0
-IsQuiet step event = step ≡ record { event = event; cut = None }
+abbrev pub IsUncut : Step → Event → Type 0
+IsUncut step event = step ≡ record { event = event; cut = None }
 
 -- one of the motes ticks, or hears the other
 abbrev pub IsOfRound : (a b : ℕ) → Event → Type 0
