@@ -1,3 +1,4 @@
 pub mod Faults
 pub mod Inboxes
 pub mod Sizes
+pub mod Failing

@@ -1,0 +1,10 @@
+-- A link in memory of which chosen calls fail, as contracts see it.
+use Rattle.std.specs.Prelude.{ℕ, List}
+use Rattle.dg_link.specs.Inboxes.{Inboxes}
+
+-- the inboxes, the numbers of the calls that fail, how many calls were made, and how many failed
+pub record FailBoxes : Type 0 where
+  pub boxes : Inboxes
+  pub failing : List ℕ
+  pub calls : ℕ
+  pub faults : ℕ
