@@ -31,7 +31,7 @@ pub fill_more : (s : Store) (image : ℕ) (page : List ℕ) (pages : List (List 
 unfolding fill_trail
 fill_more s image page pages = refl
 
-fit_rest : (s : Store) (image : ℕ) (page : List ℕ) (rest : List (List ℕ)) → FitAll image (page ∷ rest) s → FitAll image rest (paged image page s)
+pub fit_rest : (s : Store) (image : ℕ) (page : List ℕ) (rest : List (List ℕ)) → FitAll image (page ∷ rest) s → FitAll image rest (paged image page s)
 unfolding FitAll
 fit_rest s image page rest all = all.1
 

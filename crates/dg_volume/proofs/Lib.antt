@@ -28,3 +28,5 @@ pub mod InjectLemmas
 pub mod TableLemmas
 pub mod SoundLemmas
 pub mod StartEndLemmas
+pub mod ConsistentLemmas
+pub mod ConsistentBoot

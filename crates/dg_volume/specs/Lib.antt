@@ -18,3 +18,4 @@ pub mod Ends
 pub use Rattle.dg_slot.specs.Layout
 pub use Rattle.dg_slot.specs.Kept
 pub use Rattle.dg_slot.specs.Pages
+pub mod Consistent

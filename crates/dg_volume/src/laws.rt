@@ -20,6 +20,7 @@ ghost use Rattle.dg_volume.specs.Start.{counts, count_trail, by_gesture, order_w
 ghost use Rattle.dg_volume.specs.Ends.{taken, with_pages, injected, KeepsPagesOf, PartOf, blanked, ordered_runs, order_started, golden_started, golden_runs, app_runs, BootEnds, Boots};
 ghost use Rattle.dg_volume.specs.Table.{row_at, IsTable};
 ghost use Rattle.dg_volume.specs.Agreement.{Agrees};
+ghost use Rattle.dg_volume.specs.Consistent.{Consistent};
 ghost use Rattle.dg_volume.specs.RowLaws.{RowLaws, SoundRows, RowsFit};
 ghost use Rattle.dg_control.specs.declared.snapshot.Order.{Order};
 ghost use Rattle.dg_volume.specs.declared.volume.Kind.{Kind};
@@ -111,6 +112,24 @@ pub fn trails_keep_agreement()
     ensures joined { (table : List Row) (t u : Trail Store) → Through (Agrees table) t → Through (Agrees table) u → Through (Agrees table) (joined t u) }
     ensures ends { (table : List Row) (t : Trail Store) → Through (Agrees table) t → Agrees table (last t) }
 {}
+
+/// The trails of acts on a consistent store go through consistent stores, whatever is taken, and whatever page is
+/// sealed that has the CRC that is kept of it.
+pub fn trails_keep_consistency()
+    ensures order { (golden : Row) (s : Store) (order : Order) → Consistent golden s → Through (Consistent golden) (order_trail s order) }
+    ensures clear { (golden : Row) (s : Store) → Consistent golden s → Through (Consistent golden) (clear_trail s) }
+    ensures take { (golden : Row) (s : Store) (p : Outline) → 1 ≤ p.image → p.image < length s.kept → Consistent golden s → Through (Consistent golden) (take_trail s p) }
+    ensures inject { (golden : Row) (s : Store) (row : Row) → IsRow row → row.image < length s.kept → Consistent golden s → Through (Consistent golden) (inject_trail s row) }
+    ensures boot { (golden : Row) (kind : Kind) (s : Store) → Consistent golden s → Through (Consistent golden) (boot kind s).trail }
+    // one page more that may be sealed, after n operations
+    ensures page { (golden : Row) (s : Store) (image : ℕ) (h : Held) (page : List ℕ) (n : ℕ) → 1 ≤ image → image < length s.kept → held s image ≡ Some h → may_seal image h page ≡ true
+        → Consistent golden s → Through (Consistent golden) (stepping s n (paged image page s)) }
+    ensures resting { (golden : Row) (s : Store) (n : ℕ) → Consistent golden s → Through (Consistent golden) (resting s n) }
+    ensures joined { (golden : Row) (t u : Trail Store) → Through (Consistent golden) t → Through (Consistent golden) u → Through (Consistent golden) (joined t u) }
+    ensures ends { (golden : Row) (t : Trail Store) → Through (Consistent golden) t → Consistent golden (last t) }
+{
+    a_descriptor_is_tested();
+}
 
 /// Where a store agrees with a table, the pages that are kept of a row's version are its first ones, and with the next
 /// one complete it agrees too.

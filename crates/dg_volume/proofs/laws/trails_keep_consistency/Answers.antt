@@ -1,0 +1,37 @@
+use Rattle.dg_nor.proofs.ThroughLemmas.{Through-joined, Through-resting, Through-stepping, Through-last}
+use Rattle.dg_volume.specs.Consistent.{Consistent}
+use Rattle.dg_volume.proofs.RowLemmas.{next_fits}
+use Rattle.dg_volume.proofs.ConsistentLemmas.{TestedFirst, order_through, clear_through, take_through, inject_through, paged_consistent}
+use Rattle.dg_volume.proofs.ConsistentBoot.{boot_through}
+use Rattle.dg_volume.proofs.laws.trails_keep_consistency.Goals as goal
+
+pub returns-clause-order : goal.returns-clause-order
+returns-clause-order c = order_through
+
+pub returns-clause-clear : goal.returns-clause-clear
+returns-clause-clear c = clear_through
+
+pub returns-clause-take : goal.returns-clause-take
+returns-clause-take c = take_through
+
+pub returns-clause-inject : goal.returns-clause-inject
+returns-clause-inject c =
+    let tested : TestedFirst = λ page image version pages. (c.a_descriptor_is_tested.ensures.described page image version pages).0 in
+    inject_through tested (next_fits c.a_descriptor_is_tested.ensures.described)
+
+pub returns-clause-boot : goal.returns-clause-boot
+returns-clause-boot c = boot_through
+
+pub returns-clause-page : goal.returns-clause-page
+returns-clause-page c golden s image h page n low within here may a =
+    let tested : TestedFirst = λ page image version pages. (c.a_descriptor_is_tested.ensures.described page image version pages).0 in
+    Through-stepping (Consistent golden) s n _ a (paged_consistent tested golden s image h page low within here may a)
+
+pub returns-clause-resting : goal.returns-clause-resting
+returns-clause-resting c golden s n a = Through-resting (Consistent golden) s n a
+
+pub returns-clause-joined : goal.returns-clause-joined
+returns-clause-joined c golden t u first second = Through-joined (Consistent golden) t u first second
+
+pub returns-clause-ends : goal.returns-clause-ends
+returns-clause-ends c golden t through = Through-last (Consistent golden) t through
