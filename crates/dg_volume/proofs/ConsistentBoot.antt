@@ -8,7 +8,7 @@ use Rattle.dg_nor.specs.Trail.{Trail, last, joined, resting}
 use Rattle.dg_nor.specs.Through.{Through}
 use Rattle.dg_nor.proofs.ThroughLemmas.{Through-joined, Through-resting, Through-stepping, Through-last}
 use Rattle.dg_control.specs.Store.{commit_operations}
-use Rattle.dg_object.specs.Object.{Row, object, profile}
+use Rattle.dg_object.specs.Object.{Row, object}
 use Rattle.dg_slot.specs.Kept.{Held}
 use Rattle.dg_volume.specs.Sizes.{golden_version, short_starts, copy_operations}
 use Rattle.dg_volume.specs.Store.{Store, App, held, held_whole}
@@ -164,3 +164,53 @@ module _ (golden : Row) where
   boot_through k s a =
       let first = count_through k s a in
       Through-joined (Consistent golden) (count_trail k s) (boot_counted (last (count_trail k s))).trail first (counted_through (last (count_trail k s)) (Through-last (Consistent golden) (count_trail k s) first))
+
+  -- ---- what starts
+
+  abbrev StartsSound : Boot → Type 0
+  StartsSound b = IfSome b.runs (λ r. IsSoundApp golden (app_of r))
+
+  golden_copied_starts : (s : Store) (three : Bool) → Consistent golden s → StartsSound (golden_copied s three)
+  golden_copied_starts s three a =
+      let r = kept_runs s 0 golden_version in
+      let b = last (blank_trail s) in
+      let copied : Boot = record { runs = Some r; trail = joined (blank_trail s) (joined (copy_trail b r.pages) (finish_trail b r three)) } in
+      let none : Boot = record { runs = None; trail = resting s 0 } in
+      cond_both (sound s 0) copied none StartsSound (λ fits. golden_holds s fits a) (λ _. tt)
+
+  golden_starts_by : (s : Store) (three : Bool) (o : Option App) → IfSome o (IsSoundApp golden) → Consistent golden s → StartsSound (golden_by o s three)
+  golden_starts_by s three None h a = golden_copied_starts s three a
+  golden_starts_by s three (Some app) h a =
+      cond_both (is_set_to (Some app) 0 golden_version) (golden_stays s app three) (golden_copied s three) StartsSound (λ is. stays_holds app is h) (λ _. golden_copied_starts s three a)
+
+  golden_starts : (s : Store) (three : Bool) → Consistent golden s → StartsSound (golden_boot s three)
+  unfolding golden_boot
+  golden_starts s three a = golden_starts_by s three s.app a.app a
+
+  kept_starts_by : (s : Store) (three : Bool) (o : Option App) → IfSome o (IsSoundApp golden) → Consistent golden s → StartsSound (kept_by o s three)
+  kept_starts_by s three (Some app) h a = record { described = h.described; rest = h.rest; golden = h.golden }
+  kept_starts_by s three None h a = golden_starts s three a
+
+  kept_starts : (s : Store) (three : Bool) → Consistent golden s → StartsSound (kept_boot s three)
+  unfolding kept_boot
+  kept_starts s three a = kept_starts_by s three s.app a.app a
+
+  order_starts : (s : Store) → order_waits s ≡ true → sound s s.order.image ≡ true → Consistent golden s → StartsSound (order_boot s)
+  unfolding order_boot
+  order_starts s waits fits a = ordered_holds s waits fits a
+
+  counted_starts : (s : Store) → Consistent golden s → StartsSound (boot_counted s)
+  unfolding boot_counted
+  counted_starts s a =
+      let three = s.gesture == short_starts in
+      let waived = behind (committing s (waived_once s)) (kept_boot (waived_once s) three) in
+      let ordered = if sound s s.order.image then order_boot s else waived in
+      cond_both (by_gesture s) (golden_boot s true) (if order_waits s then ordered else kept_boot s three) StartsSound (λ _. golden_starts s true a)
+      (λ _. cond_both (order_waits s) ordered (kept_boot s three) StartsSound
+      (λ waits. cond_both (sound s s.order.image) (order_boot s) waived StartsSound (λ fits. order_starts s waits fits a)
+      (λ _. kept_starts (waived_once s) three (consistent_app s (waived_once s) refl a.app a)))
+      (λ _. kept_starts s three a))
+
+  pub boot_starts : (k : Kind) (s : Store) → Consistent golden s → StartsSound (boot k s)
+  unfolding boot
+  boot_starts k s a = counted_starts (last (count_trail k s)) (Through-last (Consistent golden) (count_trail k s) (count_through k s a))

@@ -1,5 +1,5 @@
 -- Trails that go through consistent stores.
-use Rattle.std.proofs.Common.{◌≡◌, ℕ, zero, suc, ◌+◌, ◌<◌, ◌≤◌, Bool, true, false, ◌&&◌, List, [], ◌∷◌, ◌++◌, drop, length, get_or, Option, Some, None, IfSome, refl, sym, ap, subst, ◌∙◌, ⊎_elim, arith, inl, inr}
+use Rattle.std.proofs.Common.{◌≡◌, ℕ, zero, suc, ◌-◌, replicate, ◌<◌, ◌≤◌, Bool, true, false, ◌&&◌, List, [], ◌∷◌, ◌++◌, drop, length, get_or, Option, Some, None, IfSome, refl, sym, ap, subst, ◌∙◌, ⊎_elim, arith}
 use Rattle.std.proofs.Math.ListN.{length-set}
 use Rattle.std.proofs.lemmas.Bool.Decides.{nat_tests}
 use Rattle.std.proofs.lemmas.Option.{same_Some}
@@ -13,14 +13,17 @@ use Rattle.dg_nor.specs.Through.{Through}
 use Rattle.dg_nor.proofs.ThroughLemmas.{Through-joined, Through-resting, Through-stepping, Through-last}
 use Rattle.dg_control.specs.Store.{commit_operations}
 use Rattle.dg_control.specs.declared.snapshot.Order.{Order}
-use Rattle.dg_object.specs.Object.{Row, IsRow, Outline, object, profile}
-use Rattle.dg_object.specs.Descriptor.{Describes, crc_in}
+use Rattle.dg_object.specs.Object.{Row, IsRow, Outline, object, profile, pages_for, descriptor_page}
+use Rattle.dg_object.specs.Descriptor.{Describes, details, crc_in}
 use Rattle.dg_object.specs.Tested.{describes}
+use Rattle.dg_object.proofs.PageLemmas.{page_of_row-first, page_of_row-data}
+use Rattle.dg_object.proofs.RowLemmas.{descriptor_of_row, crc_in-descriptor_page, length-object, get_or-object}
 use Rattle.dg_slot.specs.Layout.{page_operations, most_bytes}
-use Rattle.dg_slot.specs.Kept.{Held, HasDescriptor, held_begun, with_page, crc_by, kept_crc}
-use Rattle.dg_slot.specs.Fits.{may_seal, first_fits}
-use Rattle.dg_volume.specs.Store.{Store, App, held, held_whole}
-use Rattle.dg_volume.specs.Changes.{spent, keeping, paged, ordered, gesture_cleared, is_version, is_other, inject_refusal, refusal_by, FitsNext, FitAll}
+use Rattle.dg_slot.specs.Kept.{Held, HasDescriptor, held_begun, with_page}
+use Rattle.dg_slot.specs.Fits.{may_seal}
+use Rattle.dg_volume.specs.Sizes.{images}
+use Rattle.dg_volume.specs.Store.{Store, App, held, held_whole, golden_row, fresh}
+use Rattle.dg_volume.specs.Changes.{spent, keeping, paged, ordered, gesture_cleared, is_version, is_other, inject_refusal, refusal_by, FitAll}
 use Rattle.dg_volume.specs.Trails.{committing, order_trail, clear_trail, drop_by, drop_trail, open_trail, take_trail, fill_trail, inject_by, inject_trail, done_of}
 use Rattle.dg_volume.specs.Consistent.{FitFirst, IsSoundSoFar, IsSoundApp, Consistent}
 use Rattle.dg_volume.specs.declared.volume.InjectFault.{InjectFault}
@@ -249,3 +252,37 @@ inject_through_by tested next golden s row None is row_is within a =
 pub inject_through : TestedFirst → NextFits → (golden : Row) (s : Store) (row : Row) → IsRow row → row.image < length s.kept → Consistent golden s → Through (Consistent golden) (inject_trail s row)
 unfolding inject_trail
 inject_through tested next golden s row row_is within a = inject_through_by tested next golden s row (inject_refusal s row) refl row_is within a
+
+-- ---- a chip that was formatted
+
+first_is : (row : Row) → 0 < length (object row) → get_or (object row) 0 [] ≡ descriptor_page row
+first_is row some = get_or-object row 0 [] (omega (arith, some, length-object row)) ∙ page_of_row-first row 0 refl
+
+crcs_kept : (row : Row) (p : ℕ) → IsRow row → 1 ≤ p → p < length (object row) → crc_of (get_or (object row) p []) ≡ crc_in (get_or (object row) 0 []) p
+crcs_kept row p is low h =
+    let within : p < pages_for (length row.bytes) = omega (arith, h, length-object row) in
+    ap crc_of (get_or-object row p [] within ∙ page_of_row-data row p low)
+    ∙ sym (crc_in-descriptor_page row p is low within)
+    ∙ ap (λ page. crc_in page p) (sym (first_is row (omega (arith, h))))
+
+whole_sound : (row : Row) → IsRow row → IsSoundSoFar row.image (held_whole row)
+whole_sound row is = record {
+  first = λ some.
+      record {
+        same_crc = ap crc_of (first_is row some);
+        described = subst (λ (page : List ℕ). Describes page row.image row.version (profile row).pages) (sym (first_is row some)) (details row, descriptor_of_row row is, refl, refl, refl);
+      };
+  rest = λ p low h. crcs_kept row p is low h;
+}
+
+nothing_at : (n i : ℕ) → get_or {A = Option Held} (replicate n None) i None ≡ None
+nothing_at zero i = refl
+nothing_at (suc n) zero = refl
+nothing_at (suc n) (suc i) = nothing_at n i
+
+pub fresh_consistent : (name bytes : List ℕ) (used : ℕ) → IsRow (golden_row name bytes) → Consistent (golden_row name bytes) (fresh name bytes used)
+fresh_consistent name bytes used is = record { version = refl; golden = refl; kept = kept; app = tt }
+  where
+    kept : (i : ℕ) → IfSome (held (fresh name bytes used) i) (IsSoundSoFar i)
+    kept zero = whole_sound (golden_row name bytes) is
+    kept (suc i) = subst (λ (o : Option Held). IfSome o (IsSoundSoFar (suc i))) (sym (nothing_at (images - 1) i)) tt

@@ -11,16 +11,16 @@ ghost use Rattle.dg_slot.specs.Kept.{Held, KeepsImage, held_begun, with_page};
 ghost use Rattle.dg_slot.specs.Fits.{may_seal};
 ghost use Rattle.dg_slot.specs.Jobs.{seal_trail, SlotStops};
 ghost use Rattle.dg_volume.specs.Sizes.{images, golden_version, short_starts};
-ghost use Rattle.dg_volume.specs.Store.{App, Store, IsNear, held, held_to, held_whole};
+ghost use Rattle.dg_volume.specs.Store.{App, Store, IsNear, held, held_to, held_whole, golden_row, fresh};
 ghost use Rattle.dg_volume.specs.Stands.{Stands, Tells, MountedBut, Mounted, IsMounted};
 ghost use Rattle.dg_volume.specs.Changes.{spent, keeping, paged, ordered, gesture_cleared, advanced, inject_refusal, FitAll};
 ghost use Rattle.dg_volume.specs.Trails.{BeginsAt, order_trail, clear_trail, advance_trail, take_trail, fill_trail, inject_trail, sealing_trail};
 ghost use Rattle.dg_volume.specs.Acts.{Acted, Stops};
-ghost use Rattle.dg_volume.specs.Start.{counts, count_trail, by_gesture, order_waits, is_set_to, sound, kept_runs, golden_boot, boot_counted, boot};
+ghost use Rattle.dg_volume.specs.Start.{counts, count_trail, by_gesture, order_waits, is_set_to, sound, app_of, kept_runs, golden_boot, boot_counted, boot};
 ghost use Rattle.dg_volume.specs.Ends.{taken, with_pages, injected, KeepsPagesOf, PartOf, blanked, ordered_runs, order_started, golden_started, golden_runs, app_runs, BootEnds, Boots};
 ghost use Rattle.dg_volume.specs.Table.{row_at, IsTable};
 ghost use Rattle.dg_volume.specs.Agreement.{Agrees};
-ghost use Rattle.dg_volume.specs.Consistent.{Consistent};
+ghost use Rattle.dg_volume.specs.Consistent.{IsSoundApp, Consistent};
 ghost use Rattle.dg_volume.specs.RowLaws.{RowLaws, SoundRows, RowsFit};
 ghost use Rattle.dg_control.specs.declared.snapshot.Order.{Order};
 ghost use Rattle.dg_volume.specs.declared.volume.Kind.{Kind};
@@ -114,13 +114,15 @@ pub fn trails_keep_agreement()
 {}
 
 /// The trails of acts on a consistent store go through consistent stores, whatever is taken, and whatever page is
-/// sealed that has the CRC that is kept of it.
+/// sealed that has the CRC that is kept of it. A start runs golden, or pages that fit their own descriptor.
 pub fn trails_keep_consistency()
+    ensures fresh { (name bytes : List ℕ) (used : ℕ) → IsRow (golden_row name bytes) → Consistent (golden_row name bytes) (fresh name bytes used) }
     ensures order { (golden : Row) (s : Store) (order : Order) → Consistent golden s → Through (Consistent golden) (order_trail s order) }
     ensures clear { (golden : Row) (s : Store) → Consistent golden s → Through (Consistent golden) (clear_trail s) }
     ensures take { (golden : Row) (s : Store) (p : Outline) → 1 ≤ p.image → p.image < length s.kept → Consistent golden s → Through (Consistent golden) (take_trail s p) }
     ensures inject { (golden : Row) (s : Store) (row : Row) → IsRow row → row.image < length s.kept → Consistent golden s → Through (Consistent golden) (inject_trail s row) }
     ensures boot { (golden : Row) (kind : Kind) (s : Store) → Consistent golden s → Through (Consistent golden) (boot kind s).trail }
+    ensures starts { (golden : Row) (kind : Kind) (s : Store) → Consistent golden s → IfSome (boot kind s).runs (λ r. IsSoundApp golden (app_of r)) }
     // one page more that may be sealed, after n operations
     ensures page { (golden : Row) (s : Store) (image : ℕ) (h : Held) (page : List ℕ) (n : ℕ) → 1 ≤ image → image < length s.kept → held s image ≡ Some h → may_seal image h page ≡ true
         → Consistent golden s → Through (Consistent golden) (stepping s n (paged image page s)) }

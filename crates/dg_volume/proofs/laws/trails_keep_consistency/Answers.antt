@@ -1,9 +1,12 @@
 use Rattle.dg_nor.proofs.ThroughLemmas.{Through-joined, Through-resting, Through-stepping, Through-last}
 use Rattle.dg_volume.specs.Consistent.{Consistent}
 use Rattle.dg_volume.proofs.RowLemmas.{next_fits}
-use Rattle.dg_volume.proofs.ConsistentLemmas.{TestedFirst, order_through, clear_through, take_through, inject_through, paged_consistent}
-use Rattle.dg_volume.proofs.ConsistentBoot.{boot_through}
+use Rattle.dg_volume.proofs.ConsistentLemmas.{TestedFirst, fresh_consistent, order_through, clear_through, take_through, inject_through, paged_consistent}
+use Rattle.dg_volume.proofs.ConsistentBoot.{boot_through, boot_starts}
 use Rattle.dg_volume.proofs.laws.trails_keep_consistency.Goals as goal
+
+pub returns-clause-fresh : goal.returns-clause-fresh
+returns-clause-fresh c = fresh_consistent
 
 pub returns-clause-order : goal.returns-clause-order
 returns-clause-order c = order_through
@@ -21,6 +24,9 @@ returns-clause-inject c =
 
 pub returns-clause-boot : goal.returns-clause-boot
 returns-clause-boot c = boot_through
+
+pub returns-clause-starts : goal.returns-clause-starts
+returns-clause-starts c = boot_starts
 
 pub returns-clause-page : goal.returns-clause-page
 returns-clause-page c golden s image h page n low within here may a =
