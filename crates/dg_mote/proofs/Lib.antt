@@ -40,3 +40,4 @@ pub mod RoundTake
 pub mod RoundAsk
 pub mod RoundFresh
 pub mod ReceivingLemmas
+pub mod ConsistentLemmas

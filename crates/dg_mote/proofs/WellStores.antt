@@ -18,7 +18,7 @@ use Rattle.dg_volume.specs.Agreement.{Agrees}
 use Rattle.dg_mote.specs.Well.{StoreIsWell}
 use Rattle.dg_mote.proofs.KeepLemmas.{through_both, through_then}
 
-abbrev HasPlaces : Store → Type 0
+abbrev pub HasPlaces : Store → Type 0
 HasPlaces s = length s.kept ≡ images
 
 -- ---- a take keeps the places
@@ -33,7 +33,7 @@ open_places s p has =
     Through-joined HasPlaces (resting s 2) (committing s next) (Through-resting HasPlaces s 2 has)
     (Through-stepping HasPlaces s (commit_operations s.room) next has (length-set s.kept p.image (Some (held_begun p)) ∙ has))
 
-take_places : (s : Store) (p : Outline) → HasPlaces s → Through HasPlaces (take_trail s p)
+pub take_places : (s : Store) (p : Outline) → HasPlaces s → Through HasPlaces (take_trail s p)
 unfolding take_trail drop_trail
 take_places s p has =
     let t = drop_by (held s p.image) s p.image in

@@ -10,6 +10,7 @@ pub mod Effects
 pub mod Timely
 pub mod Agreement
 pub mod Well
+pub mod Consistency
 pub mod Speaking
 pub mod Changes
 pub mod Rules

@@ -19,6 +19,7 @@ ghost use Rattle.dg_mote.specs.Timely.{Timely};
 ghost use Rattle.dg_mote.specs.declared.mote.Heard.TheVariants.{Bad};
 ghost use Rattle.dg_mote.specs.Agreement.{ModeAgrees, IsHonest};
 ghost use Rattle.dg_mote.specs.Well.{StoreIsWell, IsWell, TurnIsWell, EffectIsWell, SendsHonest};
+ghost use Rattle.dg_mote.specs.Consistency.{AsksForKnown, StoreIsConsistent, TurnIsConsistent};
 ghost use Rattle.dg_mote.specs.Speaking.{OrderFits, Speaks, TurnSpeaks, EffectSpeaks, IsSaid};
 
 use dg_base::checksum_is_a_remainder;
@@ -28,6 +29,7 @@ use dg_slot::a_page_is_its_packets;
 use dg_volume::{
     a_row_is_filled_page_by_page, a_start_ends, a_table_holds_sound_rows, acts_end,
     an_agreeing_store_keeps_rows, starts_end, trails_begin, trails_keep_agreement,
+    trails_keep_consistency,
 };
 
 /// No moment of a mote is later than the present one, and what is due is due soon. Every effect keeps this.
@@ -92,6 +94,18 @@ pub fn a_mote_stays_well()
     starts_end();
     a_table_holds_sound_rows();
     a_row_is_its_pages();
+}
+
+/// A mote that asks for an image that its chip can keep, or for none, goes through consistent stores as it ticks and as it
+/// hears a frame, whatever its bytes are, and then asks for such an image or for none. So is every store that a stop leaves.
+pub fn a_mote_keeps_consistency()
+    ensures begins { (id now word : ℕ) → AsksForKnown (begun id now word).mode }
+    ensures reloaded { (m : MoteState) (now word : ℕ) → AsksForKnown (maintains m now word).mode }
+    ensures ticked { (golden : Row) (m : MoteState) (s : Store) (now word : ℕ) → StoreIsConsistent golden s → AsksForKnown m.mode → TurnIsConsistent golden (tick_of m s now word) }
+    ensures heard { (golden : Row) (m : MoteState) (s : Store) (now word : ℕ) (bytes : List ℕ) → StoreIsConsistent golden s → AsksForKnown m.mode → TurnIsConsistent golden (heard_of m s now word bytes) }
+    ensures stopped { (golden : Row) (t : Trail Store) (k : ℕ) (s : Store) → Through (StoreIsConsistent golden) t → Leaves IsNear t k s → StoreIsConsistent golden s }
+{
+    trails_keep_consistency();
 }
 
 /// What a well mote sends is honest, names the mote, and is read as it was said, where its id has two bytes and its

@@ -19,8 +19,8 @@ mod ticking;
 
 pub use changes::{packets_come_in_frames, what_a_mote_may_change};
 pub use laws::{
-    a_mote_buffers_little, a_mote_keeps_agreement, a_mote_stays_timely, a_mote_stays_well,
-    steps_begin, what_is_sent_is_read,
+    a_mote_buffers_little, a_mote_keeps_agreement, a_mote_keeps_consistency, a_mote_stays_timely,
+    a_mote_stays_well, steps_begin, what_is_sent_is_read,
 };
 pub use mote::{Did, Heard, Mode, Mote};
 pub use outbox::Outbox;

@@ -1,0 +1,24 @@
+-- Motes over consistent stores, whatever frames they hear.
+use Rattle.std.specs.Prelude.{◌≡◌, ◌<◌, ◌≤◌, length}
+use Rattle.dg_nor.specs.Through.{Through}
+use Rattle.dg_object.specs.Object.{Row}
+use Rattle.dg_volume.specs.Sizes.{images}
+use Rattle.dg_volume.specs.Store.{Store}
+use Rattle.dg_volume.specs.Consistent.{Consistent}
+use Rattle.dg_mote.specs.Model.{Mode, Maintain, Receive, Transmit, Turn}
+
+-- a mote asks for an image that a chip can keep, and not for golden
+abbrev pub AsksForKnown : Mode → Type 0
+AsksForKnown (Maintain timer) = Unit {0}
+AsksForKnown (Receive r) = (1 ≤ r.image) × (r.image < images)
+AsksForKnown (Transmit t) = Unit {0}
+
+-- the store has a place for each image, and is consistent
+pub record StoreIsConsistent (golden : Row) (s : Store) : Type 0 where
+  pub places : length s.kept ≡ images
+  pub consistent : Consistent golden s
+
+-- A step goes through such stores, and the mote then asks for a known image, if for any.
+pub record TurnIsConsistent {A : Type 0} (golden : Row) (step : Turn A) : Type 0 where
+  pub way : Through (StoreIsConsistent golden) step.trail
+  pub asks : AsksForKnown step.mote.mode
