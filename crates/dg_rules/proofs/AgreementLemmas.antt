@@ -109,7 +109,7 @@ refused_row s row e =
     fault_none : (x : InjectFault) → Some x ≡ None → ⊥
     fault_none x f = cc
 
-is_row : (s : Store) (row : Row) → IsDeclared row → inject_refusal s row ≡ None → IsRow row
+pub is_row : (s : Store) (row : Row) → IsDeclared row → inject_refusal s row ≡ None → IsRow row
 is_row s row d fits =
     let size = refused_row s row fits in
     record {
@@ -372,7 +372,7 @@ module _ (laws : Laws) (w : World) (agrees : WorldAgrees w) where
 
 -- ---- steps
 
-mote_within : (n : ℕ) (e : Event) → EventFits n e → mote_of e < n
+pub mote_within : (n : ℕ) (e : Event) → EventFits n e → mote_of e < n
 mote_within n (Tick m dt word) fits = fits
 mote_within n (Hear m dt word number) fits = fits.0
 mote_within n (Last from m dt word) fits = fits.1

@@ -1,22 +1,18 @@
 -- Golden stays, and a start finds it. Nothing here speaks of a table.
-use Rattle.std.proofs.Common.{◌≡◌, ◌≢◌, ℕ, ◌+◌, ◌<◌, ◌≤◌, Bool, List, [], ◌∷◌, drop, length, Option, Some, None, IfSome, refl, ap, subst, ◌∙◌}
-use Rattle.std.proofs.lemmas.Bool.{cond_both}
-use Rattle.std.specs.Prelude.{option_map, slice_index_or}
-use Rattle.dg_nor.specs.Trail.{last, joined, resting, stepping}
+use Rattle.std.proofs.Common.{◌≡◌, ◌≢◌, ℕ, ◌+◌, ◌<◌, ◌≤◌, Bool, List, length, Option, Some, None, IfSome, refl, ap, subst, ◌∙◌}
+use Rattle.std.specs.Prelude.{slice_index_or}
 use Rattle.dg_nor.specs.Through.{Through}
-use Rattle.dg_nor.proofs.ThroughLemmas.{Through-joined, Through-resting, Through-stepping, Through-last}
+use Rattle.dg_nor.proofs.ThroughLemmas.{Through-stepping, Through-last}
 use Rattle.dg_control.specs.Store.{commit_operations}
-use Rattle.dg_object.specs.Object.{Row, object, profile}
-use Rattle.dg_slot.specs.Layout.{page_operations}
-use Rattle.dg_slot.specs.Kept.{Held, held_begun, with_page}
-use Rattle.dg_volume.specs.Store.{Store, held}
-use Rattle.dg_volume.specs.Changes.{spent, keeping, paged, is_version, inject_refusal, ordered}
-use Rattle.dg_volume.specs.Trails.{committing, drop_by, drop_trail, open_trail, take_trail, fill_trail, inject_by, inject_trail, done_of, order_trail}
+use Rattle.dg_object.specs.Object.{Row}
+use Rattle.dg_slot.specs.Kept.{Held}
+use Rattle.dg_volume.specs.Store.{Store}
+use Rattle.dg_volume.specs.Changes.{keeping, ordered}
+use Rattle.dg_volume.specs.Trails.{inject_trail, order_trail}
 use Rattle.dg_volume.specs.Start.{Runs, boot}
 use Rattle.dg_volume.specs.Ends.{OnTheWay}
 use Rattle.dg_volume.specs.declared.volume.Kind.{Kind}
 use Rattle.dg_volume.specs.declared.volume.Kind.TheVariants as kind
-use Rattle.dg_volume.specs.declared.volume.InjectFault.{InjectFault}
 use Rattle.dg_mote.specs.Model.{begun}
 use Rattle.dg_mote.specs.Ticks.{tick_of}
 use Rattle.dg_mote.specs.Hears.{heard_of}
@@ -29,6 +25,7 @@ use Rattle.dg_base.specs.declared.events.Event.{Event}
 use Rattle.dg_base.specs.declared.events.Step.{Step}
 use Rattle.dg_script.specs.declared.report.Report.{Report}
 use Rattle.dg_rules.proofs.ThroughLemmas.{Through-map}
+use Rattle.dg_rules.proofs.KeepingLemmas.{inject_keeps}
 use Rattle.dg_rules.proofs.BootLemmas.{boot_start}
 use Rattle.dg_rules.proofs.InjectLemmas.{refused_not}
 use Rattle.dg_rules.proofs.EventLemmas.{order_of, running_by, starts, goes_on, hears, does_cases, all_sent}
@@ -38,53 +35,9 @@ use Rattle.dg_rules.proofs.ChangesLemmas.{StepLaws, keeps_other, golden_ticked, 
 
 -- ---- an injection of another image
 
-module _ (row : Row) (low : 1 ≤ row.image) where
-  keeps_keeping : (s : Store) (o : Option Held) → KeepsGoldenRow s → KeepsGoldenRow (keeping row.image o s)
-  keeps_keeping s o g = keeps_other s (keeping row.image o s) row.image o low refl g
-
-  keeps_spent : (s : Store) → KeepsGoldenRow s → KeepsGoldenRow (spent s)
-  keeps_spent s g = record { row = g.row; is_row = g.is_row; whole = g.whole }
-
-  golden_drop : (s : Store) (o : Option Held) → KeepsGoldenRow s → Through KeepsGoldenRow (drop_by o s row.image)
-  golden_drop s None g = Through-resting KeepsGoldenRow s 0 g
-  golden_drop s (Some h) g = Through-stepping KeepsGoldenRow s (commit_operations s.room) (keeping row.image None (spent s)) g (keeps_keeping (spent s) None (keeps_spent s g))
-
-  golden_take : (s : Store) → KeepsGoldenRow s → Through KeepsGoldenRow (take_trail s (profile row))
-  unfolding take_trail drop_trail
-  golden_take s g =
-      let t = drop_by (held s row.image) s row.image in
-      let first = golden_drop s (held s row.image) g in
-      let d = last t in
-      let here = Through-last KeepsGoldenRow t first in
-      let next = keeping row.image (Some (held_begun (profile row))) (spent d) in
-      Through-joined KeepsGoldenRow t (open_trail d (profile row)) first
-      (Through-joined KeepsGoldenRow (resting d 2) (committing d next) (Through-resting KeepsGoldenRow d 2 here)
-      (Through-stepping KeepsGoldenRow d (commit_operations d.room) next here (keeps_keeping (spent d) (Some (held_begun (profile row))) (keeps_spent d here))))
-
-  golden_fill : (pages : List (List ℕ)) (s : Store) → KeepsGoldenRow s → Through KeepsGoldenRow (fill_trail s row.image pages)
-  unfolding fill_trail
-  golden_fill [] s g = Through-resting KeepsGoldenRow s 0 g
-  golden_fill (page ∷ pages) s g =
-      let next = paged row.image page s in
-      let here = keeps_keeping s (option_map (λ (h : Held). with_page h page) (held s row.image)) g in
-      Through-joined KeepsGoldenRow (stepping s page_operations next) (fill_trail next row.image pages)
-      (Through-stepping KeepsGoldenRow s page_operations next g here) (golden_fill pages next here)
-
-  golden_inject_by : (s : Store) (o : Option InjectFault) → KeepsGoldenRow s → Through KeepsGoldenRow (inject_by o s row)
-  golden_inject_by s (Some fault) g = Through-resting KeepsGoldenRow s 0 g
-  golden_inject_by s None g =
-      let t = take_trail s (profile row) in
-      let first = golden_take s g in
-      cond_both (is_version (held s row.image) row.version)
-      (fill_trail s row.image (drop (done_of (held s row.image)) (object row)))
-      (joined t (fill_trail (last t) row.image (object row)))
-      (Through KeepsGoldenRow)
-      (λ _. golden_fill (drop (done_of (held s row.image)) (object row)) s g)
-      (λ _. Through-joined KeepsGoldenRow t (fill_trail (last t) row.image (object row)) first (golden_fill (object row) (last t) (Through-last KeepsGoldenRow t first)))
-
-  golden_inject : (s : Store) → KeepsGoldenRow s → Through KeepsGoldenRow (inject_trail s row)
-  unfolding inject_trail
-  golden_inject s g = golden_inject_by s (inject_refusal s row) g
+golden_inject : (row : Row) → 1 ≤ row.image → (s : Store) → KeepsGoldenRow s → Through KeepsGoldenRow (inject_trail s row)
+golden_inject row low s g =
+    inject_keeps KeepsGoldenRow row (λ s o g. keeps_other s (keeping row.image o s) row.image o low refl g) (λ s g. record { row = g.row; is_row = g.is_row; whole = g.whole }) s g
 
 golden_order : (s : Store) (number image version : ℕ) → KeepsGoldenRow s → Through KeepsGoldenRow (order_trail s (order_of number image version))
 golden_order s number image version g =

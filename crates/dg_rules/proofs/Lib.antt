@@ -9,6 +9,7 @@ pub mod AgreementLemmas
 pub mod StepLemmas
 pub mod TimelyLemmas
 pub mod ChangesLemmas
+pub mod KeepingLemmas
 pub mod GoldenLemmas
 pub mod RunsLemmas
 pub mod LegalLemmas
@@ -20,3 +21,5 @@ pub mod KeepLemmas
 pub mod PlayLemmas
 pub mod SoundLemmas
 pub mod ScriptLemmas
+pub mod ConsistentLemmas
+pub mod ConsistentRuns

@@ -156,13 +156,13 @@ none_in (suc n) zero = refl
 none_in (suc n) (suc i) = none_in n i
 
 module _ (name bytes : List ℕ) (used motes : ℕ) (links : List (ℕ × ℕ)) (is_row : IsRow (golden_row name bytes)) where
-  abbrev Golden : Row
+  abbrev pub Golden : Row
   Golden = golden_row name bytes
 
-  abbrev Table : List Row
+  abbrev pub Table : List Row
   Table = Golden ∷ []
 
-  abbrev Chip : Store
+  abbrev pub Chip : Store
   Chip = fresh name bytes used
 
   fresh_kept : (i : ℕ) → IfSome (held Chip i) (KeepsRow Table i)
@@ -172,13 +172,13 @@ module _ (name bytes : List ℕ) (used motes : ℕ) (links : List (ℕ × ℕ)) 
   fresh_agrees : Agrees Table Chip
   fresh_agrees = record { golden = (Golden, refl, refl); kept = fresh_kept; app = tt }
 
-  abbrev First : World
+  abbrev pub First : World
   First = first_world Table links (replicate motes Chip)
 
-  first_count : length First.sites ≡ motes
+  pub first_count : length First.sites ≡ motes
   first_count = length-map (replicate motes Chip) off_site ∙ length-replicate motes Chip
 
-  first_site : (m : ℕ) → m < length First.sites → site First m ≡ off_site Chip
+  pub first_site : (m : ℕ) → m < length First.sites → site First m ≡ off_site Chip
   first_site m here =
       get_or-map off_site (replicate motes Chip) m (fresh [] [] 0)
       ∙ ap off_site (get_or-replicate motes m Chip (fresh [] [] 0) (let n = first_count in omega (arith, here, n)))

@@ -10,7 +10,7 @@ use Rattle.dg_rules.specs.Steps.{blows, and_sent, Ended, StepDoes, WorldStep}
 use Rattle.dg_rules.specs.Ranges.{StepFits}
 use Rattle.dg_base.specs.declared.events.Step.{Step}
 use Rattle.dg_script.specs.declared.report.Report.{Report}
-use Rattle.dg_rules.proofs.SiteLemmas.{each_site}
+use Rattle.dg_rules.proofs.SiteLemmas.{each_site, site_count}
 use Rattle.dg_rules.proofs.EventLemmas.{EndsAs, ended_world, sent_unless, ends_as}
 use Rattle.dg_rules.proofs.AgreementLemmas.{step_within}
 
@@ -32,6 +32,14 @@ sent_sites T u m (Some message) all = all
 sent_moment : (u : World) (m : ℕ) (o : Option Message) → (and_sent u m o).moment ≡ u.moment
 sent_moment u m None = refl
 sent_moment u m (Some message) = refl
+
+sent_declared : (u : World) (m : ℕ) (o : Option Message) → (and_sent u m o).declared ≡ u.declared
+sent_declared u m None = refl
+sent_declared u m (Some message) = refl
+
+sent_same : (u : World) (m : ℕ) (o : Option Message) → (and_sent u m o).sites ≡ u.sites
+sent_same u m None = refl
+sent_same u m (Some message) = refl
 
 -- ---- a step
 
@@ -67,3 +75,34 @@ module _ (w : World) (x : Step) (v : World) (reports : List Report) (fits : Step
   pub step_moment : WorldStep w x v reports → v.moment ≡ w.moment + dt_of x.event
   unfolding WorldStep
   step_moment did = moment_by (does w x.event) did
+
+  declared_by : (D : Does) → StepDoes D w x v reports → v.declared ≡ w.declared
+  declared_by (Refuses why) did = ap (λ (u : World). u.declared) did.0
+  declared_by (Goes d) did = ended (blows x.cut d.trail) did
+    where
+      ended : (b : Bool) → Ended b w x d v reports → v.declared ≡ w.declared
+      ended true e = ap (λ (u : World). u.declared) e.world
+      ended false e = ap (λ (u : World). u.declared) e.2 ∙ sent_declared (ended_world w x d (record { store = last d.trail; runs = e.0 })) (mote_of x.event) d.sent
+
+  -- what is declared stays
+  pub step_declared : WorldStep w x v reports → v.declared ≡ w.declared
+  unfolding WorldStep
+  step_declared did = declared_by (does w x.event) did
+
+  count_by : (D : Does) → StepDoes D w x v reports → length v.sites ≡ length w.sites
+  count_by (Refuses why) did = ap (λ (u : World). length u.sites) did.0
+  count_by (Goes d) did = ended (blows x.cut d.trail) did
+    where
+      mid : World
+      mid = record (counted w (dt_of x.event)) { table = d.table }
+
+      ended : (b : Bool) → Ended b w x d v reports → length v.sites ≡ length w.sites
+      ended true e = ap (λ (u : World). length u.sites) e.world ∙ site_count mid (mote_of x.event) (off_site e.store)
+      ended false e =
+          let y : Site = record { store = last d.trail; runs = e.0 } in
+          ap (λ (u : World). length u.sites) e.2 ∙ ap length (sent_same (ended_world w x d y) (mote_of x.event) d.sent) ∙ site_count mid (mote_of x.event) y
+
+  -- the motes are as many
+  pub step_count : WorldStep w x v reports → length v.sites ≡ length w.sites
+  unfolding WorldStep
+  step_count did = count_by (does w x.event) did

@@ -11,3 +11,4 @@ pub mod Promises
 pub mod Ranges
 pub mod Premises
 pub mod Golden
+pub mod Consistency

@@ -4,7 +4,7 @@ ghost use Rattle.std.specs.List.{AllByRecursion};
 ghost use Rattle.dg_nor.specs.Trail.{Trail, Leaves};
 ghost use Rattle.dg_nor.specs.Through.{Through};
 ghost use Rattle.dg_object.specs.Object.{Row};
-ghost use Rattle.dg_volume.specs.Store.{Store, IsNear};
+ghost use Rattle.dg_volume.specs.Store.{Store, IsNear, golden_row};
 ghost use Rattle.dg_volume.specs.Agreement.{Agrees};
 ghost use Rattle.dg_rules.specs.World.{World};
 ghost use Rattle.dg_rules.specs.Steps.{WorldStep, DeclareStep, EndsRun};
@@ -12,7 +12,8 @@ ghost use Rattle.dg_rules.specs.Events.{does};
 ghost use Rattle.dg_rules.specs.Runs.{Played, Plays, EachAfter};
 ghost use Rattle.dg_rules.specs.Promises.{IsLegal, KeepsAll, GoldenStays, StartsDoes, StartsRow, StopsAgree};
 ghost use Rattle.dg_rules.specs.Ranges.{EventFits, StepFits};
-ghost use Rattle.dg_rules.specs.Premises.{WorldAgrees, WorldTimely, HonestEvent, IsHonestThen, MayDeclare, PlayedFits, LeavesAgreement, AllOff};
+ghost use Rattle.dg_rules.specs.Premises.{WorldAgrees, WorldTimely, HonestEvent, IsHonestThen, MayDeclare, PlayedFits, LeavesAgreement, AllOff, IsDeclared};
+ghost use Rattle.dg_rules.specs.Consistency.{WorldConsistent, LeavesConsistent, StartsSoundDoes, StartsSound, StopsConsistent};
 ghost use Rattle.dg_rules.specs.Golden.{WorldKeepsGolden, FindsImage, PlaysGolden};
 ghost use Rattle.dg_base.specs.declared.events.Event.{Event};
 ghost use Rattle.dg_base.specs.declared.events.Step.{Step};
@@ -20,11 +21,13 @@ ghost use Rattle.dg_script.specs.declared.report.Report.{Report};
 
 use dg_frame::one_spelling;
 use dg_mote::{
-    a_frame_is_heard_in_silence, a_mote_stays_timely, a_mote_stays_well,
+    a_frame_is_heard_in_silence, a_mote_keeps_consistency, a_mote_stays_timely, a_mote_stays_well,
     a_restart_is_for_the_order, packets_come_in_frames, what_a_mote_may_change,
     what_is_sent_is_read,
 };
-use dg_volume::{a_start_ends, a_whole_image_is_sound, trails_keep_agreement};
+use dg_volume::{
+    a_start_ends, a_whole_image_is_sound, trails_keep_agreement, trails_keep_consistency,
+};
 
 /// A store that a cut leaves on a trail of agreeing stores agrees.
 pub fn what_a_cut_leaves_agrees()
@@ -96,6 +99,35 @@ pub fn versions_do_not_fall()
     ensures versions { (past : List Played) (p : Played) → IsLegal past p → KeepsAll p }
     ensures golden { (past : List Played) (p : Played) → IsLegal past p → GoldenStays p }
 {}
+
+/// Where every store is consistent, each still is after a step, also a cut one, and after a declaration, whatever bytes a
+/// frame carries. Wherever a stop comes in an event, each store that the chip may then stand for is consistent. What an
+/// event starts is golden, or fits its own descriptor.
+pub fn consistency_is_kept()
+    ensures stepped { (golden : Row) (w v : World) (x : Step) (reports : List Report) → WorldConsistent golden w → StepFits (length w.sites) x → WorldStep w x v reports → WorldConsistent golden v }
+    ensures stopped { (golden : Row) (w : World) (e : Event) → WorldConsistent golden w → EventFits (length w.sites) e → StopsConsistent golden w e }
+    ensures declared { (golden : Row) (w v : World) (row : Row) (reports : List Report) → WorldConsistent golden w → IsDeclared row → DeclareStep w row v reports → WorldConsistent golden v }
+    ensures starts { (golden : Row) (w : World) (e : Event) → WorldConsistent golden w → EventFits (length w.sites) e → StartsSoundDoes golden (does w e) }
+{
+    trails_keep_consistency();
+    a_start_ends();
+    a_mote_keeps_consistency();
+    a_restart_is_for_the_order();
+}
+
+/// A script with golden, whatever bytes its frames carry and wherever its power is cut: every store is consistent at the
+/// end of each event, also where the event was stopped, and what starts is golden, or fits its own descriptor.
+pub fn any_frames_leave_stores_consistent()
+    ensures kept { (name bytes : List ℕ) (used motes : ℕ) (links : List (ℕ × ℕ)) (played : List Played) (v : World) → PlaysGolden name bytes used motes links played v
+        → AllByRecursion (LeavesConsistent (golden_row name bytes)) played × WorldConsistent (golden_row name bytes) v }
+    ensures starts { (name bytes : List ℕ) (used motes : ℕ) (links : List (ℕ × ℕ)) (played : List Played) (v : World) → PlaysGolden name bytes used motes links played v
+        → AllByRecursion (StartsSound (golden_row name bytes)) played }
+    ensures halves { (name bytes : List ℕ) (used motes : ℕ) (links : List (ℕ × ℕ)) (played : List Played) (v : World) (e : Event) → PlaysGolden name bytes used motes links played v
+        → EventFits motes e → StopsConsistent (golden_row name bytes) v e }
+{
+    trails_keep_consistency();
+    consistency_is_kept();
+}
 
 /// A script with golden, over freshly formatted chips. Whatever is played of it, the next event finds an image to start.
 /// Where each frame from outside is honest by the table of its moment, each step is legal, versions do not fall, what
