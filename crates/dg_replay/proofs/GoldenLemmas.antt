@@ -63,7 +63,7 @@ unfolding LinesFit
 front_fits place [] ys h = tt
 front_fits place (x ∷ xs) ys h = (h.0, h.1, h.2, front_fits (place_after place x) xs ys h.3)
 
-rest_fits : (place : Place) (xs ys : List Line) → LinesFit place (xs ++ ys) → LinesFit (place_behind place xs) ys
+pub rest_fits : (place : Place) (xs ys : List Line) → LinesFit place (xs ++ ys) → LinesFit (place_behind place xs) ys
 unfolding LinesFit place_behind
 rest_fits place [] ys h = h
 rest_fits place (x ∷ xs) ys h = rest_fits (place_after place x) xs ys h.3
@@ -329,14 +329,15 @@ all_rest : {A : Type 0} (P : A → Type 0) (xs ys : List A) → AllByRecursion P
 all_rest P [] ys h = h
 all_rest P (x ∷ xs) ys h = all_rest P xs ys h.1
 
--- what was played of a script plays golden, and what is left of the line that was begun is in its ranges
-record GoldenRun (motes : ℕ) (left : List Item) (played : List Played) (v : World) : Type 0 where
-  name : List ℕ
-  bytes : List ℕ
-  used : ℕ
-  links : List (ℕ × ℕ)
-  plays : PlaysGolden name bytes used motes links played v
-  left_fits : AllByRecursion (ItemInRange motes) left
+-- what was played of a script plays golden, with which it begins, and what is left of the line that was begun is in its ranges
+pub record GoldenRun (b : Beginning) (left : List Item) (played : List Played) (v : World) : Type 0 where
+  pub name : List ℕ
+  pub bytes : List ℕ
+  pub used : ℕ
+  pub links : List (ℕ × ℕ)
+  pub begins : b.world ≡ Some (first_world (golden_row name bytes ∷ []) links (replicate b.motes (fresh name bytes used)))
+  pub plays : PlaysGolden name bytes used b.motes links played v
+  pub left_fits : AllByRecursion (ItemInRange b.motes) left
 
 golden_is_row : (golden : Formatted) → IsGolden golden.name golden.used golden.content → IsRow (golden_row golden.name golden.content)
 golden_is_row golden h =
@@ -350,7 +351,7 @@ abbrev BegunBehind : Beginning → World → List Line → Type 0
 BegunBehind b w done = Begun b w (items_of done) (place_behind first_place done) (cut_behind None done)
 
 golden_by : (b : Beginning) (o : Option World) (done rest : List Line) (begun left : List Item) (played : List Played) (v : World) → b.world ≡ o → ((w : World) → b.world ≡ Some w → BegunBehind b w done) → LinesFit (place_behind first_place done) rest
-    → next_items done rest ≡ begun ++ left → map item_played played ≡ items_of done ++ begun → RunsTo o played (Some v) → GoldenRun b.motes left played v
+    → next_items done rest ≡ begun ++ left → map item_played played ≡ items_of done ++ begun → RunsTo o played (Some v) → GoldenRun b left played v
 golden_by b None done rest begun left played v is begins_so next parts items (none, last) = absurd (let e : Some v ≡ None = last in cc)
 golden_by b (Some w) done rest begun left played v is begins_so next parts items (u, last, plays) =
     let x = begins_so w is in
@@ -362,6 +363,7 @@ golden_by b (Some w) done rest begun left played v is begins_so next parts items
       bytes = x.golden.content;
       used = x.golden.used;
       links = x.links;
+      begins = is ∙ ap Some x.world;
       plays = record {
         is_row = golden_is_row x.golden x.is_golden;
         plays = here;
@@ -373,8 +375,8 @@ golden_by b (Some w) done rest begun left played v is begins_so next parts items
     }
 
 -- These lines were done, and the first items of the next one were played.
-golden_run : (done rest : List Line) (begun left : List Item) (played : List Played) (v : World) → LinesFit first_place done → LinesFit (place_behind first_place done) rest → next_items done rest ≡ begun ++ left
-    → map item_played played ≡ items_of done ++ begun → RunsTo (beginning_of done).world played (Some v) → GoldenRun (beginning_of done).motes left played v
+pub golden_run : (done rest : List Line) (begun left : List Item) (played : List Played) (v : World) → LinesFit first_place done → LinesFit (place_behind first_place done) rest → next_items done rest ≡ begun ++ left
+    → map item_played played ≡ items_of done ++ begun → RunsTo (beginning_of done).world played (Some v) → GoldenRun (beginning_of done) left played v
 golden_run done rest begun left played v fit next parts items run =
     golden_by (beginning_of done) (beginning_of done).world done rest begun left played v refl (λ w is. begins no_beginning first_place done w refl (omega arith) refl refl refl fit is) next parts items run
 
@@ -421,11 +423,11 @@ abbrev pub HalvesLaw : Type 0
 HalvesLaw = (name bytes : List ℕ) (used motes : ℕ) (links : List (ℕ × ℕ)) (played : List Played) (v : World) (e : Event) → PlaysGolden name bytes used motes links played v
     → AllByRecursion IsHonestThen played → EventFits motes e → HonestEvent v.table e → StopsAgree v e
 
-golden_halves : HalvesLaw → (motes : ℕ) (left : List Item) (played : List Played) (w : World) (step : Step) (loud : Bool) (more : List Item) → GoldenRun motes left played w → AllByRecursion IsHonestThen played → left ≡ Happened step loud ∷ more
+golden_halves : HalvesLaw → (b : Beginning) (left : List Item) (played : List Played) (w : World) (step : Step) (loud : Bool) (more : List Item) → GoldenRun b left played w → AllByRecursion IsHonestThen played → left ≡ Happened step loud ∷ more
     → HonestEvent w.table step.event → StopsAgree w step.event
-golden_halves law motes left played w step loud more g honest is here =
-    let fits : AllByRecursion (ItemInRange motes) (Happened step loud ∷ more) = subst (AllByRecursion (ItemInRange motes)) is g.left_fits in
-    law g.name g.bytes g.used motes g.links played w step.event g.plays honest fits.0.event here
+golden_halves law b left played w step loud more g honest is here =
+    let fits : AllByRecursion (ItemInRange b.motes) (Happened step loud ∷ more) = subst (AllByRecursion (ItemInRange b.motes)) is g.left_fits in
+    law g.name g.bytes g.used b.motes g.links played w step.event g.plays honest fits.0.event here
 
 pub halves_agree : HalvesLaw → (input : List ℕ) (c : Progress (script_of input)) (w : World) (step : Step) (loud : Bool) (more : List Item) → AllByRecursion IsHonestThen c.played → c.last ≡ Some w → c.left ≡ Happened step loud ∷ more
     → HonestEvent w.table step.event → StopsAgree w step.event
@@ -433,7 +435,7 @@ halves_agree law input c w step loud more honest is next here =
     let fit = subst (LinesFit first_place) (sym c.lines) (script_of_fits input) in
     let run = subst (λ (o : Option World). RunsTo (beginning_of c.done).world c.played o) is c.run in
     let g = golden_run c.done c.rest c.begun c.left c.played w (front_fits first_place c.done c.rest fit) (rest_fits first_place c.done c.rest fit) c.parts c.items run in
-    golden_halves law (beginning_of c.done).motes c.left c.played w step loud more g honest next here
+    golden_halves law (beginning_of c.done) c.left c.played w step loud more g honest next here
 
 -- ---- lines that bring no frame from outside
 
@@ -510,10 +512,10 @@ progress_honest spells c none =
 abbrev pub ImageIsFound : Type 0
 ImageIsFound = (name bytes : List ℕ) (used motes : ℕ) (links : List (ℕ × ℕ)) (played : List Played) (v : World) (e : Event) → PlaysGolden name bytes used motes links played v → EventFits motes e → FindsImage (does v e)
 
-golden_finds : ImageIsFound → (motes : ℕ) (left : List Item) (played : List Played) (u : World) → GoldenRun motes left played u → LacksImage u left → ⊥
-golden_finds law motes left played u g lacks =
-    let fits : AllByRecursion (ItemInRange motes) (Happened lacks.next.step lacks.next.loud ∷ lacks.next.more) = subst (AllByRecursion (ItemInRange motes)) lacks.next.is g.left_fits in
-    let finds : FindsImage (does u lacks.next.step.event) = law g.name g.bytes g.used motes g.links played u lacks.next.step.event g.plays fits.0.event in
+golden_finds : ImageIsFound → (b : Beginning) (left : List Item) (played : List Played) (u : World) → GoldenRun b left played u → LacksImage u left → ⊥
+golden_finds law b left played u g lacks =
+    let fits : AllByRecursion (ItemInRange b.motes) (Happened lacks.next.step lacks.next.loud ∷ lacks.next.more) = subst (AllByRecursion (ItemInRange b.motes)) lacks.next.is g.left_fits in
+    let finds : FindsImage (does u lacks.next.step.event) = law g.name g.bytes g.used b.motes g.links played u lacks.next.step.event g.plays fits.0.event in
     let some : FindsImage (Goes lacks.ends.deed) = subst FindsImage lacks.ends.goes finds in
     some lacks.ends.none
 
@@ -524,7 +526,7 @@ line_finds law done line played (Some w) world begun left text fit spelled items
     let more : map item_played (played ++ now.played) ≡ items_of done ++ begun =
     map-append item_played played now.played ∙ ap (λ (xs : List Item). xs ++ map item_played now.played) items ∙ ap (λ (xs : List Item). items_of done ++ xs) now.are in
     let g = golden_run done (line ∷ []) begun left (played ++ now.played) u fit (one_fits _ line spelled) parts more (runs_append (beginning_of done).world w u played now.played run now.run) in
-    golden_finds law (beginning_of done).motes left (played ++ now.played) u g (subst (λ (o : Option World). InSome o (λ z. LacksImage z left)) is lacks)
+    golden_finds law (beginning_of done) left (played ++ now.played) u g (subst (λ (o : Option World). InSome o (λ z. LacksImage z left)) is lacks)
 
 pub image_found : ImageIsFound → (ends : Bool) (spells : Script) (texts : List (List ℕ)) (n : ℕ) (p : Player) (initial now : List Device) (before mid : Option (List ℕ)) → LinesFit first_place spells.lines → (r : Reached ends spells texts n p initial now before mid)
     → (text : List ℕ) → TextRead text p (λ line. LineBegun r.done line r.last (λ v left t. InSome v (λ u. LacksImage u left))) → ⊥

@@ -9,6 +9,7 @@ pub mod TextLemmas
 pub mod ReplayLemmas
 pub mod FinishLemmas
 pub mod GoldenLemmas
+pub mod ConsistentLemmas
 pub mod EndLemmas
 pub mod TakenLemmas
 pub mod WholeLemmas

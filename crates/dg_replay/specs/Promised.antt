@@ -1,16 +1,18 @@
 -- What is promised of a script that was played so far, each with its premises.
-use Rattle.std.specs.Prelude.{◌≡◌, ◌≤◌, ℕ, Bool, List, [], ◌∷◌, Some, IfSome}
+use Rattle.std.specs.Prelude.{◌≡◌, ◌≤◌, ℕ, Bool, List, [], ◌∷◌, Option, Some, IfSome}
 use Rattle.std.specs.List.{AllByRecursion}
 use Rattle.dg_base.specs.declared.events.Step.{Step}
+use Rattle.dg_object.specs.Object.{Row}
 use Rattle.dg_script.specs.Script.{Script}
 use Rattle.dg_script.specs.Items.{Item, Happens}
 use Rattle.dg_rules.specs.World.{World}
-use Rattle.dg_rules.specs.Runs.{EachAfter}
+use Rattle.dg_rules.specs.Runs.{Played, EachAfter}
 use Rattle.dg_rules.specs.Promises.{IsLegal, KeepsAll, StartsRow, StopsAgree}
 use Rattle.dg_rules.specs.Premises.{IsHonestThen, HonestEvent, LeavesAgreement, WorldAgrees}
+use Rattle.dg_rules.specs.Consistency.{WorldConsistent, LeavesConsistent, StartsSound, StopsConsistent}
 use Rattle.dg_completion.specs.Completion.{IsEnough}
 use Rattle.dg_completion.specs.Ends.{EndsInRest, PagesCome, KeepsNewest}
-use Rattle.dg_replay.specs.Items.{IsNoFrame}
+use Rattle.dg_replay.specs.Items.{IsNoFrame, beginning_of}
 use Rattle.dg_replay.specs.Outcome.{Progress}
 
 -- each frame from outside is honest by the table of its moment
@@ -49,3 +51,15 @@ RestsFillThePipeline c = (w v : World) (t : ℕ) → FramesAreHonest c → c.las
 -- where it is honest and ends with a rest of enough sweeps, every mote keeps the newest version of each image whole
 abbrev pub RestsComplete : {script : Script} → Progress script → Type 0
 RestsComplete c = (w v : World) (n k : ℕ) → FramesAreHonest c → c.last ≡ Some v → EndsInRest c.played w n v → IsEnough w k → k ≤ n → KeepsNewest v
+
+-- Behind each item, and in the last world, every store is consistent. What starts is golden, or an object that fits its
+-- own descriptor. And wherever a stop comes in the next event, each store that the chip may then stand for is consistent.
+pub record StaysConsistent (golden : Row) (played : List Played) (last : Option World) (left : List Item) : Type 0 where
+  pub stores : AllByRecursion (LeavesConsistent golden) played
+  pub ends : IfSome last (WorldConsistent golden)
+  pub starts : AllByRecursion (StartsSound golden) played
+  pub halves : (w : World) (step : Step) (loud : Bool) (more : List Item) → last ≡ Some w → left ≡ Happens step loud ∷ more → StopsConsistent golden w step.event
+
+-- Whatever bytes its frames carry: golden is the one row of the table with which the run begins
+abbrev pub StoresStayConsistent : {script : Script} → Progress script → Type 0
+StoresStayConsistent c = (golden : Row) (w : World) → (beginning_of c.done).world ≡ Some w → w.table ≡ golden ∷ [] → StaysConsistent golden c.played c.last c.left

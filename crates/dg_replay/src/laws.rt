@@ -2,11 +2,11 @@
 ghost use Rattle.std.specs.Prelude.{ℕ, List};
 ghost use Rattle.dg_replay.specs.Ending.{script_of, whole_lines};
 ghost use Rattle.dg_replay.specs.Outcome.{Progress};
-ghost use Rattle.dg_replay.specs.Promised.{StepsAreLegal, PagesStay, RowsStart, AllAgrees, HalvesAgree, HonestWithoutFrames, RestsFillThePipeline, RestsComplete};
+ghost use Rattle.dg_replay.specs.Promised.{StepsAreLegal, PagesStay, RowsStart, AllAgrees, HalvesAgree, HonestWithoutFrames, RestsFillThePipeline, RestsComplete, StoresStayConsistent};
 ghost use Rattle.dg_replay.specs.WholeLines.{AreWholeLines};
 
 use dg_completion::scripts_end_complete;
-use dg_rules::scripts_with_golden;
+use dg_rules::{any_frames_leave_stores_consistent, scripts_with_golden};
 
 /// The whole lines of bytes are their longest front that is empty or ends in LF.
 pub fn whole_lines_are_longest()
@@ -17,7 +17,8 @@ pub fn whole_lines_are_longest()
 /// legal, no version falls, what starts is a row of the table, and the chips, the motes that are on and the frames that
 /// were sent agree with the table, and so does the store of each half-done chip, wherever a stop comes in the next event.
 /// Lines that bring no frame meet that. Where what was played ends with an undisturbed rest, pages come along the links as
-/// in a pipeline, and after enough sweeps every mote keeps the newest version of every image whole.
+/// in a pipeline, and after enough sweeps every mote keeps the newest version of every image whole. Whatever
+/// bytes frames carry, every store stays consistent, and what starts is golden, or fits its own descriptor.
 pub fn replays_keep_the_rules()
     ensures legal { (input : List ℕ) (c : Progress (script_of input)) → StepsAreLegal c }
     ensures keeps { (input : List ℕ) (c : Progress (script_of input)) → PagesStay c }
@@ -27,7 +28,9 @@ pub fn replays_keep_the_rules()
     ensures honest { (input : List ℕ) (c : Progress (script_of input)) → HonestWithoutFrames c }
     ensures pipeline { (input : List ℕ) (c : Progress (script_of input)) → RestsFillThePipeline c }
     ensures completes { (input : List ℕ) (c : Progress (script_of input)) → RestsComplete c }
+    ensures consistent { (input : List ℕ) (c : Progress (script_of input)) → StoresStayConsistent c }
 {
     scripts_with_golden();
+    any_frames_leave_stores_consistent();
     scripts_end_complete();
 }

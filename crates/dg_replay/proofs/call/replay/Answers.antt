@@ -33,3 +33,6 @@ returns-clause-complete g c = λ bytes told limits reads writes stops.
 
 pub returns-clause-never : goal.returns-clause-never
 returns-clause-never g c = replayed_never _ _ _ _ _ _ _ _ _ _ _ c.read_and_replay.ensures.replayed
+
+pub returns-clause-consistent : goal.returns-clause-consistent
+returns-clause-consistent g c = λ x. c.replays_keep_the_rules.ensures.consistent x.input x.came

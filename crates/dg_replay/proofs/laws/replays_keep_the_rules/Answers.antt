@@ -6,6 +6,7 @@ use Rattle.dg_rules.specs.Runs.{Played, EachAfter}
 use Rattle.dg_rules.specs.Promises.{IsLegal, KeepsAll, StartsRow}
 use Rattle.dg_rules.specs.Premises.{IsHonestThen, LeavesAgreement, WorldAgrees}
 use Rattle.dg_replay.proofs.GoldenLemmas.{holds_of_runs, holds_of_worlds, progress_honest, ended_complete, ended_pipelined, halves_agree}
+use Rattle.dg_replay.proofs.ConsistentLemmas.{progress_consistent}
 use Rattle.dg_replay.specs.Ending.{script_of}
 use Rattle.dg_replay.proofs.laws.replays_keep_the_rules.Goals as goal
 
@@ -35,3 +36,8 @@ returns-clause-honest c = λ input came. progress_honest (script_of input) came
 pub returns-clause-completes : goal.returns-clause-completes
 returns-clause-completes c = λ input came w v n k honest is ends enough most.
     ended_complete c.scripts_end_complete.ensures.completes input came w v n k honest is ends enough most
+
+pub returns-clause-consistent : goal.returns-clause-consistent
+returns-clause-consistent c = λ input came golden w is table.
+    let any = c.any_frames_leave_stores_consistent.ensures in
+    progress_consistent (record { kept = any.kept; starts = any.starts; halves = any.halves }) input came golden w is table

@@ -1,0 +1,62 @@
+-- Stores stay consistent in what was played of a script, whatever frames it brings.
+use Rattle.std.proofs.Common.{◌≡◌, ℕ, List, [], ◌∷◌, ◌++◌, map, get_or, sym, ap, ◌∙◌, subst}
+use Rattle.std.specs.Prelude.{Option, Some, None}
+use Rattle.std.specs.List.{AllByRecursion}
+use Rattle.dg_object.specs.Object.{Row}
+use Rattle.dg_volume.specs.Store.{golden_row}
+use Rattle.dg_base.specs.declared.events.Event.{Event}
+use Rattle.dg_script.specs.Places.{first_place}
+use Rattle.dg_script.specs.Items.{Item, Happens, items_of}
+use Rattle.dg_script.specs.declared.line.Line.{Line}
+use Rattle.dg_rules.specs.World.{World}
+use Rattle.dg_rules.specs.Ranges.{EventFits}
+use Rattle.dg_rules.specs.Premises.{ItemInRange}
+use Rattle.dg_rules.specs.Runs.{Played}
+use Rattle.dg_rules.specs.Golden.{PlaysGolden}
+use Rattle.dg_rules.specs.Consistency.{WorldConsistent, LeavesConsistent, StartsSound, StopsConsistent}
+use Rattle.dg_replay.specs.Items.{Beginning, beginning_of, next_items}
+use Rattle.dg_replay.specs.Ending.{script_of}
+use Rattle.dg_replay.specs.Outcome.{Progress, RunsTo, item_played}
+use Rattle.dg_replay.specs.Promised.{StaysConsistent}
+use Rattle.dg_replay.proofs.ItemLemmas.{some_is, runs_from_none}
+use Rattle.dg_replay.proofs.GoldenLemmas.{LinesFit, GoldenRun, golden_run, front_fits, rest_fits, script_of_fits}
+
+-- what is known of all that plays golden
+pub record ConsistentLaws : Type 0 where
+  pub kept : (name bytes : List ℕ) (used motes : ℕ) (links : List (ℕ × ℕ)) (played : List Played) (v : World) → PlaysGolden name bytes used motes links played v
+      → AllByRecursion (LeavesConsistent (golden_row name bytes)) played × WorldConsistent (golden_row name bytes) v
+  pub starts : (name bytes : List ℕ) (used motes : ℕ) (links : List (ℕ × ℕ)) (played : List Played) (v : World) → PlaysGolden name bytes used motes links played v → AllByRecursion (StartsSound (golden_row name bytes)) played
+  pub halves : (name bytes : List ℕ) (used motes : ℕ) (links : List (ℕ × ℕ)) (played : List Played) (v : World) (e : Event) → PlaysGolden name bytes used motes links played v → EventFits motes e → StopsConsistent (golden_row name bytes) v e
+
+one_row : (a b : Row) → a ∷ [] ≡ b ∷ [] → a ≡ b
+one_row a b e = ap (λ (rows : List Row). get_or rows 0 a) e
+
+-- before the boards are formatted nothing is played
+nothing_played : (golden : Row) (left : List Item) → StaysConsistent golden [] None left
+nothing_played golden left = record { stores = tt; ends = tt; starts = tt; halves = λ w step loud more is next. absurd (let f : None ≡ Some w = is in cc) }
+
+module _ (laws : ConsistentLaws) where
+  golden_consistent : (b : Beginning) (left : List Item) (played : List Played) (v : World) → (g : GoldenRun b left played v) → StaysConsistent (golden_row g.name g.bytes) played (Some v) left
+  golden_consistent b left played v g =
+      let kept = laws.kept g.name g.bytes g.used b.motes g.links played v g.plays in
+      record {
+        stores = kept.0;
+        ends = kept.1;
+        starts = laws.starts g.name g.bytes g.used b.motes g.links played v g.plays;
+        halves = λ w step loud more is next.
+            let fits : AllByRecursion (ItemInRange b.motes) (Happens step loud ∷ more) = subst (AllByRecursion (ItemInRange b.motes)) next g.left_fits in
+            subst (λ (u : World). StopsConsistent (golden_row g.name g.bytes) u step.event) (some_is v w is) (laws.halves g.name g.bytes g.used b.motes g.links played v step.event g.plays fits.0.event);
+      }
+
+  played_consistent : (done rest : List Line) (begun left : List Item) (played : List Played) (last : Option World) (golden : Row) (w : World) → LinesFit first_place (done ++ rest) → next_items done rest ≡ begun ++ left
+      → map item_played played ≡ items_of done ++ begun → RunsTo (beginning_of done).world played last → (beginning_of done).world ≡ Some w → w.table ≡ golden ∷ [] → StaysConsistent golden played last left
+  played_consistent done rest begun left played None golden w fit parts items run is table =
+      subst (λ (ps : List Played). StaysConsistent golden ps None left) (sym (runs_from_none (beginning_of done).world played run).1) (nothing_played golden left)
+  played_consistent done rest begun left played (Some v) golden w fit parts items run is table =
+      let g = golden_run done rest begun left played v (front_fits first_place done rest fit) (rest_fits first_place done rest fit) parts items run in
+      let same : golden_row g.name g.bytes ≡ golden = one_row (golden_row g.name g.bytes) golden (sym (ap (λ (u : World). u.table) (some_is w _ (sym is ∙ g.begins))) ∙ table) in
+      subst (λ (row : Row). StaysConsistent row played (Some v) left) same (golden_consistent (beginning_of done) left played v g)
+
+  pub progress_consistent : (input : List ℕ) (c : Progress (script_of input)) (golden : Row) (w : World) → (beginning_of c.done).world ≡ Some w → w.table ≡ golden ∷ [] → StaysConsistent golden c.played c.last c.left
+  progress_consistent input c golden w is table =
+      played_consistent c.done c.rest c.begun c.left c.played c.last golden w (subst (LinesFit first_place) (sym c.lines) (script_of_fits input)) c.parts c.items c.run is table
