@@ -6,7 +6,7 @@ ghost use Rattle.dg_mote.specs.Sizes.{buffered_bytes, most_buffered};
 ghost use Rattle.dg_replay.specs.Ending.{InLimits, script_of};
 ghost use Rattle.dg_replay.specs.Items.{motes_in};
 ghost use Rattle.dg_replay.specs.Outcome.{Replayed};
-ghost use Rattle.dg_replay.specs.Promised.{StepsAreLegal, PagesStay, RowsStart, AllAgrees, HalvesAgree, HonestWithoutFrames, RestsFillThePipeline, RestsComplete};
+ghost use Rattle.dg_replay.specs.Promised.{StepsAreLegal, PagesStay, RowsStart, AllAgrees, HalvesAgree, HonestWithoutFrames, RestsFillThePipeline, RestsComplete, StoresStayConsistent};
 ghost use Rattle.dg_replay.specs.Boards.{BoardStopped};
 ghost use Rattle.dg_cli.specs.Words.{IsReplay, Unknown, UsageTold};
 
@@ -90,6 +90,11 @@ pub fn run<S: Source, K: Sink, N: Nor>(
     ensures completes { (x : Replayed result (S.left input.old) (S.left input.new) (K.written out.old) (K.written out.new)
         (S.faults input.old) (S.faults input.new) (K.faults out.old) (K.faults out.new) (map N.device boards.old.items) (map N.device boards.new.items))
         → RestsComplete x.came }
+    // Whatever bytes its frames carry, every store is consistent: after each item, in the last world, and wherever a stop comes
+    // in the next event. What starts is golden byte for byte, or an object that fits its own descriptor.
+    ensures consistent { (x : Replayed result (S.left input.old) (S.left input.new) (K.written out.old) (K.written out.new)
+        (S.faults input.old) (S.faults input.new) (K.faults out.old) (K.faults out.new) (map N.device boards.old.items) (map N.device boards.new.items))
+        → StoresStayConsistent x.came }
     // A mote buffers no more than 256 bytes.
     ensures buffers { buffered_bytes ≤ most_buffered }
     ensures usage { (IsReplay (map string_bytes words.now.items) → ⊥) → Unknown result (S.left input.old) (S.left input.new) (K.written out.old) (K.written out.new)

@@ -62,3 +62,9 @@ returns-then-is_replay-clause-pipeline g c = λ x. c.replays_keep_the_rules.ensu
 
 pub returns-clause-pipeline : goal.returns-clause-pipeline
 returns-clause-pipeline g c = λ x. c.replays_keep_the_rules.ensures.pipeline x.input x.came
+
+pub returns-then-is_replay-clause-consistent : goal.returns-then-is_replay-clause-consistent
+returns-then-is_replay-clause-consistent g c = λ x. c.replays_keep_the_rules.ensures.consistent x.input x.came
+
+pub returns-clause-consistent : goal.returns-clause-consistent
+returns-clause-consistent g c = λ x. c.replays_keep_the_rules.ensures.consistent x.input x.came
