@@ -1,5 +1,5 @@
 -- Lines that are read on, over bytes that come piece by piece.
-use Rattle.std.proofs.Common.{◌≡◌, ◌≢◌, ◌⊎◌, ℕ, ◌+◌, ◌-◌, ◌<◌, ◌≤◌, ◌==◌, Bool, true, false, cond, List, [], ◌∷◌, ◌++◌, length, get_or, take, drop, All, Option, Some, None, Result, Ok, Err, refl, sym, ap, ◌∙◌, subst, arith, inl, inr, ⊎_elim, append_assoc, length-append}
+use Rattle.std.proofs.Common.{◌≡◌, ◌≢◌, ◌⊎◌, ℕ, ◌+◌, ◌-◌, ◌<◌, ◌≤◌, ◌==◌, Bool, true, false, cond, List, [], ◌∷◌, ◌++◌, length, get_or, take, drop, All, Option, Some, None, Result, Ok, Err, IsErrAnd, refl, sym, ap, ◌∙◌, subst, arith, inl, inr, ⊎_elim, append_assoc, length-append}
 use Rattle.std.specs.Prelude.{slice_range, ⊤}
 use Rattle.std.specs.Str.Lines.{strip_carriage_return}
 use Rattle.std.proofs.lemmas.List.{append-nil, take_at, length-take}
@@ -322,3 +322,8 @@ looking_stops TooLong a b c old now new last looked turns A F l none more taken 
       record { all = omega (arith, long, h.0, h.1, l.passed, same); none = subst HasNoEnd (sym front) none },
     )
 looking_stops (Long line) a b c old now new last looked turns A F l none more taken h = absurd h
+
+-- a stop is handed on as it is
+pub stop_is : (r : Result (Option ℕ) Stop) (stop : Stop) → IsErrAnd r (λ e. e ≡ stop) → Err stop ≡ r
+stop_is (Ok n) stop h = absurd h
+stop_is (Err e) stop h = ap Err (sym h)

@@ -1,9 +1,10 @@
-use Rattle.std.proofs.Common.{◌≡◌, ◌+◌, ◌-◌, ◌×◌, ℕ, List, ◌++◌, length, Ok, Err, None, Some, ◌∙◌, refl, sym, ap, subst, arith}
+use Rattle.std.proofs.Common.{◌≡◌, ◌+◌, ◌-◌, ℕ, List, ◌++◌, length, Option, Result, Ok, Err, None, Some, ◌∙◌, refl, sym, ap, subst, arith}
 use Rattle.dg_words.specs.Counts.{Rose}
 use Rattle.dg_base.specs.Outside.{Takes, AtEnd}
+use Rattle.dg_script.specs.declared.line_reader.ReadStop.{ReadStop as Stop}
 use Rattle.dg_script.specs.LineReading.{Reading, NextAnswer, most_kept}
 use Rattle.dg_script.proofs.ReaderLemmas.{part_long}
-use Rattle.dg_script.proofs.PassingLemmas.{few_used, few_kept, looking_begun, looking_on, looking_ends, looking_gives, looking_rest, looking_passes, looking_stops, Looking}
+use Rattle.dg_script.proofs.PassingLemmas.{few_used, few_kept, looking_begun, looking_on, looking_ends, looking_gives, looking_rest, looking_passes, looking_stops, stop_is, Looking}
 use Rattle.dg_script.proofs.line_reader.LineReader.next.Goals as goal
 
 pub loop-init : goal.loop-init
@@ -53,9 +54,16 @@ returns-in_err-fill-clause-answer g c =
     let left = g.S.Source.left in
     let i = c.loop.invariant in
     let a = c.in_err-fill.ensures.answer in
-    let e = c.from_residual.ensures in
+    let stop = c.in_err-fill.field-0.0 in
+    let is : Err stop ≡ c.from_residual.result = stop_is c.from_residual.result stop c.from_residual.ensures.1 in
     let A = AtEnd (left c.fill.new.input) in
-    let last = g.S.Source.faults c.fill.new.input in ?
+    let last = g.S.Source.faults c.fill.new.input in
+    subst (λ (r : Result (Option ℕ) Stop). (x : List ℕ) × Takes (left c.args.input.now) (left c.fill.new.input) x × NextAnswer r (c.args.self.now.ahead ++ x) c.args.self.now c.fill.new.self A (Rose (g.S.Source.faults c.args.input.now) last))
+    is
+    (subst (λ (n : ℕ). (x : List ℕ) × Takes (left c.args.input.now) (left c.fill.new.input) x × NextAnswer (Err stop) (c.args.self.now.ahead ++ x) c.args.self.now c.fill.new.self A (Rose n last))
+      i.1
+      (looking_stops stop (left c.args.input.now) (left c.loop.input) (left c.fill.new.input) c.args.self.now c.loop.self c.fill.new.self c.fill.new.self c.loop.looked c.loop.counter A (Rose (g.S.Source.faults c.loop.input) last)
+        i.0 c.in_default.ensures a.0 a.1 a.2))
 
 pub returns-then-branch-eq0-clause-answer : goal.returns-then-branch-eq0-clause-answer
 returns-then-branch-eq0-clause-answer g c =
