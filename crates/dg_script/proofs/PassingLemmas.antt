@@ -167,32 +167,35 @@ pass_stops (Long line) a b c old now new last turns A F p full more taken h =
     let used : old.passed + length (old.ahead ++ (p.more ++ more)) ≤ most_used_bytes = omega (arith, long, h.1, p.passed) in (
       p.more ++ more,
       Takes-join a b c p.more more p.taken taken,
-      (omega (arith, h.0, p.number), ⊎_elim
-      (λ (ended : (at : ℕ) × EndsAt (Some at) more).
-      let before : List ℕ = ended.1.0 in
-      let rest : List ℕ = ended.1.1 in
-      let parts : old.ahead ++ (p.more ++ more) ≡ ((front ++ before) ++ 10 ∷ []) ++ rest =
-      sym whole ∙ ap (λ (xs : List ℕ). front ++ xs) ended.1.2 ∙ sym (append_assoc front before (10 ∷ rest)) ∙ sym (append_assoc (front ++ before) (10 ∷ []) rest) in
-      let rest_long : length more ≡ length before + length (10 ∷ rest) = ap length ended.1.2 ∙ length-append before (10 ∷ rest) in
-      record {
-        text = strip_carriage_return (front ++ before);
-        rest = rest;
-        first = record { line = (front ++ before) ++ 10 ∷ []; parts = parts; is = inl (record { before = front ++ before; whole = no_end_join front before p.none ended.1.4; ended = refl; told = refl }) };
-        long = omega (arith, strip_long (front ++ before), length-append front before, front_long, full);
-        used = used;
-        near = omega (arith, rest_long, h.2);
-      })
-      (λ (ended : (more ≡ []) × A).
-      let same : old.ahead ++ (p.more ++ more) ≡ front = sym whole ∙ ap (λ (xs : List ℕ). front ++ xs) ended.0 ∙ append-nil front in
-      record {
-        text = front;
-        rest = [];
-        first = record { line = front; parts = same ∙ sym (append-nil front); is = inr (record { whole = p.none; some = λ e. absurd (omega (arith, ap length e, front_long, full)); told = refl }, refl, ended.1) };
-        long = omega (arith, front_long, full);
-        used = used;
-        near = omega arith;
-      })
-      h.3),
+      (
+        omega (arith, h.0, p.number),
+        ⊎_elim
+            (λ (ended : (at : ℕ) × EndsAt (Some at) more).
+            let before : List ℕ = ended.1.0 in
+            let rest : List ℕ = ended.1.1 in
+            let parts : old.ahead ++ (p.more ++ more) ≡ ((front ++ before) ++ 10 ∷ []) ++ rest =
+            sym whole ∙ ap (λ (xs : List ℕ). front ++ xs) ended.1.2 ∙ sym (append_assoc front before (10 ∷ rest)) ∙ sym (append_assoc (front ++ before) (10 ∷ []) rest) in
+            let rest_long : length more ≡ length before + length (10 ∷ rest) = ap length ended.1.2 ∙ length-append before (10 ∷ rest) in
+            record {
+              text = strip_carriage_return (front ++ before);
+              rest = rest;
+              first = record { line = (front ++ before) ++ 10 ∷ []; parts = parts; is = inl (record { before = front ++ before; whole = no_end_join front before p.none ended.1.4; ended = refl; told = refl }) };
+              long = omega (arith, strip_long (front ++ before), length-append front before, front_long, full);
+              used = used;
+              near = omega (arith, rest_long, h.2);
+            })
+            (λ (ended : (more ≡ []) × A).
+            let same : old.ahead ++ (p.more ++ more) ≡ front = sym whole ∙ ap (λ (xs : List ℕ). front ++ xs) ended.0 ∙ append-nil front in
+            record {
+              text = front;
+              rest = [];
+              first = record { line = front; parts = same ∙ sym (append-nil front); is = inr (record { whole = p.none; some = λ e. absurd (omega (arith, ap length e, front_long, full)); told = refl }, refl, ended.1) };
+              long = omega (arith, front_long, full);
+              used = used;
+              near = omega arith;
+            })
+            h.3,
+      ),
     )
 
 -- ---- the next line
@@ -289,7 +292,7 @@ looking_rest n r a b c old now new last looked turns A F l more taken h zero ans
   l.more ++ more,
   Takes-join a b c l.more more l.taken taken,
   answer_since r (old.ahead ++ (l.more ++ more)) old new last A F (h.2 ∙ l.passed) (h.3 ∙ l.number)
-  (subst (λ (xs : List ℕ). NextAnswer r xs new last A F) (h.1 ∙ ap (λ (xs : List ℕ). xs ++ more) l.ahead ∙ append_assoc old.ahead l.more more) (answer_if F r new.ahead new last (λ (e : ⊤). h.4 zero) answer)),
+      (subst (λ (xs : List ℕ). NextAnswer r xs new last A F) (h.1 ∙ ap (λ (xs : List ℕ). xs ++ more) l.ahead ∙ append_assoc old.ahead l.more more) (answer_if F r new.ahead new last (λ (e : ⊤). h.4 zero) answer)),
 )
 
 -- the buffer is full, and the line was passed over
@@ -299,7 +302,7 @@ looking_passes stop a b c old now new looked turns A F l more taken h = (
   l.more ++ more,
   Takes-join a b c l.more more l.taken taken,
   answer_since (Err stop) (old.ahead ++ (l.more ++ more)) old now new A F l.passed l.number
-  (subst (λ (xs : List ℕ). NextAnswer (Err stop) xs now new A F) (ap (λ (xs : List ℕ). xs ++ more) l.ahead ∙ append_assoc old.ahead l.more more) h),
+      (subst (λ (xs : List ℕ). NextAnswer (Err stop) xs now new A F) (ap (λ (xs : List ℕ). xs ++ more) l.ahead ∙ append_assoc old.ahead l.more more) h),
 )
 
 -- no more bytes could be taken

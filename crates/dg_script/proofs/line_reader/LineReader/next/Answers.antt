@@ -13,7 +13,7 @@ loop-init g c =
     let i = c.self.invariant in
     let left = g.S.Source.left c.args.input.now in (
       subst (λ (v : Reading). Looking left left v v 0 0) c.self.view_is
-      (looking_begun left _ (few_used r.buffer.items r.from r.to r.taken r.number r.text_from r.text_to i.0 i.2 i.3 i.4) (few_kept r.buffer.items r.from r.to r.taken r.number r.text_from r.text_to i.0 i.2)),
+          (looking_begun left _ (few_used r.buffer.items r.from r.to r.taken r.number r.text_from r.text_to i.0 i.2 i.3 i.4) (few_kept r.buffer.items r.from r.to r.taken r.number r.text_from r.text_to i.0 i.2)),
       refl,
     )
 
@@ -27,7 +27,7 @@ loop-preserved g c =
     let whole : length r.buffer.items ≡ most_kept = v.0 in
     let all : r.to - r.from ≡ length c.loop.self.ahead = sym (part_long r.buffer.items r.from r.to (omega (arith, whole, v.2))) ∙ ap (λ (w : Reading). length w.ahead) c.self-in-loop.view_is in (
       looking_on c.in_ok-fill.field-0 (left c.args.input.now) (left c.loop.input) (left c.fill.new.input) c.args.self.now c.loop.self c.fill.new.self c.loop.looked (r.to - r.from) c.loop.counter (AtEnd (left c.fill.new.input))
-      (Rose (g.S.Source.faults c.loop.input) (g.S.Source.faults c.fill.new.input)) i.0 c.in_default.ensures all c.if-branch-eq0.false a.0 a.1 a.2,
+          (Rose (g.S.Source.faults c.loop.input) (g.S.Source.faults c.fill.new.input)) i.0 c.in_default.ensures all c.if-branch-eq0.false a.0 a.1 a.2,
       c.in_ok-fill.ensures.unfailed (λ e. cc) ∙ i.1,
     )
 
@@ -47,7 +47,7 @@ returns-then-looked-eq-KEPT-clause-answer g c =
     subst (λ (n : ℕ). (x : List ℕ) × Takes (left c.args.input.now) (left c.skip.new.input) x × NextAnswer (Err c.skip.result) (c.args.self.now.ahead ++ x) c.args.self.now c.skip.new.self A (Rose n last))
     i.1
     (looking_passes c.skip.result (left c.args.input.now) (left c.loop.input) (left c.skip.new.input) c.args.self.now c.loop.self c.skip.new.self c.loop.looked c.loop.counter A (Rose (g.S.Source.faults c.loop.input) last)
-      i.0 a.0 a.1 a.2)
+    i.0 a.0 a.1 a.2)
 
 pub returns-in_err-fill-clause-answer : goal.returns-in_err-fill-clause-answer
 returns-in_err-fill-clause-answer g c =
@@ -61,9 +61,9 @@ returns-in_err-fill-clause-answer g c =
     subst (λ (r : Result (Option ℕ) Stop). (x : List ℕ) × Takes (left c.args.input.now) (left c.fill.new.input) x × NextAnswer r (c.args.self.now.ahead ++ x) c.args.self.now c.fill.new.self A (Rose (g.S.Source.faults c.args.input.now) last))
     is
     (subst (λ (n : ℕ). (x : List ℕ) × Takes (left c.args.input.now) (left c.fill.new.input) x × NextAnswer (Err stop) (c.args.self.now.ahead ++ x) c.args.self.now c.fill.new.self A (Rose n last))
-      i.1
-      (looking_stops stop (left c.args.input.now) (left c.loop.input) (left c.fill.new.input) c.args.self.now c.loop.self c.fill.new.self c.fill.new.self c.loop.looked c.loop.counter A (Rose (g.S.Source.faults c.loop.input) last)
-        i.0 c.in_default.ensures a.0 a.1 a.2))
+    i.1
+    (looking_stops stop (left c.args.input.now) (left c.loop.input) (left c.fill.new.input) c.args.self.now c.loop.self c.fill.new.self c.fill.new.self c.loop.looked c.loop.counter A (Rose (g.S.Source.faults c.loop.input) last)
+    i.0 c.in_default.ensures a.0 a.1 a.2))
 
 pub returns-then-branch-eq0-clause-answer : goal.returns-then-branch-eq0-clause-answer
 returns-then-branch-eq0-clause-answer g c =
@@ -75,4 +75,4 @@ returns-then-branch-eq0-clause-answer g c =
     subst (λ (n : ℕ). (x : List ℕ) × Takes (left c.args.input.now) (left c.fill.new.input) x × NextAnswer c.give_rest.result (c.args.self.now.ahead ++ x) c.args.self.now c.give_rest.new.self A (Rose n last))
     i.1
     (looking_rest c.in_ok-fill.field-0 c.give_rest.result (left c.args.input.now) (left c.loop.input) (left c.fill.new.input) c.args.self.now c.loop.self c.fill.new.self c.give_rest.new.self c.loop.looked c.loop.counter A
-      (Rose (g.S.Source.faults c.loop.input) last) i.0 a.0 a.1 a.2 c.if-branch-eq0.true c.give_rest.ensures)
+    (Rose (g.S.Source.faults c.loop.input) last) i.0 a.0 a.1 a.2 c.if-branch-eq0.true c.give_rest.ensures)

@@ -14,7 +14,7 @@ loop-preserved g c =
     let i = c.loop.invariant in
     let a = c.in_default.ensures.answer in (
       passing_on (left c.args.input.now) (left c.loop.input) (left c.pass_over.new.input) c.args.self.now c.loop.self c.pass_over.new.self c.loop.counter (AtEnd (left c.pass_over.new.input))
-      (Rose (g.S.Source.faults c.loop.input) (g.S.Source.faults c.pass_over.new.input)) i.0 a.0 a.1 a.2,
+          (Rose (g.S.Source.faults c.loop.input) (g.S.Source.faults c.pass_over.new.input)) i.0 a.0 a.1 a.2,
       c.in_default.ensures.unfailed (λ e. cc) ∙ i.1,
     )
 
@@ -28,4 +28,4 @@ returns-in-Some-clause-answer g c =
     subst (λ (n : ℕ). (x : List ℕ) × Takes (left c.args.input.now) (left c.pass_over.new.input) x × NextAnswer (Err c.in-Some.stop) (c.args.self.now.ahead ++ x) c.args.self.now c.pass_over.new.self A (Rose n last))
     i.1
     (pass_stops c.in-Some.stop (left c.args.input.now) (left c.loop.input) (left c.pass_over.new.input) c.args.self.now c.loop.self c.pass_over.new.self c.pass_over.new.self c.loop.counter A (Rose (g.S.Source.faults c.loop.input) last)
-      i.0 c.requires.full a.0 a.1 a.2)
+    i.0 c.requires.full a.0 a.1 a.2)
