@@ -13,4 +13,8 @@ pub mod ConsistentLemmas
 pub mod EndLemmas
 pub mod TakenLemmas
 pub mod WholeLemmas
+pub mod FrontLemmas
+pub mod LiftLemmas
+pub mod LineByLine
+pub mod UsedLemmas
 pub mod RunLemmas

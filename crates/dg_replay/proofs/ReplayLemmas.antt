@@ -42,14 +42,14 @@ err_differs r x e is differs other = differs (let f : Err x ≡ Err e = sym is �
 -- ---- the script
 
 -- the script behind a line that is read
-script_line : (ends : Bool) (place : Place) (n : ℕ) (text : List ℕ) (texts : List (List ℕ)) (line : Line) → line_of place text ≡ Ok line
+pub script_line : (ends : Bool) (place : Place) (n : ℕ) (text : List ℕ) (texts : List (List ℕ)) (line : Line) → line_of place text ≡ Ok line
     → script_from ends place n (text ∷ texts)
     ≡ record { lines = line ∷ (script_from ends (place_after place line) (n + 1) texts).lines; fault = (script_from ends (place_after place line) (n + 1) texts).fault }
 unfolding script_from
 script_line ends place n text texts line spelled = ap (λ (o : Result Line LineFault). with_line o (λ l. script_from ends (place_after place l) (n + 1) texts) n) spelled
 
 -- and one that ends at a line that is not
-script_fault : (ends : Bool) (place : Place) (n : ℕ) (text : List ℕ) (texts : List (List ℕ)) (fault : LineFault) → line_of place text ≡ Err fault → script_from ends place n (text ∷ texts) ≡ record { lines = []; fault = Some (n, fault) }
+pub script_fault : (ends : Bool) (place : Place) (n : ℕ) (text : List ℕ) (texts : List (List ℕ)) (fault : LineFault) → line_of place text ≡ Err fault → script_from ends place n (text ∷ texts) ≡ record { lines = []; fault = Some (n, fault) }
 unfolding script_from
 script_fault ends place n text texts fault spelled = ap (λ (o : Result Line LineFault). with_line o (λ l. script_from ends (place_after place l) (n + 1) texts) n) spelled
 

@@ -2,6 +2,7 @@ pub mod Items
 pub mod Boards
 pub mod Ending
 pub mod WholeLines
+pub mod Fronts
 pub mod Outcome
 pub mod Promised
 pub mod Steps

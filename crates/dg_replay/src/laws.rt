@@ -1,6 +1,10 @@
 //! What holds of the definitions alone. These functions do nothing: their contracts are the laws.
-ghost use Rattle.std.specs.Prelude.{ℕ, List};
+ghost use Rattle.std.specs.Prelude.{◌≡◌, ◌≤◌, ℕ, List, ◌++◌, false, length};
+ghost use Rattle.std.specs.Str.Lines.{lines};
+ghost use Rattle.dg_script.specs.Places.{first_place};
+ghost use Rattle.dg_script.specs.Script.{script_from};
 ghost use Rattle.dg_replay.specs.Ending.{script_of, whole_lines};
+ghost use Rattle.dg_replay.specs.Fronts.{BeginsAs};
 ghost use Rattle.dg_replay.specs.Outcome.{Progress};
 ghost use Rattle.dg_replay.specs.Promised.{StepsAreLegal, PagesStay, RowsStart, AllAgrees, HalvesAgree, HonestWithoutFrames, RestsFillThePipeline, RestsComplete, StoresStayConsistent};
 ghost use Rattle.dg_replay.specs.WholeLines.{AreWholeLines};
@@ -11,6 +15,13 @@ use dg_rules::{any_frames_leave_stores_consistent, scripts_with_golden};
 /// The whole lines of bytes are their longest front that is empty or ends in LF.
 pub fn whole_lines_are_longest()
     ensures { (bytes : List ℕ) → AreWholeLines bytes (whole_lines bytes) }
+{}
+
+/// The first lines of a script are read the same, whatever follows them. An input that begins with whole lines, of at most
+/// 16,777,216 bytes, has a script that begins as theirs, and that is theirs where one of them has a fault.
+pub fn first_lines_are_read_the_same()
+    ensures { (front more : List ℕ) → whole_lines front ≡ front → length front ≤ 16777216
+        → BeginsAs (script_from false first_place 1 (lines front)) (script_of (front ++ more)) }
 {}
 
 /// However far a script was played: where each frame from outside is honest by the table of its moment, each step is

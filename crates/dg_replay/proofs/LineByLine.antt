@@ -1,0 +1,68 @@
+-- What was played of the lines that were read so far, whatever lines follow.
+use Rattle.std.proofs.Common.{◌≡◌, ◌≢◌, ◌⊎◌, inl, inr, ℕ, ◌+◌, ◌==◌, Bool, false, List, [], ◌∷◌, ◌++◌, length, get_or, All, append_assoc, refl, ap, sym, ◌∙◌, subst}
+use Rattle.std.specs.Prelude.{Option, None, Result, Ok, Err}
+use Rattle.std.specs.Str.Lines.{lines, strip_carriage_return}
+use Rattle.std.proofs.lemmas.Bool.{ne_eqb}
+use Rattle.dg_base.proofs.LineLemmas.{lines-ended}
+use Rattle.dg_nor.specs.Device.{Device}
+use Rattle.dg_rules.specs.World.{World}
+use Rattle.dg_script.specs.LineReading.{HasNoEnd, IsLine}
+use Rattle.dg_script.specs.Places.{first_place}
+use Rattle.dg_script.specs.Script.{Script, script_from}
+use Rattle.dg_script.specs.declared.line.Line.{Line}
+use Rattle.dg_replay.specs.Fronts.{IsFront}
+use Rattle.dg_replay.specs.Playing.{Stood}
+use Rattle.dg_replay.specs.Replaying.{TextTold, TextAnswer, Reached, LinesAnswer}
+use Rattle.dg_replay.specs.declared.player.Player.{Player}
+use Rattle.dg_replay.specs.declared.stop.Stop.{Stop}
+use Rattle.dg_replay.proofs.FrontLemmas.{lines_front}
+use Rattle.dg_replay.proofs.GoldenLemmas.{ImageIsFound, image_found, script_fits}
+use Rattle.dg_replay.proofs.ReplayLemmas.{reached_first, reached_next, stopped_at}
+
+-- the lines of these bytes were played, and a line that follows would have this number
+pub record FrontPlayed (front : List ℕ) (number : ℕ) (p : Player) (initial now : List Device) (before after : Option (List ℕ)) : Type 0 where
+  pub is : IsFront front
+  pub reached : (ends : Bool) (more : List (List ℕ)) → Reached ends (script_from ends first_place 1 (lines front ++ more)) more number p initial now before after
+
+-- nothing was read
+pub front_first : (p : Player) (initial : List Device) (before : Option (List ℕ)) → p.place ≡ first_place → p.cut ≡ None → p.world ≡ None → FrontPlayed [] 1 p initial initial before before
+front_first p initial before place cut world = record { is = inl refl; reached = λ ends more. reached_first ends more p initial before place cut world }
+
+not_feed : (bytes : List ℕ) → HasNoEnd bytes → All (λ b. (b == 10) ≡ false) bytes
+not_feed bytes h k d within = ne_eqb (get_or bytes k d) 10 (h k d within)
+
+-- the text of one more line
+one_text : (text line : List ℕ) → IsLine text line → lines line ≡ text ∷ []
+one_text text line l = ap lines l.ended ∙ lines-ended l.before [] (not_feed l.before l.whole) ∙ ap (λ (t : List ℕ). t ∷ []) (sym l.told)
+
+pub texts_next : (front text line : List ℕ) (more : List (List ℕ)) → IsFront front → IsLine text line → lines (front ++ line) ++ more ≡ lines front ++ text ∷ more
+texts_next front text line more is l =
+    ap (λ (ls : List (List ℕ)). ls ++ more) (lines_front front line is ∙ ap (λ (ls : List (List ℕ)). lines front ++ ls) (one_text text line l))
+    ∙ append_assoc (lines front) (text ∷ []) more
+
+pub front_more : (front text line : List ℕ) → IsLine text line → IsFront (front ++ line)
+front_more front text line l = inr (front ++ l.before, ap (λ (xs : List ℕ). front ++ xs) l.ended ∙ sym (append_assoc front l.before (10 ∷ [])))
+
+-- one more line was played, and what is told of it was written
+pub front_next : (front text line : List ℕ) (n : ℕ) (p q : Player) (initial old now : List Device) (before mid after : Option (List ℕ)) → FrontPlayed front n p initial old before mid → IsLine text line
+    → ((done : List Line) (w : Option World) → Stood p done w initial old → TextTold text p q done w initial now mid after) → FrontPlayed (front ++ line) (n + 1) q initial now before after
+front_next front text line n p q initial old now before mid after f l told = record {
+  is = front_more front text line l;
+  reached = λ ends more.
+      let r = f.reached ends (text ∷ more) in
+      subst (λ (ts : List (List ℕ)). Reached ends (script_from ends first_place 1 ts) more (n + 1) q initial now before after) (sym (texts_next front text line more f.is l))
+      (reached_next ends (script_from ends first_place 1 (lines front ++ text ∷ more)) more text n p q initial old now before mid after r (told r.done r.last r.stood));
+}
+
+-- the replay stopped at one more line, whatever lines follow
+pub front_stopped : (law : ImageIsFound) (stop : Stop) (front text line : List ℕ) (n : ℕ) (p q : Player) (initial old now : List Device) (before mid after : Option (List ℕ)) (failed worse : Type 0) → (failed → worse)
+    → FrontPlayed front n p initial old before mid → IsLine text line
+    → ((done : List Line) (w : Option World) → Stood p done w initial old → TextAnswer (Err stop) text n p q done w initial old now mid after failed)
+    → (ends : Bool) (more : List (List ℕ)) → LinesAnswer (Err stop) ends (script_from ends first_place 1 (lines (front ++ line) ++ more)) initial now before after worse
+front_stopped law stop front text line n p q initial old now before mid after failed worse spread f l answer ends more =
+    let r = f.reached ends (text ∷ more) in
+    let script : Script = script_from ends first_place 1 (lines front ++ text ∷ more) in
+    subst (λ (ts : List (List ℕ)). LinesAnswer (Err stop) ends (script_from ends first_place 1 ts) initial now before after worse) (sym (texts_next front text line more f.is l))
+    (stopped_at stop ends script more text n p q initial old now before mid after failed worse spread r
+      (image_found law ends script (text ∷ more) n p initial old before mid (script_fits ends first_place 1 (lines front ++ text ∷ more)) r text)
+      (answer r.done r.last r.stood))
