@@ -29,11 +29,11 @@ abbrev left_of : (done rest more : List Line) → List Item → List Item
 left_of done [] more left = next_items done more
 left_of done (line ∷ rest) more left = left
 
-parts_of : (done rest more : List Line) (begun left : List Item) → next_items done rest ≡ begun ++ left → next_items done (rest ++ more) ≡ begun ++ left_of done rest more left
+pub parts_of : (done rest more : List Line) (begun left : List Item) → next_items done rest ≡ begun ++ left → next_items done (rest ++ more) ≡ begun ++ left_of done rest more left
 parts_of done [] more begun left e = ap (λ (xs : List Item). xs ++ next_items done more) (sym (none_begun begun left e))
 parts_of done (line ∷ rest) more begun left e = e
 
-within_of : (done rest more : List Line) (begun left : List Item) → next_items done rest ≡ begun ++ left → (left ≡ [] → begun ≡ []) → left_of done rest more left ≡ [] → begun ≡ []
+pub within_of : (done rest more : List Line) (begun left : List Item) → next_items done rest ≡ begun ++ left → (left ≡ [] → begun ≡ []) → left_of done rest more left ≡ [] → begun ≡ []
 within_of done [] more begun left e within none = none_begun begun left e
 within_of done (line ∷ rest) more begun left e within none = within none
 
