@@ -17,4 +17,6 @@ mod steps;
 mod stop;
 
 pub use call::replay;
-pub use laws::{replays_keep_the_rules, whole_lines_are_longest};
+pub use laws::{
+    first_lines_are_read_the_same, replays_keep_the_rules, whole_lines_are_longest,
+};
