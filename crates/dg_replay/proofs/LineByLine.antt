@@ -64,5 +64,5 @@ front_stopped law stop front text line n p q initial old now before mid after fa
     let script : Script = script_from ends first_place 1 (lines front ++ text ∷ more) in
     subst (λ (ts : List (List ℕ)). LinesAnswer (Err stop) ends (script_from ends first_place 1 ts) initial now before after worse) (sym (texts_next front text line more f.is l))
     (stopped_at stop ends script more text n p q initial old now before mid after failed worse spread r
-      (image_found law ends script (text ∷ more) n p initial old before mid (script_fits ends first_place 1 (lines front ++ text ∷ more)) r text)
-      (answer r.done r.last r.stood))
+    (image_found law ends script (text ∷ more) n p initial old before mid (script_fits ends first_place 1 (lines front ++ text ∷ more)) r text)
+    (answer r.done r.last r.stood))

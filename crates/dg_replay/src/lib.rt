@@ -17,6 +17,4 @@ mod steps;
 mod stop;
 
 pub use call::replay;
-pub use laws::{
-    first_lines_are_read_the_same, replays_keep_the_rules, whole_lines_are_longest,
-};
+pub use laws::{first_lines_are_read_the_same, replays_keep_the_rules, whole_lines_are_longest};
