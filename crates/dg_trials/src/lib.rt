@@ -4,7 +4,11 @@
 #[cfg(test)]
 mod boards;
 #[cfg(test)]
+mod chips;
+#[cfg(test)]
 mod faults;
+#[cfg(test)]
+mod frames;
 #[cfg(test)]
 mod motes;
 #[cfg(test)]
