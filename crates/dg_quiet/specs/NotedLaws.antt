@@ -1,7 +1,7 @@
 -- That the kept moments are those of the newest notes, and that a list with a place for each image is such a map.
 use Rattle.std.specs.Prelude.{◌≡◌, ℕ, ◌+◌, ◌-◌, ◌≤◌, Bool, true, false, Decides, ◌&&◌, ◌↔◌, Option, None, Some, List, [], ◌∷◌, length}
-use Rattle.std.proofs.Common.{suc, get_or, cond, eqb, ltb, refl, sym, ap, ◌∙◌, inl, inr, arith}
-use Rattle.std.proofs.Math.ListN.{set as put}
+use Rattle.std.proofs.Common.{zero, suc, get_or, cond, eqb, ltb, refl, sym, ap, ◌∙◌, inl, inr, arith}
+use Rattle.std.proofs.Math.ListN.{replicate, set as put}
 use Rattle.std.proofs.lemmas.Bool.{cases_eq, cases_lt, eq-eqb, ne_eqb, lt-ltb, le-ltb, leb-true, le-leb, and_parts, and_from}
 use Rattle.std.proofs.lemmas.List.{get_or-set_other, get_or-set_same}
 use Rattle.std.specs.Cmp.{nat_cmp_total, unsigned_tied}
@@ -97,9 +97,13 @@ get-moments_of-zero : (places : List (Option ℕ)) → map.get (moments_of place
 unfolding moments_of
 get-moments_of-zero places = get-moments_from 1 places 0
 
-pub moments_of-none : moments_of (None ∷ None ∷ None ∷ []) ≡ map.empty
+moments_from-none : (n image : ℕ) → moments_from image (replicate n None) ≡ map.empty
+moments_from-none zero image = refl
+moments_from-none (suc n) image = moments_from-none n (image + 1)
+
+pub moments_of-none : (n : ℕ) → moments_of (replicate n None) ≡ map.empty
 unfolding moments_of
-moments_of-none = refl
+moments_of-none n = moments_from-none n 1
 
 -- a moment is written at the place of its image
 pub moments_of-put : (places : List (Option ℕ)) (image moment : ℕ) → 1 ≤ image → image ≤ length places → moments_of (put places (image - 1) (Some moment)) ≡ map.insert (moments_of places) image moment

@@ -13,7 +13,7 @@ ghost use Rattle.dg_quiet.specs.Histories.{Note, noted, last_request, last_packe
 use std::marker::Model;
 
 /// The images whose frames are overheard: 1 to this number.
-pub const IMAGES: u8 = 3;
+pub const IMAGES: u8 = 6;
 
 /// How long an overheard request keeps a mote quiet, in milliseconds.
 pub const REQUEST_QUIET: u64 = 128_000;
@@ -36,10 +36,11 @@ impl Model for Windows {
     ghost coded = { noted_code };
 
     ghost use Rattle.std.specs.Prelude.{◌≡◌, length};
+    ghost use Rattle.dg_quiet.specs.declared.TheConstants.{IMAGES};
 
     ghost view = { λ w. record { requests = moments_of w.requests; packets = moments_of w.packets } };
 
-    ghost invariant = { λ w. (length w.requests ≡ 3) × (length w.packets ≡ 3) };
+    ghost invariant = { λ w. (length w.requests ≡ IMAGES) × (length w.packets ≡ IMAGES) };
 }
 
 impl Windows {
@@ -135,7 +136,7 @@ mod tests {
         windows.note_request(0, 1);
         assert!(rt; !windows.may_ask(127_999, 1));
         assert!(rt; windows.may_ask(128_000, 1));
-        assert!(rt; windows.may_ask(0, 2));
+        assert!(rt; windows.may_ask(0, 6));
 
         windows.note_packet(128_000, 1);
         assert!(rt; !windows.may_ask(191_999, 1));
