@@ -1,19 +1,20 @@
 -- Enough sweeps complete every image, the least first.
-use Rattle.std.proofs.Common.{◌≡◌, ℕ, zero, suc, ◌+◌, ◌-◌, ◌<◌, ◌≤◌, min, Bool, true, ◌&&◌, ◌||◌, cond, eqb, leb, ltb, List, [], ◌∷◌, ◌++◌, length, take, Option, Some, None, IfSome, refl, sym, ap, subst, ◌∙◌, inl, inr, arith}
+use Rattle.std.proofs.Common.{◌≡◌, ℕ, zero, suc, ◌+◌, ◌-◌, ◌<◌, ◌≤◌, min, Bool, true, ◌&&◌, ◌||◌, cond, eqb, leb, ltb, List, [], ◌∷◌, ◌++◌, length, take, Option, Some, None, IfSome, refl, sym, ap, subst, ◌∙◌, inl, inr, arith, append_assoc}
 use Rattle.std.proofs.lemmas.Bool.{eq-eqb, ne_eqb, le-leb, leb-true, lt-ltb, ltb-true, and_parts, and_from, or_cases, or_right, cases_lt, cases_eq}
 use Rattle.std.proofs.lemmas.List.{take_all}
-use Rattle.std.specs.List.{AllByRecursion, list_any}
+use Rattle.std.specs.List.{AllByRecursion, list_any, range_with_len}
 use Rattle.dg_words.proofs.ListLemmas.{length-tabulate}
 use Rattle.dg_object.specs.Object.{Row, object, profile, page_of_row}
 use Rattle.dg_slot.specs.Kept.{Held}
 use Rattle.dg_volume.specs.Store.{held, held_whole}
 use Rattle.dg_volume.specs.Table.{row_at}
 use Rattle.dg_volume.specs.Agreement.{KeepsRow}
+use Rattle.dg_frame.specs.Sizes.{frame_images}
 use Rattle.dg_rules.specs.World.{World, store_at, linked}
 use Rattle.dg_rules.specs.Premises.{WorldAgrees}
 use Rattle.dg_rounds.specs.Rounds.{round, times, rounds_of}
 use Rattle.dg_completion.specs.Rests.{HasRounds}
-use Rattle.dg_completion.specs.Completion.{Follows, Grows, FreeLaw, IsOn, HasRoomAt, RoundLaw, newest, largest, pages_of, page_count, within, IsEnoughFor, PipelineLaw, CompletionLaw}
+use Rattle.dg_completion.specs.Completion.{Follows, Grows, FreeLaw, IsOn, HasRoomAt, RoundLaw, newest, largest, pages_of, page_count, within, IsEnoughFor, IsEnoughOver, PipelineLaw, CompletionLaw}
 use Rattle.dg_base.specs.declared.events.Event.{Event}
 use Rattle.dg_completion.proofs.GrowLemmas.{grows_none, grows_then, free_grows, rounds_free, all_map}
 use Rattle.dg_completion.proofs.RestLemmas.{times_add}
@@ -111,16 +112,17 @@ module _ (free : FreeLaw) (law : RoundLaw) (links : List (ℕ × ℕ)) where
 
   -- ---- one image
 
+  -- a run goes on from a world in which every image below i is whole
   record Stepped (i : ℕ) (qs : List (ℕ × ℕ)) (w v : World) : Type 0 where
     u : World
     rest : List Event
     rounds : HasRounds qs rest
     run : Follows u rest v
     grows : Grows w u
-    done : DoneTo (i + 1) u
+    done : DoneTo i u
 
-  step_image : (i n : ℕ) (o : Option Row) (w0 w v : World) (qs : List (ℕ × ℕ)) (es : List Event) → 1 ≤ i → i ≤ 3 → newest w0.table i ≡ o → IsEnoughFor w0 o n → Grows w0 w → Waits w → DoneTo i w
-      → HasRounds (times n (rounds_of links) ++ qs) es → Follows w es v → ((m : ℕ) → m < length v.sites → HasRoomAt v m) → Stepped i qs w v
+  step_image : (i n : ℕ) (o : Option Row) (w0 w v : World) (qs : List (ℕ × ℕ)) (es : List Event) → 1 ≤ i → i ≤ frame_images → newest w0.table i ≡ o → IsEnoughFor w0 o n → Grows w0 w → Waits w → DoneTo i w
+      → HasRounds (times n (rounds_of links) ++ qs) es → Follows w es v → ((m : ℕ) → m < length v.sites → HasRoomAt v m) → Stepped (i + 1) qs w v
   unfolding times within
   step_image i n None w0 w v qs es from to is enough g r d h f room =
       record {
@@ -144,7 +146,7 @@ module _ (free : FreeLaw) (law : RoundLaw) (links : List (ℕ × ℕ)) where
       let image : row.image ≡ i = row_image w0.table i row is in
       let newest_w : newest w.table row.image ≡ Some row = ap (newest w.table) image ∙ ap (λ t. newest t i) g.table ∙ is in
       let newest_0 : newest w0.table row.image ≡ Some row = ap (newest w0.table) image ∙ is in
-      let below : Below row w = record { from = omega (arith, image); to = omega (arith, image); newest_is = newest_w; whole = subst (λ k. DoneTo k w) (sym image) d } in
+      let below : Below row w = record { from = omega (arith, image); to = omega (arith, image, to); newest_is = newest_w; whole = subst (λ k. DoneTo k w) (sym image) d } in
       let rested : Rested free row (Below row) (below_on row) (raise_for row) links w = record { good = r.good; fits = below; newest_is = newest_w; links_are = r.links_are; on = r.on } in
       let start : Level free row (Below row) (below_on row) (raise_for row) links w r.links_are 0 w = record {
         whole = λ m e. leb-true (page_count row) (pages_of (store_at w m) row) (within_whole w row m e);
@@ -171,7 +173,24 @@ module _ (free : FreeLaw) (law : RoundLaw) (links : List (ℕ × ℕ)) where
         ];
       }
 
--- ---- all of them
+  -- ---- all of them
+
+  step_images : (k i n : ℕ) (w0 w v : World) (qs : List (ℕ × ℕ)) (es : List Event) → 1 ≤ i → i + k ≤ frame_images + 1 → IsEnoughOver w0 (range_with_len i k) n → Grows w0 w → Waits w → DoneTo i w
+      → HasRounds (times n (rounds_of links) ++ qs) es → Follows w es v → ((m : ℕ) → m < length v.sites → HasRoomAt v m) → Stepped (i + k) qs w0 v
+  unfolding IsEnoughOver times
+  step_images zero i n w0 w v qs es from to enough g r d h f room =
+      record { u = w; rest = es; rounds = subst (λ k. HasRounds (times k (rounds_of links) ++ qs) es) enough h; run = f; grows = g; done = subst (λ j. DoneTo j w) (omega arith) d }
+  step_images (suc k) i n w0 w v qs es from to enough g r d h f room =
+      let x = enough.0 in
+      let y = enough.1 in
+      let rs = rounds_of links in
+      let split : times n rs ++ qs ≡ times x rs ++ (times y rs ++ qs) = ap (λ c. times c rs ++ qs) enough.4 ∙ ap (λ l. l ++ qs) (times_add x y rs) ∙ append_assoc (times x rs) (times y rs) qs in
+      let one = step_image i x (newest w0.table i) w0 w v (times y rs ++ qs) es from (omega (arith, to)) refl enough.2 g r d (subst (λ l. HasRounds l es) split h) f room in
+      let g1 = grows_then w0 w one.u g one.grows in
+      let more = step_images k (i + 1) y w0 one.u v qs one.rest (omega arith) (omega (arith, to)) enough.3 g1 (waits_on w one.u one.grows r) one.done one.rounds one.run room in
+      record { u = more.u; rest = more.rest; rounds = more.rounds; run = more.run; grows = more.grows; done = subst (λ j. DoneTo j more.u) (omega arith) more.done }
+
+-- ---- what is whole
 
 -- what is whole is the row's object
 whole_is : (table : List Row) (i : ℕ) (o : Option Held) (r : Row) → newest table i ≡ Some r → IfSome o (KeepsRow table i) → page_count r ≤ count o r.version → o ≡ Some (held_whole r)
@@ -194,22 +213,14 @@ completes free law w v n k es rests enough many i row m from to is there =
     let r : Waits free law w.links w = record { good = rests.good; links_are = refl; on = rests.on } in
     let g0 = free_grows free es w v rests.good (rounds_free (times n rs) es rests.rest) rests.run in
     let room : (j : ℕ) → j < length v.sites → HasRoomAt v j = λ j h. rests.room j (subst (λ c. j < c) g0.count h) in
-    let x = enough.0 in
-    let y = enough.1 in
-    let z = enough.2 in
-    let left = n - (x + y + z) in
-    let sum : n ≡ x + (y + (z + left)) = omega (arith, many, enough.6) in
-    let split : times n rs ≡ times x rs ++ (times y rs ++ (times z rs ++ times left rs)) =
-    ap (λ c. times c rs) sum ∙ times_add x (y + (z + left)) rs ∙ ap (λ l. times x rs ++ l) (times_add y (z + left) rs ∙ ap (λ l. times y rs ++ l) (times_add z left rs)) in
+    let left = n - k in
+    let sum : n ≡ k + left = omega (arith, many) in
+    let split : times n rs ≡ times k rs ++ times left rs = ap (λ c. times c rs) sum ∙ times_add k left rs in
     let none : DoneTo 1 w = λ j a q low less e h. absurd (omega (arith, low, less)) in
-    let one = step_image free law w.links 1 x (newest w.table 1) w w v (times y rs ++ (times z rs ++ times left rs)) es (omega arith) (omega arith) refl enough.3 (grows_none w rests.good) r none (subst (λ l. HasRounds l es) split rests.rest) rests.run room in
-    let two = step_image free law w.links 2 y (newest w.table 2) w one.u v (times z rs ++ times left rs) one.rest (omega arith) (omega arith) refl enough.4 one.grows (waits_on free law w.links w one.u one.grows r) one.done one.rounds one.run room in
-    let g2 = grows_then w one.u two.u one.grows two.grows in
-    let three = step_image free law w.links 3 z (newest w.table 3) w two.u v (times left rs) two.rest (omega arith) (omega arith) refl enough.5 g2 (waits_on free law w.links w two.u g2 r) two.done two.rounds two.run room in
-    let g3 = grows_then w two.u three.u g2 three.grows in
-    let g4 = free_grows free three.rest three.u v g3.good (rounds_free (times left rs) three.rest three.rounds) three.run in
-    let done_v : DoneTo 4 v = done_on 4 three.u v g4 three.done in
-    let g = grows_then w three.u v g3 g4 in
+    let all = step_images free law w.links frame_images 1 k w w v (times left rs) es (omega arith) (omega arith) enough (grows_none w rests.good) r none (subst (λ l. HasRounds l es) split rests.rest) rests.run room in
+    let last = free_grows free all.rest all.u v all.grows.good (rounds_free (times left rs) all.rest all.rounds) all.run in
+    let done_v : DoneTo (1 + frame_images) v = done_on (1 + frame_images) all.u v last all.done in
+    let g = grows_then w all.u v all.grows last in
     let is_v : newest v.table i ≡ Some row = ap (λ t. newest t i) g.table ∙ is in
     let there_v : m < length v.sites = subst (λ c. m < c) (sym g.count) there in
     whole_is v.table i (held (store_at v m) i) row is_v ((g.good.sites m there_v).store.agrees.kept i) (done_v i m row from (omega (arith, to)) is_v there_v)

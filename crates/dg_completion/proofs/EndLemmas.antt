@@ -6,6 +6,7 @@ use Rattle.dg_nor.specs.Trail.{last}
 use Rattle.dg_volume.specs.Store.{Store, golden_row, fresh}
 use Rattle.dg_volume.specs.Table.{row_at}
 use Rattle.dg_frame.specs.declared.Message.{Message}
+use Rattle.dg_mote.specs.Sizes.{shared}
 use Rattle.dg_script.specs.Items.{Item, Declares, Happens}
 use Rattle.dg_rules.specs.World.{World, Running, Sent, site, store_at, linked, frame_at, last_frame, first_world, counted, with_site}
 use Rattle.dg_rules.specs.Events.{Does, Refuses, Goes, does, mote_of, dt_of, tick_by, hear_by, heard_sent, heard_last, unless_off}
@@ -20,7 +21,7 @@ use Rattle.dg_base.specs.declared.events.Step.{Step}
 use Rattle.dg_script.specs.declared.report.Cause.TheVariants as cause
 use Rattle.dg_script.specs.declared.report.Report.{Report}
 use Rattle.dg_completion.specs.Rests.{IsFree}
-use Rattle.dg_completion.specs.Completion.{Follows, FreeLaw, newest, within, IsHops, IsEnoughFor, IsEnough, Rests, PipelineLaw, CompletionLaw}
+use Rattle.dg_completion.specs.Completion.{Follows, FreeLaw, newest, within, IsHops, IsEnoughFor, IsEnoughOver, Rests, PipelineLaw, CompletionLaw}
 use Rattle.dg_completion.specs.Ends.{event_in, events_of, IsUncutItem, IsUncut, PlayedLaw, EndsInRest, EndsLaw, EndsPipelineLaw}
 use Rattle.dg_completion.proofs.GrowLemmas.{rounds_free}
 
@@ -183,16 +184,11 @@ enough_for_same : (rows : List Row) (w : World) (o : Option Row) (n : ℕ) → I
 enough_for_same rows w None n enough = enough
 enough_for_same rows w (Some row) n enough = (enough.0, hops_same rows w row enough.0 enough.1, enough.2)
 
-enough_same : (rows : List Row) (w : World) (n : ℕ) → IsEnough w n → IsEnough (declaring rows w) n
-enough_same rows w n enough = (
-  enough.0,
-  enough.1,
-  enough.2,
-  enough_for_same rows w (newest w.table 1) enough.0 enough.3,
-  enough_for_same rows w (newest w.table 2) enough.1 enough.4,
-  enough_for_same rows w (newest w.table 3) enough.2 enough.5,
-  enough.6,
-)
+enough_same : (rows : List Row) (w : World) (is : List ℕ) (n : ℕ) → IsEnoughOver w is n → IsEnoughOver (declaring rows w) is n
+unfolding IsEnoughOver
+enough_same rows w [] n enough = enough
+enough_same rows w (i ∷ is) n enough =
+    (enough.0, enough.1, enough_for_same rows w (newest w.table i) enough.0 enough.2, enough_same rows w is enough.1 enough.3, enough.4)
 
 -- ---- a script
 
@@ -257,7 +253,7 @@ module _
   pub ends : CompletionLaw → EndsLaw
   ends complete name bytes used motes links played w v n k script honest end enough many i row m from to is there =
       let s = stays name bytes used motes links played w v n script honest end in
-      complete (declaring v.declared w) v n k (events_of end.rest) (rests name bytes used motes links played w v n script honest end) (enough_same v.declared w k enough) many i row m from to
+      complete (declaring v.declared w) v n k (events_of end.rest) (rests name bytes used motes links played w v n script honest end) (enough_same v.declared w shared k enough) many i row m from to
       (ap (λ t. newest t i) (sym s.table) ∙ is) (subst (λ c. m < c) s.count there)
 
   pub ends_pipeline : PipelineLaw → EndsPipelineLaw

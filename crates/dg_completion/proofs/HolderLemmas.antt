@@ -1,13 +1,16 @@
 -- Ways from a mote that keeps a row whole, and numbers of sweeps that are enough.
 use Rattle.std.proofs.Common.{◌≡◌, ℕ, zero, suc, ◌+◌, ◌-◌, ◌<◌, ◌≤◌, max, Bool, true, false, ◌&&◌, ◌||◌, eqb, leb, ltb, List, [], ◌∷◌, length, Option, Some, None, refl, sym, ap, subst, ◌∙◌, inl, inr, arith}
 use Rattle.std.specs.Prelude.{slice_index_or}
-use Rattle.std.specs.List.{Contains, list_any}
+use Rattle.std.specs.List.{Contains, list_any, range_with_len}
 use Rattle.std.proofs.lemmas.Bool.{cases_Bool, cases_lt, eq-eqb, eqb-true, le-leb, leb-true, lt-ltb, ltb-true, and_parts, and_from, or_cases, or_left, or_right}
 use Rattle.dg_object.specs.Object.{Row}
+use Rattle.dg_volume.specs.Sizes.{images}
+use Rattle.dg_frame.specs.Sizes.{frame_images}
+use Rattle.dg_mote.specs.Sizes.{shared}
 use Rattle.dg_rounds.specs.Ways.{IsLinked, Way, here, more}
 use Rattle.dg_rules.specs.World.{World, store_at}
-use Rattle.dg_completion.specs.Completion.{newest, page_count, pages_of, within, IsHops, IsEnoughFor}
-use Rattle.dg_completion.specs.Holders.{KeepsWhole, HolderWithin, WithinLaw, ReachesAll, EnoughLaw}
+use Rattle.dg_completion.specs.Completion.{newest, page_count, pages_of, within, IsHops, IsEnoughFor, IsEnoughOver}
+use Rattle.dg_completion.specs.Holders.{KeepsWhole, HolderWithin, WithinLaw, ReachesAll, AllReached, EnoughLaw, OneEnoughLaw}
 
 -- ---- links that pass a test
 
@@ -172,9 +175,33 @@ enough_for : (w : World) (o : Option Row) → ((row : Row) → o ≡ Some row �
 enough_for w None reaches = (0, refl)
 enough_for w (Some row) reaches = let h = hops w row (reaches row refl) in (page_count row + h.0 - 1, (h.0, h.1, refl))
 
+enough_over : (w : World) → AllReached w → (k i : ℕ) → 1 ≤ i → i + k ≤ images → (n : ℕ) × IsEnoughOver w (range_with_len i k) n
+unfolding IsEnoughOver
+enough_over w reached zero i from to = (0, refl)
+enough_over w reached (suc k) i from to =
+    let x = enough_for w (newest w.table i) (λ row is. reached i row from (omega (arith, to)) is) in
+    let y = enough_over w reached k (i + 1) (omega arith) (omega (arith, to)) in
+    (x.0 + y.0, (x.0, y.0, x.1, y.1, refl))
+
 pub enough_law : EnoughLaw
-enough_law w reached =
-    let x = enough_for w (newest w.table 1) (λ row is. reached 1 row (omega arith) (omega arith) is) in
-    let y = enough_for w (newest w.table 2) (λ row is. reached 2 row (omega arith) (omega arith) is) in
-    let z = enough_for w (newest w.table 3) (λ row is. reached 3 row (omega arith) (omega arith) is) in
-    (x.0 + y.0 + z.0, (x.0, y.0, z.0, x.1, y.1, z.1, refl))
+enough_law w reached = enough_over w reached frame_images 1 (omega arith) (omega arith)
+
+-- ---- and only one
+
+one_for : (w : World) (o : Option Row) (m n : ℕ) → IsEnoughFor w o m → IsEnoughFor w o n → m ≡ n
+one_for w None m n a b = a ∙ sym b
+one_for w (Some row) m n a b =
+    let low = a.1.least b.0 b.1.some b.1.all in
+    let high = b.1.least a.0 a.1.some a.1.all in
+    omega (arith, low, high, a.2, b.2)
+
+one_over : (w : World) (is : List ℕ) (m n : ℕ) → IsEnoughOver w is m → IsEnoughOver w is n → m ≡ n
+unfolding IsEnoughOver
+one_over w [] m n a b = a ∙ sym b
+one_over w (i ∷ is) m n a b =
+    let here = one_for w (newest w.table i) a.0 b.0 a.2 b.2 in
+    let others = one_over w is a.1 b.1 a.3 b.3 in
+    omega (arith, here, others, a.4, b.4)
+
+pub one_enough_law : OneEnoughLaw
+one_enough_law w m n a b = one_over w shared m n a b

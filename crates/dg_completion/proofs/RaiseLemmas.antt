@@ -8,6 +8,7 @@ use Rattle.dg_slot.specs.Kept.{Held}
 use Rattle.dg_volume.specs.Store.{Store, held}
 use Rattle.dg_volume.specs.Table.{row_at}
 use Rattle.dg_volume.specs.Agreement.{Agrees, KeepsRow}
+use Rattle.dg_frame.specs.Sizes.{frame_images}
 use Rattle.dg_rules.specs.World.{World, store_at, linked}
 use Rattle.dg_rules.specs.Premises.{WorldAgrees}
 use Rattle.dg_rounds.specs.Rounds.{round}
@@ -67,7 +68,7 @@ none_ahead (Some h) (Some g) v n some b l = elim (cases_eq g.version v) [
 
 pub record Below (row : Row) (w : World) : Type 0 where
   pub from : 1 ≤ row.image
-  pub to : row.image ≤ 3
+  pub to : row.image ≤ frame_images
   pub newest_is : newest w.table row.image ≡ Some row
   pub whole : (j m : ℕ) (r : Row) → 1 ≤ j → j < row.image → newest w.table j ≡ Some r → m < length w.sites → page_count r ≤ count (held (store_at w m) j) r.version
 

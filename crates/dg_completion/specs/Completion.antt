@@ -125,10 +125,14 @@ abbrev pub IsEnoughFor : World → Option Row → ℕ → Type 0
 IsEnoughFor w None n = n ≡ 0
 IsEnoughFor w (Some row) n = (h : ℕ) × IsHops w row h × (n ≡ page_count row + h - 1)
 
--- So many sweeps are enough: those for images 1 to 3, one after the other.
+-- the sweeps for these images, one after the other
+unfoldable pub IsEnoughOver : World → List ℕ → ℕ → Type 0
+IsEnoughOver w [] n = n ≡ 0
+IsEnoughOver w (i ∷ is) n = (x y : ℕ) × IsEnoughFor w (newest w.table i) x × IsEnoughOver w is y × (n ≡ x + y)
+
+-- so many sweeps are enough: those for each image that motes hand on
 abbrev pub IsEnough : World → ℕ → Type 0
-IsEnough w n =
-    (x y z : ℕ) × IsEnoughFor w (newest w.table 1) x × IsEnoughFor w (newest w.table 2) y × IsEnoughFor w (newest w.table 3) z × (n ≡ x + y + z)
+IsEnough w n = IsEnoughOver w shared n
 
 -- A rest of n sweeps from world w to world v: w agrees with its table, every mote is on, and each has room at the end.
 pub record Rests (w : World) (n : ℕ) (es : List Event) (v : World) : Type 0 where

@@ -1,4 +1,4 @@
-use Rattle.dg_completion.proofs.HolderLemmas.{within_law, enough_law}
+use Rattle.dg_completion.proofs.HolderLemmas.{within_law, enough_law, one_enough_law}
 use Rattle.dg_completion.proofs.laws.distances_are_ways.Goals as goal
 
 pub returns-clause-within : goal.returns-clause-within
@@ -6,3 +6,6 @@ returns-clause-within c = within_law
 
 pub returns-clause-enough : goal.returns-clause-enough
 returns-clause-enough c = enough_law
+
+pub returns-clause-one : goal.returns-clause-one
+returns-clause-one c = one_enough_law
