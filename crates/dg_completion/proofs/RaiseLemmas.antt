@@ -1,7 +1,8 @@
 -- A round brings the mote at its end one page more of the least image that is not whole everywhere, or as many as the other has.
 use Rattle.std.proofs.Common.{◌≡◌, ℕ, zero, suc, ◌+◌, ◌<◌, ◌≤◌, min, Bool, true, false, ◌&&◌, ◌||◌, cond, eqb, leb, ltb, List, length, Option, Some, None, IfSome, refl, sym, ap, subst, ◌∙◌, inl, inr, arith}
-use Rattle.std.proofs.lemmas.Bool.{eq-eqb, ne_eqb, le-leb, le-ltb, lt-ltb, cases_lt, cases_eq}
+use Rattle.std.proofs.lemmas.Bool.{cond-true, cond-false, eq-eqb, ne_eqb, le-leb, le-ltb, lt-ltb, cases_lt, cases_eq}
 use Rattle.std.proofs.lemmas.List.{length-take}
+use Rattle.std.specs.List.{find, range_with_len}
 use Rattle.dg_words.proofs.ListLemmas.{length-tabulate}
 use Rattle.dg_object.specs.Object.{Row, object}
 use Rattle.dg_slot.specs.Kept.{Held}
@@ -100,13 +101,21 @@ both table i (Some h) r n k = (
       omega (arith, few_complete table i h k, ap page_count same),
 )
 
-pub_least : (s t : Store) (i : ℕ) → 1 ≤ i → i ≤ 3 → is_ahead (held s i) (held t i) ≡ true → ((j : ℕ) → 1 ≤ j → j < i → is_ahead (held s j) (held t j) ≡ false) → least_ahead s t ≡ Some i
+least_from : (s t : Store) (k j i : ℕ) → j ≤ i → i < j + k → is_ahead (held s i) (held t i) ≡ true → ((l : ℕ) → j ≤ l → l < i → is_ahead (held s l) (held t l) ≡ false)
+    → find (λ i. is_ahead (held s i) (held t i)) (range_with_len j k) ≡ Some i
+least_from s t zero j i from to a none = absurd (omega (arith, from, to))
+least_from s t (suc k) j i from to a none = elim (cases_lt j i) [
+  | inl before ↦
+      cond-false _ _ _ (none j (omega arith) before)
+      ∙ least_from s t k (j + 1) i (omega (arith, before)) (omega (arith, to)) a (λ l low less. none l (omega (arith, low)) less)
+  | inr past ↦
+      let e : j ≡ i = omega (arith, past, from) in
+      cond-true _ _ _ (ap (λ x. is_ahead (held s x) (held t x)) e ∙ a) ∙ ap (λ x. Some x) e
+]
+
+is_least : (s t : Store) (i : ℕ) → 1 ≤ i → i ≤ frame_images → is_ahead (held s i) (held t i) ≡ true → ((j : ℕ) → 1 ≤ j → j < i → is_ahead (held s j) (held t j) ≡ false) → least_ahead s t ≡ Some i
 unfolding least_ahead
-pub_least s t zero from to a none = absurd (omega arith)
-pub_least s t (suc zero) from to a none = λ k. cond (a k) (Some 1) (cond (is_ahead (held s 2) (held t 2)) (Some 2) (cond (is_ahead (held s 3) (held t 3)) (Some 3) None))
-pub_least s t (suc (suc zero)) from to a none = λ k. cond (none 1 (omega arith) (omega arith) k) (Some 1) (cond (a k) (Some 2) (cond (is_ahead (held s 3) (held t 3)) (Some 3) None))
-pub_least s t (suc (suc (suc zero))) from to a none = λ k. cond (none 1 (omega arith) (omega arith) k) (Some 1) (cond (none 2 (omega arith) (omega arith) k) (Some 2) (cond (a k) (Some 3) None))
-pub_least s t (suc (suc (suc (suc n)))) from to a none = absurd (omega arith)
+is_least s t i from to a none = least_from s t frame_images 1 i from (omega (arith, to)) a none
 
 raised_count : (o : Option Held) (ahead g : Held) (v : ℕ) → ahead.version ≡ v → RaisedFrom o ahead g → count o v + 1 ≤ count (Some g) v
 raised_count None ahead g v e r = omega (arith, r.1, ap (λ c. cond c (length g.complete) 0) (eq-eqb g.version v (r.0 ∙ e)))
@@ -130,7 +139,7 @@ raises free law row w v a b good below link on_a on_b run room_a room_b = elim (
       let agrees_a = store_agrees w a good ends.0 in
       let agrees_b = store_agrees w b good ends.1 in
       let ahead = more_ahead (held (store_at w a) i) (held (store_at w b) i) row.version (bounded_by w.table i (held (store_at w b) i) row below.newest_is (agrees_b.kept i)) more in
-      let least = pub_least (store_at w a) (store_at w b) i below.from below.to ahead.0 (λ j from less. smaller j from less (newest w.table j) refl ends.0 ends.1) in
+      let least = is_least (store_at w a) (store_at w b) i below.from below.to ahead.0 (λ j from less. smaller j from less (newest w.table j) refl ends.0 ends.1) in
       let r = (law w v a b i good link on_a on_b run room_a room_b least).0 in
       let twice : Some r.ahead ≡ Some ahead.1.0 = sym r.held_there ∙ ahead.1.1 in
       let same : r.ahead ≡ ahead.1.0 = cc in

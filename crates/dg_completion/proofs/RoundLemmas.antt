@@ -1,9 +1,9 @@
 -- A round brings the mote that is behind one page.
-use Rattle.std.proofs.Common.{◌≡◌, ◌≢◌, ℕ, zero, suc, ◌+◌, ◌*◌, ◌<◌, ◌≤◌, Bool, true, false, ◌&&◌, ◌||◌, cond, eqb, leb, ltb, List, [], ◌∷◌, ◌++◌, length, map, replicate, get_or, Option, Some, None, option_map, IfSome, Result, Ok, refl, sym, ap, subst, ◌∙◌, inl, inr, arith}
-use Rattle.std.specs.List.{AllByRecursion, range_with_len, list_any}
+use Rattle.std.proofs.Common.{◌≡◌, ◌≢◌, ℕ, zero, suc, ◌+◌, ◌-◌, ◌*◌, ◌<◌, ◌≤◌, Bool, true, false, ◌&&◌, ◌||◌, cond, eqb, leb, ltb, List, [], ◌∷◌, ◌++◌, length, map, replicate, get_or, Option, Some, None, option_map, IfSome, Result, Ok, refl, sym, ap, subst, ◌∙◌, inl, inr, arith}
+use Rattle.std.specs.List.{AllByRecursion, range_with_len, list_any, find}
 use Rattle.std.proofs.lemmas.Bool.{eq-eqb, ne_eqb, cases_eq, or_cases, or_right}
 use Rattle.std.proofs.lemmas.List.{length-append, get_or-set_same, get_or-set_other, get_or-take}
-use Rattle.std.proofs.lemmas.List.FromFn.{length-map-range_with_len}
+use Rattle.std.proofs.lemmas.List.FromFn.{length-map-range_with_len, get_or-map-range_with_len}
 use Rattle.dg_nor.specs.Trail.{last}
 use Rattle.dg_bits.specs.Sets.{below}
 use Rattle.dg_object.specs.Object.{Row, object, profile}
@@ -18,7 +18,8 @@ use Rattle.dg_frame.specs.declared.Message.TheVariants.{Request}
 use Rattle.dg_frame.specs.Spelling.{frame_of}
 use Rattle.dg_frame.specs.Grammar.{message_of}
 use Rattle.dg_mote.specs.Model.{maintains}
-use Rattle.dg_mote.specs.Summary.{advert_of, entries_of, ahead_in, entry_by, ahead_of}
+use Rattle.dg_mote.specs.Summary.{advert_of, entries_of, ahead_in, entry_by, ahead_of, entry_for, no_entry}
+use Rattle.dg_frame.specs.Sizes.{frame_images}
 use Rattle.dg_mote.specs.Hears.{heard_of, by_message}
 use Rattle.dg_mote.specs.Effects.{silent, frame_effect}
 use Rattle.dg_mote.specs.Agreement.{ReceivesRow, ModeAgrees}
@@ -157,15 +158,27 @@ same_ahead table i (Some h) (Some g) a b = elim (cases_eq h.version g.version) [
       (ne_eqb g.version h.version (λ e. other (sym e)) ∙ sym (λ k. (ne_eqb h.version g.version other k && eqb h.pages g.pages) && eqb h.crc g.crc))
 ]
 
+-- one test finds what another finds that is the same at each of the numbers
+find_same : (f g : ℕ → Bool) (k j : ℕ) → ((i : ℕ) → j ≤ i → i < j + k → f i ≡ g i) → find f (range_with_len j k) ≡ find g (range_with_len j k)
+find_same f g zero j same = refl
+find_same f g (suc k) j same =
+    let here = same j (omega arith) (omega arith) in
+    let others = find_same f g k (j + 1) (λ i low less. same i (omega (arith, low)) (omega (arith, less))) in
+    λ l. cond (here l) (Some j) (others l)
+
+own_entry : (s : Store) (i : ℕ) → 1 ≤ i → i < 1 + frame_images → entry_for (entries_of s) i ≡ entry_by (held s i)
+own_entry s i from to = get_or-map-range_with_len (λ j. entry_by (held s j)) 1 frame_images (i - 1) i no_entry (omega (arith, from, to)) (omega (arith, from))
+
 same_least : (table : List Row) (s t : Store) → Agrees table s → Agrees table t → least_ahead s t ≡ ahead_in (entries_of s) t
 unfolding least_ahead ahead_in
 same_least table s t a b =
-    let one : (i : ℕ) → is_ahead (held s i) (held t i) ≡ ahead_of (entry_by (held s i)) (held t i) = λ i. same_ahead table i (held s i) (held t i) (a.kept i) (b.kept i) in
-    λ k. cond (one 1 k) (Some 1) (cond (one 2 k) (Some 2) (cond (one 3 k) (Some 3) None))
+    find_same (λ i. is_ahead (held s i) (held t i)) (λ i. ahead_of (entry_for (entries_of s) i) (held t i)) frame_images 1
+    (λ i from to. same_ahead table i (held s i) (held t i) (a.kept i) (b.kept i) ∙ ap (λ e. ahead_of e (held t i)) (sym (own_entry s i from to)))
 
 least_same : (s t s2 t2 : Store) → ((i : ℕ) → held s2 i ≡ held s i) → ((i : ℕ) → held t2 i ≡ held t i) → least_ahead s2 t2 ≡ least_ahead s t
 unfolding least_ahead
-least_same s t s2 t2 a b = λ k. cond (is_ahead (a 1 k) (b 1 k)) (Some 1) (cond (is_ahead (a 2 k) (b 2 k)) (Some 2) (cond (is_ahead (a 3 k) (b 3 k)) (Some 3) None))
+least_same s t s2 t2 a b =
+    find_same (λ i. is_ahead (held s2 i) (held t2 i)) (λ i. is_ahead (held s i) (held t i)) frame_images 1 (λ i from to k. is_ahead (a i k) (b i k))
 
 raised : (o : Option Held) (ahead kept : Held) (page : List ℕ) → kept.version ≡ ahead.version → KeepsNext o ahead kept → RaisedFrom o ahead (with_page kept page)
 raised None ahead kept page v n = (v, length-append kept.complete (page ∷ []) ∙ ap (λ (c : List (List ℕ)). length c + 1) n.complete)
