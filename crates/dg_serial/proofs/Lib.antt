@@ -1,0 +1,4 @@
+pub mod CutLemmas
+pub mod StuffLemmas
+pub mod ReadLemmas
+pub mod BreakLemmas

@@ -1,0 +1,134 @@
+-- Frames on a line of bytes, and the items of a stream.
+use Rattle.std.specs.Prelude.{◌≡◌, ◌≢◌, ◌⊎◌, ℕ, ◌==◌, ◌&&◌, ◌||◌, ◌≤◌, not, nat_lt, Bool, true, false, if◌then◌else◌, List, [], ◌∷◌, ◌++◌, length}
+use Rattle.std.specs.List.{flat_map, AllByRecursion}
+use Rattle.dg_base.specs.declared.events.TheConstants.{LONGEST_FRAME}
+use Rattle.dg_serial.specs.declared.TheConstants.{FLAG, ESCAPE, ESCAPED_FLAG, ESCAPED_ESCAPE}
+
+-- ---- stuffing
+
+-- a byte as it stands on the line
+abbrev pub stuffed_byte : ℕ → List ℕ
+stuffed_byte b =
+    if b == FLAG then ESCAPE ∷ ESCAPED_FLAG ∷ [] else (if b == ESCAPE then ESCAPE ∷ ESCAPED_ESCAPE ∷ [] else b ∷ [])
+
+-- bytes as they stand on the line
+abbrev pub escaped : List ℕ → List ℕ
+escaped bytes = flat_map stuffed_byte bytes
+
+-- a frame as it stands on the line: a flag ends it
+unfoldable pub stuffed : List ℕ → List ℕ
+stuffed bytes = escaped bytes ++ FLAG ∷ []
+
+-- frames one behind the other
+abbrev pub line_of : List (List ℕ) → List ℕ
+line_of frames = flat_map stuffed frames
+
+-- what may be a frame on the line
+pub record IsOnLine (bytes : List ℕ) : Type 0 where
+  pub some : bytes ≢ []
+  pub most : length bytes ≤ LONGEST_FRAME
+
+-- ---- a stream is cut at its flags
+
+-- the pieces that flags end, and what follows the last flag
+pub record Cut : Type 0 where
+  pub pieces : List (List ℕ)
+  pub rest : List ℕ
+
+abbrev pub onto_first : ℕ → List (List ℕ) → List ℕ → Cut
+onto_first b [] rest = record { pieces = []; rest = b ∷ rest }
+onto_first b (piece ∷ pieces) rest = record { pieces = (b ∷ piece) ∷ pieces; rest = rest }
+
+abbrev pub cut_behind : ℕ → Cut → Cut
+cut_behind b c = if b == FLAG then record { pieces = [] ∷ c.pieces; rest = c.rest } else onto_first b c.pieces c.rest
+
+unfoldable pub cut_of : List ℕ → Cut
+cut_of [] = record { pieces = []; rest = [] }
+cut_of (b ∷ bs) = cut_behind b (cut_of bs)
+
+abbrev pub pieces_of : List ℕ → List (List ℕ)
+pieces_of stream = (cut_of stream).pieces
+
+abbrev pub rest_of : List ℕ → List ℕ
+rest_of stream = (cut_of stream).rest
+
+abbrev pub HasNoFlag : List ℕ → Type 0
+HasNoFlag bytes = AllByRecursion (λ b. b ≢ FLAG) bytes
+
+-- pieces, each with its flag
+abbrev pub flagged : List (List ℕ) → List ℕ
+flagged pieces = flat_map (λ piece. piece ++ FLAG ∷ []) pieces
+
+-- The stream is these pieces, each ended by a flag, and a rest. There is no other flag.
+pub record IsCut (stream : List ℕ) (c : Cut) : Type 0 where
+  pub whole : stream ≡ flagged c.pieces ++ c.rest
+  pub pieces : AllByRecursion HasNoFlag c.pieces
+  pub rest : HasNoFlag c.rest
+
+-- ---- the item of a piece
+
+-- what follows an escape for the flag or the escape
+abbrev pub is_second : ℕ → Bool
+is_second b = (b == ESCAPED_FLAG) || (b == ESCAPED_ESCAPE)
+
+-- Some escape is followed by another byte than these. It is said whether an escape stands before the bytes.
+unfoldable pub is_broken_after : Bool → List ℕ → Bool
+is_broken_after escapes [] = false
+is_broken_after escapes (b ∷ bs) = (escapes && not (is_second b)) || is_broken_after (b == ESCAPE) bs
+
+-- the last byte escapes what would follow
+unfoldable pub ends_escaping : Bool → List ℕ → Bool
+ends_escaping escapes [] = escapes
+ends_escaping escapes (b ∷ bs) = ends_escaping (b == ESCAPE) bs
+
+-- some escape isn't followed, within the piece, by one of the two
+abbrev pub is_broken : List ℕ → Bool
+is_broken piece = is_broken_after false piece || ends_escaping false piece
+
+-- the first of the bytes is one of the two
+abbrev pub BeginsWithSecond : List ℕ → Type 0
+BeginsWithSecond [] = ⊥
+BeginsWithSecond (b ∷ bs) = (b ≡ ESCAPED_FLAG) ⊎ (b ≡ ESCAPED_ESCAPE)
+
+-- an escape of the piece is not followed, within it, by one of the two
+pub record HasLoneEscape (piece : List ℕ) : Type 0 where
+  pub front : List ℕ
+  pub back : List ℕ
+  pub stands : piece ≡ front ++ ESCAPE ∷ back
+  pub alone : BeginsWithSecond back → ⊥
+
+-- the byte for which this one stands behind an escape
+abbrev pub plain : ℕ → ℕ
+plain b = if b == ESCAPED_FLAG then FLAG else (if b == ESCAPED_ESCAPE then ESCAPE else b)
+
+-- the bytes for which those of a piece stand
+unfoldable pub unstuffed_after : Bool → List ℕ → List ℕ
+unstuffed_after escapes [] = []
+unstuffed_after escapes (b ∷ bs) =
+    if b == ESCAPE then unstuffed_after true bs else (if escapes then plain b else b) ∷ unstuffed_after false bs
+
+abbrev pub unstuffed : List ℕ → List ℕ
+unstuffed piece = unstuffed_after false piece
+
+pub data Item : Type 0 where
+  Frame : (bytes : List ℕ) → Item
+  Escape : Item
+  Long : Item
+
+abbrev pub item_in : List ℕ → Item
+item_in piece =
+    if is_broken piece then Escape else (if nat_lt LONGEST_FRAME (length (unstuffed piece)) then Long else Frame (unstuffed piece))
+
+-- an empty piece gives nothing, and another one gives one item
+abbrev pub item_of : List ℕ → List Item
+item_of [] = []
+item_of (b ∷ bs) = item_in (b ∷ bs) ∷ []
+
+-- the items of a stream. Its rest gives none
+unfoldable pub items : List ℕ → List Item
+items stream = flat_map item_of (pieces_of stream)
+
+-- the stream is made of pieces that aren't empty, and has no rest
+pub record IsWhole (stream : List ℕ) : Type 0 where
+  pub pieces : AllByRecursion (λ piece. piece ≢ []) (pieces_of stream)
+  pub ended : rest_of stream ≡ []

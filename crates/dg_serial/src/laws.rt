@@ -1,0 +1,21 @@
+//! What holds of streams.
+ghost use Rattle.std.specs.Prelude.{◌≡◌, ◌↔◌, ◌++◌, ℕ, true, List, map};
+ghost use Rattle.std.specs.List.{AllByRecursion};
+ghost use Rattle.dg_serial.specs.Line.{IsOnLine, IsWhole, IsCut, Cut, HasLoneEscape, cut_of, is_broken, line_of, items, Frame};
+
+/// A stream is its pieces, each ended by a flag, and a rest, in one way.
+pub fn streams_are_cut()
+    ensures cut { (stream : List ℕ) → IsCut stream (cut_of stream) }
+    ensures only { (stream : List ℕ) (other : Cut) → IsCut stream other → other ≡ cut_of stream }
+{}
+
+/// A piece is broken exactly where an escape in it is not followed, within it, by one of the two bytes that may follow.
+pub fn broken_pieces_have_a_lone_escape()
+    ensures { (piece : List ℕ) → (is_broken piece ≡ true) ↔ HasLoneEscape piece }
+{}
+
+/// Frames come back from their stuffed forms, and no other stream without empty pieces and without a rest gives them.
+pub fn frames_come_back()
+    ensures read { (frames : List (List ℕ)) → AllByRecursion IsOnLine frames → items (line_of frames) ≡ map Frame frames }
+    ensures only { (stream : List ℕ) (frames : List (List ℕ)) → IsWhole stream → items stream ≡ map Frame frames → stream ≡ line_of frames }
+{}

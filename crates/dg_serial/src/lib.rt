@@ -1,0 +1,28 @@
+//! Frames on a serial line: how they are stuffed, and how a stream of bytes is read as frames.
+//!
+//! The bytes 7e and 7d are told apart from a frame's own by the control escape of RFC 1662, section 4.2: the byte 7d, and
+//! then the byte with its sixth bit turned. The byte 7e ends a frame.
+#![tactic(auto)]
+
+mod laws;
+mod stuffing;
+mod unstuffing;
+
+pub use laws::{broken_pieces_have_a_lone_escape, frames_come_back, streams_are_cut};
+pub use stuffing::stuff;
+pub use unstuffing::{Fed, Unstuff};
+
+/// The byte that ends a frame: the flag sequence.
+pub const FLAG: u8 = 0x7E;
+
+/// The byte that escapes the next: the control escape.
+pub const ESCAPE: u8 = 0x7D;
+
+/// What stands behind an escape for the flag.
+pub const ESCAPED_FLAG: u8 = 0x5E;
+
+/// What stands behind an escape for the escape itself.
+pub const ESCAPED_ESCAPE: u8 = 0x5D;
+
+#[cfg(test)]
+mod tests;
