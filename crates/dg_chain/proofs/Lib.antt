@@ -1,0 +1,5 @@
+pub mod WalkLemmas
+pub mod WrapLemmas
+pub mod StepLemmas
+pub mod SealLemmas
+pub mod ReceiveLemmas

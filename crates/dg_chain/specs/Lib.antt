@@ -1,0 +1,4 @@
+pub mod Chain
+pub mod Checking
+pub mod Answers
+pub mod Receiving
