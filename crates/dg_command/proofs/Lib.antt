@@ -1,0 +1,7 @@
+pub mod AppLemmas
+pub mod AskLemmas
+pub mod FitLemmas
+pub mod KindLemmas
+pub mod LawLemmas
+pub mod RangeLemmas
+pub mod ReadLemmas

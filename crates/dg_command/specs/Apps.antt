@@ -1,0 +1,63 @@
+-- The commands of `clap`, one for each verb, and the one for words without a verb.
+use Rattle.std.specs.Prelude.{ℕ, true, List, [], ◌∷◌, Option, Some, None, codes, pos}
+use Rattle.clap.specs.Words.{App, Rule, Text, new_rule}
+use Rattle.clap.specs.Simple.{new_shape}
+use Rattle.clap.specs.declared.builder.action.ArgAction.TheVariants.{Set, Append}
+use Rattle.clap.specs.declared.builder.value_parser.ValueParser.TheVariants as vp
+use Rattle.dg_command.specs.Verbs.{word_of}
+use Rattle.dg_command.specs.declared.ranges.TheConstants.{LAST_IMAGE, MOST_TURNS, MOST_USED, LEAST_MOTES, MOST_MOTES, LEAST_PAGES, MOST_PAGES}
+use Rattle.dg_command.specs.declared.verbs.Verb.{Verb}
+use Rattle.dg_command.specs.declared.verbs.Verb.TheVariants.{Replay, Serve, Format, Inject, Order, Boot, Ping, Dump, Trial}
+
+-- the largest number of 32 bits
+abbrev pub most_number : ℕ
+most_number = 4294967295
+
+-- an option that must be there, whose value is a number within bounds
+abbrev pub number_option : Text → (low high : ℕ) → Rule
+number_option name low high = record (new_rule name) { long = Some name; required = true; action = Some Set; parser = Some (vp.Signed (pos low) (pos high)) }
+
+-- an option that must be there, whose value is a text
+abbrev pub text_option : Text → Rule
+text_option name = record (new_rule name) { long = Some name; required = true; action = Some Set }
+
+-- an image, a version and a seed
+abbrev pub image_option : Rule
+image_option = number_option (codes "image") 0 LAST_IMAGE
+
+abbrev pub version_option : Rule
+version_option = number_option (codes "ver") 1 most_number
+
+abbrev pub seed_option : Rule
+seed_option = number_option (codes "seed") 0 most_number
+
+-- the file of a chip, and any number of them
+abbrev pub flash_word : Rule
+flash_word = record (new_rule (codes "FLASH")) { required = true; action = Some Set }
+
+abbrev pub flash_words : Rule
+flash_words = record (new_rule (codes "FLASH")) { action = Some Append }
+
+-- what the words behind a verb may be
+abbrev pub rules_of : Verb → List Rule
+rules_of Replay = flash_words ∷ []
+rules_of Serve = number_option (codes "turns") 1 MOST_TURNS ∷ seed_option ∷ flash_words ∷ []
+rules_of Format = text_option (codes "name") ∷ number_option (codes "used") 0 MOST_USED ∷ flash_word ∷ []
+rules_of Inject = image_option ∷ version_option ∷ text_option (codes "name") ∷ flash_word ∷ []
+rules_of Order = number_option (codes "number") 1 most_number ∷ image_option ∷ version_option ∷ flash_word ∷ []
+rules_of Boot = flash_word ∷ []
+rules_of Ping = flash_word ∷ []
+rules_of Dump = image_option ∷ flash_word ∷ []
+rules_of Trial =
+    number_option (codes "motes") LEAST_MOTES MOST_MOTES ∷ number_option (codes "pages") LEAST_PAGES MOST_PAGES ∷ seed_option ∷ []
+
+-- a command of a verb, and one for words without a verb, which has help and a version and takes no word
+unfoldable pub app_of_verb : Verb → App
+app_of_verb verb = record { top = record (new_shape (word_of verb)) { rules = rules_of verb }; subs = [] }
+
+unfoldable pub top_app : App
+top_app = record { top = record (new_shape (codes "deluge")) { no_binary_name = true; has_version = true }; subs = [] }
+
+abbrev pub app_for : Option Verb → App
+app_for (Some verb) = app_of_verb verb
+app_for None = top_app

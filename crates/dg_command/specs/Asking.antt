@@ -1,0 +1,114 @@
+-- What words ask for.
+use Rattle.std.specs.Prelude.{ℕ, Bool, true, if◌then◌else◌, List, [], ◌∷◌, map, Option, Some, None, codes, string_bytes}
+use Rattle.dg_base.specs.Texts.{spells_name}
+use Rattle.clap.specs.Words.{Kinds, Row, Text, fault_of, matches_of}
+use Rattle.clap.specs.declared.error.kind.ErrorKind.{ErrorKind}
+use Rattle.clap.specs.declared.error.kind.ErrorKind.TheVariants.{DisplayHelp, DisplayVersion}
+use Rattle.dg_command.specs.Apps.{app_for}
+use Rattle.dg_command.specs.Values.{number_at, text_at, texts_at}
+use Rattle.dg_command.specs.Verbs.{verb_in}
+use Rattle.dg_command.specs.declared.verbs.Verb.{Verb}
+use Rattle.dg_command.specs.declared.verbs.Verb.TheVariants as verb
+use Rattle.dg_command.specs.declared.command.Command.{Command}
+use Rattle.dg_command.specs.declared.command.Command.TheVariants as command
+use Rattle.dg_command.specs.declared.command.Asked.{Asked}
+use Rattle.dg_command.specs.declared.command.Asked.TheVariants as asked
+
+-- a command with its values
+pub data Said : Type 0 where
+  Replay : (flashes : List Text) → Said
+  Serve : (turns seed : ℕ) → (flashes : List Text) → Said
+  Format : (name : Text) → (used : ℕ) → (flash : Text) → Said
+  Inject : (image version : ℕ) → (name flash : Text) → Said
+  Order : (number image version : ℕ) → (flash : Text) → Said
+  Boot : (flash : Text) → Said
+  Ping : (flash : Text) → Said
+  Dump : (image : ℕ) → (flash : Text) → Said
+  Trial : (motes pages seed : ℕ) → Said
+
+-- a command, a text of help, or neither
+pub data Asking : Type 0 where
+  Asks : Said → Asking
+  Helps : Asking
+  Misuses : Asking
+
+-- ---- what the code's values say
+
+abbrev pub said_by : Command → Said
+said_by (command.Replay flashes) = Replay (map string_bytes flashes.items)
+said_by (command.Serve turns seed flashes) = Serve turns seed (map string_bytes flashes.items)
+said_by (command.Format name used flash) = Format (string_bytes name) used (string_bytes flash)
+said_by (command.Inject image version name flash) = Inject image version (string_bytes name) (string_bytes flash)
+said_by (command.Order number image version flash) = Order number image version (string_bytes flash)
+said_by (command.Boot flash) = Boot (string_bytes flash)
+said_by (command.Ping flash) = Ping (string_bytes flash)
+said_by (command.Dump image flash) = Dump image (string_bytes flash)
+said_by (command.Trial motes pages seed) = Trial motes pages seed
+
+abbrev pub asking : Asked → Asking
+asking (asked.Command c) = Asks (said_by c)
+asking (asked.Help text) = Helps
+asking asked.Usage = Misuses
+
+-- ---- what words say
+
+-- the values that `clap` read for a verb
+abbrev pub said_at : Verb → List Row → Said
+said_at verb.Replay rows = Replay (texts_at (codes "FLASH") rows)
+said_at verb.Serve rows = Serve (number_at 32 (codes "turns") rows) (number_at 32 (codes "seed") rows) (texts_at (codes "FLASH") rows)
+said_at verb.Format rows = Format (text_at (codes "name") rows) (number_at 32 (codes "used") rows) (text_at (codes "FLASH") rows)
+said_at verb.Inject rows = Inject (number_at 8 (codes "image") rows) (number_at 32 (codes "ver") rows) (text_at (codes "name") rows) (text_at (codes "FLASH") rows)
+said_at verb.Order rows = Order (number_at 32 (codes "number") rows) (number_at 8 (codes "image") rows) (number_at 32 (codes "ver") rows) (text_at (codes "FLASH") rows)
+said_at verb.Boot rows = Boot (text_at (codes "FLASH") rows)
+said_at verb.Ping rows = Ping (text_at (codes "FLASH") rows)
+said_at verb.Dump rows = Dump (number_at 8 (codes "image") rows) (text_at (codes "FLASH") rows)
+said_at verb.Trial rows = Trial (number_at 8 (codes "motes") rows) (number_at 8 (codes "pages") rows) (number_at 32 (codes "seed") rows)
+
+-- whether the name that a command gives an image is one
+abbrev pub has_name : Said → Bool
+has_name (Format name used flash) = spells_name name
+has_name (Inject image version name flash) = spells_name name
+has_name _ = true
+
+abbrev pub named : Said → Asking
+named said = if has_name said then Asks said else Misuses
+
+-- words that `clap` takes: those of a verb are its command, unless the name is none
+abbrev pub taken_by : Option Verb → List Row → Asking
+taken_by (Some verb) rows = named (said_at verb rows)
+taken_by None rows = Misuses
+
+-- words that it refuses, by the kind of the refusal
+abbrev pub refused_by : ErrorKind → Asking
+refused_by DisplayHelp = Helps
+refused_by DisplayVersion = Helps
+refused_by _ = Misuses
+
+abbrev pub by_fault : Kinds → Asking → Asking
+by_fault [] taken = taken
+by_fault (kind ∷ kinds) taken = refused_by kind
+
+abbrev pub answer_for : Option Verb → List Text → Asking
+answer_for verb words = by_fault (fault_of (app_for verb) words) (taken_by verb (matches_of (app_for verb) words))
+
+-- what words ask for
+unfoldable pub asked_of : List Text → Asking
+asked_of words = answer_for (verb_in words) words
+
+-- ---- the files that they name
+
+abbrev pub flashes_said : Said → List Text
+flashes_said (Replay flashes) = flashes
+flashes_said (Serve turns seed flashes) = flashes
+flashes_said (Format name used flash) = flash ∷ []
+flashes_said (Inject image version name flash) = flash ∷ []
+flashes_said (Order number image version flash) = flash ∷ []
+flashes_said (Boot flash) = flash ∷ []
+flashes_said (Ping flash) = flash ∷ []
+flashes_said (Dump image flash) = flash ∷ []
+flashes_said (Trial motes pages seed) = []
+
+abbrev pub flashes_of : Asking → List Text
+flashes_of (Asks said) = flashes_said said
+flashes_of Helps = []
+flashes_of Misuses = []

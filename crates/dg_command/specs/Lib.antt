@@ -1,0 +1,6 @@
+pub mod Apps
+pub mod Asking
+pub mod Bounds
+pub mod Laws
+pub mod Values
+pub mod Verbs

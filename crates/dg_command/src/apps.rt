@@ -1,0 +1,213 @@
+//! The commands of `clap`, one for each verb, and the one for words without a verb.
+ghost use Rattle.std.specs.Prelude.{◌≡◌, false, IfOk, map, Some};
+ghost use Rattle.clap.specs.Words.{app_of, rule_of};
+ghost use Rattle.dg_command.specs.Apps.{app_for, app_of_verb, flash_word, flash_words, image_option, number_option, rules_of, seed_option, text_option, top_app, version_option};
+
+use crate::ranges::{
+    LAST_IMAGE, LEAST_MOTES, LEAST_PAGES, MOST_MOTES, MOST_PAGES, MOST_TURNS, MOST_USED,
+};
+use crate::verbs::Verb;
+use clap::{Arg, ArgAction, Command, value_parser};
+use std::alloc::{AllocError, Global};
+
+const VERSION: &str = "1.0";
+
+const VERBS: &str = "Commands:
+  replay [FLASH]..                                        replay a script over boards
+  serve --turns T --seed S [FLASH]..                      run the motes of a profile
+  format --name NAME --used U FLASH                       make a chip with a golden image
+  inject --image I --ver V --name NAME FLASH              put an image into a chip
+  order --number K --image I --ver V FLASH                keep an order in a chip
+  boot FLASH                                              start a chip
+  ping FLASH                                              tell what a chip keeps
+  dump --image I FLASH                                    write an image of a chip
+  trial --motes N --pages P --seed S                      replay a schedule that a seed makes";
+
+/// An option that must be there, whose value is a number within bounds.
+fn number<'a>(alloc: Global, name: &'a str, help: &'a str, low: u32, high: u32) -> Arg<'a>
+    ensures { rule_of result ≡ number_option name.entry.now low high }
+{
+    Arg::new(alloc, name)
+        .long(name)
+        .help(help)
+        .required(true)
+        .action(ArgAction::Set)
+        .value_parser(value_parser!(u32).range(i64::from(low)..=i64::from(high)))
+}
+
+/// An option that must be there, whose value is a text.
+fn text<'a>(alloc: Global, name: &'a str, help: &'a str) -> Arg<'a>
+    ensures { rule_of result ≡ text_option name.entry.now }
+{
+    Arg::new(alloc, name)
+        .long(name)
+        .help(help)
+        .required(true)
+        .action(ArgAction::Set)
+}
+
+/// The file of a chip.
+fn flash<'a>(alloc: Global) -> Arg<'a>
+    ensures { rule_of result ≡ flash_word }
+{
+    Arg::new(alloc, "FLASH")
+        .help("The file of the chip")
+        .required(true)
+        .action(ArgAction::Set)
+}
+
+/// Files of chips, any number of them.
+fn flashes<'a>(alloc: Global) -> Arg<'a>
+    ensures { rule_of result ≡ flash_words }
+{
+    Arg::new(alloc, "FLASH")
+        .help("The files of the chips; without any they are kept in memory")
+        .action(ArgAction::Append)
+}
+
+/// The number of an image.
+fn image<'a>(alloc: Global) -> Arg<'a>
+    ensures { rule_of result ≡ image_option }
+{
+    number(alloc, "image", "The image", 0, u32::from(LAST_IMAGE))
+}
+
+/// A version.
+fn version<'a>(alloc: Global) -> Arg<'a>
+    ensures { rule_of result ≡ version_option }
+{
+    number(alloc, "ver", "The version", 1, u32::MAX)
+}
+
+/// A seed.
+fn seed<'a>(alloc: Global) -> Arg<'a>
+    ensures { rule_of result ≡ seed_option }
+{
+    number(
+        alloc,
+        "seed",
+        "The seed of the words that are drawn",
+        0,
+        u32::MAX,
+    )
+}
+
+/// What the words behind a verb may be.
+fn arguments<'a>(alloc: Global, verb: Verb) -> Result<Vec<Arg<'a>>, AllocError>
+    ensures { IfOk result (λ v. map rule_of v.items ≡ rules_of verb) }
+{
+    match verb {
+        Verb::Replay => Ok(vec![in alloc; flashes(alloc)]?),
+        Verb::Serve => serve_arguments(alloc),
+        Verb::Format => format_arguments(alloc),
+        Verb::Inject => inject_arguments(alloc),
+        Verb::Order => order_arguments(alloc),
+        Verb::Boot | Verb::Ping => Ok(vec![in alloc; flash(alloc)]?),
+        Verb::Dump => Ok(vec![in alloc; image(alloc), flash(alloc)]?),
+        Verb::Trial => trial_arguments(alloc),
+    }
+}
+
+fn serve_arguments<'a>(alloc: Global) -> Result<Vec<Arg<'a>>, AllocError>
+    ensures { IfOk result (λ v. map rule_of v.items ≡ rules_of Verb.Serve) }
+{
+    let turns = number(alloc, "turns", "How many turns it takes", 1, MOST_TURNS);
+    Ok(vec![in alloc; turns, seed(alloc), flashes(alloc)]?)
+}
+
+fn format_arguments<'a>(alloc: Global) -> Result<Vec<Arg<'a>>, AllocError>
+    ensures { IfOk result (λ v. map rule_of v.items ≡ rules_of Verb.Format) }
+{
+    let name = text(alloc, "name", "The name of the golden image");
+    let used = number(
+        alloc,
+        "used",
+        "The commits that are told as spent",
+        0,
+        MOST_USED,
+    );
+    Ok(vec![in alloc; name, used, flash(alloc)]?)
+}
+
+fn inject_arguments<'a>(alloc: Global) -> Result<Vec<Arg<'a>>, AllocError>
+    ensures { IfOk result (λ v. map rule_of v.items ≡ rules_of Verb.Inject) }
+{
+    let name = text(alloc, "name", "The name of the image");
+    Ok(vec![in alloc; image(alloc), version(alloc), name, flash(alloc)]?)
+}
+
+fn order_arguments<'a>(alloc: Global) -> Result<Vec<Arg<'a>>, AllocError>
+    ensures { IfOk result (λ v. map rule_of v.items ≡ rules_of Verb.Order) }
+{
+    let order = number(alloc, "number", "The number of the order", 1, u32::MAX);
+    Ok(vec![in alloc; order, image(alloc), version(alloc), flash(alloc)]?)
+}
+
+fn trial_arguments<'a>(alloc: Global) -> Result<Vec<Arg<'a>>, AllocError>
+    ensures { IfOk result (λ v. map rule_of v.items ≡ rules_of Verb.Trial) }
+{
+    let motes = number(
+        alloc,
+        "motes",
+        "How many motes there are",
+        u32::from(LEAST_MOTES),
+        u32::from(MOST_MOTES),
+    );
+    let pages = number(
+        alloc,
+        "pages",
+        "How many pages the image has",
+        u32::from(LEAST_PAGES),
+        u32::from(MOST_PAGES),
+    );
+    Ok(vec![in alloc; motes, pages, seed(alloc)]?)
+}
+
+/// What a verb does, and how the program is called for it.
+fn description<'a>(verb: Verb) -> (&'a str, &'a str) {
+    match verb {
+        Verb::Replay => ("deluge replay", "Replays a script over boards"),
+        Verb::Serve => ("deluge serve", "Runs the motes of a profile"),
+        Verb::Format => ("deluge format", "Makes a chip with a golden image"),
+        Verb::Inject => ("deluge inject", "Puts an image into a chip"),
+        Verb::Order => ("deluge order", "Keeps an order in a chip"),
+        Verb::Boot => ("deluge boot", "Starts a chip, as a power-on does"),
+        Verb::Ping => ("deluge ping", "Tells what a chip keeps"),
+        Verb::Dump => ("deluge dump", "Writes an image of a chip as Intel HEX"),
+        Verb::Trial => ("deluge trial", "Replays a schedule that a seed makes"),
+    }
+}
+
+/// The command of a verb.
+fn verb_command<'a>(alloc: Global, verb: Verb) -> Result<Command<'a>, AllocError>
+    ensures { IfOk result (λ c. app_of c ≡ app_of_verb verb) }
+{
+    let (called, does) = description(verb);
+    let arguments = arguments(alloc, verb)?;
+    let command = Command::new(alloc, verb.word())
+        .about(does)
+        .bin_name(called)?;
+    command.args(arguments)
+}
+
+/// The command for words without a verb.
+fn top_command<'a>(alloc: Global) -> Command<'a>
+    ensures { app_of result ≡ top_app }
+{
+    Command::new(alloc, "deluge")
+        .about("Spreads images over motes, and keeps them on flash")
+        .override_usage("deluge COMMAND [OPTIONS] [FLASH]..")
+        .after_help(VERBS)
+        .version(VERSION)
+        .no_binary_name(true)
+}
+
+/// The command for words that begin with a verb, or with none.
+pub fn command_for<'a>(alloc: Global, verb: Option<Verb>) -> Result<Command<'a>, AllocError>
+    ensures { IfOk result (λ c. app_of c ≡ app_for verb) }
+{
+    match verb {
+        Some(verb) => verb_command(alloc, verb),
+        None => Ok(top_command(alloc)),
+    }
+}

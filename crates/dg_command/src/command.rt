@@ -1,0 +1,67 @@
+//! What words ask for.
+
+/// A command, with its values.
+#[derive(Debug, Drop)]
+pub enum Command {
+    /// Replays a script over boards.
+    Replay {
+        flashes: Vec<String>,
+    },
+    /// Runs motes for so many turns.
+    Serve {
+        turns: u32,
+        seed: u32,
+        flashes: Vec<String>,
+    },
+    /// Makes a chip with a golden image.
+    Format {
+        name: String,
+        /// The commits that are told as spent.
+        used: u32,
+        flash: String,
+    },
+    /// Puts an image into a chip.
+    Inject {
+        image: u8,
+        version: u32,
+        name: String,
+        flash: String,
+    },
+    /// Keeps an order in a chip.
+    Order {
+        number: u32,
+        image: u8,
+        version: u32,
+        flash: String,
+    },
+    /// Starts a chip.
+    Boot {
+        flash: String,
+    },
+    /// Tells what a chip keeps.
+    Ping {
+        flash: String,
+    },
+    /// Writes an image of a chip.
+    Dump {
+        image: u8,
+        flash: String,
+    },
+    /// Replays a schedule that a seed makes.
+    Trial {
+        motes: u8,
+        pages: u8,
+        seed: u32,
+    },
+}
+
+/// What words ask for.
+#[derive(Debug, Drop)]
+pub enum Asked {
+    /// A command.
+    Command(Command),
+    /// A text of help, or the version.
+    Help(String),
+    /// The words are none of these.
+    Usage,
+}

@@ -1,0 +1,68 @@
+//! What holds of the definitions alone. These functions do nothing: their contracts are the laws.
+ghost use Rattle.std.specs.Prelude.{◌≡◌, ◌≢◌, ℕ, true, List, [], ◌∷◌, codes, Some, None};
+ghost use Rattle.clap.specs.Words.{fault_of, matches_of};
+ghost use Rattle.dg_command.specs.Apps.{app_of_verb};
+ghost use Rattle.dg_command.specs.Asking.{Asking, Asks, Helps, Misuses, Said, asked_of, has_name, said_at};
+ghost use Rattle.dg_command.specs.Asking.{Replay, Serve, Format, Inject, Order, Boot, Ping, Dump, Trial};
+ghost use Rattle.dg_command.specs.Laws.{line};
+ghost use Rattle.dg_command.specs.Verbs.{verb_in};
+ghost use Rattle.dg_command.specs.declared.verbs.Verb.{Verb};
+
+/// A line for each verb, and what it asks for.
+pub fn lines_are_commands()
+    ensures replay { asked_of (line (codes "replay a b")) ≡ Asks (Replay (codes "a" ∷ codes "b" ∷ [])) }
+    ensures in_memory { asked_of (line (codes "replay")) ≡ Asks (Replay []) }
+    ensures serve { asked_of (line (codes "serve --turns 50 --seed 7 a")) ≡ Asks (Serve 50 7 (codes "a" ∷ [])) }
+    ensures format { asked_of (line (codes "format --name base --used 0 f")) ≡ Asks (Format (codes "base") 0 (codes "f")) }
+    ensures inject { asked_of (line (codes "inject --image 1 --ver 2 --name app f")) ≡ Asks (Inject 1 2 (codes "app") (codes "f")) }
+    ensures order { asked_of (line (codes "order --number 1 --image 1 --ver 1 f")) ≡ Asks (Order 1 1 1 (codes "f")) }
+    ensures boot { asked_of (line (codes "boot f")) ≡ Asks (Boot (codes "f")) }
+    ensures ping { asked_of (line (codes "ping f")) ≡ Asks (Ping (codes "f")) }
+    ensures dump { asked_of (line (codes "dump --image 3 f")) ≡ Asks (Dump 3 (codes "f")) }
+    ensures trial { asked_of (line (codes "trial --motes 16 --pages 65 --seed 0")) ≡ Asks (Trial 16 65 0) }
+{}
+
+/// Options may stand in any order, and behind the file, and may have their value behind `=`. A number
+/// may have a plus and leading zeros.
+pub fn forms_of_a_command()
+    ensures turned { asked_of (line (codes "order f --ver 1 --image 1 --number 1")) ≡ Asks (Order 1 1 1 (codes "f")) }
+    ensures attached { asked_of (line (codes "order --number=1 --image=1 --ver=1 f")) ≡ Asks (Order 1 1 1 (codes "f")) }
+    ensures plus { asked_of (line (codes "order --number +007 --image 1 --ver 1 f")) ≡ Asks (Order 7 1 1 (codes "f")) }
+
+    // Behind `--` each word is a file, whatever it is.
+    ensures any_file { (file : List ℕ) → asked_of (codes "boot" ∷ codes "--" ∷ file ∷ []) ≡ Asks (Boot file) }
+{}
+
+/// Help and the version are shown, and which comes first decides.
+pub fn help_is_shown()
+    ensures top { asked_of (line (codes "--help")) ≡ Helps }
+    ensures version { asked_of (line (codes "-V")) ≡ Helps }
+    ensures verb { asked_of (line (codes "order --help")) ≡ Helps }
+    ensures first { asked_of (line (codes "format --help --bogus")) ≡ Helps }
+    ensures late { asked_of (line (codes "format --bogus --help")) ≡ Misuses }
+{}
+
+/// Words that are misused.
+pub fn misused_words()
+    ensures no_word { asked_of [] ≡ Misuses }
+    ensures unknown { asked_of (line (codes "fly")) ≡ Misuses }
+    ensures missing { asked_of (line (codes "order --number 1 --image 1 --ver 1")) ≡ Misuses }
+    ensures twice { asked_of (line (codes "order --number 1 --number 1 --image 1 --ver 1 f")) ≡ Misuses }
+    ensures too_high { asked_of (line (codes "dump --image 4 f")) ≡ Misuses }
+    ensures too_low { asked_of (line (codes "order --number 0 --image 1 --ver 1 f")) ≡ Misuses }
+    ensures name { asked_of (line (codes "format --name a/b --used 0 f")) ≡ Misuses }
+{}
+
+/// Words are a command exactly where the first is a verb, that verb's command of `clap` takes them, and
+/// a name for an image is one. Its values are those that `clap` reads.
+pub fn what_a_command_is()
+    ensures verb { (words : List (List ℕ)) (said : Said) → verb_in words ≡ None → asked_of words ≢ Asks said }
+    ensures taken { (words : List (List ℕ)) (said : Said) (verb : Verb) → verb_in words ≡ Some verb → asked_of words ≡ Asks said
+        → fault_of (app_of_verb verb) words ≡ [] }
+    ensures values { (words : List (List ℕ)) (said : Said) (verb : Verb) → verb_in words ≡ Some verb → asked_of words ≡ Asks said
+        → said ≡ said_at verb (matches_of (app_of_verb verb) words) }
+    ensures name { (words : List (List ℕ)) (said : Said) → asked_of words ≡ Asks said → has_name said ≡ true }
+    ensures command { (words : List (List ℕ)) (verb : Verb) → verb_in words ≡ Some verb → fault_of (app_of_verb verb) words ≡ []
+        → has_name (said_at verb (matches_of (app_of_verb verb) words)) ≡ true
+        → asked_of words ≡ Asks (said_at verb (matches_of (app_of_verb verb) words)) }
+{}

@@ -1,0 +1,25 @@
+//! The words of the program: which command they are, with what values, and which flash files it names.
+//!
+//! Each verb has one `clap` command. What `clap` makes of words is a function of definitions, so a
+//! contract says exactly which words are a command.
+#![tactic(auto)]
+
+mod apps;
+mod command;
+mod laws;
+mod ranges;
+mod reading;
+mod values;
+mod verbs;
+
+pub use command::{Asked, Command};
+pub use laws::{
+    forms_of_a_command, help_is_shown, lines_are_commands, misused_words, what_a_command_is,
+};
+pub use ranges::{
+    LAST_IMAGE, LEAST_MOTES, LEAST_PAGES, MOST_MOTES, MOST_PAGES, MOST_TURNS, MOST_USED,
+};
+pub use reading::{asked, flash_names};
+
+#[cfg(test)]
+mod tests;

@@ -1,0 +1,183 @@
+//! What words ask for, and the flash files that they name.
+ghost use Rattle.std.specs.Prelude.{◌≡◌, ◌≢◌, [], ◌∷◌, IfOk, map, string_bytes, Some};
+ghost use Rattle.clap.specs.Words.{found_of, kind_of, rows_of};
+ghost use Rattle.dg_command.specs.Bounds.{FitsRanges};
+ghost use Rattle.dg_command.specs.Asking.{asked_of, asking, flashes_of, flashes_said, has_name, named, refused_by, said_at, said_by, taken_by};
+
+use crate::apps::command_for;
+use crate::command::{Asked, Command};
+use crate::values::{number, small_number, text, texts};
+use crate::verbs::Verb;
+use clap::error::ErrorKind;
+use clap::{ArgMatches, Error};
+use dg_base::is_name;
+use std::alloc::{AllocError, Global};
+
+/// What words ask for. The first word is the verb.
+pub fn asked(alloc: Global, words: &Vec<String>) -> Result<Asked, AllocError>
+    ensures answer { IfOk result (λ a. asking a ≡ asked_of (map string_bytes words.now.items)) }
+
+    // A command's numbers are in their ranges, and the name that it gives an image is one.
+    ensures fits { IfOk result (λ a. FitsRanges (asking a)) }
+{
+    let verb = Verb::among(words);
+    let command = command_for(alloc, verb)?;
+    let outcome = command.try_get_matches_from(words.as_slice());
+    match outcome {
+        Ok(matches) => taken(alloc, verb, &matches),
+        Err(error) => refused(alloc, &error),
+    }
+}
+
+/// The names of the flash files that words name, in their order. Words that are no command name none.
+pub fn flash_names(alloc: Global, words: &Vec<String>) -> Result<Vec<String>, AllocError>
+    ensures { IfOk result (λ names. map string_bytes names.items ≡ flashes_of (asked_of (map string_bytes words.now.items))) }
+{
+    match asked(alloc, words)? {
+        Asked::Command(command) => flashes(alloc, command),
+        Asked::Help(_text) => Ok(Vec::new(alloc)),
+        Asked::Usage => Ok(Vec::new(alloc)),
+    }
+}
+
+// The flash files of a command.
+fn flashes(alloc: Global, command: Command) -> Result<Vec<String>, AllocError>
+    ensures { IfOk result (λ names. map string_bytes names.items ≡ flashes_said (said_by command)) }
+{
+    match command {
+        Command::Replay { flashes } => Ok(flashes),
+        Command::Serve {
+            turns: _turns,
+            seed: _seed,
+            flashes,
+        } => Ok(flashes),
+        Command::Format {
+            name: _name,
+            used: _used,
+            flash,
+        } => one(alloc, flash),
+        Command::Inject {
+            image: _image,
+            version: _version,
+            name: _name,
+            flash,
+        } => one(alloc, flash),
+        Command::Order {
+            number: _number,
+            image: _image,
+            version: _version,
+            flash,
+        } => one(alloc, flash),
+        Command::Boot { flash } => one(alloc, flash),
+        Command::Ping { flash } => one(alloc, flash),
+        Command::Dump {
+            image: _image,
+            flash,
+        } => one(alloc, flash),
+        Command::Trial {
+            motes: _motes,
+            pages: _pages,
+            seed: _seed,
+        } => Ok(Vec::new(alloc)),
+    }
+}
+
+fn one(alloc: Global, flash: String) -> Result<Vec<String>, AllocError>
+    ensures { IfOk result (λ names. map string_bytes names.items ≡ string_bytes flash ∷ []) }
+{
+    Ok(vec![in alloc; flash]?)
+}
+
+// Words that are taken.
+fn taken(alloc: Global, verb: Option<Verb>, matches: &ArgMatches<'_>) -> Result<Asked, AllocError>
+    ensures { IfOk result (λ a. asking a ≡ taken_by verb (rows_of (found_of matches.now))) }
+{
+    match verb {
+        Some(verb) => {
+            let command = command_at(alloc, verb, matches)?;
+            Ok(named(command))
+        }
+        None => Ok(Asked::Usage),
+    }
+}
+
+// A command, unless the name that it gives an image is none.
+fn named(command: Command) -> Asked
+    ensures { asking result ≡ named (said_by command) }
+{
+    if has_name(&command) {
+        Asked::Command(command)
+    } else {
+        Asked::Usage
+    }
+}
+
+fn has_name(command: &Command) -> bool
+    ensures { result ≡ has_name (said_by command.now) }
+{
+    match command {
+        Command::Format { name, .. } | Command::Inject { name, .. } => is_name(name.as_bytes()),
+        _ => true,
+    }
+}
+
+// Words that are refused: a text of help, or a mistake.
+fn refused(alloc: Global, error: &Error) -> Result<Asked, AllocError>
+    ensures { IfOk result (λ a. (asking a ≡ refused_by (kind_of error.now)) × (kind_of error.now ≢ ErrorKind.OutOfMemory)) }
+{
+    match error.kind() {
+        ErrorKind::DisplayHelp | ErrorKind::DisplayVersion => {
+            Ok(Asked::Help(format!(in alloc; "{error}")?))
+        }
+        ErrorKind::OutOfMemory => Err(AllocError),
+        _ => Ok(Asked::Usage),
+    }
+}
+
+// The values of a command.
+fn command_at(alloc: Global, verb: Verb, matches: &ArgMatches<'_>) -> Result<Command, AllocError>
+    ensures { IfOk result (λ c. said_by c ≡ said_at verb (rows_of (found_of matches.now))) }
+{
+    match verb {
+        Verb::Replay => Ok(Command::Replay {
+            flashes: texts(alloc, matches, "FLASH")?,
+        }),
+        Verb::Serve => Ok(Command::Serve {
+            turns: number(matches, "turns"),
+            seed: number(matches, "seed"),
+            flashes: texts(alloc, matches, "FLASH")?,
+        }),
+        Verb::Format => Ok(Command::Format {
+            name: text(alloc, matches, "name")?,
+            used: number(matches, "used"),
+            flash: text(alloc, matches, "FLASH")?,
+        }),
+        Verb::Inject => Ok(Command::Inject {
+            image: small_number(matches, "image"),
+            version: number(matches, "ver"),
+            name: text(alloc, matches, "name")?,
+            flash: text(alloc, matches, "FLASH")?,
+        }),
+        Verb::Order => Ok(Command::Order {
+            number: number(matches, "number"),
+            image: small_number(matches, "image"),
+            version: number(matches, "ver"),
+            flash: text(alloc, matches, "FLASH")?,
+        }),
+        Verb::Boot => Ok(Command::Boot {
+            flash: text(alloc, matches, "FLASH")?,
+        }),
+        Verb::Ping => Ok(Command::Ping {
+            flash: text(alloc, matches, "FLASH")?,
+        }),
+        Verb::Dump => Ok(Command::Dump {
+            image: small_number(matches, "image"),
+            flash: text(alloc, matches, "FLASH")?,
+        }),
+        Verb::Trial => Ok(Command::Trial {
+            motes: small_number(matches, "motes"),
+            pages: small_number(matches, "pages"),
+            seed: number(matches, "seed"),
+        }),
+    }
+}

@@ -1,0 +1,64 @@
+//! The verbs of the program.
+ghost use Rattle.std.specs.Prelude.{◌≡◌, bytes_eq, map, string_bytes};
+ghost use Rattle.dg_command.specs.Verbs.{verb_of, verb_in, word_of};
+
+/// The first word of a command.
+#[derive(Clone, Copy, Debug, PartialEq, Eq)]
+pub enum Verb {
+    Replay,
+    Serve,
+    Format,
+    Inject,
+    Order,
+    Boot,
+    Ping,
+    Dump,
+    Trial,
+}
+
+impl Verb {
+    /// The verb of a word.
+    pub fn of(word: &str) -> Option<Verb>
+        ensures { result ≡ verb_of word.now }
+    {
+        match word {
+            "replay" => Some(Verb::Replay),
+            "serve" => Some(Verb::Serve),
+            "format" => Some(Verb::Format),
+            "inject" => Some(Verb::Inject),
+            "order" => Some(Verb::Order),
+            "boot" => Some(Verb::Boot),
+            "ping" => Some(Verb::Ping),
+            "dump" => Some(Verb::Dump),
+            "trial" => Some(Verb::Trial),
+            _ => None,
+        }
+    }
+
+    /// The verb of words: that of the first one.
+    pub fn among(words: &[String]) -> Option<Verb>
+        ensures { result ≡ verb_in (map string_bytes words.now) }
+    {
+        match words.first() {
+            Some(word) => Verb::of(word.as_str()),
+            None => None,
+        }
+    }
+
+    /// The word of a verb.
+    pub fn word<'a>(self) -> &'a str
+        ensures { result.now ≡ word_of self }
+    {
+        match self {
+            Verb::Replay => "replay",
+            Verb::Serve => "serve",
+            Verb::Format => "format",
+            Verb::Inject => "inject",
+            Verb::Order => "order",
+            Verb::Boot => "boot",
+            Verb::Ping => "ping",
+            Verb::Dump => "dump",
+            Verb::Trial => "trial",
+        }
+    }
+}
