@@ -8,7 +8,7 @@ use Rattle.std.proofs.lemmas.List.{drop-take, take-take}
 use Rattle.std.proofs.lemmas.Slice.Eq.{bytes_eq-Decides}
 use Rattle.dg_words.specs.Lists.{padded}
 use Rattle.dg_base.specs.Texts.{spells_name}
-use Rattle.dg_object.specs.Sizes.{most_bytes}
+use Rattle.dg_object.specs.Sizes.{most_bytes, slots}
 use Rattle.dg_object.specs.Object.{head_of, pages_for}
 use Rattle.dg_object.specs.Descriptor.{Details, IsInRange, IsDescriptor, RestFits, Describes, crcs_end}
 use Rattle.dg_object.specs.Tested.{up_to_zero, fields_in, fields_fit, is_descriptor, describes}
@@ -97,9 +97,9 @@ from_six a b c d e f ha hb hc hd he hf =
 
 fields_tested : (d : Details) → fields_fit d ≡ true → d.version < 2 ^ 32 → IsInRange d
 fields_tested d h small =
-    let parts = six_parts (ltb d.image 4) (leb 1 d.version) (leb 1 d.length) (leb d.length most_bytes) (eqb d.pages (pages_for d.length)) (spells_name d.name) h in
+    let parts = six_parts (ltb d.image slots) (leb 1 d.version) (leb 1 d.length) (leb d.length most_bytes) (eqb d.pages (pages_for d.length)) (spells_name d.name) h in
     record {
-      image = ltb-true d.image 4 parts.0;
+      image = ltb-true d.image slots parts.0;
       version = leb-true 1 d.version parts.1;
       version_fits = small;
       some = leb-true 1 d.length parts.2;
@@ -110,8 +110,8 @@ fields_tested d h small =
 
 fields_found : (d : Details) → IsInRange d → fields_fit d ≡ true
 fields_found d is =
-    from_six (ltb d.image 4) (leb 1 d.version) (leb 1 d.length) (leb d.length most_bytes) (eqb d.pages (pages_for d.length)) (spells_name d.name)
-    (lt-ltb d.image 4 is.image) (le-leb 1 d.version is.version) (le-leb 1 d.length is.some) (le-leb d.length most_bytes is.fits) (eq-eqb d.pages (pages_for d.length) is.pages) is.name
+    from_six (ltb d.image slots) (leb 1 d.version) (leb 1 d.length) (leb d.length most_bytes) (eqb d.pages (pages_for d.length)) (spells_name d.name)
+    (lt-ltb d.image slots is.image) (le-leb 1 d.version is.version) (le-leb 1 d.length is.some) (le-leb d.length most_bytes is.fits) (eq-eqb d.pages (pages_for d.length) is.pages) is.name
 
 pub tested_is : (page : List ℕ) → is_descriptor page ≡ true → (d : Details) × IsDescriptor page d
 unfolding is_descriptor

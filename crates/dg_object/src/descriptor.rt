@@ -9,13 +9,13 @@ ghost use Rattle.dg_object.specs.Descriptor.{Details, HasTag, IsHead, RestFits, 
 ghost use Rattle.dg_object.specs.Records.{details_of};
 
 use crate::Name;
-use crate::size::{HEAD_SIZE, PAGE_SIZE, PIECE_SIZE, SLOTS, check_size, pages_of};
+use crate::size::{DESCRIPTOR_PIECE, HEAD_SIZE, PAGE_SIZE, SLOTS, check_size, pages_of};
 use dg_base::is_name;
 use std::error::Error;
 use std::fmt;
 
 /// A piece of what stands behind the CRCs.
-const FILLED: [u8; PIECE_SIZE] = [0xFF; PIECE_SIZE];
+const FILLED: [u8; DESCRIPTOR_PIECE] = [0xFF; DESCRIPTOR_PIECE];
 
 /// Why bytes are no descriptor.
 #[derive(Clone, Copy, Debug, PartialEq, Eq)]
@@ -184,7 +184,7 @@ fn is_filling(bytes: &[u8]) -> bool
 {
     let mut at = 0;
     while at < bytes.len() {
-        let len = (bytes.len() - at).min(PIECE_SIZE);
+        let len = (bytes.len() - at).min(DESCRIPTOR_PIECE);
         if !is_filled_piece(&bytes[at..at + len]) {
             return false;
         }
@@ -195,7 +195,7 @@ fn is_filling(bytes: &[u8]) -> bool
 
 /// The same of a few bytes. Slices are compared many bytes at a time.
 fn is_filled_piece(piece: &[u8]) -> bool
-    requires { length piece.now ≤ PIECE_SIZE }
+    requires { length piece.now ≤ DESCRIPTOR_PIECE }
     ensures { IsTrue result ↔ EachIndex piece.now (λ k. slice_index piece.now k ≡ 255) }
 {
     piece == &FILLED[..piece.len()]

@@ -2,14 +2,33 @@
 ghost use Rattle.std.specs.Prelude.{◌≡◌, ℕ, ◌+◌, ◌-◌, ◌<◌, ◌≤◌, ◌↔◌, true, List, [], length, slice_index_or};
 ghost use Rattle.dg_words.specs.Cells.{AreBytes, part};
 ghost use Rattle.dg_base.specs.Crc.{crc_of};
-ghost use Rattle.dg_object.specs.Sizes.{page_size, most_pages, head_size};
+ghost use Rattle.dg_object.specs.Sizes.{page_size, packets, packet_size, fewest_pages, most_pages, most_bytes, slots, head_size, name_size, descriptor_piece_size};
 ghost use Rattle.dg_object.specs.Object.{Row, IsRow, pages_for, data_page, descriptor_page, page_of_row, object, content};
 ghost use Rattle.dg_object.specs.Descriptor.{Details, IsHead, IsDescriptor, RestFits, Describes, details, crc_in};
 ghost use Rattle.dg_object.specs.Tested.{fields_in, is_descriptor, describes};
 
+use crate::{
+    DESCRIPTOR_PIECE, FEWEST_PAGES, HEAD_SIZE, MOST_BYTES, MOST_PAGES, NAME_SIZE, PACKET_SIZE,
+    PACKETS, PAGE_SIZE, SLOTS,
+};
+
+/// The constants of this crate are the numbers of its definitions.
+pub fn an_object_has_these_sizes()
+    ensures page { PAGE_SIZE ≡ page_size }
+    ensures packets { PACKETS ≡ packets }
+    ensures packet { PACKET_SIZE ≡ packet_size }
+    ensures fewest_pages { FEWEST_PAGES ≡ fewest_pages }
+    ensures most_pages { MOST_PAGES ≡ most_pages }
+    ensures most_bytes { MOST_BYTES ≡ most_bytes }
+    ensures slots { SLOTS ≡ slots }
+    ensures head { HEAD_SIZE ≡ head_size }
+    ensures name { NAME_SIZE ≡ name_size }
+    ensures descriptor_piece { DESCRIPTOR_PIECE ≡ descriptor_piece_size }
+{}
+
 /// An object of 2 to 65 pages holds the image, and nothing but the filling behind it.
 pub fn a_row_is_its_pages()
-    ensures some { (row : Row) → IsRow row → 2 ≤ pages_for (length row.bytes) }
+    ensures some { (row : Row) → IsRow row → fewest_pages ≤ pages_for (length row.bytes) }
     ensures most { (row : Row) → IsRow row → pages_for (length row.bytes) ≤ most_pages }
     ensures count { (row : Row) → length (object row) ≡ pages_for (length row.bytes) }
     ensures page { (row : Row) (p : ℕ) → p < pages_for (length row.bytes) → slice_index_or (object row) p [] ≡ page_of_row row p }

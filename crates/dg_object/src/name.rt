@@ -6,7 +6,7 @@ use arrayvec::ArrayVec;
 use std::marker::Model;
 
 /// The bytes that a descriptor gives a name.
-pub(crate) const NAME_SIZE: usize = 16;
+pub const NAME_SIZE: usize = 16;
 
 /// The name of an image: at most 16 bytes, without the padding that a descriptor gives them.
 #[derive(Debug, PartialEq, Eq, Drop)]

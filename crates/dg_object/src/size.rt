@@ -15,6 +15,9 @@ pub const PACKETS: usize = 48;
 /// The bytes of a packet.
 pub const PACKET_SIZE: usize = 23;
 
+/// The fewest pages of an object: its descriptor, and one of the image.
+pub const FEWEST_PAGES: u8 = 2;
+
 /// The most pages of an object: its descriptor, and 64 of the image.
 pub const MOST_PAGES: u8 = 65;
 
@@ -27,8 +30,8 @@ pub const SLOTS: u8 = 4;
 /// The bytes of a descriptor in front of the CRCs.
 pub const HEAD_SIZE: usize = 28;
 
-/// What stands behind them is read from a chip in pieces of at most this many bytes.
-pub const PIECE_SIZE: usize = 112;
+/// What stands behind them is read from a chip, and looked at, in pieces of at most this many bytes.
+pub const DESCRIPTOR_PIECE: usize = 112;
 
 /// Why no image has this length.
 #[derive(Clone, Copy, Debug, PartialEq, Eq)]

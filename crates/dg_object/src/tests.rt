@@ -98,7 +98,7 @@ fn descriptors(rt: HostRuntime) -> Result<(), Fail> {
 fn pieces(rt: HostRuntime) -> Result<(), Fail> {
     let page = descriptor_page();
     let read = Descriptor::head(&head_bytes(&page))?;
-    let filling = [0xFF; PIECE_SIZE];
+    let filling = [0xFF; DESCRIPTOR_PIECE];
     let mut spoilt = filling;
     spoilt[0] = 0;
     for (at, piece, want) in [
