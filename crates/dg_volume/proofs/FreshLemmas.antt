@@ -1,5 +1,5 @@
 -- A chip that was formatted stands for golden alone.
-use Rattle.std.proofs.Common.{◌≡◌, ℕ, zero, suc, ◌-◌, ◌<◌, ◌≤◌, List, [], ◌∷◌, length, get_or, IfSome, IsTrue, refl, ap, ◌∙◌, inl, arith}
+use Rattle.std.proofs.Common.{◌≡◌, ℕ, zero, suc, ◌-◌, ◌<◌, ◌≤◌, List, ◌∷◌, replicate, length, get_or, None, IfSome, IsTrue, refl, ap, ◌∙◌, inl, arith}
 use Rattle.dg_words.specs.Cells.{AreBytes}
 use Rattle.dg_base.specs.Texts.{spells_name}
 use Rattle.dg_nor.specs.Chip.{Touches}
@@ -22,23 +22,27 @@ use Rattle.dg_volume.proofs.CommitLemmas.{behind_kept, image_stays}
 pub golden_is_row : (name bytes : List ℕ) → IsTrue (spells_name name) → 1 ≤ length bytes → length bytes ≤ most_bytes → AreBytes bytes → IsRow (golden_row name bytes)
 golden_is_row name bytes named some fits small = record { image = omega arith; version = omega arith; version_fits = omega arith; name = named; some = some; fits = fits; bytes = small }
 
--- golden is in its slot, and nothing is in the others
+-- golden is in its slot, and nothing is in the others, however many there are
+none_said : (n i : ℕ) → get_or (replicate n Dirty) i Dirty ≡ slot_told (get_or (replicate n None) i None)
+none_said zero i = refl
+none_said (suc n) zero = refl
+none_said (suc n) (suc i) = none_said n i
+
+none_kept : (c : List ℕ) (n k i : ℕ) → IfSome (get_or (replicate n None) i None) (KeepsImage c k)
+none_kept c zero k i = tt
+none_kept c (suc n) k zero = tt
+none_kept c (suc n) k (suc i) = none_kept c n k i
+
 slot_said : (name bytes : List ℕ) (used : ℕ) (p : Snapshot) → IsFresh p → (i : ℕ) → i < images → get_or p.slots i Dirty ≡ slot_told (held (fresh name bytes used) i)
-slot_said name bytes used p is i known = ap (λ (xs : List SlotState). get_or xs i Dirty) is.slots ∙ each i known
+slot_said name bytes used p is i known = ap (λ (xs : List SlotState). get_or xs i Dirty) is.slots ∙ each i
   where
-    each : (i : ℕ) → i < images → get_or (Live 1 ∷ Dirty ∷ Dirty ∷ Dirty ∷ []) i Dirty ≡ slot_told (held (fresh name bytes used) i)
-    each zero h = refl
-    each (suc zero) h = refl
-    each (suc (suc zero)) h = refl
-    each (suc (suc (suc zero))) h = refl
-    each (suc (suc (suc (suc i)))) h = absurd (omega arith)
+    each : (i : ℕ) → get_or (Live 1 ∷ replicate (images - 1) Dirty) i Dirty ≡ slot_told (held (fresh name bytes used) i)
+    each zero = refl
+    each (suc i) = none_said (images - 1) i
 
 slot_kept : (c name bytes : List ℕ) (used : ℕ) → KeepsImage c 0 (held_whole (golden_row name bytes)) → (i : ℕ) → i < images → IfSome (held (fresh name bytes used) i) (KeepsImage c i)
 slot_kept c name bytes used golden zero h = golden
-slot_kept c name bytes used golden (suc zero) h = tt
-slot_kept c name bytes used golden (suc (suc zero)) h = tt
-slot_kept c name bytes used golden (suc (suc (suc zero))) h = tt
-slot_kept c name bytes used golden (suc (suc (suc (suc i)))) h = absurd (omega arith)
+slot_kept c name bytes used golden (suc i) h = none_kept c (images - 1) (suc i) i
 
 -- golden's slot stays while the control sectors are made
 pub golden_stays : (c d : List ℕ) (h : Held) → Touches 0 control_sectors c d → KeepsImage c 0 h → KeepsImage d 0 h

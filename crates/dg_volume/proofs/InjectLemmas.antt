@@ -1,6 +1,6 @@
 -- An injection is refused, resumed, or begun anew.
 use Rattle.std.proofs.Common.{◌≡◌, ◌⊎◌, ℕ, ◌+◌, ◌<◌, ◌≤◌, Bool, true, false, cond, List, [], ◌∷◌, length, drop, Option, Some, None, Result, Ok, Err, IsErrAnd, refl, sym, ap, subst, ◌∙◌, inl, inr, arith}
-use Rattle.std.specs.Prelude.{◌==◌, nat_lt}
+use Rattle.std.specs.Prelude.{◌==◌, ◌||◌, not, nat_lt}
 use Rattle.std.proofs.Math.ListN.{length-set}
 use Rattle.std.proofs.lemmas.Bool.Decides.{nat_tests}
 use Rattle.dg_nor.specs.Device.{Device, Halts, Halted}
@@ -18,7 +18,7 @@ use Rattle.dg_volume.specs.Store.{Store, held, IsNear}
 use Rattle.dg_volume.specs.Told.{told, told_held}
 use Rattle.dg_volume.specs.Stands.{Stands, Mounted, MountedBut, Tells, kept_at}
 use Rattle.dg_volume.specs.declared.volume.Kept.{Kept}
-use Rattle.dg_volume.specs.Changes.{spent, keeping, is_version, is_other, refusal_by, inject_refusal, FitAll}
+use Rattle.dg_volume.specs.Changes.{spent, keeping, is_version, is_other, other_profile, refusal_by, inject_refusal, SameProfile, FitAll}
 use Rattle.dg_volume.specs.Trails.{BeginsAt, committing, drop_trail, take_trail, fill_trail, inject_by, inject_trail, done_of}
 use Rattle.dg_volume.specs.Acts.{Acted, Stops}
 use Rattle.dg_volume.specs.Injecting.{InjectEnds}
@@ -38,17 +38,17 @@ result_stopped : (r : Result Injected InjectFault) → IsErrAnd r (λ e. e ≡ S
 result_stopped (Ok x) h = absurd h
 result_stopped (Err e) h = ap Err h
 
-stopped_here : (s : Store) (row : Row) (a b : Device) (v : Volume) → (inject_refusal s row ≡ None) ⊎ (inject_refusal s row ≡ Some Taken) → Stops (inject_trail s row) a b → InjectEnds (Err Stopped) s row a b v
-stopped_here s row a b v allowed stops = record { acted = tt; allowed = allowed; refused = λ e is other. absurd (other (same e is)); stopped = λ is. stops }
+stopped_here : (s : Store) (row : Row) (a b : Device) (v : Volume) → (inject_refusal s row ≡ None) ⊎ (inject_refusal s row ≡ Some Taken) → SameProfile (held s row.image) row → Stops (inject_trail s row) a b → InjectEnds (Err Stopped) s row a b v
+stopped_here s row a b v allowed fits stops = record { acted = tt; allowed = allowed; refused = λ e is other. absurd (other (same e is)); stopped = λ is. stops; unread = λ is. fits }
   where
     same : (e : InjectFault) → ◌≡◌ {A = Result Injected InjectFault} (Err Stopped) (Err e) → e ≡ Stopped
     same e is = cc
 
-pub ends_stopped : (r : Result Injected InjectFault) (s : Store) (row : Row) (a b : Device) (v : Volume) → IsErrAnd r (λ e. e ≡ Stopped) → (inject_refusal s row ≡ None) ⊎ (inject_refusal s row ≡ Some Taken) → Stops (inject_trail s row) a b → InjectEnds r s row a b v
-ends_stopped r s row a b v is allowed stops = subst (λ (x : Result Injected InjectFault). InjectEnds x s row a b v) (sym (result_stopped r is)) (stopped_here s row a b v allowed stops)
+pub ends_stopped : (r : Result Injected InjectFault) (s : Store) (row : Row) (a b : Device) (v : Volume) → IsErrAnd r (λ e. e ≡ Stopped) → (inject_refusal s row ≡ None) ⊎ (inject_refusal s row ≡ Some Taken) → SameProfile (held s row.image) row → Stops (inject_trail s row) a b → InjectEnds r s row a b v
+ends_stopped r s row a b v is allowed fits stops = subst (λ (x : Result Injected InjectFault). InjectEnds x s row a b v) (sym (result_stopped r is)) (stopped_here s row a b v allowed fits stops)
 
 pub ends_taken : (s : Store) (row : Row) (a b : Device) (v : Volume) → inject_refusal s row ≡ Some Taken → InjectEnds (Err Taken) s row a b v
-ends_taken s row a b v refusal = record { acted = tt; allowed = tt; refused = λ e is other. refusal ∙ ap Some (same e is); stopped = λ is. absurd (no is) }
+ends_taken s row a b v refusal = record { acted = tt; allowed = tt; refused = λ e is other. refusal ∙ ap Some (same e is); stopped = λ is. absurd (no is); unread = λ is. absurd (no is) }
   where
     same : (e : InjectFault) → ◌≡◌ {A = Result Injected InjectFault} (Err Taken) (Err e) → Taken ≡ e
     same e is = cc
@@ -57,7 +57,7 @@ ends_taken s row a b v refusal = record { acted = tt; allowed = tt; refused = λ
     no e = cc
 
 pub ends_worn : (s : Store) (row : Row) (a b : Device) (v : Volume) (room : ℕ) → inject_refusal s row ≡ Some (Worn room) → InjectEnds (Err (Worn room)) s row a b v
-ends_worn s row a b v room refusal = record { acted = tt; allowed = tt; refused = λ e is other. refusal ∙ ap Some (same e is); stopped = λ is. absurd (no is) }
+ends_worn s row a b v room refusal = record { acted = tt; allowed = tt; refused = λ e is other. refusal ∙ ap Some (same e is); stopped = λ is. absurd (no is); unread = λ is. absurd (no is) }
   where
     same : (e : InjectFault) → ◌≡◌ {A = Result Injected InjectFault} (Err (Worn room)) (Err e) → Worn room ≡ e
     same e is = cc
@@ -66,7 +66,7 @@ ends_worn s row a b v room refusal = record { acted = tt; allowed = tt; refused 
     no e = cc
 
 pub ends_ok : (x : Injected) (s : Store) (row : Row) (a b : Device) (v : Volume) → inject_refusal s row ≡ None → Acted (inject_trail s row) a b v → InjectEnds (Ok x) s row a b v
-ends_ok x s row a b v refusal acted = record { acted = acted; allowed = refusal; refused = λ e is other. absurd (no e is); stopped = λ is. absurd (no Stopped is) }
+ends_ok x s row a b v refusal acted = record { acted = acted; allowed = refusal; refused = λ e is other. absurd (no e is); stopped = λ is. absurd (no Stopped is); unread = λ is. absurd (no Stopped is) }
   where
     no : (e : InjectFault) → ◌≡◌ {A = Result Injected InjectFault} (Ok x) (Err e) → ⊥
     no e is = cc
@@ -137,6 +137,33 @@ kept_free s row h is some here same free = kept_refusal s row h is some here sam
 
 pub kept_taken : (s : Store) (row : Row) (h : Held) → IsRow row → 1 ≤ row.image → held s row.image ≡ Some h → h.version ≡ row.version → is_other h row ≡ true → inject_refusal s row ≡ Some Taken
 kept_taken s row h is some here same other = kept_refusal s row h is some here same ∙ chosen (is_other h row) _ _ other
+
+-- ---- the profile that is kept
+
+or_front : (a b c : Bool) → (a || b || c) ≡ false → (a || b) ≡ false
+or_front true b c h = h
+or_front false true c h = h
+or_front false false c h = refl
+
+profile_of_free : (h : Held) (row : Row) → is_other h row ≡ false → other_profile h row ≡ false
+profile_of_free h row free = or_front (not (h.pages == (profile row).pages)) (not (h.crc == (profile row).crc)) _ free
+
+some_same : (a b : Held) → ◌≡◌ {A = Option Held} (Some a) (Some b) → a ≡ b
+some_same a b e = cc
+
+pub same_profile_kept : (s : Store) (row : Row) (k : Held) → held s row.image ≡ Some k → other_profile k row ≡ false → SameProfile (held s row.image) row
+same_profile_kept s row k here fits h is same = subst (λ (x : Held). other_profile x row ≡ false) (some_same k h (sym here ∙ is)) fits
+
+-- what is not refused is not of another profile
+pub same_profile_free : (s : Store) (row : Row) → IsRow row → 1 ≤ row.image → inject_refusal s row ≡ None → SameProfile (held s row.image) row
+same_profile_free s row is some none h here same = by (is_other h row) refl
+  where
+    by : (b : Bool) → is_other h row ≡ b → other_profile h row ≡ false
+    by false e = profile_of_free h row e
+    by true e = absurd (no (sym none ∙ kept_taken s row h is some here same e))
+      where
+        no : ◌≡◌ {A = Option InjectFault} None (Some Taken) → ⊥
+        no e = cc
 
 -- ---- the trail of a version that is kept
 

@@ -18,7 +18,7 @@ use Rattle.dg_object.specs.Object.{Outline}
 use Rattle.dg_slot.specs.Kept.{Held, KeepsImage, held_begun}
 use Rattle.dg_slot.specs.Jobs.{IsOpen, outline_told}
 use Rattle.dg_slot.specs.declared.states.OpenSlot.{OpenSlot}
-use Rattle.dg_volume.specs.Sizes.{images, golden_version}
+use Rattle.dg_volume.specs.Sizes.{images, golden_version, control_sectors}
 use Rattle.dg_volume.specs.Store.{Store, held, IsNear}
 use Rattle.dg_volume.specs.Told.{told, slot_told}
 use Rattle.dg_volume.specs.Stands.{Stands, Tells, Mounted, kept_at, snapshot_of}
@@ -206,7 +206,7 @@ take_acted s p a b c v w first second =
 
 -- ---- the sectors that are touched
 
-pub but_control : (a b : ℕ) (c d : List ℕ) → Touches 0 3 c d → TouchesBut a b c d
+pub but_control : (a b : ℕ) (c d : List ℕ) → Touches 0 control_sectors c d → TouchesBut a b c d
 but_control a b c d t = record { before = λ k low less known. t.behind k low known; behind = λ k low more known. t.behind k low known }
 
 pub but_slot : (a b : ℕ) (c d : List ℕ) → Touches a b c d → TouchesBut a b c d

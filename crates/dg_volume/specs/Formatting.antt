@@ -4,11 +4,12 @@ use Rattle.dg_nor.specs.Chip.{Touches}
 use Rattle.dg_object.specs.Object.{Row, pages_for}
 use Rattle.dg_slot.specs.Layout.{page_operations, header_sector, slot_end}
 use Rattle.dg_slot.specs.Kept.{KeepsImage}
+use Rattle.dg_volume.specs.Sizes.{places}
 use Rattle.dg_volume.specs.Store.{held_whole}
 
 -- the header of golden, its pages, and the control sectors with so many places spent
 abbrev pub format_operations : (length used : ℕ) → ℕ
-format_operations length used = 2 + page_operations * pages_for length + (5 + used / 32 + used % 32)
+format_operations length used = 2 + page_operations * pages_for length + (5 + used / places + used % places)
 
 -- Golden stands whole in its slot, or no control sector was touched, nor anything but that slot.
 pub record GoldenFirst (golden : Row) (old new : List ℕ) : Type 0 where

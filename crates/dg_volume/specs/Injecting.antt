@@ -2,8 +2,8 @@
 use Rattle.std.specs.Prelude.{◌≡◌, ◌≢◌, Result, Some, Err, OnOk, IsErrOf}
 use Rattle.dg_nor.specs.Device.{Device}
 use Rattle.dg_object.specs.Object.{Row}
-use Rattle.dg_volume.specs.Store.{Store}
-use Rattle.dg_volume.specs.Changes.{inject_refusal, UnlessInjectRefused}
+use Rattle.dg_volume.specs.Store.{Store, held}
+use Rattle.dg_volume.specs.Changes.{inject_refusal, UnlessInjectRefused, SameProfile}
 use Rattle.dg_volume.specs.Trails.{inject_trail}
 use Rattle.dg_volume.specs.Acts.{Acted, Stops}
 use Rattle.dg_volume.specs.declared.volume.InjectFault.{InjectFault}
@@ -17,3 +17,4 @@ pub record InjectEnds (result : Result Injected InjectFault) (s : Store) (row : 
   pub allowed : UnlessInjectRefused result (inject_refusal s row)
   pub refused : (e : InjectFault) → result ≡ Err e → e ≢ Stopped → inject_refusal s row ≡ Some e
   pub stopped : IsErrOf result Stopped → Stops (inject_trail s row) old new
+  pub unread : IsErrOf result Stopped → SameProfile (held s row.image) row

@@ -1,15 +1,21 @@
--- How many images a volume keeps, and how many commits it makes.
-use Rattle.std.specs.Prelude.{ℕ}
-pub use Rattle.dg_control.specs.Sizes.{images, golden_version, short_starts}
+-- How many images a volume keeps, how many commits it makes, and how a page is copied, by this project's own profile.
+-- Each number stands here alone, or in the crate that is cited.
+use Rattle.std.specs.Prelude.{ℕ, ◌+◌}
+use Rattle.dg_control.specs.Sizes.{control_end}
+pub use Rattle.dg_control.specs.Sizes.{images, golden_image, golden_version, short_starts, places, most_room}
 
 -- the sectors in front of program memory: the ledger, and the two control sectors
 abbrev pub control_sectors : ℕ
-control_sectors = 3
+control_sectors = control_end
 
--- the commits that a chip has which made none
-abbrev pub most_room : ℕ
-most_room = 520223
+-- the commits of a take where the slot is Live: it becomes Dirty, and then Live
+abbrev pub most_take_commits : ℕ
+most_take_commits = 2
 
--- a page is copied into program memory by an erase and its programs
+-- the programs by which a page is copied into program memory, each of a piece of it
+abbrev pub copy_pieces : ℕ
+copy_pieces = 6
+
+-- a page is copied by an erase and these
 abbrev pub copy_operations : ℕ
-copy_operations = 7
+copy_operations = 1 + copy_pieces

@@ -1,14 +1,16 @@
 //! Formatting: a chip becomes a volume that keeps golden alone.
-ghost use Rattle.std.specs.Prelude.{◌≡◌, ◌↔◌, ◌⊎◌, ℕ, ◌+◌, ◌*◌, ◌<◌, ◌≤◌, ⊤, false, Err, OnOk, OnErr, IfOk, IsErrOf, IsTrue, length};
+ghost use Rattle.std.specs.Prelude.{◌≡◌, ◌↔◌, ◌⊎◌, ℕ, ◌+◌, ◌*◌, ◌/◌, ◌%◌, ◌<◌, ◌≤◌, ⊤, false, Err, OnOk, OnErr, IfOk, IsErrOf, IsTrue, length, slice_index};
 ghost use Rattle.dg_base.specs.Texts.{spells_name};
-ghost use Rattle.dg_nor.specs.Chip.{Touches};
+ghost use Rattle.dg_nor.specs.Chip.{sector, Touches};
 ghost use Rattle.dg_nor.specs.Device.{Ran, Halted};
 ghost use Rattle.dg_nor.specs.Reads.{ActStopped};
 ghost use Rattle.dg_object.specs.Object.{IsRow, row_of, pages_for};
 ghost use Rattle.dg_slot.specs.Layout.{most_bytes, page_operations, header_sector, slot_end};
 ghost use Rattle.dg_slot.specs.Kept.{Held, KeepsImage};
 ghost use Rattle.dg_slot.specs.Jobs.{IsOpen, outline_told};
-ghost use Rattle.dg_volume.specs.Sizes.{control_sectors, most_room};
+ghost use Rattle.dg_control.specs.Places.{place_in};
+ghost use Rattle.dg_control.specs.Store.{current};
+ghost use Rattle.dg_volume.specs.Sizes.{control_sectors, places, most_room};
 ghost use Rattle.dg_volume.specs.Store.{fresh, golden_row, held_to, held_whole};
 ghost use Rattle.dg_volume.specs.Stands.{Stands};
 ghost use Rattle.dg_volume.specs.Acts.{TouchesBut};
@@ -35,6 +37,9 @@ impl Volume {
         requires named { IsTrue (spells_name name.now) }
         requires few { used ≤ most_room }
         ensures formatted { OnOk result (Stands (N.device nor.new).image (fresh name.now golden.now used)) }
+        // the places before the snapshot are told as spent
+        ensures spent { OnOk result ((i : ℕ) → i < used % places
+            → slice_index (place_in (sector (N.device nor.new).image (current (used / places))) i) 0 ≡ 0) }
         ensures ran { OnOk result (Ran (format_operations (length golden.now) used) (N.device nor.old) (N.device nor.new)) }
         ensures awake { OnOk result ((N.device nor.old).stopped ≡ false) }
         ensures same_reference { (N.device nor.new).references ≡ (N.device nor.old).references }

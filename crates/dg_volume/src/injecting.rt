@@ -1,5 +1,5 @@
 //! Images that are injected, page by page.
-ghost use Rattle.std.specs.Prelude.{◌≡◌, ◌≢◌, ◌⊎◌, ℕ, ◌<◌, ◌≤◌, true, false, List, Some, Ok, Err, OnOk, IfOk, IsErrOf, IsNone, IsSomeAnd, IsTrue, length};
+ghost use Rattle.std.specs.Prelude.{◌≡◌, ◌≢◌, ◌⊎◌, ℕ, ◌<◌, ◌≤◌, true, false, List, Some, Ok, Err, OnOk, OnErr, IfOk, IsErrOf, IsNone, IsSomeAnd, IsTrue, length};
 ghost use Rattle.dg_base.specs.Texts.{spells_name};
 ghost use Rattle.dg_nor.specs.Chip.{Touches};
 ghost use Rattle.dg_nor.specs.Reads.{Looked, ReadEnds};
@@ -7,10 +7,10 @@ ghost use Rattle.dg_object.specs.Object.{row_of, pages_for};
 ghost use Rattle.dg_slot.specs.Layout.{most_bytes, header_sector, slot_end};
 ghost use Rattle.dg_slot.specs.Kept.{Held, KeepsImage};
 ghost use Rattle.dg_volume.specs.Sizes.{images};
-ghost use Rattle.dg_volume.specs.Store.{Store};
+ghost use Rattle.dg_volume.specs.Store.{Store, held};
 ghost use Rattle.dg_volume.specs.Told.{told_held};
 ghost use Rattle.dg_volume.specs.Stands.{kept_at, NothingLent, Mounted, IsMounted, Tells};
-ghost use Rattle.dg_volume.specs.Changes.{inject_refusal, is_other, UnlessInjectRefused};
+ghost use Rattle.dg_volume.specs.Changes.{inject_refusal, is_other, other_profile, UnlessInjectRefused, SameProfile};
 ghost use Rattle.dg_volume.specs.Trails.{inject_trail};
 ghost use Rattle.dg_volume.specs.Filling.{new_row};
 ghost use Rattle.dg_volume.specs.Injecting.{InjectEnds};
@@ -66,6 +66,9 @@ impl Volume {
             → (N.device nor.new ≡ N.device nor.old) × (self.new ≡ self.old) }
         // page 0 may have been read
         ensures taken { result ≡ Err InjectFault.Taken → Looked (N.device nor.old) (N.device nor.new) × (self.new ≡ self.old) }
+        // where another profile is kept of this version, no page is read, and nothing stops
+        ensures unread { IsErrOf result InjectFault.Stopped → (s : Store) → Mounted (N.device nor.old).image self.old s
+            → SameProfile (held s image) (row_of image version name.now bytes.now) }
         ensures touches { TouchesBut (header_sector image) (slot_end image) (N.device nor.old).image (N.device nor.new).image }
         ensures stopped { IsErrOf result InjectFault.Stopped → (s : Store) → Mounted (N.device nor.old).image self.old s
             → Stops (inject_trail s (row_of image version name.now bytes.now)) (N.device nor.old) (N.device nor.new) }
@@ -200,6 +203,7 @@ fn injection_fault(kept: Option<Kept>, image: u8, version: u32, bytes: &[u8]) ->
 fn is_other<N: Nor>(nor: &mut N, new: &NewImage<'_>, kept: &Kept) -> Result<bool, Stopped>
     ensures other { IfOk result (λ other. (h : Held) → KeepsImage (N.device nor.old).image new.now.image h → told_held h ≡ kept.now
         → other ≡ is_other h (new_row new.now)) }
+    ensures unread { OnErr result ((h : Held) → told_held h ≡ kept.now → other_profile h (new_row new.now) ≡ false) }
     ensures awake { result ≡ Ok false → 1 ≤ kept.now.done → (N.device nor.old).stopped ≡ false }
     ensures ends { ReadEnds result (N.device nor.old) (N.device nor.new) }
 {

@@ -10,7 +10,7 @@ ghost use Rattle.dg_slot.specs.Pages.{program};
 ghost use Rattle.dg_slot.specs.Kept.{Held, KeepsImage, held_begun, with_page};
 ghost use Rattle.dg_slot.specs.Fits.{may_seal};
 ghost use Rattle.dg_slot.specs.Jobs.{seal_trail, SlotStops};
-ghost use Rattle.dg_volume.specs.Sizes.{images, golden_version, short_starts};
+ghost use Rattle.dg_volume.specs.Sizes.{images, golden_version, short_starts, control_sectors, most_take_commits};
 ghost use Rattle.dg_volume.specs.Store.{App, Store, IsNear, held, held_to, held_whole, golden_row, fresh};
 ghost use Rattle.dg_volume.specs.Stands.{Stands, Tells, MountedBut, Mounted, IsMounted};
 ghost use Rattle.dg_volume.specs.Changes.{spent, keeping, paged, ordered, gesture_cleared, advanced, inject_refusal, FitAll};
@@ -26,7 +26,14 @@ ghost use Rattle.dg_control.specs.declared.snapshot.Order.{Order};
 ghost use Rattle.dg_volume.specs.declared.volume.Kind.{Kind};
 ghost use Rattle.dg_volume.specs.declared.volume.Volume.{Volume};
 
+use crate::TAKE_COMMITS;
 use dg_object::a_descriptor_is_tested;
+
+/// The constant of this crate is the number of its definitions, and program memory stands behind the control sectors.
+pub fn a_volume_has_these_sizes()
+    ensures take { TAKE_COMMITS ≡ most_take_commits }
+    ensures program { program_sector 0 ≡ control_sectors }
+{}
 
 /// Two stores that one chip stands for are one. So a mounted volume tells every store that its chip stands for.
 pub fn a_chip_stands_for_one_store()

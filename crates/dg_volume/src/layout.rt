@@ -1,9 +1,7 @@
 //! Sizes and places of a chip.
+pub(crate) use dg_control::GOLDEN;
 pub(crate) use dg_object::{PACKET_SIZE, PAGE_SIZE};
 pub(crate) use dg_slot::PROGRAM_SECTOR as PROGRAM;
 
 /// Packets of a page.
 pub(crate) const PACKETS: u8 = dg_object::PACKETS as u8;
-
-/// The image number of golden.
-pub(crate) const GOLDEN: u8 = 0;

@@ -6,7 +6,7 @@ ghost use Rattle.dg_object.specs.Records.{outline_of};
 ghost use Rattle.dg_slot.specs.Layout.{header_sector, slot_end};
 ghost use Rattle.dg_slot.specs.Kept.{Held, KeepsImage, held_begun};
 ghost use Rattle.dg_slot.specs.Jobs.{IsOpen, outline_told};
-ghost use Rattle.dg_volume.specs.Sizes.{images};
+ghost use Rattle.dg_volume.specs.Sizes.{images, control_sectors, most_take_commits};
 ghost use Rattle.dg_volume.specs.Store.{Store};
 ghost use Rattle.dg_volume.specs.Told.{told, told_held};
 ghost use Rattle.dg_volume.specs.Stands.{room_of, kept_at, is_lent, Mounted, IsMounted, Tells};
@@ -23,8 +23,8 @@ use dg_nor::{Nor, Stopped};
 use dg_object::Profile;
 use dg_slot::{DirtySlot, OpenSlot};
 
-/// The most commits of a take: the slot becomes Dirty, and then Live.
-pub(crate) const TAKE_COMMITS: u32 = 2;
+/// The commits of a take where the slot is Live: it becomes Dirty, and then Live.
+pub const TAKE_COMMITS: u32 = 2;
 
 impl Volume {
     /// Takes the slot of an image for a profile, of which no page is complete. The slot is lent.
@@ -69,7 +69,7 @@ impl Volume {
         ensures refusal { (s : Store) (p : Outline) → Tells self.now s → p.image ≡ image → p.version ≡ version → result ≡ take_refusal s p }
         ensures not_stopped { result ≢ Some take_faults.Stopped }
         ensures not_golden { IsNone result → 1 ≤ image }
-        ensures room { IsNone result → 2 ≤ room_of self.now }
+        ensures room { IsNone result → most_take_commits ≤ room_of self.now }
     {
         if image == GOLDEN {
             return Some(TakeFault::Reserved);
@@ -95,7 +95,7 @@ impl Volume {
         requires mounted { IsMounted (N.device nor.old).image self.old }
         requires not_golden { 1 ≤ profile.now.image }
         requires known_image { profile.now.image < images }
-        requires room { 2 ≤ room_of self.old }
+        requires room { most_take_commits ≤ room_of self.old }
         ensures acted { OnOk result ((s : Store) → Mounted (N.device nor.old).image self.old s
             → Acted (take_trail s (outline_of profile.now)) (N.device nor.old) (N.device nor.new) self.new) }
         ensures open { IfOk result (λ o. (outline_told o ≡ outline_of profile.now)
@@ -123,7 +123,7 @@ impl Volume {
         ensures room { OnOk result (room_of self.old ≤ room_of self.new + 1) }
         ensures lent { (i : ℕ) → is_lent self.new i ≡ is_lent self.old i }
         ensures same_reference { (N.device nor.new).references ≡ (N.device nor.old).references }
-        ensures touches { Touches 0 3 (N.device nor.old).image (N.device nor.new).image }
+        ensures touches { Touches 0 control_sectors (N.device nor.old).image (N.device nor.new).image }
         ensures awake { OnOk result ((N.device nor.new).stopped ≡ (N.device nor.old).stopped) }
         ensures stopped { OnErr result ((s : Store) → Mounted (N.device nor.old).image self.old s
             → Stops (drop_trail s image) (N.device nor.old) (N.device nor.new)) }
@@ -180,7 +180,7 @@ impl Volume {
         ensures awake { OnOk result ((N.device nor.old).stopped ≡ false) }
         ensures still { OnOk result ((N.device nor.new).stopped ≡ (N.device nor.old).stopped) }
         ensures same_reference { (N.device nor.new).references ≡ (N.device nor.old).references }
-        ensures touches { Touches 0 3 (N.device nor.old).image (N.device nor.new).image }
+        ensures touches { Touches 0 control_sectors (N.device nor.old).image (N.device nor.new).image }
         ensures stopped { OnErr result ((s : Store) (h : Option Held) → Mounted (N.device nor.old).image self.old s → told h ≡ kept
             → IfSome h (KeepsImage (N.device nor.old).image image)
             → Stops (committing s (keeping image h (spent s))) (N.device nor.old) (N.device nor.new)) }

@@ -10,7 +10,7 @@ use Rattle.dg_volume.specs.Acts.{Acted, Stops, TouchesBut}
 use Rattle.dg_volume.specs.Trails.{take_trail}
 use Rattle.dg_volume.specs.Filling.{new_row}
 use Rattle.dg_volume.proofs.TakeLemmas.{but_slot, but_then}
-use Rattle.dg_volume.proofs.InjectLemmas.{ends_stopped, ends_worn, ends_ok, older_told, older_worn, older_free, anew_is, anew_taking, anew_filling, anew_acted, begun_anew, anew_fits}
+use Rattle.dg_volume.proofs.InjectLemmas.{same_profile_free, ends_stopped, ends_worn, ends_ok, older_told, older_worn, older_free, anew_is, anew_taking, anew_filling, anew_acted, begun_anew, anew_fits}
 use Rattle.dg_volume.proofs.volume.Volume.begin_anew.Goals as goal
 
 pub returns-then-room-lt-TAKE_COMMITS-clause-ends : goal.returns-then-room-lt-TAKE_COMMITS-clause-ends
@@ -29,7 +29,7 @@ returns-in_err-slot-clause-ends g c s mounted =
     let a = g.N.Nor.device c.args.nor.now in
     let b = g.N.Nor.device c.replace.new.nor in
     let taking : Stops (take_trail s (profile row)) a b = subst (λ (p : Outline). Stops (take_trail s p) a b) c.profile.ensures (c.in_err-slot.ensures.stopped s mounted) in
-    ends_stopped c.from_residual.result s row _ _ _ c.from_residual.ensures.1 (inl free) (subst (λ (t : Trail Store). Stops t a b) (sym (anew_is s row free older)) (anew_taking s row a b taking))
+    ends_stopped c.from_residual.result s row _ _ _ c.from_residual.ensures.1 (inl free) (same_profile_free s row is c.requires.not_golden free) (subst (λ (t : Trail Store). Stops t a b) (sym (anew_is s row free older)) (anew_taking s row a b taking))
 
 pub fill_rest-requires-clause-mounted : goal.fill_rest-requires-clause-mounted
 fill_rest-requires-clause-mounted g c =
@@ -61,7 +61,7 @@ returns-in_err-fill_rest-clause-ends g c s mounted =
     let begun = begun_anew s row (outline_of c.profile.result) (g.N.Nor.device c.args.nor.now) (g.N.Nor.device c.replace.new.nor) c.replace.new.self c.put_back.new.self c.in_ok-slot.slot (omega (arith, is.image)) c.profile.ensures (c.in_ok-slot.ensures.acted s mounted) opened.0 opened.1 c.put_back.ensures.mounted in
     let a = g.N.Nor.device c.args.nor.now in
     let d = g.N.Nor.device c.fill_rest.new.nor in
-    ends_stopped c.from_residual-in_err-fill_rest.result s row _ _ _ c.from_residual-in_err-fill_rest.ensures.1 (inl free)
+    ends_stopped c.from_residual-in_err-fill_rest.result s row _ _ _ c.from_residual-in_err-fill_rest.ensures.1 (inl free) (same_profile_free s row is c.requires.not_golden free)
     (subst (λ (t : Trail Store). Stops t a d) (sym (anew_is s row free older)) (anew_filling s row a _ d c.replace.new.self begun.acted (c.in_err-fill_rest.ensures.stopped (last (take_trail s (profile row))) begun.mounted)))
 
 pub returns-clause-ends : goal.returns-clause-ends

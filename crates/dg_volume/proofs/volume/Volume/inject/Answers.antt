@@ -9,3 +9,6 @@ returns-in-None-clause-allowed g c s mounted = (c.keep.ensures.ends s mounted).a
 
 pub returns-in-None-clause-refused : goal.returns-in-None-clause-refused
 returns-in-None-clause-refused g c e is other s mounted = (c.keep.ensures.ends s mounted).refused e is other
+
+pub returns-in-None-clause-unread : goal.returns-in-None-clause-unread
+returns-in-None-clause-unread g c is s mounted = (c.keep.ensures.ends s mounted).unread is

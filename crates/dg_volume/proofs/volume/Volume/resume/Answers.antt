@@ -12,7 +12,7 @@ use Rattle.dg_volume.specs.declared.volume.Kept.{Kept}
 use Rattle.dg_volume.proofs.BeginLemmas.{inject_begins}
 use Rattle.dg_volume.proofs.LendingLemmas.{keeps_told}
 use Rattle.dg_volume.proofs.PartLemmas.{part_of, rest_part}
-use Rattle.dg_volume.proofs.InjectLemmas.{ends_stopped, ends_taken, ends_ok, stops_early, looked_acted, looked_stops, kept_split, kept_free, kept_taken, kept_trail}
+use Rattle.dg_volume.proofs.InjectLemmas.{same_profile_kept, same_profile_free, ends_stopped, ends_taken, ends_ok, stops_early, looked_acted, looked_stops, kept_split, kept_free, kept_taken, kept_trail}
 use Rattle.dg_volume.proofs.volume.Volume.resume.Goals as goal
 
 pub returns-in_err-is_other-clause-ends : goal.returns-in_err-is_other-clause-ends
@@ -24,6 +24,7 @@ returns-in_err-is_other-clause-ends g c s mounted =
     let ends = c.in_err-is_other.ensures.ends in
     let stands = subst (λ (x : List ℕ). Rattle.dg_volume.specs.Stands.Stands x s) (sym ends.same_image) mounted.stands in
     ends_stopped c.from_residual.result s row _ _ _ c.from_residual.ensures.1 (kept_split s row keeps.kept is c.requires.not_golden keeps.here same)
+    (same_profile_kept s row keeps.kept keeps.here (c.in_err-is_other.ensures.unread keeps.kept keeps.told))
     (stops_early _ s _ _ (inject_begins s row) stands ends.halts)
 
 pub returns-then-branch-clause-ends : goal.returns-then-branch-clause-ends
@@ -64,6 +65,7 @@ returns-in_err-fill_rest-clause-ends g c s mounted =
     let count : c.args.kept.now.done ≡ length h.complete = sym (ap (λ (k : Kept). k.done) keeps.told) in
     let here : Mounted (g.N.Nor.device c.is_other.new.nor).image c.args.self.now s = subst (λ (x : List ℕ). Mounted x c.args.self.now s) (sym c.in_ok-is_other.ensures.ends.same_image) mounted in
     ends_stopped c.from_residual-in_err-fill_rest.result s row _ _ _ c.from_residual-in_err-fill_rest.ensures.1 (kept_split s row h is c.requires.not_golden keeps.here same)
+    (same_profile_free s row is c.requires.not_golden none)
     (subst (λ (t : Trail Store). Stops t (g.N.Nor.device c.args.nor.now) (g.N.Nor.device c.fill_rest.new.nor)) (sym (kept_trail s row h c.args.kept.now.done none keeps.here same count))
     (looked_stops _ _ _ _ c.in_ok-is_other.ensures.ends (c.in_err-fill_rest.ensures.stopped s here)))
 
