@@ -1,10 +1,7 @@
--- How pages are copied.
+-- How pages are copied, by this project's own profile.
 use Rattle.std.specs.Prelude.{ℕ}
+pub use Rattle.dg_volume.specs.Sizes.{copy_pieces}
 
--- the bytes of a piece of a page that are read and programmed at once
-abbrev pub piece_size : ℕ
-piece_size = 184
-
--- the pieces of a page
-abbrev pub pieces : ℕ
-pieces = 6
+-- the bytes of a page that are read and programmed at once
+abbrev pub copy_piece_size : ℕ
+copy_piece_size = 184

@@ -9,12 +9,10 @@ ghost use Rattle.dg_volume.specs.Stands.{Tells};
 ghost use Rattle.dg_volume.specs.Start.{is_whole, is_set_to, counts, by_gesture, order_waits};
 ghost use Rattle.dg_boot.specs.Ends.{finishes};
 
+pub(crate) use dg_control::GOLDEN;
 use dg_control::{GOLDEN_VERSION, Program, SHORT_STARTS};
 use dg_order::pending;
 use dg_volume::{Kept, Kind, Volume};
-
-/// The image number of golden.
-pub(crate) const GOLDEN: u8 = 0;
 
 /// Whether a start of this kind counts as a short one: it came by power, fewer than three stand, and there is room.
 pub(crate) fn counts(kind: Kind, gesture: u8, room: u32) -> bool

@@ -1,5 +1,5 @@
 //! What holds of every start. These functions do nothing: their contracts are the laws.
-ghost use Rattle.std.specs.Prelude.{◌≡◌, ◌⊎◌, ℕ, ◌+◌, ◌<◌, ◌≤◌, true, Some, None, IfSome, IsSome};
+ghost use Rattle.std.specs.Prelude.{◌≡◌, ◌⊎◌, ℕ, ◌+◌, ◌*◌, ◌<◌, ◌≤◌, true, Some, None, IfSome, IsSome};
 ghost use Rattle.dg_nor.specs.Trail.{operations, Leaves};
 ghost use Rattle.dg_volume.specs.Sizes.{golden_version, short_starts};
 ghost use Rattle.dg_volume.specs.Store.{Store, IsNear};
@@ -7,6 +7,17 @@ ghost use Rattle.dg_volume.specs.Start.{app_of, boot, is_set_to, sound};
 ghost use Rattle.dg_volume.specs.Ends.{IsGolden};
 ghost use Rattle.dg_volume.specs.declared.volume.Kind.{Kind};
 ghost use Rattle.dg_volume.specs.declared.volume.Kind.TheVariants as kinds;
+ghost use Rattle.dg_slot.specs.Layout.{page_size};
+ghost use Rattle.dg_boot.specs.Sizes.{copy_pieces, copy_piece_size};
+
+use crate::{COPY_PIECE, COPY_PIECES};
+
+/// The constants of this crate are the numbers of its definitions, and the pieces make a page.
+pub fn a_copy_has_these_sizes()
+    ensures piece { COPY_PIECE ≡ copy_piece_size }
+    ensures pieces { COPY_PIECES ≡ copy_pieces }
+    ensures page { copy_pieces * copy_piece_size ≡ page_size }
+{}
 
 /// Where three short starts stand, golden alone is started while there is room for a commit. A start by power is the
 /// third itself where there is room to count it.

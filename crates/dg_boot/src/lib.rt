@@ -33,9 +33,10 @@ use dg_nor::Nor;
 pub use dg_volume::Kind;
 use dg_volume::Volume;
 pub use laws::{
-    a_waived_order_is_not_started, an_image_is_set_once_it_is_copied, golden_can_be_started,
-    three_short_starts_start_golden,
+    a_copy_has_these_sizes, a_waived_order_is_not_started, an_image_is_set_once_it_is_copied,
+    golden_can_be_started, three_short_starts_start_golden,
 };
+pub use pieces::{COPY_PIECE, COPY_PIECES};
 
 /// What was started. `pages` counts the descriptor too, `length` is that of the image's bytes, and `crc` is their
 /// checksum as they stand in program memory.

@@ -9,16 +9,16 @@ ghost use Rattle.dg_nor.specs.Reads.{ReadEnds};
 ghost use Rattle.dg_slot.specs.Layout.{page_size};
 ghost use Rattle.dg_slot.specs.Pages.{page_in};
 ghost use Rattle.dg_volume.specs.Sizes.{copy_operations};
-ghost use Rattle.dg_boot.specs.Sizes.{piece_size};
+ghost use Rattle.dg_boot.specs.Sizes.{copy_piece_size};
 
 use dg_base::crc16_more;
 use dg_nor::{Nor, Stopped, erase_sector, program_in, read_in};
 
 /// The bytes of a page that are read and programmed at once.
-const PIECE_SIZE: u32 = 184;
+pub const COPY_PIECE: u32 = 184;
 
-/// The pieces of a page.
-const PIECES: u32 = 6;
+/// The pieces of a page, each of which is one program.
+pub const COPY_PIECES: u32 = 6;
 
 /// Reads the bytes of a sector from `at` on into `piece`, and gives their checksum behind `before`.
 fn piece_crc<N: Nor>(
@@ -49,11 +49,11 @@ pub(crate) fn front_crc<N: Nor>(
     ensures crc { IfOk result (λ crc. crc ≡ crc_more before (part (sector (N.device nor.old).image index) 0 count)) }
     ensures ends { ReadEnds result (N.device nor.old) (N.device nor.new) }
 {
-    let mut piece = [0; PIECE_SIZE as usize];
+    let mut piece = [0; COPY_PIECE as usize];
     let mut crc = before;
     let mut at = 0;
     while at < count {
-        let len = (count - at).min(PIECE_SIZE);
+        let len = (count - at).min(COPY_PIECE);
         crc = piece_crc(nor, index, at, &mut piece[..len as usize], crc)?;
         at += len;
     }
@@ -73,18 +73,18 @@ fn copy_piece<N: Nor>(
     requires from_in { from < sectors }
     requires to_in { to < sectors }
     requires apart { from ≢ to }
-    requires in_page { at + piece_size ≤ page_size }
+    requires in_page { at + copy_piece_size ≤ page_size }
     ensures cells { OnOk result (sector (N.device nor.new).image to
-        ≡ programmed (sector (N.device nor.old).image to) at (part (sector (N.device nor.old).image from) at piece_size)) }
-    ensures crc { IfOk result (λ crc. crc ≡ crc_more before (part (sector (N.device nor.old).image from) at (min (count - at) piece_size))) }
+        ≡ programmed (sector (N.device nor.old).image to) at (part (sector (N.device nor.old).image from) at copy_piece_size)) }
+    ensures crc { IfOk result (λ crc. crc ≡ crc_more before (part (sector (N.device nor.old).image from) at (min (count - at) copy_piece_size))) }
     ensures touches { Touches to (to + 1) (N.device nor.old).image (N.device nor.new).image }
     ensures ran { OnOk result (Ran 1 (N.device nor.old) (N.device nor.new)) }
     ensures stopped { OnErr result (Halts 1 0 (N.device nor.old) (N.device nor.new)) }
 {
-    let mut piece = [0; PIECE_SIZE as usize];
+    let mut piece = [0; COPY_PIECE as usize];
     read_in(nor, from, at, &mut piece)?;
     program_in(nor, to, at, &piece)?;
-    let summed = count.saturating_sub(at).min(PIECE_SIZE);
+    let summed = count.saturating_sub(at).min(COPY_PIECE);
     Ok(crc16_more(before, &piece[..summed as usize]))
 }
 
@@ -109,8 +109,8 @@ pub(crate) fn copy_page<N: Nor>(
 {
     erase_sector(nor, to)?;
     let mut crc = before;
-    for k in 0..PIECES {
-        crc = copy_piece(nor, from, to, PIECE_SIZE * k, count, crc)?;
+    for k in 0..COPY_PIECES {
+        crc = copy_piece(nor, from, to, COPY_PIECE * k, count, crc)?;
     }
     Ok(crc)
 }

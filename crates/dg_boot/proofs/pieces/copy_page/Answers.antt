@@ -8,7 +8,7 @@ use Rattle.dg_nor.proofs.ChipLemmas.{length-sector, sector_kept, Touches_then}
 use Rattle.dg_nor.proofs.DeviceLemmas.{Ran_then, OnErr_from}
 use Rattle.dg_slot.specs.Layout.{page_size}
 use Rattle.dg_volume.specs.Sizes.{copy_operations}
-use Rattle.dg_boot.specs.Sizes.{piece_size}
+use Rattle.dg_boot.specs.Sizes.{copy_piece_size}
 use Rattle.dg_boot.proofs.ReadLemmas.{halted_after}
 use Rattle.dg_boot.proofs.PageLemmas.{sum_none, sum_more}
 use Rattle.dg_boot.proofs.CopyLemmas.{copy_none, copy_more, copy_all, apart, AreBytes-sector}
@@ -38,13 +38,13 @@ loop-k-preserved g c =
     let cells = sector image from in
     let whole = length-sector image from chip.cells c.requires.from_in in
     let same = sector_kept from before.touches c.requires.from_in (apart from c.args.to c.requires.apart) in
-    let more : piece_size * k + piece_size ≡ piece_size * (k + 1) = omega arith in
-    let at = piece_size * k in
+    let more : copy_piece_size * k + copy_piece_size ≡ copy_piece_size * (k + 1) = omega arith in
+    let at = copy_piece_size * k in
     record {
-      copied = copy_more cells _ _ _ at piece_size (piece_size * (k + 1)) whole (AreBytes-sector image from chip.bytes)
-          before.copied done.cells (ap (λ s. part s at piece_size) same) more (omega arith);
-      summed = sum_more cells c.args.count c.args.before c.loop-k.crc c.in_ok-crc.crc at piece_size (piece_size * (k + 1)) before.summed
-          (done.crc ∙ ap (λ (s : List ℕ). crc_more c.loop-k.crc (part s at (min (c.args.count - at) piece_size))) same) more (omega (arith, whole));
+      copied = copy_more cells _ _ _ at copy_piece_size (copy_piece_size * (k + 1)) whole (AreBytes-sector image from chip.bytes)
+          before.copied done.cells (ap (λ s. part s at copy_piece_size) same) more (omega arith);
+      summed = sum_more cells c.args.count c.args.before c.loop-k.crc c.in_ok-crc.crc at copy_piece_size (copy_piece_size * (k + 1)) before.summed
+          (done.crc ∙ ap (λ (s : List ℕ). crc_more c.loop-k.crc (part s at (min (c.args.count - at) copy_piece_size))) same) more (omega (arith, whole));
       touches = Touches_then before.touches done.touches;
       ran = let e : 1 + k + 1 ≡ 1 + (k + 1) = omega arith in subst (λ (n : ℕ). Ran n (g.N.Nor.device c.args.nor.now) (g.N.Nor.device c.copy_piece.new.nor)) e (Ran_then before.ran done.ran);
     }
@@ -54,6 +54,6 @@ returns-clause-page g c =
     let from = c.args.from in
     let chip = g.met.N.Nor.is_chip c.args.nor.now in
     let image = (g.N.Nor.device c.args.nor.now).image in
-    let all : piece_size * c.loop-k.k ≡ page_size = omega arith in
+    let all : copy_piece_size * c.loop-k.k ≡ page_size = omega arith in
     copy_all (sector image from) _ page_size (length-sector image from chip.cells c.requires.from_in) (omega arith)
     (c.loop-k.invariant.copied ∙ ap (λ n. overwritten (blank sector_size) 0 (part (sector image from) 0 n)) all)
