@@ -5,6 +5,7 @@ pub mod Hexadecimal
 pub mod Memory
 pub mod Numbers
 pub mod Outside
+pub mod Sizes
 pub mod Standard
 pub mod Status
 pub mod Texts

@@ -1,6 +1,6 @@
 //! What happens to motes, event by event, and cuts of their power.
 ghost use Rattle.std.specs.Prelude.{◌≡◌, ◌≤◌, [], ◌∷◌, ◌++◌, length, OnOk, OnErr};
-ghost use Rattle.dg_base.specs.declared.events.TheConstants.{LONGEST_MASK};
+ghost use Rattle.dg_base.specs.Sizes.{longest_frame, longest_mask};
 
 use crate::texts::Bytes;
 use arrayvec::ArrayVec;
@@ -32,7 +32,7 @@ impl Model for FrameBytes {
 impl FrameBytes {
     /// The frame of these bytes.
     pub fn new(bytes: &[u8]) -> FrameBytes
-        requires { length bytes.now ≤ LONGEST_FRAME }
+        requires { length bytes.now ≤ longest_frame }
         ensures { result ≡ bytes.now }
     {
         let mut held = ArrayVec::new();
@@ -43,7 +43,7 @@ impl FrameBytes {
     /// The bytes.
     pub fn as_slice(&self) -> &[u8]
         ensures value { result.now ≡ self.now }
-        ensures fits { length result.now ≤ LONGEST_FRAME }
+        ensures fits { length result.now ≤ longest_frame }
     {
         self.bytes.as_slice()
     }
@@ -126,7 +126,7 @@ pub struct Cut {
 
     ghost numbered: { 1 ≤ after },
     ghost some: { 1 ≤ length mask },
-    ghost within: { length mask ≤ LONGEST_MASK },
+    ghost within: { length mask ≤ longest_mask },
 }
 
 /// An event, and the cut in it, if there is one.

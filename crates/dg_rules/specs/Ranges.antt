@@ -2,7 +2,7 @@
 use Rattle.std.specs.Prelude.{◌≢◌, ℕ, ◌<◌, ◌≤◌, ◌^◌, length, IfSome}
 use Rattle.dg_words.specs.Cells.{AreBytes}
 use Rattle.dg_volume.specs.Sizes.{images}
-use Rattle.dg_base.specs.declared.events.TheConstants.{LONGEST_FRAME}
+use Rattle.dg_base.specs.Sizes.{longest_frame}
 use Rattle.dg_nor.specs.Sizes.{sector_size}
 use Rattle.dg_base.specs.declared.events.Cut.{Cut}
 use Rattle.dg_base.specs.declared.events.Event.{Event}
@@ -17,7 +17,7 @@ EventFits motes (Last from to dt word) = (from < motes) × (to < motes) × (from
 EventFits motes (Reset mote dt word) = mote < motes
 EventFits motes (Inject mote image version dt word) = (mote < motes) × (image < images) × (1 ≤ version)
 EventFits motes (OrderEvent mote number image version dt word) = (mote < motes) × (1 ≤ number) × (number < 2 ^ 32) × (image < images) × (1 ≤ version) × (version < 2 ^ 32)
-EventFits motes (Frame mote dt word bytes) = (mote < motes) × (length bytes ≤ LONGEST_FRAME) × AreBytes bytes
+EventFits motes (Frame mote dt word bytes) = (mote < motes) × (length bytes ≤ longest_frame) × AreBytes bytes
 
 pub record CutFits (cut : Cut) : Type 0 where
   pub counted : 1 ≤ cut.after

@@ -7,7 +7,7 @@ use Rattle.dg_words.specs.Cells.{AreBytes}
 use Rattle.dg_base.specs.Numbers.{number_of}
 use Rattle.dg_base.specs.Hexadecimal.{hex_bytes}
 use Rattle.dg_base.specs.Texts.{spells_name}
-use Rattle.dg_base.specs.declared.events.TheConstants.{LONGEST_FRAME, LONGEST_MASK}
+use Rattle.dg_base.specs.Sizes.{longest_frame, longest_mask}
 use Rattle.dg_base.specs.declared.events.Event.TheVariants.{Tick, Hear, Last, Reset, Inject, Order, Frame}
 use Rattle.dg_base.specs.declared.events.Cut.{Cut as CutOfPower}
 use Rattle.dg_object.specs.Sizes.{most_bytes, slots}
@@ -46,7 +46,7 @@ at_most-ok low high fault p = most_by-ok low high (nat_le low high) refl fault p
 pub cut_with-ok : (cut : CutOfPower) → cut_with cut.after cut.mask ≡ Ok cut
 unfolding cut_with
 cut_with-ok cut =
-    rw (at_most-ok 1 cut.after fault.Number cut.numbered, at_most-ok 1 (length cut.mask) fault.Mask cut.some, at_most-ok (length cut.mask) LONGEST_MASK fault.Mask cut.within) refl
+    rw (at_most-ok 1 cut.after fault.Number cut.numbered, at_most-ok 1 (length cut.mask) fault.Mask cut.some, at_most-ok (length cut.mask) longest_mask fault.Mask cut.within) refl
 
 -- a cut whose fields are read
 pub cut_of-read : (place : Place) (fields : List (List ℕ)) (operation digits : List ℕ) (cut : CutOfPower) → two_of fields ≡ Ok (operation, digits) → standing verb.Cut place ≡ Ok (tt {0})
@@ -59,7 +59,7 @@ unfolding cut_with
 cut_with-is after mask cut h =
     let numbered = bound (at_most 1 after fault.Number) _ cut h in
     let some = bound (at_most 1 (length mask) fault.Mask) _ cut numbered.2 in
-    let within = bound (at_most (length mask) LONGEST_MASK fault.Mask) _ cut some.2 in
+    let within = bound (at_most (length mask) longest_mask fault.Mask) _ cut some.2 in
     let made : CutOfPower = record { after = after; mask = mask; numbered = numbered.0; some = some.0; within = within.0 } in
     let e : made ≡ cut = cc in
     (ap (λ (x : CutOfPower). x.after) (sym e), ap (λ (x : CutOfPower). x.mask) (sym e))
@@ -120,7 +120,7 @@ mask_of-bytes : (word bytes : List ℕ) → mask_of word ≡ Ok bytes → AreByt
 unfolding mask_of
 mask_of-bytes word bytes h =
     let read = bound (or_fault fault.Mask (hex_bytes word)) _ bytes h in
-    let size = sized-within fault.Mask 1 LONGEST_MASK read.0 bytes read.2 in
+    let size = sized-within fault.Mask 1 longest_mask read.0 bytes read.2 in
     subst AreBytes size.0 (hex_are_bytes word read.0 (or_fault_ok fault.Mask (hex_bytes word) read.0 read.1))
 
 -- ---- lines
@@ -349,8 +349,8 @@ frame_known place fields line h =
     let mote = bound (mote_in place.motes t.0.0) _ line u.2 in
     let dt = bound (number_in t.0.1) _ line mote.2 in
     let word = bound (number_in t.0.2) _ line dt.2 in
-    let content = bound (sized_content 0 LONGEST_FRAME t.0.3) _ line word.2 in
-    let size = sized_content-is 0 LONGEST_FRAME t.0.3 content.0 content.1 in
+    let content = bound (sized_content 0 longest_frame t.0.3) _ line word.2 in
+    let size = sized_content-is 0 longest_frame t.0.3 content.0 content.1 in
     let here : Happens (Frame mote.0 dt.0 word.0 content.0) ≡ line = cc in
     let P : Line → Type 0 = λ l. Known verb.Frame place l in
     subst P here (record {

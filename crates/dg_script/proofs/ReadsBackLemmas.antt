@@ -12,7 +12,7 @@ use Rattle.std.specs.Str.Parse.{digits_value}
 use Rattle.dg_words.specs.Cells.{AreBytes}
 use Rattle.dg_base.specs.Hexadecimal.{hex_text, hex_digit}
 use Rattle.dg_base.specs.Texts.{spells_name, is_name_byte}
-use Rattle.dg_base.specs.declared.events.TheConstants.{LONGEST_FRAME, LONGEST_MASK}
+use Rattle.dg_base.specs.Sizes.{longest_frame, longest_mask}
 use Rattle.dg_base.specs.declared.events.Event.{Event}
 use Rattle.dg_base.specs.declared.events.Event.TheVariants.{Tick, Hear, Last, Reset, Inject, Order, Frame}
 use Rattle.dg_base.specs.declared.events.Cut.{Cut as CutOfPower}
@@ -214,12 +214,12 @@ record IsMask (bytes : List ℕ) : Type 0 where
   size : length (hex_text bytes) ≡ 2 * length bytes
   read : mask_of (hex_text bytes) ≡ Ok bytes
 
-mask : (bytes : List ℕ) → AreBytes bytes → 1 ≤ length bytes → length bytes ≤ LONGEST_MASK → IsMask bytes
+mask : (bytes : List ℕ) → AreBytes bytes → 1 ≤ length bytes → length bytes ≤ longest_mask → IsMask bytes
 unfolding mask_of
 mask bytes are low high = record {
   word = record { some = omega (arith, length-hex_text bytes, low); whole = hex_lacks bytes };
   size = length-hex_text bytes;
-  read = rw (hex_bytes-hex_text bytes (all_bytes bytes are), le-leb 1 (length bytes) low, le-leb (length bytes) LONGEST_MASK high) refl;
+  read = rw (hex_bytes-hex_text bytes (all_bytes bytes are), le-leb 1 (length bytes) low, le-leb (length bytes) longest_mask high) refl;
 }
 
 stood : (v : Verb) (place : Place) → StandsBy v place → standing v place ≡ Ok (tt {0})
@@ -372,7 +372,7 @@ frame_read place m d w bytes stands few fits plays =
     let a = number m (omega (arith, few.0)) in
     let b = number d fits.1.dt in
     let c = number w fits.1.word in
-    let f = content 0 LONGEST_FRAME bytes fits.2.bytes (omega arith) fits.2.few in
+    let f = content 0 longest_frame bytes fits.2.bytes (omega arith) fits.2.few in
     reads_words verb.Frame place (decimal m ∷ decimal d ∷ decimal w ∷ content_text bytes ∷ []) (Happens (Frame m d w bytes)) (a.word, (b.word, (c.word, (f.word, tt))))
     (omega (arith, a.short, b.short, c.short, f.size, fits.2.few)) plays
     (rw (stood verb.Frame place stands, mote place.motes m a fits.0, b.read, c.read, f.read) refl)

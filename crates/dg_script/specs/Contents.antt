@@ -4,7 +4,7 @@ use Rattle.dg_words.specs.Lists.{tabulate}
 use Rattle.dg_base.specs.Numbers.{number_of}
 use Rattle.dg_base.specs.Hexadecimal.{hex_bytes}
 use Rattle.dg_base.specs.Texts.{spells_name}
-use Rattle.dg_base.specs.declared.events.TheConstants.{LONGEST_MASK}
+use Rattle.dg_base.specs.Sizes.{longest_mask}
 use Rattle.dg_script.specs.Results.{◌>>?◌, kept_if, ◌>>=◌, guarded, or_fault}
 use Rattle.dg_script.specs.declared.fault.LineFault.{LineFault}
 use Rattle.dg_script.specs.declared.fault.LineFault.TheVariants.{Name, Content, Mask}
@@ -45,4 +45,4 @@ sized_content least most word = or_fault Content (content_of word) >>= sized Con
 
 -- the digits of 1 to 2,048 bytes
 unfoldable pub mask_of : List ℕ → Result (List ℕ) LineFault
-mask_of word = or_fault Mask (hex_bytes word) >>= sized Mask 1 LONGEST_MASK
+mask_of word = or_fault Mask (hex_bytes word) >>= sized Mask 1 longest_mask

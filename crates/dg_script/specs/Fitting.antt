@@ -2,7 +2,7 @@
 use Rattle.std.specs.Prelude.{◌≡◌, ◌≢◌, ℕ, ◌<◌, ◌≤◌, ◌^◌, IsTrue, true, false, length, List}
 use Rattle.dg_words.specs.Cells.{AreBytes}
 use Rattle.dg_base.specs.Texts.{spells_name}
-use Rattle.dg_base.specs.declared.events.TheConstants.{LONGEST_FRAME, LONGEST_MASK}
+use Rattle.dg_base.specs.Sizes.{longest_frame, longest_mask}
 use Rattle.dg_base.specs.declared.events.Event.{Event}
 use Rattle.dg_base.specs.declared.events.Event.TheVariants.{Tick, Hear, Last, Reset, Inject, Order, Frame}
 use Rattle.dg_base.specs.declared.events.Cut.{Cut as CutOfPower}
@@ -40,7 +40,7 @@ pub record FitsCut (cut : CutOfPower) : Type 0 where
   pub counted : 1 ≤ cut.after
   pub fits : cut.after < 2 ^ 32
   pub some : 1 ≤ length cut.mask
-  pub few : length cut.mask ≤ LONGEST_MASK
+  pub few : length cut.mask ≤ longest_mask
   pub bytes : AreBytes cut.mask
 
 -- what each event has besides its own numbers
@@ -65,7 +65,7 @@ pub record IsCounted (n : ℕ) : Type 0 where
   pub fits : n < 2 ^ 32
 
 pub record IsFrame (content : List ℕ) : Type 0 where
-  pub few : length content ≤ LONGEST_FRAME
+  pub few : length content ≤ longest_frame
   pub bytes : AreBytes content
 
 -- an event is at one of so many motes

@@ -1,7 +1,7 @@
 -- The line that a text spells at a place, or its first fault: first those of the whole line, then the faults of its fields from left to right.
 use Rattle.std.specs.Prelude.{◌≡◌, refl, ℕ, ◌==◌, ◌≤◌, nat_le, not, Bool, true, false, if◌then◌else◌, List, [], ◌∷◌, length, Result, Ok, Err}
 use Rattle.std.proofs.lemmas.Bool.{leb-true}
-use Rattle.dg_base.specs.declared.events.TheConstants.{LONGEST_FRAME, LONGEST_MASK}
+use Rattle.dg_base.specs.Sizes.{longest_frame, longest_mask}
 use Rattle.dg_base.specs.declared.events.Event.TheVariants as event
 use Rattle.dg_base.specs.declared.events.Cut.{Cut as CutOfPower}
 use Rattle.dg_object.specs.Sizes.{most_bytes}
@@ -94,7 +94,7 @@ order_of place fields =
 unfoldable pub frame_of : Place → List (List ℕ) → Result Line LineFault
 frame_of place fields =
     four_of fields >>= λ t. standing verb.Frame place >>= λ u. mote_in place.motes t.0 >>= λ mote. number_in t.1 >>= λ dt. number_in t.2 >>= λ word.
-    sized_content 0 LONGEST_FRAME t.3 >>= λ bytes. Ok (Happens (event.Frame mote dt word bytes))
+    sized_content 0 longest_frame t.3 >>= λ bytes. Ok (Happens (event.Frame mote dt word bytes))
 
 -- ---- cuts, rounds and sweeps
 
@@ -109,7 +109,7 @@ at_most low high fault = most_by low high (nat_le low high) refl fault
 -- the cut in this operation, which leaves this mask
 unfoldable pub cut_with : (after : ℕ) (mask : List ℕ) → Result CutOfPower LineFault
 cut_with after mask =
-    at_most 1 after fault.Number >>= λ numbered. at_most 1 (length mask) fault.Mask >>= λ some. at_most (length mask) LONGEST_MASK fault.Mask >>= λ within.
+    at_most 1 after fault.Number >>= λ numbered. at_most 1 (length mask) fault.Mask >>= λ some. at_most (length mask) longest_mask fault.Mask >>= λ within.
     Ok (record { after = after; mask = mask; numbered = numbered; some = some; within = within })
 
 -- `cut AT MASK`

@@ -1,7 +1,7 @@
 -- Frames on a line of bytes, and the items of a stream.
 use Rattle.std.specs.Prelude.{◌≡◌, ◌≢◌, ◌⊎◌, ℕ, ◌==◌, ◌&&◌, ◌||◌, ◌≤◌, not, nat_lt, Bool, true, false, if◌then◌else◌, List, [], ◌∷◌, ◌++◌, length}
 use Rattle.std.specs.List.{flat_map, AllByRecursion}
-use Rattle.dg_base.specs.declared.events.TheConstants.{LONGEST_FRAME}
+use Rattle.dg_base.specs.Sizes.{longest_frame}
 use Rattle.dg_serial.specs.declared.TheConstants.{FLAG, ESCAPE, ESCAPED_FLAG, ESCAPED_ESCAPE}
 
 -- ---- stuffing
@@ -26,7 +26,7 @@ line_of frames = flat_map stuffed frames
 -- what may be a frame on the line
 pub record IsOnLine (bytes : List ℕ) : Type 0 where
   pub some : bytes ≢ []
-  pub most : length bytes ≤ LONGEST_FRAME
+  pub most : length bytes ≤ longest_frame
 
 -- ---- a stream is cut at its flags
 
@@ -117,7 +117,7 @@ pub data Item : Type 0 where
 
 abbrev pub item_in : List ℕ → Item
 item_in piece =
-    if is_broken piece then Escape else (if nat_lt LONGEST_FRAME (length (unstuffed piece)) then Long else Frame (unstuffed piece))
+    if is_broken piece then Escape else (if nat_lt longest_frame (length (unstuffed piece)) then Long else Frame (unstuffed piece))
 
 -- an empty piece gives nothing, and another one gives one item
 abbrev pub item_of : List ℕ → List Item

@@ -1,0 +1,19 @@
+-- The bounds that the crates above share. Each is a number of this profile.
+use Rattle.std.specs.Prelude.{ℕ}
+
+-- the bytes of a frame, at most. The frames of the protocol are shorter; what comes from outside may be any bytes
+abbrev pub longest_frame : ℕ
+longest_frame = 64
+
+-- the bytes of the mask of a cut, at most: as many as a sector of a chip has
+abbrev pub longest_mask : ℕ
+longest_mask = 2048
+
+-- the motes of a network, at most
+abbrev pub most_motes : ℕ
+most_motes = 16
+
+-- the images that frames and scripts name: those from 1 to this number. Image 0 is golden, and a chip may have slots
+-- for more images than a network names
+abbrev pub network_images : ℕ
+network_images = 3
