@@ -17,3 +17,11 @@ most_motes = 16
 -- for more images than a network names
 abbrev pub network_images : ℕ
 network_images = 3
+
+-- the greatest port of the first mote of a network. The others have those that follow, so it leaves room for them
+abbrev pub greatest_port : ℕ
+greatest_port = 65500
+
+-- the bytes of a content that a script or a file gives for an image, at most
+abbrev pub most_content : ℕ
+most_content = 1048576

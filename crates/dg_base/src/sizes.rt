@@ -1,6 +1,6 @@
 //! The bounds that the crates above share, and what they are. The function does nothing: its contract is the law.
 ghost use Rattle.std.specs.Prelude.{◌≡◌};
-ghost use Rattle.dg_base.specs.Sizes.{longest_frame, longest_mask, most_motes, network_images};
+ghost use Rattle.dg_base.specs.Sizes.{longest_frame, longest_mask, most_motes, network_images, greatest_port, most_content};
 
 use crate::events::{LONGEST_FRAME, LONGEST_MASK};
 
@@ -11,11 +11,19 @@ pub const MOST_MOTES: u8 = 16;
 /// more images than a network names.
 pub const NETWORK_IMAGES: u8 = 3;
 
-/// The bounds are those of this profile: frames of at most 64 bytes, masks of at most 2,048, 16 motes, and the
-/// images 1 to 3.
+/// The greatest port of the first mote of a network. The others have those that follow, so it leaves room for them.
+pub const GREATEST_PORT: u16 = 65_500;
+
+/// The most bytes of a content that a script or a file gives for an image.
+pub const MOST_CONTENT: usize = 1_048_576;
+
+/// The bounds are those of this profile: frames of at most 64 bytes, masks of at most 2,048, 16 motes, the images
+/// 1 to 3, ports up to 65,500, and contents of at most 1,048,576 bytes.
 pub fn the_sizes_are_these()
     ensures frame { LONGEST_FRAME ≡ longest_frame }
     ensures mask { LONGEST_MASK ≡ longest_mask }
     ensures motes { MOST_MOTES ≡ most_motes }
     ensures images { NETWORK_IMAGES ≡ network_images }
+    ensures port { GREATEST_PORT ≡ greatest_port }
+    ensures content { MOST_CONTENT ≡ most_content }
 {}
