@@ -1,41 +1,21 @@
 -- The bits of a byte form, and the set that they make.
-use Rattle.std.proofs.Common.{◌≡◌, ◌≢◌, ℕ, zero, suc, ◌+◌, ◌-◌, ◌*◌, ◌/◌, ◌%◌, ◌<◌, ◌≤◌, Bool, true, false, Decides, not, ◌&&◌, ◌||◌, cond, List, [], ◌∷◌, ◌++◌, take, drop, length, get_or, replicate, slice_index, eqb, leb, ltb, refl, sym, ap, ◌∙◌, max, inl, inr, arith}
+use Rattle.std.proofs.Common.{◌≡◌, ◌≢◌, ℕ, zero, suc, ◌+◌, ◌-◌, ◌*◌, ◌/◌, ◌%◌, ◌<◌, ◌≤◌, Bool, true, false, Decides, not, ◌&&◌, ◌||◌, cond, List, [], ◌∷◌, ◌++◌, take, drop, length, get_or, replicate, slice_index, eqb, refl, sym, ap, ◌∙◌, max, inl, inr, arith}
 use Rattle.std.proofs.Math.ListN.{set as put, length-replicate, length-set}
-use Rattle.std.proofs.lemmas.Bool.{both_ways, cases_lt, cases_eq, cond_both, eq-eqb, eqb-true, ne_eqb, or_left, false≢true}
+use Rattle.std.proofs.lemmas.Bool.{both_ways, cases_lt, cases_eq, cond_both, eq-eqb, ne_eqb, or_left}
 use Rattle.std.proofs.lemmas.Bool.Decides.{nat_tests, same_from_decides, Decides-like}
 use Rattle.std.proofs.lemmas.List.{get_or_past, get_or-drop, get_or-take, get_or-replicate, length-append, length-drop, length-take-le, get_or-set_other, get_or-set_same}
 use Rattle.std.proofs.lemmas.List.FromFn.{fill_by_all, get_or-map-range_with_len, length-map-range_with_len}
-use Rattle.std.proofs.lemmas.Map.Views.{any-filter_same}
 use Rattle.std.proofs.lemmas.Nat.{or_lt}
-use Rattle.std.proofs.lemmas.Nat.Bits.{bit_at-zero, bit_at-lt, bit_at_or}
+use Rattle.std.proofs.lemmas.Nat.Bits.{bit_at-lt, bit_at_or}
 use Rattle.std.specs.Cmp.Lexicographic.{pointwise, bytes_decides}
 use Rattle.std.specs.Int.{bit_at}
 use Rattle.std.specs.Int.RustNames.{bit_or}
 use Rattle.std.specs.FinSet as set
 use Rattle.dg_bits.specs.Sets.{Numbers, AllBelow, IsLeast, same}
 use Rattle.dg_bits.specs.ByteForm.{is_marked, numbers_of, bit_of, byte_of, byte_form, IsPacked}
-use Rattle.dg_bits.specs.SetLaws.{same_numbers, same_decides, any_in_range, contains-none, contains-put, contains-without, contains-both, up_to, len-up_to_in, len-up_to_out}
-
-no_bit : (b i : ℕ) → b ≡ 0 → eqb (bit_at b i) 1 ≡ false
-no_bit b i e = ap (λ x. eqb (bit_at x i) 1) e ∙ ap (λ x. eqb x 1) (bit_at-zero i)
-
--- past the end there is no bit
-pub unmarked_past : (bytes : List ℕ) (n : ℕ) → 8 * length bytes ≤ n → is_marked bytes n ≡ false
-unfolding is_marked
-unmarked_past bytes n h = no_bit _ _ (get_or_past bytes (n / 8) 0 (omega arith))
-
-within_length : (len n : ℕ) (m : Bool) → (len ≤ n → m ≡ false) → (m && (leb 0 n && ltb n (0 + len))) ≡ m
-within_length len n true past = elim (cases_lt n len) [ inl h ↦ grind (arith, nat_tests) | inr h ↦ absurd (false≢true (sym (past h))) ]
-within_length len n false past = refl
-
--- a number is in the set of some bytes exactly where its bit is set
-pub contains-numbers_of : (bytes : List ℕ) (n : ℕ) → set.contains (numbers_of bytes) n ≡ is_marked bytes n
-unfolding numbers_of
-contains-numbers_of bytes n =
-    set.contains-from_list_nat _ n
-    ∙ any-filter_same (λ y. eqb y n) (is_marked bytes) (is_marked bytes n) (λ k e. ap (is_marked bytes) (eqb-true k n e)) _
-    ∙ ap (λ b. is_marked bytes n && b) (any_in_range 0 (8 * length bytes) n)
-    ∙ within_length (8 * length bytes) n (is_marked bytes n) (unmarked_past bytes n)
+pub use Rattle.dg_bits.specs.ModelLaws.{unmarked_past, contains-numbers_of, byte_form-numbers_of}
+use Rattle.dg_bits.specs.ModelLaws.{same_numbers, same_decides, no_bit, weights, byte_of-numbers_of}
+use Rattle.dg_bits.proofs.SetLaws.{contains-none, contains-put, contains-without, contains-both, up_to, len-up_to_in, len-up_to_out}
 
 -- ---- packed bytes
 
@@ -278,10 +258,6 @@ bit_of-is : (b : Bool) → eqb (cond b 1 0) 1 ≡ b
 bit_of-is true = refl
 bit_of-is false = refl
 
--- the bits of a sum of eight weights
-abbrev weights : ℕ → ℕ → ℕ → ℕ → ℕ → ℕ → ℕ → ℕ → ℕ
-weights a b c d e f g h = 128 * a + 64 * b + 32 * c + 16 * d + 8 * e + 4 * f + 2 * g + h
-
 abbrev pick : ℕ → ℕ → ℕ → ℕ → ℕ → ℕ → ℕ → ℕ → ℕ → ℕ
 pick a b c d e f g h zero = a
 pick a b c d e f g h (suc zero) = b
@@ -365,43 +341,6 @@ numbers_of-byte_form width s fits =
     ])
 
 -- ---- from bytes to a set and back
-
-eight_bits : (b : ℕ) → b < 256 → b ≡ weights (bit_at b 7) (bit_at b 6) (bit_at b 5) (bit_at b 4) (bit_at b 3) (bit_at b 2) (bit_at b 1) (bit_at b 0)
-eight_bits b h = omega arith
-
-bit_back : (x : ℕ) → x < 2 → cond (eqb x 1) 1 0 ≡ x
-bit_back x h = grind (arith, nat_tests)
-
-bit_of-placed : (bytes : List ℕ) (n k r : ℕ) → n / 8 ≡ k → n % 8 ≡ r → bit_of (numbers_of bytes) n ≡ bit_at (get_or bytes k 0) (7 - r)
-unfolding is_marked
-bit_of-placed bytes n k r place at =
-    ap (λ b. cond b 1 0) (contains-numbers_of bytes n)
-    ∙ bit_back (bit_at (get_or bytes (n / 8) 0) (7 - n % 8)) (bit_at-lt (get_or bytes (n / 8) 0) (7 - n % 8))
-    ∙ (λ i. bit_at (get_or bytes (place i) 0) (7 - at i))
-
-bit_of-numbers_of : (bytes : List ℕ) (k r : ℕ) → r < 8 → bit_of (numbers_of bytes) (8 * k + r) ≡ bit_at (get_or bytes k 0) (7 - r)
-bit_of-numbers_of bytes k r lt = bit_of-placed bytes (8 * k + r) k r (omega arith) (omega arith)
-
-byte_of-numbers_of : (bytes : List ℕ) (k : ℕ) → get_or bytes k 0 < 256 → get_or bytes k 0 ≡ byte_of (numbers_of bytes) k
-unfolding byte_of
-byte_of-numbers_of bytes k h =
-    let e0 = bit_of-numbers_of bytes k 0 (omega arith) in
-    let e1 = bit_of-numbers_of bytes k 1 (omega arith) in
-    let e2 = bit_of-numbers_of bytes k 2 (omega arith) in
-    let e3 = bit_of-numbers_of bytes k 3 (omega arith) in
-    let e4 = bit_of-numbers_of bytes k 4 (omega arith) in
-    let e5 = bit_of-numbers_of bytes k 5 (omega arith) in
-    let e6 = bit_of-numbers_of bytes k 6 (omega arith) in
-    let e7 = bit_of-numbers_of bytes k 7 (omega arith) in
-    eight_bits (get_or bytes k 0) h ∙ sym (λ i. weights ((ap (bit_of (numbers_of bytes)) first ∙ e0) i) (e1 i) (e2 i) (e3 i) (e4 i) (e5 i) (e6 i) (e7 i))
-  where
-    first : 8 * k ≡ 8 * k + 0
-    first = omega arith
-
--- bytes are the byte form of the set that they make
-pub byte_form-numbers_of : (bytes : List ℕ) (width : ℕ) → length bytes ≡ width → ((k : ℕ) → k < width → get_or bytes k 0 < 256) → byte_form width (numbers_of bytes) ≡ bytes
-unfolding byte_form
-byte_form-numbers_of bytes width e fit = sym (fill_by_all (byte_of (numbers_of bytes)) bytes width 0 e (λ k h. byte_of-numbers_of bytes k (fit k h)))
 
 -- ---- packed bytes and the byte form
 

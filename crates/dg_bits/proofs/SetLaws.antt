@@ -1,40 +1,13 @@
 -- What the words on sets of numbers say of one number, and two sets with the same numbers.
-use Rattle.std.proofs.Common.{◌≡◌, ℕ, zero, suc, ◌+◌, ◌<◌, ◌≤◌, Bool, true, false, not, ◌&&◌, ◌||◌, cond, Decides, List, [], ◌∷◌, Option, Some, None, MatchOption, eqb, leb, ltb, refl, sym, ap, ◌∙◌, min, inl, inr, arith}
-use Rattle.std.proofs.lemmas.Bool.{and_parts, and_from, cases_lt, lt-ltb, or_cases, or_right, both_ways, eqb-true, false≢true}
+use Rattle.std.proofs.Common.{◌≡◌, ℕ, ◌+◌, ◌<◌, ◌≤◌, Bool, true, false, not, ◌&&◌, ◌||◌, cond, List, [], ◌∷◌, Option, Some, None, MatchOption, eqb, leb, ltb, refl, sym, ap, ◌∙◌, min, inl, inr, arith}
+use Rattle.std.proofs.lemmas.Bool.{cases_lt, lt-ltb, or_cases, or_right, both_ways, eqb-true, false≢true}
 use Rattle.std.proofs.lemmas.Bool.Decides.{nat_tests}
-use Rattle.std.specs.Cmp.{IsEquivalence, IsPartialEquivalence, decided, partial_equiv_from_equiv, nat_cmp_total, nat_eq_equiv, unsigned_tied}
-use Rattle.std.specs.List.{range_with_len, list_any}
+use Rattle.std.specs.Cmp.{nat_cmp_total, nat_eq_equiv, unsigned_tied}
+use Rattle.std.specs.List.{list_any}
 use Rattle.std.specs.Ordering.{nat_cmp, eq_by_cmp}
 use Rattle.std.specs.FinSet as set
-use Rattle.dg_bits.specs.Sets.{Numbers, below, AllBelow, IsLeast, smaller, smallest, least, same}
-
--- two sets with the same numbers are equal
-pub same_numbers : (s t : Numbers) → ((q : ℕ) → set.contains s q ≡ set.contains t q) → s ≡ t
-same_numbers s t each = set.same_set nat_cmp_total set.nat_cmp-IsAntisymmetric s t each
-
--- the test of equal sets
-pub same_decides : (s t : Numbers) → Decides (same s t) (s ≡ t)
-unfolding same
-same_decides s t = (
-  λ is.
-      let parts = and_parts _ _ is in
-      same_numbers s t (λ q. same_tests _ _ (set.is_subset-contains nat_cmp_total s t parts.0 q) (set.is_subset-contains nat_cmp_total t s parts.1 q)),
-  λ e.
-      and_from _ _
-      (set.contains-is_subset nat_cmp_total s t (λ q in_s. ap (λ u. set.contains u q) (sym e) ∙ in_s))
-      (set.contains-is_subset nat_cmp_total t s (λ q in_t. ap (λ u. set.contains u q) e ∙ in_t)),
-)
-  where
-    same_tests : (a b : Bool) → (a ≡ true → b ≡ true) → (b ≡ true → a ≡ true) → a ≡ b
-    same_tests true b there back = sym (there refl)
-    same_tests false true there back = back refl
-    same_tests false false there back = refl
-
-pub same_equivalence : IsEquivalence same
-same_equivalence = decided same same_decides
-
-pub same_partial : IsPartialEquivalence same
-same_partial = partial_equiv_from_equiv same_equivalence
+use Rattle.dg_bits.specs.Sets.{Numbers, below, AllBelow, IsLeast, smaller, smallest, least}
+pub use Rattle.dg_bits.specs.ModelLaws.{same_numbers, any_in_range}
 
 pub contains-none : (q : ℕ) → set.contains (set.empty {R = nat_cmp}) q ≡ false
 contains-none q = set.contains-empty nat_cmp q
@@ -52,16 +25,6 @@ pub contains-less : (s t : Numbers) (q : ℕ) → set.contains (set.difference s
 contains-less s t q = set.contains-difference nat_cmp_total s t q
 
 -- ---- the numbers below n
-
-range_none : (lo q : ℕ) → false ≡ (leb lo q && ltb q (lo + 0))
-range_none lo q = grind (arith, nat_tests)
-
-range_more : (lo n q : ℕ) → (eqb lo q || (leb (lo + 1) q && ltb q ((lo + 1) + n))) ≡ (leb lo q && ltb q (lo + suc n))
-range_more lo n q = grind (arith, nat_tests)
-
-pub any_in_range : (lo n q : ℕ) → list_any (λ y. eqb y q) (range_with_len lo n) ≡ (leb lo q && ltb q (lo + n))
-any_in_range lo zero q = range_none lo q
-any_in_range lo (suc n) q = ap (λ b. eqb lo q || b) (any_in_range (lo + 1) n q) ∙ range_more lo n q
 
 from_zero : (n q : ℕ) → (leb 0 q && ltb q (0 + n)) ≡ ltb q n
 from_zero n q = grind (arith, nat_tests)

@@ -1,4 +1,3 @@
 pub mod Sets
-pub mod SetLaws
 pub mod ByteForm
-pub mod ByteFormLaws
+pub mod ModelLaws

@@ -31,7 +31,7 @@ impl<const N: usize> Model for PageBits<N> {
     ghost coded = { set.code coded_ℕ };
 
     ghost use Rattle.dg_bits.specs.ByteForm.{numbers_of, byte_form, IsPacked};
-    ghost use Rattle.dg_bits.specs.ByteFormLaws.{byte_form-numbers_of};
+    ghost use Rattle.dg_bits.specs.ModelLaws.{byte_form-numbers_of};
 
     ghost view = { λ b. numbers_of b.bytes };
 
@@ -44,7 +44,7 @@ impl<const N: usize> Model for PageBits<N> {
 
 impl<const N: usize> PartialEq for PageBits<N> {
     ghost use Rattle.dg_bits.specs.Sets.{same};
-    ghost use Rattle.dg_bits.specs.SetLaws.{same_partial};
+    ghost use Rattle.dg_bits.specs.ModelLaws.{same_partial};
 
     ghost eq = { same };
 
@@ -56,7 +56,7 @@ impl<const N: usize> PartialEq for PageBits<N> {
 }
 
 impl<const N: usize> Eq for PageBits<N> {
-    ghost use Rattle.dg_bits.specs.SetLaws.{same_equivalence};
+    ghost use Rattle.dg_bits.specs.ModelLaws.{same_equivalence};
 
     ghost laws = { same_equivalence };
 }

@@ -7,7 +7,7 @@ use Rattle.std.proofs.lemmas.List.{get_or-set_other, get_or-set_same}
 use Rattle.std.specs.Cmp.{nat_cmp_total, unsigned_tied}
 use Rattle.std.specs.Ordering.{nat_cmp}
 use Rattle.std.specs.FinMap as map
-use Rattle.dg_quiet.specs.declared.TheConstants.{REQUEST_QUIET, PACKET_QUIET}
+use Rattle.dg_quiet.specs.Times.{request_window, packet_window}
 use Rattle.dg_quiet.specs.Noted.{Moments, Noted, IsPast, is_past, may_ask, moments_from, moments_of}
 use Rattle.dg_quiet.specs.Histories.{Note, Request, Packet, noted, last_request, last_packet}
 
@@ -36,9 +36,9 @@ packet-noted (Packet moment i ∷ earlier) image =
 packet-noted (Request moment i ∷ earlier) image = packet-noted earlier image
 
 pub may_ask-noted : (notes : List Note) (moment image : ℕ) → may_ask (noted notes) moment image
-    ≡ (is_past (last_request notes image) REQUEST_QUIET moment && is_past (last_packet notes image) PACKET_QUIET moment)
+    ≡ (is_past (last_request notes image) request_window moment && is_past (last_packet notes image) packet_window moment)
 may_ask-noted notes moment image =
-    λ i. is_past (request-noted notes image i) REQUEST_QUIET moment && is_past (packet-noted notes image i) PACKET_QUIET moment
+    λ i. is_past (request-noted notes image i) request_window moment && is_past (packet-noted notes image i) packet_window moment
 
 -- ---- a list with a place for each image
 
@@ -139,8 +139,8 @@ is_past-is : (last : Option ℕ) (quiet moment : ℕ) → Decides (is_past last 
 is_past-is None quiet moment = (λ _. tt, λ _. refl)
 is_past-is (Some m) quiet moment = (leb-true (m + quiet) moment, le-leb (m + quiet) moment)
 
-pub may_ask-is : (n : Noted) (moment image : ℕ) → (may_ask n moment image ≡ true) ↔ (IsPast (map.get n.requests image) REQUEST_QUIET moment × IsPast (map.get n.packets image) PACKET_QUIET moment)
+pub may_ask-is : (n : Noted) (moment image : ℕ) → (may_ask n moment image ≡ true) ↔ (IsPast (map.get n.requests image) request_window moment × IsPast (map.get n.packets image) packet_window moment)
 may_ask-is n moment image =
-    let r = is_past-is (map.get n.requests image) REQUEST_QUIET moment in
-    let p = is_past-is (map.get n.packets image) PACKET_QUIET moment in
+    let r = is_past-is (map.get n.requests image) request_window moment in
+    let p = is_past-is (map.get n.packets image) packet_window moment in
     (λ is. let parts = and_parts _ _ is in (r.0 parts.0, p.0 parts.1), λ both. and_from _ _ (r.1 both.0) (p.1 both.1))

@@ -1,3 +1,4 @@
+pub mod Times
+pub mod Sizes
 pub mod Noted
 pub mod Histories
-pub mod NotedLaws

@@ -3,7 +3,7 @@ use Rattle.std.specs.Prelude.{ℕ, ◌+◌, ◌≤◌, Bool, true, ◌&&◌, nat
 use Rattle.std.specs.Coded.{Coded, code_by, coded×, coded_ℕ}
 use Rattle.std.specs.Ordering.{nat_cmp}
 use Rattle.std.specs.FinMap as map
-use Rattle.dg_quiet.specs.declared.TheConstants.{REQUEST_QUIET, PACKET_QUIET}
+use Rattle.dg_quiet.specs.Times.{request_window, packet_window}
 
 -- the moment that was noted last for each image
 abbrev pub Moments : Type 0
@@ -40,7 +40,7 @@ is_past (Some m) quiet moment = nat_le (m + quiet) moment
 -- both windows of the image are over
 abbrev pub may_ask : Noted → ℕ → ℕ → Bool
 may_ask n moment image =
-    is_past (map.get n.requests image) REQUEST_QUIET moment && is_past (map.get n.packets image) PACKET_QUIET moment
+    is_past (map.get n.requests image) request_window moment && is_past (map.get n.packets image) packet_window moment
 
 -- the map of a list that has the moment of each image from `image` on
 abbrev pub moments_from : ℕ → List (Option ℕ) → Moments

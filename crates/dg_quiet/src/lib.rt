@@ -7,25 +7,27 @@
 
 ghost use Rattle.std.specs.Prelude.{◌≡◌, ℕ, ◌-◌, ◌≤◌, ◌&&◌, ◌↔◌, List, IsTrue};
 ghost use Rattle.std.specs.FinMap as map;
+ghost use Rattle.dg_quiet.specs.Times.{request_window, packet_window};
+ghost use Rattle.dg_quiet.specs.Sizes.{windowed_images};
 ghost use Rattle.dg_quiet.specs.Noted.{nothing_noted, with_request, with_packet, IsPast, is_past, may_ask};
 ghost use Rattle.dg_quiet.specs.Histories.{Note, noted, last_request, last_packet};
 
 use std::marker::Model;
 
 /// The images whose frames are overheard: 1 to this number.
-pub const IMAGES: u8 = 6;
+pub const WINDOWED_IMAGES: u8 = 6;
 
 /// How long an overheard request keeps a mote quiet, in milliseconds.
-pub const REQUEST_QUIET: u64 = 128_000;
+pub const REQUEST_WINDOW: u64 = 128_000;
 
 /// How long an overheard packet keeps a mote quiet, in milliseconds.
-pub const PACKET_QUIET: u64 = 64_000;
+pub const PACKET_WINDOW: u64 = 64_000;
 
 /// The windows in which a mote asks for no image of which it overheard something.
 #[derive(Debug, Drop)]
 pub struct Windows {
-    requests: [Option<u64>; IMAGES as usize],
-    packets: [Option<u64>; IMAGES as usize],
+    requests: [Option<u64>; WINDOWED_IMAGES as usize],
+    packets: [Option<u64>; WINDOWED_IMAGES as usize],
 }
 
 impl Model for Windows {
@@ -36,11 +38,11 @@ impl Model for Windows {
     ghost coded = { noted_code };
 
     ghost use Rattle.std.specs.Prelude.{◌≡◌, length};
-    ghost use Rattle.dg_quiet.specs.declared.TheConstants.{IMAGES};
+    ghost use Rattle.dg_quiet.specs.Sizes.{windowed_images};
 
     ghost view = { λ w. record { requests = moments_of w.requests; packets = moments_of w.packets } };
 
-    ghost invariant = { λ w. (length w.requests ≡ IMAGES) × (length w.packets ≡ IMAGES) };
+    ghost invariant = { λ w. (length w.requests ≡ windowed_images) × (length w.packets ≡ windowed_images) };
 }
 
 impl Windows {
@@ -49,15 +51,15 @@ impl Windows {
         ensures { result ≡ nothing_noted }
     {
         Self {
-            requests: [None; IMAGES as usize],
-            packets: [None; IMAGES as usize],
+            requests: [None; WINDOWED_IMAGES as usize],
+            packets: [None; WINDOWED_IMAGES as usize],
         }
     }
 
     /// Notes that a request of the image was overheard.
     pub fn note_request(&mut self, now: u64, image: u8)
         requires low { 1 ≤ image }
-        requires high { image ≤ IMAGES }
+        requires high { image ≤ windowed_images }
         ensures { self.new ≡ with_request self.old now image }
     {
         let k = place(image);
@@ -67,7 +69,7 @@ impl Windows {
     /// Notes that a packet of the image was overheard.
     pub fn note_packet(&mut self, now: u64, image: u8)
         requires low { 1 ≤ image }
-        requires high { image ≤ IMAGES }
+        requires high { image ≤ windowed_images }
         ensures { self.new ≡ with_packet self.old now image }
     {
         let k = place(image);
@@ -77,16 +79,24 @@ impl Windows {
     /// Whether both windows of the image are over.
     pub fn may_ask(&self, now: u64, image: u8) -> bool
         requires low { 1 ≤ image }
-        requires high { image ≤ IMAGES }
+        requires high { image ≤ windowed_images }
         ensures value { result ≡ may_ask self.now now image }
         ensures over { IsTrue result
-            ↔ (IsPast (map.get self.now.requests image) REQUEST_QUIET now
-            × IsPast (map.get self.now.packets image) PACKET_QUIET now) }
+            ↔ (IsPast (map.get self.now.requests image) request_window now
+            × IsPast (map.get self.now.packets image) packet_window now) }
     {
         let k = place(image);
         are_over(self.requests[k], self.packets[k], now)
     }
 }
+
+/// The numbers are those of this profile: an overheard request keeps a mote quiet for 128,000 ms, a packet
+/// for 64,000 ms, and there are windows of the images 1 to 6.
+pub fn the_windows_are_these()
+    ensures request { REQUEST_WINDOW ≡ request_window }
+    ensures packet { PACKET_WINDOW ≡ packet_window }
+    ensures images { WINDOWED_IMAGES ≡ windowed_images }
+{}
 
 /// In every history of overheard frames the last noted moment counts: whether a mote may ask for an
 /// image follows from the newest request of it and from the newest packet of it alone.
@@ -96,8 +106,8 @@ pub fn last_note_counts()
     ensures packet { (notes : List Note) (image : ℕ)
         → map.get (noted notes).packets image ≡ last_packet notes image }
     ensures ask { (notes : List Note) (moment image : ℕ) → may_ask (noted notes) moment image
-        ≡ (is_past (last_request notes image) REQUEST_QUIET moment
-        && is_past (last_packet notes image) PACKET_QUIET moment) }
+        ≡ (is_past (last_request notes image) request_window moment
+        && is_past (last_packet notes image) packet_window moment) }
 {}
 
 // Where the moment of an image stands.
@@ -110,9 +120,9 @@ fn place(image: u8) -> usize
 
 // Whether the windows after a request and after a packet are over.
 fn are_over(request: Option<u64>, packet: Option<u64>, now: u64) -> bool
-    ensures { result ≡ (is_past request REQUEST_QUIET now && is_past packet PACKET_QUIET now) }
+    ensures { result ≡ (is_past request request_window now && is_past packet packet_window now) }
 {
-    is_over(request, REQUEST_QUIET, now) && is_over(packet, PACKET_QUIET, now)
+    is_over(request, REQUEST_WINDOW, now) && is_over(packet, PACKET_WINDOW, now)
 }
 
 // Whether what was noted, if anything, is at least `quiet` milliseconds ago.

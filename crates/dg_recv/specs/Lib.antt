@@ -1,4 +1,4 @@
+pub mod Times
 pub mod Reception
 pub mod Steps
 pub mod Histories
-pub mod HistoryLaws

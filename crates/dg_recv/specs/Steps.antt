@@ -6,25 +6,26 @@ use Rattle.dg_recv.specs.declared.Ask.{Ask}
 use Rattle.dg_recv.specs.declared.Ask.TheVariants.{Request, GiveUp, Wait}
 use Rattle.dg_recv.specs.declared.Accept.{Accept}
 use Rattle.dg_recv.specs.declared.Accept.TheVariants.{New, Known}
-use Rattle.dg_recv.specs.declared.TheConstants.{PACKETS, REQUESTS, FIRST_WAIT, NEXT_WAIT}
+use Rattle.dg_object.specs.Sizes.{packets}
+use Rattle.dg_recv.specs.Times.{most_requests, first_wait, next_wait}
 use Rattle.dg_recv.specs.Reception.{Reception}
 
 -- nothing is accepted, and the first request waits for a random while
 abbrev pub begun : ℕ → ℕ → Reception
-begun moment word = record { got = set.empty; tries = 0; due = moment + 1 + word % FIRST_WAIT }
+begun moment word = record { got = set.empty; tries = 0; due = moment + 1 + word % first_wait }
 
 -- the packets of the page that were not accepted
 abbrev pub missing : Reception → Numbers
-missing r = set.difference (below PACKETS) r.got
+missing r = set.difference (below packets) r.got
 
 -- it waits until the request is due, and gives up after so many requests
 abbrev pub ask_of : Reception → ℕ → Ask
-ask_of r moment = if nat_lt moment r.due then Wait else (if nat_le REQUESTS r.tries then GiveUp else Request (missing r))
+ask_of r moment = if nat_lt moment r.due then Wait else (if nat_le most_requests r.tries then GiveUp else Request (missing r))
 
 -- a request counts, and the next one waits
 abbrev pub after_ask : Reception → ℕ → Reception
 after_ask r moment =
-    if nat_lt moment r.due then r else (if nat_le REQUESTS r.tries then r else record r { tries = r.tries + 1; due = moment + NEXT_WAIT })
+    if nat_lt moment r.due then r else (if nat_le most_requests r.tries then r else record r { tries = r.tries + 1; due = moment + next_wait })
 
 abbrev pub accept_of : Reception → ℕ → Accept
 accept_of r packet = if set.contains r.got packet then Known else New
@@ -32,4 +33,4 @@ accept_of r packet = if set.contains r.got packet then Known else New
 -- a new packet puts off the next request
 abbrev pub after_accept : Reception → ℕ → ℕ → Reception
 after_accept r moment packet =
-    if set.contains r.got packet then r else record r { got = set.insert r.got packet; due = moment + NEXT_WAIT }
+    if set.contains r.got packet then r else record r { got = set.insert r.got packet; due = moment + next_wait }

@@ -9,17 +9,17 @@
 ghost use Rattle.std.specs.Prelude.{◌≡◌, ℕ, ◌+◌, ◌≤◌, ◌<◌, ◌^◌, ◌&&◌, not, nat_lt, true, false, List};
 ghost use Rattle.std.specs.FinSet as set;
 ghost use Rattle.dg_bits.specs.Sets.{Numbers, below, AllBelow};
+ghost use Rattle.dg_object.specs.Sizes.{packets};
+ghost use Rattle.dg_recv.specs.Times.{first_wait, next_wait, most_requests};
 ghost use Rattle.dg_recv.specs.Steps.{begun, missing, ask_of, after_ask, accept_of, after_accept};
 ghost use Rattle.dg_recv.specs.Histories.{Call, reception, came, requests};
 
 use dg_bits::PageBits;
+use dg_object::PACKETS;
 use std::marker::Model;
 
-/// The packets of a page.
-pub const PACKETS: u8 = 48;
-
 /// The requests that are made for one page.
-pub const REQUESTS: u8 = 8;
+pub const MOST_REQUESTS: u8 = 8;
 
 /// The first request waits for 1 to this many milliseconds.
 pub const FIRST_WAIT: u32 = 512;
@@ -31,7 +31,7 @@ pub const NEXT_WAIT: u64 = 1024;
 #[derive(Clone, Copy, Debug, PartialEq, Eq)]
 pub enum Ask {
     /// Ask for these packets.
-    Request(PageBits<48>),
+    Request(PageBits<PACKETS>),
     /// All requests were made.
     GiveUp,
     /// The next request is not due yet.
@@ -50,7 +50,7 @@ pub enum Accept {
 /// The asking for the packets of one page.
 #[derive(Clone, Copy, Debug, PartialEq, Eq)]
 pub struct Asking {
-    got: PageBits<48>,
+    got: PageBits<PACKETS>,
     tries: u8,
     due: u64,
 }
@@ -58,7 +58,7 @@ pub struct Asking {
 impl Model for Asking {
     ghost use Rattle.std.specs.Prelude.{◌≤◌};
     ghost use Rattle.dg_recv.specs.Reception.{Reception, reception_code};
-    ghost use Rattle.dg_recv.specs.declared.TheConstants.{REQUESTS};
+    ghost use Rattle.dg_recv.specs.Times.{most_requests};
 
     ghost Value = { Reception };
 
@@ -66,7 +66,7 @@ impl Model for Asking {
 
     ghost view = { λ a. record { got = a.got; tries = a.tries; due = a.due } };
 
-    ghost invariant = { λ a. a.tries ≤ REQUESTS };
+    ghost invariant = { λ a. a.tries ≤ most_requests };
 
     ghost inverse = { λ r. record { got = r.got; tries = r.tries; due = r.due } };
 }
@@ -90,12 +90,12 @@ impl Asking {
         requires { now < 2 ^ 62 }
         ensures ask { result ≡ ask_of self.old now }
         ensures after { self.new ≡ after_ask self.old now }
-        ensures tries { self.new.tries ≤ REQUESTS }
+        ensures tries { self.new.tries ≤ most_requests }
     {
         if now < self.due {
             return Ask::Wait;
         }
-        if self.tries >= REQUESTS {
+        if self.tries >= MOST_REQUESTS {
             return Ask::GiveUp;
         }
         self.tries += 1;
@@ -106,7 +106,7 @@ impl Asking {
     /// Notes a packet that came in. A new one puts off the next request.
     pub fn accept(&mut self, now: u64, packet: u8) -> Accept
         requires moment { now < 2 ^ 62 }
-        requires packet { packet < PACKETS }
+        requires packet { packet < packets }
         ensures accept { result ≡ accept_of self.old packet }
         ensures after { self.new ≡ after_accept self.old now packet }
     {
@@ -119,7 +119,7 @@ impl Asking {
     }
 
     /// The packets that were accepted.
-    pub fn got(&self) -> PageBits<48>
+    pub fn got(&self) -> PageBits<PACKETS>
         ensures value { result ≡ self.now.got }
     {
         self.got
@@ -127,17 +127,25 @@ impl Asking {
 }
 
 // The packets of a page that are not in a set.
-fn without(got: &PageBits<48>) -> PageBits<48>
-    ensures { result ≡ set.difference (below PACKETS) got.now }
+fn without(got: &PageBits<PACKETS>) -> PageBits<PACKETS>
+    ensures { result ≡ set.difference (below packets) got.now }
 {
     let mut want = PageBits::all();
-    for packet in 0..PACKETS {
+    for packet in 0..PACKETS as u8 {
         if got.has(packet) {
             want.clear(packet);
         }
     }
     want
 }
+
+/// The numbers are those of this profile: the first request waits for 1 to 512 ms, each further one for
+/// 1,024 ms, and there are eight.
+pub fn the_waits_are_these()
+    ensures first { FIRST_WAIT ≡ first_wait }
+    ensures next { NEXT_WAIT ≡ next_wait }
+    ensures requests { MOST_REQUESTS ≡ most_requests }
+{}
 
 /// What holds of an asking whatever is called in which order and at which moments: a request names
 /// exactly the packets of the page that did not come in, so that nothing that was accepted is asked
@@ -147,15 +155,15 @@ pub fn asking_ends()
         → (reception start word calls).got ≡ came calls }
     ensures missing { (start word : ℕ) (earlier : List Call) (moment : ℕ) (want : Numbers)
         → ask_of (reception start word earlier) moment ≡ Ask.Request want
-        → want ≡ set.difference (below PACKETS) (came earlier) }
+        → want ≡ set.difference (below packets) (came earlier) }
     ensures never_again { (start word : ℕ) (earlier : List Call) (moment : ℕ) (want : Numbers)
         → ask_of (reception start word earlier) moment ≡ Ask.Request want
         → (packet : ℕ) → set.contains (came earlier) packet ≡ true
         → set.contains want packet ≡ false }
-    ensures requests { (start word : ℕ) (calls : List Call) → requests start word calls ≤ REQUESTS }
+    ensures requests { (start word : ℕ) (calls : List Call) → requests start word calls ≤ most_requests }
     ensures gives_up { (start word : ℕ) (earlier : List Call) (moment : ℕ)
         → ask_of (reception start word earlier) moment ≡ Ask.GiveUp
-        → requests start word earlier ≡ REQUESTS }
+        → requests start word earlier ≡ most_requests }
 {}
 
 #[cfg(test)]

@@ -1,4 +1,4 @@
+pub mod Times
 pub mod Timer
 pub mod Steps
 pub mod Runs
-pub mod RunLaws

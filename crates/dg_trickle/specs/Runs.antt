@@ -2,7 +2,7 @@
 use Rattle.std.specs.Prelude.{◌≡◌, ℕ, ◌+◌, ◌*◌, ◌^◌, ◌≤◌, ◌⊎◌, List, [], ◌∷◌, nat_lt, if◌then◌else◌}
 use Rattle.dg_trickle.specs.declared.Act.{Act}
 use Rattle.dg_trickle.specs.declared.Act.TheVariants.{Send, Quiet, Expired, Nothing}
-use Rattle.dg_trickle.specs.declared.TheConstants.{SHORTEST}
+use Rattle.dg_trickle.specs.Times.{shortest_interval}
 use Rattle.dg_trickle.specs.Timer.{Timer}
 use Rattle.dg_trickle.specs.Steps.{started, after_same, after_other, after_tick, act_of}
 
@@ -36,7 +36,7 @@ noted_of Nothing marks = marks
 
 abbrev pub noted : Timer → Call → List Mark → List Mark
 noted s Same marks = Heard ∷ marks
-noted s (Other moment word) marks = if nat_lt SHORTEST s.interval then [] else marks
+noted s (Other moment word) marks = if nat_lt shortest_interval s.interval then [] else marks
 noted s (Tick moment word) marks = noted_of (act_of s moment) marks
 
 -- what has happened since the current interval began, the newest first
@@ -53,9 +53,9 @@ sends (Kept ∷ marks) = sends marks
 
 -- the interval is the shortest, doubled up to seven times
 abbrev pub IsDoubled : Timer → Type 0
-IsDoubled s = (k : ℕ) × (k ≤ 7) × (s.interval ≡ SHORTEST * 2 ^ k)
+IsDoubled s = (k : ℕ) × (k ≤ 7) × (s.interval ≡ shortest_interval * 2 ^ k)
 
 -- an interval stays, doubles, or falls to the shortest
 abbrev pub DoublesOrFalls : Timer → Timer → Type 0
 DoublesOrFalls old new =
-    (new.interval ≡ old.interval) ⊎ ((new.interval ≡ 2 * old.interval) ⊎ (new.interval ≡ SHORTEST))
+    (new.interval ≡ old.interval) ⊎ ((new.interval ≡ 2 * old.interval) ⊎ (new.interval ≡ shortest_interval))

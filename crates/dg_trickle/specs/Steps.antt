@@ -2,7 +2,7 @@
 use Rattle.std.specs.Prelude.{ℕ, ◌+◌, ◌*◌, ◌/◌, ◌%◌, ◌≤◌, ◌<◌, min, Bool, true, false, not, ◌&&◌, nat_le, nat_lt, if◌then◌else◌}
 use Rattle.dg_trickle.specs.declared.Act.{Act}
 use Rattle.dg_trickle.specs.declared.Act.TheVariants.{Send, Quiet, Expired, Nothing}
-use Rattle.dg_trickle.specs.declared.TheConstants.{SHORTEST, LONGEST_INTERVAL, REDUNDANCY}
+use Rattle.dg_trickle.specs.Times.{shortest_interval, longest_interval, redundancy}
 use Rattle.dg_trickle.specs.Timer.{Timer}
 
 -- step 2: an interval begins, and t is drawn from its second half
@@ -12,7 +12,7 @@ begun size moment word =
 
 -- step 1: the first interval
 abbrev pub started : ℕ → ℕ → Timer
-started moment word = begun SHORTEST moment word
+started moment word = begun shortest_interval moment word
 
 -- step 3: something equal is heard. The count stands still at the end of a `u16`
 abbrev pub after_same : Timer → Timer
@@ -29,20 +29,20 @@ is_over s moment = s.fired && nat_le (s.begin + s.interval) moment
 -- step 4: at t the timer sends where fewer than k were heard. Step 5: the interval expires
 abbrev pub act_of : Timer → ℕ → Act
 act_of s moment =
-    if is_due s moment then (if nat_lt s.count REDUNDANCY then Send else Quiet) else (if is_over s moment then Expired else Nothing)
+    if is_due s moment then (if nat_lt s.count redundancy then Send else Quiet) else (if is_over s moment then Expired else Nothing)
 
 -- step 5: an interval that is over gives way to one twice as long, up to the longest
 abbrev pub after_tick : Timer → ℕ → ℕ → Timer
 after_tick s moment word =
-    if is_due s moment then record s { fired = true } else (if is_over s moment then begun (min (2 * s.interval) LONGEST_INTERVAL) moment word else s)
+    if is_due s moment then record s { fired = true } else (if is_over s moment then begun (min (2 * s.interval) longest_interval) moment word else s)
 
 -- step 6: something other is heard, and the shortest interval begins unless it runs
 abbrev pub after_other : Timer → ℕ → ℕ → Timer
-after_other s moment word = if nat_lt SHORTEST s.interval then begun SHORTEST moment word else s
+after_other s moment word = if nat_lt shortest_interval s.interval then begun shortest_interval moment word else s
 
 -- the interval lies within its bounds, and t in its second half
 pub record IsRunning (s : Timer) : Type 0 where
-  pub shortest : SHORTEST ≤ s.interval
-  pub longest : s.interval ≤ LONGEST_INTERVAL
+  pub shortest : shortest_interval ≤ s.interval
+  pub longest : s.interval ≤ longest_interval
   pub second_half : s.interval / 2 ≤ s.t
   pub before_end : s.t < s.interval

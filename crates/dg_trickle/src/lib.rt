@@ -5,6 +5,7 @@
 #![tactic(auto)]
 
 ghost use Rattle.std.specs.Prelude.{◌≡◌, ℕ, ◌<◌, ◌≤◌, ◌^◌, List, [], ◌∷◌, Contains};
+ghost use Rattle.dg_trickle.specs.Times.{shortest_interval, longest_interval, redundancy};
 ghost use Rattle.dg_trickle.specs.Timer.{Timer};
 ghost use Rattle.dg_trickle.specs.Steps.{begun, started, after_same, after_other, after_tick, act_of, IsRunning};
 ghost use Rattle.dg_trickle.specs.Runs.{Call, after, timer, Heard, current, sends, IsDoubled, DoublesOrFalls};
@@ -12,7 +13,7 @@ ghost use Rattle.dg_trickle.specs.Runs.{Call, after, timer, Heard, current, send
 use std::marker::Model;
 
 /// Imin, the shortest interval, in milliseconds.
-pub const SHORTEST: u32 = 500;
+pub const SHORTEST_INTERVAL: u32 = 500;
 
 /// Imax, the longest interval, in milliseconds: the shortest, doubled seven times.
 pub const LONGEST_INTERVAL: u32 = 64_000;
@@ -83,7 +84,7 @@ impl Trickle {
         ensures value { result ≡ started now word }
         ensures running { IsRunning result }
     {
-        Self::begin(SHORTEST, now, word)
+        Self::begin(SHORTEST_INTERVAL, now, word)
     }
 
     /// Notes that something equal was heard.
@@ -100,8 +101,8 @@ impl Trickle {
         ensures value { self.new ≡ after_other self.old now word }
         ensures running { IsRunning self.new }
     {
-        if self.interval > SHORTEST {
-            *self = Self::begin(SHORTEST, now, word);
+        if self.interval > SHORTEST_INTERVAL {
+            *self = Self::begin(SHORTEST_INTERVAL, now, word);
         }
     }
 
@@ -133,8 +134,8 @@ impl Trickle {
 
     // An interval begins. The moment from which on it may fire is drawn from its second half.
     fn begin(interval: u32, now: u64, word: u32) -> Self
-        requires shortest { SHORTEST ≤ interval }
-        requires longest { interval ≤ LONGEST_INTERVAL }
+        requires shortest { shortest_interval ≤ interval }
+        requires longest { interval ≤ longest_interval }
         requires moment { now < 2 ^ 62 }
         ensures value { result ≡ begun interval now word }
         ensures running { IsRunning result }
@@ -149,6 +150,13 @@ impl Trickle {
         }
     }
 }
+
+/// The parameters are those of this profile: Imin is 500 ms, Imax is 64,000 ms, and k is 1.
+pub fn the_parameters_are_these()
+    ensures shortest { SHORTEST_INTERVAL ≡ shortest_interval }
+    ensures longest { LONGEST_INTERVAL ≡ longest_interval }
+    ensures redundancy { REDUNDANCY ≡ redundancy }
+{}
 
 /// Bounds that hold in every run, whatever is called in which order and at which moments: the
 /// interval is the shortest one doubled up to seven times, it only doubles or falls back to the

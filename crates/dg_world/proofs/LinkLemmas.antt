@@ -6,7 +6,7 @@ use Rattle.std.proofs.lemmas.Bool.{both_ways}
 use Rattle.std.proofs.lemmas.List.{get_or-set_same, get_or-set_other, get_or-replicate}
 use Rattle.std.proofs.lemmas.List.Folds.{list_any-append}
 use Rattle.dg_bits.specs.Sets.{Numbers}
-use Rattle.dg_bits.specs.SetLaws.{contains-put, contains-none}
+use Rattle.dg_bits.proofs.SetLaws.{contains-put, contains-none}
 use Rattle.dg_rules.specs.Sizes.{most_motes}
 use Rattle.dg_script.specs.Places.{joins, is_linked}
 use Rattle.dg_world.specs.Neighbours.{is_noted, KnowsLinks}

@@ -1,5 +1,5 @@
 use Rattle.std.proofs.Common.{length, refl}
-use Rattle.dg_bits.specs.ByteFormLaws.{contains-numbers_of, numbers_of-byte_form, byte_form-numbers_of}
+use Rattle.dg_bits.proofs.ByteFormLaws.{contains-numbers_of, numbers_of-byte_form, byte_form-numbers_of}
 use Rattle.dg_bits.proofs.one_byte_form.Goals as goal
 
 pub returns-clause-bits : goal.returns-clause-bits

@@ -1,4 +1,4 @@
-use Rattle.dg_bits.specs.SetLaws.{least_cases, least_is}
+use Rattle.dg_bits.proofs.SetLaws.{least_cases, least_is}
 use Rattle.dg_bits.proofs.one_least_number.Goals as goal
 
 pub returns-clause-some : goal.returns-clause-some

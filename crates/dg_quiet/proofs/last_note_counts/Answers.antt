@@ -1,4 +1,4 @@
-use Rattle.dg_quiet.specs.NotedLaws.{request-noted, packet-noted, may_ask-noted}
+use Rattle.dg_quiet.proofs.NotedLaws.{request-noted, packet-noted, may_ask-noted}
 use Rattle.dg_quiet.proofs.last_note_counts.Goals as goal
 
 pub returns-clause-request : goal.returns-clause-request

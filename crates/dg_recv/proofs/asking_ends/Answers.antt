@@ -1,4 +1,4 @@
-use Rattle.dg_recv.specs.HistoryLaws.{got-came, asks_for_missing, never_again, few_requests, gives_up_after_all}
+use Rattle.dg_recv.proofs.HistoryLaws.{got-came, asks_for_missing, never_again, few_requests, gives_up_after_all}
 use Rattle.dg_recv.proofs.asking_ends.Goals as goal
 
 pub returns-clause-accepted : goal.returns-clause-accepted

@@ -3,8 +3,8 @@ use Rattle.std.proofs.lemmas.Bool.{ltb-true, lt-ltb}
 use Rattle.std.proofs.lemmas.Bool.Decides.{nat_tests}
 use Rattle.std.specs.FinSet as set
 use Rattle.dg_bits.specs.Sets.{below}
-use Rattle.dg_bits.specs.SetLaws.{same_numbers, contains-below, contains-without, contains-less}
-use Rattle.dg_recv.specs.declared.TheConstants.{PACKETS}
+use Rattle.dg_bits.proofs.SetLaws.{same_numbers, contains-below, contains-without, contains-less}
+use Rattle.dg_object.specs.Sizes.{packets}
 use Rattle.dg_recv.proofs.without.Goals as goal
 use Rattle.dg_recv.proofs.without.Goals.{then-has, else-has}
 
@@ -25,11 +25,11 @@ all_taken q k false known past = refl
 
 pub loop-packet-init : goal.loop-packet-init
 loop-packet-init c = λ q.
-    ap (λ s. set.contains s q) c.all-want.ensures ∙ contains-below PACKETS q ∙ none_taken q (ltb q PACKETS) (set.contains c.args.got.now q)
+    ap (λ s. set.contains s q) c.all-want.ensures ∙ contains-below packets q ∙ none_taken q (ltb q packets) (set.contains c.args.got.now q)
 
 pub loop-packet-preserved : goal.loop-packet-preserved
 loop-packet-preserved c = λ q.
-    let page = ltb q PACKETS in
+    let page = ltb q packets in
     let known = set.contains c.args.got.now q in
     elim c.if-has.branch [
       | then-has w ↦
@@ -47,6 +47,6 @@ pub returns : goal.returns
 returns c =
     same_numbers _ _ (λ q.
     c.loop-packet.invariant q
-    ∙ all_taken q c.loop-packet.packet (ltb q PACKETS) (set.contains c.args.got.now q) (λ e. lt-ltb q c.loop-packet.packet (omega (arith, ltb-true q PACKETS e, c.loop-packet-test.false)))
-    ∙ ap (λ b. b && not (set.contains c.args.got.now q)) (sym (contains-below PACKETS q))
-    ∙ sym (contains-less (below PACKETS) c.args.got.now q))
+    ∙ all_taken q c.loop-packet.packet (ltb q packets) (set.contains c.args.got.now q) (λ e. lt-ltb q c.loop-packet.packet (omega (arith, ltb-true q packets e, c.loop-packet-test.false)))
+    ∙ ap (λ b. b && not (set.contains c.args.got.now q)) (sym (contains-below packets q))
+    ∙ sym (contains-less (below packets) c.args.got.now q))

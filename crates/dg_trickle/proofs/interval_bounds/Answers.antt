@@ -1,5 +1,5 @@
 use Rattle.dg_trickle.specs.Runs.{timer}
-use Rattle.dg_trickle.specs.RunLaws.{IsRunning-after, IsRunning-timer, IsDoubled-timer, doubles_or_falls}
+use Rattle.dg_trickle.proofs.RunLaws.{IsRunning-after, IsRunning-timer, IsDoubled-timer, doubles_or_falls}
 use Rattle.dg_trickle.proofs.interval_bounds.Goals as goal
 
 pub returns-clause-running : goal.returns-clause-running

@@ -1,4 +1,4 @@
-use Rattle.dg_trickle.specs.RunLaws.{sends_if_untouched, quiet_if_heard, sends_at_most_once}
+use Rattle.dg_trickle.proofs.RunLaws.{sends_if_untouched, quiet_if_heard, sends_at_most_once}
 use Rattle.dg_trickle.proofs.suppression.Goals as goal
 
 pub returns-clause-untouched : goal.returns-clause-untouched

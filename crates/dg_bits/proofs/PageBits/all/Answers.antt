@@ -1,6 +1,6 @@
 use Rattle.std.proofs.Common.{ap, sym, ◌∙◌}
 use Rattle.std.specs.FinSet as set
-use Rattle.dg_bits.specs.SetLaws.{below_none, below_more}
+use Rattle.dg_bits.proofs.SetLaws.{below_none, below_more}
 use Rattle.dg_bits.proofs.PageBits.all.Goals as goal
 
 pub loop-n-init : goal.loop-n-init

@@ -1,8 +1,8 @@
 use Rattle.std.proofs.Common.{◌+◌, ◌*◌, ap, sym, ◌∙◌, arith}
 use Rattle.std.specs.FinSet as set
 use Rattle.dg_bits.specs.ByteForm.{numbers_of}
-use Rattle.dg_bits.specs.SetLaws.{up_to, up_to-none, up_to-all}
-use Rattle.dg_bits.specs.ByteFormLaws.{counts_byte, AllBelow-packed, AllBelow-wider}
+use Rattle.dg_bits.proofs.SetLaws.{up_to, up_to-none, up_to-all}
+use Rattle.dg_bits.proofs.ByteFormLaws.{counts_byte, AllBelow-packed, AllBelow-wider}
 use Rattle.dg_bits.proofs.PageBits.count.Goals as goal
 
 pub loop-k-init : goal.loop-k-init

@@ -1,7 +1,7 @@
 use Rattle.std.proofs.Common.{◌≡◌, ◌*◌, ◌≤◌}
 use Rattle.std.specs.FinSet as set
 use Rattle.dg_bits.specs.ByteForm.{numbers_of}
-use Rattle.dg_bits.specs.SetLaws.{up_to}
+use Rattle.dg_bits.proofs.SetLaws.{up_to}
 use Rattle.dg_bits.proofs.PageBits.count.Given as goal
 
 -- the numbers of the bytes so far are counted

@@ -1,8 +1,8 @@
 use Rattle.std.proofs.Common.{◌≡◌, ◌+◌, ◌*◌, ◌/◌, ap, sym, ◌∙◌, arith}
 use Rattle.std.specs.FinSet as set
 use Rattle.dg_bits.specs.Sets.{IsLeast, least}
-use Rattle.dg_bits.specs.SetLaws.{least_is, least-none}
-use Rattle.dg_bits.specs.ByteFormLaws.{IsLeast-first_bit, unmarked_zero, empty_unmarked, AllBelow-packed}
+use Rattle.dg_bits.proofs.SetLaws.{least_is, least-none}
+use Rattle.dg_bits.proofs.ByteFormLaws.{IsLeast-first_bit, unmarked_zero, empty_unmarked, AllBelow-packed}
 use Rattle.dg_bits.proofs.PageBits.first.Goals as goal
 use Rattle.dg_bits.proofs.PageBits.first.Goals.{After-first_bit, After-loop-k}
 

@@ -1,7 +1,7 @@
 use Rattle.std.proofs.Common.{◌≡◌, List, ℕ, ◌<◌, ◌≤◌, ◌*◌, ◌++◌, drop, false, length, ap, sym, subst, ◌∙◌, inl, inr, arith}
 use Rattle.std.proofs.lemmas.Bool.{both_ways, true≢false, cases_lt}
 use Rattle.dg_bits.specs.ByteForm.{is_marked, numbers_of, IsPacked}
-use Rattle.dg_bits.specs.ByteFormLaws.{zeros, unmarked_past, numbers_of-padded, IsPacked-padded}
+use Rattle.dg_bits.proofs.ByteFormLaws.{zeros, unmarked_past, numbers_of-padded, IsPacked-padded}
 use Rattle.dg_bits.proofs.PageBits.from_bytes.Goals as goal
 
 no_mark : (bytes : List ℕ) (size from : ℕ) → ((q : ℕ) → size ≤ q → q < from → is_marked bytes q ≡ false) → 8 * length bytes ≤ from → (q : ℕ) → size ≤ q → is_marked bytes q ≡ false

@@ -1,6 +1,6 @@
 use Rattle.std.proofs.Common.{ap, sym, ◌∙◌}
 use Rattle.std.specs.FinSet as set
-use Rattle.dg_bits.specs.ByteFormLaws.{contains-numbers_of, AllBelow-packed}
+use Rattle.dg_bits.proofs.ByteFormLaws.{contains-numbers_of, AllBelow-packed}
 use Rattle.dg_bits.proofs.PageBits.has.Goals as goal
 
 pub returns-clause-value : goal.returns-clause-value

@@ -1,5 +1,5 @@
 use Rattle.std.proofs.Common.{sym, ◌∙◌}
-use Rattle.dg_bits.specs.ByteFormLaws.{empty_zeros}
+use Rattle.dg_bits.proofs.ByteFormLaws.{empty_zeros}
 use Rattle.dg_bits.proofs.PageBits.is_empty.Goals as goal
 
 pub returns : goal.returns

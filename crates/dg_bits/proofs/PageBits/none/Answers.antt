@@ -1,4 +1,4 @@
-use Rattle.dg_bits.specs.ByteFormLaws.{IsPacked-zeros, numbers_of-zeros}
+use Rattle.dg_bits.proofs.ByteFormLaws.{IsPacked-zeros, numbers_of-zeros}
 use Rattle.dg_bits.proofs.PageBits.none.Goals as goal
 
 pub invariant_of-result : goal.invariant_of-result

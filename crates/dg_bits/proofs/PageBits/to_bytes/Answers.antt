@@ -1,6 +1,6 @@
 use Rattle.std.proofs.Common.{◌+◌, ◌*◌, ◌/◌, take, ap, ◌∙◌, arith}
 use Rattle.dg_bits.specs.ByteForm.{numbers_of, byte_form}
-use Rattle.dg_bits.specs.ByteFormLaws.{byte_form-packed, numbers_of-byte_form, AllBelow-packed, AllBelow-wider}
+use Rattle.dg_bits.proofs.ByteFormLaws.{byte_form-packed, numbers_of-byte_form, AllBelow-packed, AllBelow-wider}
 use Rattle.dg_bits.proofs.PageBits.to_bytes.Goals as goal
 
 pub returns-clause-within : goal.returns-clause-within

@@ -1,6 +1,6 @@
 use Rattle.std.proofs.Common.{◌∙◌}
 use Rattle.dg_bits.specs.Sets.{same}
-use Rattle.dg_bits.specs.ByteFormLaws.{same-packed}
+use Rattle.dg_bits.proofs.ByteFormLaws.{same-packed}
 use Rattle.dg_bits.proofs.PageBitsPartialEq.eq.Goals as goal
 
 pub returns : goal.returns

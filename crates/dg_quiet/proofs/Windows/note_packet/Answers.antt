@@ -1,7 +1,7 @@
 use Rattle.std.proofs.Common.{Some, ap, ◌∙◌, arith}
 use Rattle.std.proofs.Math.ListN.{set as put}
 use Rattle.dg_quiet.specs.Noted.{with_packet, moments_of}
-use Rattle.dg_quiet.specs.NotedLaws.{moments_of-put}
+use Rattle.dg_quiet.proofs.NotedLaws.{moments_of-put}
 use Rattle.dg_quiet.proofs.Windows.note_packet.Goals as goal
 use Rattle.dg_quiet.proofs.Windows.note_packet.Goals.{After-place-k}
 
