@@ -14,10 +14,10 @@ use Rattle.dg_base.specs.Crc.{crc_of}
 use Rattle.dg_base.proofs.CrcLemmas.{crc_more-lt}
 use Rattle.dg_bits.specs.Sets.{Numbers, AllBelow}
 use Rattle.dg_bits.specs.ByteForm.{byte_form, byte_of, numbers_of}
-use Rattle.dg_bits.specs.ByteFormLaws.{unmarked_past, AllBelow-packed, length-byte_form, numbers_of-byte_form, byte_form-numbers_of, byte_of-fits}
+use Rattle.dg_bits.proofs.ByteFormLaws.{unmarked_past, AllBelow-packed, length-byte_form, numbers_of-byte_form, byte_form-numbers_of, byte_of-fits}
 use Rattle.dg_control.specs.Snapshot.{order_bytes}
 use Rattle.dg_control.specs.declared.snapshot.Order.{Order}
-use Rattle.dg_frame.specs.Sizes.{advert_kind, request_kind, packet_kind, shortest, entry_places, order_place, set_bytes, packet_bytes, last_packet, advert_size, request_size, packet_size}
+use Rattle.dg_frame.specs.Sizes.{advert_kind, request_kind, packet_kind, shortest, entry_places, order_place, set_bytes, packet_size, last_packet, advert_frame_size, request_frame_size, packet_frame_size}
 use Rattle.dg_frame.specs.Grammar.{half_at, word_at, entry_at, order_at, advert_in, request_in, packet_in, kind_of, in_range, entry_fits, order_in_frame, page_fits}
 use Rattle.dg_frame.specs.Ranges.{TellsVersion, NamesImage, OrderInRange}
 use Rattle.dg_frame.specs.Readings.{IsChecked, IsReading}
@@ -30,8 +30,8 @@ use Rattle.dg_frame.proofs.ReadingLemmas.{entry_decides, order_decides, page_dec
 -- ---- kinds
 
 -- what holds of each row of the table holds of a kind that is found
-by_kinds : (n : ℕ) (P : (ℕ × (List ℕ → Message)) → Type 0) → (n ≡ advert_kind → P (advert_size, advert_in)) → (n ≡ request_kind → P (request_size, request_in))
-    → (n ≡ packet_kind → P (packet_size, packet_in)) → (k : ℕ × (List ℕ → Message)) → kind_of n ≡ Some k → P k
+by_kinds : (n : ℕ) (P : (ℕ × (List ℕ → Message)) → Type 0) → (n ≡ advert_kind → P (advert_frame_size, advert_in)) → (n ≡ request_kind → P (request_frame_size, request_in))
+    → (n ≡ packet_kind → P (packet_frame_size, packet_in)) → (k : ℕ × (List ℕ → Message)) → kind_of n ≡ Some k → P k
 by_kinds n P a r p =
     let Q : Option (ℕ × (List ℕ → Message)) → Type 0 = λ o. (k : ℕ × (List ℕ → Message)) → o ≡ Some k → P k in
     cond_both (n == advert_kind) _ _ Q (λ e k q. subst P (same_Some _ k q) (a (eqb-true _ _ e)))
@@ -108,13 +108,13 @@ piece_part b p n = refl
 head_part : (b : List ℕ) (kind : ℕ) → AreBytes b → 3 ≤ length b → slice_index b 0 ≡ kind → kind ∷ to_be_bytes w16 (half_at b 1) ≡ part b 0 3
 head_part b kind h l e = ap (λ x. x ∷ to_be_bytes w16 (half_at b 1)) (sym e) ∙ byte_before b _ 0 1 2 (omega arith) refl (half_part b 1 h (omega arith))
 
-advert_part : (b : List ℕ) → AreBytes b → length b ≡ advert_size → slice_index b 0 ≡ advert_kind → unchecked (advert_in b) ≡ part b 0 36
+advert_part : (b : List ℕ) → AreBytes b → length b ≡ advert_frame_size → slice_index b 0 ≡ advert_kind → unchecked (advert_in b) ≡ part b 0 36
 advert_part b h l e =
     part_behind b _ _ 0 27 27 9 36
     (part_behind b _ _ 0 3 3 24 27 (head_part b advert_kind h (omega arith) e) (entries_part b 3 3 h (omega arith)) refl refl (omega arith))
     (order_part b 27 h (omega arith)) refl refl (omega arith)
 
-request_part : (b : List ℕ) → AreBytes b → length b ≡ request_size → slice_index b 0 ≡ request_kind → unchecked (request_in b) ≡ part b 0 17
+request_part : (b : List ℕ) → AreBytes b → length b ≡ request_frame_size → slice_index b 0 ≡ request_kind → unchecked (request_in b) ≡ part b 0 17
 request_part b h l e =
     part_behind b _ _ 0 10 10 7 17
     (part_behind b _ _ 0 5 5 5 10
@@ -122,7 +122,7 @@ request_part b h l e =
     (byte_before b _ 5 6 4 (omega arith) refl (word_part b 6 h (omega arith))) refl refl (omega arith))
     (byte_before b _ 10 11 6 (omega arith) refl (set_part b 11 h (omega arith))) refl refl (omega arith)
 
-packet_part : (b : List ℕ) → AreBytes b → length b ≡ packet_size → slice_index b 0 ≡ packet_kind → unchecked (packet_in b) ≡ part b 0 33
+packet_part : (b : List ℕ) → AreBytes b → length b ≡ packet_frame_size → slice_index b 0 ≡ packet_kind → unchecked (packet_in b) ≡ part b 0 33
 packet_part b h l e =
     part_behind b _ _ 0 8 8 25 33
     (part_behind b _ _ 0 3 3 5 8 (head_part b packet_kind h (omega arith) e) (byte_before b _ 3 4 4 (omega arith) refl (word_part b 4 h (omega arith))) refl refl (omega arith))
@@ -283,7 +283,7 @@ entries_read b rest p (e ∷ es) f d =
 abbrev IsReadBack : Message → (ℕ × (List ℕ → Message)) → Type 0
 IsReadBack m k = (rest : List ℕ) → (kind_of (slice_index (unchecked m ++ rest) 0) ≡ Some k) × (length (unchecked m) + 2 ≡ k.0) × (k.1 (unchecked m ++ rest) ≡ m)
 
-advert_back : (source : ℕ) (entries : List Entry) (order : Order) → FitsTypes (Advert source entries order) → IsReadBack (Advert source entries order) (advert_size, advert_in)
+advert_back : (source : ℕ) (entries : List Entry) (order : Order) → FitsTypes (Advert source entries order) → IsReadBack (Advert source entries order) (advert_frame_size, advert_in)
 advert_back source entries order f rest =
     let u = unchecked (Advert source entries order) in
     let head = advert_kind ∷ to_be_bytes w16 source in
@@ -296,7 +296,7 @@ advert_back source entries order f rest =
     let o : order_at (u ++ rest) order_place ≡ order = order_read (u ++ rest) rest 27 order f.3 f.4 d27 in
     (refl, omega arith, λ i. Advert (s i) (es i) (o i))
 
-request_back : (source to image version page : ℕ) (want : Numbers) → FitsTypes (Request source to image version page want) → IsReadBack (Request source to image version page want) (request_size, request_in)
+request_back : (source to image version page : ℕ) (want : Numbers) → FitsTypes (Request source to image version page want) → IsReadBack (Request source to image version page want) (request_frame_size, request_in)
 request_back source to image version page want f rest =
     let u = unchecked (Request source to image version page want) in
     let s : half_at (u ++ rest) 1 ≡ source = from_be_bytes-to_be_bytes_2 source f.0 in
@@ -306,19 +306,19 @@ request_back source to image version page want f rest =
     ap numbers_of (take_at (byte_form set_bytes want) rest set_bytes (length-byte_form set_bytes want)) ∙ numbers_of-byte_form set_bytes want f.3 in
     (refl, omega (arith, length-byte_form set_bytes want), λ i. Request (s i) (t i) image (v i) page (w i))
 
-packet_back : (source image version page packet : ℕ) (bytes : List ℕ) → FitsTypes (Packet source image version page packet bytes) → IsReadBack (Packet source image version page packet bytes) (packet_size, packet_in)
+packet_back : (source image version page packet : ℕ) (bytes : List ℕ) → FitsTypes (Packet source image version page packet bytes) → IsReadBack (Packet source image version page packet bytes) (packet_frame_size, packet_in)
 packet_back source image version page packet bytes f rest =
     let u = unchecked (Packet source image version page packet bytes) in
     let s : half_at (u ++ rest) 1 ≡ source = from_be_bytes-to_be_bytes_2 source f.0 in
     let v : word_at (u ++ rest) 4 ≡ version = from_be_bytes-to_be_bytes_4 version f.1 in
-    let x : take packet_bytes (drop 10 (u ++ rest)) ≡ bytes = take_at bytes rest packet_bytes f.2 in
+    let x : take packet_size (drop 10 (u ++ rest)) ≡ bytes = take_at bytes rest packet_size f.2 in
     (refl, omega (arith, f.2), λ i. Packet (s i) image (v i) page packet (x i))
 
 -- the row of the table by which a message is written
 abbrev row : Message → ℕ × (List ℕ → Message)
-row (Advert source entries order) = (advert_size, advert_in)
-row (Request source to image version page want) = (request_size, request_in)
-row (Packet source image version page packet bytes) = (packet_size, packet_in)
+row (Advert source entries order) = (advert_frame_size, advert_in)
+row (Request source to image version page want) = (request_frame_size, request_in)
+row (Packet source image version page packet bytes) = (packet_frame_size, packet_in)
 
 read_back : (m : Message) → FitsTypes m → IsReadBack m (row m)
 read_back (Advert source entries order) f = advert_back source entries order f

@@ -6,7 +6,7 @@ use Rattle.std.specs.FinSet as set
 use Rattle.dg_base.specs.Crc.{crc_of}
 use Rattle.dg_bits.specs.ByteForm.{numbers_of}
 use Rattle.dg_control.specs.declared.snapshot.Order.{Order}
-use Rattle.dg_frame.specs.Sizes.{advert_kind, request_kind, packet_kind, shortest, frame_images, entry_places, order_place, last_page, last_packet, packet_bytes, set_bytes, fewest_pages, most_pages, advert_size, request_size, packet_size}
+use Rattle.dg_frame.specs.Sizes.{advert_kind, request_kind, packet_kind, shortest, frame_images, entry_places, order_place, last_page, last_packet, packet_size, set_bytes, fewest_pages, most_pages, advert_frame_size, request_frame_size, packet_frame_size}
 use Rattle.dg_frame.specs.declared.Entry.{Entry}
 use Rattle.dg_frame.specs.declared.Message.{Message}
 use Rattle.dg_frame.specs.declared.Message.TheVariants.{Advert, Request, Packet}
@@ -34,7 +34,7 @@ abbrev pub request_in : List ℕ → Message
 request_in b = Request (half_at b 1) (half_at b 3) (slice_index b 5) (word_at b 6) (slice_index b 10) (numbers_of (take set_bytes (drop 11 b)))
 
 abbrev pub packet_in : List ℕ → Message
-packet_in b = Packet (half_at b 1) (slice_index b 3) (word_at b 4) (slice_index b 8) (slice_index b 9) (take packet_bytes (drop 10 b))
+packet_in b = Packet (half_at b 1) (slice_index b 3) (word_at b 4) (slice_index b 8) (slice_index b 9) (take packet_size (drop 10 b))
 
 -- ---- ranges
 
@@ -61,9 +61,9 @@ in_range (Packet source image version page packet bytes) = page_fits image versi
 -- the length of a kind's frames, and how their fields are read
 abbrev pub kind_of : ℕ → Option (ℕ × (List ℕ → Message))
 kind_of n =
-    if n == advert_kind then Some (advert_size, advert_in)
-    else if n == request_kind then Some (request_size, request_in)
-    else if n == packet_kind then Some (packet_size, packet_in)
+    if n == advert_kind then Some (advert_frame_size, advert_in)
+    else if n == request_kind then Some (request_frame_size, request_in)
+    else if n == packet_kind then Some (packet_frame_size, packet_in)
     else None
 
 abbrev pub ranged : Message → Result Message FrameFault

@@ -1,6 +1,6 @@
 -- The rows of the table of kinds.
 use Rattle.std.specs.Prelude.{ℕ, List}
-use Rattle.dg_frame.specs.Sizes.{advert_kind, request_kind, packet_kind, advert_size, request_size, packet_size}
+use Rattle.dg_frame.specs.Sizes.{advert_kind, request_kind, packet_kind, advert_frame_size, request_frame_size, packet_frame_size}
 use Rattle.dg_frame.specs.Grammar.{advert_in, request_in, packet_in}
 use Rattle.dg_frame.specs.declared.Message.{Message}
 use Rattle.dg_frame.specs.declared.kind.Kind.{Kind}
@@ -14,6 +14,6 @@ number_of Packet = packet_kind
 
 -- the length of a kind's frames, and how their fields are read
 abbrev pub row_of : Kind → ℕ × (List ℕ → Message)
-row_of Advert = (advert_size, advert_in)
-row_of Request = (request_size, request_in)
-row_of Packet = (packet_size, packet_in)
+row_of Advert = (advert_frame_size, advert_in)
+row_of Request = (request_frame_size, request_in)
+row_of Packet = (packet_frame_size, packet_in)

@@ -7,7 +7,7 @@ use Rattle.dg_base.specs.Crc.{crc_of}
 use Rattle.dg_bits.specs.Sets.{AllBelow}
 use Rattle.dg_bits.specs.ByteForm.{byte_form}
 use Rattle.dg_control.specs.Snapshot.{order_bytes}
-use Rattle.dg_frame.specs.Sizes.{advert_kind, request_kind, packet_kind, frame_images, packet_bytes, set_bytes, last_packet}
+use Rattle.dg_frame.specs.Sizes.{advert_kind, request_kind, packet_kind, frame_images, packet_size, set_bytes, last_packet}
 use Rattle.dg_frame.specs.declared.Entry.{Entry}
 use Rattle.dg_frame.specs.declared.Message.{Message}
 use Rattle.dg_frame.specs.declared.Message.TheVariants.{Advert, Request, Packet}
@@ -37,4 +37,4 @@ abbrev pub FitsTypes : Message → Type 0
 FitsTypes (Advert source entries order) =
     (source < 2 ^ 16) × (length entries ≡ frame_images) × AllByRecursion EntryFitsTypes entries × (order.number < 2 ^ 32) × (order.version < 2 ^ 32)
 FitsTypes (Request source to image version page want) = (source < 2 ^ 16) × (to < 2 ^ 16) × (version < 2 ^ 32) × AllBelow (last_packet + 1) want
-FitsTypes (Packet source image version page packet bytes) = (source < 2 ^ 16) × (version < 2 ^ 32) × (length bytes ≡ packet_bytes) × AreBytes bytes
+FitsTypes (Packet source image version page packet bytes) = (source < 2 ^ 16) × (version < 2 ^ 32) × (length bytes ≡ packet_size) × AreBytes bytes

@@ -6,17 +6,15 @@ ghost use Rattle.arrayvec.specs.ArrayVec.{array_vec_len};
 ghost use Rattle.dg_control.specs.Snapshot.{order_bytes};
 ghost use Rattle.dg_bits.specs.Sets.{AllBelow};
 ghost use Rattle.dg_bits.specs.ByteForm.{numbers_of, byte_form};
-ghost use Rattle.dg_frame.specs.Sizes.{entry_size, order_size, set_bytes};
+ghost use Rattle.dg_frame.specs.Sizes.{frame_bytes, packets, entry_size, order_size, set_bytes};
 ghost use Rattle.dg_frame.specs.Grammar.{half_at, word_at, entry_at, order_at};
 ghost use Rattle.dg_frame.specs.Spelling.{entry_bytes, EntryFitsTypes};
 
-use crate::{Entry, FRAME_BYTES, Frame, PACKETS};
+use crate::{Entry, Frame, SET_BYTES};
 use byteorder::{BigEndian, ByteOrder};
 use dg_bits::PageBits;
 use dg_control::Order;
-
-/// The bytes of a packet set.
-const SET_BYTES: usize = 6;
+use dg_object::PACKETS;
 
 pub(crate) fn half_at(bytes: &[u8], at: usize) -> u16
     requires { at + 2 ≤ length bytes.now }
@@ -64,7 +62,7 @@ pub(crate) fn set_at(bytes: &[u8], at: usize) -> PageBits<PACKETS>
 
 /// Appends bytes for which there is room.
 pub(crate) fn put(frame: &mut Frame, bytes: &[u8])
-    requires { array_vec_len frame.old + length bytes.now ≤ FRAME_BYTES }
+    requires { array_vec_len frame.old + length bytes.now ≤ frame_bytes }
     ensures items { frame.new.items ≡ frame.old.items ++ bytes.now }
     ensures len { array_vec_len frame.new ≡ array_vec_len frame.old + length bytes.now }
 {
@@ -72,7 +70,7 @@ pub(crate) fn put(frame: &mut Frame, bytes: &[u8])
 }
 
 pub(crate) fn put_half(frame: &mut Frame, number: u16)
-    requires { array_vec_len frame.old + 2 ≤ FRAME_BYTES }
+    requires { array_vec_len frame.old + 2 ≤ frame_bytes }
     ensures items { frame.new.items ≡ frame.old.items ++ to_be_bytes w16 number }
     ensures len { array_vec_len frame.new ≡ array_vec_len frame.old + 2 }
 {
@@ -82,7 +80,7 @@ pub(crate) fn put_half(frame: &mut Frame, number: u16)
 }
 
 pub(crate) fn put_word(frame: &mut Frame, number: u32)
-    requires { array_vec_len frame.old + 4 ≤ FRAME_BYTES }
+    requires { array_vec_len frame.old + 4 ≤ frame_bytes }
     ensures items { frame.new.items ≡ frame.old.items ++ to_be_bytes w32 number }
     ensures len { array_vec_len frame.new ≡ array_vec_len frame.old + 4 }
 {
@@ -92,7 +90,7 @@ pub(crate) fn put_word(frame: &mut Frame, number: u32)
 }
 
 pub(crate) fn put_entry(frame: &mut Frame, entry: &Entry)
-    requires { array_vec_len frame.old + entry_size ≤ FRAME_BYTES }
+    requires { array_vec_len frame.old + entry_size ≤ frame_bytes }
     ensures items { frame.new.items ≡ frame.old.items ++ entry_bytes entry.now }
     ensures len { array_vec_len frame.new ≡ array_vec_len frame.old + entry_size }
     ensures fits { EntryFitsTypes entry.now }
@@ -104,7 +102,7 @@ pub(crate) fn put_entry(frame: &mut Frame, entry: &Entry)
 }
 
 pub(crate) fn put_entries(frame: &mut Frame, entries: &[Entry])
-    requires { array_vec_len frame.old + entry_size * length entries.now ≤ FRAME_BYTES }
+    requires { array_vec_len frame.old + entry_size * length entries.now ≤ frame_bytes }
     ensures items { frame.new.items ≡ frame.old.items ++ flat_map entry_bytes entries.now }
     ensures len { array_vec_len frame.new ≡ array_vec_len frame.old + entry_size * length entries.now }
     ensures fit { AllByRecursion EntryFitsTypes entries.now }
@@ -115,7 +113,7 @@ pub(crate) fn put_entries(frame: &mut Frame, entries: &[Entry])
 }
 
 pub(crate) fn put_order(frame: &mut Frame, order: &Order)
-    requires { array_vec_len frame.old + order_size ≤ FRAME_BYTES }
+    requires { array_vec_len frame.old + order_size ≤ frame_bytes }
     ensures items { frame.new.items ≡ frame.old.items ++ order_bytes order.now }
     ensures len { array_vec_len frame.new ≡ array_vec_len frame.old + order_size }
     ensures number_fits { order.now.number < 2 ^ 32 }
@@ -127,10 +125,10 @@ pub(crate) fn put_order(frame: &mut Frame, order: &Order)
 }
 
 pub(crate) fn put_set(frame: &mut Frame, set: &PageBits<PACKETS>)
-    requires { array_vec_len frame.old + set_bytes ≤ FRAME_BYTES }
+    requires { array_vec_len frame.old + set_bytes ≤ frame_bytes }
     ensures items { frame.new.items ≡ frame.old.items ++ byte_form set_bytes set.now }
     ensures len { array_vec_len frame.new ≡ array_vec_len frame.old + set_bytes }
-    ensures fits { AllBelow PACKETS set.now }
+    ensures fits { AllBelow packets set.now }
 {
     let mut bytes = [0; SET_BYTES];
     set.to_bytes(&mut bytes);

@@ -13,9 +13,11 @@ mod reading;
 mod writing;
 
 use arrayvec::ArrayVec;
+use dg_base::NETWORK_IMAGES;
 use dg_bits::PageBits;
 use dg_control::Order;
-pub use laws::{one_reading, one_spelling};
+use dg_object::{PACKET_SIZE, PACKETS};
+pub use laws::{one_reading, one_spelling, the_sizes_are_these};
 pub use ranges::in_range;
 pub use reading::read;
 pub use writing::write;
@@ -23,14 +25,11 @@ pub use writing::write;
 /// The most bytes of a frame.
 pub const FRAME_BYTES: usize = 48;
 
-/// Frames speak of the images from 1 to this number.
-pub const FRAME_IMAGES: usize = 3;
+/// Frames speak of the images that a network names, those from 1 to this number.
+pub const FRAME_IMAGES: usize = NETWORK_IMAGES as usize;
 
-/// The packets of a page.
-pub const PACKETS: usize = 48;
-
-/// The bytes of a packet.
-pub const PACKET_BYTES: usize = 23;
+/// The bytes of a packet set: a bit for each packet of a page.
+pub const SET_BYTES: usize = 6;
 
 /// The bytes of a message.
 pub type Frame = ArrayVec<u8, FRAME_BYTES>;
@@ -73,7 +72,7 @@ pub enum Message {
         version: u32,
         page: u8,
         packet: u8,
-        bytes: [u8; PACKET_BYTES],
+        bytes: [u8; PACKET_SIZE],
     },
 }
 

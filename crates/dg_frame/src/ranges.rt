@@ -4,13 +4,12 @@ ghost use Rattle.std.specs.List.{list_all};
 ghost use Rattle.dg_frame.specs.Ranges.{IsInRange};
 ghost use Rattle.dg_frame.specs.Grammar.{entry_fits, order_in_frame, page_fits, in_range};
 
-use crate::{Entry, FRAME_IMAGES, Message, PACKETS};
+use crate::{Entry, FRAME_IMAGES, Message};
 use dg_control::Order;
+use dg_object::{MOST_PAGES, PACKETS};
 
-/// The pages that an entry may tell.
-const FEWEST_PAGES: u8 = 2;
-
-const MOST_PAGES: u8 = 65;
+/// The fewest pages that an entry may tell: a descriptor, and one page of the image.
+pub(crate) const FEWEST_PAGES: u8 = 2;
 
 /// Whether each field is in its range, so that the message has a frame. Sources and destinations are any.
 #[tactic(auto, unfolding(crate::specs::Grammar::in_range))]

@@ -1,7 +1,7 @@
 //! From bytes to messages.
 ghost use Rattle.std.specs.Prelude.{◌≡◌, ◌==◌, ◌+◌, ◌-◌, ◌≤◌, length, take, IfOk};
 ghost use Rattle.dg_base.specs.Crc.{crc_of};
-ghost use Rattle.dg_frame.specs.Sizes.{advert_size, request_size, packet_size};
+ghost use Rattle.dg_frame.specs.Sizes.{advert_frame_size, request_frame_size, packet_frame_size};
 ghost use Rattle.dg_frame.specs.Kinds.{row_of};
 ghost use Rattle.dg_frame.specs.Spelling.{frame_of};
 ghost use Rattle.dg_frame.specs.Readings.{IsReading};
@@ -10,11 +10,12 @@ ghost use Rattle.dg_frame.specs.Grammar.{half_at, advert_in, request_in, packet_
 use crate::fields::{entry_at, half_at, order_at, set_at, word_at};
 use crate::kind::{ADVERT_BYTES, Kind, PACKET_FRAME_BYTES, REQUEST_BYTES};
 use crate::ranges::in_range;
-use crate::{FrameFault, Message, PACKET_BYTES};
+use crate::{FrameFault, Message};
 use dg_base::crc16;
+use dg_object::PACKET_SIZE;
 
 /// A kind, a source and a CRC take so many bytes.
-const SHORTEST: usize = 5;
+pub(crate) const SHORTEST: usize = 5;
 
 /// The message that bytes spell, or the first cause why they spell none. Any bytes may be handed in.
 #[tactic(auto, unfolding(crate::specs::Grammar::message_of))]
@@ -78,7 +79,7 @@ fn fields(kind: Kind, bytes: &[u8]) -> Message
 }
 
 fn advert(bytes: &[u8]) -> Message
-    requires { length bytes.now ≡ advert_size }
+    requires { length bytes.now ≡ advert_frame_size }
     ensures { result ≡ advert_in bytes.now }
 {
     Message::Advert {
@@ -89,7 +90,7 @@ fn advert(bytes: &[u8]) -> Message
 }
 
 fn request(bytes: &[u8]) -> Message
-    requires { length bytes.now ≡ request_size }
+    requires { length bytes.now ≡ request_frame_size }
     ensures { result ≡ request_in bytes.now }
 {
     Message::Request {
@@ -103,11 +104,11 @@ fn request(bytes: &[u8]) -> Message
 }
 
 fn packet(bytes: &[u8]) -> Message
-    requires { length bytes.now ≡ packet_size }
+    requires { length bytes.now ≡ packet_frame_size }
     ensures { result ≡ packet_in bytes.now }
 {
-    let mut carried = [0; PACKET_BYTES];
-    carried.copy_from_slice(&bytes[10..10 + PACKET_BYTES]);
+    let mut carried = [0; PACKET_SIZE];
+    carried.copy_from_slice(&bytes[10..10 + PACKET_SIZE]);
     Message::Packet {
         source: half_at(bytes, 1),
         image: bytes[3],

@@ -2,7 +2,7 @@
 ghost use Rattle.std.specs.Prelude.{◌≡◌, ◌≤◌, true, Ok, ◌+◌, ◌∷◌, ◌++◌, [], length};
 ghost use Rattle.std.specs.Int.{to_be_bytes, w16};
 ghost use Rattle.arrayvec.specs.ArrayVec.{array_vec_len};
-ghost use Rattle.dg_frame.specs.Sizes.{advert_size, request_size, packet_size};
+ghost use Rattle.dg_frame.specs.Sizes.{frame_bytes, advert_frame_size, request_frame_size, packet_frame_size};
 ghost use Rattle.dg_frame.specs.Kinds.{number_of, row_of};
 ghost use Rattle.dg_base.specs.Crc.{crc_of};
 ghost use Rattle.dg_frame.specs.Spelling.{frame_of, FitsTypes};
@@ -11,10 +11,11 @@ ghost use Rattle.dg_frame.specs.declared.Message.TheVariants as message;
 
 use crate::fields::{put, put_entries, put_half, put_order, put_set, put_word};
 use crate::kind::Kind;
-use crate::{Entry, FRAME_BYTES, FRAME_IMAGES, Frame, Message, PACKET_BYTES, PACKETS};
+use crate::{Entry, FRAME_IMAGES, Frame, Message};
 use dg_base::crc16;
 use dg_bits::PageBits;
 use dg_control::Order;
+use dg_object::{PACKET_SIZE, PACKETS};
 
 /// The frame of a message whose fields are in their ranges.
 #[tactic(auto, unfolding(crate::specs::Spelling::frame_of))]
@@ -97,7 +98,7 @@ fn packet_frame(
     version: u32,
     page: u8,
     packet: u8,
-    bytes: &[u8; PACKET_BYTES],
+    bytes: &[u8; PACKET_SIZE],
 ) -> Frame
     ensures items { result.items ≡ frame_of (message.Packet source image version page packet bytes.now) }
     ensures fits { FitsTypes (message.Packet source image version page packet bytes.now) }
@@ -127,7 +128,7 @@ fn begun(kind: Kind, source: u16) -> Frame
 /// of the CRC.
 #[inline(always)]
 fn end(frame: &mut Frame)
-    requires { array_vec_len frame.old + 2 ≤ FRAME_BYTES }
+    requires { array_vec_len frame.old + 2 ≤ frame_bytes }
     ensures { frame.new.items ≡ frame.old.items ++ to_be_bytes w16 (crc_of frame.old.items) }
 {
     let crc = crc16(frame.as_slice());

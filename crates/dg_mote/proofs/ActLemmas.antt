@@ -13,7 +13,7 @@ use Rattle.dg_recv.specs.Reception.{Reception}
 use Rattle.dg_recv.specs.Steps.{ask_of, after_ask}
 use Rattle.dg_recv.specs.declared.Ask.{Ask}
 use Rattle.dg_recv.specs.declared.Ask.TheVariants as ask
-use Rattle.dg_recv.specs.declared.TheConstants.{REQUESTS}
+use Rattle.dg_recv.specs.Times.{most_requests}
 use Rattle.dg_send.specs.Owed.{Owed}
 use Rattle.dg_send.specs.Steps.{serve_by, serve_of, next_by, after_next}
 use Rattle.dg_send.specs.declared.Serve.{Serve}
@@ -62,7 +62,7 @@ got_by false false a b e = e
 asked_reception : (r : Receiving) (now : ℕ) → after_ask (reception r) now ≡ reception (asked r now)
 asked_reception r now =
     let a = after_ask (reception r) now in
-    ap (λ (g : Numbers). record { got = g; tries = a.tries; due = a.due }) (got_by (nat_lt now r.due) (nat_le REQUESTS r.tries) (reception r) _ refl)
+    ap (λ (g : Numbers). record { got = g; tries = a.tries; due = a.due }) (got_by (nat_lt now r.due) (nat_le most_requests r.tries) (reception r) _ refl)
 
 pub asked_stands : (c : List ℕ) (v : Volume) (s : Store) (version server now : ℕ) (asking after : Reception) (job : PageJob) (r : Receiving)
     → asking ≡ reception r → after ≡ after_ask asking now → server ≡ r.server → version ≡ r.version → Receives c v s job r → ModeStands c v s (value.Receive version server after job) (Receive (asked r now))
@@ -79,7 +79,7 @@ wait_by false true a b want e = cc
 wait_by false false a b want e = cc
 
 pub waits_same : (a after : Reception) (now : ℕ) → ask.Wait ≡ ask_of a now → after ≡ after_ask a now → after ≡ a
-waits_same a after now is e = e ∙ wait_by (nat_lt now a.due) (nat_le REQUESTS a.tries) a _ _ is
+waits_same a after now is e = e ∙ wait_by (nat_lt now a.due) (nat_le most_requests a.tries) a _ _ is
 
 give_up_by : (x y : Bool) (a b : Reception) (want : Numbers) → ask.GiveUp ≡ cond x ask.Wait (cond y ask.GiveUp (ask.Request want)) → cond x a (cond y a b) ≡ a
 give_up_by true y a b want e = refl
@@ -87,7 +87,7 @@ give_up_by false true a b want e = refl
 give_up_by false false a b want e = cc
 
 pub gives_up_same : (a after : Reception) (now : ℕ) → ask.GiveUp ≡ ask_of a now → after ≡ after_ask a now → after ≡ a
-gives_up_same a after now is e = e ∙ give_up_by (nat_lt now a.due) (nat_le REQUESTS a.tries) a _ _ is
+gives_up_same a after now is e = e ∙ give_up_by (nat_lt now a.due) (nat_le most_requests a.tries) a _ _ is
 
 -- ---- it sends packets
 

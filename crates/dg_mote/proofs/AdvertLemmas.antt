@@ -7,7 +7,7 @@ use Rattle.std.proofs.lemmas.Option.{same_Some}
 use Rattle.std.proofs.lemmas.List.{get_or-set_same, length-replicate}
 use Rattle.std.specs.Ordering.{nat_cmp}
 use Rattle.std.specs.FinSet as set
-use Rattle.dg_bits.specs.SetLaws.{same_numbers, contains-none}
+use Rattle.dg_bits.proofs.SetLaws.{same_numbers, contains-none}
 use Rattle.dg_nor.specs.Trail.{Trail, last, last_of, joined, resting}
 use Rattle.dg_nor.specs.Through.{Through}
 use Rattle.dg_nor.proofs.TrailLemmas.{last-joined, last-resting}

@@ -16,7 +16,7 @@ use Rattle.dg_nor.proofs.TrailLemmas.{last-resting, last-joined, EachWorks-resti
 use Rattle.dg_trickle.specs.Timer.{Timer}
 use Rattle.dg_recv.specs.Reception.{Reception}
 use Rattle.dg_recv.specs.Steps.{begun}
-use Rattle.dg_bits.specs.SetLaws.{same_numbers, contains-none}
+use Rattle.dg_bits.proofs.SetLaws.{same_numbers, contains-none}
 use Rattle.dg_control.specs.declared.snapshot.Order.{Order}
 use Rattle.dg_frame.specs.Ranges.{unused, EntryInRange, TellsVersion}
 use Rattle.dg_frame.specs.Sizes.{frame_images}

@@ -8,7 +8,7 @@ use Rattle.std.specs.Ordering.{nat_cmp}
 use Rattle.std.specs.FinSet as set
 use Rattle.dg_words.specs.Lists.{joined}
 use Rattle.dg_bits.specs.Sets.{Numbers, AllBelow}
-use Rattle.dg_bits.specs.SetLaws.{any_in_range, up_to, up_to-none, up_to-all, len-up_to_in, len-up_to_out}
+use Rattle.dg_bits.proofs.SetLaws.{any_in_range, up_to, up_to-none, up_to-all, len-up_to_in, len-up_to_out}
 use Rattle.dg_slot.specs.Layout.{packets}
 use Rattle.dg_slot.specs.Jobs.{Packets, packet, bytes_of, page_from}
 use Rattle.dg_mote.specs.Model.{came}

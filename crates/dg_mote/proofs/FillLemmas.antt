@@ -11,10 +11,10 @@ use Rattle.dg_nor.specs.Device.{Device, Ran, Halts}
 use Rattle.dg_nor.specs.Trail.{Trail, operations, last, delayed, rest_of, joined, resting, stepping}
 use Rattle.dg_nor.proofs.ChipLemmas.{Touches_wider}
 use Rattle.dg_nor.proofs.TrailLemmas.{Ran-joined, Halted-joined_second, last-joined, operations-resting, operations-stepping, last-resting, last-stepping, EachWorks-resting, EachWorks-stepping}
-use Rattle.dg_bits.specs.SetLaws.{same_numbers, contains-put}
+use Rattle.dg_bits.proofs.SetLaws.{same_numbers, contains-put}
 use Rattle.dg_recv.specs.Reception.{Reception}
 use Rattle.dg_recv.specs.Steps.{after_accept}
-use Rattle.dg_recv.specs.declared.TheConstants.{NEXT_WAIT}
+use Rattle.dg_recv.specs.Times.{next_wait}
 use Rattle.dg_trickle.specs.Timer.{Timer}
 use Rattle.dg_trickle.specs.Steps.{started}
 use Rattle.dg_slot.specs.Layout.{packets, header_sector, slot_end}
@@ -164,8 +164,8 @@ came_put ps q bytes known count = same_numbers _ _ (λ k.
 pub accepted_asks : (r : Receiving) (now q : ℕ) (bytes : List ℕ) → q < packets → length r.packets ≡ packets → set.contains (came r.packets) q ≡ false → after_accept (reception r) now q ≡ reception (accepted r now q bytes)
 accepted_asks r now q bytes known count missing =
     let Put : set.FinSet nat_cmp → ℕ → Reception = λ got due. record { got = got; tries = r.tries; due = due } in
-    let e : after_accept (reception r) now q ≡ Put (set.insert (came r.packets) q) (now + NEXT_WAIT) = passed (set.contains (came r.packets) q) _ _ missing in
-    e ∙ ap (λ g. Put g (now + NEXT_WAIT)) (sym (came_put r.packets q bytes known count)) ∙ ap (λ d. Put (came (put_packet r.packets q bytes)) d) (sym (ap (λ (x : Reception). x.due) e))
+    let e : after_accept (reception r) now q ≡ Put (set.insert (came r.packets) q) (now + next_wait) = passed (set.contains (came r.packets) q) _ _ missing in
+    e ∙ ap (λ g. Put g (now + next_wait)) (sym (came_put r.packets q bytes known count)) ∙ ap (λ d. Put (came (put_packet r.packets q bytes)) d) (sym (ap (λ (x : Reception). x.due) e))
 
 missing_came : (r : Receiving) (c : List ℕ) (job : PageJob) (h : Held) (q : ℕ) → q < packets → IsJob c job h r.packets → set.contains (got_told job) q ≡ false → set.contains (came r.packets) q ≡ false
 missing_came r c job h q known stands missing = came_has r.packets q ∙ ap (λ b. b && ltb q packets) (sym (stands.got q known) ∙ missing)

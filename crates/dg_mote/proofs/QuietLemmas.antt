@@ -17,7 +17,7 @@ use Rattle.dg_recv.specs.declared.Ask.TheVariants as ask
 use Rattle.dg_send.specs.Steps.{serve_of, after_next}
 use Rattle.dg_send.specs.declared.Serve.{Serve}
 use Rattle.dg_send.specs.declared.Serve.TheVariants as serve
-use Rattle.dg_quiet.specs.declared.TheConstants.{REQUEST_QUIET, PACKET_QUIET}
+use Rattle.dg_quiet.specs.Times.{request_window, packet_window}
 use Rattle.dg_quiet.specs.Noted.{Noted, Moments, is_past, may_ask, with_request, with_packet}
 use Rattle.dg_bits.specs.Sets.{Numbers}
 use Rattle.dg_control.specs.declared.snapshot.Order.{Order}
@@ -79,20 +79,20 @@ and_false_right : (a b : Bool) → b ≡ false → (a && b) ≡ false
 and_false_right true b e = e
 and_false_right false b e = refl
 
-pub request_shuts : (image from : ℕ) → Shuts image from (from + REQUEST_QUIET) (λ n. IsNoted n.requests image from)
+pub request_shuts : (image from : ℕ) → Shuts image from (from + request_window) (λ n. IsNoted n.requests image from)
 request_shuts image from =
     record {
       request = λ n now i later noted. noted_on n.requests i now image from later noted;
       packet = λ n now i later noted. noted;
-      shut = λ n now early noted. and_false_left _ _ (shut_by (map.get n.requests image) noted.0 REQUEST_QUIET now noted.1 (omega (arith, early, noted.2)));
+      shut = λ n now early noted. and_false_left _ _ (shut_by (map.get n.requests image) noted.0 request_window now noted.1 (omega (arith, early, noted.2)));
     }
 
-pub packet_shuts : (image from : ℕ) → Shuts image from (from + PACKET_QUIET) (λ n. IsNoted n.packets image from)
+pub packet_shuts : (image from : ℕ) → Shuts image from (from + packet_window) (λ n. IsNoted n.packets image from)
 packet_shuts image from =
     record {
       request = λ n now i later noted. noted;
       packet = λ n now i later noted. noted_on n.packets i now image from later noted;
-      shut = λ n now early noted. and_false_right (is_past (map.get n.requests image) REQUEST_QUIET now) _ (shut_by (map.get n.packets image) noted.0 PACKET_QUIET now noted.1 (omega (arith, early, noted.2)));
+      shut = λ n now early noted. and_false_right (is_past (map.get n.requests image) request_window now) _ (shut_by (map.get n.packets image) noted.0 packet_window now noted.1 (omega (arith, early, noted.2)));
     }
 
 module _ (image from until : ℕ) (Noting : Noted → Type 0) (shuts : Shuts image from until Noting) where

@@ -6,12 +6,12 @@ use Rattle.std.proofs.lemmas.List.{length-take}
 use Rattle.std.specs.Prelude.{◌==◌, nat_lt, slice_index}
 use Rattle.dg_bits.specs.Sets.{AllBelow}
 use Rattle.dg_bits.specs.ByteForm.{numbers_of}
-use Rattle.dg_bits.specs.ByteFormLaws.{unmarked_past, AllBelow-packed}
+use Rattle.dg_bits.proofs.ByteFormLaws.{unmarked_past, AllBelow-packed}
 use Rattle.dg_base.specs.Crc.{crc_of}
 use Rattle.dg_slot.specs.Layout.{packets}
-use Rattle.dg_frame.specs.Sizes.{frame_images, set_bytes, advert_size, request_size, packet_size}
+use Rattle.dg_frame.specs.Sizes.{frame_images, set_bytes, advert_frame_size, request_frame_size, packet_frame_size}
 use Rattle.dg_frame.specs.Readings.{IsReading}
-use Rattle.dg_frame.specs.declared.TheConstants.{FRAME_BYTES}
+use Rattle.dg_frame.specs.Sizes.{frame_bytes}
 use Rattle.dg_frame.specs.Grammar.{half_at, message_of, by_kind, kind_of, ranged, in_range, advert_in, request_in, packet_in}
 use Rattle.dg_frame.specs.declared.Message.{Message}
 use Rattle.dg_frame.specs.declared.Message.TheVariants.{Advert, Request, Packet}
@@ -54,14 +54,14 @@ well_read b = cond_both (nat_lt (length b) 5) _ _ IsWellRead (λ _. tt) (λ _. k
 same_size : (k x : ℕ × (List ℕ → Message)) → Some k ≡ Some x → k.0 ≡ x.0
 same_size k x e = ap (λ (y : ℕ × (List ℕ → Message)). y.0) (same_Some k x e)
 
-size_by : (n size : ℕ) (fields : List ℕ → Message) → kind_of n ≡ Some (size, fields) → size ≤ FRAME_BYTES
+size_by : (n size : ℕ) (fields : List ℕ → Message) → kind_of n ≡ Some (size, fields) → size ≤ frame_bytes
 size_by n size fields =
-    let P : Option (ℕ × (List ℕ → Message)) → Type 0 = λ k. k ≡ Some (size, fields) → size ≤ FRAME_BYTES in
-    cond_both (n == 1) _ _ P (λ _ e. omega (arith, same_size (advert_size, advert_in) (size, fields) e))
-    (λ _. cond_both (n == 2) _ _ P (λ _ e. omega (arith, same_size (request_size, request_in) (size, fields) e))
-    (λ _. cond_both (n == 3) _ _ P (λ _ e. omega (arith, same_size (packet_size, packet_in) (size, fields) e)) (λ _ e. cc)))
+    let P : Option (ℕ × (List ℕ → Message)) → Type 0 = λ k. k ≡ Some (size, fields) → size ≤ frame_bytes in
+    cond_both (n == 1) _ _ P (λ _ e. omega (arith, same_size (advert_frame_size, advert_in) (size, fields) e))
+    (λ _. cond_both (n == 2) _ _ P (λ _ e. omega (arith, same_size (request_frame_size, request_in) (size, fields) e))
+    (λ _. cond_both (n == 3) _ _ P (λ _ e. omega (arith, same_size (packet_frame_size, packet_in) (size, fields) e)) (λ _ e. cc)))
 
-pub frame_short : ((b : List ℕ) (r : Result Message FrameFault) → (message_of b ≡ r) ↔ IsReading b r) → (b : List ℕ) (m : Message) → message_of b ≡ Ok m → length b ≤ FRAME_BYTES
+pub frame_short : ((b : List ℕ) (r : Result Message FrameFault) → (message_of b ≡ r) ↔ IsReading b r) → (b : List ℕ) (m : Message) → message_of b ≡ Ok m → length b ≤ frame_bytes
 frame_short law b m e =
     let r = (law b (Ok m)).0 e in
     omega (arith, r.3, size_by (slice_index b 0) r.0 r.1 r.2.kind)

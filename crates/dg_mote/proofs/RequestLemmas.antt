@@ -5,7 +5,7 @@ use Rattle.std.proofs.lemmas.Bool.{cond_both, and_parts, eqb-true, ltb-true}
 use Rattle.std.specs.FinSet as set
 use Rattle.std.specs.Ordering.{nat_cmp}
 use Rattle.dg_bits.specs.Sets.{Numbers}
-use Rattle.dg_bits.specs.SetLaws.{same_numbers, contains-both, contains-none}
+use Rattle.dg_bits.proofs.SetLaws.{same_numbers, contains-both, contains-none}
 use Rattle.dg_nor.specs.Trail.{resting}
 use Rattle.dg_send.specs.Steps.{begun, after_merge}
 use Rattle.dg_object.specs.Object.{Row}

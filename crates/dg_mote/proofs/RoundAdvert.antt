@@ -4,7 +4,7 @@ use Rattle.std.proofs.lemmas.Bool.{le-leb, lt-ltb}
 use Rattle.dg_nor.specs.Trail.{resting}
 use Rattle.dg_trickle.specs.Timer.{Timer}
 use Rattle.dg_trickle.specs.Steps.{IsRunning, begun as begun_timer, after_tick, act_of, is_due, is_over}
-use Rattle.dg_trickle.specs.declared.TheConstants.{LONGEST_INTERVAL, REDUNDANCY}
+use Rattle.dg_trickle.specs.Times.{longest_interval, redundancy}
 use Rattle.dg_trickle.specs.declared.Act.{Act}
 use Rattle.dg_trickle.specs.declared.Act.TheVariants as act
 use Rattle.dg_object.specs.Object.{Row}
@@ -42,16 +42,16 @@ next x t now = record { store = x.store; mote = record x.mote { mode = Maintain 
 fires : (t : Timer) (now : ℕ) → t.fired ≡ false → t.count ≡ 0 → IsRunning t → t.begin + pace ≤ now → (act_of t now ≡ act.Send) × (after_tick t now 0 ≡ record t { fired = true })
 fires t now f c r h =
     let due : is_due t now ≡ true = λ i. not (f i) && le-leb (t.begin + t.t) now (omega (arith, r.before_end, r.longest)) i in (
-      ap (λ b. cond b (cond (ltb t.count REDUNDANCY) act.Send act.Quiet) (cond (is_over t now) act.Expired act.Nothing)) due ∙ ap (λ b. cond b act.Send act.Quiet) (lt-ltb t.count REDUNDANCY (omega (arith, c))),
-      ap (λ b. cond b (record t { fired = true }) (cond (is_over t now) (begun_timer (min (2 * t.interval) LONGEST_INTERVAL) now 0) t)) due,
+      ap (λ b. cond b (cond (ltb t.count redundancy) act.Send act.Quiet) (cond (is_over t now) act.Expired act.Nothing)) due ∙ ap (λ b. cond b act.Send act.Quiet) (lt-ltb t.count redundancy (omega (arith, c))),
+      ap (λ b. cond b (record t { fired = true }) (cond (is_over t now) (begun_timer (min (2 * t.interval) longest_interval) now 0) t)) due,
     )
 
-expires : (t : Timer) (now : ℕ) → t.fired ≡ true → IsRunning t → t.begin + pace ≤ now → (act_of t now ≡ act.Expired) × (after_tick t now 0 ≡ begun_timer (min (2 * t.interval) LONGEST_INTERVAL) now 0)
+expires : (t : Timer) (now : ℕ) → t.fired ≡ true → IsRunning t → t.begin + pace ≤ now → (act_of t now ≡ act.Expired) × (after_tick t now 0 ≡ begun_timer (min (2 * t.interval) longest_interval) now 0)
 expires t now f r h =
     let due : is_due t now ≡ false = λ i. not (f i) && leb (t.begin + t.t) now in
     let over : is_over t now ≡ true = λ i. f i && le-leb (t.begin + t.interval) now (omega (arith, r.longest)) i in (
-      ap (λ b. cond b (cond (ltb t.count REDUNDANCY) act.Send act.Quiet) (cond (is_over t now) act.Expired act.Nothing)) due ∙ ap (λ b. cond b act.Expired act.Nothing) over,
-      ap (λ b. cond b (record t { fired = true }) (cond (is_over t now) (begun_timer (min (2 * t.interval) LONGEST_INTERVAL) now 0) t)) due ∙ ap (λ b. cond b (begun_timer (min (2 * t.interval) LONGEST_INTERVAL) now 0) t) over,
+      ap (λ b. cond b (cond (ltb t.count redundancy) act.Send act.Quiet) (cond (is_over t now) act.Expired act.Nothing)) due ∙ ap (λ b. cond b act.Expired act.Nothing) over,
+      ap (λ b. cond b (record t { fired = true }) (cond (is_over t now) (begun_timer (min (2 * t.interval) longest_interval) now 0) t)) due ∙ ap (λ b. cond b (begun_timer (min (2 * t.interval) longest_interval) now 0) t) over,
     )
 
 tick_is : (x : Spot) (now : ℕ) (t : Timer) → Calm x now t → tick_at x (now + pace) ≡ tick_by (maintain_by (act_of t (now + pace)) (next x t (now + pace)).mote x.store).answer (maintain_by (act_of t (now + pace)) (next x t (now + pace)).mote x.store) (now + pace) 0

@@ -8,11 +8,11 @@ use Rattle.dg_words.proofs.ListLemmas.{length-tabulate}
 use Rattle.dg_nor.specs.Trail.{Trail, last, last_of, joined, resting}
 use Rattle.dg_nor.proofs.TrailLemmas.{last-joined, last-resting}
 use Rattle.dg_bits.specs.Sets.{below}
-use Rattle.dg_bits.specs.SetLaws.{same_numbers, contains-less, contains-below}
+use Rattle.dg_bits.proofs.SetLaws.{same_numbers, contains-less, contains-below}
 use Rattle.dg_trickle.specs.Timer.{Timer}
 use Rattle.dg_recv.specs.Steps.{begun, missing}
 use Rattle.dg_recv.specs.declared.Ask.TheVariants as ask
-use Rattle.dg_recv.specs.declared.TheConstants.{NEXT_WAIT}
+use Rattle.dg_recv.specs.Times.{next_wait}
 use Rattle.dg_control.specs.declared.snapshot.Order.{Order}
 use Rattle.dg_object.specs.Object.{Row, Outline, object, profile}
 use Rattle.dg_slot.specs.Layout.{packets}
@@ -394,7 +394,7 @@ all_missing =
     and_true true = refl
     and_true false = refl
 
-pub requests_law : (x : Spot) (now server image : ℕ) (kept : Held) → (a : AsksPage x image kept) → a.r.server ≡ server → a.r.tries ≡ 0 → a.r.due ≤ now + NEXT_WAIT → x.store.gesture ≡ 0
+pub requests_law : (x : Spot) (now server image : ℕ) (kept : Held) → (a : AsksPage x image kept) → a.r.server ≡ server → a.r.tries ≡ 0 → a.r.due ≤ now + next_wait → x.store.gesture ≡ 0
     → Requested x (ticked x (now + pace)) now image kept server
 unfolding last_of tick_effect
 requests_law x now server image kept a to few soon g =

@@ -8,17 +8,17 @@ use Rattle.std.specs.FinMap as map
 use Rattle.dg_words.proofs.ListLemmas.{length-tabulate}
 use Rattle.dg_nor.specs.Trail.{last_of, resting}
 use Rattle.dg_bits.specs.Sets.{Numbers, IsLeast, least}
-use Rattle.dg_bits.specs.SetLaws.{least_cases}
+use Rattle.dg_bits.proofs.SetLaws.{least_cases}
 use Rattle.dg_trickle.specs.Timer.{Timer}
 use Rattle.dg_trickle.specs.Steps.{IsRunning, started, begun as begun_timer, after_tick, act_of, is_due, is_over}
-use Rattle.dg_trickle.specs.declared.TheConstants.{LONGEST_INTERVAL}
+use Rattle.dg_trickle.specs.Times.{longest_interval}
 use Rattle.dg_quiet.specs.Noted.{Noted, Moments, is_past}
-use Rattle.dg_quiet.specs.declared.TheConstants.{REQUEST_QUIET, PACKET_QUIET}
+use Rattle.dg_quiet.specs.Times.{request_window, packet_window}
 use Rattle.dg_recv.specs.Steps.{ask_of, after_ask, missing}
 use Rattle.dg_recv.specs.declared.Ask.TheVariants as ask
-use Rattle.dg_recv.specs.declared.TheConstants.{REQUESTS, NEXT_WAIT}
+use Rattle.dg_recv.specs.Times.{most_requests, next_wait}
 use Rattle.dg_recv.specs.Reception.{Reception}
-use Rattle.dg_send.specs.declared.TheConstants.{GAP}
+use Rattle.dg_send.specs.Times.{packet_gap}
 use Rattle.dg_object.specs.Object.{Row, object, profile}
 use Rattle.dg_slot.specs.Layout.{packets}
 use Rattle.dg_slot.specs.Kept.{Held}
@@ -54,7 +54,7 @@ timer_debt t = cond (eqb t.count 0) 0 (cond t.fired 1 2)
 
 abbrev mode_debt : Mode → ℕ
 mode_debt (Maintain t) = timer_debt t
-mode_debt (Receive r) = 1 + (REQUESTS - r.tries)
+mode_debt (Receive r) = 1 + (most_requests - r.tries)
 mode_debt (Transmit t) = set.len t.owed.left
 
 unfoldable debt : Spot → ℕ
@@ -69,7 +69,7 @@ promised s = one_if (leb 1 s.gesture) + 2 * one_if (order_waits s)
 timer_falls_by : (t : Timer) (now : ℕ) (fired : Bool) → t.fired ≡ fired → IsRunning t → t.begin + pace ≤ now → timer_debt (after_tick t now 0) ≤ timer_debt t - 1
 timer_falls_by t now false f r h =
     let due : is_due t now ≡ true = λ i. not (f i) && le-leb (t.begin + t.t) now (omega (arith, r.before_end, r.longest)) i in
-    let e : timer_debt (after_tick t now 0) ≡ cond (eqb t.count 0) 0 1 = ap (λ b. timer_debt (cond b (record t { fired = true }) (cond (is_over t now) (begun_timer (min (2 * t.interval) LONGEST_INTERVAL) now 0) t))) due in
+    let e : timer_debt (after_tick t now 0) ≡ cond (eqb t.count 0) 0 1 = ap (λ b. timer_debt (cond b (record t { fired = true }) (cond (is_over t now) (begun_timer (min (2 * t.interval) longest_interval) now 0) t))) due in
     let d : timer_debt t ≡ cond (eqb t.count 0) 0 2 = ap (λ b. cond (eqb t.count 0) 0 (cond b 1 2)) f in
     rw (e, d) (less (eqb t.count 0))
   where
@@ -79,7 +79,7 @@ timer_falls_by t now false f r h =
 timer_falls_by t now true f r h =
     let due : is_due t now ≡ false = λ i. not (f i) && leb (t.begin + t.t) now in
     let over : is_over t now ≡ true = λ i. f i && le-leb (t.begin + t.interval) now (omega (arith, r.longest)) i in
-    let next : Timer = begun_timer (min (2 * t.interval) LONGEST_INTERVAL) now 0 in
+    let next : Timer = begun_timer (min (2 * t.interval) longest_interval) now 0 in
     let e : timer_debt (after_tick t now 0) ≡ 0 =
     ap (λ b. timer_debt (cond b (record t { fired = true }) (cond (is_over t now) next t))) due ∙ ap (λ b. timer_debt (cond b next t)) over in
     rw e (omega arith)
@@ -248,9 +248,9 @@ module _ (laws : OrderLaws) (table : List Row) (sound_rows : SoundRows table) wh
 
 pays_receive : (x : Spot) (now : ℕ) (r : Receiving) → Calm x.store → clears x.mote x.store now ≡ false → x.mote.mode ≡ Receive r → r.due ≤ now → Paid 1 x (ticked x now)
 unfolding last_of
-pays_receive x now r calm none is late = elim (cases_lt r.tries REQUESTS) [
+pays_receive x now r calm none is late = elim (cases_lt r.tries most_requests) [
   | inl few ↦
-      pays_mode x now (Receive r) (Receive (record r { tries = r.tries + 1; due = now + NEXT_WAIT })) is (omega (arith, few))
+      pays_mode x now (Receive r) (Receive (record r { tries = r.tries + 1; due = now + next_wait })) is (omega (arith, few))
       (ticked_by x now (receive_by (ask.Request (missing (reception r))) x.mote r x.store now 0)
       (tick_by_mode x now (Receive r) none is ∙ ap (λ a. receive_by a x.mote r x.store now 0) (asks_now r now late few))
       ∙ ap (λ (a : Reception). record { store = x.store; mote = record x.mote { mode = Receive (record r { tries = a.tries; due = a.due }) } }) (counted few))
@@ -265,15 +265,15 @@ pays_receive x now r calm none is late = elim (cases_lt r.tries REQUESTS) [
     due : ltb now r.due ≡ false
     due = le-ltb now r.due late
 
-    counted : r.tries < REQUESTS → after_ask (reception r) now ≡ record (reception r) { tries = r.tries + 1; due = now + NEXT_WAIT }
+    counted : r.tries < most_requests → after_ask (reception r) now ≡ record (reception r) { tries = r.tries + 1; due = now + next_wait }
     counted few =
-        let next : Reception = record (reception r) { tries = r.tries + 1; due = now + NEXT_WAIT } in
-        ap (λ b. cond b (reception r) (cond (leb REQUESTS r.tries) (reception r) next)) due ∙ ap (λ b. cond b (reception r) next) (lt-leb REQUESTS r.tries few)
+        let next : Reception = record (reception r) { tries = r.tries + 1; due = now + next_wait } in
+        ap (λ b. cond b (reception r) (cond (leb most_requests r.tries) (reception r) next)) due ∙ ap (λ b. cond b (reception r) next) (lt-leb most_requests r.tries few)
 
-    given_up : REQUESTS ≤ r.tries → ask_of (reception r) now ≡ ask.GiveUp
+    given_up : most_requests ≤ r.tries → ask_of (reception r) now ≡ ask.GiveUp
     given_up enough =
-        ap (λ b. cond b ask.Wait (cond (leb REQUESTS r.tries) ask.GiveUp (ask.Request (missing (reception r))))) due
-        ∙ ap (λ b. cond b ask.GiveUp (ask.Request (missing (reception r)))) (le-leb REQUESTS r.tries enough)
+        ap (λ b. cond b ask.Wait (cond (leb most_requests r.tries) ask.GiveUp (ask.Request (missing (reception r))))) due
+        ∙ ap (λ b. cond b ask.GiveUp (ask.Request (missing (reception r)))) (le-leb most_requests r.tries enough)
 
 -- ---- it serves
 
@@ -302,7 +302,7 @@ pays_transmit x now t calm none is some due = elim (cases_Bool (eqb (set.len lef
     left = set.remove t.owed.left first.q
 
     serving : Sending
-    serving = record t { owed = record { left = left; due = now + GAP } }
+    serving = record t { owed = record { left = left; due = now + packet_gap } }
 
     after : Bool → Spot
     after b = record { store = x.store; mote = cond b (maintains x.mote now 0) (record x.mote { mode = Transmit serving }) }
@@ -313,7 +313,7 @@ pays_transmit x now t calm none is some due = elim (cases_Bool (eqb (set.len lef
     fewer : set.len left ≡ set.len t.owed.left - 1
     fewer = set.len-remove nat_cmp_total t.owed.left first.q ∙ ap (λ b. cond b (set.len t.owed.left - 1) (set.len t.owed.left)) first.member
 
-    same : ticked x now ≡ record { store = x.store; mote = served x.mote t now (record { left = left; due = now + GAP }) }
+    same : ticked x now ≡ record { store = x.store; mote = served x.mote t now (record { left = left; due = now + packet_gap }) }
     same = ticked_served x now first.q t is none first.is_least due
 
 -- ---- any tick
@@ -404,8 +404,8 @@ module _ (laws : OrderLaws) (table : List Row) (sound_rows : SoundRows table) (s
         gesture = no_start x.store.gesture (none_if (leb 1 x.store.gesture) (omega (arith, none)));
         order = none_if (order_waits x.store) (omega (arith, none));
         windows = λ later i from. λ k.
-            over_by (map.get x.mote.noted.requests i) last REQUEST_QUIET later (omega (arith, h, from)) (noted.0 i) k
-            && over_by (map.get x.mote.noted.packets i) last PACKET_QUIET later (omega (arith, h, from)) (noted.1 i) k;
+            over_by (map.get x.mote.noted.requests i) last request_window later (omega (arith, h, from)) (noted.0 i) k
+            && over_by (map.get x.mote.noted.packets i) last packet_window later (omega (arith, h, from)) (noted.1 i) k;
       }
 
   pub spends : (x : Spot) (now n : ℕ) → SpotIsWell table x now → x.store.room ≤ (after_ticks n x now).store.room + tick_commits

@@ -4,7 +4,7 @@ use Rattle.std.proofs.lemmas.List.{take_all}
 use Rattle.std.specs.Ordering.{nat_cmp}
 use Rattle.std.specs.FinMap as map
 use Rattle.dg_quiet.specs.Noted.{is_past}
-use Rattle.dg_quiet.specs.declared.TheConstants.{REQUEST_QUIET, PACKET_QUIET}
+use Rattle.dg_quiet.specs.Times.{request_window, packet_window}
 use Rattle.dg_trickle.specs.Steps.{started}
 use Rattle.dg_object.specs.Object.{Row, object}
 use Rattle.dg_slot.specs.Kept.{Held}
@@ -38,5 +38,5 @@ fresh_drained name bytes used id now word = record {
   unheard = refl;
   gesture = refl;
   order = refl;
-  windows = λ later i from. λ k. is_past (map.get-empty nat_cmp i k) REQUEST_QUIET later && is_past (map.get-empty nat_cmp i k) PACKET_QUIET later;
+  windows = λ later i from. λ k. is_past (map.get-empty nat_cmp i k) request_window later && is_past (map.get-empty nat_cmp i k) packet_window later;
 }

@@ -6,8 +6,8 @@ use Rattle.std.specs.List.{range_with_len}
 use Rattle.std.specs.Ordering.{nat_cmp}
 use Rattle.std.specs.FinSet as set
 use Rattle.dg_bits.specs.Sets.{Numbers, below, least}
-use Rattle.dg_bits.specs.SetLaws.{same_numbers, contains-none, contains-without, contains-less, contains-below, least_is}
-use Rattle.dg_send.specs.declared.TheConstants.{GAP}
+use Rattle.dg_bits.proofs.SetLaws.{same_numbers, contains-none, contains-without, contains-less, contains-below, least_is}
+use Rattle.dg_send.specs.Times.{packet_gap}
 use Rattle.dg_send.specs.Owed.{Owed}
 use Rattle.dg_send.specs.Steps.{serve_by, next_by, after_next}
 use Rattle.dg_nor.specs.Trail.{last, last_of, resting}
@@ -86,7 +86,7 @@ unfolding tick_effect
 tick_sends x now q t is g l due =
     ap (λ step. tick_by step.answer step now 0) (tick_by_mode x now (Transmit t) g is ∙ (λ i. transmit_by (serve_by (l i) (le-ltb now t.owed.due due i)) x.mote t x.store now 0))
 
-after_one : (o : Owed) (now q : ℕ) → least o.left ≡ Some q → o.due ≤ now → after_next o now ≡ record { left = set.remove o.left q; due = now + GAP }
+after_one : (o : Owed) (now q : ℕ) → least o.left ≡ Some q → o.due ≤ now → after_next o now ≡ record { left = set.remove o.left q; due = now + packet_gap }
 after_one o now q l due = λ i. next_by (l i) (le-ltb now o.due due i) o now
 
 -- the mote after it
@@ -94,7 +94,7 @@ abbrev pub served : MoteState → Sending → (now : ℕ) → Owed → MoteState
 served m t now owed = cond (eqb (set.len owed.left) 0) (maintains m now 0) (record m { mode = Transmit (record t { owed = owed }) })
 
 pub ticked_served : (x : Spot) (now q : ℕ) (t : Sending) → x.mote.mode ≡ Transmit t → clears x.mote x.store now ≡ false → least t.owed.left ≡ Some q → t.owed.due ≤ now
-    → ticked x now ≡ record { store = x.store; mote = served x.mote t now (record { left = set.remove t.owed.left q; due = now + GAP }) }
+    → ticked x now ≡ record { store = x.store; mote = served x.mote t now (record { left = set.remove t.owed.left q; due = now + packet_gap }) }
 unfolding ticked last_of
 ticked_served x now q t is g l due =
     ap (λ (e : Effect). record { store = last e.trail; mote = mote_or e.mote x.mote }) (tick_sends x now q t is g l due)
@@ -117,35 +117,35 @@ module _ (image version page : ℕ) where
   told x q = packet_message x.mote.id image version page (page_at x image page) q
 
   abbrev next_spot : Spot → (now k : ℕ) → Spot
-  next_spot x now k = record { store = x.store; mote = record x.mote { mode = Transmit (sending image version page (record { left = from k; due = now + GAP })) } }
+  next_spot x now k = record { store = x.store; mote = record x.mote { mode = Transmit (sending image version page (record { left = from k; due = now + packet_gap })) } }
 
   sends_one : (k : ℕ) (x : Spot) (now : ℕ) → k < packets → Owes k x now image version page → (tick_at x (now + pace)).sent ≡ Some (told x k)
   sends_one k x now h o =
       ap (λ (e : Effect). e.sent) (tick_sends x (now + pace) k (sending image version page o.owed) o.mode (not_clearing x.mote x.store (now + pace) o.gesture) (ap least o.left ∙ from_least k h) o.due)
 
   after_step : (k : ℕ) (x : Spot) (now : ℕ) → k < packets → (o : Owes k x now image version page)
-      → ticked x (now + pace) ≡ record { store = x.store; mote = served x.mote (sending image version page o.owed) (now + pace) (record { left = from (k + 1); due = now + pace + GAP }) }
+      → ticked x (now + pace) ≡ record { store = x.store; mote = served x.mote (sending image version page o.owed) (now + pace) (record { left = from (k + 1); due = now + pace + packet_gap }) }
   after_step k x now h o =
       ticked_served x (now + pace) k (sending image version page o.owed) o.mode (not_clearing x.mote x.store (now + pace) o.gesture) (ap least o.left ∙ from_least k h) o.due
-      ∙ ap (λ s. record { store = x.store; mote = served x.mote (sending image version page o.owed) (now + pace) (record { left = s; due = now + pace + GAP }) })
+      ∙ ap (λ s. record { store = x.store; mote = served x.mote (sending image version page o.owed) (now + pace) (record { left = s; due = now + pace + packet_gap }) })
       (ap (λ s. set.remove s k) o.left ∙ from_less k)
 
   -- one packet is left: it maintains
   after_last : (x : Spot) (now : ℕ) → Owes 47 x now image version page → ticked x (now + pace) ≡ record { store = x.store; mote = maintains x.mote (now + pace) 0 }
   after_last x now o =
       after_step 47 x now (omega arith) o
-      ∙ ap (λ b. record { store = x.store; mote = cond b (maintains x.mote (now + pace) 0) (record x.mote { mode = Transmit (sending image version page (record { left = from packets; due = now + pace + GAP })) }) })
+      ∙ ap (λ b. record { store = x.store; mote = cond b (maintains x.mote (now + pace) 0) (record x.mote { mode = Transmit (sending image version page (record { left = from packets; due = now + pace + packet_gap })) }) })
       (eq-eqb (set.len (from packets)) 0 (ap set.len from_end ∙ set.len-empty nat_cmp))
 
   -- more are left
   after_more : (k : ℕ) (x : Spot) (now : ℕ) → k + 1 < packets → Owes k x now image version page → ticked x (now + pace) ≡ next_spot x (now + pace) (k + 1)
   after_more k x now h o =
       after_step k x now (omega arith) o
-      ∙ ap (λ b. record { store = x.store; mote = cond b (maintains x.mote (now + pace) 0) (record x.mote { mode = Transmit (sending image version page (record { left = from (k + 1); due = now + pace + GAP })) }) })
+      ∙ ap (λ b. record { store = x.store; mote = cond b (maintains x.mote (now + pace) 0) (record x.mote { mode = Transmit (sending image version page (record { left = from (k + 1); due = now + pace + packet_gap })) }) })
       (from_some (k + 1) h)
 
   owes_next : (k : ℕ) (x : Spot) (now : ℕ) → x.store.gesture ≡ 0 → Owes k (next_spot x now k) now image version page
-  owes_next k x now g = record { owed = record { left = from k; due = now + GAP }; mode = refl; left = refl; due = omega arith; gesture = g }
+  owes_next k x now g = record { owed = record { left = from k; due = now + packet_gap }; mode = refl; left = refl; due = omega arith; gesture = g }
 
   later_by : (n now : ℕ) (m : MoteState) → maintains m ((now + pace) + n * pace) 0 ≡ maintains m (now + suc n * pace) 0
   later_by n now m = ap (λ t. maintains m t 0) (omega arith)

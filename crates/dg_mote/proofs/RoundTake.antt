@@ -8,7 +8,7 @@ use Rattle.std.specs.Ordering.{nat_cmp}
 use Rattle.std.specs.Cmp.{nat_cmp_total}
 use Rattle.std.specs.FinSet as set
 use Rattle.dg_bits.specs.Sets.{below}
-use Rattle.dg_bits.specs.SetLaws.{contains-below, below_more, below_none}
+use Rattle.dg_bits.proofs.SetLaws.{contains-below, below_more, below_none}
 use Rattle.dg_nor.specs.Trail.{last_of, joined, delayed, resting, stepping}
 use Rattle.dg_object.specs.Object.{Row, object, profile}
 use Rattle.dg_slot.specs.Layout.{packets, page_size}

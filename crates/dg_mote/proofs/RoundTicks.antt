@@ -8,7 +8,7 @@ use Rattle.dg_trickle.specs.declared.Act.{Act}
 use Rattle.dg_trickle.specs.declared.Act.TheVariants as act
 use Rattle.dg_recv.specs.Steps.{ask_of, missing}
 use Rattle.dg_recv.specs.declared.Ask.TheVariants as ask
-use Rattle.dg_recv.specs.declared.TheConstants.{REQUESTS}
+use Rattle.dg_recv.specs.Times.{most_requests}
 use Rattle.dg_object.specs.Object.{Row}
 use Rattle.dg_volume.specs.Store.{Store}
 use Rattle.dg_volume.specs.Trails.{clear_trail}
@@ -65,10 +65,10 @@ ticks_maintain x now t none is waits =
 -- ---- it asks
 
 -- a request is due, and it did not ask too often
-pub asks_now : (r : Receiving) (now : ℕ) → r.due ≤ now → r.tries < REQUESTS → ask_of (reception r) now ≡ ask.Request (missing (reception r))
+pub asks_now : (r : Receiving) (now : ℕ) → r.due ≤ now → r.tries < most_requests → ask_of (reception r) now ≡ ask.Request (missing (reception r))
 asks_now r now late few =
-    ap (λ b. cond b ask.Wait (cond (leb REQUESTS r.tries) ask.GiveUp (ask.Request (missing (reception r))))) (le-ltb now r.due late)
-    ∙ ap (λ b. cond b ask.GiveUp (ask.Request (missing (reception r)))) (lt-leb REQUESTS r.tries few)
+    ap (λ b. cond b ask.Wait (cond (leb most_requests r.tries) ask.GiveUp (ask.Request (missing (reception r))))) (le-ltb now r.due late)
+    ∙ ap (λ b. cond b ask.GiveUp (ask.Request (missing (reception r)))) (lt-leb most_requests r.tries few)
 
 -- ---- it stays well
 

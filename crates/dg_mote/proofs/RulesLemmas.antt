@@ -8,7 +8,7 @@ use Rattle.dg_trickle.specs.Timer.{Timer}
 use Rattle.dg_trickle.specs.Steps.{act_of, after_tick}
 use Rattle.dg_trickle.specs.declared.Act.{Act}
 use Rattle.dg_trickle.specs.declared.Act.TheVariants as act
-use Rattle.dg_recv.specs.declared.TheConstants.{PACKETS, REQUESTS}
+use Rattle.dg_recv.specs.Times.{most_requests}
 use Rattle.dg_recv.specs.Steps.{ask_of, missing}
 use Rattle.dg_recv.specs.declared.Ask.{Ask}
 use Rattle.dg_recv.specs.declared.Ask.TheVariants as ask
@@ -17,7 +17,7 @@ use Rattle.dg_send.specs.declared.Serve.{Serve}
 use Rattle.dg_send.specs.declared.Serve.TheVariants as serve
 use Rattle.dg_quiet.specs.Noted.{with_request, with_packet}
 use Rattle.dg_bits.specs.Sets.{Numbers, below}
-use Rattle.dg_bits.specs.SetLaws.{contains-less, contains-below}
+use Rattle.dg_bits.proofs.SetLaws.{contains-less, contains-below}
 use Rattle.dg_control.specs.declared.snapshot.Order.{Order}
 use Rattle.dg_slot.specs.Layout.{packets}
 use Rattle.dg_slot.specs.Kept.{Held}
@@ -211,7 +211,7 @@ none_by (Some bytes) e = cc
 missing_is : (r : Receiving) (q : ℕ) → (set.contains (missing (reception r)) q ≡ true) ↔ ((q < packets) × (packet r.packets q ≡ None))
 missing_is r q =
     let is : set.contains (missing (reception r)) q ≡ (nat_lt q packets && not (is_some (packet r.packets q) && nat_lt q packets)) =
-    contains-less (below PACKETS) (came r.packets) q ∙ (λ i. contains-below PACKETS q i && not (came_has r.packets q i)) in (
+    contains-less (below packets) (came r.packets) q ∙ (λ i. contains-below packets q i && not (came_has r.packets q i)) in (
       λ e. let both = not_some (nat_lt q packets) (is_some (packet r.packets q)) (sym is ∙ e) in (ltb-true q packets both.0, none_by (packet r.packets q) both.1),
       λ both. is ∙ (λ i. lt-ltb q packets both.0 i && not (is_some (both.1 i) && nat_lt q packets)),
     )
@@ -244,7 +244,7 @@ module _ (m : MoteState) (s : Store) (now word source to image version page : �
   receive_told r is =
       let P : Ask → Type 0 = λ x. Told (receive_by x m r s now word).sent in
       cond_both (nat_lt now r.due) ask.Wait _ P (λ _ e. cc)
-      (λ _. cond_both (nat_le REQUESTS r.tries) ask.GiveUp (ask.Request (missing (reception r))) P (λ _ e. cc) (λ _. asks_told r is))
+      (λ _. cond_both (nat_le most_requests r.tries) ask.GiveUp (ask.Request (missing (reception r))) P (λ _ e. cc) (λ _. asks_told r is))
 
   transmit_told : (a : Serve) (t : Sending) → Told (transmit_by a m t s now word).sent
   transmit_told (serve.Send q) t e = cc

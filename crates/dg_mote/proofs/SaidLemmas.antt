@@ -9,11 +9,11 @@ use Rattle.dg_words.specs.Cells.{AreBytes}
 use Rattle.dg_words.proofs.CellLemmas.{length-part, get_or-part}
 use Rattle.dg_base.specs.Crc.{crc_of}
 use Rattle.dg_bits.specs.Sets.{AllBelow, IsLeast, below, least}
-use Rattle.dg_bits.specs.SetLaws.{contains-none, contains-less, contains-below, least_cases}
+use Rattle.dg_bits.proofs.SetLaws.{contains-none, contains-less, contains-below, least_cases}
 use Rattle.dg_trickle.specs.Steps.{act_of, after_tick}
 use Rattle.dg_trickle.specs.declared.Act.{Act}
 use Rattle.dg_trickle.specs.declared.Act.TheVariants as act
-use Rattle.dg_recv.specs.declared.TheConstants.{PACKETS, REQUESTS}
+use Rattle.dg_recv.specs.Times.{most_requests}
 use Rattle.dg_recv.specs.Steps.{ask_of, missing}
 use Rattle.dg_recv.specs.declared.Ask.{Ask}
 use Rattle.dg_recv.specs.declared.Ask.TheVariants as ask
@@ -26,7 +26,7 @@ use Rattle.dg_volume.specs.Store.{Store, held}
 use Rattle.dg_volume.specs.Start.{order_waits, complete_pages}
 use Rattle.dg_volume.specs.Table.{IsTable}
 use Rattle.dg_volume.specs.Agreement.{KeepsRow}
-use Rattle.dg_frame.specs.Sizes.{last_packet, packet_bytes}
+use Rattle.dg_frame.specs.Sizes.{last_packet}
 use Rattle.dg_frame.specs.Grammar.{message_of, in_range}
 use Rattle.dg_frame.specs.Ranges.{IsInRange, EntryInRange, PageInRange}
 use Rattle.dg_frame.specs.Spelling.{frame_of, FitsTypes, EntryFitsTypes}
@@ -128,7 +128,7 @@ module _ (laws : SpellLaws) where
     missing_some : (r : Receiving) → set.len (came r.packets) < packets → missing (reception r) ≢ set.empty
     missing_some r few none =
         let all : (q : ℕ) → q < packets → set.contains (came r.packets) q ≡ true =
-        λ q less. no_missing (set.contains (came r.packets) q) (sym (ap (λ b. b && not (set.contains (came r.packets) q)) (contains-below PACKETS q ∙ lt-ltb q PACKETS less)) ∙ sym (contains-less (below PACKETS) (came r.packets) q) ∙ ap (λ u. set.contains u q) none ∙ contains-none q) in
+        λ q less. no_missing (set.contains (came r.packets) q) (sym (ap (λ b. b && not (set.contains (came r.packets) q)) (contains-below packets q ∙ lt-ltb q packets less)) ∙ sym (contains-less (below packets) (came r.packets) q) ∙ ap (λ u. set.contains u q) none ∙ contains-none q) in
         absurd (omega (arith, few, full_of packets (came r.packets) (came_below r.packets) all))
       where
         no_missing : (b : Bool) → (true && not b) ≡ false → b ≡ true
@@ -136,10 +136,10 @@ module _ (laws : SpellLaws) where
         no_missing false e = absurd (false≢true (sym e))
 
     missing_below : (r : Receiving) → AllBelow (last_packet + 1) (missing (reception r))
-    missing_below r q is = in_below q (set.contains (below PACKETS) q) (not (set.contains (came r.packets) q)) (contains-below PACKETS q) (sym (contains-less (below PACKETS) (came r.packets) q) ∙ is)
+    missing_below r q is = in_below q (set.contains (below packets) q) (not (set.contains (came r.packets) q)) (contains-below packets q) (sym (contains-less (below packets) (came r.packets) q) ∙ is)
       where
-        in_below : (q : ℕ) (a b : Bool) → a ≡ nat_lt q PACKETS → (a && b) ≡ true → q < last_packet + 1
-        in_below q true b e both = ltb-true q PACKETS (sym e)
+        in_below : (q : ℕ) (a b : Bool) → a ≡ nat_lt q packets → (a && b) ≡ true → q < last_packet + 1
+        in_below q true b e both = ltb-true q packets (sym e)
         in_below q false b e both = cc
 
     request_said : (r : Receiving) → ReceivesRow table s r → r.server < 2 ^ 16 → IsSaid id (Request id r.server r.image r.version r.page (missing (reception r)))
@@ -152,7 +152,7 @@ module _ (laws : SpellLaws) where
 
     -- ---- a packet
 
-    packet_long : (page : List ℕ) (q : ℕ) → length page ≡ page_size → q < packets → length (packet_of page q) ≡ packet_bytes
+    packet_long : (page : List ℕ) (q : ℕ) → length page ≡ page_size → q < packets → length (packet_of page q) ≡ packet_size
     packet_long page q long less = length-part page (packet_size * q) packet_size (omega (arith, long, less))
 
     part_bytes : (page : List ℕ) (q : ℕ) → length page ≡ page_size → q < packets → AreBytes page → AreBytes (packet_of page q)
@@ -187,7 +187,7 @@ module _ (laws : SpellLaws) where
     receive_said m r now word same a server =
         let P : Ask → Type 0 = λ x. IfSome (receive_by x m r s now word).sent (IsSaid id) in
         cond_both (nat_lt now r.due) ask.Wait _ P (λ _. tt)
-        (λ _. cond_both (nat_le REQUESTS r.tries) ask.GiveUp (ask.Request (missing (reception r))) P (λ _. tt)
+        (λ _. cond_both (nat_le most_requests r.tries) ask.GiveUp (ask.Request (missing (reception r))) P (λ _. tt)
         (λ _. subst (λ n. IsSaid id (Request n r.server r.image r.version r.page (missing (reception r)))) (sym same) (request_said r a server)))
 
     transmit_said : (m : MoteState) (t : Sending) (now word : ℕ) → m.id ≡ id → Serves s t → AllBelow packets t.owed.left → IfSome (transmit_by (serve_of t.owed now) m t s now word).sent (IsSaid id)

@@ -7,7 +7,7 @@ use Rattle.std.specs.Prelude.{nat_le, nat_lt, slice_index_or}
 use Rattle.std.specs.Ordering.{nat_cmp}
 use Rattle.std.specs.FinSet as set
 use Rattle.dg_bits.specs.Sets.{Numbers, below, AllBelow}
-use Rattle.dg_bits.specs.SetLaws.{contains-below, contains-less}
+use Rattle.dg_bits.proofs.SetLaws.{contains-below, contains-less}
 use Rattle.dg_control.specs.Ranges.{order_fits}
 use Rattle.dg_control.specs.declared.snapshot.Order.{Order}
 use Rattle.dg_control.proofs.PlaceLemmas.{in_range as snapshot_in_range}
@@ -15,7 +15,7 @@ use Rattle.dg_words.proofs.ListLemmas.{get_or-tabulate}
 use Rattle.dg_nor.specs.Chip.{sector}
 use Rattle.dg_recv.specs.Reception.{Reception}
 use Rattle.dg_recv.specs.declared.Ask.TheVariants as Ask
-use Rattle.dg_recv.specs.declared.TheConstants.{REQUESTS}
+use Rattle.dg_recv.specs.Times.{most_requests}
 use Rattle.dg_recv.specs.Steps.{missing, ask_of}
 use Rattle.dg_slot.specs.Layout.{packets, most_pages, page_sector}
 use Rattle.dg_slot.specs.Kept.{Held, KeepsImage}
@@ -96,7 +96,7 @@ asked_by false true a want e = cc
 asked_by false false a want e = cc
 
 asked_for : (r : Reception) (now : ℕ) (want : Numbers) → Ask.Request want ≡ ask_of r now → want ≡ missing r
-asked_for r now want is = asked_by (nat_lt now r.due) (nat_le REQUESTS r.tries) (missing r) want is
+asked_for r now want is = asked_by (nat_lt now r.due) (nat_le most_requests r.tries) (missing r) want is
 
 request_in_range : (id to image version page : ℕ) (want : Numbers) → 1 ≤ image → image < images → 1 ≤ version → page < most_pages → set.len want ≢ 0 → in_range (Request id to image version page want) ≡ true
 unfolding in_range

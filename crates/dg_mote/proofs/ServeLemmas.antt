@@ -9,7 +9,7 @@ use Rattle.dg_nor.specs.Trail.{Trail, operations, last}
 use Rattle.dg_nor.proofs.DeviceLemmas.{Ran-none}
 use Rattle.dg_nor.proofs.TrailLemmas.{operations-resting, last-resting}
 use Rattle.dg_bits.specs.Sets.{Numbers}
-use Rattle.dg_bits.specs.SetLaws.{same_numbers, contains-none, contains-both}
+use Rattle.dg_bits.proofs.SetLaws.{same_numbers, contains-none, contains-both}
 use Rattle.dg_trickle.specs.Timer.{Timer}
 use Rattle.dg_send.specs.Owed.{Owed}
 use Rattle.dg_send.specs.Steps.{begun, after_merge}

@@ -5,7 +5,7 @@ use Rattle.std.specs.List.{list_all}
 use Rattle.std.proofs.lemmas.Bool.{cond_both, cases_Bool, cond-false, and_parts, eqb-true, ne_eqb, le-ltb, leb-true, ltb-true}
 use Rattle.dg_nor.specs.Trail.{Trail, last, last_of, resting}
 use Rattle.dg_nor.proofs.TrailLemmas.{joined_none, last-resting}
-use Rattle.dg_trickle.specs.declared.TheConstants.{SHORTEST, LONGEST_INTERVAL, REDUNDANCY}
+use Rattle.dg_trickle.specs.Times.{shortest_interval, longest_interval, redundancy}
 use Rattle.dg_trickle.specs.Timer.{Timer}
 use Rattle.dg_trickle.specs.Steps.{begun, is_due, is_over, act_of, after_tick, after_same, after_other}
 use Rattle.dg_trickle.specs.declared.Act.{Act}
@@ -120,14 +120,14 @@ not_over t now early over = omega (arith, early, leb-true (t.begin + t.interval)
 ticks_on : (timer t : Timer) (now word : ℕ) → Suppressed timer (Maintain t) → now < timer.begin + timer.interval → Suppressed timer (Maintain (after_tick t now word))
 ticks_on timer t now word q early =
     cond_both (is_due t now) (record t { fired = true }) _ (λ x. Suppressed timer (Maintain x)) (λ _. q)
-    (λ _. cond_both (is_over t now) (begun (min (2 * t.interval) LONGEST_INTERVAL) now word) t (λ x. Suppressed timer (Maintain x)) (λ over. absurd (not_over t now (omega (arith, early, q.0, q.1)) over)) (λ _. q))
+    (λ _. cond_both (is_over t now) (begun (min (2 * t.interval) longest_interval) now word) t (λ x. Suppressed timer (Maintain x)) (λ over. absurd (not_over t now (omega (arith, early, q.0, q.1)) over)) (λ _. q))
 
 -- at t it keeps quiet
 no_send : (t : Timer) (now : ℕ) (m : MoteState) (s : Store) → 1 ≤ t.count → (maintain_by (act_of t now) m s).sent ≡ None
 no_send t now m s heard =
     let P : Act → Type 0 = λ a. (maintain_by a m s).sent ≡ None in
     cond_both (is_due t now) _ _ P
-    (λ _. cond_both (nat_lt t.count REDUNDANCY) act.Send act.Quiet P (λ few. absurd (omega (arith, heard, ltb-true t.count REDUNDANCY few))) (λ _. refl))
+    (λ _. cond_both (nat_lt t.count redundancy) act.Send act.Quiet P (λ few. absurd (omega (arith, heard, ltb-true t.count redundancy few))) (λ _. refl))
     (λ _. cond_both (is_over t now) act.Expired act.Nothing P (λ _. refl) (λ _. refl))
 
 acts_alike : (a : Act) (m : MoteState) (s : Store) → (maintain_by a m s).mote ≡ m
@@ -158,8 +158,8 @@ Counts timer step = IsInInterval timer step.mote.mode → Suppressed timer step.
 
 other_counts : (timer t : Timer) (now word : ℕ) → Suppressed timer (Maintain t) → IsInInterval timer (Maintain (after_other t now word)) → Suppressed timer (Maintain (after_other t now word))
 other_counts timer t now word q =
-    cond_both (nat_lt SHORTEST t.interval) (begun SHORTEST now word) t (λ x. IsInInterval timer (Maintain x) → Suppressed timer (Maintain x))
-    (λ longer within. absurd (omega (arith, ltb-true SHORTEST t.interval longer, within.1, q.1)))
+    cond_both (nat_lt shortest_interval t.interval) (begun shortest_interval now word) t (λ x. IsInInterval timer (Maintain x) → Suppressed timer (Maintain x))
+    (λ longer within. absurd (omega (arith, ltb-true shortest_interval t.interval longer, within.1, q.1)))
     (λ _ _. q)
 
 noting_counts : (timer : Timer) (own : Bool) (m : MoteState) (t : Timer) (s : Store) (now word : ℕ) → Suppressed timer (Maintain t) → Counts timer (noting m t s now word own)

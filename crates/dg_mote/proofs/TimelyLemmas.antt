@@ -9,23 +9,23 @@ use Rattle.std.specs.FinMap as map
 use Rattle.std.specs.FinSet as set
 use Rattle.dg_trickle.specs.Timer.{Timer}
 use Rattle.dg_trickle.specs.Steps.{started, after_same, after_other, after_tick, act_of, is_due, is_over}
-use Rattle.dg_trickle.specs.RunLaws.{IsRunning-begun, IsRunning-same, IsRunning-other, IsRunning-tick}
+use Rattle.dg_trickle.proofs.RunLaws.{IsRunning-begun, IsRunning-same, IsRunning-other, IsRunning-tick}
 use Rattle.dg_trickle.specs.declared.Act.{Act}
 use Rattle.dg_trickle.specs.declared.Act.TheVariants as act
-use Rattle.dg_trickle.specs.declared.TheConstants.{SHORTEST}
+use Rattle.dg_trickle.specs.Times.{shortest_interval}
 use Rattle.dg_quiet.specs.Noted.{Moments, with_request, with_packet}
 use Rattle.dg_recv.specs.Reception.{Reception}
 use Rattle.dg_recv.specs.Steps.{after_ask, after_accept, ask_of}
 use Rattle.dg_recv.specs.declared.Ask.{Ask}
 use Rattle.dg_recv.specs.declared.Ask.TheVariants as ask
-use Rattle.dg_recv.specs.declared.TheConstants.{NEXT_WAIT, REQUESTS}
+use Rattle.dg_recv.specs.Times.{next_wait, most_requests}
 use Rattle.dg_send.specs.Owed.{Owed}
 use Rattle.dg_send.specs.Steps.{after_next, next_by, serve_of}
 use Rattle.dg_send.specs.declared.Serve.{Serve}
 use Rattle.dg_send.specs.declared.Serve.TheVariants as serve
-use Rattle.dg_send.specs.declared.TheConstants.{GAP}
+use Rattle.dg_send.specs.Times.{packet_gap}
 use Rattle.dg_bits.specs.Sets.{Numbers, AllBelow, least}
-use Rattle.dg_bits.specs.SetLaws.{contains-without, contains-both}
+use Rattle.dg_bits.proofs.SetLaws.{contains-without, contains-both}
 use Rattle.dg_slot.specs.Layout.{packets}
 use Rattle.dg_slot.specs.Kept.{Held}
 use Rattle.dg_volume.specs.Store.{Store, held}
@@ -54,13 +54,13 @@ use Rattle.dg_mote.specs.declared.mote.Did.{Did}
 -- ---- a timer
 
 timer_begins : (now word : ℕ) → ModeTimely (Maintain (started now word)) now
-timer_begins now word = (IsRunning-begun SHORTEST now word (omega arith) (omega arith), omega arith)
+timer_begins now word = (IsRunning-begun shortest_interval now word (omega arith) (omega arith), omega arith)
 
 timer_same : (t : Timer) (now : ℕ) → ModeTimely (Maintain t) now → ModeTimely (Maintain (after_same t)) now
 timer_same t now m = (IsRunning-same t m.0, m.1)
 
 timer_other : (t : Timer) (now word : ℕ) → ModeTimely (Maintain t) now → ModeTimely (Maintain (after_other t now word)) now
-timer_other t now word m = (IsRunning-other t now word m.0, cond_both (nat_lt SHORTEST t.interval) _ t (λ x. x.begin ≤ now) (λ _. omega arith) (λ _. m.1))
+timer_other t now word m = (IsRunning-other t now word m.0, cond_both (nat_lt shortest_interval t.interval) _ t (λ x. x.begin ≤ now) (λ _. omega arith) (λ _. m.1))
 
 pub timer_ticks : (t : Timer) (now word : ℕ) → ModeTimely (Maintain t) now → ModeTimely (Maintain (after_tick t now word)) now
 timer_ticks t now word m = (
@@ -107,10 +107,10 @@ maintain_timely act.Quiet m s now t = t
 maintain_timely act.Expired m s now t = t
 maintain_timely act.Nothing m s now t = t
 
-asked_due : (r : Receiving) (now : ℕ) → r.due ≤ now + NEXT_WAIT → (after_ask (reception r) now).due ≤ now + NEXT_WAIT
-asked_due r now h = cond_both (nat_lt now r.due) _ _ (λ (x : Reception). x.due ≤ now + NEXT_WAIT) (λ _. h) (λ _. cond_both (nat_le REQUESTS r.tries) _ _ (λ (x : Reception). x.due ≤ now + NEXT_WAIT) (λ _. h) (λ _. omega arith))
+asked_due : (r : Receiving) (now : ℕ) → r.due ≤ now + next_wait → (after_ask (reception r) now).due ≤ now + next_wait
+asked_due r now h = cond_both (nat_lt now r.due) _ _ (λ (x : Reception). x.due ≤ now + next_wait) (λ _. h) (λ _. cond_both (nat_le most_requests r.tries) _ _ (λ (x : Reception). x.due ≤ now + next_wait) (λ _. h) (λ _. omega arith))
 
-receive_timely : (a : Ask) (m : MoteState) (r : Receiving) (s : Store) (now word : ℕ) → Timely m now → r.due ≤ now + NEXT_WAIT → Timely (receive_by a m r s now word).mote now
+receive_timely : (a : Ask) (m : MoteState) (r : Receiving) (s : Store) (now word : ℕ) → Timely m now → r.due ≤ now + next_wait → Timely (receive_by a m r s now word).mote now
 receive_timely (ask.Request want) m r s now word t h = timely_mode m (Receive (asked r now)) now t (asked_due r now h)
 receive_timely ask.GiveUp m r s now word t h = timely_maintains m now word t
 receive_timely ask.Wait m r s now word t h = t
@@ -122,7 +122,7 @@ left_below false c e = e
 below_removed : (n : ℕ) (s : Numbers) (k : ℕ) → AllBelow n s → AllBelow n (set.remove s k)
 below_removed n s k h q is = h q (left_below (q == k) (set.contains s q) (sym (contains-without s k q) ∙ is))
 
-next_timely : (o : Option ℕ) (early : Bool) (owed : Owed) (now : ℕ) → (owed.due ≤ now + GAP) × AllBelow packets owed.left → ((next_by o early owed now).due ≤ now + GAP) × AllBelow packets (next_by o early owed now).left
+next_timely : (o : Option ℕ) (early : Bool) (owed : Owed) (now : ℕ) → (owed.due ≤ now + packet_gap) × AllBelow packets owed.left → ((next_by o early owed now).due ≤ now + packet_gap) × AllBelow packets (next_by o early owed now).left
 next_timely None early owed now h = h
 next_timely (Some k) true owed now h = h
 next_timely (Some k) false owed now h = (omega arith, below_removed packets owed.left k h.1)
@@ -213,9 +213,9 @@ seal_timely : (o : Option Held) (m : MoteState) (r : Receiving) (s : Store) (now
 seal_timely None m r s now word page y = y
 seal_timely (Some h) m r s now word page y = cond_both _ _ _ (λ (x : Turn Heard). Timely x.mote now) (λ _. timely_maintains m now word y) (λ _. timely_maintains m now word y)
 
-accepted_due : (r : Receiving) (now q : ℕ) → r.due ≤ now + NEXT_WAIT → (after_accept (reception r) now q).due ≤ now + NEXT_WAIT
+accepted_due : (r : Receiving) (now q : ℕ) → r.due ≤ now + next_wait → (after_accept (reception r) now q).due ≤ now + next_wait
 accepted_due r now q h =
-    cond_both (set.contains (reception r).got q) (reception r) (record (reception r) { got = set.insert (reception r).got q; due = now + NEXT_WAIT }) (λ (x : Reception). x.due ≤ now + NEXT_WAIT) (λ _. h) (λ _. omega arith)
+    cond_both (set.contains (reception r).got q) (reception r) (record (reception r) { got = set.insert (reception r).got q; due = now + next_wait }) (λ (x : Reception). x.due ≤ now + next_wait) (λ _. h) (λ _. omega arith)
 
 packet_timely : (mode : Mode) (m : MoteState) (s : Store) (now word image version page q : ℕ) (bytes : List ℕ) → Timely m now → ModeTimely mode now → Timely (on_packet mode m s now word image version page q bytes).mote now
 packet_timely (Receive r) m s now word image version page q bytes y h =

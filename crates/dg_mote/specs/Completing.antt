@@ -2,7 +2,7 @@
 use Rattle.std.specs.Prelude.{◌≡◌, ◌≢◌, ◌⊎◌, ℕ, ◌+◌, ◌*◌, ◌<◌, ◌≤◌, List, [], ◌∷◌, length, map, slice_index_or, Option, Some, None}
 use Rattle.std.specs.List.{range_with_len}
 use Rattle.dg_bits.specs.Sets.{below}
-use Rattle.dg_recv.specs.declared.TheConstants.{NEXT_WAIT}
+use Rattle.dg_recv.specs.Times.{next_wait}
 use Rattle.dg_object.specs.Object.{Row, object}
 use Rattle.dg_slot.specs.Layout.{packets}
 use Rattle.dg_slot.specs.Kept.{Held}
@@ -106,7 +106,7 @@ pub record Asked (table : List Row) (x y : Spot) (now id image : ℕ) (ahead : H
   pub asks : AsksPage y image kept
   pub server : asks.r.server ≡ id
   pub tries : asks.r.tries ≡ 0
-  pub due : asks.r.due ≤ now + NEXT_WAIT
+  pub due : asks.r.due ≤ now + next_wait
   pub next : KeepsNext (held x.store image) ahead kept
   pub version : kept.version ≡ ahead.version
   pub less : length kept.complete < length ahead.complete
@@ -130,7 +130,7 @@ pub record Requested (x y : Spot) (now image : ℕ) (kept : Held) (server : ℕ)
 
 -- A mote that has begun to ask sends its request in the next tick.
 abbrev pub RequestLaw : Type 0
-RequestLaw = (x : Spot) (now server image : ℕ) (kept : Held) → (a : AsksPage x image kept) → a.r.server ≡ server → a.r.tries ≡ 0 → a.r.due ≤ now + NEXT_WAIT → x.store.gesture ≡ 0
+RequestLaw = (x : Spot) (now server image : ℕ) (kept : Held) → (a : AsksPage x image kept) → a.r.server ≡ server → a.r.tries ≡ 0 → a.r.due ≤ now + next_wait → x.store.gesture ≡ 0
     → Requested x (ticked x (now + pace)) now image kept server
 
 -- ---- serving

@@ -2,7 +2,7 @@
 use Rattle.std.specs.Prelude.{ℕ, ◌+◌, ◌*◌, List}
 use Rattle.std.specs.List.{range_with_len}
 use Rattle.dg_frame.specs.Sizes.{frame_images, set_bytes}
-use Rattle.dg_frame.specs.declared.TheConstants.{FRAME_BYTES}
+use Rattle.dg_frame.specs.Sizes.{frame_bytes}
 
 -- the images that motes hand on: those that frames speak of
 abbrev pub shared : List ℕ
@@ -14,7 +14,7 @@ long_run = 5000
 
 -- the bytes of the outbox, which holds a frame
 abbrev pub outbox_bytes : ℕ
-outbox_bytes = FRAME_BYTES
+outbox_bytes = frame_bytes
 
 -- the packets that came, and those that are owed
 abbrev pub packet_sets : ℕ

@@ -20,6 +20,7 @@ ghost use Rattle.dg_mote.specs.Hearing.{Rests, StaysIf, MayTake, slot_trail, Ope
 
 use crate::summary::entry_of;
 use crate::{Heard, Mode, Mote};
+use dg_base::NETWORK_IMAGES;
 use dg_control::Order;
 use dg_frame::{Entry, FRAME_IMAGES};
 use dg_nor::{Nor, Stopped};
@@ -34,9 +35,6 @@ use dg_volume::{
 
 /// The commits of a taking.
 const TAKE_COMMITS: u32 = 2;
-
-/// The images that frames speak of are 1 to this number.
-const IMAGES: u8 = FRAME_IMAGES as u8;
 
 impl Mote {
     /// An advert of another mote was heard.
@@ -205,7 +203,7 @@ fn says_entries(volume: &Volume, entries: &[Entry; FRAME_IMAGES]) -> bool
     ensures told { result ≡ true → (s : Store) → Tells volume.now s → (i : ℕ) → 1 ≤ i → i ≤ frame_images → same_entry (entry_for entries.now i) (entry_by (held s i)) ≡ true }
     ensures other { result ≡ false → (i : ℕ) × (1 ≤ i) × (i ≤ frame_images) × ((s : Store) → Tells volume.now s → same_entry (entry_for entries.now i) (entry_by (held s i)) ≡ false) }
 {
-    for image in 1..=IMAGES {
+    for image in 1..=NETWORK_IMAGES {
         if !is_same_entry(&entry_for(entries, image), &entry_of(volume.kept(image))) {
             return false;
         }
@@ -225,7 +223,7 @@ fn first_ahead(volume: &Volume, entries: &[Entry; FRAME_IMAGES]) -> Option<u8>
     ensures within { IfSome result (λ i. (1 ≤ i) × (i ≤ frame_images)) }
     ensures ahead { IfSome result (λ i. (s : Store) → Tells volume.now s → ahead_of (entry_for entries.now i) (held s i) ≡ true) }
 {
-    for image in 1..=IMAGES {
+    for image in 1..=NETWORK_IMAGES {
         if is_ahead(volume.kept(image), entry_for(entries, image)) {
             return Some(image);
         }

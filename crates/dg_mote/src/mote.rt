@@ -7,7 +7,7 @@ ghost use Rattle.dg_mote.specs.Model.{MoteState, begun, maintains};
 ghost use Rattle.dg_mote.specs.Timely.{Timely};
 ghost use Rattle.dg_mote.specs.Motes.{IsMote, id_told, volume_of};
 
-use dg_frame::{FRAME_BYTES, FrameFault};
+use dg_frame::{FRAME_BYTES, FrameFault, SET_BYTES};
 use dg_quiet::Windows;
 use dg_recv::Asking;
 use dg_send::Serving;
@@ -15,9 +15,6 @@ use dg_slot::PageJob;
 use dg_trickle::Trickle;
 use dg_volume::Volume;
 use std::mem;
-
-/// The bytes of a packet set in a frame.
-const SET_BYTES: usize = 6;
 
 /// The packet sets that a mote keeps: those that came, or those that it owes, and those that a frame asks for.
 const SETS: usize = 2;

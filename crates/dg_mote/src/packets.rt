@@ -22,8 +22,8 @@ ghost use Rattle.dg_mote.specs.Hearing.{Rests, StaysIf, Fills, is_sealed, IsWhol
 
 use crate::requests::PageName;
 use crate::{Heard, Mode, Mote};
-use dg_frame::{PACKET_BYTES, PACKETS};
 use dg_nor::{Nor, Stopped};
+use dg_object::{PACKET_SIZE, PACKETS};
 use dg_recv::Asking;
 use dg_slot::{OpenSlot, PageJob, Sealing};
 use dg_trickle::Trickle;
@@ -39,7 +39,7 @@ impl Mote {
         word: u32,
         name: PageName,
         packet: u8,
-        bytes: &[u8; PACKET_BYTES],
+        bytes: &[u8; PACKET_SIZE],
     ) -> Result<Heard, Stopped>
         requires mote { (m : MoteState) × (s : Store) × IsMote (N.device nor.old).image self.old m s }
         requires moment { now < 2 ^ 62 }
@@ -81,7 +81,7 @@ impl Mote {
         word: u32,
         name: PageName,
         packet: u8,
-        bytes: &[u8; PACKET_BYTES],
+        bytes: &[u8; PACKET_SIZE],
     ) -> Result<Heard, Stopped>
         requires mote { (m : MoteState) × (s : Store) × (r : Receiving) × IsMote (N.device nor.old).image self.old m s × (m.mode ≡ Receive r) }
         requires moment { now < 2 ^ 62 }
@@ -160,7 +160,7 @@ fn put<N: Nor>(
     asking: &mut Asking,
     job: &mut PageJob,
     packet: u8,
-    bytes: &[u8; PACKET_BYTES],
+    bytes: &[u8; PACKET_SIZE],
 ) -> Result<(), Stopped>
     requires moment { now < 2 ^ 62 }
     requires known { packet < packets }

@@ -11,7 +11,7 @@ ghost use Rattle.dg_mote.specs.Hearing.{Rests, StaysIf};
 
 use crate::{Heard, Mode, Mote};
 use dg_bits::PageBits;
-use dg_frame::PACKETS;
+use dg_object::PACKETS;
 use dg_send::Serving;
 
 /// A page of a version of an image.

@@ -6,7 +6,7 @@ ghost use Rattle.dg_nor.specs.Trail.{last, resting};
 ghost use Rattle.dg_bits.specs.Sets.{Numbers};
 ghost use Rattle.dg_trickle.specs.Timer.{Timer};
 ghost use Rattle.dg_trickle.specs.Steps.{after_same};
-ghost use Rattle.dg_quiet.specs.declared.TheConstants.{REQUEST_QUIET, PACKET_QUIET};
+ghost use Rattle.dg_quiet.specs.Times.{request_window, packet_window};
 ghost use Rattle.dg_quiet.specs.Noted.{with_request, with_packet};
 ghost use Rattle.dg_send.specs.Steps.{begun};
 ghost use Rattle.dg_control.specs.declared.snapshot.Order.{Order};
@@ -47,10 +47,10 @@ pub fn an_overheard_frame_keeps_a_mote_from_asking()
         → heard_of m s now word bytes ≡ record { mote = record m { noted = with_packet m.noted now image }; trail = resting s 0; sent = None; answer = heard.Noted } }
     ensures after_request { (m : MoteState) (s : Store) (now word : ℕ) (bytes : List ℕ) (source to image version page : ℕ) (want : Numbers) (events : List Happens)
         → message_of bytes ≡ Ok (message.Request source to image version page want) → source ≢ m.id → to ≢ m.id → IsOfUse (held s image) version page
-        → AsksNotFor image m.mode → AllBetween now (now + REQUEST_QUIET) events → AllByRecursion (NoRequest image) (sent_in (Hears now word bytes ∷ events) m s) }
+        → AsksNotFor image m.mode → AllBetween now (now + request_window) events → AllByRecursion (NoRequest image) (sent_in (Hears now word bytes ∷ events) m s) }
     ensures after_packet { (m : MoteState) (s : Store) (timer : Timer) (now word : ℕ) (bytes : List ℕ) (source image version page q : ℕ) (content : List ℕ) (events : List Happens)
         → message_of bytes ≡ Ok (message.Packet source image version page q content) → source ≢ m.id → m.mode ≡ Maintain timer → IsOfUse (held s image) version page
-        → AllBetween now (now + PACKET_QUIET) events → AllByRecursion (NoRequest image) (sent_in (Hears now word bytes ∷ events) m s) }
+        → AllBetween now (now + packet_window) events → AllByRecursion (NoRequest image) (sent_in (Hears now word bytes ∷ events) m s) }
 {}
 
 /// A request names its packets in a set: those of the wanted page that did not come. A request for the page that is

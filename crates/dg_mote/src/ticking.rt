@@ -22,8 +22,9 @@ ghost use Rattle.dg_mote.specs.Shows.{Shows};
 use crate::summary::advert_message;
 use crate::{Did, Mode, Mote, Outbox};
 use dg_bits::PageBits;
-use dg_frame::{Message, PACKET_BYTES, PACKETS};
+use dg_frame::Message;
 use dg_nor::{Nor, Stopped};
+use dg_object::{PACKET_SIZE, PACKETS};
 use dg_order::pending;
 use dg_recv::Ask;
 use dg_send::Serve;
@@ -204,7 +205,7 @@ fn packet_message<N: Nor>(
     ensures message { IfOk result (λ x. x ≡ message.Packet id image version page packet (packet_in (N.device nor.old).image (page_sector image page) packet)) }
     ensures ends { ReadEnds result (N.device nor.old) (N.device nor.new) }
 {
-    let mut bytes = [0; PACKET_BYTES];
+    let mut bytes = [0; PACKET_SIZE];
     read_packet(nor, image, page, packet, &mut bytes)?;
     Ok(Message::Packet {
         source: id,

@@ -4,9 +4,9 @@ use Rattle.std.proofs.Common.{eqb, refl, sym, ap, subst, ◌∙◌, inl, inr, ar
 use Rattle.std.proofs.lemmas.Bool.{cases_eq, cases_lt, eq-eqb, ne_eqb, lt-ltb, or_right}
 use Rattle.std.specs.FinSet as set
 use Rattle.dg_bits.specs.Sets.{Numbers, IsLeast, least}
-use Rattle.dg_bits.specs.SetLaws.{same_numbers, contains-none, contains-put, contains-without, contains-both, least_cases}
+use Rattle.dg_bits.proofs.SetLaws.{same_numbers, contains-none, contains-put, contains-without, contains-both, least_cases}
 use Rattle.dg_send.specs.declared.Serve.TheVariants.{Send, Done}
-use Rattle.dg_send.specs.declared.TheConstants.{GAP}
+use Rattle.dg_send.specs.Times.{packet_gap}
 use Rattle.dg_send.specs.Owed.{Owed}
 use Rattle.dg_send.specs.Steps.{serve_by, serve_of, next_by, after_next}
 use Rattle.dg_send.specs.Histories.{Call, Asks, Next, owed, asked, sent_by, sent, names, times_asked, sends, times_sent}
@@ -127,7 +127,7 @@ each_once start first calls p = omega (arith, sent_or_left start first calls p)
 
 -- ---- the gap
 
-due_after : (first : Option ℕ) (early : Bool) (o : Owed) (moment p : ℕ) → serve_by first early ≡ Send p → (next_by first early o moment).due ≡ moment + GAP
+due_after : (first : Option ℕ) (early : Bool) (o : Owed) (moment p : ℕ) → serve_by first early ≡ Send p → (next_by first early o moment).due ≡ moment + packet_gap
 due_after None early o moment p e = cc
 due_after (Some q) true o moment p e = cc
 due_after (Some q) false o moment p e = refl
@@ -138,7 +138,7 @@ early_sends_nothing (Some q) true p is e = cc
 early_sends_nothing (Some q) false p is e = cc
 
 -- between two packets lie as many milliseconds as the gap has
-pub gap_between : (o : Owed) (moment later p q : ℕ) → serve_of o moment ≡ Send p → serve_of (after_next o moment) later ≡ Send q → moment + GAP ≤ later
+pub gap_between : (o : Owed) (moment later p q : ℕ) → serve_of o moment ≡ Send p → serve_of (after_next o moment) later ≡ Send q → moment + packet_gap ≤ later
 gap_between o moment later p q first second =
     let n = after_next o moment in
     elim (cases_lt later n.due) [

@@ -1,4 +1,4 @@
+pub mod Times
 pub mod Owed
 pub mod Steps
 pub mod Histories
-pub mod HistoryLaws

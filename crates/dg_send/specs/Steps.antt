@@ -4,7 +4,7 @@ use Rattle.std.specs.FinSet as set
 use Rattle.dg_bits.specs.Sets.{Numbers, least}
 use Rattle.dg_send.specs.declared.Serve.{Serve}
 use Rattle.dg_send.specs.declared.Serve.TheVariants.{Send, Done, Wait}
-use Rattle.dg_send.specs.declared.TheConstants.{GAP}
+use Rattle.dg_send.specs.Times.{packet_gap}
 use Rattle.dg_send.specs.Owed.{Owed}
 
 -- what the first request asks for, due at once
@@ -28,7 +28,7 @@ serve_of o moment = serve_by (least o.left) (nat_lt moment o.due)
 abbrev pub next_by : Option ℕ → Bool → Owed → ℕ → Owed
 next_by None early o moment = o
 next_by (Some packet) true o moment = o
-next_by (Some packet) false o moment = record { left = set.remove o.left packet; due = moment + GAP }
+next_by (Some packet) false o moment = record { left = set.remove o.left packet; due = moment + packet_gap }
 
 abbrev pub after_next : Owed → ℕ → Owed
 after_next o moment = next_by (least o.left) (nat_lt moment o.due) o moment

@@ -7,18 +7,18 @@
 ghost use Rattle.std.specs.Prelude.{◌≡◌, ◌≢◌, ℕ, ◌+◌, ◌≤◌, ◌<◌, ◌^◌, List};
 ghost use Rattle.std.specs.FinSet as set;
 ghost use Rattle.dg_bits.specs.Sets.{Numbers, IsLeast};
+ghost use Rattle.dg_object.specs.Sizes.{packets};
+ghost use Rattle.dg_send.specs.Times.{packet_gap};
 ghost use Rattle.dg_send.specs.Owed.{Owed};
 ghost use Rattle.dg_send.specs.Steps.{begun, after_merge, serve_of, after_next};
 ghost use Rattle.dg_send.specs.Histories.{Call, owed, asked, sent, times_asked, times_sent};
 
 use dg_bits::PageBits;
+use dg_object::PACKETS;
 use std::marker::Model;
 
-/// The packets of a page.
-pub const PACKETS: u8 = 48;
-
 /// The milliseconds from one packet to the next.
-pub const GAP: u64 = 16;
+pub const PACKET_GAP: u64 = 16;
 
 /// What to do now.
 #[derive(Clone, Copy, Debug, PartialEq, Eq)]
@@ -34,7 +34,7 @@ pub enum Serve {
 /// The serving of one page.
 #[derive(Clone, Copy, Debug, PartialEq, Eq)]
 pub struct Serving {
-    left: PageBits<48>,
+    left: PageBits<PACKETS>,
     due: u64,
 }
 
@@ -52,7 +52,7 @@ impl Model for Serving {
 
 impl Serving {
     /// Begins with what a request asks for, and is due at once.
-    pub fn new(now: u64, want: PageBits<48>) -> Self
+    pub fn new(now: u64, want: PageBits<PACKETS>) -> Self
         requires { want ≢ set.empty }
         ensures { result ≡ begun now want }
     {
@@ -63,7 +63,7 @@ impl Serving {
     }
 
     /// Adds what a further request asks for.
-    pub fn merge(&mut self, want: &PageBits<48>)
+    pub fn merge(&mut self, want: &PageBits<PACKETS>)
         ensures { self.new ≡ after_merge self.old want.now }
     {
         self.left.union(want);
@@ -74,7 +74,7 @@ impl Serving {
         requires { now < 2 ^ 62 }
         ensures serve { result ≡ serve_of self.old now }
         ensures after { self.new ≡ after_next self.old now }
-        ensures of_page { (packet : ℕ) → result ≡ Serve.Send packet → packet < PACKETS }
+        ensures of_page { (packet : ℕ) → result ≡ Serve.Send packet → packet < packets }
     {
         let Some(packet) = self.left.first() else {
             return Serve::Done;
@@ -83,7 +83,7 @@ impl Serving {
             return Serve::Wait;
         }
         self.left.clear(packet);
-        self.due = now + GAP;
+        self.due = now + PACKET_GAP;
         Serve::Send(packet)
     }
 
@@ -94,6 +94,11 @@ impl Serving {
         self.left.count()
     }
 }
+
+/// The number is that of this profile: 16 ms lie between two packets.
+pub fn the_gap_is_this()
+    ensures { PACKET_GAP ≡ packet_gap }
+{}
 
 /// What holds of a serving whatever is called in which order and at which moments: what was sent and
 /// what is left make the union of the requests, and where it is done all of that was sent; the least
@@ -112,7 +117,7 @@ pub fn serves_the_union()
         → times_sent start first calls packet ≤ times_asked first calls packet }
     ensures gap { (o : Owed) (moment later p q : ℕ)
         → serve_of o moment ≡ Serve.Send p → serve_of (after_next o moment) later ≡ Serve.Send q
-        → moment + GAP ≤ later }
+        → moment + packet_gap ≤ later }
 {}
 
 #[cfg(test)]

@@ -3,8 +3,9 @@
 use dg_base::{MemSink, MemSource, Status};
 use dg_cli::run;
 use dg_control::Order;
-use dg_frame::{Entry, FRAME_IMAGES, Message, PACKET_BYTES, in_range, write};
+use dg_frame::{Entry, FRAME_IMAGES, Message, in_range, write};
 use dg_nor::Board;
+use dg_object::{PACKET_SIZE, PACKETS};
 use std::alloc::Global;
 use std::test::Fail;
 
@@ -12,9 +13,6 @@ use std::test::Fail;
 const SOURCE: u16 = 5;
 
 const VERSION: u32 = 9;
-
-/// The packets of a page, by their numbers.
-const PACKETS: u8 = 48;
 
 /// What a mote keeps nothing of.
 const NOTHING: Entry = Entry {
@@ -56,7 +54,7 @@ fn packet(number: u8) -> Message {
         version: VERSION,
         page: 0,
         packet: number,
-        bytes: [0; PACKET_BYTES],
+        bytes: [0; PACKET_SIZE],
     }
 }
 
@@ -78,7 +76,7 @@ fn script_of(alloc: Global, crc: u16) -> Result<Vec<u8>, Fail> {
     let mut script = Vec::from_slice(alloc, b"motes 1\ngolden base 0 hex:41\nreset 0 0 0\n")?;
     bring(alloc, &mut script, &advert(crc))?;
     script.extend_from_slice(b"tick 0 1 0\n")?;
-    for number in 0..PACKETS {
+    for number in 0..PACKETS as u8 {
         bring(alloc, &mut script, &packet(number))?;
     }
     script.extend_from_slice(b"reset 0 0 0\n")?;

@@ -7,9 +7,10 @@ ghost use Rattle.dg_trials.specs.Runs.{Runs};
 use crate::boards::{IMAGE, VERSION, formatted, inject, mounted};
 use dg_bits::PageBits;
 use dg_boot::{Kind, start};
-use dg_frame::{Frame, Message, PACKETS, read};
+use dg_frame::{Frame, Message, read};
 use dg_mote::{Did, Heard, Mote, Outbox, a_mote_stays_timely};
 use dg_nor::{Board, Fused, Stopped};
+use dg_object::PACKETS;
 use std::test::Fail;
 
 /// The last moment of these tests, in milliseconds.

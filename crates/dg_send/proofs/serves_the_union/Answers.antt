@@ -1,4 +1,4 @@
-use Rattle.dg_send.specs.HistoryLaws.{sent_and_left, done_sent_all, least_first, each_once, gap_between}
+use Rattle.dg_send.proofs.HistoryLaws.{sent_and_left, done_sent_all, least_first, each_once, gap_between}
 use Rattle.dg_send.proofs.serves_the_union.Goals as goal
 
 pub returns-clause-sent_and_left : goal.returns-clause-sent_and_left

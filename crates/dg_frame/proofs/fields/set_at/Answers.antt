@@ -2,7 +2,7 @@ use Rattle.std.proofs.Common.{◌≡◌, ℕ, ◌≤◌, ◌+◌, ◌-◌, Bool,
 use Rattle.std.proofs.lemmas.Bool.{both_ways}
 use Rattle.std.proofs.lemmas.List.{length-take}
 use Rattle.dg_bits.specs.ByteForm.{is_marked}
-use Rattle.dg_bits.specs.ByteFormLaws.{unmarked_past}
+use Rattle.dg_bits.proofs.ByteFormLaws.{unmarked_past}
 use Rattle.dg_frame.proofs.fields.set_at.Goals as goal
 
 true_unless : (b : Bool) → (b ≡ false → ⊥) → b ≡ true

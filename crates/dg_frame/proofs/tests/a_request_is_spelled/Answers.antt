@@ -2,7 +2,7 @@ use Rattle.std.proofs.Common.{◌≡◌, ap, ◌∙◌, arith}
 use Rattle.std.proofs.lemmas.Bool.{both_ways}
 use Rattle.std.specs.FinSet as set
 use Rattle.dg_bits.specs.Sets.{Numbers}
-use Rattle.dg_bits.specs.SetLaws.{contains-put, contains-none}
+use Rattle.dg_bits.proofs.SetLaws.{contains-put, contains-none}
 use Rattle.dg_frame.proofs.ReadingLemmas.{ranges}
 use Rattle.dg_frame.proofs.tests.a_request_is_spelled.Goals as goal
 

@@ -1,7 +1,7 @@
 use Rattle.std.proofs.Common.{ℕ, ◌+◌, List, ◌∷◌, sym, subst, arith}
 use Rattle.std.specs.List.{AllByRecursion}
 use Rattle.dg_nor.specs.Trail.{last}
-use Rattle.dg_quiet.specs.declared.TheConstants.{REQUEST_QUIET, PACKET_QUIET}
+use Rattle.dg_quiet.specs.Times.{request_window, packet_window}
 use Rattle.dg_quiet.specs.Noted.{Noted, with_request, with_packet}
 use Rattle.dg_volume.specs.Store.{Store}
 use Rattle.dg_mote.specs.Model.{MoteState, Turn}
@@ -31,14 +31,14 @@ pub returns-clause-after_request : goal.returns-clause-after_request
 returns-clause-after_request c m s now word bytes source to image version page want events e other not_me of_use asks between =
     let Noting : Noted → Type 0 = λ n. IsNoted n.requests image now in
     let x = record m { noted = with_request m.noted now image } in
-    let quiet : IsQuiet image now (now + REQUEST_QUIET) Noting (request_shuts image now) x = record { noted = (now, got_noted m.noted.requests image now, omega arith); mode = asks } in
-    after_noted image now (now + REQUEST_QUIET) Noting (request_shuts image now) m s now word bytes events
-    (subst (λ (t : Turn Heard). IsQuiet image now (now + REQUEST_QUIET) Noting (request_shuts image now) t.mote) (sym (request_overheard m s now word bytes source to image version page want e other not_me of_use)) quiet) between
+    let quiet : IsQuiet image now (now + request_window) Noting (request_shuts image now) x = record { noted = (now, got_noted m.noted.requests image now, omega arith); mode = asks } in
+    after_noted image now (now + request_window) Noting (request_shuts image now) m s now word bytes events
+    (subst (λ (t : Turn Heard). IsQuiet image now (now + request_window) Noting (request_shuts image now) t.mote) (sym (request_overheard m s now word bytes source to image version page want e other not_me of_use)) quiet) between
 
 pub returns-clause-after_packet : goal.returns-clause-after_packet
 returns-clause-after_packet c m s timer now word bytes source image version page q content events e other is of_use between =
     let Noting : Noted → Type 0 = λ n. IsNoted n.packets image now in
     let x = record m { noted = with_packet m.noted now image } in
-    let quiet : IsQuiet image now (now + PACKET_QUIET) Noting (packet_shuts image now) x = record { noted = (now, got_noted m.noted.packets image now, omega arith); mode = subst (AsksNotFor image) (sym is) tt } in
-    after_noted image now (now + PACKET_QUIET) Noting (packet_shuts image now) m s now word bytes events
-    (subst (λ (t : Turn Heard). IsQuiet image now (now + PACKET_QUIET) Noting (packet_shuts image now) t.mote) (sym (packet_overheard m s timer now word bytes source image version page q content e other is of_use)) quiet) between
+    let quiet : IsQuiet image now (now + packet_window) Noting (packet_shuts image now) x = record { noted = (now, got_noted m.noted.packets image now, omega arith); mode = subst (AsksNotFor image) (sym is) tt } in
+    after_noted image now (now + packet_window) Noting (packet_shuts image now) m s now word bytes events
+    (subst (λ (t : Turn Heard). IsQuiet image now (now + packet_window) Noting (packet_shuts image now) t.mote) (sym (packet_overheard m s timer now word bytes source image version page q content e other is of_use)) quiet) between
