@@ -1,12 +1,7 @@
--- The numbers of a profile.
+-- The numbers of a network profile.
 use Rattle.std.specs.Prelude.{ℕ}
+pub use Rattle.dg_base.specs.Sizes.{most_motes, greatest_port}
 
-abbrev pub most_motes : ℕ
-most_motes = 16
-
+-- the least port that a profile may name: those below are the system's (RFC 6335, section 6)
 abbrev pub least_port : ℕ
 least_port = 1024
-
--- it leaves room for the ports of all motes
-abbrev pub greatest_port : ℕ
-greatest_port = 65500

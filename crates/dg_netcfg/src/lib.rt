@@ -6,8 +6,8 @@ mod links;
 mod profile;
 mod reading;
 
-pub use laws::one_profile;
-pub use profile::{NetProfile, ProfileFault};
+pub use laws::{one_profile, the_least_port_is_this};
+pub use profile::{LEAST_PORT, NetProfile, ProfileFault};
 pub use reading::read_profile;
 
 #[cfg(test)]

@@ -4,14 +4,8 @@ use std::alloc::AllocError;
 use std::error::Error;
 use std::fmt;
 
-/// The most motes of a network.
-pub(crate) const MOST_MOTES: u16 = 16;
-
-/// The least port that a profile may name.
-pub(crate) const LEAST_PORT: u16 = 1_024;
-
-/// The greatest port that a profile may name. It leaves room for the ports of all motes.
-pub(crate) const GREATEST_PORT: u16 = 65_500;
+/// The least port that a profile may name. Those below are the system's.
+pub const LEAST_PORT: u16 = 1_024;
 
 /// How many motes a network has, the port of the first, and which motes are linked.
 #[derive(Debug, Drop)]

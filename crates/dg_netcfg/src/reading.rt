@@ -8,8 +8,8 @@ ghost use Rattle.dg_netcfg.specs.Profile.{is_key, fields_of, with_fields, netpro
 ghost use Rattle.dg_netcfg.specs.Readings.{Reads, IsReading, IsAllowed};
 
 use crate::links::read_links;
-use crate::profile::{GREATEST_PORT, LEAST_PORT, MOST_MOTES, NetProfile, ProfileFault};
-use dg_base::Pairs;
+use crate::profile::{LEAST_PORT, NetProfile, ProfileFault};
+use dg_base::{GREATEST_PORT, MOST_MOTES, Pairs};
 use std::alloc::Global;
 use toml::value::Array;
 use toml::{Table, Value};
@@ -37,7 +37,7 @@ fn profile_of(alloc: Global, document: &Table) -> Result<NetProfile, ProfileFaul
     let Some((motes, port, entries)) = fields_of(document) else {
         return Err(ProfileFault::Key);
     };
-    let Some(motes) = within(motes, 1, MOST_MOTES) else {
+    let Some(motes) = within(motes, 1, u16::from(MOST_MOTES)) else {
         return Err(ProfileFault::Id);
     };
     let motes = motes as u8;
