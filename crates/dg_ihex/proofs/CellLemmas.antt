@@ -4,15 +4,15 @@ use Rattle.std.specs.Prelude.{slice_get}
 use Rattle.std.proofs.lemmas.Bool.{cases_eq, cases_lt, ne_eqb}
 use Rattle.std.proofs.lemmas.Bool.Decides.{nat_tests}
 use Rattle.std.proofs.lemmas.List.{get_or-set_same, get_or-set_other, length-set}
-use Rattle.dg_ihex.specs.declared.window.TheConstants.{MOST_IMAGE}
+use Rattle.dg_ihex.specs.Sizes.{most_image}
 use Rattle.dg_ihex.specs.Cells.{Keeps, written}
 
 -- numbers that are less than an image apart have cells of their own
-pub own_cell : (a d : ℕ) → 0 < d → d < MOST_IMAGE → a % MOST_IMAGE ≢ (a + d) % MOST_IMAGE
+pub own_cell : (a d : ℕ) → 0 < d → d < most_image → a % most_image ≢ (a + d) % most_image
 own_cell a d some few same = omega arith
 
 -- the same in either direction
-pub cells_differ : (a b : ℕ) → a ≢ b → a < b + MOST_IMAGE → b < a + MOST_IMAGE → a % MOST_IMAGE ≢ b % MOST_IMAGE
+pub cells_differ : (a b : ℕ) → a ≢ b → a < b + most_image → b < a + most_image → a % most_image ≢ b % most_image
 cells_differ a b differ low high same = omega arith
 
 -- what is kept is the map from addresses to bytes
@@ -23,26 +23,26 @@ keeps_same cells f g same k = record {
 }
 
 -- one byte more, at an address of which no cell is used
-pub keeps_one : (cells : List (Option ℕ)) (f g : ℕ → Option ℕ) (a b : ℕ) → a % MOST_IMAGE < length cells
-    → ((x y : ℕ) → f x ≡ Some y → x % MOST_IMAGE ≢ a % MOST_IMAGE) → g a ≡ Some b → ((x : ℕ) → x ≢ a → g x ≡ f x)
-    → Keeps cells f → Keeps (set cells (a % MOST_IMAGE) (Some b)) g
+pub keeps_one : (cells : List (Option ℕ)) (f g : ℕ → Option ℕ) (a b : ℕ) → a % most_image < length cells
+    → ((x y : ℕ) → f x ≡ Some y → x % most_image ≢ a % most_image) → g a ≡ Some b → ((x : ℕ) → x ≢ a → g x ≡ f x)
+    → Keeps cells f → Keeps (set cells (a % most_image) (Some b)) g
 keeps_one cells f g a b room free here others k = record {
   there = λ x y h. elim (cases_eq x a) [
     | inl same ↦
         let e : Some y ≡ Some b = sym h ∙ ap g same ∙ here in
-        ap (λ n. get_or (set cells (a % MOST_IMAGE) (Some b)) (n % MOST_IMAGE) None) same ∙ get_or-set_same cells (a % MOST_IMAGE) (Some b) None room ∙ sym e
+        ap (λ n. get_or (set cells (a % most_image) (Some b)) (n % most_image) None) same ∙ get_or-set_same cells (a % most_image) (Some b) None room ∙ sym e
     | inr other ↦
         let before : f x ≡ Some y = sym (others x other) ∙ h in
-        get_or-set_other cells (a % MOST_IMAGE) (x % MOST_IMAGE) (Some b) None (free x y before) ∙ k.there x y before
+        get_or-set_other cells (a % most_image) (x % most_image) (Some b) None (free x y before) ∙ k.there x y before
   ];
-  only = λ p y h. elim (cases_eq p (a % MOST_IMAGE)) [
+  only = λ p y h. elim (cases_eq p (a % most_image)) [
     | inl same ↦
-        let e : Some b ≡ Some y = sym (get_or-set_same cells (a % MOST_IMAGE) (Some b) None room) ∙ ap (λ n. get_or (set cells (a % MOST_IMAGE) (Some b)) n None) (sym same) ∙ h in
+        let e : Some b ≡ Some y = sym (get_or-set_same cells (a % most_image) (Some b) None room) ∙ ap (λ n. get_or (set cells (a % most_image) (Some b)) n None) (sym same) ∙ h in
         (a, sym same, here ∙ e)
     | inr other ↦
-        let before : get_or cells p None ≡ Some y = sym (get_or-set_other cells (a % MOST_IMAGE) p (Some b) None other) ∙ h in
+        let before : get_or cells p None ≡ Some y = sym (get_or-set_other cells (a % most_image) p (Some b) None other) ∙ h in
         let o = k.only p y before in
-        let apart : o.0 ≢ a = λ same. other (sym o.1 ∙ ap (λ n. n % MOST_IMAGE) same) in
+        let apart : o.0 ≢ a = λ same. other (sym o.1 ∙ ap (λ n. n % most_image) same) in
         (o.0, o.1, others o.0 apart ∙ o.2)
   ];
 }
@@ -66,24 +66,24 @@ over_some : (f : ℕ → Option ℕ) (a b x y : ℕ) → over f a b x ≡ Some y
 over_some f a b x y h = elim (cases_eq x a) [ inl same ↦ inl same | inr other ↦ inr (sym (over_other f a b x other) ∙ h) ]
 
 -- the bytes of a block, at addresses of which no cell is used
-pub keeps_written : (bytes : List ℕ) (cells : List (Option ℕ)) (f g : ℕ → Option ℕ) (a : ℕ) → length cells ≡ MOST_IMAGE → length bytes ≤ MOST_IMAGE
-    → ((x y k : ℕ) → f x ≡ Some y → k < length bytes → x % MOST_IMAGE ≢ (a + k) % MOST_IMAGE)
+pub keeps_written : (bytes : List ℕ) (cells : List (Option ℕ)) (f g : ℕ → Option ℕ) (a : ℕ) → length cells ≡ most_image → length bytes ≤ most_image
+    → ((x y k : ℕ) → f x ≡ Some y → k < length bytes → x % most_image ≢ (a + k) % most_image)
     → ((k : ℕ) → k < length bytes → g (a + k) ≡ slice_get bytes k) → ((x : ℕ) → (x < a) ⊎ (a + length bytes ≤ x) → g x ≡ f x)
     → Keeps cells f → Keeps (written cells a bytes) g
 unfolding written
 keeps_written [] cells f g a whole few free inside outside k =
     keeps_same cells f g (λ x. elim (cases_lt x a) [ inl low ↦ outside x (inl low) | inr high ↦ outside x (inr (omega arith)) ]) k
 keeps_written (byte ∷ bytes) cells f g a whole few free inside outside k =
-    let room : a % MOST_IMAGE < length cells = omega arith in
-    let unused : (x y : ℕ) → f x ≡ Some y → x % MOST_IMAGE ≢ a % MOST_IMAGE = λ x y h. subst (λ n. x % MOST_IMAGE ≢ n % MOST_IMAGE) (let e : a + 0 ≡ a = omega arith in e) (free x y 0 h (omega arith)) in
-    let one : Keeps (set cells (a % MOST_IMAGE) (Some byte)) (over f a byte) =
+    let room : a % most_image < length cells = omega arith in
+    let unused : (x y : ℕ) → f x ≡ Some y → x % most_image ≢ a % most_image = λ x y h. subst (λ n. x % most_image ≢ n % most_image) (let e : a + 0 ≡ a = omega arith in e) (free x y 0 h (omega arith)) in
+    let one : Keeps (set cells (a % most_image) (Some byte)) (over f a byte) =
     keeps_one cells f (over f a byte) a byte room unused (over_here f a byte) (over_other f a byte) k in
-    keeps_written bytes (set cells (a % MOST_IMAGE) (Some byte)) (over f a byte) g (a + 1)
-    (length-set cells (a % MOST_IMAGE) (Some byte) ∙ whole) (omega arith)
+    keeps_written bytes (set cells (a % most_image) (Some byte)) (over f a byte) g (a + 1)
+    (length-set cells (a % most_image) (Some byte) ∙ whole) (omega arith)
     (λ x y j h within. elim (over_some f a byte x y h) [
-      | inl same ↦ subst (λ n. n % MOST_IMAGE ≢ (a + 1 + j) % MOST_IMAGE) (sym same)
-          (subst (λ n. a % MOST_IMAGE ≢ n % MOST_IMAGE) (let e : a + (j + 1) ≡ a + 1 + j = omega arith in e) (own_cell a (j + 1) (omega arith) (omega arith)))
-      | inr before ↦ subst (λ n. x % MOST_IMAGE ≢ n % MOST_IMAGE) (let e : a + (suc j) ≡ a + 1 + j = omega arith in e) (free x y (suc j) before (omega arith))
+      | inl same ↦ subst (λ n. n % most_image ≢ (a + 1 + j) % most_image) (sym same)
+          (subst (λ n. a % most_image ≢ n % most_image) (let e : a + (j + 1) ≡ a + 1 + j = omega arith in e) (own_cell a (j + 1) (omega arith) (omega arith)))
+      | inr before ↦ subst (λ n. x % most_image ≢ n % most_image) (let e : a + (suc j) ≡ a + 1 + j = omega arith in e) (free x y (suc j) before (omega arith))
     ])
     (λ j within. ap g (let e : a + 1 + j ≡ a + (suc j) = omega arith in e) ∙ inside (suc j) (omega arith))
     (λ x out. elim (cases_eq x a) [

@@ -7,9 +7,7 @@ use Rattle.std.proofs.lemmas.List.{length-append, length-take, length-drop, take
 use Rattle.std.proofs.lemmas.List.Elements.{All-nil, All-cons, All-append, All-take, All-drop}
 use Rattle.dg_ihex.specs.declared.faults.HexCause.TheVariants.{Shape, End}
 use Rattle.dg_ihex.specs.declared.record.Record.TheVariants as records
-use Rattle.dg_ihex.specs.declared.window.TheConstants.{MOST_IMAGE}
-use Rattle.dg_ihex.specs.declared.record.TheConstants.{SEGMENT}
-use Rattle.dg_ihex.specs.declared.writer.TheConstants.{PIECE}
+use Rattle.dg_ihex.specs.Sizes.{most_image, segment, piece_bytes}
 use Rattle.dg_ihex.specs.Blocks.{Block, image_of}
 use Rattle.dg_ihex.specs.Records.{record_of, typed_record, data_record, linear_record, marker}
 use Rattle.dg_ihex.specs.Files.{base_of, blocks_of, has_end, cause_of, records_of, file_from, hex_file}
@@ -22,7 +20,7 @@ use Rattle.dg_ihex.proofs.LayLemmas.{Lays, lays_nothing, lays_more, lays_free, l
 
 -- ---- the lines that are written
 
-data_fits : (offset : ℕ) (bytes : List ℕ) → offset < SEGMENT → length bytes ≤ PIECE → All IsByte bytes → FitsLine 0 offset bytes
+data_fits : (offset : ℕ) (bytes : List ℕ) → offset < segment → length bytes ≤ piece_bytes → All IsByte bytes → FitsLine 0 offset bytes
 data_fits offset bytes at few each = record { kind_fits = omega arith; offset_fits = at; few = omega arith; each = each }
 
 end_fits : FitsLine 1 0 []
@@ -36,10 +34,10 @@ base_fits units h = record {
   each = All-cons IsByte (units / 256) (units % 256 ∷ []) (omega arith) (All-cons IsByte (units % 256) [] (omega arith) (All-nil IsByte));
 }
 
-within_segment : (n : ℕ) → n ≤ SEGMENT → nat_lt 65536 n ≡ false
+within_segment : (n : ℕ) → n ≤ segment → nat_lt 65536 n ≡ false
 within_segment n h = grind (arith, nat_tests)
 
-data_back : (offset : ℕ) (bytes : List ℕ) → offset < SEGMENT → offset + length bytes ≤ SEGMENT → length bytes ≤ PIECE → All IsByte bytes
+data_back : (offset : ℕ) (bytes : List ℕ) → offset < segment → offset + length bytes ≤ segment → length bytes ≤ piece_bytes → All IsByte bytes
     → record_of (data_line offset bytes) ≡ Ok (records.Data offset bytes)
 unfolding typed_record data_record
 data_back offset bytes at short few each =
@@ -72,7 +70,7 @@ unfolding blocks_of
 laid_nothing = record { over = refl; open_file = refl; lays = lays_nothing }
 
 -- a line of a base
-pub after_base : (before : List (List ℕ)) (base units : ℕ) (image : List ℕ) → Laid before base image → length image ≤ MOST_IMAGE → units < 65536
+pub after_base : (before : List (List ℕ)) (base units : ℕ) (image : List ℕ) → Laid before base image → length image ≤ most_image → units < 65536
     → (cause_of before (base_line units) ≡ None) × Laid (before ++ base_line units ∷ []) (units * 65536) image
 after_base before base units image h fits small =
     let all = records_of before in
@@ -87,8 +85,8 @@ after_base before base units image h fits small =
     )
 
 -- a line of data
-pub after_data : (before : List (List ℕ)) (base offset : ℕ) (image bytes : List ℕ) → Laid before base image → base + offset ≡ length image → offset < SEGMENT → offset + length bytes ≤ SEGMENT
-    → 0 < length bytes → length bytes ≤ PIECE → All IsByte bytes → length image + length bytes ≤ MOST_IMAGE
+pub after_data : (before : List (List ℕ)) (base offset : ℕ) (image bytes : List ℕ) → Laid before base image → base + offset ≡ length image → offset < segment → offset + length bytes ≤ segment
+    → 0 < length bytes → length bytes ≤ piece_bytes → All IsByte bytes → length image + length bytes ≤ most_image
     → (cause_of before (data_line offset bytes) ≡ None) × Laid (before ++ data_line offset bytes ∷ []) base (image ++ bytes)
 after_data before base offset image bytes h there at short some few each fits =
     let all = records_of before in
@@ -107,7 +105,7 @@ after_data before base offset image bytes h there at short some few each fits =
     )
 
 -- the end
-pub after_end : (before : List (List ℕ)) (base : ℕ) (image : List ℕ) → Laid before base image → 0 < length image → length image ≤ MOST_IMAGE → file_from before (end_line ∷ []) ≡ Ok image
+pub after_end : (before : List (List ℕ)) (base : ℕ) (image : List ℕ) → Laid before base image → 0 < length image → length image ≤ most_image → file_from before (end_line ∷ []) ≡ Ok image
 unfolding file_from
 after_end before base image h some fits =
     let all = records_of before in
@@ -124,70 +122,70 @@ after_end before base image h some fits =
 
 -- the base before a piece
 abbrev base_before : ℕ → ℕ
-base_before k = (k - 1) * PIECE / SEGMENT * SEGMENT
+base_before k = (k - 1) * piece_bytes / segment * segment
 
-same_base : (k : ℕ) → (k * PIECE % SEGMENT ≡ 0 → ⊥) → base_before k ≡ k * PIECE / SEGMENT * SEGMENT
+same_base : (k : ℕ) → (k * piece_bytes % segment ≡ 0 → ⊥) → base_before k ≡ k * piece_bytes / segment * segment
 same_base k h = omega arith
 
-first_base : (k : ℕ) → k ≡ 0 → base_before k ≡ k * PIECE / SEGMENT * SEGMENT
+first_base : (k : ℕ) → k ≡ 0 → base_before k ≡ k * piece_bytes / segment * segment
 first_base k h = omega arith
 
-take_piece : (image : List ℕ) (k : ℕ) → take (k * PIECE) image ++ piece_at image k ≡ take ((k + 1) * PIECE) image
+take_piece : (image : List ℕ) (k : ℕ) → take (k * piece_bytes) image ++ piece_at image k ≡ take ((k + 1) * piece_bytes) image
 take_piece image k =
-    let m = k * PIECE in
-    let next : m + PIECE ≡ (k + 1) * PIECE = omega arith in
-    ap (λ t. t ++ piece_at image k) (sym (take-take m (m + PIECE) image (omega arith)))
-    ∙ ap (λ t. take m (take (m + PIECE) image) ++ t) (sym (drop-take m PIECE image))
-    ∙ take-append-drop m (take (m + PIECE) image) ∙ ap (λ n. take n image) next
+    let m = k * piece_bytes in
+    let next : m + piece_bytes ≡ (k + 1) * piece_bytes = omega arith in
+    ap (λ t. t ++ piece_at image k) (sym (take-take m (m + piece_bytes) image (omega arith)))
+    ∙ ap (λ t. take m (take (m + piece_bytes) image) ++ t) (sym (drop-take m piece_bytes image))
+    ∙ take-append-drop m (take (m + piece_bytes) image) ∙ ap (λ n. take n image) next
 
 pub record Fits (image : List ℕ) : Type 0 where
   pub some : 0 < length image
-  pub fits : length image ≤ MOST_IMAGE
+  pub fits : length image ≤ most_image
   pub each : All IsByte image
 
 -- the line of the data of a piece, and the lines behind it
-one_piece : (image : List ℕ) (k : ℕ) (before tail : List (List ℕ)) → Fits image → k * PIECE < length image → Laid before (k * PIECE / SEGMENT * SEGMENT) (take (k * PIECE) image)
-    → let line = data_line (k * PIECE % SEGMENT) (piece_at image k) in
-    (file_from before (line ∷ tail) ≡ file_from (before ++ line ∷ []) tail) × Laid (before ++ line ∷ []) (base_before (k + 1)) (take ((k + 1) * PIECE) image)
+one_piece : (image : List ℕ) (k : ℕ) (before tail : List (List ℕ)) → Fits image → k * piece_bytes < length image → Laid before (k * piece_bytes / segment * segment) (take (k * piece_bytes) image)
+    → let line = data_line (k * piece_bytes % segment) (piece_at image k) in
+    (file_from before (line ∷ tail) ≡ file_from (before ++ line ∷ []) tail) × Laid (before ++ line ∷ []) (base_before (k + 1)) (take ((k + 1) * piece_bytes) image)
 one_piece image k before tail h within laid =
-    let line = data_line (k * PIECE % SEGMENT) (piece_at image k) in
-    let front : length (take (k * PIECE) image) ≡ k * PIECE = omega (arith, length-take (k * PIECE) image) in
-    let piece : length (piece_at image k) ≡ min PIECE (length image - k * PIECE) = length-take PIECE (drop (k * PIECE) image) ∙ ap (min PIECE) (length-drop (k * PIECE) image) in
+    let line = data_line (k * piece_bytes % segment) (piece_at image k) in
+    let front : length (take (k * piece_bytes) image) ≡ k * piece_bytes = omega (arith, length-take (k * piece_bytes) image) in
+    let piece : length (piece_at image k) ≡ min piece_bytes (length image - k * piece_bytes) = length-take piece_bytes (drop (k * piece_bytes) image) ∙ ap (min piece_bytes) (length-drop (k * piece_bytes) image) in
     let fits = h.fits in
-    let next : k * PIECE / SEGMENT * SEGMENT ≡ base_before (k + 1) = ap (λ n. n * PIECE / SEGMENT * SEGMENT) (let e : k ≡ k + 1 - 1 = omega arith in e) in
-    let d = after_data before (k * PIECE / SEGMENT * SEGMENT) (k * PIECE % SEGMENT) (take (k * PIECE) image) (piece_at image k) laid (omega (arith, front)) (omega arith) (omega (arith, piece))
-    (omega (arith, piece)) (omega (arith, piece)) (All-take IsByte PIECE (drop (k * PIECE) image) (All-drop IsByte (k * PIECE) image h.each)) (omega (arith, piece, front)) in
-    (file_more before line tail d.0, subst (λ b. Laid (before ++ line ∷ []) b (take ((k + 1) * PIECE) image)) next (subst (Laid (before ++ line ∷ []) (k * PIECE / SEGMENT * SEGMENT)) (take_piece image k) d.1))
+    let next : k * piece_bytes / segment * segment ≡ base_before (k + 1) = ap (λ n. n * piece_bytes / segment * segment) (let e : k ≡ k + 1 - 1 = omega arith in e) in
+    let d = after_data before (k * piece_bytes / segment * segment) (k * piece_bytes % segment) (take (k * piece_bytes) image) (piece_at image k) laid (omega (arith, front)) (omega arith) (omega (arith, piece))
+    (omega (arith, piece)) (omega (arith, piece)) (All-take IsByte piece_bytes (drop (k * piece_bytes) image) (All-drop IsByte (k * piece_bytes) image h.each)) (omega (arith, piece, front)) in
+    (file_more before line tail d.0, subst (λ b. Laid (before ++ line ∷ []) b (take ((k + 1) * piece_bytes) image)) next (subst (Laid (before ++ line ∷ []) (k * piece_bytes / segment * segment)) (take_piece image k) d.1))
 
 regroup_lines : (base : List (List ℕ)) (line : List ℕ) (rest end : List (List ℕ)) → ((base ++ line ∷ []) ++ rest) ++ end ≡ base ++ (line ∷ (rest ++ end))
 regroup_lines base line rest end = simp append_assoc
 
-pieces_left : (n k m length_ : ℕ) → k + n ≡ pieces_of length_ → n ≡ suc m → k * PIECE < length_
+pieces_left : (n k m length_ : ℕ) → k + n ≡ pieces_of length_ → n ≡ suc m → k * piece_bytes < length_
 pieces_left n k m length_ h is = omega arith
 
-pub file_pieces : (n k : ℕ) (image : List ℕ) (before : List (List ℕ)) → Fits image → k + n ≡ pieces_of (length image) → Laid before (base_before k) (take (k * PIECE) image)
+pub file_pieces : (n k : ℕ) (image : List ℕ) (before : List (List ℕ)) → Fits image → k + n ≡ pieces_of (length image) → Laid before (base_before k) (take (k * piece_bytes) image)
     → file_from before (flat_map (lines_at image) (range_with_len k n) ++ end_line ∷ []) ≡ Ok image
 file_pieces zero k image before h count laid =
-    let all : take (k * PIECE) image ≡ image = take_all (k * PIECE) image (omega arith) in
+    let all : take (k * piece_bytes) image ≡ image = take_all (k * piece_bytes) image (omega arith) in
     after_end before (base_before k) image (subst (Laid before (base_before k)) all laid) h.some h.fits
 file_pieces (suc n) k image before h count laid =
-    let within : k * PIECE < length image = pieces_left (suc n) k n (length image) count refl in
+    let within : k * piece_bytes < length image = pieces_left (suc n) k n (length image) count refl in
     let fits = h.fits in
-    let line = data_line (k * PIECE % SEGMENT) (piece_at image k) in
+    let line = data_line (k * piece_bytes % segment) (piece_at image k) in
     let tail = flat_map (lines_at image) (range_with_len (k + 1) n) ++ end_line ∷ [] in
     let left : k + 1 + n ≡ pieces_of (length image) = omega arith in
-    let front : length (take (k * PIECE) image) ≤ MOST_IMAGE = omega (arith, length-take (k * PIECE) image) in
-    let rest : (texts : List (List ℕ)) → Laid texts (k * PIECE / SEGMENT * SEGMENT) (take (k * PIECE) image) → file_from texts (line ∷ tail) ≡ Ok image =
+    let front : length (take (k * piece_bytes) image) ≤ most_image = omega (arith, length-take (k * piece_bytes) image) in
+    let rest : (texts : List (List ℕ)) → Laid texts (k * piece_bytes / segment * segment) (take (k * piece_bytes) image) → file_from texts (line ∷ tail) ≡ Ok image =
     λ texts there. (let one = one_piece image k texts tail h within there in one.0 ∙ file_pieces n (k + 1) image (texts ++ line ∷ []) h left one.1) in
     ap (file_from before) (regroup_lines (base_lines k) line (flat_map (lines_at image) (range_with_len (k + 1) n)) (end_line ∷ []))
-    ∙ elim (cases_eq (k * PIECE % SEGMENT) 0) [
-      | inr inside ↦ ap (λ b. file_from before (b ++ (line ∷ tail))) (inside_segment k inside) ∙ rest before (subst (λ b. Laid before b (take (k * PIECE) image)) (same_base k inside) laid)
+    ∙ elim (cases_eq (k * piece_bytes % segment) 0) [
+      | inr inside ↦ ap (λ b. file_from before (b ++ (line ∷ tail))) (inside_segment k inside) ∙ rest before (subst (λ b. Laid before b (take (k * piece_bytes) image)) (same_base k inside) laid)
       | inl start ↦ elim (cases_eq k 0) [
-        | inl first ↦ ap (λ b. file_from before (b ++ (line ∷ tail))) (first_piece k first) ∙ rest before (subst (λ b. Laid before b (take (k * PIECE) image)) (first_base k first) laid)
+        | inl first ↦ ap (λ b. file_from before (b ++ (line ∷ tail))) (first_piece k first) ∙ rest before (subst (λ b. Laid before b (take (k * piece_bytes) image)) (first_base k first) laid)
         | inr later ↦
-            let b = after_base before (base_before k) (k * PIECE / SEGMENT) (take (k * PIECE) image) laid front (omega arith) in
+            let b = after_base before (base_before k) (k * piece_bytes / segment) (take (k * piece_bytes) image) laid front (omega arith) in
             ap (λ b. file_from before (b ++ (line ∷ tail))) (at_base k start later)
-            ∙ file_more before (base_line (k * PIECE / SEGMENT)) (line ∷ tail) b.0 ∙ rest (before ++ base_line (k * PIECE / SEGMENT) ∷ []) b.1
+            ∙ file_more before (base_line (k * piece_bytes / segment)) (line ∷ tail) b.0 ∙ rest (before ++ base_line (k * piece_bytes / segment) ∷ []) b.1
       ]
     ]
 
@@ -200,14 +198,14 @@ chosen_line false line h = All-nil IsLine
 pieces_are_lines : (image : List ℕ) (n k : ℕ) → Fits image → k + n ≡ pieces_of (length image) → All IsLine (flat_map (lines_at image) (range_with_len k n))
 pieces_are_lines image zero k h count = All-nil IsLine
 pieces_are_lines image (suc n) k h count =
-    let within : k * PIECE < length image = pieces_left (suc n) k n (length image) count refl in
+    let within : k * piece_bytes < length image = pieces_left (suc n) k n (length image) count refl in
     let fits = h.fits in
-    let units = k * PIECE / SEGMENT in
-    let line = data_line (k * PIECE % SEGMENT) (piece_at image k) in
+    let units = k * piece_bytes / segment in
+    let line = data_line (k * piece_bytes % segment) (piece_at image k) in
     let base : All IsLine (base_lines k) = chosen_line _ (base_line units) (line_is 4 0 (units / 256 ∷ units % 256 ∷ []) (base_fits units (omega arith))) in
-    let few : length (piece_at image k) ≤ PIECE = omega (arith, length-take PIECE (drop (k * PIECE) image)) in
-    let each = All-take IsByte PIECE (drop (k * PIECE) image) (All-drop IsByte (k * PIECE) image h.each) in
-    let own = line_is 0 (k * PIECE % SEGMENT) (piece_at image k) (data_fits (k * PIECE % SEGMENT) (piece_at image k) (omega arith) few each) in
+    let few : length (piece_at image k) ≤ piece_bytes = omega (arith, length-take piece_bytes (drop (k * piece_bytes) image)) in
+    let each = All-take IsByte piece_bytes (drop (k * piece_bytes) image) (All-drop IsByte (k * piece_bytes) image h.each) in
+    let own = line_is 0 (k * piece_bytes % segment) (piece_at image k) (data_fits (k * piece_bytes % segment) (piece_at image k) (omega arith) few each) in
     All-append IsLine (lines_at image k) (flat_map (lines_at image) (range_with_len (k + 1) n))
     (All-append IsLine (base_lines k) (line ∷ []) base (All-cons IsLine line [] own (All-nil IsLine)))
     (pieces_are_lines image n (k + 1) h (omega arith))

@@ -5,7 +5,7 @@ use Rattle.std.specs.Option.{option_or}
 use Rattle.std.proofs.lemmas.Bool.{cases_lt}
 use Rattle.std.proofs.lemmas.List.{take_all, take_more_set, get_or-replicate, get_or_past, length-replicate}
 use Rattle.std.proofs.lemmas.List.FromFn.{map-range_with_len_more}
-use Rattle.dg_ihex.specs.declared.window.TheConstants.{MOST_IMAGE}
+use Rattle.dg_ihex.specs.Sizes.{most_image}
 use Rattle.dg_ihex.specs.Blocks.{Block, block_byte, byte_at, is_given, overlaps, lowest_of, past_of, span_of, image_of}
 use Rattle.dg_ihex.specs.Cells.{Keeps, written}
 use Rattle.dg_ihex.proofs.BlockLemmas.{byte_at-more, lowest_of-more, past_of-more, byte_at-within, block_byte-outside, block_byte-inside}
@@ -23,19 +23,19 @@ pub none_behind : (blocks : List Block) (a : ℕ) → past_of blocks ≤ a → N
 none_behind blocks a high = sym (none_unless (byte_at blocks a) (λ y h. let w = byte_at-within blocks a y h in omega (arith, w.1)))
 
 -- Within them the byte is that of its cell.
-in_cell : (blocks : List Block) (a : ℕ) (cell byte : Option ℕ) (cells : List (Option ℕ)) → Keeps cells (byte_at blocks) → span_of blocks ≤ MOST_IMAGE
-    → lowest_of blocks ≤ a → a < past_of blocks → get_or cells (a % MOST_IMAGE) None ≡ cell → byte_at blocks a ≡ byte → cell ≡ byte
+in_cell : (blocks : List Block) (a : ℕ) (cell byte : Option ℕ) (cells : List (Option ℕ)) → Keeps cells (byte_at blocks) → span_of blocks ≤ most_image
+    → lowest_of blocks ≤ a → a < past_of blocks → get_or cells (a % most_image) None ≡ cell → byte_at blocks a ≡ byte → cell ≡ byte
 in_cell blocks a cell (Some y) cells k close low high at is = sym at ∙ k.there a y is
 in_cell blocks a None None cells k close low high at is = refl
 in_cell blocks a (Some b) None cells k close low high at is =
-    let o = k.only (a % MOST_IMAGE) b at in
+    let o = k.only (a % most_image) b at in
     let w = byte_at-within blocks o.0 b o.2 in
     let apart : o.0 ≢ a = λ same. (let e : Some b ≡ None = sym o.2 ∙ ap (byte_at blocks) same ∙ is in cc) in
     absurd (cells_differ o.0 a apart (omega (arith, w.0, w.1)) (omega (arith, w.0, w.1)) o.1)
 
-pub cell_is : (blocks : List Block) (a : ℕ) (cells : List (Option ℕ)) → Keeps cells (byte_at blocks) → span_of blocks ≤ MOST_IMAGE
-    → lowest_of blocks ≤ a → a < past_of blocks → get_or cells (a % MOST_IMAGE) None ≡ byte_at blocks a
-cell_is blocks a cells k close low high = in_cell blocks a (get_or cells (a % MOST_IMAGE) None) (byte_at blocks a) cells k close low high refl refl
+pub cell_is : (blocks : List Block) (a : ℕ) (cells : List (Option ℕ)) → Keeps cells (byte_at blocks) → span_of blocks ≤ most_image
+    → lowest_of blocks ≤ a → a < past_of blocks → get_or cells (a % most_image) None ≡ byte_at blocks a
+cell_is blocks a cells k close low high = in_cell blocks a (get_or cells (a % most_image) None) (byte_at blocks a) cells k close low high refl refl
 
 -- ---- a block more
 
@@ -58,8 +58,8 @@ option_or_none : (o : Option ℕ) → option_or o None ≡ o
 option_or_none None = refl
 option_or_none (Some y) = refl
 
-pub keeps_block : (blocks : List Block) (block : Block) (cells : List (Option ℕ)) → length cells ≡ MOST_IMAGE → block.address < 2 ^ 32
-    → overlaps blocks block ≡ false → span_of (blocks ++ block ∷ []) ≤ MOST_IMAGE → Keeps cells (byte_at blocks)
+pub keeps_block : (blocks : List Block) (block : Block) (cells : List (Option ℕ)) → length cells ≡ most_image → block.address < 2 ^ 32
+    → overlaps blocks block ≡ false → span_of (blocks ++ block ∷ []) ≤ most_image → Keeps cells (byte_at blocks)
     → Keeps (written cells block.address block.bytes) (byte_at (blocks ++ block ∷ []))
 keeps_block blocks block cells whole fits apart close k =
     let low = lowest_of-more blocks block fits in

@@ -8,8 +8,7 @@ use Rattle.std.proofs.lemmas.List.{append-nil, map-append, map_more, take_more_s
 use Rattle.std.proofs.lemmas.List.Concat.{flat_map-append}
 use Rattle.dg_words.proofs.ListLemmas.{flat_map-range_more}
 use Rattle.dg_base.specs.Hexadecimal.{hex_digit, hex_text}
-use Rattle.dg_ihex.specs.declared.record.TheConstants.{SEGMENT}
-use Rattle.dg_ihex.specs.declared.writer.TheConstants.{PIECE}
+use Rattle.dg_ihex.specs.Sizes.{segment, piece_bytes}
 use Rattle.dg_ihex.specs.Written.{checksum_of, with_checksum, upper_hex, base_line, base_lines, data_line, end_line, lines_at, piece_at, pieces_of, ended_by_feed, written_file}
 
 -- ---- upper case
@@ -54,33 +53,33 @@ line_pushed t0 t1 t2 t3 t4 t5 head bytes check e1 e2 e3 e4 e5 is =
 pub no_base : (k : ℕ) (t : List ℕ) → base_lines k ≡ [] → t ≡ t ++ flat_map ended_by_feed (base_lines k)
 no_base k t none = sym (ap (λ ls. t ++ flat_map ended_by_feed ls) none ∙ append-nil t)
 
-pub inside_segment : (k : ℕ) → (k * PIECE % SEGMENT ≡ 0 → ⊥) → base_lines k ≡ []
+pub inside_segment : (k : ℕ) → (k * piece_bytes % segment ≡ 0 → ⊥) → base_lines k ≡ []
 inside_segment k h = grind (arith, nat_tests)
 
 pub first_piece : (k : ℕ) → k ≡ 0 → base_lines k ≡ []
 first_piece k h = grind (arith, nat_tests)
 
-pub at_base : (k : ℕ) → k * PIECE % SEGMENT ≡ 0 → (k ≡ 0 → ⊥) → base_lines k ≡ base_line (k * PIECE / SEGMENT) ∷ []
+pub at_base : (k : ℕ) → k * piece_bytes % segment ≡ 0 → (k ≡ 0 → ⊥) → base_lines k ≡ base_line (k * piece_bytes / segment) ∷ []
 at_base k start some = grind (arith, nat_tests)
 
-pub new_base : (k : ℕ) (t u : List ℕ) → k * PIECE % SEGMENT ≡ 0 → (k ≡ 0 → ⊥) → u ≡ t ++ ended_by_feed (base_line (k * PIECE / SEGMENT)) → u ≡ t ++ flat_map ended_by_feed (base_lines k)
+pub new_base : (k : ℕ) (t u : List ℕ) → k * piece_bytes % segment ≡ 0 → (k ≡ 0 → ⊥) → u ≡ t ++ ended_by_feed (base_line (k * piece_bytes / segment)) → u ≡ t ++ flat_map ended_by_feed (base_lines k)
 new_base k t u start some h =
     let lines = at_base k start some in
-    h ∙ ap (λ l. t ++ l) (sym (append-nil (ended_by_feed (base_line (k * PIECE / SEGMENT))))) ∙ ap (λ ls. t ++ flat_map ended_by_feed ls) (sym lines)
+    h ∙ ap (λ l. t ++ l) (sym (append-nil (ended_by_feed (base_line (k * piece_bytes / segment))))) ∙ ap (λ ls. t ++ flat_map ended_by_feed ls) (sym lines)
 
 -- a piece that is cut out of the bytes
-pub piece_is : (bytes : List ℕ) (k address end : ℕ) → address ≡ k * PIECE → end ≡ min (address + PIECE) (length bytes) → address < length bytes → slice_range bytes address end ≡ piece_at bytes k
+pub piece_is : (bytes : List ℕ) (k address end : ℕ) → address ≡ k * piece_bytes → end ≡ min (address + piece_bytes) (length bytes) → address < length bytes → slice_range bytes address end ≡ piece_at bytes k
 piece_is bytes k address end is upto within =
-    let count : end - address ≡ min PIECE (length (drop address bytes)) = omega (arith, length-drop address bytes) in
-    ap (λ n. take n (drop address bytes)) count ∙ take_min PIECE (drop address bytes) ∙ ap (λ n. take PIECE (drop n bytes)) is
+    let count : end - address ≡ min piece_bytes (length (drop address bytes)) = omega (arith, length-drop address bytes) in
+    ap (λ n. take n (drop address bytes)) count ∙ take_min piece_bytes (drop address bytes) ∙ ap (λ n. take piece_bytes (drop n bytes)) is
 
 pub piece_pushed : (t0 t1 t2 bytes piece : List ℕ) (k offset : ℕ) → t1 ≡ t0 ++ flat_map ended_by_feed (base_lines k) → t2 ≡ t1 ++ ended_by_feed (data_line offset piece)
-    → offset ≡ k * PIECE % SEGMENT → piece ≡ piece_at bytes k → t2 ≡ t0 ++ flat_map ended_by_feed (lines_at bytes k)
+    → offset ≡ k * piece_bytes % segment → piece ≡ piece_at bytes k → t2 ≡ t0 ++ flat_map ended_by_feed (lines_at bytes k)
 piece_pushed t0 t1 t2 bytes piece k offset e1 e2 at is =
-    let line = data_line (k * PIECE % SEGMENT) (piece_at bytes k) in
+    let line = data_line (k * piece_bytes % segment) (piece_at bytes k) in
     e2 ∙ ap (λ t. t ++ ended_by_feed (data_line offset piece)) e1
     ∙ ap (λ o. (t0 ++ flat_map ended_by_feed (base_lines k)) ++ ended_by_feed (data_line o piece)) at
-    ∙ ap (λ p. (t0 ++ flat_map ended_by_feed (base_lines k)) ++ ended_by_feed (data_line (k * PIECE % SEGMENT) p)) is
+    ∙ ap (λ p. (t0 ++ flat_map ended_by_feed (base_lines k)) ++ ended_by_feed (data_line (k * piece_bytes % segment) p)) is
     ∙ append_assoc t0 (flat_map ended_by_feed (base_lines k)) (ended_by_feed line)
     ∙ ap (λ l. t0 ++ (flat_map ended_by_feed (base_lines k) ++ l)) (sym (append-nil (ended_by_feed line)))
     ∙ ap (λ t. t0 ++ t) (sym (flat_map-append ended_by_feed (base_lines k) (line ∷ [])))

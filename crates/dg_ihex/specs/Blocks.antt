@@ -3,6 +3,7 @@ use Rattle.std.specs.Prelude.{ℕ, ◌+◌, ◌-◌, ◌^◌, nat_le, min, max, 
 use Rattle.std.specs.List.{list_any, range_with_len}
 use Rattle.std.specs.Option.{option_or}
 use Rattle.dg_words.specs.Lists.{tabulate}
+use Rattle.dg_ihex.specs.Sizes.{gap_byte}
 
 -- bytes, one behind the other from an address on
 pub record Block : Type 0 where
@@ -41,4 +42,4 @@ span_of blocks = past_of blocks - lowest_of blocks
 
 -- the image: the lowest address is byte 0, and gaps become FF
 unfoldable pub image_of : List Block → List ℕ
-image_of blocks = tabulate (span_of blocks) (λ k. unwrap_or (byte_at blocks (lowest_of blocks + k)) 255)
+image_of blocks = tabulate (span_of blocks) (λ k. unwrap_or (byte_at blocks (lowest_of blocks + k)) gap_byte)

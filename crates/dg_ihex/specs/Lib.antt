@@ -1,3 +1,4 @@
+pub mod Sizes
 pub mod Causes
 pub mod Records
 pub mod Blocks

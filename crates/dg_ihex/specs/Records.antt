@@ -3,7 +3,7 @@ use Rattle.std.specs.Prelude.{ℕ, ◌+◌, ◌-◌, ◌*◌, ◌%◌, ◌==◌,
 use Rattle.dg_base.specs.Hexadecimal.{hex_bytes}
 use Rattle.dg_ihex.specs.declared.faults.HexCause.{HexCause}
 use Rattle.dg_ihex.specs.declared.faults.HexCause.TheVariants.{Start, Hex, Count, Check, Kind, Shape}
-use Rattle.dg_ihex.specs.declared.record.TheConstants.{FIELDS, SEGMENT}
+use Rattle.dg_ihex.specs.Sizes.{record_fields, segment}
 use Rattle.dg_ihex.specs.declared.record.Record.{Record}
 use Rattle.dg_ihex.specs.declared.record.Record.TheVariants as records
 
@@ -11,7 +11,7 @@ use Rattle.dg_ihex.specs.declared.record.Record.TheVariants as records
 
 -- Type 00: its bytes stand from its offset on, and do not pass the last offset.
 unfoldable pub data_record : ℕ → List ℕ → Result Record HexCause
-data_record offset bytes = if nat_lt SEGMENT (offset + length bytes) then Err Shape else Ok (records.Data offset bytes)
+data_record offset bytes = if nat_lt segment (offset + length bytes) then Err Shape else Ok (records.Data offset bytes)
 
 -- a type whose data is only counted
 unfoldable pub marker : ℕ → Record → List ℕ → Result Record HexCause
@@ -42,8 +42,8 @@ typed_record kind offset bytes =
 -- A record's bytes: the count of its data, its offset, the high byte first, its type, its data, and a checksum that makes the sum of all 0 modulo 256.
 unfoldable pub record_of_bytes : List ℕ → Result Record HexCause
 record_of_bytes bytes =
-    if nat_lt (length bytes) FIELDS then Err Count
-    else if length bytes == slice_index bytes 0 + FIELDS then
+    if nat_lt (length bytes) record_fields then Err Count
+    else if length bytes == slice_index bytes 0 + record_fields then
     if sum bytes % 256 == 0 then typed_record (slice_index bytes 3) (slice_index bytes 1 * 256 + slice_index bytes 2) (slice_range bytes 4 (length bytes - 1))
     else Err Check
     else Err Count

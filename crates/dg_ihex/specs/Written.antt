@@ -3,8 +3,7 @@ use Rattle.std.specs.Prelude.{ℕ, ◌+◌, ◌-◌, ◌*◌, ◌/◌, ◌%◌, 
 use Rattle.std.specs.Char.{to_ascii_uppercase}
 use Rattle.std.specs.List.{flat_map, range_with_len}
 use Rattle.dg_base.specs.Hexadecimal.{hex_text}
-use Rattle.dg_ihex.specs.declared.record.TheConstants.{SEGMENT}
-use Rattle.dg_ihex.specs.declared.writer.TheConstants.{PIECE}
+use Rattle.dg_ihex.specs.Sizes.{segment, piece_bytes}
 
 -- the byte that makes the sum of bytes 0 modulo 256
 abbrev pub checksum_of : List ℕ → ℕ
@@ -37,17 +36,17 @@ base_line units = line_of 4 0 (units / 256 ∷ units % 256 ∷ [])
 
 -- how many pieces of 16 bytes there are, of which the last may be shorter, and such a piece
 abbrev pub pieces_of : ℕ → ℕ
-pieces_of n = (n + (PIECE - 1)) / PIECE
+pieces_of n = (n + (piece_bytes - 1)) / piece_bytes
 
 abbrev pub piece_at : List ℕ → ℕ → List ℕ
-piece_at bytes k = take PIECE (drop (k * PIECE) bytes)
+piece_at bytes k = take piece_bytes (drop (k * piece_bytes) bytes)
 
 -- Before each byte whose address is a positive multiple of 65,536 stands the line of a new base.
 abbrev pub base_lines : ℕ → List (List ℕ)
-base_lines k = if k * PIECE % SEGMENT == 0 && nat_lt 0 k then base_line (k * PIECE / SEGMENT) ∷ [] else []
+base_lines k = if k * piece_bytes % segment == 0 && nat_lt 0 k then base_line (k * piece_bytes / segment) ∷ [] else []
 
 abbrev pub lines_at : List ℕ → ℕ → List (List ℕ)
-lines_at bytes k = base_lines k ++ data_line (k * PIECE % SEGMENT) (piece_at bytes k) ∷ []
+lines_at bytes k = base_lines k ++ data_line (k * piece_bytes % segment) (piece_at bytes k) ∷ []
 
 abbrev pub written_lines : List ℕ → List (List ℕ)
 written_lines bytes = flat_map (lines_at bytes) (range_with_len 0 (pieces_of (length bytes))) ++ end_line ∷ []

@@ -12,6 +12,7 @@ mod writer;
 pub use faults::{HexCause, HexFileFault};
 pub use laws::{
     a_refused_file_has_its_first_fault, a_written_file_is_read_again, an_image_holds_what_is_given,
+    the_numbers_are_these,
 };
 pub use reader::{MOST_TEXT, read_ihex};
 pub use window::MOST_IMAGE;

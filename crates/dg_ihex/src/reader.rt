@@ -3,7 +3,7 @@ ghost use Rattle.std.specs.Prelude.{◌≡◌, ℕ, ◌≤◌, ◌≢◌, List, 
 ghost use Rattle.dg_ihex.specs.Files.{cause_behind, cause_of, first_cause, hex_file, records_of};
 ghost use Rattle.dg_ihex.specs.Reading.{ReadsFile, Steps};
 ghost use Rattle.dg_ihex.specs.Causes.{out_of_memory};
-ghost use Rattle.dg_ihex.specs.declared.reader.TheConstants.{HIGHEST_BASE};
+ghost use Rattle.dg_ihex.specs.Sizes.{most_text, highest_base};
 
 use crate::faults::{HexCause, HexFileFault};
 use crate::record::{Record, SEGMENT, read_record};
@@ -15,10 +15,10 @@ use std::alloc::{AllocError, Global};
 pub const MOST_TEXT: usize = 16_777_216;
 
 /// The bytes of a unit of an extended segment address.
-const PARAGRAPH: usize = 16;
+pub(crate) const PARAGRAPH: usize = 16;
 
 /// The highest base, that of the last segment below 2 ^ 32.
-const HIGHEST_BASE: usize = 4_294_901_760;
+pub(crate) const HIGHEST_BASE: usize = 4_294_901_760;
 
 /// What the records so far say.
 #[derive(Debug, Drop)]
@@ -27,7 +27,7 @@ pub struct Reader {
     base: usize,
     has_ended: bool,
 
-    ghost based: { base ≤ HIGHEST_BASE },
+    ghost based: { base ≤ highest_base },
 }
 
 impl Reader {
@@ -138,7 +138,7 @@ impl Reader {
 
     // The lines of a file, each with its number.
     fn take_lines(&mut self, alloc: Global, bytes: &[u8]) -> Result<u32, HexFileFault>
-        requires room { length bytes.now ≤ MOST_TEXT }
+        requires room { length bytes.now ≤ most_text }
         requires first { Stands self.old [] }
         ensures { TakesLines bytes.now result self.new }
     {
@@ -174,7 +174,7 @@ fn fault_at(line: u32, cause: HexCause) -> HexFileFault
 /// is 0xFF. Where something is wrong, the first line with something wrong is told, and what is first
 /// wrong there.
 pub fn read_ihex(alloc: Global, bytes: &[u8]) -> Result<Vec<u8>, HexFileFault>
-    requires { length bytes.now ≤ MOST_TEXT }
+    requires { length bytes.now ≤ most_text }
     ensures read { ReadsFile (λ image. image.items) result (hex_file bytes.now) }
     ensures memory { IfErr result (λ fault. fault.cause ≡ HexCause.Memory → fault.line ≡ 0) }
 {

@@ -12,7 +12,7 @@ use std::alloc::Global;
 pub const SEGMENT: usize = 65_536;
 
 /// The bytes of a record beside its data: the count, two of the address, the type and the checksum.
-const FIELDS: usize = 5;
+pub(crate) const FIELDS: usize = 5;
 
 /// What a record of a HEX file says.
 #[derive(Debug, Drop)]

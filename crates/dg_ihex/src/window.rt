@@ -2,18 +2,19 @@
 ghost use Rattle.std.specs.Prelude.{◌≡◌, ℕ, None, slice_index_or, ◌+◌, ◌-◌, ◌≤◌, ◌<◌, ◌^◌, List, ◌++◌, [], ◌∷◌, false, length, min, max, IfOk};
 ghost use Rattle.dg_ihex.specs.Blocks.{Block, byte_at, image_of, overlaps, span_of};
 ghost use Rattle.dg_ihex.specs.Cells.{written};
-ghost use Rattle.dg_ihex.specs.declared.window.TheConstants.{MOST_IMAGE, NO_ADDRESS};
+ghost use Rattle.dg_ihex.specs.Sizes.{most_image, addresses};
 
+use dg_base::MOST_CONTENT;
 use std::alloc::{AllocError, Global};
 
 /// The most bytes of an image.
-pub const MOST_IMAGE: usize = 1_048_576;
+pub const MOST_IMAGE: usize = MOST_CONTENT;
 
 /// An address above all addresses.
-const NO_ADDRESS: usize = 4_294_967_296;
+pub(crate) const NO_ADDRESS: usize = 4_294_967_296;
 
 /// The byte at addresses that no record gives: what an erased chip has.
-const GAP: u8 = 0xff;
+pub(crate) const GAP_BYTE: u8 = 0xff;
 
 /// Bytes at addresses of which no two are further apart than an image is long. So these differ
 /// modulo the length of an image, and the byte at an address is kept there.
@@ -24,8 +25,8 @@ pub struct Window {
     lowest: usize,
     past: usize,
 
-    ghost whole: { cells.len ≡ MOST_IMAGE },
-    ghost low: { lowest ≤ NO_ADDRESS },
+    ghost whole: { cells.len ≡ most_image },
+    ghost low: { lowest ≤ addresses },
 }
 
 impl Window {
@@ -57,7 +58,7 @@ impl Window {
 
     /// Whether a block has an address that was given before.
     pub fn overlaps(&self, address: usize, bytes: &[u8]) -> bool
-        requires { address < NO_ADDRESS }
+        requires { address < addresses }
         ensures { (blocks : List Block) → Holds self.now blocks
             → result ≡ overlaps blocks (record { address = address; bytes = bytes.now }) }
     {
@@ -71,7 +72,7 @@ impl Window {
 
     /// How far the addresses reach with a block.
     pub fn span_with(&self, address: usize, bytes: &[u8]) -> usize
-        requires { address < NO_ADDRESS }
+        requires { address < addresses }
         ensures { (blocks : List Block) → Holds self.now blocks
             → result ≡ span_of (blocks ++ record { address = address; bytes = bytes.now } ∷ []) }
     {
@@ -81,10 +82,10 @@ impl Window {
 
     /// Gives the bytes of a block.
     pub fn give(&mut self, address: usize, bytes: &[u8])
-        requires { address < NO_ADDRESS }
+        requires { address < addresses }
         ensures { (blocks : List Block) → Holds self.old blocks
             → let block : Block = record { address = address; bytes = bytes.now } in
-            overlaps blocks block ≡ false → span_of (blocks ++ block ∷ []) ≤ MOST_IMAGE
+            overlaps blocks block ≡ false → span_of (blocks ++ block ∷ []) ≤ most_image
             → Holds self.new (blocks ++ block ∷ []) }
     {
         self.lowest = self.lowest.min(address);
@@ -96,7 +97,7 @@ impl Window {
     pub fn image(&self, alloc: Global) -> Result<Vec<u8>, AllocError>
         ensures { (blocks : List Block) → Holds self.now blocks → IfOk result (λ image. image.items ≡ image_of blocks) }
     {
-        let mut image = vec![in alloc; GAP; self.past.saturating_sub(self.lowest)]?;
+        let mut image = vec![in alloc; GAP_BYTE; self.past.saturating_sub(self.lowest)]?;
         self.fill(&mut image);
         Ok(image)
     }
@@ -106,7 +107,7 @@ impl Window {
         ensures { (blocks : List Block) → Holds self.now blocks → length image.old ≡ span_of blocks → image.new ≡ image_of blocks }
     {
         for at in 0..image.len() {
-            image[at] = self.byte_at(self.lowest + at).unwrap_or(GAP);
+            image[at] = self.byte_at(self.lowest + at).unwrap_or(GAP_BYTE);
         }
     }
 }
@@ -122,8 +123,8 @@ fn blank(alloc: Global, count: usize) -> Result<Vec<Option<u8>>, AllocError>
 
 // Writes the bytes of a block into their cells.
 fn write(cells: &mut [Option<u8>], address: usize, bytes: &[u8])
-    requires fits { address < NO_ADDRESS }
-    requires whole { length cells.old ≡ MOST_IMAGE }
+    requires fits { address < addresses }
+    requires whole { length cells.old ≡ most_image }
     ensures { cells.new ≡ written cells.old address bytes.now }
 {
     for at in 0..bytes.len() {

@@ -2,15 +2,15 @@
 ghost use Rattle.std.specs.Prelude.{◌≡◌, ◌+◌, ◌*◌, ◌<◌, ◌≤◌, ◌++◌, length, map, OnOk, IfOk};
 ghost use Rattle.std.specs.Char.{to_ascii_uppercase};
 ghost use Rattle.std.specs.List.{flat_map};
+ghost use Rattle.dg_ihex.specs.Sizes.{most_image, piece_bytes};
 ghost use Rattle.dg_ihex.specs.Written.{base_lines, checksum_of, ended_by_feed, fields_of, line_of, lines_at, upper_hex, written_file};
 
 use crate::record::{SEGMENT, sum_of};
-use crate::window::MOST_IMAGE;
 use dg_base::push_hex;
 use std::alloc::{AllocError, Global};
 
 /// The most bytes of a data record that is written.
-const PIECE: usize = 16;
+pub(crate) const PIECE: usize = 16;
 
 /// The types of records that are written.
 const DATA: u8 = 0;
@@ -24,7 +24,7 @@ const BASE: u8 = 4;
 /// the end record. Its lines are in upper case, and each ends with LF.
 pub fn write_ihex(alloc: Global, bytes: &[u8]) -> Result<Vec<u8>, AllocError>
     requires some { 1 ≤ length bytes.now }
-    requires fits { length bytes.now ≤ MOST_IMAGE }
+    requires fits { length bytes.now ≤ most_image }
     ensures { IfOk result (λ text. text.items ≡ written_file bytes.now) }
 {
     let mut text = Vec::new(alloc);
@@ -37,8 +37,8 @@ pub fn write_ihex(alloc: Global, bytes: &[u8]) -> Result<Vec<u8>, AllocError>
 
 // Appends the lines of a piece.
 fn push_piece(text: &mut Vec<u8>, bytes: &[u8], piece: usize) -> Result<(), AllocError>
-    requires within { piece * PIECE < length bytes.now }
-    requires fits { length bytes.now ≤ MOST_IMAGE }
+    requires within { piece * piece_bytes < length bytes.now }
+    requires fits { length bytes.now ≤ most_image }
     ensures { OnOk result (text.new.items ≡ text.old.items ++ flat_map ended_by_feed (lines_at bytes.now piece)) }
 {
     let address = piece * PIECE;
@@ -49,7 +49,7 @@ fn push_piece(text: &mut Vec<u8>, bytes: &[u8], piece: usize) -> Result<(), Allo
 
 // Appends the base of the addresses from a piece on, where it is a new one.
 fn push_base(text: &mut Vec<u8>, piece: usize) -> Result<(), AllocError>
-    requires { piece * PIECE < MOST_IMAGE }
+    requires { piece * piece_bytes < most_image }
     ensures { OnOk result (text.new.items ≡ text.old.items ++ flat_map ended_by_feed (base_lines piece)) }
 {
     let address = piece * PIECE;

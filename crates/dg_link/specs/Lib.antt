@@ -1,4 +1,3 @@
 pub mod Faults
 pub mod Inboxes
-pub mod Sizes
 pub mod Failing

@@ -1,7 +1,7 @@
 //! A link in memory of which chosen calls fail.
 ghost use Rattle.std.specs.Prelude.{◌≡◌, ◌↔◌, ℕ, ◌+◌, ◌-◌, ◌^◌, ◌<◌, ◌≤◌, IsTrue, length, min, option_map, None, Some, IsErr, IfOk, IfErr, IfSome, OnOk, OnErr, Contains, refl};
 ghost use Rattle.dg_words.specs.Counts.{Rose};
-ghost use Rattle.dg_link.specs.Sizes.{most_motes, greatest_port};
+ghost use Rattle.dg_base.specs.Sizes.{longest_frame, most_motes, greatest_port};
 ghost use Rattle.dg_link.specs.Inboxes.{emptied, delivered, Receives};
 
 use crate::{Link, LinkFailed, MemLink, OpenFault};
@@ -85,7 +85,7 @@ impl Link for FailLink {
     }
 
     fn send(&mut self, from: u16, to: u16, bytes: &[u8]) -> Result<(), LinkFailed>
-        requires fits { length bytes.now ≤ LONGEST_FRAME }
+        requires fits { length bytes.now ≤ longest_frame }
         requires sender { from < length self.old.boxes.frames }
         requires receiver { to < length self.old.boxes.frames }
         ensures fails { IsErr result ↔ Contains self.old.failing (self.old.calls + 1) }
@@ -112,7 +112,7 @@ impl Link for FailLink {
         ensures fails { IsErr result ↔ Contains self.old.failing (self.old.calls + 1) }
         ensures numbered { self.new.calls ≡ min (self.old.calls + 1) (2 ^ 32 - 1) }
         ensures listed { self.new.failing ≡ self.old.failing }
-        ensures fits { IfOk result (λ r. IfSome r (λ n. n ≤ LONGEST_FRAME)) }
+        ensures fits { IfOk result (λ r. IfSome r (λ n. n ≤ longest_frame)) }
         ensures received { IfOk result (λ r. Receives at into.new r (Some self.old.boxes) (Some self.new.boxes)) }
         ensures nothing { OnErr result (self.new.boxes ≡ self.old.boxes) }
         ensures counts { self.old.faults ≤ self.new.faults }

@@ -4,7 +4,7 @@
 //! answers Ok leaves the count as it is. At the end of a `u64` the count stands still.
 ghost use Rattle.std.specs.Prelude.{◌≡◌, ℕ, ◌<◌, ◌≤◌, length, Option, Some, Err, option_map, IfOk, IfSome, OnOk, OnErr, codes};
 ghost use Rattle.dg_words.specs.Counts.{Rose};
-ghost use Rattle.dg_link.specs.Sizes.{most_motes, greatest_port};
+ghost use Rattle.dg_base.specs.Sizes.{longest_frame, most_motes, greatest_port};
 ghost use Rattle.dg_link.specs.Inboxes.{Inboxes, emptied, delivered, Receives, HasInboxes};
 
 use dg_base::LONGEST_FRAME;
@@ -93,7 +93,7 @@ pub trait Link {
 
     /// Sends a frame from a mote to another.
     fn send(&mut self, from: u16, to: u16, bytes: &[u8]) -> Result<(), LinkFailed>
-        requires fits { length bytes.now ≤ LONGEST_FRAME }
+        requires fits { length bytes.now ≤ longest_frame }
         requires sender { from < mote_count self.old }
         requires receiver { to < mote_count self.old }
 
@@ -114,7 +114,7 @@ pub trait Link {
     ) -> Result<Option<usize>, LinkFailed>
         requires { at < mote_count self.old }
 
-        ensures fits { IfOk result (λ r. IfSome r (λ n. n ≤ LONGEST_FRAME)) }
+        ensures fits { IfOk result (λ r. IfSome r (λ n. n ≤ longest_frame)) }
         ensures received { IfOk result (λ r. Receives at into.new r (inboxes self.old) (inboxes self.new)) }
         ensures nothing { OnErr result (inboxes self.new ≡ inboxes self.old) }
         ensures same_motes { mote_count self.new ≡ mote_count self.old }

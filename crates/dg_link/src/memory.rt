@@ -1,7 +1,7 @@
 //! A link in memory.
 ghost use Rattle.std.specs.Prelude.{◌≡◌, ◌↔◌, ◌<◌, ◌≤◌, ◌++◌, [], length, take, drop, replicate, slice_get, option_map, Ok, None, Some, IsOk, IfOk, IfErr, IfSome, OnOk, OnErr, Contains, refl};
 ghost use Rattle.circular_buffer.specs.Buffer.{buffer};
-ghost use Rattle.dg_link.specs.Sizes.{most_motes, greatest_port};
+ghost use Rattle.dg_base.specs.Sizes.{longest_frame, most_motes, greatest_port};
 ghost use Rattle.dg_link.specs.Inboxes.{inbox_of, with_inbox, emptied, delivered, Receives};
 
 use crate::link::{Link, LinkFailed, OpenFault};
@@ -73,7 +73,7 @@ impl Link for MemLink {
     }
 
     fn send(&mut self, from: u16, to: u16, bytes: &[u8]) -> Result<(), LinkFailed>
-        requires fits { length bytes.now ≤ LONGEST_FRAME }
+        requires fits { length bytes.now ≤ longest_frame }
         requires sender { from < length self.old.frames }
         requires receiver { to < length self.old.frames }
         ensures ok { IsOk result }
@@ -92,7 +92,7 @@ impl Link for MemLink {
         requires { at < length self.old.frames }
         ensures ok { IsOk result }
         ensures none { (result ≡ Ok None) ↔ (inbox_of self.old at ≡ []) }
-        ensures fits { IfOk result (λ r. IfSome r (λ n. n ≤ LONGEST_FRAME)) }
+        ensures fits { IfOk result (λ r. IfSome r (λ n. n ≤ longest_frame)) }
         ensures received { IfOk result (λ r. Receives at into.new r (Some self.old) (Some self.new)) }
     {
         let frame = self.take_oldest(at);
@@ -119,7 +119,7 @@ fn empty_rings(
 
 // Copies a frame, if there is one, to the front of `into`, and answers how many bytes it has.
 fn hand_over(frame: Option<FrameBytes>, into: &mut [u8; LONGEST_FRAME]) -> Option<usize>
-    ensures fits { IfSome result (λ n. n ≤ LONGEST_FRAME) }
+    ensures fits { IfSome result (λ n. n ≤ longest_frame) }
     ensures front { option_map (λ n. take n into.new) result ≡ frame }
 {
     match frame {
@@ -130,8 +130,8 @@ fn hand_over(frame: Option<FrameBytes>, into: &mut [u8; LONGEST_FRAME]) -> Optio
 
 // Copies a frame to the front of `into`, and answers how many bytes it has.
 fn copy_front(frame: &[u8], into: &mut [u8; LONGEST_FRAME]) -> usize
-    requires { length frame.now ≤ LONGEST_FRAME }
-    ensures fits { result ≤ LONGEST_FRAME }
+    requires { length frame.now ≤ longest_frame }
+    ensures fits { result ≤ longest_frame }
     ensures front { take result into.new ≡ frame.now }
 {
     let count = frame.len();

@@ -1,6 +1,6 @@
 use Rattle.std.proofs.Common.{◌≡◌, ◌++◌, ◌∷◌, [], length, take, drop, sym, ap, ◌∙◌, subst, arith}
 use Rattle.std.proofs.lemmas.List.{take_at}
-use Rattle.dg_ihex.specs.declared.window.TheConstants.{MOST_IMAGE}
+use Rattle.dg_ihex.specs.Sizes.{most_image}
 use Rattle.dg_ihex.specs.Blocks.{Block, byte_at}
 use Rattle.dg_ihex.specs.Cells.{Keeps, written}
 use Rattle.dg_ihex.proofs.BlockLemmas.{lowest_of-more, past_of-more}
@@ -16,7 +16,7 @@ returns c blocks h apart close =
     let new = c.write.new.cells in
     let is : new ≡ written old c.args.address c.args.bytes.now = c.write.ensures ∙ ap (λ cells. written cells c.args.address c.args.bytes.now) c.deref_mut.ensures.value in
     let long : length new ≡ c.args.self.now.cells.len = c.write.auto.cells ∙ c.deref_mut.ensures.len in
-    let whole : length old ≡ MOST_IMAGE = sym c.args.self.now.cells.ok.0 ∙ c.args.self.now.whole in
+    let whole : length old ≡ most_image = sym c.args.self.now.cells.ok.0 ∙ c.args.self.now.whole in
     let same : take c.args.self.now.cells.len (new ++ drop (length new) old) ≡ new = take_at new (drop (length new) old) c.args.self.now.cells.len long in
     record {
       lowest = omega (arith, low, h.lowest);
