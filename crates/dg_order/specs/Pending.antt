@@ -13,7 +13,7 @@ abbrev pub is_some_version : Option ℕ → ℕ → Bool
 is_some_version None version = false
 is_some_version (Some v) version = v == version
 
--- the commits that the start of an order makes at most
+-- the commits that the start of an order makes at most: program memory becomes blank, and is then set
 abbrev pub start_commits : ℕ
 start_commits = 2
 

@@ -3,7 +3,7 @@
 
 ghost use Rattle.std.specs.Prelude.{◌≡◌, ◌<◌, ◌↔◌, ℕ, Option, true, IsTrue};
 ghost use Rattle.dg_control.specs.declared.snapshot.Snapshot.{Snapshot};
-ghost use Rattle.dg_order.specs.Pending.{pending, is_some_version, is_set, Waits};
+ghost use Rattle.dg_order.specs.Pending.{pending, is_some_version, is_set, start_commits, Waits};
 
 use dg_control::{Order, Program, Snapshot};
 
@@ -29,6 +29,11 @@ pub fn pending(snapshot: &Snapshot, whole: Option<u32>, room: u32) -> bool
         && !is_set(snapshot.program, order.image, order.version)
         && room >= START_COMMITS
 }
+
+/// The number is that of this profile: the start of an order makes two commits at most.
+pub fn the_commits_are_these()
+    ensures { START_COMMITS ≡ start_commits }
+{}
 
 /// An order waits to be started exactly where there is one, it is not waived, its image is kept whole in its version,
 /// program memory is not set to it, and two commits are left.
