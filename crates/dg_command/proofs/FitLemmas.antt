@@ -9,30 +9,30 @@ use Rattle.clap.specs.declared.parser.matches.ArgMatches.{ArgMatches}
 use Rattle.dg_command.specs.Apps.{app_for, app_of_verb, most_number}
 use Rattle.dg_command.specs.Asking.{Said, has_name, named, refused_by, said_at, taken_by}
 use Rattle.dg_command.specs.Bounds.{FitsRanges, IsInRange}
-use Rattle.dg_command.specs.declared.ranges.TheConstants.{LAST_IMAGE, MOST_TURNS, MOST_USED, LEAST_MOTES, MOST_MOTES, LEAST_PAGES, MOST_PAGES}
+use Rattle.dg_command.specs.Sizes.{network_images, most_turns, most_room, least_motes, most_motes, least_pages, most_pages}
 use Rattle.dg_command.specs.declared.verbs.Verb.{Verb}
 use Rattle.dg_command.specs.declared.verbs.Verb.TheVariants.{Replay, Serve, Format, Inject, Order, Boot, Ping, Dump, Trial}
 use Rattle.dg_command.proofs.RangeLemmas.{in_range}
 
 numbers : (v : Verb) (old : Command) (m : ArgMatches) → app_of old ≡ app_of_verb v → IsParsedFrom old m → IsInRange (said_at v (rows_of (found_of m)))
 numbers Replay old m is p = tt
-numbers Serve old m is p = in_range Serve old m 0 1 MOST_TURNS 32 (codes "turns") is p (omega arith) (λ d. refl) refl refl (omega arith)
-numbers Format old m is p = (in_range Format old m 1 0 MOST_USED 32 (codes "used") is p (omega arith) (λ d. refl) refl refl (omega arith)).1
+numbers Serve old m is p = in_range Serve old m 0 1 most_turns 32 (codes "turns") is p (omega arith) (λ d. refl) refl refl (omega arith)
+numbers Format old m is p = (in_range Format old m 1 0 most_room 32 (codes "used") is p (omega arith) (λ d. refl) refl refl (omega arith)).1
 numbers Inject old m is p = (
-  (in_range Inject old m 0 0 LAST_IMAGE 8 (codes "image") is p (omega arith) (λ d. refl) refl refl (omega arith)).1,
+  (in_range Inject old m 0 0 network_images 8 (codes "image") is p (omega arith) (λ d. refl) refl refl (omega arith)).1,
   (in_range Inject old m 1 1 most_number 32 (codes "ver") is p (omega arith) (λ d. refl) refl refl (omega arith)).0,
 )
 numbers Order old m is p = (
   (in_range Order old m 0 1 most_number 32 (codes "number") is p (omega arith) (λ d. refl) refl refl (omega arith)).0,
-  (in_range Order old m 1 0 LAST_IMAGE 8 (codes "image") is p (omega arith) (λ d. refl) refl refl (omega arith)).1,
+  (in_range Order old m 1 0 network_images 8 (codes "image") is p (omega arith) (λ d. refl) refl refl (omega arith)).1,
   (in_range Order old m 2 1 most_number 32 (codes "ver") is p (omega arith) (λ d. refl) refl refl (omega arith)).0,
 )
 numbers Boot old m is p = tt
 numbers Ping old m is p = tt
-numbers Dump old m is p = (in_range Dump old m 0 0 LAST_IMAGE 8 (codes "image") is p (omega arith) (λ d. refl) refl refl (omega arith)).1
+numbers Dump old m is p = (in_range Dump old m 0 0 network_images 8 (codes "image") is p (omega arith) (λ d. refl) refl refl (omega arith)).1
 numbers Trial old m is p =
-    let motes = in_range Trial old m 0 LEAST_MOTES MOST_MOTES 8 (codes "motes") is p (omega arith) (λ d. refl) refl refl (omega arith) in
-    let pages = in_range Trial old m 1 LEAST_PAGES MOST_PAGES 8 (codes "pages") is p (omega arith) (λ d. refl) refl refl (omega arith) in
+    let motes = in_range Trial old m 0 least_motes most_motes 8 (codes "motes") is p (omega arith) (λ d. refl) refl refl (omega arith) in
+    let pages = in_range Trial old m 1 least_pages most_pages 8 (codes "pages") is p (omega arith) (λ d. refl) refl refl (omega arith) in
     (motes.0, motes.1, pages.0, pages.1)
 
 named_fits : (s : Said) → IsInRange s → FitsRanges (named s)

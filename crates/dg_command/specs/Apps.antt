@@ -5,7 +5,7 @@ use Rattle.clap.specs.Simple.{new_shape}
 use Rattle.clap.specs.declared.builder.action.ArgAction.TheVariants.{Set, Append}
 use Rattle.clap.specs.declared.builder.value_parser.ValueParser.TheVariants as vp
 use Rattle.dg_command.specs.Verbs.{word_of}
-use Rattle.dg_command.specs.declared.ranges.TheConstants.{LAST_IMAGE, MOST_TURNS, MOST_USED, LEAST_MOTES, MOST_MOTES, LEAST_PAGES, MOST_PAGES}
+use Rattle.dg_command.specs.Sizes.{network_images, most_turns, most_room, least_motes, most_motes, least_pages, most_pages}
 use Rattle.dg_command.specs.declared.verbs.Verb.{Verb}
 use Rattle.dg_command.specs.declared.verbs.Verb.TheVariants.{Replay, Serve, Format, Inject, Order, Boot, Ping, Dump, Trial}
 
@@ -23,7 +23,7 @@ text_option name = record (new_rule name) { long = Some name; required = true; a
 
 -- an image, a version and a seed
 abbrev pub image_option : Rule
-image_option = number_option (codes "image") 0 LAST_IMAGE
+image_option = number_option (codes "image") 0 network_images
 
 abbrev pub version_option : Rule
 version_option = number_option (codes "ver") 1 most_number
@@ -41,15 +41,15 @@ flash_words = record (new_rule (codes "FLASH")) { action = Some Append }
 -- what the words behind a verb may be
 abbrev pub rules_of : Verb → List Rule
 rules_of Replay = flash_words ∷ []
-rules_of Serve = number_option (codes "turns") 1 MOST_TURNS ∷ seed_option ∷ flash_words ∷ []
-rules_of Format = text_option (codes "name") ∷ number_option (codes "used") 0 MOST_USED ∷ flash_word ∷ []
+rules_of Serve = number_option (codes "turns") 1 most_turns ∷ seed_option ∷ flash_words ∷ []
+rules_of Format = text_option (codes "name") ∷ number_option (codes "used") 0 most_room ∷ flash_word ∷ []
 rules_of Inject = image_option ∷ version_option ∷ text_option (codes "name") ∷ flash_word ∷ []
 rules_of Order = number_option (codes "number") 1 most_number ∷ image_option ∷ version_option ∷ flash_word ∷ []
 rules_of Boot = flash_word ∷ []
 rules_of Ping = flash_word ∷ []
 rules_of Dump = image_option ∷ flash_word ∷ []
 rules_of Trial =
-    number_option (codes "motes") LEAST_MOTES MOST_MOTES ∷ number_option (codes "pages") LEAST_PAGES MOST_PAGES ∷ seed_option ∷ []
+    number_option (codes "motes") least_motes most_motes ∷ number_option (codes "pages") least_pages most_pages ∷ seed_option ∷ []
 
 -- a command of a verb, and one for words without a verb, which has help and a version and takes no word
 unfoldable pub app_of_verb : Verb → App

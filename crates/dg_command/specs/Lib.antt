@@ -1,3 +1,4 @@
+pub mod Sizes
 pub mod Apps
 pub mod Asking
 pub mod Bounds

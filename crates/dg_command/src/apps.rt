@@ -3,11 +3,12 @@ ghost use Rattle.std.specs.Prelude.{◌≡◌, false, IfOk, map, Some};
 ghost use Rattle.clap.specs.Words.{app_of, rule_of};
 ghost use Rattle.dg_command.specs.Apps.{app_for, app_of_verb, flash_word, flash_words, image_option, number_option, rules_of, seed_option, text_option, top_app, version_option};
 
-use crate::ranges::{
-    LAST_IMAGE, LEAST_MOTES, LEAST_PAGES, MOST_MOTES, MOST_PAGES, MOST_TURNS, MOST_USED,
-};
+use crate::ranges::{LEAST_MOTES, LEAST_PAGES, MOST_TURNS};
 use crate::verbs::Verb;
 use clap::{Arg, ArgAction, Command, value_parser};
+use dg_base::{MOST_MOTES, NETWORK_IMAGES};
+use dg_control::MOST_ROOM;
+use dg_object::MOST_PAGES;
 use std::alloc::{AllocError, Global};
 
 const VERSION: &str = "1.0";
@@ -69,7 +70,7 @@ fn flashes<'a>(alloc: Global) -> Arg<'a>
 fn image<'a>(alloc: Global) -> Arg<'a>
     ensures { rule_of result ≡ image_option }
 {
-    number(alloc, "image", "The image", 0, u32::from(LAST_IMAGE))
+    number(alloc, "image", "The image", 0, u32::from(NETWORK_IMAGES))
 }
 
 /// A version.
@@ -124,7 +125,7 @@ fn format_arguments<'a>(alloc: Global) -> Result<Vec<Arg<'a>>, AllocError>
         "used",
         "The commits that are told as spent",
         0,
-        MOST_USED,
+        MOST_ROOM,
     );
     Ok(vec![in alloc; name, used, flash(alloc)]?)
 }

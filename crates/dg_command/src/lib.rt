@@ -16,9 +16,7 @@ pub use command::{Asked, Command};
 pub use laws::{
     forms_of_a_command, help_is_shown, lines_are_commands, misused_words, what_a_command_is,
 };
-pub use ranges::{
-    LAST_IMAGE, LEAST_MOTES, LEAST_PAGES, MOST_MOTES, MOST_PAGES, MOST_TURNS, MOST_USED,
-};
+pub use ranges::{LEAST_MOTES, LEAST_PAGES, MOST_TURNS, the_ranges_are_these};
 pub use reading::{asked, flash_names};
 
 #[cfg(test)]

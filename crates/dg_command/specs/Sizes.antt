@@ -1,0 +1,17 @@
+-- The ranges of a command's numbers. Those of this profile that stand here are the program's own.
+use Rattle.std.specs.Prelude.{ℕ}
+pub use Rattle.dg_base.specs.Sizes.{most_motes, network_images}
+pub use Rattle.dg_object.specs.Sizes.{most_pages}
+pub use Rattle.dg_control.specs.Sizes.{most_room}
+
+-- the turns that a service takes, at most. It takes one at least
+abbrev pub most_turns : ℕ
+most_turns = 1000000
+
+-- the motes of a trial, at least
+abbrev pub least_motes : ℕ
+least_motes = 2
+
+-- the pages of a trial's image, at least: its descriptor, and one page of the image
+abbrev pub least_pages : ℕ
+least_pages = 2
