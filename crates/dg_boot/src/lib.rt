@@ -62,8 +62,8 @@ pub enum BootFault {
 }
 
 /// Starts the image of a chip: counts the start, makes the choice, copies the image where it is not in program memory
-/// yet, and sets program memory to it. A page is copied by 7 operations, an erase and 6 programs of 184 bytes. A copied
-/// image is read twice, once for its soundness and once for the copy, and no more than one piece of it is held.
+/// yet, and sets program memory to it. A page is copied by 7 operations, an erase and 6 programs of 184 bytes. No clause
+/// bounds what is read.
 ///
 /// `NoImage` may follow a commit that counted the start, and one that waived the order.
 pub fn start<N: Nor>(nor: &mut N, kind: Kind) -> Result<Started, BootFault>
