@@ -4,7 +4,7 @@ use Rattle.std.specs.List.{flat_map}
 use Rattle.dg_base.specs.declared.events.Event.{Event}
 use Rattle.dg_base.specs.declared.events.Event.TheVariants.{Tick, Last}
 
--- the milliseconds between the ticks of a round. They are more than any window of a mote
+-- the milliseconds between the ticks of a round, by this project's own profile. They are more than any window of a mote
 abbrev pub pace : ℕ
 pace = 131072
 

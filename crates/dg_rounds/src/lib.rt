@@ -9,7 +9,7 @@ mod rounds;
 mod sweeps;
 
 pub use distances::{enough, levels};
-pub use rounds::{ROUND_EVENTS, RoundEvents, round};
+pub use rounds::{PACE, ROUND_EVENTS, RoundEvents, a_round_has_this_pace, round};
 pub use sweeps::{SweepEvents, sweep};
 
 #[cfg(test)]

@@ -1,13 +1,13 @@
 //! The events of a round.
 ghost use Rattle.std.specs.Prelude.{◌≡◌, ◌<◌, [], ◌∷◌, length, slice_index_or};
 ghost use Rattle.dg_base.specs.declared.events.Event.{Event};
-ghost use Rattle.dg_rounds.specs.Rounds.{round, paced, passed};
+ghost use Rattle.dg_rounds.specs.Rounds.{pace, round, paced, passed};
 ghost use Rattle.dg_rounds.specs.Left.{left_of_round};
 
 use dg_base::Event;
 
 /// The milliseconds between the ticks of a round. They are more than any window of a mote.
-const PACE: u32 = 131_072;
+pub const PACE: u32 = 131_072;
 
 /// How many ticks bring a mote to rest.
 const REST: u8 = 50;
@@ -20,6 +20,11 @@ const ASKED: u8 = 2 * REST + ADVERT + 2;
 
 /// The events of a round.
 pub const ROUND_EVENTS: u8 = 202;
+
+/// The ticks of a round are 131,072 ms apart.
+pub fn a_round_has_this_pace()
+    ensures { PACE ≡ pace }
+{}
 
 /// The events of one round, from first to last.
 #[derive(Debug, Drop)]

@@ -1,5 +1,5 @@
 -- What is known of lines that were read.
-use Rattle.std.proofs.Common.{◌≡◌, ◌≢◌, ℕ, ◌-◌, ◌<◌, ◌≤◌, ◌^◌, ◌==◌, ◌&&◌, not, nat_le, nat_lt, Bool, true, false, List, length, Result, Ok, Err, IfOk, refl, sym, ap, subst, arith}
+use Rattle.std.proofs.Common.{◌≡◌, ◌≢◌, ℕ, ◌<◌, ◌≤◌, ◌^◌, ◌==◌, ◌&&◌, not, nat_le, nat_lt, Bool, true, false, List, length, Result, Ok, Err, IfOk, refl, sym, ap, subst, arith}
 use Rattle.std.specs.Coded.{le_prop}
 use Rattle.std.proofs.lemmas.Bool.{leb-true, le-leb, ltb-true, eqb-false, not-true}
 use Rattle.std.proofs.lemmas.Bool.Decides.{nat_tests}
@@ -10,8 +10,8 @@ use Rattle.dg_base.specs.Texts.{spells_name}
 use Rattle.dg_base.specs.Sizes.{longest_frame, longest_mask}
 use Rattle.dg_base.specs.declared.events.Event.TheVariants.{Tick, Hear, Last, Reset, Inject, Order, Frame}
 use Rattle.dg_base.specs.declared.events.Cut.{Cut as CutOfPower}
-use Rattle.dg_object.specs.Sizes.{most_bytes, slots}
-use Rattle.dg_script.specs.Sizes.{most_motes, most_used, most_sweeps, most_number, most_content}
+use Rattle.dg_object.specs.Sizes.{most_bytes}
+use Rattle.dg_script.specs.Sizes.{most_motes, network_images, most_used, most_sweeps, most_number, most_content}
 use Rattle.dg_script.specs.Results.{allowed_if, or_fault}
 use Rattle.dg_script.specs.Words.{one_of, two_of, three_of, four_of, five_of, six_of}
 use Rattle.dg_script.specs.Contents.{name_of, content_of, sized, sized_content, mask_of}
@@ -150,7 +150,7 @@ numbered word n h = let here = ranged_in-within fault.Version 1 most_number word
 
 version_known : (image word : List ℕ) (i v : ℕ) → any_image_in image ≡ Ok i → version_in word ≡ Ok v → IsVersion i v
 version_known image word i v e f =
-    let here = ranged_in-within fault.Image 0 (slots - 1) image i e in
+    let here = ranged_in-within fault.Image 0 network_images image i e in
     let there = ranged_in-within fault.Version 1 most_number word v f in
     record { image = omega (arith, here.1); version = there.0; version_fits = omega (arith, there.1) }
 
@@ -218,7 +218,7 @@ image_known place fields line h =
     let version = bound (version_in t.0.1) _ line image.2 in
     let name = bound (name_of t.0.2) _ line version.2 in
     let content = bound (sized_content 0 most_content t.0.3) _ line name.2 in
-    let number = ranged_in-within fault.Image 1 (slots - 1) t.0.0 image.0 image.1 in
+    let number = ranged_in-within fault.Image 1 network_images t.0.0 image.0 image.1 in
     let some = ranged_in-within fault.Version 1 most_number t.0.1 version.0 version.1 in
     let size = sized_content-is 0 most_content t.0.3 content.0 content.1 in
     let here : Image image.0 version.0 name.0 content.0 ≡ line = cc in

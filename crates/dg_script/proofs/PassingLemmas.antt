@@ -1,14 +1,13 @@
 -- Lines that are read on, over bytes that come piece by piece.
-use Rattle.std.proofs.Common.{◌≡◌, ◌≢◌, ◌⊎◌, ℕ, ◌+◌, ◌-◌, ◌<◌, ◌≤◌, ◌==◌, Bool, true, false, cond, List, [], ◌∷◌, ◌++◌, length, get_or, take, drop, All, Option, Some, None, Result, Ok, Err, IsErrAnd, refl, sym, ap, ◌∙◌, subst, arith, inl, inr, ⊎_elim, append_assoc, length-append}
+use Rattle.std.proofs.Common.{◌≡◌, ◌≢◌, ℕ, ◌+◌, ◌-◌, ◌<◌, ◌≤◌, ◌==◌, Bool, true, false, cond, List, [], ◌∷◌, ◌++◌, length, get_or, take, drop, Option, Some, None, Result, Ok, Err, IsErrAnd, refl, sym, ap, ◌∙◌, subst, arith, inl, inr, ⊎_elim, append_assoc, length-append}
 use Rattle.std.specs.Prelude.{slice_range, ⊤}
 use Rattle.std.specs.Str.Lines.{strip_carriage_return}
 use Rattle.std.proofs.lemmas.List.{append-nil, take_at, length-take}
-use Rattle.dg_base.specs.Outside.{Takes, AtEnd}
+use Rattle.dg_base.specs.Outside.{Takes}
 use Rattle.dg_base.proofs.OutsideLemmas.{Takes-nil, Takes-join}
-use Rattle.dg_script.specs.Sizes.{most_line}
 use Rattle.dg_script.specs.declared.line_reader.ReadStop.{ReadStop as Stop}
 use Rattle.dg_script.specs.declared.line_reader.ReadStop.TheVariants.{ReadFault, Long, TooLong}
-use Rattle.dg_script.specs.LineReading.{Reading, most_kept, most_used_bytes, HasNoEnd, EndsAt, NextAnswer, FillAnswer, PassAnswer, FirstLine, IsLine, Gives, IsLong, IsAtEnd}
+use Rattle.dg_script.specs.LineReading.{Reading, most_kept, most_used_bytes, HasNoEnd, EndsAt, NextAnswer, FillAnswer, PassAnswer}
 use Rattle.dg_script.proofs.ReaderLemmas.{view, part_long, no_end_join, answer_if}
 
 -- ---- what is kept is let go

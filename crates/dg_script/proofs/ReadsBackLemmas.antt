@@ -1,5 +1,5 @@
 -- A line that is written is read as the same.
-use Rattle.std.proofs.Common.{◌≡◌, ◌≢◌, ℕ, ◌+◌, ◌-◌, ◌*◌, ◌/◌, ◌%◌, ◌<◌, ◌≤◌, ◌^◌, ◌==◌, ◌&&◌, not, nat_le, Bool, true, false, List, [], ◌∷◌, ◌++◌, length, Some, Ok, All, decimal, refl, ap, ◌∙◌, subst, arith}
+use Rattle.std.proofs.Common.{◌≡◌, ◌≢◌, ℕ, ◌+◌, ◌*◌, ◌/◌, ◌%◌, ◌<◌, ◌≤◌, ◌^◌, ◌==◌, ◌&&◌, not, nat_le, Bool, true, false, List, [], ◌∷◌, ◌++◌, length, Some, Ok, All, decimal, refl, ap, ◌∙◌, subst, arith}
 use Rattle.std.proofs.lemmas.Bool.{le-leb, lt-ltb, ne_eqb, and_from, and_parts, not_from_false, not-true}
 use Rattle.std.proofs.lemmas.Bool.Decides.{nat_tests}
 use Rattle.std.proofs.lemmas.List.{append-nil, length-append, get_or_default}
@@ -18,8 +18,8 @@ use Rattle.dg_base.specs.declared.events.Event.TheVariants.{Tick, Hear, Last, Re
 use Rattle.dg_base.specs.declared.events.Cut.{Cut as CutOfPower}
 use Rattle.dg_base.proofs.NumberLemmas.{number_of-decimal}
 use Rattle.dg_base.proofs.HexLemmas.{hex_bytes-hex_text, length-hex_text}
-use Rattle.dg_object.specs.Sizes.{most_bytes, slots}
-use Rattle.dg_script.specs.Sizes.{most_motes, most_used, most_sweeps, most_number, most_content, most_line, most_written}
+use Rattle.dg_object.specs.Sizes.{most_bytes}
+use Rattle.dg_script.specs.Sizes.{most_motes, network_images, most_used, most_sweeps, most_number, most_content, most_line, most_written}
 use Rattle.dg_script.specs.Words.{split_of, with_word, words_of, behind_spaces, spaced}
 use Rattle.dg_script.specs.Contents.{name_of, content_of, sized_content, mask_of}
 use Rattle.dg_script.specs.Verbs.{word_of, verb_of, is_played, standing}
@@ -267,7 +267,7 @@ image_read place image version called bytes stands fits short plays =
     let c = content 0 most_content bytes fits.bytes (omega arith) fits.fits in
     reads_words verb.Image place (decimal image ∷ decimal version ∷ called ∷ content_text bytes ∷ []) (Image image version called bytes) (i.word, (v.word, (a.word, (c.word, tt))))
     (omega (arith, i.short, v.short, a.short, c.size, short)) plays
-    (rw (stood verb.Image place stands, ranged fault.Image 1 image (slots - 1) i fits.image (omega (arith, fits.image_fits)), ranged fault.Version 1 version most_number v fits.version (omega (arith, fits.version_fits)), a.read, c.read) refl)
+    (rw (stood verb.Image place stands, ranged fault.Image 1 image network_images i fits.image (omega (arith, fits.image_fits)), ranged fault.Version 1 version most_number v fits.version (omega (arith, fits.version_fits)), a.read, c.read) refl)
 
 cut_read : (place : Place) (cut : CutOfPower) → StandsBy verb.Cut place → FitsLine most_motes (Cut cut) → is_played verb.Cut ≡ true
     → line_of place (word_of verb.Cut ++ behind_spaces (decimal cut.after ∷ hex_text cut.mask ∷ [])) ≡ Ok (Cut cut)
@@ -335,8 +335,8 @@ reset_read place m d w stands few fits plays =
     reads_words verb.Reset place (decimal m ∷ decimal d ∷ decimal w ∷ []) (Happens (Reset m d w)) (a.word, (b.word, (c.word, tt))) (omega (arith, a.short, b.short, c.short)) plays
     (rw (stood verb.Reset place stands, mote place.motes m a fits.0, b.read, c.read) refl)
 
-any_image : (image version : ℕ) → IsNumber image → IsVersion image version → ranged_in fault.Image 0 (slots - 1) (decimal image) ≡ Ok image
-any_image image version is fits = ranged fault.Image 0 image (slots - 1) is (omega arith) (omega (arith, fits.image))
+any_image : (image version : ℕ) → IsNumber image → IsVersion image version → ranged_in fault.Image 0 network_images (decimal image) ≡ Ok image
+any_image image version is fits = ranged fault.Image 0 image network_images is (omega arith) (omega (arith, fits.image))
 
 some_version : (version : ℕ) → IsNumber version → 1 ≤ version → ranged_in fault.Version 1 most_number (decimal version) ≡ Ok version
 some_version version is low = ranged fault.Version 1 version most_number is low (omega (arith, is.small))

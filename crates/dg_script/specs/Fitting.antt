@@ -6,9 +6,9 @@ use Rattle.dg_base.specs.Sizes.{longest_frame, longest_mask}
 use Rattle.dg_base.specs.declared.events.Event.{Event}
 use Rattle.dg_base.specs.declared.events.Event.TheVariants.{Tick, Hear, Last, Reset, Inject, Order, Frame}
 use Rattle.dg_base.specs.declared.events.Cut.{Cut as CutOfPower}
-use Rattle.dg_object.specs.Sizes.{most_bytes, slots}
+use Rattle.dg_object.specs.Sizes.{most_bytes}
 use Rattle.dg_object.specs.Object.{Row, row_of}
-use Rattle.dg_script.specs.Sizes.{most_motes, most_used, most_content, most_sweeps}
+use Rattle.dg_script.specs.Sizes.{most_motes, network_images, most_used, most_content, most_sweeps}
 use Rattle.dg_script.specs.Verbs.{is_played, stands, follows}
 use Rattle.dg_script.specs.Places.{is_linked}
 use Rattle.dg_script.specs.declared.line.Line.{Line}
@@ -28,7 +28,7 @@ pub record IsGolden (called : List ℕ) (spent : ℕ) (content : List ℕ) : Typ
 -- an image that is declared has a number from 1 to 3, a version and a name
 pub record IsDeclared (i v : ℕ) (called content : List ℕ) : Type 0 where
   pub image : 1 ≤ i
-  pub image_fits : i < slots
+  pub image_fits : i ≤ network_images
   pub version : 1 ≤ v
   pub version_fits : v < 2 ^ 32
   pub name : IsTrue (spells_name called)
@@ -56,7 +56,7 @@ pub record AreTwo (motes a b : ℕ) : Type 0 where
 
 -- an image, from 0 to 3, and a version of it
 pub record IsVersion (i v : ℕ) : Type 0 where
-  pub image : i < slots
+  pub image : i ≤ network_images
   pub version : 1 ≤ v
   pub version_fits : v < 2 ^ 32
 

@@ -1,30 +1,33 @@
--- The ranges of the numbers in a script.
-use Rattle.std.specs.Prelude.{ℕ}
+-- The ranges of the numbers in a script. They are this project's own profile, and each number stands here alone, but for
+-- those of the crates below.
+use Rattle.std.specs.Prelude.{ℕ, ◌+◌}
+use Rattle.dg_control.specs.Sizes.{most_room}
+pub use Rattle.dg_base.specs.Sizes.{most_motes, network_images, most_content}
 
--- the motes
-abbrev pub most_motes : ℕ
-most_motes = 16
-
--- the commits that are told as spent
+-- the commits that are told as spent: as many as a chip has
 abbrev pub most_used : ℕ
-most_used = 520223
+most_used = most_room
 
 -- the sweeps of one line
 abbrev pub most_sweeps : ℕ
 most_sweeps = 1000
 
--- the largest number
+-- the largest number, of 32 bits
 abbrev pub most_number : ℕ
 most_number = 4294967295
 
--- the bytes of a content
-abbrev pub most_content : ℕ
-most_content = 1048576
-
--- the bytes of a content that is written
+-- the bytes of a content that is written, which then fits into a line
 abbrev pub most_written : ℕ
 most_written = 149000
 
--- the bytes of a line
+-- the bytes of a line, without its end
 abbrev pub most_line : ℕ
 most_line = 300000
+
+-- the bytes that are kept at once: those of the longest line, with CR and LF behind them
+abbrev pub most_kept : ℕ
+most_kept = most_line + 2
+
+-- the bytes of an input that are used
+abbrev pub most_used_bytes : ℕ
+most_used_bytes = 16777216

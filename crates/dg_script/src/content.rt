@@ -8,11 +8,8 @@ ghost use Rattle.dg_script.specs.Reading.{Reads};
 
 use crate::fault::LineFault;
 use crate::words::halves;
-use dg_base::{Bytes, HexFault, LONGEST_MASK, is_name, parse_hex, parse_u32};
+use dg_base::{Bytes, HexFault, LONGEST_MASK, MOST_CONTENT, is_name, parse_hex, parse_u32};
 use std::alloc::{AllocError, Global};
-
-/// The most bytes of a content.
-pub const MOST_CONTENT: usize = 1_048_576;
 
 /// The bytes of a name.
 #[tactic(auto, unfolding(crate::specs::Contents::name_of))]

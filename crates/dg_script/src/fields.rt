@@ -3,17 +3,9 @@ ghost use Rattle.std.specs.Prelude.{◌≡◌, ◌≤◌, ◌<◌, ◌^◌, IfOk
 ghost use Rattle.dg_script.specs.Fields.{number_in, ranged_in, motes_in, mote_in, other_in, image_in, any_image_in, version_in, counted_in, used_in, sweeps_in};
 
 use crate::fault::LineFault;
-use dg_base::parse_u32;
-use dg_object::SLOTS;
-
-/// The most motes of a script.
-const MOST_MOTES: u32 = 16;
-
-/// The most commits that are told as spent.
-const MOST_USED: u32 = 520_223;
-
-/// The most sweeps of one line.
-const MOST_SWEEPS: u32 = 1_000;
+use crate::sizes::MOST_SWEEPS;
+use dg_base::{MOST_MOTES, NETWORK_IMAGES, parse_u32};
+use dg_control::MOST_ROOM;
 
 /// A number.
 #[tactic(auto, unfolding(crate::specs::Fields::number_in))]
@@ -47,7 +39,7 @@ fn ranged(word: &[u8], least: u32, most: u32, fault: LineFault) -> Result<u32, L
 pub fn motes(word: &[u8]) -> Result<u8, LineFault>
     ensures { result ≡ motes_in word.now }
 {
-    let motes = ranged(word, 1, MOST_MOTES, LineFault::Mote)?;
+    let motes = ranged(word, 1, MOST_MOTES as u32, LineFault::Mote)?;
     Ok(motes as u8)
 }
 
@@ -79,7 +71,7 @@ pub fn other_mote(word: &[u8], motes: u8, first: u8) -> Result<u8, LineFault>
 pub fn image_number(word: &[u8]) -> Result<u8, LineFault>
     ensures { result ≡ image_in word.now }
 {
-    let image = ranged(word, 1, SLOTS as u32 - 1, LineFault::Image)?;
+    let image = ranged(word, 1, NETWORK_IMAGES as u32, LineFault::Image)?;
     Ok(image as u8)
 }
 
@@ -87,7 +79,7 @@ pub fn image_number(word: &[u8]) -> Result<u8, LineFault>
 pub fn any_image_number(word: &[u8]) -> Result<u8, LineFault>
     ensures { result ≡ any_image_in word.now }
 {
-    let image = ranged(word, 0, SLOTS as u32 - 1, LineFault::Image)?;
+    let image = ranged(word, 0, NETWORK_IMAGES as u32, LineFault::Image)?;
     Ok(image as u8)
 }
 
@@ -110,7 +102,7 @@ pub fn counted(word: &[u8]) -> Result<u32, LineFault>
 pub fn used(word: &[u8]) -> Result<u32, LineFault>
     ensures { result ≡ used_in word.now }
 {
-    ranged(word, 0, MOST_USED, LineFault::Number)
+    ranged(word, 0, MOST_ROOM, LineFault::Number)
 }
 
 /// How many sweeps, 1 to 1,000.

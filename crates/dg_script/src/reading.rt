@@ -14,12 +14,10 @@ use crate::place::Place;
 use crate::settings::{
     boards_line, cut_line, golden_line, image_line, link_line, motes_line, round_line, sweeps_line,
 };
+use crate::sizes::LONGEST;
 use crate::verbs::Verb;
 use crate::words::next_word;
 use std::alloc::Global;
-
-/// The most bytes of a line.
-const LONGEST_LINE: usize = 300_000;
 
 // The verb of a word, where its lines are played.
 #[tactic(auto, unfolding(crate::specs::Lines::played_verb))]
@@ -70,7 +68,7 @@ pub fn read_line(alloc: Global, text: &[u8], place: &Place) -> Result<Line, Line
     ensures fits { IfOk result (FitsLine place.now.motes) }
     ensures played { IfOk result IsPlayed }
 {
-    if text.len() > LONGEST_LINE {
+    if text.len() > LONGEST {
         return Err(LineFault::Long);
     }
     match next_word(text) {

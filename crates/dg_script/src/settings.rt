@@ -4,14 +4,14 @@ ghost use Rattle.dg_script.specs.Words.{words_of};
 ghost use Rattle.dg_script.specs.Lines.{motes_of, golden_of, boards_of, link_of, image_of, cut_of, round_of, sweeps_of};
 ghost use Rattle.dg_script.specs.Reading.{Reads};
 
-use crate::content::{MOST_CONTENT, mask, name, sized_content};
+use crate::content::{mask, name, sized_content};
 use crate::fault::LineFault;
 use crate::fields::{counted, image_number, mote, motes, other_mote, sweeps, used, version};
 use crate::line::Line;
 use crate::place::Place;
 use crate::verbs::Verb;
 use crate::words::{four_words, next_word, one_word, three_words, two_words};
-use dg_base::Cut;
+use dg_base::{Cut, MOST_CONTENT};
 use dg_object::MOST_BYTES;
 use std::alloc::Global;
 

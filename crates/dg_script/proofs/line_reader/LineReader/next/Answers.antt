@@ -1,10 +1,10 @@
-use Rattle.std.proofs.Common.{◌≡◌, ◌+◌, ◌-◌, ℕ, List, ◌++◌, length, Option, Result, Ok, Err, None, Some, ◌∙◌, refl, sym, ap, subst, arith}
+use Rattle.std.proofs.Common.{◌≡◌, ◌-◌, ℕ, List, ◌++◌, length, Option, Result, Err, ◌∙◌, refl, sym, ap, subst, arith}
 use Rattle.dg_words.specs.Counts.{Rose}
 use Rattle.dg_base.specs.Outside.{Takes, AtEnd}
 use Rattle.dg_script.specs.declared.line_reader.ReadStop.{ReadStop as Stop}
 use Rattle.dg_script.specs.LineReading.{Reading, NextAnswer, most_kept}
 use Rattle.dg_script.proofs.ReaderLemmas.{part_long}
-use Rattle.dg_script.proofs.PassingLemmas.{few_used, few_kept, looking_begun, looking_on, looking_ends, looking_gives, looking_rest, looking_passes, looking_stops, stop_is, Looking}
+use Rattle.dg_script.proofs.PassingLemmas.{few_used, few_kept, looking_begun, looking_on, looking_gives, looking_rest, looking_passes, looking_stops, stop_is, Looking}
 use Rattle.dg_script.proofs.line_reader.LineReader.next.Goals as goal
 
 pub loop-init : goal.loop-init

@@ -1,4 +1,4 @@
-use Rattle.std.proofs.Common.{◌≡◌, ◌+◌, ℕ, List, ◌++◌, Err, None, Some, ◌∙◌, refl, sym, subst, arith}
+use Rattle.std.proofs.Common.{ℕ, List, ◌++◌, Err, ◌∙◌, refl, subst}
 use Rattle.dg_words.specs.Counts.{Rose}
 use Rattle.dg_base.specs.Outside.{Takes, AtEnd}
 use Rattle.dg_script.specs.LineReading.{NextAnswer}

@@ -1,0 +1,23 @@
+//! The bounds of scripts, and what they are. The function does nothing: its contract is the law.
+ghost use Rattle.std.specs.Prelude.{◌≡◌};
+ghost use Rattle.dg_script.specs.Sizes.{most_sweeps, most_line, most_kept, most_used_bytes};
+
+/// The most sweeps of one line.
+pub const MOST_SWEEPS: u32 = 1_000;
+
+/// The most bytes of a line's text.
+pub const LONGEST: usize = 300_000;
+
+/// The bytes that are kept at once: those of the longest line, with CR and LF behind them.
+pub const KEPT: usize = LONGEST + 2;
+
+/// The most bytes of an input that are used.
+pub const USED: usize = 16_777_216;
+
+/// The bounds are those of this profile: 1,000 sweeps in a line, lines of 300,000 bytes, and inputs of 16,777,216.
+pub fn a_script_has_these_bounds()
+    ensures sweeps { MOST_SWEEPS ≡ most_sweeps }
+    ensures line { LONGEST ≡ most_line }
+    ensures kept { KEPT ≡ most_kept }
+    ensures used { USED ≡ most_used_bytes }
+{}
