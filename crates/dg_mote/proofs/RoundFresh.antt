@@ -1,5 +1,5 @@
 -- A mote that has just started over a chip that was formatted.
-use Rattle.std.proofs.Common.{◌≡◌, ℕ, zero, suc, ◌&&◌, List, length, Option, Some, None, IfSome, get_or, refl, sym, arith, replicate}
+use Rattle.std.proofs.Common.{◌≡◌, ℕ, zero, suc, ◌-◌, ◌&&◌, List, length, Option, Some, None, IfSome, get_or, refl, sym, arith, replicate}
 use Rattle.std.proofs.lemmas.List.{take_all}
 use Rattle.std.specs.Ordering.{nat_cmp}
 use Rattle.std.specs.FinMap as map
@@ -8,7 +8,7 @@ use Rattle.dg_quiet.specs.Times.{request_window, packet_window}
 use Rattle.dg_trickle.specs.Steps.{started}
 use Rattle.dg_object.specs.Object.{Row, object}
 use Rattle.dg_slot.specs.Kept.{Held}
-use Rattle.dg_volume.specs.Sizes.{golden_version}
+use Rattle.dg_volume.specs.Sizes.{images, golden_version}
 use Rattle.dg_volume.specs.Store.{fresh, golden_row, held, held_whole}
 use Rattle.dg_volume.specs.Table.{row_at}
 use Rattle.dg_volume.specs.Agreement.{KeepsRow}
@@ -29,7 +29,7 @@ fresh_well table name bytes used in_table =
   where
     kept : KeepsRow table 0 (held_whole (golden_row name bytes)) → (i : ℕ) → IfSome (held (fresh name bytes used) i) (KeepsRow table i)
     kept golden zero = golden
-    kept golden (suc i) = nothing (KeepsRow table (suc i)) 3 i
+    kept golden (suc i) = nothing (KeepsRow table (suc i)) (images - 1) i
 
 pub fresh_drained : (name bytes : List ℕ) (used id now word : ℕ) → Drained (fresh_spot name bytes used id now word) now
 fresh_drained name bytes used id now word = record {

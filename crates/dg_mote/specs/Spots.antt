@@ -4,6 +4,7 @@ use Rattle.dg_nor.specs.Trail.{last}
 use Rattle.dg_object.specs.Object.{Row}
 use Rattle.dg_volume.specs.Store.{Store}
 use Rattle.dg_frame.specs.declared.Message.{Message}
+pub use Rattle.dg_rounds.specs.Rounds.{pace}
 use Rattle.dg_mote.specs.Model.{MoteState}
 use Rattle.dg_mote.specs.Hears.{by_message}
 use Rattle.dg_mote.specs.Effects.{Effect, tick_effect}
@@ -16,10 +17,6 @@ pub record Spot : Type 0 where
 -- its mote and its store agree with the table and are in time
 abbrev pub SpotIsWell : List Row → Spot → (now : ℕ) → Type 0
 SpotIsWell table x now = IsWell table x.mote x.store now
-
--- the milliseconds between two ticks of a round: more than any wait of a mote
-abbrev pub pace : ℕ
-pace = 131072
 
 abbrev pub mote_or : Option MoteState → MoteState → MoteState
 mote_or None before = before

@@ -10,7 +10,7 @@ ghost use Rattle.dg_volume.specs.Trails.{BeginsAt};
 ghost use Rattle.dg_frame.specs.Grammar.{message_of};
 ghost use Rattle.dg_frame.specs.Spelling.{frame_of, FitsTypes};
 ghost use Rattle.dg_frame.specs.declared.Message.{Message};
-ghost use Rattle.dg_mote.specs.Sizes.{outbox_bytes, buffered_bytes, most_buffered};
+ghost use Rattle.dg_mote.specs.Sizes.{outbox_bytes, buffered_bytes, BuffersFit, ValuesAreSmall};
 ghost use Rattle.dg_mote.specs.Model.{MoteState, begun, maintains};
 ghost use Rattle.dg_mote.specs.Ticks.{tick_of};
 ghost use Rattle.dg_mote.specs.Hears.{heard_of};
@@ -133,11 +133,13 @@ pub fn what_is_sent_is_read()
     one_spelling();
 }
 
-/// The fixed arrays of a mote and its calls have 244 bytes, and so no more than 256. Each frame that is read has room in
-/// the outbox.
+/// The outbox, the packet sets and the largest array of a call have 244 bytes. All arrays of bytes that are alive at once
+/// in a call have no more than 256, and beside the outbox and the sets no array lies in the value of a mote. Each frame
+/// that is read has room in the outbox.
 pub fn a_mote_buffers_little()
     ensures counted { buffered_bytes ≡ 244 }
-    ensures few { buffered_bytes ≤ most_buffered }
+    ensures alive { BuffersFit }
+    ensures values { ValuesAreSmall }
     ensures frames { (bytes : List ℕ) (message : Message) → message_of bytes ≡ Ok message → length bytes ≤ outbox_bytes }
 {
     one_reading();

@@ -22,8 +22,8 @@ pub use laws::{
     a_mote_buffers_little, a_mote_keeps_agreement, a_mote_keeps_consistency, a_mote_stays_timely,
     a_mote_stays_well, steps_begin, what_is_sent_is_read,
 };
-pub use mote::{Did, Heard, Mode, Mote};
-pub use outbox::Outbox;
+pub use mote::{Did, Heard, MOTE_SIZE, Mode, Mote};
+pub use outbox::{OUTBOX_SIZE, Outbox};
 pub use rounds::{
     a_drained_mote_advertises, a_drained_mote_asks, a_drained_mote_rests, a_drained_mote_serves,
     a_fresh_mote_is_drained, a_mote_drains, a_page_comes, ticks_take_few_commits,

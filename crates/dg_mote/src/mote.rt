@@ -14,16 +14,20 @@ use dg_send::Serving;
 use dg_slot::PageJob;
 use dg_trickle::Trickle;
 use dg_volume::Volume;
-use std::mem;
+use std::mem::{self, size_of};
 
-/// The packet sets that a mote keeps: those that came, or those that it owes, and those that a frame asks for.
+/// The packet sets of a mote: as it asks it knows what came in two of them, and as it serves, what it owes and what is
+/// asked for.
 const SETS: usize = 2;
 
-/// The bytes of the arrays in which a slot is read: pages are compared in pieces of this many bytes.
+/// The bytes of the largest array of a call: the piece in which a start copies a page.
 const SCRATCH_BYTES: usize = 184;
 
-/// The bytes of the fixed arrays that a mote and its calls use.
+/// The bytes of the outbox, the packet sets and the largest array of a call.
 const BUFFERED: u32 = (FRAME_BYTES + SETS * SET_BYTES + SCRATCH_BYTES) as u32;
+
+/// The bytes that the value of a mote takes in memory.
+pub const MOTE_SIZE: usize = size_of::<Mote>();
 
 /// What a mote is about.
 #[derive(Drop)]
@@ -147,7 +151,8 @@ impl Mote {
         self.id
     }
 
-    /// The bytes of the fixed arrays that a mote and its calls use: the outbox, two packet sets, and the scratch.
+    /// The bytes of the outbox, of two packet sets in the form that a frame gives them, and of the largest array that a
+    /// call uses.
     pub fn buffered(&self) -> u32
         ensures { result ≡ buffered_bytes }
     {

@@ -5,6 +5,10 @@ ghost use Rattle.dg_frame.specs.Spelling.{frame_of};
 ghost use Rattle.dg_mote.specs.Motes.{sent_in, IsRead};
 
 use dg_frame::{Frame, Message, write};
+use std::mem::size_of;
+
+/// The bytes that the value of an outbox takes in memory.
+pub const OUTBOX_SIZE: usize = size_of::<Outbox>();
 
 /// At most one frame.
 #[derive(Drop)]

@@ -1,5 +1,21 @@
+use Rattle.std.proofs.Common.{arith}
 use Rattle.dg_mote.proofs.ReadLemmas.{frame_short}
 use Rattle.dg_mote.proofs.laws.a_mote_buffers_little.Goals as goal
+
+pub returns-clause-alive : goal.returns-clause-alive
+returns-clause-alive c = record {
+  largest = omega arith;
+  sending = omega arith;
+  asking = omega arith;
+  committing = omega arith;
+  taking = omega arith;
+  comparing = omega arith;
+  testing = omega arith;
+  copying = omega arith;
+}
+
+pub returns-clause-values : goal.returns-clause-values
+returns-clause-values c = record { mote = omega arith; outbox = omega arith }
 
 pub returns-clause-frames : goal.returns-clause-frames
 returns-clause-frames c = frame_short c.one_reading.ensures.reading
