@@ -1,11 +1,12 @@
 -- Ticks and frames over consistent stores, whatever the frames carry.
 use Rattle.std.proofs.Common.{◌≡◌, ℕ, ◌<◌, ◌≤◌, Bool, true, false, ◌&&◌, List, length, Option, Some, None, Result, Ok, Err, refl, sym, subst, arith, option_map, ◌∙◌}
-use Rattle.std.specs.Prelude.{◌==◌, nat_le, nat_lt}
+use Rattle.std.specs.Prelude.{◌==◌, nat_le, nat_lt, IfOk, OnOk, OnErr}
 use Rattle.std.proofs.Math.ListN.{length-set}
 use Rattle.std.proofs.lemmas.Bool.{cond_both}
 use Rattle.std.specs.FinSet as set
 use Rattle.dg_bits.specs.Sets.{Numbers}
 use Rattle.dg_nor.specs.Trail.{Trail, Leaves, last, joined, resting, stepping}
+use Rattle.dg_nor.specs.Device.{Device}
 use Rattle.dg_nor.specs.Through.{Through}
 use Rattle.dg_nor.proofs.ThroughLemmas.{Through-joined, Through-resting, Through-stepping, Through-last, Leaves-through}
 use Rattle.dg_control.specs.Store.{commit_operations}
@@ -31,6 +32,7 @@ use Rattle.dg_volume.specs.Store.{Store, IsNear, held}
 use Rattle.dg_volume.specs.Changes.{paged, ordered, gesture_cleared, is_version}
 use Rattle.dg_volume.specs.Trails.{order_trail, clear_trail, take_trail}
 use Rattle.dg_volume.specs.Start.{order_waits}
+use Rattle.dg_volume.specs.Acts.{Stops}
 use Rattle.dg_volume.specs.Consistent.{Consistent}
 use Rattle.dg_frame.specs.Grammar.{message_of}
 use Rattle.dg_frame.specs.Sizes.{frame_images}
@@ -45,7 +47,9 @@ use Rattle.dg_mote.specs.Adverts.{outline, heed_trail, ask_trail, asks, asking, 
 use Rattle.dg_mote.specs.Requests.{concerns, can_serve, is_served, to_it, on_request}
 use Rattle.dg_mote.specs.Packets.{is_wanted, accepted, seal_by, takes, on_packet}
 use Rattle.dg_mote.specs.Hears.{source_of, on_message, by_message, heard_of}
-use Rattle.dg_mote.specs.Consistency.{AsksForKnown, StoreIsConsistent, TurnIsConsistent}
+use Rattle.dg_mote.specs.Consistency.{AsksForKnown, StoreIsConsistent, TurnIsConsistent, ChipIsConsistent, MoteIsConsistent}
+use Rattle.dg_mote.specs.Motes.{IsMote, Done}
+use Rattle.dg_mote.specs.declared.mote.Mote.{Mote}
 use Rattle.dg_mote.specs.declared.mote.Did.{Did}
 use Rattle.dg_mote.specs.declared.mote.Heard.{Heard}
 use Rattle.dg_mote.proofs.ReadLemmas.{IsWellRead, HasShape, well_read}
@@ -248,3 +252,43 @@ near_consistent golden a s p near = subst (λ (x : Store). StoreIsConsistent gol
 
 pub stopped_consistent : (golden : Row) (t : Trail Store) (k : ℕ) (s : Store) → Through (StoreIsConsistent golden) t → Leaves IsNear t k s → StoreIsConsistent golden s
 stopped_consistent golden t k s way left = Leaves-through IsNear (StoreIsConsistent golden) (near_consistent golden) t k s way left
+
+-- ---- over the bytes of a chip
+
+-- a call that did what the rules say
+pub turn_consistent : {T E : Type 0} (golden : Row) (turn : MoteState → Store → Turn T) → ((m : MoteState) (s : Store) → StoreIsConsistent golden s → AsksForKnown m.mode → TurnIsConsistent golden (turn m s))
+    → (r : Result T E) (a b : Device) (v u : Mote) → IfOk r (λ x. (m : MoteState) (s : Store) → IsMote a.image v m s → Done (turn m s) a b u x) → OnOk r (MoteIsConsistent golden a.image v → MoteIsConsistent golden b.image u)
+turn_consistent golden turn law (Ok x) a b v u done = λ here.
+    let t = law here.state here.store here.consistent here.asks in
+    let d = done here.state here.store here.stands in
+    record {
+      state = (turn here.state here.store).mote;
+      store = last (turn here.state here.store).trail;
+      stands = d.mote;
+      consistent = Through-last (StoreIsConsistent golden) (turn here.state here.store).trail t.way;
+      asks = t.asks;
+    }
+turn_consistent golden turn law (Err e) a b v u done = tt
+
+-- one that was stopped
+pub stop_consistent : {T E : Type 0} (golden : Row) (turn : MoteState → Store → Turn T) → ((m : MoteState) (s : Store) → StoreIsConsistent golden s → AsksForKnown m.mode → TurnIsConsistent golden (turn m s))
+    → ((t : Trail Store) (k : ℕ) (s : Store) → Through (StoreIsConsistent golden) t → Leaves IsNear t k s → StoreIsConsistent golden s)
+    → (r : Result T E) (a b : Device) (v : Mote) → OnErr r ((m : MoteState) (s : Store) → IsMote a.image v m s → Stops (turn m s).trail a b) → OnErr r (MoteIsConsistent golden a.image v → ChipIsConsistent golden b.image)
+stop_consistent golden turn law stopped (Ok x) a b v stops = tt
+stop_consistent golden turn law stopped (Err e) a b v stops = λ here.
+    let t = law here.state here.store here.consistent here.asks in
+    let leaves = (stops here.state here.store here.stands).leaves in
+    record {
+      store = leaves.store;
+      stands = leaves.stands_for;
+      consistent = stopped (turn here.state here.store).trail (stops here.state here.store here.stands).done leaves.store t.way leaves.allowed;
+    }
+
+-- what holds for each golden, holds where a call answered so
+pub on_each : {T E A : Type 0} (P : A → Type 0) (r : Result T E) → ((a : A) → OnOk r (P a)) → OnOk r ((a : A) → P a)
+on_each P (Ok x) each = each
+on_each P (Err e) each = tt
+
+pub on_each_err : {T E A : Type 0} (P : A → Type 0) (r : Result T E) → ((a : A) → OnErr r (P a)) → OnErr r ((a : A) → P a)
+on_each_err P (Ok x) each = tt
+on_each_err P (Err e) each = each

@@ -10,7 +10,6 @@ pub mod Effects
 pub mod Timely
 pub mod Agreement
 pub mod Well
-pub mod Consistency
 pub mod Speaking
 pub mod Changes
 pub mod Rules
@@ -18,5 +17,6 @@ pub mod Spots
 pub mod Drained
 pub mod Completing
 pub mod Motes
+pub mod Consistency
 pub mod Hearing
 pub mod Shows

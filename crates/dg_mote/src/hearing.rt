@@ -1,14 +1,17 @@
 //! What a mote does that hears a frame.
-ghost use Rattle.std.specs.Prelude.{◌≡◌, ℕ, ◌<◌, ◌^◌, Ok, IfOk, OnErr};
+ghost use Rattle.std.specs.Prelude.{◌≡◌, ℕ, ◌<◌, ◌^◌, Ok, IfOk, OnOk, OnErr};
 ghost use Rattle.dg_frame.specs.Ranges.{IsInRange};
+ghost use Rattle.dg_object.specs.Object.{Row};
 ghost use Rattle.dg_volume.specs.Store.{Store};
 ghost use Rattle.dg_volume.specs.Acts.{Stops};
 ghost use Rattle.dg_mote.specs.Model.{MoteState};
 ghost use Rattle.dg_mote.specs.Hears.{source_of, by_message, heard_of};
 ghost use Rattle.dg_mote.specs.Timely.{Timely};
 ghost use Rattle.dg_mote.specs.Motes.{IsMote, Done};
+ghost use Rattle.dg_mote.specs.Consistency.{ChipIsConsistent, MoteIsConsistent};
 ghost use Rattle.dg_mote.specs.Hearing.{StaysIf};
 
+use crate::laws::a_mote_keeps_consistency;
 use crate::requests::PageName;
 use crate::{Heard, Mote};
 use dg_frame::{Message, read};
@@ -40,7 +43,11 @@ impl Mote {
         ensures same_reference { (N.device nor.new).references ≡ (N.device nor.old).references }
         ensures stopped { OnErr result ((m : MoteState) (s : Store) → IsMote (N.device nor.old).image self.old m s
             → Stops (heard_of m s now word bytes.now).trail (N.device nor.old) (N.device nor.new)) }
+        // whatever is heard: a consistent chip stays so, also where it stops
+        ensures consistent { OnOk result ((golden : Row) → MoteIsConsistent golden (N.device nor.old).image self.old → MoteIsConsistent golden (N.device nor.new).image self.new) }
+        ensures stops_consistent { OnErr result ((golden : Row) → MoteIsConsistent golden (N.device nor.old).image self.old → ChipIsConsistent golden (N.device nor.new).image) }
     {
+        a_mote_keeps_consistency();
         match read(bytes) {
             Err(fault) => Ok(Heard::Refused(fault)),
             Ok(message) => self.hear_message(nor, now, word, message),

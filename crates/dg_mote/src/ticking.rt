@@ -7,6 +7,7 @@ ghost use Rattle.dg_slot.specs.Layout.{slots, most_pages, packets, page_sector};
 ghost use Rattle.dg_slot.specs.Pages.{packet_in};
 ghost use Rattle.dg_slot.specs.Kept.{Held};
 ghost use Rattle.dg_slot.specs.Jobs.{outline_told, done_told, slot_of};
+ghost use Rattle.dg_object.specs.Object.{Row};
 ghost use Rattle.dg_volume.specs.Store.{Store};
 ghost use Rattle.dg_volume.specs.Told.{told};
 ghost use Rattle.dg_volume.specs.Stands.{Tells, IsMounted};
@@ -17,8 +18,10 @@ ghost use Rattle.dg_mote.specs.Model.{MoteState, Maintain};
 ghost use Rattle.dg_mote.specs.Ticks.{clears, maintain_tick, mode_tick, tick_of};
 ghost use Rattle.dg_mote.specs.Timely.{Timely};
 ghost use Rattle.dg_mote.specs.Motes.{IsMote, Done, sent_in, IsRead};
+ghost use Rattle.dg_mote.specs.Consistency.{ChipIsConsistent, MoteIsConsistent};
 ghost use Rattle.dg_mote.specs.Shows.{Shows};
 
+use crate::laws::a_mote_keeps_consistency;
 use crate::summary::advert_message;
 use crate::{Did, Mode, Mote, Outbox};
 use dg_bits::PageBits;
@@ -63,7 +66,11 @@ impl Mote {
         ensures stopped { OnErr result ((m : MoteState) (s : Store) → IsMote (N.device nor.old).image self.old m s
             → Stops (tick_of m s now word).trail (N.device nor.old) (N.device nor.new)) }
         ensures nothing_sent { OnErr result (sent_in out.new ≡ None) }
+        // whatever was heard before: a consistent chip stays so, also where it stops
+        ensures consistent { OnOk result ((golden : Row) → MoteIsConsistent golden (N.device nor.old).image self.old → MoteIsConsistent golden (N.device nor.new).image self.new) }
+        ensures stops_consistent { OnErr result ((golden : Row) → MoteIsConsistent golden (N.device nor.old).image self.old → ChipIsConsistent golden (N.device nor.new).image) }
     {
+        a_mote_keeps_consistency();
         if self.clears(now) {
             self.volume.clear_gesture(nor)?;
             return Ok(Did::Idle);

@@ -7,9 +7,11 @@ use Rattle.dg_volume.specs.Acts.{Stops}
 use Rattle.dg_mote.specs.Model.{MoteState, Turn}
 use Rattle.dg_mote.specs.Hears.{by_message, heard_of}
 use Rattle.dg_mote.specs.Motes.{Done}
+use Rattle.dg_nor.specs.declared.device.Stopped.{Stopped}
 use Rattle.dg_mote.specs.declared.mote.Heard.{Heard}
 use Rattle.dg_mote.specs.declared.mote.Heard.TheVariants as heard
 use Rattle.dg_mote.proofs.ServeLemmas.{rests_done, if_ok, on_err}
+use Rattle.dg_mote.proofs.ConsistentLemmas.{turn_consistent, stop_consistent, on_each, on_each_err}
 use Rattle.dg_mote.proofs.mote.Mote.hear.Goals as goal
 
 heard_is : (m : MoteState) (s : Store) (now word : ℕ) (bytes : List ℕ) (r : Result Message FrameFault) → r ≡ message_of bytes → by_message r m s now word ≡ heard_of m s now word bytes
@@ -35,3 +37,22 @@ returns-in-Ok-clause-stopped g c = on_err c.hear_message.result c.hear_message.e
     let a = g.N.Nor.device c.args.nor.now in
     let b = g.N.Nor.device c.hear_message.new.nor in
     subst (λ (t : Turn Heard). Stops t.trail a b) (heard_is m s c.args.now c.args.word c.args.bytes.now (Ok c.in-Ok.message) (sym c.in-Ok.is ∙ c.read.ensures.value)) (stopped m s is))
+
+pub returns-in-Err-clause-consistent : goal.returns-in-Err-clause-consistent
+returns-in-Err-clause-consistent g c = λ golden.
+    let a = g.N.Nor.device c.args.nor.now in
+    let r : Result Heard Stopped = Ok (heard.Refused c.in-Err.fault) in
+    turn_consistent golden (λ m s. heard_of m s c.args.now c.args.word c.args.bytes.now) (λ m s. c.a_mote_keeps_consistency.ensures.heard golden m s c.args.now c.args.word c.args.bytes.now) r a a c.args.self.now c.args.self.now (returns-in-Err-clause-done g c)
+
+pub returns-in-Ok-clause-consistent : goal.returns-in-Ok-clause-consistent
+returns-in-Ok-clause-consistent g c = on_each _ c.hear_message.result (λ golden.
+    let a = g.N.Nor.device c.args.nor.now in
+    let b = g.N.Nor.device c.hear_message.new.nor in
+    turn_consistent golden (λ m s. heard_of m s c.args.now c.args.word c.args.bytes.now) (λ m s. c.a_mote_keeps_consistency.ensures.heard golden m s c.args.now c.args.word c.args.bytes.now) c.hear_message.result a b c.args.self.now c.hear_message.new.self (returns-in-Ok-clause-done g c))
+
+pub returns-in-Ok-clause-stops_consistent : goal.returns-in-Ok-clause-stops_consistent
+returns-in-Ok-clause-stops_consistent g c = on_each_err _ c.hear_message.result (λ golden.
+    let a = g.N.Nor.device c.args.nor.now in
+    let b = g.N.Nor.device c.hear_message.new.nor in
+    stop_consistent golden (λ m s. heard_of m s c.args.now c.args.word c.args.bytes.now) (λ m s. c.a_mote_keeps_consistency.ensures.heard golden m s c.args.now c.args.word c.args.bytes.now) (c.a_mote_keeps_consistency.ensures.stopped golden) c.hear_message.result a b c.args.self.now
+    (returns-in-Ok-clause-stopped g c))
