@@ -96,18 +96,16 @@ heard_last w from to now word (Some f) = hear_by w (store_at w to) (site w to).r
 
 -- ---- injections and orders
 
-abbrev pub cause_of : InjectFault → Cause
-cause_of inject.Stopped = cause.Empty
-cause_of inject.Empty = cause.Empty
-cause_of inject.TooLarge = cause.TooLarge 0
-cause_of (inject.Stale kept) = cause.Stale kept
-cause_of inject.Reserved = cause.Reserved
-cause_of (inject.Worn room) = cause.Worn room
-cause_of inject.Taken = cause.Taken
-
+-- The cause that is told of a refused injection. `inject_refusal` never says Stopped, since a stop is no refusal: a board
+-- that stops ends the run, and nothing is told of the event. So the first line is for no event.
 abbrev pub inject_cause : Row → InjectFault → Cause
+inject_cause row inject.Stopped = cause.Empty
+inject_cause row inject.Empty = cause.Empty
 inject_cause row inject.TooLarge = cause.TooLarge (length row.bytes)
-inject_cause row fault = cause_of fault
+inject_cause row (inject.Stale kept) = cause.Stale kept
+inject_cause row inject.Reserved = cause.Reserved
+inject_cause row (inject.Worn room) = cause.Worn room
+inject_cause row inject.Taken = cause.Taken
 
 -- a mote that is on goes on with its new volume
 abbrev pub reloaded : Option Running → (now word : ℕ) → Option Running
@@ -125,6 +123,7 @@ abbrev pub inject_row : World → ℕ → Option Row → (now word : ℕ) → Do
 inject_row w m None now word = Refuses cause.Image
 inject_row w m (Some row) now word = inject_unless (inject_refusal (store_at w m) row) w m row now word
 
+-- The cause that is told of a refused order. `order_refusal` never says Stopped either.
 abbrev pub order_cause : OrderFault → Cause
 order_cause order_fault.Stopped = cause.Empty
 order_cause (order_fault.Worn room) = cause.Worn room
