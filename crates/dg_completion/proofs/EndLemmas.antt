@@ -1,5 +1,5 @@
 -- What is played to its end with a rest.
-use Rattle.std.proofs.Common.{◌≡◌, ℕ, zero, suc, ◌+◌, ◌<◌, ◌&&◌, ◌||◌, cond, eqb, List, [], ◌∷◌, ◌++◌, length, replicate, Option, Some, None, refl, sym, ap, subst, ◌∙◌}
+use Rattle.std.proofs.Common.{◌≡◌, ℕ, zero, suc, ◌+◌, ◌<◌, ◌&&◌, ◌||◌, cond, eqb, List, [], ◌∷◌, ◌++◌, drop, length, replicate, Option, Some, None, refl, sym, ap, subst, ◌∙◌}
 use Rattle.std.specs.List.{AllByRecursion, list_any}
 use Rattle.dg_object.specs.Object.{Row}
 use Rattle.dg_nor.specs.Trail.{last}
@@ -14,16 +14,17 @@ use Rattle.dg_rules.specs.Steps.{WorldStep, StepDoes, and_sent, declared_as}
 use Rattle.dg_rules.specs.Runs.{Played, ItemStep, Plays}
 use Rattle.dg_rules.specs.Premises.{WorldAgrees, IsInRange, IsHonestThen, LeavesAgreement}
 use Rattle.dg_rules.specs.Golden.{PlaysGolden}
-use Rattle.dg_rounds.specs.Rounds.{times, rounds_of}
+use Rattle.dg_rounds.specs.Rounds.{round, times, rounds_of, paced}
 use Rattle.dg_base.specs.declared.events.Event.{Event}
 use Rattle.dg_base.specs.declared.events.Event.TheVariants.{Tick, Hear, Last, Reset, Inject, Order as OrderEvent, Frame}
 use Rattle.dg_base.specs.declared.events.Step.{Step}
 use Rattle.dg_script.specs.declared.report.Cause.TheVariants as cause
 use Rattle.dg_script.specs.declared.report.Report.{Report}
 use Rattle.dg_completion.specs.Rests.{IsFree}
-use Rattle.dg_completion.specs.Completion.{Follows, FreeLaw, newest, within, IsHops, IsEnoughFor, IsEnoughOver, Rests, PipelineLaw, CompletionLaw}
+use Rattle.dg_completion.specs.Completion.{Follows, FreeLaw, newest, within, IsHops, IsEnoughFor, IsEnoughOver, Rests, IsOn, RoundLaw, PipelineLaw, CompletionLaw}
 use Rattle.dg_completion.specs.Ends.{event_in, events_of, IsUncutItem, IsUncut, PlayedLaw, EndsInRest, EndsLaw, EndsPipelineLaw}
-use Rattle.dg_completion.proofs.GrowLemmas.{rounds_free}
+use Rattle.dg_completion.specs.Played.{Passes, DrainedLaw, RoundsBring, RoundsLaw}
+use Rattle.dg_completion.proofs.GrowLemmas.{all_append, all_replicate, round_free, rounds_free}
 
 -- ---- the front and the rest of what was played
 
@@ -263,3 +264,83 @@ module _
 
 pub played : PlayedLaw
 played ps w v uncut free run = follows v.declared ps w v run uncut free
+
+-- ---- rounds, wherever they were played
+
+plays_join : (xs ys : List Played) (w u v : World) → Plays w xs u → Plays u ys v → Plays w (xs ++ ys) v
+unfolding Plays
+plays_join [] ys w u v a b = subst (λ (z : World). Plays z ys v) (sym a) b
+plays_join (x ∷ xs) ys w u v a b = (a.0, a.1, plays_join xs ys x.after u v a.2 b)
+
+-- what has an event begins in one world
+starts_same : (ps : List Played) (e : Event) (more : List Event) (u w x v : World) → events_of ps ≡ e ∷ more → Plays u ps x → Plays w ps v → u ≡ w
+unfolding Plays events_of
+starts_same [] e more u w x v some a b = absurd (let f : [] ≡ e ∷ more = some in cc)
+starts_same (p ∷ ps) e more u w x v some a b = sym a.0 ∙ b.0
+
+-- of nothing no event was played
+none_passes : {A : Type 0} (w v : World) (e : Event) (more : List Event) → Passes [] w (e ∷ more) v → A
+unfolding events_of
+none_passes w v e more p = by_parts p.before p.part p.parts p.events
+  where
+    by_parts : {A : Type 0} (before part : List Played) → [] ≡ before ++ (part ++ p.behind) → events_of part ≡ e ∷ more → A
+    by_parts [] [] parts events = absurd (let f : [] ≡ e ∷ more = events in cc)
+    by_parts [] (q ∷ qs) parts events = absurd (let f : [] ≡ q ∷ (qs ++ p.behind) = parts in cc)
+    by_parts (q ∷ qs) part parts events = absurd (let f : [] ≡ q ∷ (qs ++ (part ++ p.behind)) = parts in cc)
+
+-- from a world that agrees with its table, which may have declared more, the events lead on
+record LeadsOn (w : World) (es : List Event) (v : World) : Type 0 where
+  good : WorldAgrees (declaring v.declared w)
+  run : Follows (declaring v.declared w) es v
+
+module _
+    (agrees : (name bytes : List ℕ) (used motes : ℕ) (links : List (ℕ × ℕ)) (played : List Played) (v : World) → PlaysGolden name bytes used motes links played v
+    → AllByRecursion IsHonestThen played → AllByRecursion LeavesAgreement played × WorldAgrees v)
+    (free : FreeLaw) where
+  passes_on : (name bytes : List ℕ) (used motes : ℕ) (links : List (ℕ × ℕ)) (played : List Played) (end w v : World) (e : Event) (more : List Event) → PlaysGolden name bytes used motes links played end
+      → AllByRecursion IsHonestThen played → AllByRecursion IsFree (e ∷ more) → Passes played w (e ∷ more) v → LeadsOn w (e ∷ more) v
+  passes_on name bytes used motes links played end w v e more script honest all p =
+      let begins : World = first_world (golden_row name bytes ∷ []) links (replicate motes (fresh name bytes used)) in
+      let rest = p.part ++ p.behind in
+      let whole = plays_split p.before rest begins end (subst (λ ps. Plays begins ps end) p.parts script.plays) in
+      let here = plays_split p.part p.behind whole.0 end whole.2 in
+      let to_w : Plays begins p.before w = subst (Plays begins p.before) (starts_same p.part e more whole.0 w here.0 v p.events here.1 p.run) whole.1 in
+      let to_v : Plays begins (p.before ++ p.part) v = plays_join p.before p.part begins w v to_w p.run in
+      let honest_all = subst (AllByRecursion IsHonestThen) p.parts honest in
+      let range_all = subst (AllByRecursion (IsInRange motes)) p.parts script.ranges in
+      let honest_w = front IsHonestThen p.before rest honest_all in
+      let range_w = front (IsInRange motes) p.before rest range_all in
+      let honest_v = all_append IsHonestThen p.before p.part honest_w (front IsHonestThen p.part p.behind (behind IsHonestThen p.before rest honest_all)) in
+      let range_v = all_append (IsInRange motes) p.before p.part range_w (front (IsInRange motes) p.part p.behind (behind (IsInRange motes) p.before rest range_all)) in
+      let at_w = agrees name bytes used motes links p.before w (record { is_row = script.is_row; plays = to_w; few = script.few; links_fit = script.links_fit; ranges = range_w }) honest_w in
+      let at_v = agrees name bytes used motes links (p.before ++ p.part) v (record { is_row = script.is_row; plays = to_v; few = script.few; links_fit = script.links_fit; ranges = range_v }) honest_v in
+      let all_part = subst (AllByRecursion IsFree) (sym p.events) all in
+      let stays = plays_stay free p.part w v at_w.1 p.run (behind LeavesAgreement p.before p.part at_v.0) p.uncut all_part in
+      record {
+        good = declaring_agrees w v at_w.1 at_v.1 stays.table;
+        run = subst (λ es. Follows (declaring v.declared w) es v) p.events (follows v.declared p.part w v p.run p.uncut all_part);
+      }
+
+  on_too : (w v : World) (m : ℕ) → IsOn w m → IsOn (declaring v.declared w) m
+  on_too w v m on = record { running = on.running; runs = on.runs }
+
+  pub rounds_bring : DrainedLaw → RoundLaw → RoundsLaw
+  unfolding round
+  rounds_bring drained raises name bytes used motes links played end script honest =
+      record {
+        rests = λ w v m t.
+            let l = passes_on name bytes used motes links played end w v (paced m) (replicate 49 (paced m)) script honest (all_replicate IsFree 50 (paced m) refl) t.passes in
+            let r = drained (declaring v.declared w) v m l.good t.there (on_too w v m t.on) l.run t.room in
+            record { running = r.running; runs = r.runs; drained = r.drained; kept = r.kept; others = r.others };
+        raises = λ w v a b i r ahead.
+            let l = passes_on name bytes used motes links played end w v (paced a) (drop 1 (round a b)) script honest (round_free a b) r.passes in
+            let d = raises (declaring v.declared w) v a b i l.good r.near (on_too w v a r.on_a) (on_too w v b r.on_b) l.run r.room_a r.room_b ahead in
+            record { raises = d.0; kept = d.1; others = d.2 };
+      }
+
+pub none_bring : RoundsBring []
+unfolding round
+none_bring = record {
+  rests = λ w v m t. none_passes w v (paced m) (replicate 49 (paced m)) t.passes;
+  raises = λ w v a b i r ahead. none_passes w v (paced a) (drop 1 (round a b)) r.passes;
+}

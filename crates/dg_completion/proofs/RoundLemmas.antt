@@ -37,6 +37,7 @@ use Rattle.dg_script.specs.declared.report.Report.{Report}
 use Rattle.dg_script.specs.declared.report.Cause.TheVariants as cause
 use Rattle.dg_completion.specs.Rests.{IsFree}
 use Rattle.dg_completion.specs.Completion.{Follows, Grows, IsOn, HasRoomAt, is_ahead, least_ahead, RoundLaw, Raises, RaisedFrom}
+use Rattle.dg_completion.specs.Played.{DrainedLaw}
 use Rattle.dg_completion.proofs.GrowLemmas.{free_grows, follows_split, all_append, all_replicate, all_times, link_ends}
 use Rattle.dg_completion.proofs.WalkLemmas.{Spelled, WalkLaws, said_at, well_at, IsTold, At, Beside, Walks, made, made_site, made_beside, newer_frame, frame_told, tick_walks, ticks_walk}
 
@@ -372,3 +373,21 @@ module _ (laws : WalkLaws) (drain : DrainLaw) (advert : AdvertLaw) (ask : AskLaw
       second w w3 w4 v a b i x1 x2 z1 z2 e4.3 (omega (arith, k4.moment)) other link (g3.links ∙ g2.links ∙ g1.links) g4 g3.good
       (subst (At w3 a) refl k3.at) k4.beside k4.at l3.store l3.id id_a id_b (drained_later x2 (w2.moment + 3 * pace) w3.moment (omega (arith, k3.moment)) l3.drained)
       l4.0 l4.1 l4.2 l1.kept l2.kept (between_first a b w w1 w3 k1.beside (between_second a b w1 w2 w3 k2.beside (between_first a b w2 w3 w3 k3.beside (between_none a b w3))))
+
+-- ---- the first ticks of a round
+
+pub ticks_drain : WalkLaws → DrainLaw → DrainedLaw
+ticks_drain laws drain w v m good there on run room =
+    let x : Spot = record { store = store_at w m; mote = on.running.mote } in
+    let at = at_on w m there on in
+    let k = ticks_walk laws 50 w v m x None good at tt run in
+    let y = after_ticks 50 x w.moment in
+    let store : store_at v m ≡ y.store = store_at_is v m y k.at in
+    let l = drain w.table x w.moment good.table (well_at w m x good at).well (omega (arith, room, ap (λ (s : Store). s.room) store)) in
+    record {
+      running = record { key = k.at.key; mote = y.mote };
+      runs = ap (λ (s : Site). s.runs) k.at.site_is;
+      drained = subst (λ (s : Store). Drained (record { store = s; mote = y.mote }) v.moment) (sym store) (drained_later y (w.moment + 50 * pace) v.moment (omega (arith, k.moment)) l.drained);
+      kept = λ j. ap (λ (s : Store). held s j) store ∙ l.kept j;
+      others = λ j h. k.beside.others j h;
+    }

@@ -3,3 +3,4 @@ pub mod Completion
 pub mod Holders
 pub mod Ends
 pub mod Met
+pub mod Played

@@ -1,5 +1,5 @@
 //! What rounds and sweeps bring about in a world. These functions do nothing: their contracts are the laws.
-ghost use Rattle.std.specs.Prelude.{ℕ, ◌+◌, List, ◌++◌};
+ghost use Rattle.std.specs.Prelude.{ℕ, ◌+◌, List, [], ◌++◌};
 ghost use Rattle.std.specs.List.{AllByRecursion};
 ghost use Rattle.dg_base.specs.declared.events.Event.{Event};
 ghost use Rattle.dg_rounds.specs.Rounds.{sweep, times};
@@ -8,6 +8,7 @@ ghost use Rattle.dg_completion.specs.Completion.{FreeLaw, RoundLaw, PipelineLaw,
 ghost use Rattle.dg_completion.specs.Holders.{WithinLaw, EnoughLaw, OneEnoughLaw};
 ghost use Rattle.dg_completion.specs.Ends.{PlayedLaw, EndsLaw, EndsPipelineLaw};
 ghost use Rattle.dg_completion.specs.Met.{HappensLaw, SpendLaw, MetLaw, GoesOnLaw};
+ghost use Rattle.dg_completion.specs.Played.{DrainedLaw, RoundsBring, RoundsLaw};
 
 use dg_mote::{
     a_drained_mote_advertises, a_drained_mote_asks, a_drained_mote_serves, a_mote_drains,
@@ -55,6 +56,16 @@ pub fn a_round_raises()
     a_page_comes();
 }
 
+/// The 50 ticks with which a round begins bring a mote to rest: it is drained then, and keeps what it kept.
+pub fn a_round_brings_a_mote_to_rest()
+    ensures { DrainedLaw }
+{
+    a_free_event_keeps_a_good_world();
+    a_mote_stays_well();
+    what_is_sent_is_read();
+    a_mote_drains();
+}
+
 /// In a rest each sweep brings every page one link further: after t sweeps a mote within j links of a whole image has
 /// t + 1 - j pages of it, where every smaller image is whole everywhere.
 pub fn sweeps_fill_the_pipeline()
@@ -93,6 +104,19 @@ pub fn scripts_end_complete()
     scripts_with_golden();
     sweeps_fill_the_pipeline();
     enough_sweeps_complete();
+}
+
+/// Wherever a round was played of a script with golden, over honest frames, and no power was cut in it: its first ticks
+/// brought its mote to rest, and a whole one brought the second mote a page of the least image in which the first was
+/// ahead.
+pub fn rounds_of_scripts_bring_pages()
+    ensures brings { RoundsLaw }
+    ensures nothing { RoundsBring [] }
+{
+    a_free_event_keeps_a_good_world();
+    scripts_with_golden();
+    a_round_brings_a_mote_to_rest();
+    a_round_raises();
 }
 
 /// From a world that agrees with its table a tick or a heard frame always leads to a world. It makes no more than three
