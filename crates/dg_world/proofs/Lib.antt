@@ -10,6 +10,7 @@ pub mod SameLemmas
 pub mod TickLemmas
 pub mod InjectLemmas
 pub mod HappenLemmas
+pub mod UnseenLemmas
 pub mod CutLemmas
 pub mod BoardLemmas
 pub mod CountLemmas
@@ -18,3 +19,4 @@ pub mod StepLemmas
 pub mod DoneLemmas
 pub mod FinishLemmas
 pub mod PlaceLemmas
+pub mod SoundLemmas

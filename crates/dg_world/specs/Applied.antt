@@ -6,7 +6,10 @@ use Rattle.dg_nor.specs.Device.{Device, Endures}
 use Rattle.dg_nor.specs.Fuse.{beneath_of}
 use Rattle.dg_nor.specs.Trail.{operations, MayLeave}
 use Rattle.dg_slot.specs.Pages.{program}
-use Rattle.dg_volume.specs.Store.{IsNear}
+use Rattle.dg_object.specs.Object.{Row}
+use Rattle.dg_volume.specs.Store.{Store, IsNear}
+use Rattle.dg_volume.specs.Consistent.{Consistent}
+use Rattle.dg_rules.specs.Consistency.{WorldConsistent}
 use Rattle.dg_volume.specs.Stands.{Stands}
 use Rattle.dg_volume.specs.Start.{Runs}
 use Rattle.dg_rules.specs.World.{World as RuleWorld, store_at}
@@ -94,3 +97,17 @@ ApplyEnds (Err NoImageFault) w x loud v old new told_before told = Ended w x old
 ApplyEnds (Err NotAVolumeFault) w x loud v old new told_before told = ⊥
 ApplyEnds (Err Memory) w x loud v old new told_before told = ⊥
 ApplyEnds (Err TooMany) w x loud v old new told_before told = ⊥
+
+-- ---- whatever frames carry
+
+-- the boards stand for a world whose stores are consistent
+pub record BoardsAreConsistent (golden : Row) (v : World) (boards : List Device) : Type 0 where
+  pub world : RuleWorld
+  pub stands : IsWorld v boards world
+  pub consistent : WorldConsistent golden world
+
+-- the board stands for a consistent store
+pub record BoardIsConsistent (golden : Row) (board : Device) : Type 0 where
+  pub store : Store
+  pub stands : Stands board.image store
+  pub consistent : Consistent golden store

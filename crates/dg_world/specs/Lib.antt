@@ -13,3 +13,4 @@ pub mod Tellings
 pub mod Cuts
 pub mod Stepped
 pub mod Finished
+pub mod Unseen

@@ -1,13 +1,16 @@
 //! The steps of a world.
-ghost use Rattle.std.specs.Prelude.{◌≡◌, ◌≢◌, ◌⊎◌, ◌+◌, ◌<◌, ◌≤◌, ℕ, Option, map, length, Err, OnOk, OnErr, vec_len};
+ghost use Rattle.std.specs.Prelude.{◌≡◌, ◌≢◌, ◌⊎◌, ◌+◌, ◌<◌, ◌≤◌, ℕ, Option, map, length, slice_get, Err, IfSome, OnOk, OnErr, vec_len};
 ghost use Rattle.std.specs.Vec.{vec_capacity};
 ghost use Rattle.dg_nor.specs.Device.{Device};
+ghost use Rattle.dg_object.specs.Object.{Row};
 ghost use Rattle.dg_rules.specs.Sizes.{most_events};
 ghost use Rattle.dg_rules.specs.World.{World as RuleWorld};
+ghost use Rattle.dg_rules.specs.Events.{does};
 ghost use Rattle.dg_rules.specs.Ranges.{StepFits};
 ghost use Rattle.dg_world.specs.Worlds.{IsWorld};
-ghost use Rattle.dg_world.specs.Applied.{Applied, FlashAt, Ended, ApplyEnds, fault_of};
+ghost use Rattle.dg_world.specs.Applied.{Applied, FlashAt, Ended, ApplyEnds, BoardsAreConsistent, BoardIsConsistent, fault_of};
 ghost use Rattle.dg_world.specs.Tellings.{halt_of};
+ghost use Rattle.dg_world.specs.Unseen.{RefusesUnseen};
 ghost use Rattle.dg_world.specs.declared.shown.Shown.{Shown};
 
 use crate::events::{dt_at, mote_at};
@@ -15,7 +18,7 @@ use crate::stepping::{MOST_LINES, step_at};
 use crate::telling::{Fault, Telling};
 use crate::world::{World, WorldFault};
 use dg_nor::Nor;
-use dg_rules::{Report, Step, agreement_is_kept};
+use dg_rules::{Report, Step, agreement_is_kept, consistency_is_kept};
 
 /// The most events of a run.
 const MOST_EVENTS: u32 = 1_000_000;
@@ -45,7 +48,17 @@ impl World {
         ensures no_image { result ≡ Err WorldFault.NoImage → (w : RuleWorld) → IsWorld self.old (map N.device boards.old.items) w
             → Ended w step.now (map N.device boards.old.items) (map N.device boards.new.items) }
         ensures a_volume { result ≡ Err WorldFault.NotAVolume → ⊥ }
+        // an event that is refused without a look at the chip, as at a mote that is off, uses no board, and meets no stopped one
+        ensures unseen { (w : RuleWorld) → IsWorld self.old (map N.device boards.old.items) w → RefusesUnseen (does w step.now.event)
+            → (map N.device boards.new.items ≡ map N.device boards.old.items) × ((board : ℕ) → result ≡ Err (WorldFault.Flash board) → ⊥) }
+        // whatever bytes a frame carries and wherever power is cut: boards whose stores are consistent stay so, and so does one
+        // that stops
+        ensures consistent { OnOk result ((golden : Row) → BoardsAreConsistent golden self.old (map N.device boards.old.items)
+            → BoardsAreConsistent golden self.new (map N.device boards.new.items)) }
+        ensures stops_consistent { (golden : Row) (board : ℕ) → result ≡ Err (WorldFault.Flash board) → BoardsAreConsistent golden self.old (map N.device boards.old.items)
+            → IfSome (slice_get (map N.device boards.new.items) board) (BoardIsConsistent golden) }
     {
+        consistency_is_kept();
         if self.events >= MOST_EVENTS {
             return Err(WorldFault::TooMany);
         }
@@ -78,6 +91,9 @@ impl World {
         ensures no_image { result ≡ Err WorldFault.NoImage → (w : RuleWorld) → IsWorld self.old (map N.device boards.old.items) w
             → Ended w step.now (map N.device boards.old.items) (map N.device boards.new.items) }
         ensures a_volume { result ≡ Err WorldFault.NotAVolume → ⊥ }
+        // an event that is refused without a look at the chip, as at a mote that is off, uses no board, and meets no stopped one
+        ensures unseen { (w : RuleWorld) → IsWorld self.old (map N.device boards.old.items) w → RefusesUnseen (does w step.now.event)
+            → (map N.device boards.new.items ≡ map N.device boards.old.items) × ((board : ℕ) → result ≡ Err (WorldFault.Flash board) → ⊥) }
     {
         if out.reserve(MOST_LINES).is_err() {
             return Err(WorldFault::Memory);
@@ -97,8 +113,10 @@ impl World {
         requires few { self.old.events < most_events }
         requires room { vec_len out.old + MOST_LINES ≤ vec_capacity out.old }
         requires place { vec_len self.old.shared.air.frames + 1 ≤ vec_capacity self.old.shared.air.frames }
-        ensures { (w : RuleWorld) → IsWorld self.old (map N.device boards.old) w → StepFits (length w.sites) step.now
+        ensures ends { (w : RuleWorld) → IsWorld self.old (map N.device boards.old) w → StepFits (length w.sites) step.now
             → ApplyEnds result w step.now loud self.new (map N.device boards.old) (map N.device boards.new) out.old.items out.new.items }
+        ensures unseen { (w : RuleWorld) → IsWorld self.old (map N.device boards.old) w → StepFits (length w.sites) step.now → RefusesUnseen (does w step.now.event)
+            → (map N.device boards.new ≡ map N.device boards.old) × OnErr result ⊥ }
     {
         agreement_is_kept();
         let mote = mote_at(&step.event);

@@ -1,5 +1,5 @@
 //! An event at a board whose power may be cut in the middle of it.
-ghost use Rattle.std.specs.Prelude.{◌≡◌, ◌∷◌, false, ◌&&◌, not, ◌+◌, ◌≤◌, ◌<◌, ◌^◌, ℕ, Some};
+ghost use Rattle.std.specs.Prelude.{◌≡◌, ◌∷◌, false, ◌&&◌, not, ◌+◌, ◌≤◌, ◌<◌, ◌^◌, ℕ, Some, Ok};
 ghost use Rattle.dg_nor.specs.Device.{Device};
 ghost use Rattle.dg_nor.specs.Fuse.{inner_of, name_of, mask_of, fused_device, before, beneath_of};
 ghost use Rattle.dg_rules.specs.Sizes.{most_motes};
@@ -10,6 +10,7 @@ ghost use Rattle.dg_world.specs.Shareds.{IsShared};
 ghost use Rattle.dg_world.specs.Worlds.{SiteStands, MayRun};
 ghost use Rattle.dg_world.specs.Cuts.{ended, Played};
 ghost use Rattle.dg_world.specs.Tellings.{IsNothing, turned, ended_as};
+ghost use Rattle.dg_world.specs.Unseen.{RefusesUnseen};
 
 use crate::happening::happen;
 use crate::shared::Shared;
@@ -65,9 +66,11 @@ pub(crate) fn play_cut<N: Nor>(
     requires mote { MayRun (N.device board.old).image now runs.old }
     requires moment { now < 2 ^ 62 }
     requires nothing { IsNothing telling.old }
-    ensures { (w : RuleWorld) → IsShared shared.now w → SiteStands (N.device board.old) runs.old (site w (mote_of event.now))
+    ensures played { (w : RuleWorld) → IsShared shared.now w → SiteStands (N.device board.old) runs.old (site w (mote_of event.now))
         → now ≡ w.moment + dt_of event.now
         → Played (ended_as result telling.new) w (mote_of event.now) (does w event.now) (Some cut.now) runs.old runs.new (N.device board.old) (N.device board.new) }
+    ensures unseen { (w : RuleWorld) → IsShared shared.now w → SiteStands (N.device board.old) runs.old (site w (mote_of event.now))
+        → now ≡ w.moment + dt_of event.now → RefusesUnseen (does w event.now) → (board.new ≡ board.old) × (result ≡ Ok Power.Stays) }
 {
     let mut fused = fuse_of(cut, board);
     let done = happen(shared, runs, now, event, &mut fused, telling);

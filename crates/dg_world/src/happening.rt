@@ -1,5 +1,5 @@
 //! What an event does at the board of its mote.
-ghost use Rattle.std.specs.Prelude.{◌≡◌, ◌≢◌, ◌==◌, ◌+◌, ◌^◌, ◌<◌, ◌≤◌, ℕ, if◌then◌else◌, List, Option, Some, None, Err, Ok, IfOk, OnOk, length};
+ghost use Rattle.std.specs.Prelude.{◌≡◌, ◌≢◌, ◌==◌, ◌+◌, ◌^◌, ◌<◌, ◌≤◌, ℕ, if◌then◌else◌, List, Option, Some, None, Err, Ok, IfOk, OnOk, OnErr, length};
 ghost use Rattle.dg_nor.specs.Reads.{Looked, ReadStopped};
 ghost use Rattle.dg_object.specs.Object.{Row};
 ghost use Rattle.dg_volume.specs.Sizes.{images};
@@ -20,6 +20,7 @@ ghost use Rattle.dg_world.specs.Shareds.{IsShared};
 ghost use Rattle.dg_world.specs.Worlds.{MoteStands, SiteStands, IsTimelyMote, MayRun};
 ghost use Rattle.dg_world.specs.Turn.{Starts, Changes};
 ghost use Rattle.dg_world.specs.Turns.{BeginsOver, TurnEnds};
+ghost use Rattle.dg_world.specs.Unseen.{RefusesUnseen};
 ghost use Rattle.dg_world.specs.Tellings.{IsNothing, halt_of, turned};
 
 use crate::images::{Image, Images};
@@ -195,6 +196,8 @@ fn tick<N: Nor>(
     requires nothing { IsNothing telling.old }
     ensures ends { (w : RuleWorld) (m : ℕ) → SiteStands (N.device board.old) runs.old (site w m)
         → TurnEnds (turned result telling.new) w m (tick_by w (store_at w m) (site w m).runs now word) runs.old runs.new (N.device board.old) (N.device board.new) }
+    ensures unseen { (w : RuleWorld) (m : ℕ) → SiteStands (N.device board.old) runs.old (site w m) → RefusesUnseen (tick_by w (store_at w m) (site w m).runs now word)
+        → (board.new ≡ board.old) × OnErr result ⊥ }
     ensures same_reference { (N.device board.new).references ≡ (N.device board.old).references }
 {
     match runs {
@@ -249,6 +252,8 @@ fn hear<N: Nor>(
     requires nothing { IsNothing telling.old }
     ensures ends { (w : RuleWorld) (m : ℕ) → SiteStands (N.device board.old) runs.old (site w m)
         → TurnEnds (turned result telling.new) w m (hear_by w (store_at w m) (site w m).runs now word bytes.now) runs.old runs.new (N.device board.old) (N.device board.new) }
+    ensures unseen { (w : RuleWorld) (m : ℕ) → SiteStands (N.device board.old) runs.old (site w m) → RefusesUnseen (hear_by w (store_at w m) (site w m).runs now word bytes.now)
+        → (board.new ≡ board.old) × OnErr result ⊥ }
     ensures same_reference { (N.device board.new).references ≡ (N.device board.old).references }
 {
     match runs {
@@ -277,6 +282,8 @@ fn hear_numbered<N: Nor>(
     requires nothing { IsNothing telling.old }
     ensures ends { (w : RuleWorld) → IsShared shared.now w → SiteStands (N.device board.old) runs.old (site w mote)
         → TurnEnds (turned result telling.new) w mote (unless_off (site w mote).runs (heard_sent w mote now word (frame_at w number))) runs.old runs.new (N.device board.old) (N.device board.new) }
+    ensures unseen { (w : RuleWorld) → IsShared shared.now w → SiteStands (N.device board.old) runs.old (site w mote)
+        → RefusesUnseen (unless_off (site w mote).runs (heard_sent w mote now word (frame_at w number))) → (board.new ≡ board.old) × OnErr result ⊥ }
     ensures same_reference { (N.device board.new).references ≡ (N.device board.old).references }
 {
     if runs.is_none() {
@@ -317,6 +324,8 @@ fn hear_last<N: Nor>(
     requires nothing { IsNothing telling.old }
     ensures ends { (w : RuleWorld) → IsShared shared.now w → SiteStands (N.device board.old) runs.old (site w to)
         → TurnEnds (turned result telling.new) w to (unless_off (site w to).runs (if linked w from to then heard_last w from to now word (last_frame w from) else Refuses Cause.Link)) runs.old runs.new (N.device board.old) (N.device board.new) }
+    ensures unseen { (w : RuleWorld) → IsShared shared.now w → SiteStands (N.device board.old) runs.old (site w to)
+        → RefusesUnseen (unless_off (site w to).runs (if linked w from to then heard_last w from to now word (last_frame w from) else Refuses Cause.Link)) → (board.new ≡ board.old) × OnErr result ⊥ }
     ensures same_reference { (N.device board.new).references ≡ (N.device board.old).references }
 {
     if runs.is_none() {
@@ -420,6 +429,8 @@ fn inject<N: Nor>(
     requires nothing { IsNothing telling.old }
     ensures ends { (w : RuleWorld) (m : ℕ) → Declares declared.now w.declared → SiteStands (N.device board.old) runs.old (site w m)
         → TurnEnds (turned result telling.new) w m (if key.image == 0 then Refuses Cause.Reserved else inject_row w m (row_at w.declared key.image key.version) now word) runs.old runs.new (N.device board.old) (N.device board.new) }
+    ensures unseen { (w : RuleWorld) (m : ℕ) → Declares declared.now w.declared
+        → RefusesUnseen (if key.image == 0 then Refuses Cause.Reserved else inject_row w m (row_at w.declared key.image key.version) now word) → (board.new ≡ board.old) × OnErr result ⊥ }
     ensures same_reference { (N.device board.new).references ≡ (N.device board.old).references }
 {
     if key.image == 0 {
@@ -498,6 +509,9 @@ pub(crate) fn happen<N: Nor>(
     requires nothing { IsNothing telling.old }
     ensures ends { (w : RuleWorld) → IsShared shared.now w → SiteStands (N.device board.old) runs.old (site w (mote_of event.now)) → now ≡ w.moment + dt_of event.now
         → TurnEnds (turned result telling.new) w (mote_of event.now) (does w event.now) runs.old runs.new (N.device board.old) (N.device board.new) }
+    // an event that is refused without a look at the chip uses no board
+    ensures unseen { (w : RuleWorld) → IsShared shared.now w → SiteStands (N.device board.old) runs.old (site w (mote_of event.now)) → now ≡ w.moment + dt_of event.now
+        → RefusesUnseen (does w event.now) → (board.new ≡ board.old) × OnErr result ⊥ }
     ensures same_reference { (N.device board.new).references ≡ (N.device board.old).references }
 {
     match event {

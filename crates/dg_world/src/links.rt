@@ -10,7 +10,7 @@ use dg_bits::PageBits;
 use std::alloc::{AllocError, Global};
 
 /// The most motes of a world.
-pub(crate) const MOST_MOTES: usize = 16;
+pub(crate) const MOST_MOTES: usize = dg_base::MOST_MOTES as usize;
 
 /// Which motes are neighbours: the pairs, and the neighbours of each mote.
 #[derive(Drop)]

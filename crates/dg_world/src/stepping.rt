@@ -1,5 +1,5 @@
 //! A step at the board of its mote, and what is told of it.
-ghost use Rattle.std.specs.Prelude.{◌≡◌, ◌+◌, ◌^◌, ◌<◌, ◌≤◌, ◌∷◌, ◌++◌, ℕ, [], None, Some, length, vec_len, option_to_list};
+ghost use Rattle.std.specs.Prelude.{◌≡◌, ◌+◌, ◌^◌, ◌<◌, ◌≤◌, ◌∷◌, ◌++◌, ℕ, [], None, Some, length, vec_len, option_to_list, OnErr};
 ghost use Rattle.std.specs.List.{filter};
 ghost use Rattle.std.specs.Vec.{vec_capacity};
 ghost use Rattle.dg_volume.specs.Store.{Store};
@@ -8,7 +8,7 @@ ghost use Rattle.dg_frame.specs.Grammar.{message_of};
 ghost use Rattle.dg_rules.specs.Sizes.{most_motes};
 ghost use Rattle.dg_rules.specs.World.{World as RuleWorld, site};
 ghost use Rattle.dg_rules.specs.Changes.{sent_line, is_told};
-ghost use Rattle.dg_rules.specs.Events.{mote_of, dt_of};
+ghost use Rattle.dg_rules.specs.Events.{does, mote_of, dt_of};
 ghost use Rattle.dg_rules.specs.Ranges.{StepFits};
 ghost use Rattle.dg_world.specs.Shareds.{IsShared};
 ghost use Rattle.dg_world.specs.Worlds.{SiteStands, MayRun};
@@ -16,6 +16,7 @@ ghost use Rattle.dg_world.specs.Turn.{Refused, Starts};
 ghost use Rattle.dg_world.specs.Turns.{turn_lines, sent_shown};
 ghost use Rattle.dg_world.specs.Tellings.{IsNothing, turn_of, stepped};
 ghost use Rattle.dg_world.specs.Stepped.{CutTold, Stepped};
+ghost use Rattle.dg_world.specs.Unseen.{RefusesUnseen};
 
 use crate::cutting::play_cut;
 use crate::events::mote_at;
@@ -184,9 +185,11 @@ fn step_whole<N: Nor>(
     requires mote { MayRun (N.device board.old).image now runs.old }
     requires moment { now < 2 ^ 62 }
     requires nothing { IsNothing telling.old }
-    ensures { (w : RuleWorld) → StepFits (length w.sites) step.now → IsShared shared.now w → SiteStands (N.device board.old) runs.old (site w (mote_of step.now.event))
+    ensures steps { (w : RuleWorld) → StepFits (length w.sites) step.now → IsShared shared.now w → SiteStands (N.device board.old) runs.old (site w (mote_of step.now.event))
         → now ≡ w.moment + dt_of step.now.event
         → Stepped (stepped result telling.new) w step.now loud runs.new (N.device board.old) (N.device board.new) out.old.items out.new.items }
+    ensures unseen { (w : RuleWorld) → IsShared shared.now w → SiteStands (N.device board.old) runs.old (site w (mote_of step.now.event)) → now ≡ w.moment + dt_of step.now.event
+        → RefusesUnseen (does w step.now.event) → (board.new ≡ board.old) × OnErr result ⊥ }
 {
     let mote = mote_at(&step.event);
     happen(shared, runs, now, &step.event, board, telling)?;
@@ -212,9 +215,11 @@ fn step_cut<N: Nor>(
     requires mote { MayRun (N.device board.old).image now runs.old }
     requires moment { now < 2 ^ 62 }
     requires nothing { IsNothing telling.old }
-    ensures { (w : RuleWorld) → StepFits (length w.sites) step.now → IsShared shared.now w → SiteStands (N.device board.old) runs.old (site w (mote_of step.now.event))
+    ensures steps { (w : RuleWorld) → StepFits (length w.sites) step.now → IsShared shared.now w → SiteStands (N.device board.old) runs.old (site w (mote_of step.now.event))
         → now ≡ w.moment + dt_of step.now.event
         → Stepped (stepped result telling.new) w step.now loud runs.new (N.device board.old) (N.device board.new) out.old.items out.new.items }
+    ensures unseen { (w : RuleWorld) → IsShared shared.now w → SiteStands (N.device board.old) runs.old (site w (mote_of step.now.event)) → now ≡ w.moment + dt_of step.now.event
+        → RefusesUnseen (does w step.now.event) → (board.new ≡ board.old) × OnErr result ⊥ }
 {
     let mote = mote_at(&step.event);
     match play_cut(shared, runs, now, &step.event, cut, board, telling)? {
@@ -245,9 +250,11 @@ pub(crate) fn step_at<N: Nor>(
     requires mote { MayRun (N.device board.old).image now runs.old }
     requires moment { now < 2 ^ 62 }
     requires nothing { IsNothing telling.old }
-    ensures { (w : RuleWorld) → StepFits (length w.sites) step.now → IsShared shared.now w → SiteStands (N.device board.old) runs.old (site w (mote_of step.now.event))
+    ensures steps { (w : RuleWorld) → StepFits (length w.sites) step.now → IsShared shared.now w → SiteStands (N.device board.old) runs.old (site w (mote_of step.now.event))
         → now ≡ w.moment + dt_of step.now.event
         → Stepped (stepped result telling.new) w step.now loud runs.new (N.device board.old) (N.device board.new) out.old.items out.new.items }
+    ensures unseen { (w : RuleWorld) → IsShared shared.now w → SiteStands (N.device board.old) runs.old (site w (mote_of step.now.event)) → now ≡ w.moment + dt_of step.now.event
+        → RefusesUnseen (does w step.now.event) → (board.new ≡ board.old) × OnErr result ⊥ }
 {
     match &step.cut {
         None => step_whole(shared, runs, now, step, loud, board, telling, out),

@@ -1,6 +1,7 @@
 use Rattle.std.proofs.Common.{◌≡◌, ℕ, List, Option, ap, sym, ◌∙◌, subst, refl, Some}
 use Rattle.std.specs.Prelude.{◌&&◌, not}
 use Rattle.dg_nor.specs.Device.{Device}
+use Rattle.dg_nor.specs.Fuse.{inner_of}
 use Rattle.dg_nor.proofs.FuseLemmas.{same_reference}
 use Rattle.dg_volume.specs.Stands.{Stands}
 use Rattle.dg_rules.specs.World.{Site, site}
@@ -10,6 +11,7 @@ use Rattle.dg_world.specs.declared.world.RunningMote.{RunningMote}
 use Rattle.dg_world.specs.Cuts.{ended, Played}
 use Rattle.dg_world.specs.Tellings.{turned, ended_as}
 use Rattle.dg_world.proofs.CutLemmas.{is_fused, fused, played_as}
+use Rattle.dg_world.proofs.UnseenLemmas.{ended_on}
 use Rattle.dg_world.proofs.cutting.play_cut.Goals as goal
 
 -- the fuse begins over the board's bytes
@@ -24,8 +26,8 @@ happen-done-requires-clause-mote g c =
     let made = ap (λ (d : Device). d.image) c.fuse_of-fused.ensures.device in
     subst (λ (i : List ℕ). MayRun i c.args.now c.args.runs.now) (sym made) c.requires.mote
 
-pub returns : goal.returns
-returns g c = λ w shared stands at.
+pub returns-clause-played : goal.returns-clause-played
+returns-clause-played g c = λ w shared stands at.
     let device = g.N.Nor.device in
     let m = mote_of c.args.event.now in
     let cut = c.args.cut.now in
@@ -44,3 +46,13 @@ returns g c = λ w shared stands at.
     ∙ ap (λ b. ended (c.happen-done.new.board.blown && not b) (turned c.happen-done.result t)) awake in
     let P : g.row.N.Denot → Type 0 = λ x. Played (ended_as c.end_turn.result t) w m (does w c.args.event.now) (Some cut) v u (device c.args.board.now) (device x) in
     subst P (sym last) (played_as (ended_as c.end_turn.result t) _ (Some cut) (Some cut) w m (does w c.args.event.now) v u _ _ e refl p)
+
+pub returns-clause-unseen : goal.returns-clause-unseen
+returns-clause-unseen g c = λ w shared stands at unseen.
+    let device = g.N.Nor.device in
+    let made = c.fuse_of-fused.ensures.device in
+    let name = sym (same_reference device c.fuse_of-fused.result c.happen-done.new.board c.happen-done.ensures.same_reference ∙ c.fuse_of-fused.ensures.same_reference) in
+    let last = c.board-1.given.1 name in
+    let here = begun (device c.args.board.now) _ c.args.runs.now (site w (mote_of c.args.event.now)) (ap (λ (d : Device). d.image) made) stands in
+    let stays = c.happen-done.ensures.unseen w shared here at unseen in
+    (last ∙ ap inner_of stays.0 ∙ c.fuse_of-fused.ensures.inner, ended_on c.end_turn.result c.happen-done.result _ c.happen-done.new.telling (c.end_turn.ensures c.happen-done.new.telling) stays.1)

@@ -4,6 +4,7 @@ use Rattle.dg_rules.specs.Events.{hear_by}
 use Rattle.dg_world.specs.Tellings.{turned}
 use Rattle.dg_world.proofs.TellingLemmas.{told_as, is_refused}
 use Rattle.dg_world.proofs.TickLemmas.{off_as, on_as}
+use Rattle.dg_world.proofs.UnseenLemmas.{on_unseen}
 use Rattle.dg_world.proofs.happening.hear.Goals as goal
 
 pub returns-in-None-clause-ends : goal.returns-in-None-clause-ends
@@ -15,3 +16,7 @@ pub returns-in-Some-clause-ends : goal.returns-in-Some-clause-ends
 returns-in-Some-clause-ends g c = λ w m stands.
     on_as (λ o. hear_by w (store_at w m) o c.args.now c.args.word c.args.bytes.now) (turned c.hear_on.result c.hear_on.new.telling) w m c.args.runs.now c.in-Some.running _ _ (store_at w m) (site w m).runs _ _ c.in-Some.is stands.mote
     (λ x is. c.hear_on.ensures.ends w m x stands.stands is)
+
+pub returns-in-Some-clause-unseen : goal.returns-in-Some-clause-unseen
+returns-in-Some-clause-unseen g c = λ w m stands unseen.
+    on_unseen (λ o. hear_by w (store_at w m) o c.args.now c.args.word c.args.bytes.now) c.in-Some.running c.args.runs.now _ (store_at w m) (site w m).runs c.in-Some.is stands.mote (λ r on. on) unseen

@@ -8,6 +8,7 @@ use Rattle.dg_script.specs.Places.{is_linked}
 use Rattle.dg_world.specs.Tellings.{turned}
 use Rattle.dg_world.proofs.TellingLemmas.{told_as, is_refused}
 use Rattle.dg_world.proofs.HappenLemmas.{not_off, is_off, refuses_at, ends_at, none_told}
+use Rattle.dg_world.proofs.UnseenLemmas.{unless_unseen, unseen_at}
 use Rattle.dg_world.proofs.happening.hear_last.Goals as goal
 use Rattle.dg_world.specs.Turn.{Refused}
 
@@ -55,3 +56,16 @@ returns-in-Some-clause-ends g c = λ w is stands.
     (ends_at L (linked w c.args.from m) true (turned c.hear.result c.hear.new.telling) w m v u a _ near
     (ends_at D (last_frame w c.args.from) (Some sent) (turned c.hear.result c.hear.new.telling) w m v u a _ (sym (c.in-Some.ensures w.sent is.sent))
     (ends_at H f.frame.items c.as_slice.result.now (turned c.hear.result c.hear.new.telling) w m v u a _ (sym c.as_slice.ensures.value) (c.hear.ensures.ends w m stands))))
+
+pub returns-in-Some-clause-unseen : goal.returns-in-Some-clause-unseen
+returns-in-Some-clause-unseen g c = λ w is stands unseen.
+    let m = c.args.to in
+    let f = c.in-Some.sent.now in
+    let sent : Sent = record { by = f.by; bytes = f.frame.items } in
+    let H : List ℕ → Does = λ bytes. hear_by w (store_at w m) (site w m).runs c.args.now c.args.word bytes in
+    let D : Option Sent → Does = λ x. heard_last w c.args.from m c.args.now c.args.word x in
+    let L : Bool → Does = λ b. if b then D (last_frame w c.args.from) else Refuses cause.Link in
+    let near : linked w c.args.from m ≡ true = ap (λ links. is_linked links c.args.from m) is.links ∙ sym c.are_joined.ensures ∙ c.if-not-are_joined.false in
+    let on = unless_unseen (L (linked w c.args.from m)) c.args.runs.now _ (store_at w m) (site w m).runs stands.mote (none_told c.args.runs.now c.is_none.result false c.is_none.ensures c.if-is_none.false) unseen in
+    c.hear.ensures.unseen w m stands (unseen_at H f.frame.items c.as_slice.result.now (sym c.as_slice.ensures.value)
+    (unseen_at D (last_frame w c.args.from) (Some sent) (sym (c.in-Some.ensures w.sent is.sent)) (unseen_at L (linked w c.args.from m) true near on)))

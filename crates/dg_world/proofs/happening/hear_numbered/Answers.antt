@@ -8,6 +8,7 @@ use Rattle.dg_script.specs.Places.{is_linked}
 use Rattle.dg_world.specs.Tellings.{turned}
 use Rattle.dg_world.proofs.TellingLemmas.{told_as, is_refused}
 use Rattle.dg_world.proofs.HappenLemmas.{not_off, is_off, refuses_at, ends_at, none_told}
+use Rattle.dg_world.proofs.UnseenLemmas.{unless_unseen, unseen_at}
 use Rattle.dg_world.proofs.happening.hear_numbered.Goals as goal
 use Rattle.dg_world.specs.Turn.{Refused}
 
@@ -55,3 +56,16 @@ returns-else-are_joined-clause-ends g c = λ w is stands.
     told_as w c.args.mote _ _ _ _ _ _ _ (is_refused _ _ _ _ _ c.requires.nothing.sent)
     (not_off (Ok (Refused cause.Link)) w c.args.shared.now v v c.args.now a a m (D (frame_at w c.args.number)) a.image (store_at w m) (site w m).runs stands.mote (none_told c.args.runs.now c.is_none.result false c.is_none.ensures c.if-is_none.false)
     (refuses_at D (frame_at w c.args.number) (Some sent) cause.Link w m v a (sym (c.in-Some.ensures w.sent is.sent)) (ap L far) (Looked-none a)))
+
+pub returns-then-are_joined-clause-unseen : goal.returns-then-are_joined-clause-unseen
+returns-then-are_joined-clause-unseen g c = λ w is stands unseen.
+    let m = c.args.mote in
+    let D : Option Sent → Does = λ x. heard_sent w m c.args.now c.args.word x in
+    let f = c.in-Some.sent.now in
+    let sent : Sent = record { by = f.by; bytes = f.frame.items } in
+    let H : List ℕ → Does = λ bytes. hear_by w (store_at w m) (site w m).runs c.args.now c.args.word bytes in
+    let L : Bool → Does = λ b. if b then H f.frame.items else Refuses cause.Link in
+    let near : linked w f.by m ≡ true = ap (λ links. is_linked links f.by m) is.links ∙ sym c.are_joined.ensures ∙ c.if-are_joined.true in
+    let on = unless_unseen (D (frame_at w c.args.number)) c.args.runs.now _ (store_at w m) (site w m).runs stands.mote (none_told c.args.runs.now c.is_none.result false c.is_none.ensures c.if-is_none.false) unseen in
+    c.hear.ensures.unseen w m stands (unseen_at H f.frame.items c.as_slice.result.now (sym c.as_slice.ensures.value)
+    (unseen_at L (linked w f.by m) true near (unseen_at D (frame_at w c.args.number) (Some sent) (sym (c.in-Some.ensures w.sent is.sent)) on)))

@@ -10,42 +10,57 @@ use Rattle.dg_world.specs.declared.telling.Power.{Power}
 use Rattle.dg_world.proofs.CutLemmas.{played_as}
 use Rattle.dg_world.proofs.TellingLemmas.{frame_told}
 use Rattle.dg_world.proofs.DoneLemmas.{step_turn, step_cut, step_cut_halts, step_fails, event_mote, told_at}
+use Rattle.dg_world.proofs.UnseenLemmas.{not_stays, not_cut}
 use Rattle.dg_world.proofs.stepping.step_cut.Goals as goal
 
 pub play_cut-requires-clause-fits : goal.play_cut-requires-clause-fits
 play_cut-requires-clause-fits g c = let x = c.requires.fits in (x.0, x.1.event, x.2)
 
-pub returns-in_err-play_cut : goal.returns-in_err-play_cut
-returns-in_err-play_cut g c = λ w fits shared stands at.
+pub returns-in_err-play_cut-clause-steps : goal.returns-in_err-play_cut-clause-steps
+returns-in_err-play_cut-clause-steps g c = λ w fits shared stands at.
     let x = c.args.step.now in
     let t = c.play_cut.new.telling in
-    let p = played_as _ (ended_as c.play_cut.result t) x.cut (Some c.args.cut.now) w (mote_of x.event) (does w x.event) _ _ _ _ (sym (ap (λ r. ended_as r t) c.in_err-play_cut.was)) c.requires.cut (c.play_cut.ensures w shared stands at) in
+    let p = played_as _ (ended_as c.play_cut.result t) x.cut (Some c.args.cut.now) w (mote_of x.event) (does w x.event) _ _ _ _ (sym (ap (λ r. ended_as r t) c.in_err-play_cut.was)) c.requires.cut (c.play_cut.ensures.played w shared stands at) in
     step_fails c.from_residual.result c.in_err-play_cut.field-0.0 t w x c.args.loud _ _ _ _ c.args.out.now.items c.from_residual.ensures.1 p
 
-pub returns-in-Stays : goal.returns-in-Stays
-returns-in-Stays g c = λ w fits shared stands at.
+pub returns-in-Stays-clause-steps : goal.returns-in-Stays-clause-steps
+returns-in-Stays-clause-steps g c = λ w fits shared stands at.
     let x = c.args.step.now in
     let t = c.play_cut.new.telling in
-    let p = played_as _ (ended_as c.play_cut.result t) x.cut (Some c.args.cut.now) w (mote_of x.event) (does w x.event) _ _ _ _ (sym (ap (λ r. ended_as r t) (c.in_ok-play_cut.was ∙ ap (λ (y : Power). Ok y) c.in-Stays.is))) c.requires.cut (c.play_cut.ensures w shared stands at) in
+    let p = played_as _ (ended_as c.play_cut.result t) x.cut (Some c.args.cut.now) w (mote_of x.event) (does w x.event) _ _ _ _ (sym (ap (λ r. ended_as r t) (c.in_ok-play_cut.was ∙ ap (λ (y : Power). Ok y) c.in-Stays.is))) c.requires.cut (c.play_cut.ensures.played w shared stands at) in
     step_turn w x c.args.loud _ _ _ (turn_of t) _ _ c.args.out.now.items c.push_told.new.out.items (event_mote _ x.event fits.event) stands p (frame_told t)
     (c.push_told.ensures ∙ ap (λ m. c.args.out.now.items ++ filter (is_told c.args.loud) (turn_lines m (turn_of t))) c.mote_at-mote.ensures)
 
-pub returns-in_ok-tell_changes-in-Cut : goal.returns-in_ok-tell_changes-in-Cut
-returns-in_ok-tell_changes-in-Cut g c = λ w fits shared stands at.
+pub returns-in_ok-tell_changes-in-Cut-clause-steps : goal.returns-in_ok-tell_changes-in-Cut-clause-steps
+returns-in_ok-tell_changes-in-Cut-clause-steps g c = λ w fits shared stands at.
     let x = c.args.step.now in
     let t = c.play_cut.new.telling in
     let same = c.mote_at-mote.ensures in
-    let p = played_as _ (ended_as c.play_cut.result t) x.cut (Some c.args.cut.now) w (mote_of x.event) (does w x.event) _ _ _ _ (sym (ap (λ r. ended_as r t) (c.in_ok-play_cut.was ∙ ap (λ (y : Power). Ok y) c.in-Cut.is))) c.requires.cut (c.play_cut.ensures w shared stands at) in
+    let p = played_as _ (ended_as c.play_cut.result t) x.cut (Some c.args.cut.now) w (mote_of x.event) (does w x.event) _ _ _ _ (sym (ap (λ r. ended_as r t) (c.in_ok-play_cut.was ∙ ap (λ (y : Power). Ok y) c.in-Cut.is))) c.requires.cut (c.play_cut.ensures.played w shared stands at) in
     let P : Option (List ℕ) → Type 0 = λ sent. Stepped (Ok sent) w x c.args.loud None (g.N.Nor.device c.args.board.now) (g.N.Nor.device c.tell_changes.new.board) c.args.out.now.items c.push_reserved.new.self.items in
     subst P (sym c.new-telling.ensures)
     (step_cut w x c.args.loud _ _ t.before c.tell_changes.result _ _ _ _ c.args.out.now.items c.tell_changes.new.out.items c.push_reserved.new.self.items p c.in_ok-tell_changes-in-Cut.was
     (told_at c.tell_changes.result c.mote_at-mote.result (mote_of x.event) t.before p.ends.leaves.store _ _ _ _ same (c.tell_changes.ensures.told p.ends.leaves.store p.ends.leaves.stands_for))
     (c.push_reserved.ensures.items ∙ ap (λ m. c.tell_changes.new.out.items ++ Off m ∷ []) same))
 
-pub returns-in_err-tell_changes-in-Cut : goal.returns-in_err-tell_changes-in-Cut
-returns-in_err-tell_changes-in-Cut g c = λ w fits shared stands at.
+pub returns-in_err-tell_changes-in-Cut-clause-steps : goal.returns-in_err-tell_changes-in-Cut-clause-steps
+returns-in_err-tell_changes-in-Cut-clause-steps g c = λ w fits shared stands at.
     let x = c.args.step.now in
     let t = c.play_cut.new.telling in
-    let p = played_as _ (ended_as c.play_cut.result t) x.cut (Some c.args.cut.now) w (mote_of x.event) (does w x.event) _ _ _ _ (sym (ap (λ r. ended_as r t) (c.in_ok-play_cut.was ∙ ap (λ (y : Power). Ok y) c.in-Cut.is))) c.requires.cut (c.play_cut.ensures w shared stands at) in
+    let p = played_as _ (ended_as c.play_cut.result t) x.cut (Some c.args.cut.now) w (mote_of x.event) (does w x.event) _ _ _ _ (sym (ap (λ r. ended_as r t) (c.in_ok-play_cut.was ∙ ap (λ (y : Power). Ok y) c.in-Cut.is))) c.requires.cut (c.play_cut.ensures.played w shared stands at) in
     step_cut_halts c.from_residual-in_err-tell_changes-in-Cut.result c.tell_changes.result t c.in_err-tell_changes-in-Cut.field-0.0 w x c.args.loud _ _ _ t.before _ _ _ c.args.out.now.items c.tell_changes.new.out.items c.from_residual-in_err-tell_changes-in-Cut.ensures.1 c.in_err-tell_changes-in-Cut.was p
     (told_at c.tell_changes.result c.mote_at-mote.result (mote_of x.event) t.before p.ends.leaves.store _ _ _ _ c.mote_at-mote.ensures (c.tell_changes.ensures.told p.ends.leaves.store p.ends.leaves.stands_for))
+
+pub returns-in-Stays-clause-unseen : goal.returns-in-Stays-clause-unseen
+returns-in-Stays-clause-unseen g c = λ w shared stands at unseen. ((c.play_cut.ensures.unseen w shared stands at unseen).0, tt)
+
+pub returns-in_err-play_cut-clause-unseen : goal.returns-in_err-play_cut-clause-unseen
+returns-in_err-play_cut-clause-unseen g c = λ w shared stands at unseen. not_stays c.play_cut.result _ c.in_err-play_cut.was (c.play_cut.ensures.unseen w shared stands at unseen).1
+
+pub returns-in_ok-tell_changes-in-Cut-clause-unseen : goal.returns-in_ok-tell_changes-in-Cut-clause-unseen
+returns-in_ok-tell_changes-in-Cut-clause-unseen g c = λ w shared stands at unseen.
+    not_cut c.play_cut.result (c.in_ok-play_cut.was ∙ ap (λ (y : Power). Ok y) c.in-Cut.is) (c.play_cut.ensures.unseen w shared stands at unseen).1
+
+pub returns-in_err-tell_changes-in-Cut-clause-unseen : goal.returns-in_err-tell_changes-in-Cut-clause-unseen
+returns-in_err-tell_changes-in-Cut-clause-unseen g c = λ w shared stands at unseen.
+    not_cut c.play_cut.result (c.in_ok-play_cut.was ∙ ap (λ (y : Power). Ok y) c.in-Cut.is) (c.play_cut.ensures.unseen w shared stands at unseen).1

@@ -1,5 +1,6 @@
 use Rattle.std.proofs.Common.{refl, ⊎_elim, arith}
 use Rattle.dg_world.proofs.PlaceLemmas.{reserved, on_ok}
+use Rattle.dg_world.proofs.SoundLemmas.{applied_consistent, flash_consistent}
 use Rattle.dg_world.proofs.world.World.apply.Goals as goal
 
 pub apply_roomy-requires-clause-world : goal.apply_roomy-requires-clause-world
@@ -36,3 +37,20 @@ returns-clause-no_image g c = λ fault w is. c.apply_roomy.ensures.no_image faul
 
 pub returns-clause-a_volume : goal.returns-clause-a_volume
 returns-clause-a_volume g c = c.apply_roomy.ensures.a_volume
+
+pub returns-clause-unseen : goal.returns-clause-unseen
+returns-clause-unseen g c = λ w is unseen. c.apply_roomy.ensures.unseen w (reserved c.args.self.now c.reserve.new.self _ w c.reserve.ensures.same is) unseen
+
+pub returns-clause-consistent : goal.returns-clause-consistent
+returns-clause-consistent g c =
+    let x = c.requires.world in
+    on_ok c.apply_roomy.result (λ applied golden here. applied_consistent golden c.args.self.now _ _ _ x.0 c.args.step.now c.args.loud _ _ x.1 x.2 here
+    (λ w v reports. c.consistency_is_kept.ensures.stepped golden w v c.args.step.now reports)
+    (applied here.world (reserved c.args.self.now c.reserve.new.self _ here.world c.reserve.ensures.same here.stands))) c.apply_roomy.ensures.applied
+
+pub returns-clause-stops_consistent : goal.returns-clause-stops_consistent
+returns-clause-stops_consistent g c = λ golden board fault here.
+    let x = c.requires.world in
+    flash_consistent golden c.args.self.now _ _ x.0 c.args.step.now board x.1 x.2 here
+    (λ w. c.consistency_is_kept.ensures.stopped golden w c.args.step.now.event)
+    (c.apply_roomy.ensures.flash board fault here.world (reserved c.args.self.now c.reserve.new.self _ here.world c.reserve.ensures.same here.stands))

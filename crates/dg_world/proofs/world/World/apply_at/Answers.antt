@@ -1,10 +1,11 @@
-use Rattle.std.proofs.Common.{◌≡◌, ◌+◌, ◌<◌, ◌^◌, length, map, refl, ◌∙◌, arith}
+use Rattle.std.proofs.Common.{◌≡◌, ◌+◌, ◌<◌, ◌^◌, length, map, refl, ap, ◌∙◌, arith}
 use Rattle.std.proofs.lemmas.List.{map-set, length-map}
 use Rattle.dg_rules.specs.Events.{mote_of, dt_of}
 use Rattle.dg_mote.specs.Motes.{sent_in}
 use Rattle.dg_world.specs.Tellings.{halt_of}
 use Rattle.dg_world.proofs.DoneLemmas.{event_mote}
 use Rattle.dg_world.proofs.PlaceLemmas.{got_or, sent_at, stands_at, runs_at, applied_at, halts_there}
+use Rattle.dg_world.proofs.UnseenLemmas.{put_back, not_err}
 use Rattle.dg_world.proofs.world.World.apply_at.Goals as goal
 
 pub step_at-requires-clause-fits : goal.step_at-requires-clause-fits
@@ -37,8 +38,8 @@ send-requires-clause-known g c =
 pub send-requires-clause-room : goal.send-requires-clause-room
 send-requires-clause-room g c = c.requires.place
 
-pub returns-in-Ok : goal.returns-in-Ok
-returns-in-Ok g c = λ w is fits.
+pub returns-in-Ok-clause-ends : goal.returns-in-Ok-clause-ends
+returns-in-Ok-clause-ends g c = λ w is fits.
     let device = g.N.Nor.device in
     let x = c.args.step.now in
     let boards = c.args.boards.now in
@@ -51,13 +52,13 @@ returns-in-Ok g c = λ w is fits.
     let s = stands_at c.args.self.now (map device boards) w i (mote_of x.event) _ c.index_mut-runs.result.now is at known here c.index_mut-runs.ensures.value in
     let now : c.args.self.now.moment + c.from.result ≡ w.moment + dt_of x.event = omega (arith, is.moment, c.from.ensures, c.dt_at.ensures) in
     let short : dt_of x.event < 2 ^ 32 = omega (arith, c.dt_at.ensures, c.dt_at.type_inv) in
-    let stepped = c.in-Ok.ensures w fits is.shared s now in
+    let stepped = c.in-Ok.ensures.steps w fits is.shared s now in
     applied_at c.args.self.now _ (map device boards) _ w x c.args.loud i c.step_at.new.runs (sent_in c.step_at.new.telling.outbox) _ (device c.step_at.new.board) c.args.out.now.items c.step_at.new.out.items (map-set device boards i c.step_at.new.board) is at known c.requires.few short
     (record { moment_then = now; events = refl; images = refl; links = refl; sends = λ before carries. sent_at c.mote_at-mote.result i (sent_in c.step_at.new.telling.outbox) before c.send.new.self c.from-index.ensures (c.send.ensures before carries); motes = refl }) here stepped
     (λ z reports step. c.agreement_is_kept.ensures.timely w z x reports is.timely fits step)
 
-pub returns-in-Err : goal.returns-in-Err
-returns-in-Err g c = λ w is fits.
+pub returns-in-Err-clause-ends : goal.returns-in-Err-clause-ends
+returns-in-Err-clause-ends g c = λ w is fits.
     let device = g.N.Nor.device in
     let x = c.args.step.now in
     let boards = c.args.boards.now in
@@ -69,5 +70,37 @@ returns-in-Err g c = λ w is fits.
     let here = got_or device boards i c.index-boards-index.result wide in
     let s = stands_at c.args.self.now (map device boards) w i (mote_of x.event) _ c.index_mut-runs.result.now is at known here c.index_mut-runs.ensures.value in
     let now : c.args.self.now.moment + c.from.result ≡ w.moment + dt_of x.event = omega (arith, is.moment, c.from.ensures, c.dt_at.ensures) in
-    let stepped = c.in-Err.ensures w fits is.shared s now in
+    let stepped = c.in-Err.ensures.steps w fits is.shared s now in
     halts_there (halt_of c.in-Err.fault c.step_at.new.telling.before) c.fault_at.result c.args.self.now _ (map device boards) _ w x c.args.loud _ i c.mote_at-mote.result _ (device c.step_at.new.board) c.args.out.now.items c.step_at.new.out.items (map-set device boards i c.step_at.new.board) (c.fault_at.ensures c.step_at.new.telling.before) c.from-index.ensures is at known here stepped
+
+pub returns-in-Ok-clause-unseen : goal.returns-in-Ok-clause-unseen
+returns-in-Ok-clause-unseen g c = λ w is fits unseen.
+    let device = g.N.Nor.device in
+    let x = c.args.step.now in
+    let boards = c.args.boards.now in
+    let i = c.from-index.result in
+    let at = c.from-index.ensures ∙ c.mote_at-mote.ensures in
+    let in_world = event_mote (length w.sites) x.event fits.event in
+    let known : i < length w.sites = omega (arith, at, in_world) in
+    let wide : i < length boards = omega (arith, known, is.boards_enough, length-map boards device) in
+    let here = got_or device boards i c.index-boards-index.result wide in
+    let s = stands_at c.args.self.now (map device boards) w i (mote_of x.event) _ c.index_mut-runs.result.now is at known here c.index_mut-runs.ensures.value in
+    let now : c.args.self.now.moment + c.from.result ≡ w.moment + dt_of x.event = omega (arith, is.moment, c.from.ensures, c.dt_at.ensures) in
+    let stays = c.step_at.ensures.unseen w is.shared s now unseen in
+    (map-set device boards i c.step_at.new.board ∙ put_back (map device boards) i _ _ here (ap device stays.0), tt)
+
+pub returns-in-Err-clause-unseen : goal.returns-in-Err-clause-unseen
+returns-in-Err-clause-unseen g c = λ w is fits unseen.
+    let device = g.N.Nor.device in
+    let x = c.args.step.now in
+    let boards = c.args.boards.now in
+    let i = c.from-index.result in
+    let at = c.from-index.ensures ∙ c.mote_at-mote.ensures in
+    let in_world = event_mote (length w.sites) x.event fits.event in
+    let known : i < length w.sites = omega (arith, at, in_world) in
+    let wide : i < length boards = omega (arith, known, is.boards_enough, length-map boards device) in
+    let here = got_or device boards i c.index-boards-index.result wide in
+    let s = stands_at c.args.self.now (map device boards) w i (mote_of x.event) _ c.index_mut-runs.result.now is at known here c.index_mut-runs.ensures.value in
+    let now : c.args.self.now.moment + c.from.result ≡ w.moment + dt_of x.event = omega (arith, is.moment, c.from.ensures, c.dt_at.ensures) in
+    let stays = c.step_at.ensures.unseen w is.shared s now unseen in
+    not_err c.step_at.result _ c.in-Err.is stays.1

@@ -1,0 +1,182 @@
+-- Events that are refused without a look at the chip.
+use Rattle.std.proofs.Common.{◌≡◌, ℕ, zero, suc, ◌+◌, Bool, true, false, cond, eqb, ltb, List, [], ◌∷◌, length, subst, refl, sym, ap, ◌∙◌}
+use Rattle.std.specs.Prelude.{if◌then◌else◌, ◌==◌, is_none, slice_get, slice_set, Option, Some, None, Result, Ok, Err, OnErr}
+use Rattle.dg_nor.specs.Device.{Device}
+use Rattle.dg_object.specs.Object.{Row}
+use Rattle.dg_slot.specs.Kept.{Held}
+use Rattle.dg_control.specs.declared.snapshot.Order.{Order}
+use Rattle.dg_object.specs.Sizes.{most_bytes}
+use Rattle.dg_volume.specs.Store.{Store, held}
+use Rattle.dg_volume.specs.Table.{row_at}
+use Rattle.dg_volume.specs.Changes.{is_other, refusal_by, order_refusal}
+use Rattle.dg_volume.specs.declared.volume.InjectFault.{InjectFault}
+use Rattle.dg_volume.specs.declared.volume.InjectFault.TheVariants as inject
+use Rattle.dg_volume.specs.declared.volume.OrderFault.{OrderFault}
+use Rattle.dg_volume.specs.declared.volume.OrderFault.TheVariants as order_fault
+use Rattle.dg_rules.specs.World.{World as RuleWorld, Running, site, store_at, frame_at, linked, last_frame}
+use Rattle.dg_rules.specs.Events.{Does, Refuses, tick_by, hear_by, heard_sent, heard_last, unless_off, inject_unless, inject_row, order_unless, does, mote_of, dt_of}
+use Rattle.dg_base.specs.declared.events.Event.{Event}
+use Rattle.dg_base.specs.declared.events.Event.TheVariants.{Tick, Hear, Last, Reset, Inject, Order as OrderEvent, Frame}
+use Rattle.dg_script.specs.declared.report.Cause.TheVariants as cause
+use Rattle.dg_world.specs.Images.{Declares}
+use Rattle.dg_world.specs.Shareds.{IsShared}
+use Rattle.dg_world.specs.Worlds.{MoteStands, SiteStands}
+use Rattle.dg_world.specs.Unseen.{RefusesUnseen}
+use Rattle.dg_world.specs.Turn.{Whole, Cut}
+use Rattle.dg_world.specs.Cuts.{ended}
+use Rattle.dg_world.specs.Tellings.{turn_of, halt_of, turned, ended_as}
+use Rattle.dg_world.specs.declared.shared.Shared.{Shared}
+use Rattle.dg_world.specs.declared.telling.Fault.{Fault}
+use Rattle.dg_world.specs.declared.telling.Power.{Power}
+use Rattle.dg_world.specs.declared.telling.Power.TheVariants as power
+use Rattle.dg_world.specs.declared.telling.Telling.{Telling}
+use Rattle.dg_world.specs.declared.world.RunningMote.{RunningMote}
+
+-- ---- the mote is on
+
+-- what a mote does that is on
+pub on_unseen : {A : Type 0} (D : Option Running → Does) (x : RunningMote) (v : Option RunningMote) (c : List ℕ) (s : Store) (o : Option Running) → v ≡ Some x → MoteStands c v s o → ((r : Running) → RefusesUnseen (D (Some r)) → ⊥) → RefusesUnseen (D o) → A
+on_unseen D x v c s o is stands none unseen = by_running o (subst (λ (y : Option RunningMote). MoteStands c y s o) is stands) unseen
+  where
+    by_running : {A : Type 0} (y : Option Running) → MoteStands c (Some x) s y → RefusesUnseen (D y) → A
+    by_running None stands unseen = absurd stands
+    by_running (Some r) stands unseen = absurd (none r unseen)
+
+pub unless_unseen : (D : Does) (v : Option RunningMote) (c : List ℕ) (s : Store) (o : Option Running) → MoteStands c v s o → is_none v ≡ false → RefusesUnseen (unless_off o D) → RefusesUnseen D
+unless_unseen D None c s o stands on unseen = absurd cc
+unless_unseen D (Some x) c s None stands on unseen = absurd stands
+unless_unseen D (Some x) c s (Some r) stands on unseen = unseen
+
+-- which frame is heard
+pub unseen_at : {A : Type 0} (D : A → Does) (x y : A) → x ≡ y → RefusesUnseen (D x) → RefusesUnseen (D y)
+unseen_at D x y e unseen = subst (λ z. RefusesUnseen (D z)) e unseen
+
+-- ---- injections and orders look at the chip
+
+not_true : {A : Type 0} → false ≡ true → A
+not_true e = cc
+
+module _ (w : RuleWorld) (m now word : ℕ) (row : Row) (s : Store) where
+  abbrev Unseen : Option InjectFault → Type 0
+  Unseen o = RefusesUnseen (inject_unless o w m row now word)
+
+  by_room : {A : Type 0} (b : Bool) → Unseen (cond b (Some (inject.Worn s.room)) None) → A
+  by_room true unseen = not_true unseen
+  by_room false unseen = absurd unseen
+
+  by_other : {A : Type 0} (b : Bool) → Unseen (cond b (Some inject.Taken) None) → A
+  by_other true unseen = not_true unseen
+  by_other false unseen = absurd unseen
+
+  by_version : {A : Type 0} (h : Held) (older same : Bool) → Unseen (cond older (Some (inject.Stale h.version)) (cond same (cond (is_other h row) (Some inject.Taken) None) (cond (ltb s.room 2) (Some (inject.Worn s.room)) None))) → A
+  by_version h true same unseen = not_true unseen
+  by_version h false true unseen = by_other (is_other h row) unseen
+  by_version h false false unseen = by_room (ltb s.room 2) unseen
+
+  by_kept : {A : Type 0} (o : Option Held) → Unseen (refusal_by o s row) → A
+  by_kept None unseen = by_room (ltb s.room 2) unseen
+  by_kept (Some h) unseen = by_version h (ltb row.version h.version) (eqb h.version row.version) unseen
+
+  by_size : {A : Type 0} (empty large golden : Bool) → golden ≡ false → Unseen (cond empty (Some inject.Empty) (cond large (Some inject.TooLarge) (cond golden (Some inject.Reserved) (refusal_by (held s row.image) s row)))) → A
+  by_size true large golden other unseen = not_true unseen
+  by_size false true golden other unseen = not_true unseen
+  by_size false false true other unseen = not_true (sym other)
+  by_size false false false other unseen = by_kept (held s row.image) unseen
+
+-- an image that is not golden, and declared
+pub row_unseen : {A : Type 0} (w : RuleWorld) (m now word : ℕ) (row : Row) → eqb row.image 0 ≡ false → RefusesUnseen (inject_row w m (Some row) now word) → A
+row_unseen w m now word row other unseen =
+    by_size w m now word row (store_at w m) (eqb (length row.bytes) 0) (ltb most_bytes (length row.bytes)) (eqb row.image 0) other unseen
+
+pub image_unseen : {A : Type 0} (w : RuleWorld) (m now word image : ℕ) (known : Option Row) (row : Row) → eqb image 0 ≡ false → row.image ≡ image → known ≡ Some row
+    → RefusesUnseen (if image == 0 then Refuses cause.Reserved else inject_row w m known now word) → A
+image_unseen w m now word image known row other at some unseen =
+    let P : Bool → Option Row → Type 0 = λ x o. RefusesUnseen (if x then Refuses cause.Reserved else inject_row w m o now word) in
+    let here : P false (Some row) = subst (P false) some (subst (λ (x : Bool). P x known) other unseen) in
+    row_unseen w m now word row (ap (λ (i : ℕ). eqb i 0) at ∙ other) here
+
+order_by : {A : Type 0} (o : Option OrderFault) (w : RuleWorld) (m now word : ℕ) (order : Order) → RefusesUnseen (order_unless o w m order now word) → A
+order_by None w m now word order unseen = absurd unseen
+order_by (Some order_fault.Stopped) w m now word order unseen = not_true unseen
+order_by (Some (order_fault.Worn room)) w m now word order unseen = not_true unseen
+order_by (Some (order_fault.OldOrder kept)) w m now word order unseen = not_true unseen
+
+-- ---- each event
+
+-- what is known of an event that is refused unseen: its board is as it was, and nothing stopped
+abbrev pub Unused : {N E : Type 0} (r : Result (Unit {0}) E) (old new : N) → Type 0
+Unused r old new = (new ≡ old) × OnErr r ⊥
+
+-- what the clause `unseen` of `happen` says
+abbrev pub StaysUnused : {N E : Type 0} → Result (Unit {0}) E → (old new : N) → RuleWorld → Shared → Device → Option RunningMote → ℕ → Event → Type 0
+StaysUnused r old new w shared a v now event =
+    IsShared shared w → SiteStands a v (site w (mote_of event)) → now ≡ w.moment + dt_of event → RefusesUnseen (does w event) → Unused r old new
+
+module _ {N E : Type 0} (r : Result (Unit {0}) E) (old new : N) (w : RuleWorld) (shared : Shared) (a : Device) (v : Option RunningMote) (now : ℕ) where
+  at_moment : (D : ℕ → Does) (moment : ℕ) → now ≡ moment → RefusesUnseen (D moment) → RefusesUnseen (D now)
+  at_moment D moment e unseen = subst (λ (n : ℕ). RefusesUnseen (D n)) (sym e) unseen
+
+  pub tick_unseen : (m dt word : ℕ) → (SiteStands a v (site w m) → RefusesUnseen (tick_by w (store_at w m) (site w m).runs now word) → Unused r old new) → StaysUnused r old new w shared a v now (Tick m dt word)
+  unfolding does
+  tick_unseen m dt word stays = λ is stands at unseen. stays stands (at_moment (λ n. tick_by w (store_at w m) (site w m).runs n word) _ at unseen)
+
+  pub hear_unseen : (m dt word number : ℕ) → (IsShared shared w → SiteStands a v (site w m) → RefusesUnseen (unless_off (site w m).runs (heard_sent w m now word (frame_at w number))) → Unused r old new)
+      → StaysUnused r old new w shared a v now (Hear m dt word number)
+  unfolding does
+  hear_unseen m dt word number stays = λ is stands at unseen. stays is stands (at_moment (λ n. unless_off (site w m).runs (heard_sent w m n word (frame_at w number))) _ at unseen)
+
+  pub last_unseen : (from to dt word : ℕ)
+      → (IsShared shared w → SiteStands a v (site w to) → RefusesUnseen (unless_off (site w to).runs (if linked w from to then heard_last w from to now word (last_frame w from) else Refuses cause.Link)) → Unused r old new)
+      → StaysUnused r old new w shared a v now (Last from to dt word)
+  unfolding does
+  last_unseen from to dt word stays = λ is stands at unseen.
+      stays is stands (at_moment (λ n. unless_off (site w to).runs (if linked w from to then heard_last w from to n word (last_frame w from) else Refuses cause.Link)) _ at unseen)
+
+  pub frame_unseen : (m dt word : ℕ) (bytes : List ℕ) → (SiteStands a v (site w m) → RefusesUnseen (hear_by w (store_at w m) (site w m).runs now word bytes) → Unused r old new) → StaysUnused r old new w shared a v now (Frame m dt word bytes)
+  unfolding does
+  frame_unseen m dt word bytes stays = λ is stands at unseen. stays stands (at_moment (λ n. hear_by w (store_at w m) (site w m).runs n word bytes) _ at unseen)
+
+  pub reset_unseen : (m dt word : ℕ) → StaysUnused r old new w shared a v now (Reset m dt word)
+  unfolding does
+  reset_unseen m dt word = λ is stands at unseen. absurd unseen
+
+  pub inject_unseen : (m image version dt word : ℕ)
+      → (Declares shared.images w.declared → RefusesUnseen (if image == 0 then Refuses cause.Reserved else inject_row w m (row_at w.declared image version) now word) → Unused r old new)
+      → StaysUnused r old new w shared a v now (Inject m image version dt word)
+  unfolding does
+  inject_unseen m image version dt word stays = λ is stands at unseen.
+      stays is.declared (at_moment (λ n. if image == 0 then Refuses cause.Reserved else inject_row w m (row_at w.declared image version) n word) _ at unseen)
+
+  pub order_unseen : (m number image version dt word : ℕ) → StaysUnused r old new w shared a v now (OrderEvent m number image version dt word)
+  unfolding does
+  order_unseen m number image version dt word = λ is stands at unseen.
+      let order : Order = record { number = number; image = image; version = version } in
+      order_by (order_refusal (store_at w m) order) w m (w.moment + dt) word order unseen
+
+-- ---- over a fuse
+
+-- where nothing stopped, no power was cut
+pub ended_on : (r : Result Power Fault) (done : Result (Unit {0}) Fault) (b : Bool) (t : Telling) → ended_as r t ≡ ended b (turned done t) → OnErr done ⊥ → r ≡ Ok power.Stays
+ended_on (Ok power.Stays) (Ok u) b t e on = refl
+ended_on (Ok power.Cut) (Ok u) b t e on = absurd (let f : Ok (Cut t.before) ≡ Ok (Whole (turn_of t)) = e in cc)
+ended_on (Err f) (Ok u) b t e on = absurd (let f : Err (halt_of f t.before) ≡ Ok (Whole (turn_of t)) = e in cc)
+ended_on r (Err f) b t e on = absurd on
+
+-- which arm of a step it is not
+pub not_err : {A E : Type 0} (r : Result (Unit {0}) E) (f : E) → r ≡ Err f → OnErr r ⊥ → A
+not_err (Ok u) f e on = absurd cc
+not_err (Err f) g e on = absurd on
+
+pub not_stays : {A : Type 0} (r : Result Power Fault) (f : Fault) → r ≡ Err f → r ≡ Ok power.Stays → A
+not_stays r f e on = let g : Err f ≡ Ok power.Stays = sym e ∙ on in absurd cc
+
+pub not_cut : {A : Type 0} (r : Result Power Fault) → r ≡ Ok power.Cut → r ≡ Ok power.Stays → A
+not_cut r e on = let g : Ok power.Cut ≡ Ok power.Stays = sym e ∙ on in absurd cc
+
+-- ---- the boards
+
+-- a board that is as it was is put back
+pub put_back : {A : Type 0} (xs : List A) (i : ℕ) (x y : A) → slice_get xs i ≡ Some x → y ≡ x → slice_set xs i y ≡ xs
+put_back [] i x y at same = cc
+put_back (z ∷ zs) zero x y at same = let here : z ≡ x = cc in ap (λ v. v ∷ zs) (same ∙ sym here)
+put_back (z ∷ zs) (suc i) x y at same = ap (λ vs. z ∷ vs) (put_back zs i x y at same)
