@@ -13,6 +13,7 @@ use Rattle.dg_base.specs.declared.answers.Status.TheVariants as status
 use Rattle.dg_nor.specs.Device.{Device}
 use Rattle.dg_rules.specs.Sizes.{most_events}
 use Rattle.dg_rules.specs.Changes.{final_lines}
+use Rattle.dg_script.specs.Sizes.{most_used_bytes}
 use Rattle.dg_script.specs.Items.{Item, Happens as Happened, cut_by, cut_behind, place_behind, items_behind, items_of}
 use Rattle.dg_replay.specs.Items.{lacking, lacking_by, beginning_of, motes_in, next_items, is_event, events_among}
 use Rattle.dg_world.specs.Worlds.{IsWorld}
@@ -361,12 +362,12 @@ pub whole_none : whole_lines [] ≡ []
 unfolding whole_lines
 whole_none = refl
 
-over_not : (text : List ℕ) → length text ≤ 16777216 → is_over text ≡ false
-over_not text h = below_is_false 16777216 (length text) h
+over_not : (text : List ℕ) → length text ≤ most_used_bytes → is_over text ≡ false
+over_not text h = below_is_false most_used_bytes (length text) h
 
 -- the bytes that are used of an input
-pub used_all : (text : List ℕ) → length text ≤ 16777216 → take (length text) text ≡ used text
-used_all text h = take-length text ∙ ap (λ (b : Bool). if b then whole_lines (take 16777216 text) else text) (sym (over_not text h))
+pub used_all : (text : List ℕ) → length text ≤ most_used_bytes → take (length text) text ≡ used text
+used_all text h = take-length text ∙ ap (λ (b : Bool). if b then whole_lines (take most_used_bytes text) else text) (sym (over_not text h))
 
 pub taken_length : (n : ℕ) (xs : List ℕ) → n ≤ length xs → n ≡ length (take n xs)
 taken_length n xs h = omega (arith, length-take n xs, h)
@@ -374,17 +375,17 @@ taken_length n xs h = omega (arith, length-take n xs, h)
 used_front_of : (k : ℕ) (text : List ℕ) (n : ℕ) → k < length text → n ≤ length (take k text) → take n (take k text) ≡ whole_lines (take k text) → take n text ≡ whole_lines (take k text)
 used_front_of k text n more within whole = sym (take-take n k text (omega (arith, length-take k text, within))) ∙ whole
 
-pub used_front : (text : List ℕ) (n : ℕ) → 16777216 < length text → n ≤ length (take 16777216 text) → take n (take 16777216 text) ≡ whole_lines (take 16777216 text) → take n text ≡ used text
-used_front text n more within whole = used_front_of 16777216 text n more within whole ∙ ap (λ (b : Bool). if b then whole_lines (take 16777216 text) else text) (sym (over_is 16777216 (length text) more))
+pub used_front : (text : List ℕ) (n : ℕ) → most_used_bytes < length text → n ≤ length (take most_used_bytes text) → take n (take most_used_bytes text) ≡ whole_lines (take most_used_bytes text) → take n text ≡ used text
+used_front text n more within whole = used_front_of most_used_bytes text n more within whole ∙ ap (λ (b : Bool). if b then whole_lines (take most_used_bytes text) else text) (sym (over_is most_used_bytes (length text) more))
 
-pub is_over-true : (text : List ℕ) → 16777216 < length text → is_over text ≡ true
-is_over-true text more = over_is 16777216 (length text) more
+pub is_over-true : (text : List ℕ) → most_used_bytes < length text → is_over text ≡ true
+is_over-true text more = over_is most_used_bytes (length text) more
 
 below_true : (n m : ℕ) → nat_lt n m ≡ true → n < m
 below_true n m e = grind (arith, nat_tests)
 
-pub over_more : (input : List ℕ) → is_over input ≡ true → 16777216 < length input
-over_more input over = below_true 16777216 (length input) over
+pub over_more : (input : List ℕ) → is_over input ≡ true → most_used_bytes < length input
+over_more input over = below_true most_used_bytes (length input) over
 
 -- an input that is known to be too long, and one that is known not to be
 pub at_over : (result : Status) (script : Script) (over : Bool) (n : ℕ) (p : Player) (initial now : List Device) (before mid after : Option (List ℕ)) (failed worse : Type 0) → over ≡ true → (failed → worse)

@@ -6,6 +6,7 @@ use Rattle.std.specs.Str.Lines.{lines, lines_of_parts, strip_carriage_return}
 use Rattle.std.proofs.lemmas.List.Splits.{slice_split-cons_yes, slice_split-cons_no, length-slice_split}
 use Rattle.std.proofs.Math.Seq.{take-append-add}
 use Rattle.dg_nor.specs.Device.{Device}
+use Rattle.dg_script.specs.Sizes.{most_used_bytes}
 use Rattle.dg_script.specs.Lines.{line_of}
 use Rattle.dg_script.specs.Places.{first_place, place_after}
 use Rattle.dg_script.specs.Script.{Script, script_from, with_line}
@@ -121,8 +122,8 @@ begins_used k true front more is few =
     )
 
 -- whatever follows whole lines, and whether that is too much, they are the first lines of what is used
-pub used_begins : (front more : List ℕ) → IsFront front → length front ≤ 16777216 → (rest : List (List ℕ)) × (lines (used (front ++ more)) ≡ lines front ++ rest)
-used_begins front more is few = begins_used 16777216 (is_over (front ++ more)) front more is few
+pub used_begins : (front more : List ℕ) → IsFront front → length front ≤ most_used_bytes → (rest : List (List ℕ)) × (lines (used (front ++ more)) ≡ lines front ++ rest)
+used_begins front more is few = begins_used most_used_bytes (is_over (front ++ more)) front more is few
 
 -- ---- scripts
 
@@ -147,13 +148,13 @@ script_begins : (input : List ℕ) (texts rest : List (List ℕ)) → lines (use
 unfolding script_of
 script_begins input texts rest are = ap (λ (ls : List (List ℕ)). script_from (not (is_over input)) first_place 1 ls) are
 
-pub front_begins : (front more : List ℕ) → IsFront front → length front ≤ 16777216 → BeginsAs (script_from false first_place 1 (lines front)) (script_of (front ++ more))
+pub front_begins : (front more : List ℕ) → IsFront front → length front ≤ most_used_bytes → BeginsAs (script_from false first_place 1 (lines front)) (script_of (front ++ more))
 front_begins front more is few =
     let u = used_begins front more is few in
     subst (λ (s : Script). BeginsAs (script_from false first_place 1 (lines front)) s) (sym (script_begins (front ++ more) (lines front) u.0 u.1))
     (texts_begin (not (is_over (front ++ more))) first_place 1 (lines front) u.0)
 
-pub whole_front_begins : (front more : List ℕ) → whole_lines front ≡ front → length front ≤ 16777216 → BeginsAs (script_from false first_place 1 (lines front)) (script_of (front ++ more))
+pub whole_front_begins : (front more : List ℕ) → whole_lines front ≡ front → length front ≤ most_used_bytes → BeginsAs (script_from false first_place 1 (lines front)) (script_of (front ++ more))
 whole_front_begins front more whole few = front_begins front more (front_of_whole front whole) few
 
 -- ---- one line after the other
@@ -183,7 +184,7 @@ reads_fault texts done place n text fault r spelled ends more =
 -- ---- what the bytes that were taken settle
 
 -- the lines of whole lines are those of every input that begins with these bytes
-pub reads_whole : (front ahead : List ℕ) (done : List Line) (place : Place) (n : ℕ) → IsFront front → length front ≤ 16777216 → ReadsTo (lines front) done place n → AreWhole (front ++ ahead) done
+pub reads_whole : (front ahead : List ℕ) (done : List Line) (place : Place) (n : ℕ) → IsFront front → length front ≤ most_used_bytes → ReadsTo (lines front) done place n → AreWhole (front ++ ahead) done
 reads_whole front ahead done place n is few r = λ more.
     let input : List ℕ = front ++ (ahead ++ more) in
     let same : (front ++ ahead) ++ more ≡ input = append_assoc front ahead more in
@@ -197,7 +198,7 @@ reads_whole front ahead done place n is few r = λ more.
 fault_ends : (boards : ℕ) (a b : Bool) (done : List Line) (at : ℕ × LineFault) → ending_from boards a (record { lines = done; fault = Some at }) ≡ ending_from boards b (record { lines = done; fault = Some at })
 fault_ends boards a b done at = refl
 
-pub fault_script : (front ahead text : List ℕ) (texts : List (List ℕ)) (done : List Line) (place : Place) (n : ℕ) (fault : LineFault) → IsFront front → length front ≤ 16777216 → lines front ≡ texts ++ text ∷ []
+pub fault_script : (front ahead text : List ℕ) (texts : List (List ℕ)) (done : List Line) (place : Place) (n : ℕ) (fault : LineFault) → IsFront front → length front ≤ most_used_bytes → lines front ≡ texts ++ text ∷ []
     → ReadsTo texts done place n → line_of place text ≡ Err fault → script_of (front ++ ahead) ≡ record { lines = done; fault = Some (n, fault) }
 fault_script front ahead text texts done place n fault is few parts r spelled =
     let u = used_begins front ahead is few in
@@ -205,7 +206,7 @@ fault_script front ahead text texts done place n fault is few parts r spelled =
     script_begins (front ++ ahead) texts (text ∷ u.0) all ∙ reads_fault texts done place n text fault r spelled (not (is_over (front ++ ahead))) u.0
 
 -- a fault of a whole line settles how the script ends
-pub fault_settles : (boards : ℕ) (front ahead text : List ℕ) (texts : List (List ℕ)) (done : List Line) (place : Place) (n : ℕ) (fault : LineFault) → IsFront front → length front ≤ 16777216 → lines front ≡ texts ++ text ∷ []
+pub fault_settles : (boards : ℕ) (front ahead text : List ℕ) (texts : List (List ℕ)) (done : List Line) (place : Place) (n : ℕ) (fault : LineFault) → IsFront front → length front ≤ most_used_bytes → lines front ≡ texts ++ text ∷ []
     → ReadsTo texts done place n → line_of place text ≡ Err fault → IsSettled boards (front ++ ahead)
 fault_settles boards front ahead text texts done place n fault is few parts r spelled = λ more.
     let there : Script = record { lines = done; fault = Some (n, fault) } in

@@ -5,6 +5,7 @@ use Rattle.std.specs.Str.Lines.{lines}
 use Rattle.dg_base.specs.declared.answers.Status.TheVariants as status
 use Rattle.dg_nor.specs.Device.{Device}
 use Rattle.dg_rules.specs.World.{World}
+use Rattle.dg_script.specs.Sizes.{most_used_bytes}
 use Rattle.dg_script.specs.Fitting.{UsesBoard}
 use Rattle.dg_script.specs.Items.{Item}
 use Rattle.dg_script.specs.Places.{first_place}
@@ -102,7 +103,7 @@ lifted_stop first script initial now before after b f =
 
 -- ---- its lines are whole
 
-module _ (front ahead : List ℕ) (is : IsFront front) (few : length front ≤ 16777216) where
+module _ (front ahead : List ℕ) (is : IsFront front) (few : length front ≤ most_used_bytes) where
   begins : (more : List ℕ) → BeginsAs (script_from false first_place 1 (lines front)) (script_of ((front ++ ahead) ++ more))
   begins more = subst (λ (xs : List ℕ). BeginsAs (script_from false first_place 1 (lines front)) (script_of xs)) (sym (append_assoc front ahead more)) (front_begins front (ahead ++ more) is few)
 

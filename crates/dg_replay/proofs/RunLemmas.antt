@@ -1,5 +1,5 @@
 -- What the top call did.
-use Rattle.std.proofs.Common.{◌≡◌, ◌≢◌, ◌⊎◌, inl, inr, ℕ, ◌<◌, ◌≤◌, true, List, [], ◌∷◌, ◌++◌, length, append_assoc, refl, ap, sym, ◌∙◌, subst, arith}
+use Rattle.std.proofs.Common.{◌≡◌, ◌≢◌, ◌⊎◌, inl, inr, ℕ, ◌+◌, ◌<◌, ◌≤◌, true, List, [], ◌∷◌, ◌++◌, length, append_assoc, refl, ap, sym, ◌∙◌, subst, arith}
 use Rattle.std.specs.Prelude.{Option, Some, None}
 use Rattle.dg_base.specs.Outside.{Takes, AtEnd}
 use Rattle.dg_base.proofs.OutsideLemmas.{Puts-nil, Takes-told, Takes-all}
@@ -7,6 +7,7 @@ use Rattle.dg_base.specs.declared.answers.Status.{Status}
 use Rattle.dg_base.specs.declared.answers.Status.TheVariants.{Done, Memory, Usage, BadInput, ReadFault, WriteFault, FlashFault, NotAVolume, Refused, LinkFault, TooLong, TooMany, NoBoard, NoImage}
 use Rattle.dg_words.specs.Counts.{Rose}
 use Rattle.dg_nor.specs.Device.{Device}
+use Rattle.dg_script.specs.Sizes.{most_used_bytes}
 use Rattle.dg_script.specs.Items.{items_behind, items_of}
 use Rattle.dg_script.specs.Script.{Script}
 use Rattle.dg_script.specs.declared.line.Line.{Line}
@@ -50,12 +51,12 @@ caused_too WriteFault e r w b h = h
 caused_too FlashFault e r w b h = h
 caused_too _ e r w b h = h
 
-over_or : (input : List ℕ) (at_end : Type 0) → at_end ⊎ (16777216 < length input) → at_end ⊎ (is_over input ≡ true)
+over_or : (input : List ℕ) (at_end : Type 0) → at_end ⊎ (most_used_bytes < length input) → at_end ⊎ (is_over input ≡ true)
 over_or input at_end (inl e) = inl e
 over_or input at_end (inr more) = inr (is_over-true input more)
 
 -- a script that was read and replayed
-read_replayed : (s : Status) (text : List ℕ) (lb la wb wa : Option (List ℕ)) (rb ra kb ka : ℕ) (old new : List Device) (n : ℕ) → n ≡ length old → Takes lb la text → length text ≤ 16777217 → AtEnd la ⊎ (16777216 < length text)
+read_replayed : (s : Status) (text : List ℕ) (lb la wb wa : Option (List ℕ)) (rb ra kb ka : ℕ) (old new : List Device) (n : ℕ) → n ≡ length old → Takes lb la text → length text ≤ (most_used_bytes + 1) → AtEnd la ⊎ (most_used_bytes < length text)
     → ScriptReplayed s (script_of text) (ending_of n text) old new wb wa (Rose kb ka) → ra ≡ rb → (s ≢ WriteFault → ka ≡ kb) → Replayed s lb la wb wa rb ra kb ka old new
 read_replayed s text lb la wb wa rb ra kb ka old new n count taken few enough replayed reads writes =
     let P : ℕ → Type 0 = λ k. ScriptReplayed s (script_of text) (ending_of k text) old new wb wa (Rose kb ka) in
@@ -105,21 +106,21 @@ none_played script = record {
 }
 
 -- memory ran out in reading, and a read failed
-pub memory_unread : (bytes : List ℕ) (lb la wb : Option (List ℕ)) (rb ra k : ℕ) (old : List Device) → Takes lb la bytes → length bytes ≤ 16777217 → ra ≡ rb → Replayed Memory lb la wb wb rb ra k k old old
+pub memory_unread : (bytes : List ℕ) (lb la wb : Option (List ℕ)) (rb ra k : ℕ) (old : List Device) → Takes lb la bytes → length bytes ≤ (most_used_bytes + 1) → ra ≡ rb → Replayed Memory lb la wb wb rb ra k k old old
 memory_unread bytes lb la wb rb ra k old taken few reads =
     record { input = bytes; taken = taken; few_bytes = few; came = none_played (script_of bytes); text = []; written = Puts-nil wb; report = record { more = []; front = refl }; enough = inr (none_whole bytes); limits = none_bound (length old); boards = refl; caused = tt; read_faults = λ other. reads; write_faults = λ other. refl }
 
-pub read_failed : (bytes : List ℕ) (lb la wb : Option (List ℕ)) (rb ra k : ℕ) (old : List Device) → Takes lb la bytes → length bytes ≤ 16777217 → Rose rb ra → Replayed ReadFault lb la wb wb rb ra k k old old
+pub read_failed : (bytes : List ℕ) (lb la wb : Option (List ℕ)) (rb ra k : ℕ) (old : List Device) → Takes lb la bytes → length bytes ≤ (most_used_bytes + 1) → Rose rb ra → Replayed ReadFault lb la wb wb rb ra k k old old
 read_failed bytes lb la wb rb ra k old taken few rose =
     record { input = bytes; taken = taken; few_bytes = few; came = none_played (script_of bytes); text = []; written = Puts-nil wb; report = (refl, refl); enough = none_whole bytes; limits = none_bound (length old); boards = refl; caused = rose; read_faults = λ other. absurd (other refl); write_faults = λ other. refl }
 
 -- the same, where the text was read into a vector
-pub vector_replayed : (s : Status) (text items bytes : List ℕ) (lb la wb wa : Option (List ℕ)) (rb ra kb ka : ℕ) (old new : List Device) (n : ℕ) → text ≡ items → items ≡ bytes → n ≡ length old → Takes lb la bytes → length items ≤ 16777217 → AtEnd la ⊎ (16777216 < length items)
+pub vector_replayed : (s : Status) (text items bytes : List ℕ) (lb la wb wa : Option (List ℕ)) (rb ra kb ka : ℕ) (old new : List Device) (n : ℕ) → text ≡ items → items ≡ bytes → n ≡ length old → Takes lb la bytes → length items ≤ (most_used_bytes + 1) → AtEnd la ⊎ (most_used_bytes < length items)
     → ScriptReplayed s (script_of text) (ending_of n text) old new wb wa (Rose kb ka) → ra ≡ rb → (s ≢ WriteFault → ka ≡ kb) → Replayed s lb la wb wa rb ra kb ka old new
 vector_replayed s text items bytes lb la wb wa rb ra kb ka old new n same read count taken few enough replayed reads writes =
     let T : List ℕ → Type 0 = λ xs. Takes lb la xs in
-    let F : List ℕ → Type 0 = λ xs. length xs ≤ 16777217 in
-    let E : List ℕ → Type 0 = λ xs. AtEnd la ⊎ (16777216 < length xs) in
+    let F : List ℕ → Type 0 = λ xs. length xs ≤ (most_used_bytes + 1) in
+    let E : List ℕ → Type 0 = λ xs. AtEnd la ⊎ (most_used_bytes < length xs) in
     read_replayed s text lb la wb wa rb ra kb ka old new n count (subst T (sym (same ∙ read)) taken) (subst F (sym same) few) (subst E (sym same) enough) replayed reads writes
 
 -- the status of an ending that is the script's

@@ -4,6 +4,7 @@ use Rattle.std.specs.Prelude.{Option, Some, None, nat_lt, if◌then◌else◌, n
 use Rattle.std.specs.Str.Lines.{lines}
 use Rattle.std.proofs.lemmas.List.{take-append-le}
 use Rattle.dg_nor.specs.Device.{Device}
+use Rattle.dg_script.specs.Sizes.{most_used_bytes}
 use Rattle.dg_script.specs.Places.{first_place, place_after}
 use Rattle.dg_script.specs.Script.{Script, script_from}
 use Rattle.dg_script.specs.declared.fault.LineFault.{LineFault}
@@ -33,9 +34,9 @@ same_front k xs ys h = take-append-le k xs ys (omega (arith, h))
 
 over_used : (input more : List ℕ) → is_over input ≡ true → used (input ++ more) ≡ used input
 over_used input more over =
-    ap (λ (b : Bool). if b then whole_lines (take 16777216 (input ++ more)) else input ++ more) (still_over input more over)
+    ap (λ (b : Bool). if b then whole_lines (take most_used_bytes (input ++ more)) else input ++ more) (still_over input more over)
     ∙ ap whole_lines (same_front _ input more (over_more input over))
-    ∙ ap (λ (b : Bool). if b then whole_lines (take 16777216 input) else input) (sym over)
+    ∙ ap (λ (b : Bool). if b then whole_lines (take most_used_bytes input) else input) (sym over)
 
 over_script : (input more : List ℕ) → is_over input ≡ true → script_of (input ++ more) ≡ script_of input
 unfolding script_of

@@ -6,6 +6,7 @@ use Rattle.std.proofs.Math.Seq.{take-append-add}
 use Rattle.std.proofs.lemmas.Bool.{ne_eqb}
 use Rattle.std.proofs.lemmas.List.Elements.{All-head, All-tail}
 use Rattle.dg_nor.specs.Device.{Device}
+use Rattle.dg_script.specs.Sizes.{most_used_bytes}
 use Rattle.dg_script.specs.LineReading.{HasNoEnd}
 use Rattle.dg_script.specs.Places.{first_place}
 use Rattle.dg_script.specs.Script.{Script, script_from}
@@ -37,10 +38,10 @@ cut_whole k front ahead is few none =
     ap whole_lines cut ∙ whole_of_taken front (take left ahead) is none
 
 -- where there are more bytes than are used
-pub over_used : (front ahead : List ℕ) → IsFront front → length front ≤ 16777216 → 16777216 < length (front ++ ahead) → HasNoEnd (take (16777216 - length front) ahead) → used (front ++ ahead) ≡ front
+pub over_used : (front ahead : List ℕ) → IsFront front → length front ≤ most_used_bytes → most_used_bytes < length (front ++ ahead) → HasNoEnd (take (most_used_bytes - length front) ahead) → used (front ++ ahead) ≡ front
 over_used front ahead is few over none =
-    ap (λ (b : Bool). if b then whole_lines (take 16777216 (front ++ ahead)) else front ++ ahead) (is_over-true (front ++ ahead) over)
-    ∙ cut_whole 16777216 front ahead is few none
+    ap (λ (b : Bool). if b then whole_lines (take most_used_bytes (front ++ ahead)) else front ++ ahead) (is_over-true (front ++ ahead) over)
+    ∙ cut_whole most_used_bytes front ahead is few none
 
 -- ---- what was played
 

@@ -6,6 +6,7 @@ use Rattle.dg_base.specs.declared.answers.Status.{Status}
 use Rattle.dg_base.specs.declared.answers.Status.TheVariants.{Done, BadInput, TooLong, TooMany, NoBoard}
 use Rattle.dg_script.specs.Faults.{fault_name}
 use Rattle.dg_script.specs.Places.{first_place}
+use Rattle.dg_script.specs.Sizes.{most_used_bytes}
 use Rattle.dg_script.specs.Script.{Script, script_from}
 use Rattle.dg_script.specs.declared.line.Line.{Line}
 use Rattle.dg_script.specs.declared.fault.LineFault.{LineFault}
@@ -25,11 +26,11 @@ whole_lines (c ∷ cs) = up_to c (whole_lines cs)
 
 -- an input has more bytes than the 16,777,216 that are used
 abbrev pub is_over : List ℕ → Bool
-is_over input = nat_lt 16777216 (length input)
+is_over input = nat_lt most_used_bytes (length input)
 
 -- the bytes that are used: all, or where there are more the lines that end within the first 16,777,216
 abbrev pub used : List ℕ → List ℕ
-used input = if is_over input then whole_lines (take 16777216 input) else input
+used input = if is_over input then whole_lines (take most_used_bytes input) else input
 
 -- the script that an input spells
 unfoldable pub script_of : List ℕ → Script
@@ -73,7 +74,7 @@ pub record InBounds (boards : ℕ) (done : List Line) (items : List Item) : Type
 
 -- An input is in its grammar and limits, and there are boards for its motes.
 pub record InLimits (boards : ℕ) (input : List ℕ) : Type 0 where
-  pub bytes : length input ≤ 16777216
+  pub bytes : length input ≤ most_used_bytes
   pub grammar : (script_of input).fault ≡ None
   pub events : events_in (script_of input).lines ≤ most_events
   pub boards_enough : lacking boards (script_of input).lines ≡ None

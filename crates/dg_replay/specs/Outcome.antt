@@ -1,5 +1,5 @@
 -- What a replay did: the items that it played, what it wrote, and how it left the boards.
-use Rattle.std.specs.Prelude.{◌≡◌, ◌≢◌, ◌⊎◌, ℕ, ◌≤◌, Bool, List, [], ◌∷◌, ◌++◌, length, map, Option, Some, None}
+use Rattle.std.specs.Prelude.{◌≡◌, ◌≢◌, ◌⊎◌, ℕ, ◌+◌, ◌≤◌, Bool, List, [], ◌∷◌, ◌++◌, length, map, Option, Some, None}
 use Rattle.std.specs.List.{flat_map}
 use Rattle.dg_words.specs.Counts.{Rose}
 use Rattle.dg_base.specs.Outside.{Takes, Puts, AtEnd}
@@ -9,6 +9,7 @@ use Rattle.dg_base.specs.declared.events.Step.{Step}
 use Rattle.dg_nor.specs.Device.{Device}
 use Rattle.dg_script.specs.Report.{report_text}
 use Rattle.dg_script.specs.Fitting.{UsesBoard}
+use Rattle.dg_script.specs.Sizes.{most_used_bytes}
 use Rattle.dg_script.specs.Script.{Script}
 use Rattle.dg_script.specs.declared.line.Line.{Line}
 use Rattle.dg_script.specs.declared.line.Line.TheVariants.{Motes}
@@ -163,7 +164,7 @@ pub record Replayed (status : Status) (left_before left_after written_before wri
   -- what was taken of the input, whatever comes of it: no more than one byte past those that are used
   pub input : List ℕ
   pub taken : Takes left_before left_after input
-  pub few_bytes : length input ≤ 16777217
+  pub few_bytes : length input ≤ most_used_bytes + 1
   -- how far its script was played
   pub came : Progress (script_of input)
   -- what was written is the report of that run, or a front of it

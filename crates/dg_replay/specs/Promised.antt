@@ -12,6 +12,7 @@ use Rattle.dg_rules.specs.Premises.{IsHonestThen, HonestEvent, LeavesAgreement, 
 use Rattle.dg_rules.specs.Consistency.{WorldConsistent, LeavesConsistent, StartsSound, StopsConsistent}
 use Rattle.dg_completion.specs.Completion.{IsEnough}
 use Rattle.dg_completion.specs.Ends.{EndsInRest, PagesCome, KeepsNewest}
+use Rattle.dg_completion.specs.Played.{RoundsBring}
 use Rattle.dg_replay.specs.Items.{IsNoFrame, beginning_of}
 use Rattle.dg_replay.specs.Outcome.{Progress}
 
@@ -43,6 +44,11 @@ AllAgrees c = FramesAreHonest c → AllByRecursion LeavesAgreement c.played × I
 abbrev pub HalvesAgree : {script : Script} → Progress script → Type 0
 HalvesAgree c = (w : World) (step : Step) (loud : Bool) (more : List Item) → FramesAreHonest c → c.last ≡ Some w → c.left ≡ Happens step loud ∷ more
     → HonestEvent w.table step.event → StopsAgree w step.event
+
+-- Where it is honest, each round that was played between two neighbours, both on and with room for three commits at its end, brought the second one a page of the least image in which the first was ahead;
+-- and the 50 ticks with which one begins brought their mote to rest.
+abbrev pub RoundsBringPages : {script : Script} → Progress script → Type 0
+RoundsBringPages c = FramesAreHonest c → RoundsBring c.played
 
 -- where it is honest and ends with a rest, pages came along the links as in a pipeline, by so many sweeps as the rest has
 abbrev pub RestsFillThePipeline : {script : Script} → Progress script → Type 0

@@ -1,19 +1,20 @@
 //! How a replay ends.
-ghost use Rattle.std.specs.Prelude.{◌≡◌, ◌≢◌, ◌⊎◌, ◌≤◌, ℕ, Bool, true, not, List, [], Option, map, length, take};
+ghost use Rattle.std.specs.Prelude.{◌≡◌, ◌≢◌, ◌⊎◌, ◌+◌, ◌≤◌, ℕ, Bool, true, not, List, [], Option, map, length, take};
 ghost use Rattle.dg_words.specs.Counts.{Rose};
 ghost use Rattle.dg_nor.specs.Device.{Device};
 ghost use Rattle.dg_script.specs.Script.{Script};
+ghost use Rattle.dg_script.specs.Sizes.{most_used_bytes};
 ghost use Rattle.dg_replay.specs.Ending.{ending_from, ending_of, script_of, is_over, used, whole_lines};
 ghost use Rattle.dg_replay.specs.Playing.{Ready};
 ghost use Rattle.dg_replay.specs.Replaying.{StopEnds, Reached, ScriptReplayed};
 
 use crate::finish::{end_at_line, end_with, end_without_boards, finish};
-use crate::input::USED;
 use crate::lines::play_lines;
 use crate::player::Player;
 use crate::stop::Stop;
 use dg_base::{Sink, Status};
 use dg_nor::Nor;
+use dg_script::USED;
 use std::alloc::Global;
 
 /// The status of a replay that stopped, whose last line is written where it has one.
@@ -103,7 +104,7 @@ pub fn replay_text<K: Sink, N: Nor>(
     boards: &mut Vec<N>,
     out: &mut K,
 ) -> Status
-    requires { length text.now ≤ 16777217 }
+    requires { length text.now ≤ most_used_bytes + 1 }
     ensures replayed { ScriptReplayed result (script_of text.now) (ending_of (length boards.old.items) text.now) (map N.device boards.old.items) (map N.device boards.new.items)
         (K.written out.old) (K.written out.new) (Rose (K.faults out.old) (K.faults out.new)) }
     ensures counts { K.faults out.old ≤ K.faults out.new }

@@ -2,12 +2,11 @@
 ghost use Rattle.std.specs.Prelude.{◌≡◌, ◌≢◌, ◌⊎◌, ℕ, ◌+◌, ◌<◌, ◌≤◌, List, ◌++◌, length, vec_len, IfOk, OnOk};
 ghost use Rattle.dg_words.specs.Counts.{Rose};
 ghost use Rattle.dg_base.specs.Outside.{Takes, AtEnd};
+ghost use Rattle.dg_script.specs.Sizes.{most_used_bytes};
 
 use dg_base::{ReadFailed, Source};
+use dg_script::USED;
 use std::alloc::{AllocError, Global};
-
-/// The most bytes of an input that are used.
-pub const USED: usize = 16_777_216;
 
 /// Bytes that are asked for at once.
 const PIECE: usize = 65_536;
@@ -27,10 +26,10 @@ fn read_piece<S: Source>(
     bytes: &mut Vec<u8>,
 ) -> Result<usize, ReadStop>
     requires piece { 0 < length piece.old }
-    requires room { vec_len bytes.old ≤ USED }
-    ensures taken { (more : List ℕ) × Takes (S.left source.old) (S.left source.new) more × (vec_len bytes.old + length more ≤ USED + 1)
+    requires room { vec_len bytes.old ≤ most_used_bytes }
+    ensures taken { (more : List ℕ) × Takes (S.left source.old) (S.left source.new) more × (vec_len bytes.old + length more ≤ most_used_bytes + 1)
         × IfOk result (λ n. (n ≡ length more) × (bytes.new.items ≡ bytes.old.items ++ more)) }
-    ensures bound { OnOk result (vec_len bytes.new ≤ USED + 1) }
+    ensures bound { OnOk result (vec_len bytes.new ≤ most_used_bytes + 1) }
     ensures ended { result ≡ Ok 0 → AtEnd (S.left source.new) }
     ensures counts { S.faults source.old ≤ S.faults source.new }
     ensures failed { result ≡ Err ReadStop.ReadFault → Rose (S.faults source.old) (S.faults source.new) }
@@ -53,9 +52,9 @@ fn read_pieces<S: Source>(
     piece: &mut [u8],
 ) -> Result<Vec<u8>, ReadStop>
     requires { 0 < length piece.old }
-    ensures taken { (bytes : List ℕ) × Takes (S.left source.old) (S.left source.new) bytes × (length bytes ≤ USED + 1) × IfOk result (λ v. v.items ≡ bytes) }
-    ensures ended { IfOk result (λ v. AtEnd (S.left source.new) ⊎ (USED < length v.items)) }
-    ensures bound { IfOk result (λ v. length v.items ≤ USED + 1) }
+    ensures taken { (bytes : List ℕ) × Takes (S.left source.old) (S.left source.new) bytes × (length bytes ≤ most_used_bytes + 1) × IfOk result (λ v. v.items ≡ bytes) }
+    ensures ended { IfOk result (λ v. AtEnd (S.left source.new) ⊎ (most_used_bytes < length v.items)) }
+    ensures bound { IfOk result (λ v. length v.items ≤ most_used_bytes + 1) }
     ensures counts { S.faults source.old ≤ S.faults source.new }
     ensures failed { result ≡ Err ReadStop.ReadFault → Rose (S.faults source.old) (S.faults source.new) }
     ensures unfailed { result ≢ Err ReadStop.ReadFault → S.faults source.new ≡ S.faults source.old }
@@ -74,9 +73,9 @@ fn read_pieces<S: Source>(
 /// Whatever it answers, some bytes were taken from the source, in their order and no more than that; after Ok they
 /// are those of the answer.
 pub fn read_input<S: Source>(alloc: Global, source: &mut S) -> Result<Vec<u8>, ReadStop>
-    ensures taken { (bytes : List ℕ) × Takes (S.left source.old) (S.left source.new) bytes × (length bytes ≤ 16777217) × IfOk result (λ v. v.items ≡ bytes) }
-    ensures ended { IfOk result (λ v. AtEnd (S.left source.new) ⊎ (16777216 < length v.items)) }
-    ensures bound { IfOk result (λ v. length v.items ≤ 16777217) }
+    ensures taken { (bytes : List ℕ) × Takes (S.left source.old) (S.left source.new) bytes × (length bytes ≤ most_used_bytes + 1) × IfOk result (λ v. v.items ≡ bytes) }
+    ensures ended { IfOk result (λ v. AtEnd (S.left source.new) ⊎ (most_used_bytes < length v.items)) }
+    ensures bound { IfOk result (λ v. length v.items ≤ most_used_bytes + 1) }
     ensures counts { S.faults source.old ≤ S.faults source.new }
     ensures failed { result ≡ Err ReadStop.ReadFault → Rose (S.faults source.old) (S.faults source.new) }
     ensures unfailed { result ≢ Err ReadStop.ReadFault → S.faults source.new ≡ S.faults source.old }

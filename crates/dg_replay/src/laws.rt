@@ -3,13 +3,14 @@ ghost use Rattle.std.specs.Prelude.{◌≡◌, ◌≤◌, ℕ, List, ◌++◌, f
 ghost use Rattle.std.specs.Str.Lines.{lines};
 ghost use Rattle.dg_script.specs.Places.{first_place};
 ghost use Rattle.dg_script.specs.Script.{script_from};
+ghost use Rattle.dg_script.specs.Sizes.{most_used_bytes};
 ghost use Rattle.dg_replay.specs.Ending.{script_of, whole_lines};
 ghost use Rattle.dg_replay.specs.Fronts.{BeginsAs};
 ghost use Rattle.dg_replay.specs.Outcome.{Progress};
-ghost use Rattle.dg_replay.specs.Promised.{StepsAreLegal, PagesStay, RowsStart, AllAgrees, HalvesAgree, HonestWithoutFrames, RestsFillThePipeline, RestsComplete, StoresStayConsistent};
+ghost use Rattle.dg_replay.specs.Promised.{StepsAreLegal, PagesStay, RowsStart, AllAgrees, HalvesAgree, HonestWithoutFrames, RoundsBringPages, RestsFillThePipeline, RestsComplete, StoresStayConsistent};
 ghost use Rattle.dg_replay.specs.WholeLines.{AreWholeLines};
 
-use dg_completion::scripts_end_complete;
+use dg_completion::{rounds_of_scripts_bring_pages, scripts_end_complete};
 use dg_rules::{any_frames_leave_stores_consistent, scripts_with_golden};
 
 /// The whole lines of bytes are their longest front that is empty or ends in LF.
@@ -20,14 +21,14 @@ pub fn whole_lines_are_longest()
 /// The first lines of a script are read the same, whatever follows them. An input that begins with whole lines, of at most
 /// 16,777,216 bytes, has a script that begins as theirs, and that is theirs where one of them has a fault.
 pub fn first_lines_are_read_the_same()
-    ensures { (front more : List ℕ) → whole_lines front ≡ front → length front ≤ 16777216
+    ensures { (front more : List ℕ) → whole_lines front ≡ front → length front ≤ most_used_bytes
         → BeginsAs (script_from false first_place 1 (lines front)) (script_of (front ++ more)) }
 {}
 
 /// However far a script was played: where each frame from outside is honest by the table of its moment, each step is
 /// legal, no version falls, what starts is a row of the table, and the chips, the motes that are on and the frames that
 /// were sent agree with the table, and so does the store of each half-done chip, wherever a stop comes in the next event.
-/// Lines that bring no frame meet that. Where what was played ends with an undisturbed rest, pages come along the links as
+/// Lines that bring no frame meet that. Each round brought a page to a mote that was behind. Where what was played ends with an undisturbed rest, pages come along the links as
 /// in a pipeline, and after enough sweeps every mote keeps the newest version of every image whole. Whatever
 /// bytes frames carry, every store stays consistent, and what starts is golden, or fits its own descriptor.
 pub fn replays_keep_the_rules()
@@ -37,11 +38,13 @@ pub fn replays_keep_the_rules()
     ensures agrees { (input : List ℕ) (c : Progress (script_of input)) → AllAgrees c }
     ensures halves { (input : List ℕ) (c : Progress (script_of input)) → HalvesAgree c }
     ensures honest { (input : List ℕ) (c : Progress (script_of input)) → HonestWithoutFrames c }
+    ensures rounds { (input : List ℕ) (c : Progress (script_of input)) → RoundsBringPages c }
     ensures pipeline { (input : List ℕ) (c : Progress (script_of input)) → RestsFillThePipeline c }
     ensures completes { (input : List ℕ) (c : Progress (script_of input)) → RestsComplete c }
     ensures consistent { (input : List ℕ) (c : Progress (script_of input)) → StoresStayConsistent c }
 {
     scripts_with_golden();
     any_frames_leave_stores_consistent();
+    rounds_of_scripts_bring_pages();
     scripts_end_complete();
 }

@@ -1,5 +1,5 @@
 //! Replays a script over boards.
-ghost use Rattle.std.specs.Prelude.{◌≡◌, ◌≢◌, ◌⊎◌, ◌≤◌, [], ℕ, Bool, List, Option, Ok, map, length, OnOk, OnErr, Err};
+ghost use Rattle.std.specs.Prelude.{◌≡◌, ◌≢◌, ◌⊎◌, ◌+◌, ◌≤◌, [], ℕ, Bool, List, Option, Ok, map, length, OnOk, OnErr, Err};
 ghost use Rattle.std.specs.Str.Lines.{lines};
 ghost use Rattle.dg_words.specs.Counts.{Rose};
 ghost use Rattle.dg_base.specs.Outside.{Puts, PutsFront};
@@ -8,6 +8,7 @@ ghost use Rattle.dg_script.specs.Fitting.{StandsAt, FitsLine, IsPlayed};
 ghost use Rattle.dg_script.specs.Lines.{line_of};
 ghost use Rattle.dg_script.specs.Places.{first_place};
 ghost use Rattle.dg_script.specs.Script.{script_from};
+ghost use Rattle.dg_script.specs.Sizes.{most_used_bytes};
 ghost use Rattle.dg_rules.specs.World.{World};
 ghost use Rattle.dg_replay.specs.Playing.{Stood, Ready, Passed, MayPlay};
 ghost use Rattle.dg_replay.specs.Replaying.{StopsAtLine, BegunWritten, TextAnswer, LinesAnswer};
@@ -168,7 +169,7 @@ pub fn play_lines<K: Sink, N: Nor>(
     boards: &mut Vec<N>,
     out: &mut K,
 ) -> Result<(Player, u32), Stop>
-    requires { length text.now ≤ 16777217 }
+    requires { length text.now ≤ most_used_bytes + 1 }
     ensures answer { (ends : Bool) → LinesAnswer result ends (script_from ends first_place 1 (lines text.now)) (map N.device boards.old.items) (map N.device boards.new.items)
         (K.written out.old) (K.written out.new) (Rose (K.faults out.old) (K.faults out.new)) }
     ensures counts { K.faults out.old ≤ K.faults out.new }

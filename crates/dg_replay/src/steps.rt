@@ -4,9 +4,7 @@ ghost use Rattle.dg_rounds.specs.Rounds.{paced, passed};
 ghost use Rattle.dg_replay.specs.Steps.{IsOfRound, IsUncut};
 
 use dg_base::{Event, Step};
-
-/// The milliseconds between the ticks of a round.
-const PACE: u32 = 131_072;
+use dg_rounds::PACE;
 
 /// The four steps of which a round between two motes is made: each mote ticks, and each hears the other's last frame.
 #[derive(Drop)]

@@ -36,3 +36,9 @@ returns-clause-never g c = replayed_never _ _ _ _ _ _ _ _ _ _ _ c.read_and_repla
 
 pub returns-clause-consistent : goal.returns-clause-consistent
 returns-clause-consistent g c = λ x. c.replays_keep_the_rules.ensures.consistent x.input x.came
+
+pub returns-clause-rounds : goal.returns-clause-rounds
+returns-clause-rounds g c = λ x. c.replays_keep_the_rules.ensures.rounds x.input x.came
+
+pub returns-clause-buffers : goal.returns-clause-buffers
+returns-clause-buffers g c = let b = c.a_mote_buffers_little.ensures in (b.alive, b.values)

@@ -1,13 +1,13 @@
 use Rattle.std.proofs.Common.{◌≡◌, ◌+◌, ◌-◌, ◌≤◌, vec_len}
 use Rattle.dg_base.specs.Outside.{Takes}
-use Rattle.dg_replay.specs.declared.input.TheConstants.{USED}
+use Rattle.dg_script.specs.Sizes.{most_used_bytes}
 use Rattle.dg_replay.proofs.input.read_pieces.Given as goal
 
 -- the bytes were taken from the source, and are at most one more than those that are used
 abbrev pub invariant-loop-source : goal.invariant-loop-source
 invariant-loop-source g l =
     Takes (g.S.Source.left l.initial.source) (g.S.Source.left l.source) l.bytes.items
-    × (g.S.Source.faults l.source ≡ g.S.Source.faults l.initial.source) × (vec_len l.bytes ≤ USED + 1)
+    × (g.S.Source.faults l.source ≡ g.S.Source.faults l.initial.source) × (vec_len l.bytes ≤ most_used_bytes + 1)
 
 abbrev pub decreases-loop-source : goal.decreases-loop-source
-decreases-loop-source g l = USED + 1 - vec_len l.bytes
+decreases-loop-source g l = most_used_bytes + 1 - vec_len l.bytes

@@ -5,6 +5,7 @@ use Rattle.dg_rules.specs.World.{World}
 use Rattle.dg_rules.specs.Runs.{Played, EachAfter}
 use Rattle.dg_rules.specs.Promises.{IsLegal, KeepsAll, StartsRow}
 use Rattle.dg_rules.specs.Premises.{IsHonestThen, LeavesAgreement, WorldAgrees}
+use Rattle.dg_completion.specs.Played.{RoundsBring}
 use Rattle.dg_replay.proofs.GoldenLemmas.{holds_of_runs, holds_of_worlds, progress_honest, ended_complete, ended_pipelined, halves_agree}
 use Rattle.dg_replay.proofs.ConsistentLemmas.{progress_consistent}
 use Rattle.dg_replay.specs.Ending.{script_of}
@@ -26,6 +27,11 @@ returns-clause-agrees c =
 
 pub returns-clause-halves : goal.returns-clause-halves
 returns-clause-halves c = λ input came w step loud more honest is next here. halves_agree c.scripts_with_golden.ensures.halves input came w step loud more honest is next here
+
+pub returns-clause-rounds : goal.returns-clause-rounds
+returns-clause-rounds c =
+    let rounds = c.rounds_of_scripts_bring_pages.ensures in
+    holds_of_runs (λ (ps : List Played). AllByRecursion IsHonestThen ps → RoundsBring ps) (λ honest. rounds.nothing) rounds.brings
 
 pub returns-clause-pipeline : goal.returns-clause-pipeline
 returns-clause-pipeline c = λ input came w v t honest is ends. ended_pipelined c.scripts_end_complete.ensures.pipeline input came w v t honest is ends
