@@ -2,11 +2,11 @@
 ghost use Rattle.std.specs.Prelude.{◌≡◌, ◌≢◌, ◌⊎◌, ◌≤◌, ℕ, List, Some, map, length, string_bytes};
 ghost use Rattle.std.specs.Bool.{OnTrue, OnFalse};
 ghost use Rattle.dg_words.specs.Counts.{Rose};
-ghost use Rattle.dg_mote.specs.Sizes.{buffered_bytes, most_buffered};
+ghost use Rattle.dg_mote.specs.Sizes.{BuffersFit, ValuesAreSmall};
 ghost use Rattle.dg_replay.specs.Ending.{InLimits, script_of};
 ghost use Rattle.dg_replay.specs.Items.{motes_in};
 ghost use Rattle.dg_replay.specs.Outcome.{Replayed};
-ghost use Rattle.dg_replay.specs.Promised.{StepsAreLegal, PagesStay, RowsStart, AllAgrees, HalvesAgree, HonestWithoutFrames, RestsFillThePipeline, RestsComplete, StoresStayConsistent};
+ghost use Rattle.dg_replay.specs.Promised.{StepsAreLegal, PagesStay, RowsStart, AllAgrees, HalvesAgree, HonestWithoutFrames, RoundsBringPages, RestsFillThePipeline, RestsComplete, StoresStayConsistent};
 ghost use Rattle.dg_replay.specs.Boards.{BoardStopped};
 ghost use Rattle.dg_cli.specs.Words.{IsReplay, Unknown, UsageTold};
 
@@ -80,6 +80,11 @@ pub fn run<S: Source, K: Sink, N: Nor>(
     ensures honest { (x : Replayed result (S.left input.old) (S.left input.new) (K.written out.old) (K.written out.new)
         (S.faults input.old) (S.faults input.new) (K.faults out.old) (K.faults out.new) (map N.device boards.old.items) (map N.device boards.new.items))
         → HonestWithoutFrames x.came }
+    // There each round that was played between two neighbours, both on and with room for three commits at its end, and in
+    // which no power was cut, brought the second mote a page of the least image in which the first was ahead.
+    ensures rounds { (x : Replayed result (S.left input.old) (S.left input.new) (K.written out.old) (K.written out.new)
+        (S.faults input.old) (S.faults input.new) (K.faults out.old) (K.faults out.new) (map N.device boards.old.items) (map N.device boards.new.items))
+        → RoundsBringPages x.came }
     // There pages go along the links as in a pipeline: where the run ends with an undisturbed rest of t sweeps, in which every
     // mote is on and has room for three commits at its end, a mote within j links of a whole image has t + 1 - j pages of it,
     // or all, if every smaller image was whole everywhere.
@@ -95,8 +100,9 @@ pub fn run<S: Source, K: Sink, N: Nor>(
     ensures consistent { (x : Replayed result (S.left input.old) (S.left input.new) (K.written out.old) (K.written out.new)
         (S.faults input.old) (S.faults input.new) (K.faults out.old) (K.faults out.new) (map N.device boards.old.items) (map N.device boards.new.items))
         → StoresStayConsistent x.came }
-    // A mote buffers no more than 256 bytes.
-    ensures buffers { buffered_bytes ≤ most_buffered }
+    // All arrays of bytes that are alive at once in a mote's call have no more than 256, and beside the outbox and its sets
+    // none lies in the value of a mote.
+    ensures buffers { BuffersFit × ValuesAreSmall }
     ensures usage { (IsReplay (map string_bytes words.now.items) → ⊥) → Unknown result (S.left input.old) (S.left input.new) (K.written out.old) (K.written out.new)
         (K.faults out.old) (K.faults out.new) (map N.device boards.old.items) (map N.device boards.new.items) }
     ensures untouched { (IsReplay (map string_bytes words.now.items) → ⊥) → input.new ≡ input.old }

@@ -68,3 +68,15 @@ returns-then-is_replay-clause-consistent g c = λ x. c.replays_keep_the_rules.en
 
 pub returns-clause-consistent : goal.returns-clause-consistent
 returns-clause-consistent g c = λ x. c.replays_keep_the_rules.ensures.consistent x.input x.came
+
+pub returns-then-is_replay-clause-rounds : goal.returns-then-is_replay-clause-rounds
+returns-then-is_replay-clause-rounds g c = λ x. c.replays_keep_the_rules.ensures.rounds x.input x.came
+
+pub returns-clause-rounds : goal.returns-clause-rounds
+returns-clause-rounds g c = λ x. c.replays_keep_the_rules.ensures.rounds x.input x.came
+
+pub returns-then-is_replay-clause-buffers : goal.returns-then-is_replay-clause-buffers
+returns-then-is_replay-clause-buffers g c = let b = c.a_mote_buffers_little.ensures in (b.alive, b.values)
+
+pub returns-clause-buffers : goal.returns-clause-buffers
+returns-clause-buffers g c = let b = c.a_mote_buffers_little.ensures in (b.alive, b.values)
