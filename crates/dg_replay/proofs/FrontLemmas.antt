@@ -1,11 +1,10 @@
 -- The first lines of a script, and what comes behind them.
-use Rattle.std.proofs.Common.{◌≡◌, ◌≢◌, ◌⊎◌, inl, inr, ℕ, ◌+◌, ◌-◌, ◌<◌, ◌≤◌, ◌==◌, Bool, true, false, cond, not, List, [], ◌∷◌, ◌++◌, length, map, take, append-nil, append_assoc, length-append, refl, ap, sym, ◌∙◌, subst, arith, ⊎_elim}
-use Rattle.std.specs.Prelude.{Option, Some, None, Result, Ok, Err, if◌then◌else◌, nat_lt}
+use Rattle.std.proofs.Common.{◌≡◌, inl, inr, ℕ, ◌+◌, ◌-◌, ◌<◌, ◌≤◌, ◌==◌, Bool, true, false, not, List, [], ◌∷◌, ◌++◌, length, map, take, append-nil, append_assoc, length-append, refl, ap, sym, ◌∙◌, subst, arith}
+use Rattle.std.specs.Prelude.{Some, Result, Ok, Err, if◌then◌else◌}
 use Rattle.std.specs.List.{slice_split, onto_first}
 use Rattle.std.specs.Str.Lines.{lines, lines_of_parts, strip_carriage_return}
 use Rattle.std.proofs.lemmas.List.Splits.{slice_split-cons_yes, slice_split-cons_no, length-slice_split}
 use Rattle.std.proofs.Math.Seq.{take-append-add}
-use Rattle.dg_nor.specs.Device.{Device}
 use Rattle.dg_script.specs.Sizes.{most_used_bytes}
 use Rattle.dg_script.specs.Lines.{line_of}
 use Rattle.dg_script.specs.Places.{first_place, place_after}
@@ -13,12 +12,9 @@ use Rattle.dg_script.specs.Script.{Script, script_from, with_line}
 use Rattle.dg_script.specs.declared.fault.LineFault.{LineFault}
 use Rattle.dg_script.specs.declared.line.Line.{Line}
 use Rattle.dg_script.specs.declared.place.Place.{Place}
-use Rattle.dg_rules.specs.Sizes.{most_events}
-use Rattle.dg_replay.specs.Items.{lacking}
-use Rattle.dg_replay.specs.Ending.{TooManyEvents, events_in, by_fault, by_boards, by_events, up_to, whole_lines, used, is_over, script_of, ending_from, ending_of}
+use Rattle.dg_replay.specs.Ending.{up_to, whole_lines, used, is_over, script_of, ending_from}
 use Rattle.dg_replay.specs.Fronts.{IsFront, BeginsAs, ReadsTo}
 use Rattle.dg_replay.specs.Outcome.{IsSettled, AreWhole}
-use Rattle.dg_replay.specs.WholeLines.{AreWholeLines}
 use Rattle.dg_replay.proofs.ReplayLemmas.{script_line, script_fault}
 use Rattle.dg_replay.proofs.WholeLemmas.{are_whole_lines}
 

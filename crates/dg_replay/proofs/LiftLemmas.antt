@@ -1,6 +1,6 @@
 -- What was played of the whole lines that were read is a run of the script of every input that begins with them.
-use Rattle.std.proofs.Common.{◌≡◌, ◌≢◌, ◌⊎◌, inl, inr, ℕ, ◌+◌, ◌≤◌, Bool, false, List, [], ◌∷◌, ◌++◌, length, append_assoc, refl, ap, sym, ◌∙◌, subst}
-use Rattle.std.specs.Prelude.{Option, Some, None, Result, Ok, Err}
+use Rattle.std.proofs.Common.{◌≡◌, ◌≢◌, inl, inr, ℕ, ◌≤◌, false, List, [], ◌∷◌, ◌++◌, length, append_assoc, refl, ap, sym, ◌∙◌, subst}
+use Rattle.std.specs.Prelude.{Option}
 use Rattle.std.specs.Str.Lines.{lines}
 use Rattle.dg_base.specs.declared.answers.Status.TheVariants as status
 use Rattle.dg_nor.specs.Device.{Device}

@@ -1,7 +1,6 @@
 -- What is used of the bytes that were taken, where no line ends among those behind the lines that were played.
-use Rattle.std.proofs.Common.{◌≡◌, ◌≢◌, ℕ, ◌+◌, ◌-◌, ◌<◌, ◌≤◌, ◌==◌, Bool, true, false, not, List, [], ◌∷◌, ◌++◌, length, take, All, append-nil, refl, ap, sym, ◌∙◌, subst, arith}
+use Rattle.std.proofs.Common.{◌≡◌, ◌≢◌, ℕ, ◌+◌, ◌-◌, ◌<◌, ◌≤◌, Bool, false, List, [], ◌∷◌, ◌++◌, length, take, append-nil, refl, ap, sym, ◌∙◌, arith}
 use Rattle.std.specs.Prelude.{if◌then◌else◌, None, Option}
-use Rattle.std.specs.Str.Lines.{lines}
 use Rattle.std.proofs.Math.Seq.{take-append-add}
 use Rattle.std.proofs.lemmas.Bool.{ne_eqb}
 use Rattle.std.proofs.lemmas.List.Elements.{All-head, All-tail}
@@ -9,9 +8,9 @@ use Rattle.dg_nor.specs.Device.{Device}
 use Rattle.dg_script.specs.Sizes.{most_used_bytes}
 use Rattle.dg_script.specs.LineReading.{HasNoEnd}
 use Rattle.dg_script.specs.Places.{first_place}
-use Rattle.dg_script.specs.Script.{Script, script_from}
+use Rattle.dg_script.specs.Script.{script_from}
 use Rattle.dg_script.specs.declared.line.Line.{Line}
-use Rattle.dg_replay.specs.Ending.{up_to, whole_lines, used, is_over, script_of}
+use Rattle.dg_replay.specs.Ending.{up_to, whole_lines, used}
 use Rattle.dg_replay.specs.Fronts.{IsFront}
 use Rattle.dg_replay.specs.Replaying.{Reached}
 use Rattle.dg_replay.specs.declared.player.Player.{Player}

@@ -1,5 +1,5 @@
 -- What the first lines of a script settle, whatever comes behind them.
-use Rattle.std.specs.Prelude.{◌≡◌, ◌⊎◌, ℕ, Bool, List, [], ◌∷◌, ◌++◌, Option, Some}
+use Rattle.std.specs.Prelude.{◌≡◌, ◌⊎◌, ℕ, Bool, List, [], ◌∷◌, ◌++◌, Some}
 use Rattle.dg_script.specs.Places.{first_place}
 use Rattle.dg_script.specs.Script.{Script, script_from}
 use Rattle.dg_script.specs.declared.fault.LineFault.{LineFault}
