@@ -1,7 +1,7 @@
 //! `deluge` reprograms a network of motes over many hops. `run` of `dg_cli` does all that it does.
 #![tactic(auto)]
 
-use dg_base::{Status, StdSink, StdSource};
+use dg_base::{MOST_MOTES, Status, StdSink, StdSource};
 use dg_cli::run;
 use dg_nor::Board;
 use std::env;
@@ -11,9 +11,6 @@ use std::process::ExitCode;
 
 /// What is handed on in place of words of which one is not UTF-8. It is no command.
 const NOT_TEXT: &str = "\u{fffd}";
-
-/// The most motes of a script.
-const MOST_MOTES: usize = 16;
 
 /// The words after the program's name. None where memory runs out.
 fn words(rt: &HostRuntime) -> Option<Vec<String>> {
