@@ -1,6 +1,6 @@
 use Rattle.std.proofs.Common.{ap, ◌∙◌}
 use Rattle.std.specs.FinSet as set
-use Rattle.dg_bits.specs.SetLaws.{contains-none}
+use Rattle.dg_bits.proofs.SetLaws.{contains-none}
 use Rattle.dg_slot.proofs.tests.fill.Goals as goal
 
 pub put_page-requires : goal.put_page-requires

@@ -1,7 +1,7 @@
 use Rattle.std.proofs.Common.{◌≢◌, ◌||◌, ap, ◌∙◌, arith, ⊎_elim}
 use Rattle.std.proofs.lemmas.Bool.{cases_eq, eq-eqb, ne_eqb}
 use Rattle.std.specs.FinSet as set
-use Rattle.dg_bits.specs.SetLaws.{contains-put}
+use Rattle.dg_bits.proofs.SetLaws.{contains-put}
 use Rattle.dg_slot.specs.Jobs.{got_told}
 use Rattle.dg_slot.proofs.tests.put_page.Goals as goal
 

@@ -2,7 +2,7 @@ use Rattle.std.proofs.Common.{◌≡◌, ℕ, ◌+◌, Bool, true, false, eqb, r
 use Rattle.std.specs.Prelude.{◌||◌}
 use Rattle.std.specs.FinSet as set
 use Rattle.std.proofs.lemmas.Bool.{eq-eqb, ne_eqb}
-use Rattle.dg_bits.specs.SetLaws.{contains-none, contains-put}
+use Rattle.dg_bits.proofs.SetLaws.{contains-none, contains-put}
 use Rattle.dg_nor.specs.Chip.{Touches}
 use Rattle.dg_nor.proofs.ChipLemmas.{Touches-same, Touches_then}
 use Rattle.dg_nor.proofs.DeviceLemmas.{OnErr_from, Ran-none, Ran_then}
