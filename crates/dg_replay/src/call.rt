@@ -9,9 +9,9 @@ ghost use Rattle.dg_replay.specs.Promised.{StepsAreLegal, PagesStay, RowsStart, 
 ghost use Rattle.dg_replay.specs.Boards.{BoardStopped};
 
 use crate::ends::replay_text;
-use crate::input::{ReadStop, read_input};
 use crate::laws::replays_keep_the_rules;
 use dg_base::{Sink, Source, Status};
+use dg_input::{ReadStop, read_input};
 use dg_mote::a_mote_buffers_little;
 use dg_nor::Nor;
 use std::alloc::Global;

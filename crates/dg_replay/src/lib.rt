@@ -8,7 +8,6 @@
 mod call;
 mod ends;
 mod finish;
-mod input;
 mod items;
 mod laws;
 mod lines;

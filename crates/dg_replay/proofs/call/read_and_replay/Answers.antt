@@ -1,7 +1,7 @@
 use Rattle.std.proofs.Common.{sym, ap, Err}
 use Rattle.std.proofs.lemmas.List.{length-map}
 use Rattle.std.proofs.Common.{◌≡◌, ◌∙◌}
-use Rattle.dg_replay.specs.declared.input.ReadStop.TheVariants.{Memory, ReadFault}
+use Rattle.dg_input.specs.declared.ReadStop.TheVariants.{Memory, ReadFault}
 use Rattle.dg_replay.proofs.RunLemmas.{vector_replayed, memory_unread, read_failed}
 use Rattle.dg_replay.proofs.ReplayLemmas.{ok_differs, err_differs}
 use Rattle.dg_replay.proofs.call.read_and_replay.Goals as goal

@@ -1,7 +1,7 @@
 use Rattle.std.proofs.Common.{◌≡◌, ◌++◌, length-append, arith}
 use Rattle.std.proofs.lemmas.Result.{IfOk-from_err}
 use Rattle.dg_base.proofs.OutsideLemmas.{Takes-join}
-use Rattle.dg_replay.proofs.input.read_pieces.Goals as goal
+use Rattle.dg_input.proofs.read_pieces.Goals as goal
 
 -- the bytes before this piece, and those that came with the failure
 pub returns-in_err-read_piece-clause-taken : goal.returns-in_err-read_piece-clause-taken

@@ -1,7 +1,7 @@
 use Rattle.std.proofs.Common.{◌≡◌, ◌+◌, ◌-◌, ◌≤◌, vec_len}
 use Rattle.dg_base.specs.Outside.{Takes}
 use Rattle.dg_script.specs.Sizes.{most_used_bytes}
-use Rattle.dg_replay.proofs.input.read_pieces.Given as goal
+use Rattle.dg_input.proofs.read_pieces.Given as goal
 
 -- the bytes were taken from the source, and are at most one more than those that are used
 abbrev pub invariant-loop-source : goal.invariant-loop-source
