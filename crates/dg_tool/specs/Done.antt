@@ -1,0 +1,184 @@
+-- What a verb over the first board did.
+use Rattle.std.specs.Prelude.{◌≡◌, ◌≢◌, ◌⊎◌, ℕ, zero, suc, ◌<◌, ◌≤◌, true, List, [], length, drop, take, slice_get, Option, Some, None, IfSome}
+use Rattle.dg_words.specs.Counts.{Rose}
+use Rattle.dg_base.specs.Outside.{Takes, Puts, AtEnd}
+use Rattle.dg_base.specs.declared.answers.Status.{Status}
+use Rattle.dg_base.specs.declared.answers.Status.TheVariants.{Done, Memory, BadInput, ReadFault, WriteFault, FlashFault, NotAVolume, Refused, TooLong, NoBoard, NoImage}
+use Rattle.dg_nor.specs.Device.{Device, Ran, Halted}
+use Rattle.dg_nor.specs.Reads.{Looked, ReadStopped}
+use Rattle.dg_nor.specs.Trail.{Trail, operations, last}
+use Rattle.dg_object.specs.Object.{Row}
+use Rattle.dg_slot.specs.Pages.{program}
+use Rattle.dg_volume.specs.Acts.{Stops}
+use Rattle.dg_volume.specs.Formatting.{format_operations, GoldenFirst}
+use Rattle.dg_volume.specs.Start.{Boot}
+use Rattle.dg_volume.specs.Store.{Store, fresh, golden_row}
+use Rattle.dg_volume.specs.Stands.{Stands}
+use Rattle.dg_tool.specs.Endings.{Ending, Ends, NoBoards, Over, FaultAt, Unfit, NoVolume, Refuses, LacksImage, status_of, text_of}
+
+-- ---- acts on the first board
+
+-- the board went a trail of stores to its end
+pub record Went (t : Trail Store) (a b : Device) : Type 0 where
+  pub ran : Ran (operations t) a b
+  pub stands : Stands b.image (last t)
+
+-- an act that makes this trail of the board's store was done; only a volume is acted on
+abbrev pub WentOn : (Store → Trail Store) → Option Store → Device → Device → Type 0
+WentOn trail None a b = ⊥
+WentOn trail (Some s) a b = Went (trail s) a b
+
+-- It was stopped, and which stores that may leave. A board that is no volume keeps its bytes.
+abbrev pub StopsOn : (Store → Trail Store) → Option Store → Device → Device → Type 0
+StopsOn trail None a b = ReadStopped a b
+StopsOn trail (Some s) a b = Stops (trail s) a b
+
+-- the board is a volume that keeps golden alone
+pub record IsFormatted (name golden : List ℕ) (used : ℕ) (a b : Device) : Type 0 where
+  pub ran : Ran (format_operations (length golden) used) a b
+  pub stands : Stands b.image (fresh name golden used)
+
+-- Formatting was stopped. Golden stands whole in its slot, or nothing but that slot was touched.
+pub record FormatStops (name golden : List ℕ) (used : ℕ) (a b : Device) : Type 0 where
+  pub halted : Halted (format_operations (length golden) used) (λ _ _. Unit {0}) a b
+  pub golden_first : GoldenFirst (golden_row name golden) a.image b.image
+
+-- a start was gone to its end, and what runs stands in program memory
+pub record Booted (boot : Boot) (a b : Device) : Type 0 where
+  pub went : Went boot.trail a b
+  pub memory : IfSome boot.runs (λ r. program b.image (length r.pages) ≡ r.pages)
+
+abbrev pub BootedOn : (Store → Boot) → Option Store → Device → Device → Type 0
+BootedOn boot None a b = ⊥
+BootedOn boot (Some s) a b = Booted (boot s) a b
+
+-- ---- how the board is left
+
+-- By the rules: what was asked for was done, also where a start found no image; a refusal only reads; and what ends a verb before it comes to the board leaves that unused.
+abbrev pub LeftBy : Ending → (acted : Device → Device → Type 0) → Device → Device → Type 0
+LeftBy (Ends told) acted a b = acted a b
+LeftBy LacksImage acted a b = acted a b
+LeftBy NoVolume acted a b = Looked a b
+LeftBy (Refuses cause) acted a b = Looked a b
+LeftBy NoBoards acted a b = b ≡ a
+LeftBy Over acted a b = b ≡ a
+LeftBy (FaultAt fault) acted a b = b ≡ a
+LeftBy (Unfit cause) acted a b = b ≡ a
+
+-- By the status: where memory ran out, it is as the rules say, or it was at most read. Where it stopped, `may` says what it holds.
+abbrev pub Leaves : Status → Ending → (acted may : Device → Device → Type 0) → Device → Device → Type 0
+Leaves Memory ending acted may a b = Looked a b ⊎ LeftBy ending acted a b
+Leaves ReadFault ending acted may a b = Looked a b
+Leaves FlashFault ending acted may a b = may a b
+Leaves status ending acted may a b = LeftBy ending acted a b
+
+-- ---- causes
+
+-- the ending is found after the boards were counted
+abbrev pub NeedsInput : Ending → Type 0
+NeedsInput NoBoards = ⊥
+NeedsInput ending = Unit {0}
+
+-- the ending is found after the board was looked at
+abbrev pub NeedsBoard : Ending → Type 0
+NeedsBoard (Ends told) = Unit {0}
+NeedsBoard NoVolume = Unit {0}
+NeedsBoard (Refuses cause) = Unit {0}
+NeedsBoard LacksImage = Unit {0}
+NeedsBoard ending = ⊥
+
+-- The status is the one of the ending. Memory alone is free. A fault of the outside comes only where the verb has come to it.
+abbrev pub IsCaused : Status → Ending → Type 0
+IsCaused Memory ending = Unit {0}
+IsCaused WriteFault ending = Unit {0}
+IsCaused ReadFault ending = NeedsInput ending
+IsCaused FlashFault ending = NeedsBoard ending
+IsCaused status ending = status ≡ status_of ending
+
+-- what was written: all that the ending writes, or, where the write failed, a front of it
+abbrev pub Wrote : Status → Ending → List ℕ → Type 0
+Wrote Memory ending text = text ≡ []
+Wrote ReadFault ending text = text ≡ []
+Wrote FlashFault ending text = text ≡ []
+Wrote WriteFault ending text = (n : ℕ) × (text ≡ take n (text_of ending))
+Wrote status ending text = text ≡ text_of ending
+
+-- a verb that ends so by the rules came to this status, wrote this, and left the first board so
+pub record Follows (status : Status) (ending : Ending) (acted may : Device → Device → Type 0) (text : List ℕ) (old new : List Device) : Type 0 where
+  pub caused : IsCaused status ending
+  pub wrote : Wrote status ending text
+  pub board : (a b : Device) → slice_get old 0 ≡ Some a → slice_get new 0 ≡ Some b → Leaves status ending acted may a b
+
+-- ---- whatever the board stands for
+
+-- no board but the first was used
+pub record OnlyFirst (old new : List Device) : Type 0 where
+  pub count : length new ≡ length old
+  pub others : drop 1 new ≡ drop 1 old
+
+-- the first board is stopped, and why
+pub record FirstStopped (old new : List Device) : Type 0 where
+  pub before : Device
+  pub after : Device
+  pub was : slice_get old 0 ≡ Some before
+  pub is : slice_get new 0 ≡ Some after
+  pub stopped : after.stopped ≡ true
+  pub cause : (before.stopped ≡ true) ⊎ Rose before.faults after.faults
+
+-- a fault of the outside has its cause, and writes nothing but a front of a line
+abbrev pub Faulted : Status → (reads_failed writes_failed board_stopped : Type 0) → (text : List ℕ) → Type 0
+Faulted Memory r w b text = text ≡ []
+Faulted ReadFault r w b text = r × (text ≡ [])
+Faulted WriteFault r w b text = w
+Faulted FlashFault r w b text = b × (text ≡ [])
+Faulted status r w b text = Unit {0}
+
+-- what ends a verb before the board is used
+abbrev pub Untouched : Status → (old new : List Device) → Type 0
+Untouched BadInput old new = new ≡ old
+Untouched ReadFault old new = new ≡ old
+Untouched TooLong old new = new ≡ old
+Untouched NoBoard old new = new ≡ old
+Untouched status old new = Unit {0}
+
+-- what the board stands for was found
+abbrev pub Finds : Status → Type 0 → Type 0
+Finds Done found = found
+Finds NotAVolume found = found
+Finds Refused found = found
+Finds NoImage found = found
+Finds status found = Unit {0}
+
+-- What a verb did. `chips` are the stores that the first board may stand for, None where it is no volume; the ending and the acts go by that.
+pub record ToolDone (status : Status) (chips : Option Store → Type 0) (ending : Option Store → Ending) (acted may : Option Store → Device → Device → Type 0)
+    (reads_failed : Type 0) (written_before written_after : Option (List ℕ)) (writes_before writes_after : ℕ) (old new : List Device) : Type 0 where
+  pub text : List ℕ
+  pub written : Puts written_before written_after text
+  pub rules : (chip : Option Store) → chips chip → Follows status (ending chip) (acted chip) (may chip) text old new
+  pub found : Finds status ((chip : Option Store) × chips chip)
+  pub faulted : Faulted status reads_failed (Rose writes_before writes_after) (FirstStopped old new) text
+  pub first : OnlyFirst old new
+  pub untouched : Untouched status old new
+  -- a write that fails is always told
+  pub write_faults : status ≢ WriteFault → writes_after ≡ writes_before
+
+-- ---- the input
+
+-- so much of the input was taken: all, or one byte past those that are used, unless memory ran out or a read failed
+abbrev pub ReadEnough : Status → (input : List ℕ) → (at_end : Type 0) → Type 0
+ReadEnough Memory input at_end = Unit {0}
+ReadEnough ReadFault input at_end = Unit {0}
+ReadEnough status input at_end = at_end ⊎ (16777216 < length input)
+
+-- a verb without a board reads nothing
+abbrev pub ReadBy : (boards : ℕ) → Status → (input : List ℕ) → (at_end : Type 0) → Type 0
+ReadBy zero status input at_end = input ≡ []
+ReadBy (suc n) status input at_end = ReadEnough status input at_end
+
+-- what was taken of the input
+pub record InputRead (status : Status) (boards : ℕ) (input : List ℕ) (left_before left_after : Option (List ℕ)) (reads_before reads_after : ℕ) : Type 0 where
+  pub taken : Takes left_before left_after input
+  pub few_bytes : length input ≤ 16777217
+  pub enough : ReadBy boards status input (AtEnd left_after)
+  -- a read that fails is always told
+  pub read_faults : status ≢ ReadFault → reads_after ≡ reads_before

@@ -1,0 +1,11 @@
+-- What a start tells of the image that runs.
+use Rattle.std.specs.Prelude.{◌≡◌}
+use Rattle.dg_boot.specs.declared.Started.{Started}
+use Rattle.dg_volume.specs.Start.{Runs, runs_length, runs_crc}
+
+-- the answer of a start tells what runs
+pub record Tells (told : Started) (r : Runs) : Type 0 where
+  pub image : told.image ≡ r.image
+  pub version : told.version ≡ r.version
+  pub length : told.length ≡ runs_length r
+  pub crc : told.crc ≡ runs_crc r

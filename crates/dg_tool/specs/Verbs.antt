@@ -1,0 +1,168 @@
+-- What the verbs over the first board do, by the bytes of the input and by what the board stands for.
+use Rattle.std.specs.Prelude.{ℕ, ◌==◌, ◌-◌, nat_lt, Bool, true, false, if◌then◌else◌, List, [], ◌∷◌, ◌++◌, length, codes, ◌/◌, ◌%◌, Option, Some, None}
+use Rattle.std.specs.List.{flat_map, range_with_len}
+use Rattle.std.specs.Fmt.{decimal}
+use Rattle.dg_base.specs.Hexadecimal.{hex_text}
+use Rattle.dg_nor.specs.Trail.{Trail}
+use Rattle.dg_object.specs.Object.{Row, pages_for}
+use Rattle.dg_control.specs.declared.snapshot.Order.{Order}
+use Rattle.dg_slot.specs.Kept.{Held}
+use Rattle.dg_slot.specs.Layout.{most_bytes}
+use Rattle.dg_volume.specs.Sizes.{images, most_room}
+use Rattle.dg_volume.specs.Store.{Store, App, held}
+use Rattle.dg_volume.specs.Start.{Boot, Runs, boot, length_in, runs_length, runs_crc}
+use Rattle.dg_volume.specs.Changes.{inject_refusal, order_refusal}
+use Rattle.dg_volume.specs.declared.volume.Kind.TheVariants as kind
+use Rattle.dg_volume.specs.declared.volume.InjectFault.{InjectFault}
+use Rattle.dg_volume.specs.declared.volume.InjectFault.TheVariants as inject
+use Rattle.dg_volume.specs.declared.volume.OrderFault.{OrderFault}
+use Rattle.dg_volume.specs.declared.volume.OrderFault.TheVariants as order_fault
+use Rattle.dg_ihex.specs.Written.{written_file}
+use Rattle.dg_tool.specs.declared.refusal.Refusal.{Refusal}
+use Rattle.dg_tool.specs.declared.refusal.Refusal.TheVariants as refusals
+use Rattle.dg_tool.specs.Texts.{numbers, line}
+use Rattle.dg_tool.specs.Pages.{name_in, first_page, kept_bytes}
+use Rattle.dg_tool.specs.Endings.{Ending, Ends, NoVolume, Unfit, Refuses, LacksImage, by_boards, by_input, by_store}
+
+-- ---- format
+
+abbrev pub room_told : ℕ → List ℕ
+room_told room = line (codes "room" ++ numbers (room ∷ []))
+
+abbrev pub format_sized : (used : ℕ) → (golden : List ℕ) → Ending
+format_sized used golden =
+    if length golden == 0 then Unfit refusals.Empty
+    else if nat_lt most_bytes (length golden) then Unfit (refusals.TooLarge (length golden))
+    else Ends (room_told (most_room - used))
+
+-- any board is formatted
+abbrev pub format_ending : (boards used : ℕ) → (input : List ℕ) → Option Store → Ending
+format_ending boards used input chip = by_boards boards (by_input input (format_sized used))
+
+-- ---- inject
+
+-- the cause that is told of a fault; a stop is no refusal
+abbrev pub inject_cause : Row → InjectFault → Refusal
+inject_cause row inject.Stopped = refusals.Empty
+inject_cause row inject.Empty = refusals.Empty
+inject_cause row inject.TooLarge = refusals.TooLarge (length row.bytes)
+inject_cause row (inject.Stale kept) = refusals.Stale kept
+inject_cause row inject.Reserved = refusals.Reserved
+inject_cause row (inject.Worn room) = refusals.Worn room
+inject_cause row inject.Taken = refusals.Taken
+
+-- all pages of the image, the descriptor too
+abbrev pub have_told : Row → List ℕ
+have_told row = line (codes "have" ++ numbers (0 ∷ row.image ∷ row.version ∷ pages_for (length row.bytes) ∷ []))
+
+abbrev pub inject_by : Row → Option InjectFault → Ending
+inject_by row None = Ends (have_told row)
+inject_by row (Some fault) = Refuses (inject_cause row fault)
+
+abbrev pub inject_into : Row → Option Store → Ending
+inject_into row chip = by_store chip (λ s. inject_by row (inject_refusal s row))
+
+-- `row` is the image with its bytes
+abbrev pub inject_ending : (boards : ℕ) → (row : List ℕ → Row) → (input : List ℕ) → Option Store → Ending
+inject_ending boards row input chip = by_boards boards (by_input input (λ bytes. inject_into (row bytes) chip))
+
+-- ---- order
+
+abbrev pub order_cause : OrderFault → Refusal
+order_cause order_fault.Stopped = refusals.Empty
+order_cause (order_fault.Worn room) = refusals.Worn room
+order_cause (order_fault.OldOrder kept) = refusals.OldOrder kept
+
+abbrev pub order_told : Order → List ℕ
+order_told o = line (codes "order" ++ numbers (0 ∷ o.number ∷ o.image ∷ o.version ∷ []))
+
+abbrev pub order_by : Order → Option OrderFault → Ending
+order_by o None = Ends (order_told o)
+order_by o (Some fault) = Refuses (order_cause fault)
+
+abbrev pub order_on : Order → Option Store → Ending
+order_on o chip = by_store chip (λ s. order_by o (order_refusal s o))
+
+abbrev pub order_ending : (boards : ℕ) → Order → Option Store → Ending
+order_ending boards o chip = by_boards boards (order_on o chip)
+
+-- ---- boot
+
+-- a start by power
+abbrev pub power_boot : Store → Boot
+power_boot s = boot kind.Power s
+
+-- two bytes as four digits
+abbrev pub two_bytes : ℕ → List ℕ
+two_bytes n = hex_text (n / 256 ∷ n % 256 ∷ [])
+
+abbrev pub start_told : Runs → List ℕ
+start_told r = line (codes "start" ++ numbers (0 ∷ r.image ∷ r.version ∷ runs_length r ∷ []) ++ 32 ∷ two_bytes (runs_crc r))
+
+abbrev pub boot_by : Option Runs → Ending
+boot_by None = LacksImage
+boot_by (Some r) = Ends (start_told r)
+
+abbrev pub boot_on : Option Store → Ending
+boot_on chip = by_store chip (λ s. boot_by (power_boot s).runs)
+
+abbrev pub boot_ending : (boards : ℕ) → Option Store → Ending
+boot_ending boards chip = by_boards boards (boot_on chip)
+
+-- ---- ping
+
+abbrev pub golden_told : Option Held → List ℕ
+golden_told None = []
+golden_told (Some h) = line (codes "golden " ++ name_in (first_page h) ++ numbers (length_in (first_page h) ∷ []))
+
+abbrev pub program_line : Option App → List ℕ
+program_line None = line (codes "program blank")
+program_line (Some app) = line (codes "program" ++ numbers (app.image ∷ app.version ∷ []))
+
+abbrev pub waived_word : Bool → List ℕ
+waived_word true = codes " waived"
+waived_word false = []
+
+abbrev pub order_line : Order → Bool → List ℕ
+order_line o waived =
+    if o.number == 0 then line (codes "order none")
+    else line (codes "order" ++ numbers (o.number ∷ o.image ∷ o.version ∷ []) ++ waived_word waived)
+
+-- `-` where no page tells the name yet
+abbrev pub name_by : List (List ℕ) → List ℕ
+name_by [] = 45 ∷ []
+name_by (first ∷ rest) = name_in first
+
+abbrev pub kept_line : ℕ → Option Held → List ℕ
+kept_line i None = []
+kept_line i (Some h) = line (codes "kept" ++ numbers (i ∷ h.version ∷ length h.complete ∷ h.pages ∷ []) ++ 32 ∷ name_by h.complete)
+
+abbrev pub commits_told : Store → List ℕ
+commits_told s =
+    program_line s.app ++ order_line s.order s.waived ++ line (codes "gesture" ++ numbers (s.gesture ∷ []))
+    ++ line (codes "room" ++ numbers (s.room ∷ []))
+
+-- the images behind golden
+abbrev pub kept_told : Store → List ℕ
+kept_told s = flat_map (λ i. kept_line i (held s i)) (range_with_len 1 (images - 1))
+
+abbrev pub ping_told : Store → List ℕ
+ping_told s = golden_told (held s 0) ++ commits_told s ++ kept_told s
+
+abbrev pub ping_on : Option Store → Ending
+ping_on chip = by_store chip (λ s. Ends (ping_told s))
+
+abbrev pub ping_ending : (boards : ℕ) → Option Store → Ending
+ping_ending boards chip = by_boards boards (ping_on chip)
+
+-- ---- dump
+
+abbrev pub dump_by : Option Held → Ending
+dump_by None = Refuses refusals.Absent
+dump_by (Some h) = if length h.complete == h.pages then Ends (written_file (kept_bytes h)) else Refuses (refusals.NotWhole (length h.complete) h.pages)
+
+abbrev pub dump_on : (image : ℕ) → Option Store → Ending
+dump_on image chip = by_store chip (λ s. dump_by (held s image))
+
+abbrev pub dump_ending : (boards image : ℕ) → Option Store → Ending
+dump_ending boards image chip = by_boards boards (dump_on image chip)

@@ -1,0 +1,44 @@
+//! The image that the input of a verb spells.
+ghost use Rattle.std.specs.Prelude.{◌≡◌, ◌≤◌};
+ghost use Rattle.dg_tool.specs.Input.{Spells, ImageRead, stop_of};
+
+use crate::stop::Stop;
+use dg_base::Source;
+use dg_ihex::{HexCause, HexFileFault, MOST_TEXT, read_ihex};
+use dg_input::{ReadStop, read_input};
+use std::alloc::Global;
+
+/// The image of a HEX file. A file that is too long is refused whatever its lines are.
+fn image_of(alloc: Global, text: &[u8]) -> Result<Vec<u8>, Stop>
+    ensures { Spells (λ image. image.items) result text.now }
+{
+    if text.len() > MOST_TEXT {
+        return Err(Stop::TooLong);
+    }
+    match read_ihex(alloc, text) {
+        Ok(image) => Ok(image),
+        Err(fault) => Err(stop_at(fault)),
+    }
+}
+
+/// What a fault of a HEX file makes of a verb.
+fn stop_at(fault: HexFileFault) -> Stop
+    ensures { result ≡ stop_of fault }
+{
+    match fault.cause {
+        HexCause::Memory => Stop::Memory,
+        _ => Stop::BadInput(fault),
+    }
+}
+
+/// Reads the image that an input spells.
+pub(crate) fn read_image<S: Source>(alloc: Global, input: &mut S) -> Result<Vec<u8>, Stop>
+    ensures read { ImageRead (λ image. image.items) result (S.left input.old) (S.left input.new) (S.faults input.old) (S.faults input.new) }
+    ensures counts { S.faults input.old ≤ S.faults input.new }
+{
+    match read_input(alloc, input) {
+        Ok(text) => image_of(alloc, &text),
+        Err(ReadStop::Memory) => Err(Stop::Memory),
+        Err(ReadStop::ReadFault) => Err(Stop::ReadFault),
+    }
+}

@@ -1,0 +1,163 @@
+//! The verbs over one board: format, inject, order, boot, ping and dump.
+//!
+//! Each works on the first of the boards that it is given, looks for what ends it in one order, first whether there is
+//! a board, then what the input spells, and then what the board holds, and writes once, at its end.
+#![tactic(auto)]
+
+mod board;
+mod dumping;
+mod ending;
+mod formatting;
+mod injecting;
+mod input;
+mod laws;
+mod ordering;
+mod pages;
+mod pinging;
+mod refusal;
+mod starting;
+mod stop;
+mod text;
+
+ghost use Rattle.std.specs.Prelude.{◌≡◌, ◌<◌, ◌≤◌, ℕ, List, length, map, IsTrue};
+ghost use Rattle.dg_words.specs.Counts.{Rose};
+ghost use Rattle.dg_base.specs.Texts.{spells_name};
+ghost use Rattle.dg_nor.specs.Reads.{Looked, ReadStopped};
+ghost use Rattle.dg_object.specs.Object.{row_of};
+ghost use Rattle.dg_volume.specs.Sizes.{images, most_room};
+ghost use Rattle.dg_volume.specs.Trails.{inject_trail, order_trail};
+ghost use Rattle.dg_tool.specs.Endings.{FirstAs, content_in};
+ghost use Rattle.dg_tool.specs.Verbs.{format_ending, inject_ending, order_ending, power_boot, boot_ending, ping_ending, dump_ending};
+ghost use Rattle.dg_tool.specs.Done.{ToolDone, InputRead, IsFormatted, FormatStops, WentOn, StopsOn, BootedOn};
+
+pub use crate::laws::a_whole_image_tells_its_row;
+pub use crate::refusal::Refusal;
+
+use crate::dumping::dump_boards;
+use crate::ending::end;
+use crate::formatting::format_boards;
+use crate::injecting::inject_boards;
+use crate::ordering::order_boards;
+use crate::pinging::ping_boards;
+use crate::starting::boot_boards;
+use dg_base::{Sink, Source, Status};
+use dg_nor::Nor;
+use dg_volume::Order;
+use std::alloc::Global;
+
+/// Makes the first board a volume that keeps golden alone: the image of the HEX file that `input` spells, with this
+/// name. `used` commits, at most 520,223, are told as spent. Writes `room R`.
+pub fn format<S: Source, K: Sink, N: Nor>(
+    alloc: Global,
+    name: &[u8],
+    used: u32,
+    input: &mut S,
+    out: &mut K,
+    boards: &mut Vec<N>,
+) -> Status
+    requires named { IsTrue (spells_name name.now) }
+    requires few { used ≤ most_room }
+    ensures done { (bytes : List ℕ) × InputRead result (length boards.old.items) bytes (S.left input.old) (S.left input.new) (S.faults input.old) (S.faults input.new)
+        × ToolDone result (λ chip. Unit {0}) (format_ending (length boards.old.items) used bytes)
+        (λ chip. IsFormatted name.now (content_in bytes) used) (λ chip. FormatStops name.now (content_in bytes) used)
+        (Rose (S.faults input.old) (S.faults input.new)) (K.written out.old) (K.written out.new) (K.faults out.old) (K.faults out.new)
+        (map N.device boards.old.items) (map N.device boards.new.items) }
+    ensures reads { S.faults input.old ≤ S.faults input.new }
+    ensures writes { K.faults out.old ≤ K.faults out.new }
+{
+    let told = format_boards(alloc, name, used, input, boards);
+    end(alloc, out, told)
+}
+
+/// Keeps an image whole on the first board: the image of the HEX file that `input` spells, with this name. Writes
+/// `have 0 I V N`, where N counts all pages, the descriptor too.
+pub fn inject<S: Source, K: Sink, N: Nor>(
+    alloc: Global,
+    image: u8,
+    version: u32,
+    name: &[u8],
+    input: &mut S,
+    out: &mut K,
+    boards: &mut Vec<N>,
+) -> Status
+    requires image { image < images }
+    requires version { 1 ≤ version }
+    requires named { IsTrue (spells_name name.now) }
+    ensures done { (bytes : List ℕ) × InputRead result (length boards.old.items) bytes (S.left input.old) (S.left input.new) (S.faults input.old) (S.faults input.new)
+        × ToolDone result (FirstAs (map N.device boards.old.items)) (inject_ending (length boards.old.items) (row_of image version name.now) bytes)
+        (WentOn (λ s. inject_trail s (row_of image version name.now (content_in bytes)))) (StopsOn (λ s. inject_trail s (row_of image version name.now (content_in bytes))))
+        (Rose (S.faults input.old) (S.faults input.new)) (K.written out.old) (K.written out.new) (K.faults out.old) (K.faults out.new)
+        (map N.device boards.old.items) (map N.device boards.new.items) }
+    ensures reads { S.faults input.old ≤ S.faults input.new }
+    ensures writes { K.faults out.old ≤ K.faults out.new }
+{
+    let told = inject_boards(alloc, image, version, name, input, boards);
+    end(alloc, out, told)
+}
+
+/// Keeps an order on the first board, which is not waived. Writes `order 0 K I V`.
+pub fn order<K: Sink, N: Nor>(
+    alloc: Global,
+    order: &Order,
+    out: &mut K,
+    boards: &mut Vec<N>,
+) -> Status
+    requires number { 1 ≤ order.now.number }
+    requires image { order.now.image < images }
+    requires version { 1 ≤ order.now.version }
+    ensures done { ToolDone result (FirstAs (map N.device boards.old.items)) (order_ending (length boards.old.items) order.now)
+        (WentOn (λ s. order_trail s order.now)) (StopsOn (λ s. order_trail s order.now))
+        ⊥ (K.written out.old) (K.written out.new) (K.faults out.old) (K.faults out.new)
+        (map N.device boards.old.items) (map N.device boards.new.items) }
+    ensures writes { K.faults out.old ≤ K.faults out.new }
+{
+    let told = order_boards(alloc, order, boards);
+    end(alloc, out, told)
+}
+
+/// Starts the first board by power. Writes `start 0 I V LENGTH CRC`. The start counts as a short one.
+pub fn boot<K: Sink, N: Nor>(alloc: Global, out: &mut K, boards: &mut Vec<N>) -> Status
+    ensures done { ToolDone result (FirstAs (map N.device boards.old.items)) (boot_ending (length boards.old.items))
+        (BootedOn power_boot) (StopsOn (λ s. (power_boot s).trail))
+        ⊥ (K.written out.old) (K.written out.new) (K.faults out.old) (K.faults out.new)
+        (map N.device boards.old.items) (map N.device boards.new.items) }
+    ensures writes { K.faults out.old ≤ K.faults out.new }
+{
+    let told = boot_boards(alloc, boards);
+    end(alloc, out, told)
+}
+
+/// Tells what the first board keeps, and changes no byte.
+pub fn ping<K: Sink, N: Nor>(alloc: Global, out: &mut K, boards: &mut Vec<N>) -> Status
+    ensures done { ToolDone result (FirstAs (map N.device boards.old.items)) (ping_ending (length boards.old.items))
+        (λ chip. Looked) (λ chip. ReadStopped)
+        ⊥ (K.written out.old) (K.written out.new) (K.faults out.old) (K.faults out.new)
+        (map N.device boards.old.items) (map N.device boards.new.items) }
+    ensures unchanged { map (λ board. (N.device board).image) boards.new.items ≡ map (λ board. (N.device board).image) boards.old.items }
+    ensures writes { K.faults out.old ≤ K.faults out.new }
+{
+    let told = ping_boards(alloc, boards);
+    end(alloc, out, told)
+}
+
+/// Writes the image that a slot of the first board keeps whole as a HEX file, and changes no byte.
+pub fn dump<K: Sink, N: Nor>(
+    alloc: Global,
+    image: u8,
+    out: &mut K,
+    boards: &mut Vec<N>,
+) -> Status
+    requires image { image < images }
+    ensures done { ToolDone result (FirstAs (map N.device boards.old.items)) (dump_ending (length boards.old.items) image)
+        (λ chip. Looked) (λ chip. ReadStopped)
+        ⊥ (K.written out.old) (K.written out.new) (K.faults out.old) (K.faults out.new)
+        (map N.device boards.old.items) (map N.device boards.new.items) }
+    ensures unchanged { map (λ board. (N.device board).image) boards.new.items ≡ map (λ board. (N.device board).image) boards.old.items }
+    ensures writes { K.faults out.old ≤ K.faults out.new }
+{
+    let told = dump_boards(alloc, image, boards);
+    end(alloc, out, told)
+}
+
+#[cfg(test)]
+mod tests;

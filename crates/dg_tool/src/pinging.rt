@@ -1,0 +1,207 @@
+//! The verb `ping`.
+ghost use Rattle.std.specs.Prelude.{◌≡◌, ◌≢◌, ◌≤◌, ◌<◌, ◌+◌, ◌-◌, ◌++◌, ◌∷◌, [], ℕ, List, Option, Some, OnOk, IfOk, codes, map, length};
+ghost use Rattle.std.specs.List.{flat_map, range_with_len};
+ghost use Rattle.dg_nor.specs.Reads.{Looked, ReadStopped};
+ghost use Rattle.dg_slot.specs.Kept.{Held, KeepsImage};
+ghost use Rattle.dg_volume.specs.Sizes.{images};
+ghost use Rattle.dg_volume.specs.Store.{App, Store, held};
+ghost use Rattle.dg_volume.specs.Stands.{Mounted, IsMounted, Tells};
+ghost use Rattle.dg_volume.specs.Told.{told_held, program_told};
+ghost use Rattle.dg_tool.specs.Texts.{numbers, line};
+ghost use Rattle.dg_tool.specs.Endings.{StandsAs, FirstAs, Ends};
+ghost use Rattle.dg_tool.specs.Verbs.{program_line, order_line, waived_word, commits_told, kept_line, kept_told, ping_told, ping_on, ping_ending};
+ghost use Rattle.dg_tool.specs.Stops.{ReadsOn, OnStore, OnBoard, OnBoards, told_status, told_text};
+
+use crate::board::mount;
+use crate::pages::read_first;
+use crate::stop::{Stop, or_memory};
+use crate::text::{push_line, push_numbers, push_words};
+use dg_base::Status;
+use dg_control::{IMAGES, Order, Program};
+use dg_nor::Nor;
+use dg_object::Descriptor;
+use dg_volume::{Kept, Volume};
+use std::alloc::{AllocError, Global};
+
+/// The image number of golden.
+const GOLDEN: u8 = 0;
+
+/// Appends the line of golden.
+fn push_golden(text: &mut Vec<u8>, golden: &Descriptor) -> Result<(), AllocError>
+    ensures { OnOk result (text.new.items ≡ text.old.items ++ line (codes "golden " ++ golden.now.name ++ numbers (golden.now.length ∷ []))) }
+{
+    text.extend_from_slice(b"golden ")?;
+    text.extend_from_slice(golden.name.as_slice())?;
+    push_numbers(text, &[golden.length])?;
+    text.push(b'\n')?;
+    Ok(())
+}
+
+/// Appends the line of program memory.
+fn push_program(text: &mut Vec<u8>, program: Program) -> Result<(), AllocError>
+    ensures { OnOk result ((app : Option App) → program ≡ program_told app → text.new.items ≡ text.old.items ++ program_line app) }
+{
+    match program {
+        Program::Blank => push_line(text, b"program blank", &[]),
+        Program::Set { image, version } => {
+            push_line(text, b"program", &[u32::from(image), version])
+        }
+    }
+}
+
+/// Appends the line of an order, whose number is 0 where there is none.
+fn push_order(text: &mut Vec<u8>, order: &Order, waived: bool) -> Result<(), AllocError>
+    ensures { OnOk result (text.new.items ≡ text.old.items ++ order_line order.now waived) }
+{
+    if order.number == 0 {
+        return push_line(text, b"order none", &[]);
+    }
+    push_words(
+        text,
+        b"order",
+        &[order.number, u32::from(order.image), order.version],
+    )?;
+    push_waived(text, waived)?;
+    text.push(b'\n')?;
+    Ok(())
+}
+
+/// Appends the word of an order that is waived.
+fn push_waived(text: &mut Vec<u8>, waived: bool) -> Result<(), AllocError>
+    ensures { OnOk result (text.new.items ≡ text.old.items ++ waived_word waived) }
+{
+    if waived {
+        text.extend_from_slice(b" waived")
+    } else {
+        Ok(())
+    }
+}
+
+/// Appends the lines of what a volume commits.
+fn push_commits(text: &mut Vec<u8>, volume: &Volume) -> Result<(), AllocError>
+    ensures { OnOk result ((s : Store) → Tells volume.now s → text.new.items ≡ text.old.items ++ commits_told s) }
+{
+    let now = volume.snapshot();
+    push_program(text, now.program)?;
+    push_order(text, &now.order, now.waived)?;
+    push_line(text, b"gesture", &[u32::from(now.gesture)])?;
+    push_line(text, b"room", &[volume.room()])
+}
+
+/// Appends the line of an image with this name.
+fn push_named(text: &mut Vec<u8>, image: u8, kept: &Kept, name: &[u8]) -> Result<(), AllocError>
+    ensures { OnOk result (text.new.items ≡ text.old.items ++ line (codes "kept" ++ numbers (image ∷ kept.now.version ∷ kept.now.done ∷ kept.now.pages ∷ []) ++ 32 ∷ name.now)) }
+{
+    push_words(
+        text,
+        b"kept",
+        &[
+            u32::from(image),
+            kept.version,
+            u32::from(kept.done),
+            u32::from(kept.pages),
+        ],
+    )?;
+    text.push(b' ')?;
+    text.extend_from_slice(name)?;
+    text.push(b'\n')?;
+    Ok(())
+}
+
+/// Appends the line of an image of which this is kept.
+fn push_kept<N: Nor>(
+    text: &mut Vec<u8>,
+    image: u8,
+    kept: &Kept,
+    nor: &mut N,
+) -> Result<(), Stop>
+    requires known_image { image < images }
+    requires keeps { (h : Held) × KeepsImage (N.device nor.old).image image h × (kept.now ≡ told_held h) }
+    ensures told { OnOk result ((h : Held) → KeepsImage (N.device nor.old).image image h → kept.now ≡ told_held h → text.new.items ≡ text.old.items ++ kept_line image (Some h)) }
+    ensures ends { ReadsOn result (N.device nor.old) (N.device nor.new) }
+{
+    if kept.done == 0 {
+        return or_memory(push_named(text, image, kept, b"-"));
+    }
+    let first = read_first(nor, image)?;
+    or_memory(push_named(text, image, kept, first.name.as_slice()))
+}
+
+/// Appends the line of an image, where something is kept of it.
+fn push_image<N: Nor>(
+    text: &mut Vec<u8>,
+    image: u8,
+    nor: &mut N,
+    volume: &Volume,
+) -> Result<(), Stop>
+    requires known_image { image < images }
+    requires mounted { IsMounted (N.device nor.old).image volume.now }
+    ensures told { OnOk result ((s : Store) → Mounted (N.device nor.old).image volume.now s → text.new.items ≡ text.old.items ++ kept_line image (held s image)) }
+    ensures ends { ReadsOn result (N.device nor.old) (N.device nor.new) }
+{
+    match volume.kept(image) {
+        None => Ok(()),
+        Some(kept) => push_kept(text, image, &kept, nor),
+    }
+}
+
+/// Appends the lines of the images behind golden.
+fn push_images<N: Nor>(text: &mut Vec<u8>, nor: &mut N, volume: &Volume) -> Result<(), Stop>
+    requires mounted { IsMounted (N.device nor.old).image volume.now }
+    ensures told { OnOk result ((s : Store) → Mounted (N.device nor.old).image volume.now s → text.new.items ≡ text.old.items ++ kept_told s) }
+    ensures ends { ReadsOn result (N.device nor.old) (N.device nor.new) }
+{
+    for image in 1..IMAGES as u8 {
+        push_image(text, image, nor, volume)?;
+    }
+    Ok(())
+}
+
+/// Tells what a board keeps that is mounted.
+fn ping_mounted<N: Nor>(alloc: Global, nor: &mut N, volume: &Volume) -> Result<Vec<u8>, Stop>
+    requires mounted { IsMounted (N.device nor.old).image volume.now }
+    ensures told { IfOk result (λ text. (s : Store) → Mounted (N.device nor.old).image volume.now s → text.items ≡ ping_told s) }
+    ensures ends { ReadsOn result (N.device nor.old) (N.device nor.new) }
+{
+    let mut text = Vec::new(alloc);
+    let golden = read_first(nor, GOLDEN)?;
+    or_memory(push_golden(&mut text, &golden))?;
+    or_memory(push_commits(&mut text, volume))?;
+    push_images(&mut text, nor, volume)?;
+    Ok(text)
+}
+
+/// Tells what a board keeps.
+fn ping_on<N: Nor>(alloc: Global, nor: &mut N) -> Result<Vec<u8>, Stop>
+    ensures done { OnBoard (told_status result) (StandsAs (N.device nor.old).image) ping_on (λ chip. Looked) (λ chip. ReadStopped)
+        (told_text (λ text. text.items) result) (N.device nor.old) (N.device nor.new) }
+    ensures unchanged { (N.device nor.new).image ≡ (N.device nor.old).image }
+{
+    match mount(nor) {
+        Ok(volume) => ping_mounted(alloc, nor, &volume),
+        Err(stop) => Err(stop),
+    }
+}
+
+/// Tells what the first of the boards keeps.
+fn ping_first<N: Nor>(alloc: Global, boards: &mut [N]) -> Result<Vec<u8>, Stop>
+    ensures done { OnBoards (told_status result) (FirstAs (map N.device boards.old)) (ping_ending (length boards.old)) (λ chip. Looked) (λ chip. ReadStopped)
+        (told_text (λ text. text.items) result) (map N.device boards.old) (map N.device boards.new) }
+    ensures unchanged { map (λ board. (N.device board).image) boards.new ≡ map (λ board. (N.device board).image) boards.old }
+    ensures unread { told_status result ≢ Status.ReadFault }
+{
+    if boards.is_empty() {
+        return Err(Stop::NoBoard);
+    }
+    ping_on(alloc, &mut boards[0])
+}
+
+/// Tells what the first board keeps.
+pub(crate) fn ping_boards<N: Nor>(alloc: Global, boards: &mut Vec<N>) -> Result<Vec<u8>, Stop>
+    ensures done { OnBoards (told_status result) (FirstAs (map N.device boards.old.items)) (ping_ending (length boards.old.items)) (λ chip. Looked) (λ chip. ReadStopped)
+        (told_text (λ text. text.items) result) (map N.device boards.old.items) (map N.device boards.new.items) }
+    ensures unchanged { map (λ board. (N.device board).image) boards.new.items ≡ map (λ board. (N.device board).image) boards.old.items }
+    ensures unread { told_status result ≢ Status.ReadFault }
+{
+    ping_first(alloc, boards.as_mut_slice())
+}

@@ -1,0 +1,24 @@
+//! Why a verb is refused.
+
+/// Why a verb is refused: by the image that it is given, or by what the board holds.
+#[derive(Clone, Copy, Debug, PartialEq, Eq)]
+pub enum Refusal {
+    /// The image has no byte.
+    Empty,
+    /// The image has so many bytes, more than 70,656.
+    TooLarge { length: usize },
+    /// Image 0 is golden, which is written by formatting alone.
+    Reserved,
+    /// A larger version is kept.
+    Stale { version: u32 },
+    /// The version is kept with other content.
+    Taken,
+    /// The chip has room for so few commits.
+    Worn { room: u32 },
+    /// The number of the order that is kept is not smaller.
+    OldOrder { number: u32 },
+    /// Nothing is kept of the image.
+    Absent,
+    /// Of the pages of the image so few are complete.
+    NotWhole { done: u8, pages: u8 },
+}
