@@ -2,7 +2,7 @@
 use Rattle.std.proofs.Common.{◌≡◌, ◌⊎◌, inl, inr, ℕ, ◌==◌, ◌&&◌, ◌||◌, not, Bool, true, false, List, [], ◌∷◌, ◌++◌, refl, ap, sym, ◌∙◌, subst}
 use Rattle.std.specs.Prelude.{◌↔◌}
 use Rattle.std.proofs.lemmas.Bool.{eqb-true, eq-eqb}
-use Rattle.dg_serial.specs.declared.TheConstants.{ESCAPE, ESCAPED_FLAG, ESCAPED_ESCAPE}
+use Rattle.dg_serial.specs.Sizes.{escape_byte, escaped_flag, escaped_escape}
 use Rattle.dg_serial.specs.Line.{is_second, is_broken_after, ends_escaping, is_broken, BeginsWithSecond, HasLoneEscape}
 
 abbrev broken_from : Bool → List ℕ → Bool
@@ -36,12 +36,12 @@ of_or : (x y : Bool) → x || y ≡ true → (x ≡ true) ⊎ (y ≡ true)
 of_or true y e = inl refl
 of_or false y e = inr e
 
-second_true : (b : ℕ) → (b ≡ ESCAPED_FLAG) ⊎ (b ≡ ESCAPED_ESCAPE) → is_second b ≡ true
-second_true b (inl e) = or_of (b == ESCAPED_FLAG) (b == ESCAPED_ESCAPE) (inl (eq-eqb b ESCAPED_FLAG e))
-second_true b (inr e) = or_of (b == ESCAPED_FLAG) (b == ESCAPED_ESCAPE) (inr (eq-eqb b ESCAPED_ESCAPE e))
+second_true : (b : ℕ) → (b ≡ escaped_flag) ⊎ (b ≡ escaped_escape) → is_second b ≡ true
+second_true b (inl e) = or_of (b == escaped_flag) (b == escaped_escape) (inl (eq-eqb b escaped_flag e))
+second_true b (inr e) = or_of (b == escaped_flag) (b == escaped_escape) (inr (eq-eqb b escaped_escape e))
 
-second_is : (b : ℕ) → is_second b ≡ true → (b ≡ ESCAPED_FLAG) ⊎ (b ≡ ESCAPED_ESCAPE)
-second_is b e = elim (of_or (b == ESCAPED_FLAG) (b == ESCAPED_ESCAPE) e) [ inl f ↦ inl (eqb-true b ESCAPED_FLAG f) | inr f ↦ inr (eqb-true b ESCAPED_ESCAPE f) ]
+second_is : (b : ℕ) → is_second b ≡ true → (b ≡ escaped_flag) ⊎ (b ≡ escaped_escape)
+second_is b e = elim (of_or (b == escaped_flag) (b == escaped_escape) e) [ inl f ↦ inl (eqb-true b escaped_flag f) | inr f ↦ inr (eqb-true b escaped_escape f) ]
 
 not_true : (s : Bool) → (s ≡ true → ⊥) → s ≡ false
 not_true true h = absurd (h refl)
@@ -56,13 +56,13 @@ breaks : (escapes : Bool) (bytes : List ℕ) → broken_from escapes bytes ≡ t
 unfolding is_broken_after ends_escaping
 breaks escapes [] e = inl (e, λ h. h)
 breaks escapes (b ∷ bs) e =
-    elim (either_true (escapes && not (is_second b)) (is_broken_after (b == ESCAPE) bs) (ends_escaping (b == ESCAPE) bs) e) [
+    elim (either_true (escapes && not (is_second b)) (is_broken_after (b == escape_byte) bs) (ends_escaping (b == escape_byte) bs) e) [
       | inl here ↦
           let both = both_true escapes (is_second b) here in
           inl (both.0, λ h. let f : false ≡ true = sym both.1 ∙ second_true b h in cc)
       | inr later ↦
-          elim (breaks (b == ESCAPE) bs later) [
-            | inl at ↦ inr (record { front = []; back = bs; stands = ap (λ (x : ℕ). x ∷ bs) (eqb-true b ESCAPE at.0); alone = at.1 })
+          elim (breaks (b == escape_byte) bs later) [
+            | inl at ↦ inr (record { front = []; back = bs; stands = ap (λ (x : ℕ). x ∷ bs) (eqb-true b escape_byte at.0); alone = at.1 })
             | inr lone ↦ inr (lone_later b bs lone)
           ]
     ]
@@ -74,13 +74,13 @@ unfolding is_broken_after ends_escaping
 breaks_first [] h = refl
 breaks_first (b ∷ bs) h =
     let no : is_second b ≡ false = not_true (is_second b) (λ e. h (second_is b e)) in
-    first_true (not (is_second b)) (is_broken_after (b == ESCAPE) bs) (ends_escaping (b == ESCAPE) bs) (ap not no)
+    first_true (not (is_second b)) (is_broken_after (b == escape_byte) bs) (ends_escaping (b == escape_byte) bs) (ap not no)
 
-breaks_at : (escapes : Bool) (front back : List ℕ) → (BeginsWithSecond back → ⊥) → broken_from escapes (front ++ ESCAPE ∷ back) ≡ true
+breaks_at : (escapes : Bool) (front back : List ℕ) → (BeginsWithSecond back → ⊥) → broken_from escapes (front ++ escape_byte ∷ back) ≡ true
 unfolding is_broken_after ends_escaping
-breaks_at escapes [] back h = later_true (escapes && not (is_second ESCAPE)) (is_broken_after true back) (ends_escaping true back) (breaks_first back h)
+breaks_at escapes [] back h = later_true (escapes && not (is_second escape_byte)) (is_broken_after true back) (ends_escaping true back) (breaks_first back h)
 breaks_at escapes (b ∷ front) back h =
-    later_true (escapes && not (is_second b)) (is_broken_after (b == ESCAPE) (front ++ ESCAPE ∷ back)) (ends_escaping (b == ESCAPE) (front ++ ESCAPE ∷ back)) (breaks_at (b == ESCAPE) front back h)
+    later_true (escapes && not (is_second b)) (is_broken_after (b == escape_byte) (front ++ escape_byte ∷ back)) (ends_escaping (b == escape_byte) (front ++ escape_byte ∷ back)) (breaks_at (b == escape_byte) front back h)
 
 broken_lone : (piece : List ℕ) → is_broken piece ≡ true → HasLoneEscape piece
 broken_lone piece e = elim (breaks false piece e) [ inl at ↦ absurd (let h : false ≡ true = at.0 in cc) | inr lone ↦ lone ]

@@ -2,14 +2,14 @@
 use Rattle.std.specs.Prelude.{◌≡◌, ◌≢◌, ◌⊎◌, ℕ, ◌==◌, ◌&&◌, ◌||◌, ◌≤◌, not, nat_lt, Bool, true, false, if◌then◌else◌, List, [], ◌∷◌, ◌++◌, length}
 use Rattle.std.specs.List.{flat_map, AllByRecursion}
 use Rattle.dg_base.specs.Sizes.{longest_frame}
-use Rattle.dg_serial.specs.declared.TheConstants.{FLAG, ESCAPE, ESCAPED_FLAG, ESCAPED_ESCAPE}
+use Rattle.dg_serial.specs.Sizes.{flag_byte, escape_byte, escaped_flag, escaped_escape}
 
 -- ---- stuffing
 
 -- a byte as it stands on the line
 abbrev pub stuffed_byte : ℕ → List ℕ
 stuffed_byte b =
-    if b == FLAG then ESCAPE ∷ ESCAPED_FLAG ∷ [] else (if b == ESCAPE then ESCAPE ∷ ESCAPED_ESCAPE ∷ [] else b ∷ [])
+    if b == flag_byte then escape_byte ∷ escaped_flag ∷ [] else (if b == escape_byte then escape_byte ∷ escaped_escape ∷ [] else b ∷ [])
 
 -- bytes as they stand on the line
 abbrev pub escaped : List ℕ → List ℕ
@@ -17,7 +17,7 @@ escaped bytes = flat_map stuffed_byte bytes
 
 -- a frame as it stands on the line: a flag ends it
 unfoldable pub stuffed : List ℕ → List ℕ
-stuffed bytes = escaped bytes ++ FLAG ∷ []
+stuffed bytes = escaped bytes ++ flag_byte ∷ []
 
 -- frames one behind the other
 abbrev pub line_of : List (List ℕ) → List ℕ
@@ -40,7 +40,7 @@ onto_first b [] rest = record { pieces = []; rest = b ∷ rest }
 onto_first b (piece ∷ pieces) rest = record { pieces = (b ∷ piece) ∷ pieces; rest = rest }
 
 abbrev pub cut_behind : ℕ → Cut → Cut
-cut_behind b c = if b == FLAG then record { pieces = [] ∷ c.pieces; rest = c.rest } else onto_first b c.pieces c.rest
+cut_behind b c = if b == flag_byte then record { pieces = [] ∷ c.pieces; rest = c.rest } else onto_first b c.pieces c.rest
 
 unfoldable pub cut_of : List ℕ → Cut
 cut_of [] = record { pieces = []; rest = [] }
@@ -53,11 +53,11 @@ abbrev pub rest_of : List ℕ → List ℕ
 rest_of stream = (cut_of stream).rest
 
 abbrev pub HasNoFlag : List ℕ → Type 0
-HasNoFlag bytes = AllByRecursion (λ b. b ≢ FLAG) bytes
+HasNoFlag bytes = AllByRecursion (λ b. b ≢ flag_byte) bytes
 
 -- pieces, each with its flag
 abbrev pub flagged : List (List ℕ) → List ℕ
-flagged pieces = flat_map (λ piece. piece ++ FLAG ∷ []) pieces
+flagged pieces = flat_map (λ piece. piece ++ flag_byte ∷ []) pieces
 
 -- The stream is these pieces, each ended by a flag, and a rest. There is no other flag.
 pub record IsCut (stream : List ℕ) (c : Cut) : Type 0 where
@@ -69,17 +69,17 @@ pub record IsCut (stream : List ℕ) (c : Cut) : Type 0 where
 
 -- what follows an escape for the flag or the escape
 abbrev pub is_second : ℕ → Bool
-is_second b = (b == ESCAPED_FLAG) || (b == ESCAPED_ESCAPE)
+is_second b = (b == escaped_flag) || (b == escaped_escape)
 
 -- Some escape is followed by another byte than these. It is said whether an escape stands before the bytes.
 unfoldable pub is_broken_after : Bool → List ℕ → Bool
 is_broken_after escapes [] = false
-is_broken_after escapes (b ∷ bs) = (escapes && not (is_second b)) || is_broken_after (b == ESCAPE) bs
+is_broken_after escapes (b ∷ bs) = (escapes && not (is_second b)) || is_broken_after (b == escape_byte) bs
 
 -- the last byte escapes what would follow
 unfoldable pub ends_escaping : Bool → List ℕ → Bool
 ends_escaping escapes [] = escapes
-ends_escaping escapes (b ∷ bs) = ends_escaping (b == ESCAPE) bs
+ends_escaping escapes (b ∷ bs) = ends_escaping (b == escape_byte) bs
 
 -- some escape isn't followed, within the piece, by one of the two
 abbrev pub is_broken : List ℕ → Bool
@@ -88,24 +88,24 @@ is_broken piece = is_broken_after false piece || ends_escaping false piece
 -- the first of the bytes is one of the two
 abbrev pub BeginsWithSecond : List ℕ → Type 0
 BeginsWithSecond [] = ⊥
-BeginsWithSecond (b ∷ bs) = (b ≡ ESCAPED_FLAG) ⊎ (b ≡ ESCAPED_ESCAPE)
+BeginsWithSecond (b ∷ bs) = (b ≡ escaped_flag) ⊎ (b ≡ escaped_escape)
 
 -- an escape of the piece is not followed, within it, by one of the two
 pub record HasLoneEscape (piece : List ℕ) : Type 0 where
   pub front : List ℕ
   pub back : List ℕ
-  pub stands : piece ≡ front ++ ESCAPE ∷ back
+  pub stands : piece ≡ front ++ escape_byte ∷ back
   pub alone : BeginsWithSecond back → ⊥
 
 -- the byte for which this one stands behind an escape
 abbrev pub plain : ℕ → ℕ
-plain b = if b == ESCAPED_FLAG then FLAG else (if b == ESCAPED_ESCAPE then ESCAPE else b)
+plain b = if b == escaped_flag then flag_byte else (if b == escaped_escape then escape_byte else b)
 
 -- the bytes for which those of a piece stand
 unfoldable pub unstuffed_after : Bool → List ℕ → List ℕ
 unstuffed_after escapes [] = []
 unstuffed_after escapes (b ∷ bs) =
-    if b == ESCAPE then unstuffed_after true bs else (if escapes then plain b else b) ∷ unstuffed_after false bs
+    if b == escape_byte then unstuffed_after true bs else (if escapes then plain b else b) ∷ unstuffed_after false bs
 
 abbrev pub unstuffed : List ℕ → List ℕ
 unstuffed piece = unstuffed_after false piece
