@@ -1,58 +1,19 @@
 -- A data page is filled and sealed, or its filling is stopped.
-use Rattle.std.proofs.Common.{◌≡◌, ℕ, zero, suc, ◌+◌, ◌*◌, ◌-◌, ◌<◌, ◌≤◌, Bool, true, false, ◌&&◌, Option, Some, None, is_some, Result, Ok, Err, List, length, refl, sym, ap, subst, ◌∙◌, inl, inr, ⊎_elim, arith}
+use Rattle.std.proofs.Common.{◌≡◌, ℕ, ◌+◌, ◌-◌, ◌≤◌, Bool, true, false, ◌&&◌, Result, Ok, Err, List, refl, subst, inl, inr, ⊎_elim, arith}
 use Rattle.std.specs.Prelude.{⊤, if◌then◌else◌, IfOk, OnErr}
-use Rattle.std.proofs.lemmas.Bool.{cases_eq}
-use Rattle.std.proofs.lemmas.List.{get_or-set_same, get_or-set_other}
 use Rattle.sha2.specs.Sha256.{sha256}
-use Rattle.dg_words.specs.Cells.{part}
-use Rattle.dg_words.proofs.CellLemmas.{part_whole}
 use Rattle.dg_nor.specs.Device.{Device, Ran, Halts, Halted}
 use Rattle.dg_nor.specs.Trail.{Trail, operations_of, resting, stepping, MayLeave, Leaves, LeavesFrom}
 use Rattle.dg_nor.proofs.DeviceLemmas.{Halted_first, Halted_second, Halted_once, Halted-weaker, Ran_then}
-use Rattle.dg_slot.specs.Layout.{page_size, packets, packet_size}
+use Rattle.dg_slot.specs.Layout.{packets}
 use Rattle.dg_slot.specs.Kept.{Held, KeepsImage, with_page}
 use Rattle.dg_slot.specs.Fits.{may_seal}
-use Rattle.dg_slot.specs.Jobs.{no_packets, packet, put_packet, page_from, SlotStops, PacketStands}
-use Rattle.dg_slot.proofs.JobLemmas.{count_none, count_put, page_stands}
+use Rattle.dg_slot.specs.Jobs.{SlotStops}
 use Rattle.dg_chain.specs.Checking.{is_same}
 use Rattle.dg_chain.specs.Answers.{chained_trail, SealsChained}
-use Rattle.dg_chain.specs.Receiving.{packet_of, first_packets, fill_operations, receive_trail, Receives}
+use Rattle.dg_chain.specs.Receiving.{fill_operations, receive_trail, Receives}
 use Rattle.dg_chain.specs.declared.sealing.ChainSealing.{ChainSealing}
 use Rattle.dg_chain.specs.declared.sealing.ChainSealing.TheVariants.{Sealed, Foreign, Bad}
-
--- ---- the packets that are put
-
-pub first_none : (page : List ℕ) → no_packets ≡ first_packets page 0
-unfolding first_packets
-first_none page = refl
-
-pub first_more : (page : List ℕ) (n : ℕ) → put_packet (first_packets page n) n (packet_of page n) ≡ first_packets page (n + 1)
-unfolding first_packets
-first_more page n = let e : suc n ≡ n + 1 = omega arith in ap (first_packets page) e
-
-count_first : (page : List ℕ) (n : ℕ) → length (first_packets page n) ≡ packets
-unfolding first_packets
-count_first page zero = count_none
-count_first page (suc n) = count_put (first_packets page n) n (packet_of page n) (count_first page n)
-
-packet_first : (page : List ℕ) (n q : ℕ) → n ≤ packets → q < n → packet (first_packets page n) q ≡ Some (packet_of page q)
-unfolding first_packets
-packet_first page zero q known h = absurd (omega arith)
-packet_first page (suc n) q known h =
-    let some : n < length (first_packets page n) = omega (arith, count_first page n, known) in
-    ⊎_elim
-    (λ same. ap (λ (k : ℕ). packet (put_packet (first_packets page n) n (packet_of page n)) k) same ∙ get_or-set_same (first_packets page n) n (Some (packet_of page n)) None some
-    ∙ ap (λ (k : ℕ). Some (packet_of page k)) (sym same))
-    (λ other. get_or-set_other (first_packets page n) n q (Some (packet_of page n)) None other ∙ packet_first page n q (omega arith) (omega arith))
-    (cases_eq q n)
-
--- the page that they make
-pub page_first : (page : List ℕ) → length page ≡ page_size → page_from (first_packets page packets) ≡ page
-page_first page long =
-    let there : (q : ℕ) → q < packets → packet (first_packets page packets) q ≡ Some (packet_of page q) = λ q h. packet_first page packets q (omega arith) h in
-    page_stands page (first_packets page packets) (omega arith) (λ q h. ap is_some (there q h))
-    (λ q h. let P : Option (List ℕ) → Type 0 = PacketStands (part page (packet_size * q) packet_size) in subst P (sym (there q h)) refl)
-    ∙ part_whole page page_size long
 
 -- ---- acts of which it is said only how many operations they make
 

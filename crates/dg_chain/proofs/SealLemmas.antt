@@ -1,15 +1,12 @@
 -- A data page is read and compared with the expected digest before it is sealed.
-use Rattle.std.proofs.Common.{◌≡◌, ℕ, zero, suc, ◌+◌, ◌≤◌, Bool, true, false, eqb, List, length, refl, sym, ap, ◌∙◌, subst, arith}
+use Rattle.std.proofs.Common.{◌≡◌, ℕ, ◌+◌, Bool, true, false, List, refl, sym, ap, ◌∙◌, subst, arith}
 use Rattle.std.specs.Prelude.{if◌then◌else◌}
-use Rattle.std.proofs.lemmas.Bool.{and_from, eq-eqb}
 use Rattle.sha2.specs.Sha256.{sha256}
 use Rattle.dg_nor.specs.Device.{Device, Halted}
 use Rattle.dg_nor.specs.Reads.{Looked, ReadStopped}
 use Rattle.dg_nor.specs.Trail.{operations, operations_of, resting, LeavesFrom, MayLeave}
 use Rattle.dg_nor.proofs.DeviceLemmas.{Halted_second, Ran_then}
-use Rattle.dg_base.specs.Crc.{crc_of}
-use Rattle.dg_slot.specs.Kept.{Held, KeepsImage, kept_crc}
-use Rattle.dg_slot.specs.Fits.{first_fits, may_seal}
+use Rattle.dg_slot.specs.Kept.{Held, KeepsImage}
 use Rattle.dg_slot.specs.Jobs.{IsJob, Packets, seal_trail, Seals, SlotStops}
 use Rattle.dg_slot.specs.declared.states.OpenSlot.{OpenSlot}
 use Rattle.dg_slot.specs.declared.states.PageJob.{PageJob}
@@ -61,19 +58,3 @@ chained_sealed expected image h page next o a b c e f looked seals = (e, f, (sea
 pub chained_bad : (expected : List ℕ) (image : ℕ) (h : Held) (page : List ℕ) (kept found : ℕ) (o : OpenSlot) (a b c : Device) → sha256 page ≡ expected → Looked a b → Seals image h page b c (sealing.Bad kept found o)
     → SealsChained expected image h page a c (Bad kept found o)
 chained_bad expected image h page kept found o a b c e looked seals = (e, (seals.0, seals.1, seals.2, seals.3, Looked_then looked seals.4))
-
--- a data page that has its CRC may be sealed
-data_fits : (image n : ℕ) (h : Held) (page : List ℕ) → 1 ≤ n → first_fits image h page n ≡ true
-data_fits image zero h page some = absurd (omega arith)
-data_fits image (suc p) h page some = refl
-
-data_may_seal : (image : ℕ) (h : Held) (page : List ℕ) → 1 ≤ length h.complete → crc_of page ≡ kept_crc h → may_seal image h page ≡ true
-unfolding may_seal
-data_may_seal image h page some crc =
-    and_from (eqb (crc_of page) (kept_crc h)) (first_fits image h page (length h.complete)) (eq-eqb (crc_of page) (kept_crc h) crc) (data_fits image (length h.complete) h page some)
-
-pub never_unfit : (image : ℕ) (h : Held) (page : List ℕ) (o : OpenSlot) (b c : Device) → 1 ≤ length h.complete → Seals image h page b c (sealing.Unfit o) → ⊥
-never_unfit image h page o b c some seals =
-    let t = data_may_seal image h page some seals.0 in
-    let f : true ≡ false = sym t ∙ seals.1 in
-    cc

@@ -66,8 +66,10 @@ answer_of root pages = by_break (first_break root 1 pages) pages
 
 -- a page of the one and a page of the other at the same place differ, and have one digest
 pub record Collision (pages others : List (List ℕ)) : Type 0 where
-  -- the page's number in its slot is one more
   pub place : ℕ
+  -- the page's number in its slot
+  pub page : ℕ
+  pub numbered : page ≡ place + 1
   pub in_pages : place < length pages
   pub in_others : place < length others
   pub differ : slice_index_or pages place [] ≢ slice_index_or others place []

@@ -2,3 +2,4 @@ pub mod Chain
 pub mod Checking
 pub mod Answers
 pub mod Receiving
+pub mod Texts

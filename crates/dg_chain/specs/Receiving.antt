@@ -1,26 +1,15 @@
 -- A data page that is received: it is filled packet by packet, and then sealed where it is the expected one.
-use Rattle.std.specs.Prelude.{◌≡◌, ◌≢◌, ◌&&◌, ◌*◌, true, ℕ, zero, suc, if◌then◌else◌, List}
+use Rattle.std.specs.Prelude.{◌≡◌, ◌≢◌, ◌&&◌, true, ℕ, if◌then◌else◌, List}
 use Rattle.sha2.specs.Sha256.{sha256}
-use Rattle.dg_words.specs.Cells.{part}
 use Rattle.dg_base.specs.Crc.{crc_of}
 use Rattle.dg_nor.specs.Device.{Device, Ran}
 use Rattle.dg_nor.specs.Trail.{Trail, resting, stepping}
-use Rattle.dg_slot.specs.Layout.{packet_size}
 use Rattle.dg_slot.specs.Kept.{Held, with_page, kept_crc}
 use Rattle.dg_slot.specs.Fits.{may_seal}
-use Rattle.dg_slot.specs.Jobs.{IsOpen, Packets, no_packets, put_packet}
+use Rattle.dg_slot.specs.Jobs.{IsOpen}
 use Rattle.dg_chain.specs.Checking.{field_of, is_same}
 use Rattle.dg_chain.specs.declared.sealing.ChainSealing.{ChainSealing}
 use Rattle.dg_chain.specs.declared.sealing.ChainSealing.TheVariants.{Sealed, Foreign, Bad}
-
--- packet q of a page
-abbrev pub packet_of : List ℕ → ℕ → List ℕ
-packet_of page q = part page (packet_size * q) packet_size
-
--- the first n packets of a page are put
-unfoldable pub first_packets : List ℕ → ℕ → Packets
-first_packets page zero = no_packets
-first_packets page (suc n) = put_packet (first_packets page n) n (packet_of page n)
 
 -- a page is filled by an erase and its packets
 abbrev pub fill_operations : ℕ

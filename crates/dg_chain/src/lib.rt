@@ -2,6 +2,7 @@
 #![tactic(auto)]
 
 mod checking;
+mod faults;
 mod laws;
 mod pages;
 mod receiving;
@@ -9,7 +10,7 @@ mod sealing;
 mod wrapping;
 
 pub use checking::{ChainFault, check};
-pub use laws::a_root_names_its_pages;
+pub use laws::{a_root_names_its_pages, sizes_of_a_chain};
 pub use receiving::receive_page;
 pub use sealing::{ChainSealing, seal_chained};
 pub use wrapping::{WrapFault, Wrapped, wrap};

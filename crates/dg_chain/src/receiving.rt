@@ -1,69 +1,17 @@
 //! A data page of a chained image is received: filled, and sealed where it is the expected one.
-ghost use Rattle.std.specs.Prelude.{◌≡◌, ◌<◌, ◌≤◌, ◌+◌, ◌*◌, ℕ, ⊤, true, false, length, OnOk, OnErr, IfOk};
-ghost use Rattle.std.specs.FinSet as set;
+ghost use Rattle.std.specs.Prelude.{◌≡◌, ◌<◌, ◌≤◌, false, length, OnOk, OnErr, IfOk};
 ghost use Rattle.dg_nor.specs.Chip.{Touches};
-ghost use Rattle.dg_nor.specs.Device.{Ran, Halted};
-ghost use Rattle.dg_slot.specs.Layout.{packets, header_sector, slot_end};
+ghost use Rattle.dg_slot.specs.Layout.{header_sector, slot_end};
 ghost use Rattle.dg_slot.specs.Kept.{Held};
-ghost use Rattle.dg_slot.specs.Jobs.{IsOpen, IsJob, Packets, no_packets, put_packet as putting, outline_told, slot_of, got_told, sector_of, SlotStops};
+ghost use Rattle.dg_slot.specs.Jobs.{IsOpen, outline_told, SlotStops};
 ghost use Rattle.dg_chain.specs.Answers.{slot_in};
-ghost use Rattle.dg_chain.specs.Receiving.{packet_of, first_packets, receive_trail, Receives};
+ghost use Rattle.dg_chain.specs.Receiving.{receive_trail, Receives};
 
 use crate::DIGEST_SIZE;
 use crate::sealing::{ChainSealing, seal_chained};
 use dg_nor::{Nor, Stopped};
-use dg_object::{PACKET_SIZE, PACKETS, PAGE_SIZE};
-use dg_slot::{OpenSlot, PageJob};
-
-// Programs one packet of a page. 1 operation.
-fn put_packet<N: Nor>(
-    nor: &mut N,
-    job: &mut PageJob,
-    packet: u8,
-    page: &[u8; PAGE_SIZE],
-) -> Result<(), Stopped>
-    requires known { packet < packets }
-    requires missing { set.contains (got_told job.old) packet ≡ false }
-    ensures put { OnOk result ((h : Held) (ps : Packets) → IsJob (N.device nor.old).image job.old h ps
-        → IsJob (N.device nor.new).image job.new h (putting ps packet (packet_of page.now packet))) }
-    ensures got { OnOk result (got_told job.new ≡ set.insert (got_told job.old) packet) }
-    ensures same_slot { slot_of job.new ≡ slot_of job.old }
-    ensures ran { OnOk result (Ran 1 (N.device nor.old) (N.device nor.new)) }
-    ensures same_reference { (N.device nor.new).references ≡ (N.device nor.old).references }
-    ensures touches { Touches (sector_of job.old) (sector_of job.old + 1) (N.device nor.old).image (N.device nor.new).image }
-    ensures kept { (h : Held) → IsOpen (N.device nor.old).image (slot_of job.old) h
-        → IsOpen (N.device nor.new).image (slot_of job.old) h }
-    ensures stopped { OnErr result (Halted 1 (λ _ _. ⊤) (N.device nor.old) (N.device nor.new)) }
-{
-    let from = PACKET_SIZE * usize::from(packet);
-    let mut bytes = [0; PACKET_SIZE];
-    bytes.copy_from_slice(&page[from..from + PACKET_SIZE]);
-    job.put(nor, packet, &bytes)
-}
-
-// Programs all packets of a page. 48 operations.
-pub(crate) fn put_packets<N: Nor>(
-    nor: &mut N,
-    job: &mut PageJob,
-    page: &[u8; PAGE_SIZE],
-) -> Result<(), Stopped>
-    requires { got_told job.old ≡ set.empty }
-    ensures put { OnOk result ((h : Held) → IsJob (N.device nor.old).image job.old h no_packets
-        → IsJob (N.device nor.new).image job.new h (first_packets page.now packets)) }
-    ensures got { OnOk result ((q : ℕ) → q < packets → set.contains (got_told job.new) q ≡ true) }
-    ensures same_slot { slot_of job.new ≡ slot_of job.old }
-    ensures ran { OnOk result (Ran packets (N.device nor.old) (N.device nor.new)) }
-    ensures same_reference { (N.device nor.new).references ≡ (N.device nor.old).references }
-    ensures touches { Touches (sector_of job.old) (sector_of job.old + 1) (N.device nor.old).image (N.device nor.new).image }
-    ensures kept { (h : Held) → IsOpen (N.device nor.old).image (slot_of job.old) h
-        → IsOpen (N.device nor.new).image (slot_of job.old) h }
-    ensures stopped { OnErr result (Halted packets (λ _ _. ⊤) (N.device nor.old) (N.device nor.new)) }
-{
-    for packet in 0..PACKETS as u8 {
-        put_packet(nor, job, packet, page)?;
-    }
-    Ok(())
-}
+use dg_object::PAGE_SIZE;
+use dg_slot::OpenSlot;
 
 /// Fills the next page of a slot, a data page, and makes it complete where it is the expected one and its CRC is the one that is
 /// kept of it. 50 operations, and 49 where it is not.
@@ -86,6 +34,6 @@ pub fn receive_page<N: Nor>(
         → SlotStops (outline_told slot).image (receive_trail expected.now (outline_told slot).image h page.now) (N.device nor.old) (N.device nor.new)) }
 {
     let mut job = slot.begin_page(nor)?;
-    put_packets(nor, &mut job, page)?;
+    job.put_all(nor, page)?;
     seal_chained(job, nor, expected)
 }

@@ -42,7 +42,6 @@ pub fn seal_chained<N: Nor>(
     nor: &mut N,
     expected: &[u8; DIGEST_SIZE],
 ) -> Result<ChainSealing, Stopped>
-    requires stands { (h : Held) × (ps : Packets) × IsJob (N.device nor.old).image job h ps }
     requires all { (q : ℕ) → q < packets → set.contains (got_told job) q ≡ true }
     requires data_page { 1 ≤ done_told (slot_of job) }
     ensures sealed { IfOk result (λ answer. (h : Held) (ps : Packets) → IsJob (N.device nor.old).image job h ps

@@ -1,7 +1,5 @@
 use super::*;
-use crate::receiving::put_packets;
-use dg_base::crc16;
-use dg_nor::{Board, Fused, Nor, Stopped, program_in};
+use dg_nor::{Board, Nor, Stopped, program_in};
 use dg_object::{MOST_BYTES, MOST_PAGES, PAGE_SIZE, page_of, pages_of, profile_of};
 use dg_slot::{DirtySlot, OpenSlot, Sealing, page_sector};
 use sha2::{Digest, Sha256};
@@ -12,9 +10,6 @@ const IMAGE: u8 = 1;
 const VERSION: u32 = 7;
 
 const NAME: &[u8; 5] = b"blink";
-
-/// An erase, the packets and the gate of a page.
-const OPERATIONS: u32 = 50;
 
 /// The SHA-256 of `abc`, as FIPS 180-4 has it.
 const ABC: [u8; 32] = [
@@ -64,7 +59,7 @@ fn begin(board: &mut Board, bytes: &[u8]) -> Result<bool, Stopped> {
         return Ok(false);
     }
     let mut job = slot.begin_page(board)?;
-    put_packets(board, &mut job, &first)?;
+    job.put_all(board, &first)?;
     let sealing = job.seal(board)?;
     Ok(matches!(&sealing, Sealing::Sealed(_)))
 }
@@ -117,14 +112,6 @@ fn check_whole<N: Nor>(
         return Ok(None);
     }
     Ok(Some(check(nor, IMAGE, root)))
-}
-
-/// How many pages of the slot are complete.
-fn done<N: Nor>(nor: &mut N) -> Result<u8, Stopped> {
-    Ok(match OpenSlot::mount(nor, IMAGE, VERSION)? {
-        Some(slot) => slot.done(),
-        None => 0,
-    })
 }
 
 #[test]
@@ -195,146 +182,5 @@ fn received_images_are_checked(rt: HostRuntime) -> Result<(), Fail> {
             found
         }))
     );
-    Ok(())
-}
-
-#[test]
-fn later_pages_are_checked(rt: HostRuntime) -> Result<(), Fail> {
-    let alloc = rt.alloc();
-    let mut board = Board::memory(alloc)?;
-    let Ok(wrapped) = wrap(alloc, &payload()) else {
-        return Err("a payload that fits".into());
-    };
-    let image = wrapped.image.as_slice();
-    assert!(rt; receive_all(&mut board, image, &wrapped.root)?);
-    let Some(first) = page_at(image, 1) else {
-        return Err("page 1".into());
-    };
-    let Some(page) = page_at(image, 2) else {
-        return Err("page 2".into());
-    };
-    let kept = Sha256::digest(page.as_slice());
-    assert_eq!(rt; &first[1_072..], kept.as_slice());
-    program_in(&mut board, page_sector(IMAGE, 2), 1_000, &[0])?;
-    let mut changed = page;
-    changed[1_000] = 0;
-    let found = Sha256::digest(changed.as_slice());
-    assert_eq!(rt;
-        check_whole(&mut board, &wrapped.root)?,
-        Some(Err(ChainFault::Broken {
-            page: 2,
-            kept,
-            found
-        }))
-    );
-    Ok(())
-}
-
-#[test]
-fn other_images_have_no_shape(rt: HostRuntime) -> Result<(), Fail> {
-    let alloc = rt.alloc();
-    let mut board = Board::memory(alloc)?;
-    // a page that no payload has: it tells no length
-    let image = [0; PAGE_SIZE];
-    let root = Sha256::digest(image.as_slice());
-    assert!(rt; receive_all(&mut board, &image, &root)?);
-    assert_eq!(rt;
-        check_whole(&mut board, &root)?,
-        Some(Err(ChainFault::Shape))
-    );
-    // it tells the length of one page, and names a page behind
-    let mut image = [0xFF; PAGE_SIZE];
-    image[0] = 0;
-    image[1] = 0;
-    image[2] = 0;
-    let root = Sha256::digest(image.as_slice());
-    assert!(rt; receive_all(&mut board, &image, &root)?);
-    assert_eq!(rt;
-        check_whole(&mut board, &root)?,
-        Some(Err(ChainFault::Shape))
-    );
-    Ok(())
-}
-
-#[test]
-fn foreign_pages_are_not_sealed(rt: HostRuntime) -> Result<(), Fail> {
-    let alloc = rt.alloc();
-    let mut board = Board::memory(alloc)?;
-    let Ok(wrapped) = wrap(alloc, &payload()) else {
-        return Err("a payload that fits".into());
-    };
-    let image = wrapped.image.as_slice();
-    assert!(rt; begin(&mut board, image)?);
-    let Some(page) = page_at(image, 1) else {
-        return Err("page 1".into());
-    };
-    let Some(last) = page_at(image, 2) else {
-        return Err("page 2".into());
-    };
-    let mut other = page;
-    other[20] = 0;
-    let digest = Sha256::digest(other.as_slice());
-    let Some(ChainSealing::Foreign { found, slot }) = receive(&mut board, &other, &wrapped.root)?
-    else {
-        return Err("a page that is not expected".into());
-    };
-    assert_eq!(rt; found, digest);
-    assert_eq!(rt; slot.done(), 1);
-    assert_eq!(rt; done(&mut board)?, 1);
-
-    // a page that is expected, and is not the one whose CRC page 0 keeps
-    let Some(
-        ChainSealing::Bad {
-            kept,
-            found,
-            slot: _,
-        },
-    ) = receive(&mut board, &other, &digest)?
-    else {
-        return Err("a page with another CRC".into());
-    };
-    assert_eq!(rt; (kept, found), (crc16(&page), crc16(&other)));
-
-    let Some(ChainSealing::Sealed { slot, next }) = receive(&mut board, &page, &wrapped.root)?
-    else {
-        return Err("the expected page".into());
-    };
-    assert_eq!(rt; slot.done(), 2);
-    assert_eq!(rt; next, Sha256::digest(last.as_slice()));
-    Ok(())
-}
-
-#[test]
-fn each_operation_is_cut(rt: HostRuntime) -> Result<(), Fail> {
-    let alloc = rt.alloc();
-    let mut board = Board::memory(alloc)?;
-    let Ok(wrapped) = wrap(alloc, &payload()) else {
-        return Err("a payload that fits".into());
-    };
-    let image = wrapped.image.as_slice();
-    let Some(page) = page_at(image, 1) else {
-        return Err("page 1".into());
-    };
-    for mask in [0x00, 0xFF] {
-        for after in 1..=OPERATIONS {
-            assert!(rt; begin(&mut board, image)?);
-            let masks = [mask];
-            let mut fused = Fused::new(&mut board, Some(after), &masks);
-            assert!(rt;
-                receive(&mut fused, &page, &wrapped.root).is_err(),
-                "{mask}, {after}"
-            );
-            assert!(rt;
-                check_whole(&mut fused, &wrapped.root).is_err(),
-                "{mask}, {after}"
-            );
-            let complete = if after == OPERATIONS && mask == 0 {
-                2
-            } else {
-                1
-            };
-            assert_eq!(rt; done(&mut board)?, complete, "{mask}, {after}");
-        }
-    }
     Ok(())
 }

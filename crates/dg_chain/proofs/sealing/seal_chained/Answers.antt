@@ -1,4 +1,4 @@
-use Rattle.std.proofs.Common.{◌≡◌, ◌≤◌, ℕ, length, ◌∙◌, sym, ap, subst, arith}
+use Rattle.std.proofs.Common.{◌≡◌, ℕ, Ok, ◌∙◌, sym, ap, subst, arith}
 use Rattle.sha2.specs.Sha256.{sha256}
 use Rattle.dg_nor.proofs.DeviceLemmas.{OnErr_from}
 use Rattle.dg_slot.specs.Layout.{page_sector}
@@ -12,7 +12,7 @@ use Rattle.dg_slot.proofs.JobLemmas.{job_page}
 use Rattle.dg_chain.specs.Checking.{is_same, field_of}
 use Rattle.dg_chain.proofs.WalkLemmas.{same_true}
 use Rattle.dg_chain.proofs.StepLemmas.{not_false}
-use Rattle.dg_chain.proofs.SealLemmas.{chained_unread, chained_stops, job_same, chained_sealed, chained_bad, never_unfit}
+use Rattle.dg_chain.proofs.SealLemmas.{chained_unread, chained_stops, job_same, chained_sealed, chained_bad}
 use Rattle.dg_chain.proofs.sealing.seal_chained.Goals as goal
 
 pub returns-in_err-read_page-clause-stopped : goal.returns-in_err-read_page-clause-stopped
@@ -48,16 +48,8 @@ returns-in_err-slot-clause-stopped g c = OnErr_from c.from_residual-in_err-slot.
 
 pub unreachable-requires : goal.unreachable-requires
 unreachable-requires g c =
-    let j = c.args.job in
-    let h = c.requires.stands.0 in
-    let ps = c.requires.stands.1 in
-    let job = c.requires.stands.2 in
-    let old = (g.N.Nor.device c.args.nor.now).image in
-    let mid = (g.N.Nor.device c.read_page.new.nor).image in
-    let seals = c.in_ok-slot.ensures.sealed h ps (job_same old mid j h ps c.in_ok-read_page.ensures.ends.same_image job) in
-    let some : 1 ≤ length h.complete = omega (arith, c.requires.data_page, job.slot.opens.done) in
-    let here = subst (λ (s : Sealing). Seals (outline_told (slot_of j)).image h (page_from ps) (g.N.Nor.device c.read_page.new.nor) (g.N.Nor.device c.seal.new.nor) s) c.in-Unfit.is seals in
-    never_unfit (outline_told (slot_of j)).image h (page_from ps) _ (g.N.Nor.device c.read_page.new.nor) (g.N.Nor.device c.seal.new.nor) some here
+    let none = c.in_ok-slot.ensures.unfit c.in-Unfit.slot (ap Ok c.in-Unfit.is) in
+    omega (arith, none, c.requires.data_page)
 
 pub returns-in-Sealed-clause-sealed : goal.returns-in-Sealed-clause-sealed
 returns-in-Sealed-clause-sealed g c h ps job =
