@@ -9,7 +9,7 @@ use Rattle.clap.specs.declared.parser.matches.ArgMatches.{ArgMatches}
 use Rattle.dg_command.specs.Apps.{app_for, app_of_verb, most_number}
 use Rattle.dg_command.specs.Asking.{Said, has_name, named, refused_by, said_at, taken_by}
 use Rattle.dg_command.specs.Bounds.{FitsRanges, IsInRange}
-use Rattle.dg_command.specs.Sizes.{network_images, most_turns, most_room, least_motes, most_motes, least_pages, most_pages}
+use Rattle.dg_command.specs.Sizes.{network_images, last_slot, most_turns, most_room, least_motes, most_motes, least_pages, most_pages}
 use Rattle.dg_command.specs.declared.verbs.Verb.{Verb}
 use Rattle.dg_command.specs.declared.verbs.Verb.TheVariants.{Replay, Serve, Format, Inject, Order, Boot, Ping, Dump, Trial}
 use Rattle.dg_command.proofs.RangeLemmas.{in_range}
@@ -19,7 +19,7 @@ numbers Replay old m is p = tt
 numbers Serve old m is p = in_range Serve old m 0 1 most_turns 32 (codes "turns") is p (omega arith) (λ d. refl) refl refl (omega arith)
 numbers Format old m is p = (in_range Format old m 1 0 most_room 32 (codes "used") is p (omega arith) (λ d. refl) refl refl (omega arith)).1
 numbers Inject old m is p = (
-  (in_range Inject old m 0 0 network_images 8 (codes "image") is p (omega arith) (λ d. refl) refl refl (omega arith)).1,
+  (in_range Inject old m 0 0 last_slot 8 (codes "image") is p (omega arith) (λ d. refl) refl refl (omega arith)).1,
   (in_range Inject old m 1 1 most_number 32 (codes "ver") is p (omega arith) (λ d. refl) refl refl (omega arith)).0,
 )
 numbers Order old m is p = (
@@ -29,7 +29,7 @@ numbers Order old m is p = (
 )
 numbers Boot old m is p = tt
 numbers Ping old m is p = tt
-numbers Dump old m is p = (in_range Dump old m 0 0 network_images 8 (codes "image") is p (omega arith) (λ d. refl) refl refl (omega arith)).1
+numbers Dump old m is p = (in_range Dump old m 0 0 last_slot 8 (codes "image") is p (omega arith) (λ d. refl) refl refl (omega arith)).1
 numbers Trial old m is p =
     let motes = in_range Trial old m 0 least_motes most_motes 8 (codes "motes") is p (omega arith) (λ d. refl) refl refl (omega arith) in
     let pages = in_range Trial old m 1 least_pages most_pages 8 (codes "pages") is p (omega arith) (λ d. refl) refl refl (omega arith) in

@@ -95,11 +95,11 @@ answer_for verb words = by_fault (fault_of (app_for verb) words) (taken_by verb 
 unfoldable pub asked_of : List Text → Asking
 asked_of words = answer_for (verb_in words) words
 
--- ---- the files that they name
+-- ---- the files that they name; those of a service, which is still to come, are not opened
 
 abbrev pub flashes_said : Said → List Text
 flashes_said (Replay flashes) = flashes
-flashes_said (Serve turns seed flashes) = flashes
+flashes_said (Serve turns seed flashes) = []
 flashes_said (Format name used flash) = flash ∷ []
 flashes_said (Inject image version name flash) = flash ∷ []
 flashes_said (Order number image version flash) = flash ∷ []

@@ -1,8 +1,12 @@
 -- The ranges of a command's numbers. Those of this profile that stand here are the program's own.
-use Rattle.std.specs.Prelude.{ℕ}
+use Rattle.std.specs.Prelude.{ℕ, ◌-◌}
 pub use Rattle.dg_base.specs.Sizes.{most_motes, network_images}
-pub use Rattle.dg_object.specs.Sizes.{most_pages}
+pub use Rattle.dg_object.specs.Sizes.{slots, most_pages}
 pub use Rattle.dg_control.specs.Sizes.{most_room}
+
+-- the last slot of a chip: images are put into one, and read from one, by its number
+abbrev pub last_slot : ℕ
+last_slot = slots - 1
 
 -- the turns that a service takes, at most. It takes one at least
 abbrev pub most_turns : ℕ

@@ -1,28 +1,28 @@
 //! The commands of `clap`, one for each verb, and the one for words without a verb.
 ghost use Rattle.std.specs.Prelude.{◌≡◌, false, IfOk, map, Some};
 ghost use Rattle.clap.specs.Words.{app_of, rule_of};
-ghost use Rattle.dg_command.specs.Apps.{app_for, app_of_verb, flash_word, flash_words, image_option, number_option, rules_of, seed_option, text_option, top_app, version_option};
+ghost use Rattle.dg_command.specs.Apps.{app_for, app_of_verb, flash_word, flash_words, image_option, number_option, rules_of, seed_option, slot_option, text_option, top_app, version_option};
 
 use crate::ranges::{LEAST_MOTES, LEAST_PAGES, MOST_TURNS};
 use crate::verbs::Verb;
 use clap::{Arg, ArgAction, Command, value_parser};
 use dg_base::{MOST_MOTES, NETWORK_IMAGES};
 use dg_control::MOST_ROOM;
-use dg_object::MOST_PAGES;
+use dg_object::{MOST_PAGES, SLOTS};
 use std::alloc::{AllocError, Global};
 
-const VERSION: &str = "1.0";
+const VERSION: &str = "0.9";
+
+const IMAGE: &str = "The image, 0 to 3; 0 is golden";
 
 const VERBS: &str = "Commands:
   replay [FLASH]..                                        replay a script over boards
-  serve --turns T --seed S [FLASH]..                      run the motes of a profile
   format --name NAME --used U FLASH                       make a chip with a golden image
   inject --image I --ver V --name NAME FLASH              put an image into a chip
   order --number K --image I --ver V FLASH                keep an order in a chip
   boot FLASH                                              start a chip
   ping FLASH                                              tell what a chip keeps
-  dump --image I FLASH                                    write an image of a chip
-  trial --motes N --pages P --seed S                      replay a schedule that a seed makes";
+  dump --image I FLASH                                    write an image of a chip";
 
 /// An option that must be there, whose value is a number within bounds.
 fn number<'a>(alloc: Global, name: &'a str, help: &'a str, low: u32, high: u32) -> Arg<'a>
@@ -66,18 +66,25 @@ fn flashes<'a>(alloc: Global) -> Arg<'a>
         .action(ArgAction::Append)
 }
 
-/// The number of an image.
+/// The number of an image that a network names.
 fn image<'a>(alloc: Global) -> Arg<'a>
     ensures { rule_of result ≡ image_option }
 {
-    number(alloc, "image", "The image", 0, u32::from(NETWORK_IMAGES))
+    number(alloc, "image", IMAGE, 0, u32::from(NETWORK_IMAGES))
+}
+
+/// The number of an image that a chip has a slot for.
+fn slot<'a>(alloc: Global) -> Arg<'a>
+    ensures { rule_of result ≡ slot_option }
+{
+    number(alloc, "image", IMAGE, 0, u32::from(SLOTS - 1))
 }
 
 /// A version.
 fn version<'a>(alloc: Global) -> Arg<'a>
     ensures { rule_of result ≡ version_option }
 {
-    number(alloc, "ver", "The version", 1, u32::MAX)
+    number(alloc, "ver", "The version, 1 to 4294967295", 1, u32::MAX)
 }
 
 /// A seed.
@@ -104,7 +111,7 @@ fn arguments<'a>(alloc: Global, verb: Verb) -> Result<Vec<Arg<'a>>, AllocError>
         Verb::Inject => inject_arguments(alloc),
         Verb::Order => order_arguments(alloc),
         Verb::Boot | Verb::Ping => Ok(vec![in alloc; flash(alloc)]?),
-        Verb::Dump => Ok(vec![in alloc; image(alloc), flash(alloc)]?),
+        Verb::Dump => Ok(vec![in alloc; slot(alloc), flash(alloc)]?),
         Verb::Trial => trial_arguments(alloc),
     }
 }
@@ -119,11 +126,15 @@ fn serve_arguments<'a>(alloc: Global) -> Result<Vec<Arg<'a>>, AllocError>
 fn format_arguments<'a>(alloc: Global) -> Result<Vec<Arg<'a>>, AllocError>
     ensures { IfOk result (λ v. map rule_of v.items ≡ rules_of Verb.Format) }
 {
-    let name = text(alloc, "name", "The name of the golden image");
+    let name = text(
+        alloc,
+        "name",
+        "The name of the golden image: 1 to 16 letters, digits, _, - and .",
+    );
     let used = number(
         alloc,
         "used",
-        "The commits that are told as spent",
+        "The commits that are told as spent, 0 to 520223",
         0,
         MOST_ROOM,
     );
@@ -133,14 +144,24 @@ fn format_arguments<'a>(alloc: Global) -> Result<Vec<Arg<'a>>, AllocError>
 fn inject_arguments<'a>(alloc: Global) -> Result<Vec<Arg<'a>>, AllocError>
     ensures { IfOk result (λ v. map rule_of v.items ≡ rules_of Verb.Inject) }
 {
-    let name = text(alloc, "name", "The name of the image");
-    Ok(vec![in alloc; image(alloc), version(alloc), name, flash(alloc)]?)
+    let name = text(
+        alloc,
+        "name",
+        "The name of the image: 1 to 16 letters, digits, _, - and .",
+    );
+    Ok(vec![in alloc; slot(alloc), version(alloc), name, flash(alloc)]?)
 }
 
 fn order_arguments<'a>(alloc: Global) -> Result<Vec<Arg<'a>>, AllocError>
     ensures { IfOk result (λ v. map rule_of v.items ≡ rules_of Verb.Order) }
 {
-    let order = number(alloc, "number", "The number of the order", 1, u32::MAX);
+    let order = number(
+        alloc,
+        "number",
+        "The number of the order, 1 to 4294967295",
+        1,
+        u32::MAX,
+    );
     Ok(vec![in alloc; order, image(alloc), version(alloc), flash(alloc)]?)
 }
 

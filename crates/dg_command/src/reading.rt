@@ -49,8 +49,8 @@ fn flashes(alloc: Global, command: Command) -> Result<Vec<String>, AllocError>
         Command::Serve {
             turns: _turns,
             seed: _seed,
-            flashes,
-        } => Ok(flashes),
+            flashes: _flashes,
+        } => Ok(Vec::new(alloc)),
         Command::Format {
             name: _name,
             used: _used,

@@ -16,7 +16,7 @@ static COMMANDS: [(&str, &str); 21] = [
     ("serve --turns 1 --seed 0", "serve 1 0 []"),
     (
         "serve --seed 4294967295 a --turns 1000000 b",
-        "serve 1000000 4294967295 [\"a\", \"b\"]",
+        "serve 1000000 4294967295 []",
     ),
     ("format --name base --used 0 f", "format base 0 [\"f\"]"),
     (
