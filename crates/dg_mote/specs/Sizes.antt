@@ -4,7 +4,7 @@ use Rattle.std.specs.List.{range_with_len}
 use Rattle.dg_object.specs.Sizes.{head_size, name_size, descriptor_piece_size}
 use Rattle.dg_control.specs.Sizes.{place_size}
 use Rattle.dg_slot.specs.Layout.{crc_piece_size}
-use Rattle.dg_boot.specs.Sizes.{piece_size}
+use Rattle.dg_boot.specs.Sizes.{copy_piece_size}
 use Rattle.dg_frame.specs.Sizes.{frame_images, frame_bytes, packet_size, set_bytes, entry_size, order_size}
 use Rattle.dg_mote.specs.declared.mote.TheConstants.{MOTE_SIZE}
 use Rattle.dg_mote.specs.declared.outbox.TheConstants.{OUTBOX_SIZE}
@@ -36,7 +36,7 @@ kept_bytes = outbox_bytes + packet_sets * set_bytes
 
 -- the largest array of a call: the piece in which a start copies a page
 abbrev pub scratch_bytes : ℕ
-scratch_bytes = piece_size
+scratch_bytes = copy_piece_size
 
 -- the outbox, the sets and the largest array
 abbrev pub buffered_bytes : ℕ
@@ -62,7 +62,7 @@ pub record BuffersFit : Type 0 where
   -- of page 0: with it the head of the descriptor, the name in it, and the piece in which the bytes behind it are tested
   pub testing : kept_bytes + packet_size + head_size + name_size + descriptor_piece_size ≤ most_buffered
   -- an order is started, by a mote that maintains, and so has no set: the name in the descriptor, and the piece that is copied
-  pub copying : outbox_bytes + name_size + piece_size ≤ most_buffered
+  pub copying : outbox_bytes + name_size + copy_piece_size ≤ most_buffered
 
 -- ---- the value of a mote
 
