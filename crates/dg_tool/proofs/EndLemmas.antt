@@ -90,7 +90,6 @@ no_read_fault : (st : Status) → HasLine st → st ≢ statuses.ReadFault
 no_read_fault st line e = subst HasLine e line
 
 module _ (chips : Option Store → Type 0) (ending : Option Store → Ending) (acted may : Option Store → Device → Device → Type 0) (reads_failed : Type 0) (before after : Option (List ℕ)) (writes_before writes_after : ℕ) (old new : List Device) where
-
   abbrev pub Ended : Status → Type 0
   Ended status = ToolDone status chips ending acted may reads_failed before after writes_before writes_after old new
 
@@ -206,7 +205,6 @@ module _ (chips : Option Store → Type 0) (ending : Option Store → Ending) (a
 -- ---- what was read
 
 module _ (boards : ℕ) (input : List ℕ) (left_before left_after : Option (List ℕ)) (reads_before reads_after : ℕ) where
-
   abbrev pub Read : Status → Type 0
   Read status = InputRead status boards input left_before left_after reads_before reads_after
 

@@ -56,7 +56,6 @@ by_needs false r next h = by_file_needs r next h
 -- ---- an input that ends a verb
 
 module _ (chips : Option Store → Type 0) (input : List ℕ) (next : Option Store → List ℕ → Ending) (acted may : Option Store → Device → Device → Type 0) (ds : List Device) (n : ℕ) (some : 0 < n) (needs : (chip : Option Store) (image : List ℕ) → NeedsInput (next chip image)) where
-
   abbrev ends : Option Store → Ending
   ends chip = by_boards n (by_input input (next chip))
 

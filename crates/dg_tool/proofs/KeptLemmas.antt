@@ -99,7 +99,6 @@ dump_needs None = tt
 dump_needs (Some h) = test_needs (length h.complete == h.pages) (Ends (written_file (kept_bytes h))) (Refuses (refusals.NotWhole (length h.complete) h.pages)) tt tt
 
 module _ {T : Type 0} (view : T → List ℕ) (r : Result T Stop) (a b : Device) where
-
   abbrev pub Dumped : Ending → Type 0
   Dumped ending = OnStore view r ending Looked ReadStopped a b
 

@@ -55,7 +55,7 @@ name_in-descriptor page d described =
     let fits : length d.name ≤ 16 = names-fits d.name described.head.range.name in
     let long : length (padded 16 0 d.name) ≡ 16 = length-padded 16 0 d.name fits in
     let field : take 16 (drop 12 page) ≡ padded 16 0 d.name =
-        sym (take-drop-take page 16 12 head_size (omega arith)) ∙ ap (take 16) (head_name described.head) ∙ take_all 16 (padded 16 0 d.name) (omega arith) in
+    sym (take-drop-take page 16 12 head_size (omega arith)) ∙ ap (take 16) (head_name described.head) ∙ take_all 16 (padded 16 0 d.name) (omega arith) in
     until_zero (take 16 (drop 12 page)) d.name described.head.range.name field (ap length field ∙ long)
 
 -- ---- what is kept

@@ -105,7 +105,6 @@ pub any_board : {T : Type 0} (view : T → List ℕ) (r : Result T Stop) (ending
 any_board view r ending acted may a b h = record { rules = λ chip _. h.comes; found = finds (told_status r) ((chip : Option Store) × Unit {0}) (None, tt); of_board = h.of_board; stops = h.stops }
 
 module _ {T : Type 0} (view : T → List ℕ) (used : ℕ) (golden : List ℕ) (acted may : Device → Device → Type 0) (a b : Device) where
-
   pub formatted : (r : Result T Stop) → (length golden ≡ 0 → ⊥) → (most_bytes < length golden → ⊥) → Makes view r (room_told (most_room - used)) → acted a b → OnStore view r (format_sized used golden) acted may a b
   formatted r some fits makes did = subst (λ (e : Ending). OnStore view r e acted may a b) (sym (sized_fits used golden some fits)) (made_comes view r (room_told (most_room - used)) acted may a b makes did)
 
@@ -137,7 +136,6 @@ trail_unmounted trail a b begins (Some s) stands h = read_stops s (trail s) a b 
 -- ---- order
 
 module _ {T : Type 0} (view : T → List ℕ) (s : Store) (o : Order) (a b : Device) where
-
   abbrev pub OrderDone : Result T Stop → Type 0
   OrderDone r = OnStore view r (order_by o (order_refusal s o)) (Went (order_trail s o)) (Stops (order_trail s o)) a b
 
@@ -168,7 +166,6 @@ order_needs o (Some fault) = tt
 -- ---- inject
 
 module _ {T : Type 0} (view : T → List ℕ) (s : Store) (row : Row) (a b : Device) where
-
   abbrev pub InjectDone : Result T Stop → Type 0
   InjectDone r = OnStore view r (inject_by row (inject_refusal s row)) (Went (inject_trail s row)) (Stops (inject_trail s row)) a b
 

@@ -18,8 +18,8 @@ use crate::Refusal;
 use crate::board::mount;
 use crate::pages::read_bytes;
 use crate::stop::{Stop, or_memory};
-use dg_ihex::write_ihex;
 use dg_base::Status;
+use dg_ihex::write_ihex;
 use dg_nor::Nor;
 use dg_volume::{Kept, Volume};
 use std::alloc::{AllocError, Global};
@@ -95,11 +95,7 @@ fn dump_on<N: Nor>(alloc: Global, image: u8, nor: &mut N) -> Result<Vec<u8>, Sto
 }
 
 /// The HEX file of an image on the first of the boards.
-fn dump_first<N: Nor>(
-    alloc: Global,
-    image: u8,
-    boards: &mut [N],
-) -> Result<Vec<u8>, Stop>
+fn dump_first<N: Nor>(alloc: Global, image: u8, boards: &mut [N]) -> Result<Vec<u8>, Stop>
     requires known_image { image < images }
     ensures done { OnBoards (told_status result) (FirstAs (map N.device boards.old)) (dump_ending (length boards.old) image) (λ chip. Looked) (λ chip. ReadStopped)
         (told_text (λ text. text.items) result) (map N.device boards.old) (map N.device boards.new) }

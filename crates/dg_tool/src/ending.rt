@@ -77,11 +77,7 @@ fn push_too_large(alloc: Global, text: &mut Vec<u8>, length: usize) -> Result<()
 }
 
 /// Ends a verb with a line that memory may be wanting for.
-fn end_with_line<K: Sink>(
-    out: &mut K,
-    line: Result<Vec<u8>, AllocError>,
-    status: Status,
-) -> Status
+fn end_with_line<K: Sink>(out: &mut K, line: Result<Vec<u8>, AllocError>, status: Status) -> Status
     ensures ends { (text : List ℕ) → IfOk line (λ l. l.items ≡ text)
         → WritesLast result status text (K.written out.old) (K.written out.new) (Rose (K.faults out.old) (K.faults out.new)) (K.faults out.new ≡ K.faults out.old) }
     ensures counts { K.faults out.old ≤ K.faults out.new }
@@ -103,13 +99,9 @@ fn end_at_stop<K: Sink>(alloc: Global, out: &mut K, stop: Stop) -> Status
         Stop::FlashFault => Status::FlashFault,
         Stop::NoBoard => end_with(out, b"noboard 1 0\n", Status::NoBoard),
         Stop::TooLong => end_with(out, b"toolong\n", Status::TooLong),
-        Stop::BadInput(fault) => {
-            end_with_line(out, fault_line(alloc, fault), Status::BadInput)
-        }
+        Stop::BadInput(fault) => { end_with_line(out, fault_line(alloc, fault), Status::BadInput) }
         Stop::NotAVolume => end_with(out, b"notavolume\n", Status::NotAVolume),
-        Stop::Refused(cause) => {
-            end_with_line(out, refusal_line(alloc, cause), Status::Refused)
-        }
+        Stop::Refused(cause) => { end_with_line(out, refusal_line(alloc, cause), Status::Refused) }
         Stop::NoImage => end_with(out, b"noimage\n", Status::NoImage),
     }
 }

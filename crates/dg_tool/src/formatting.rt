@@ -7,10 +7,10 @@ ghost use Rattle.dg_tool.specs.Verbs.{format_sized, format_ending};
 ghost use Rattle.dg_tool.specs.Done.{InputRead, IsFormatted, FormatStops};
 ghost use Rattle.dg_tool.specs.Stops.{InputFails, OnBoard, OnBoards, told_status, told_text};
 
+use crate::Refusal;
 use crate::input::read_image;
 use crate::stop::{Stop, or_memory};
 use crate::text::line_of;
-use crate::Refusal;
 use dg_base::Source;
 use dg_control::MOST_ROOM;
 use dg_nor::Nor;
@@ -34,7 +34,9 @@ fn format_on<N: Nor>(
         Ok(()) => or_memory(line_of(alloc, b"room", &[MOST_ROOM - used])),
         Err(FormatFault::Stopped) => Err(Stop::FlashFault),
         Err(FormatFault::Empty) => Err(Stop::Refused(Refusal::Empty)),
-        Err(FormatFault::TooLarge) => Err(Stop::Refused(Refusal::TooLarge { length: golden.len() })),
+        Err(FormatFault::TooLarge) => Err(Stop::Refused(Refusal::TooLarge {
+            length: golden.len(),
+        })),
     }
 }
 

@@ -30,15 +30,14 @@ ghost use Rattle.dg_tool.specs.Endings.{FirstAs, content_in};
 ghost use Rattle.dg_tool.specs.Verbs.{format_ending, inject_ending, order_ending, power_boot, boot_ending, ping_ending, dump_ending};
 ghost use Rattle.dg_tool.specs.Done.{ToolDone, InputRead, IsFormatted, FormatStops, WentOn, StopsOn, BootedOn};
 
-pub use crate::laws::a_whole_image_tells_its_row;
-pub use crate::refusal::Refusal;
-
 use crate::dumping::dump_boards;
 use crate::ending::end;
 use crate::formatting::format_boards;
 use crate::injecting::inject_boards;
+pub use crate::laws::a_whole_image_tells_its_row;
 use crate::ordering::order_boards;
 use crate::pinging::ping_boards;
+pub use crate::refusal::Refusal;
 use crate::starting::boot_boards;
 use dg_base::{Sink, Source, Status};
 use dg_nor::Nor;
@@ -141,12 +140,7 @@ pub fn ping<K: Sink, N: Nor>(alloc: Global, out: &mut K, boards: &mut Vec<N>) ->
 }
 
 /// Writes the image that a slot of the first board keeps whole as a HEX file, and changes no byte.
-pub fn dump<K: Sink, N: Nor>(
-    alloc: Global,
-    image: u8,
-    out: &mut K,
-    boards: &mut Vec<N>,
-) -> Status
+pub fn dump<K: Sink, N: Nor>(alloc: Global, image: u8, out: &mut K, boards: &mut Vec<N>) -> Status
     requires image { image < images }
     ensures done { ToolDone result (FirstAs (map N.device boards.old.items)) (dump_ending (length boards.old.items) image)
         (λ chip. Looked) (λ chip. ReadStopped)

@@ -38,11 +38,7 @@ fn order_line(alloc: Global, order: &Order) -> Result<Vec<u8>, Stop>
     ensures { Makes (λ text. text.items) result (order_told order.now) }
 {
     let image = u32::from(order.image);
-    or_memory(line_of(
-        alloc,
-        b"order",
-        &[0, order.number, image, order.version],
-    ))
+    or_memory(line_of(alloc, b"order", &[0, order.number, image, order.version]))
 }
 
 /// Keeps an order on a board that is mounted.
@@ -80,11 +76,7 @@ fn order_on<N: Nor>(alloc: Global, order: &Order, nor: &mut N) -> Result<Vec<u8>
 }
 
 /// Keeps an order on the first of the boards.
-fn order_first<N: Nor>(
-    alloc: Global,
-    order: &Order,
-    boards: &mut [N],
-) -> Result<Vec<u8>, Stop>
+fn order_first<N: Nor>(alloc: Global, order: &Order, boards: &mut [N]) -> Result<Vec<u8>, Stop>
     requires number { 1 ≤ order.now.number }
     requires image { order.now.image < images }
     requires version { 1 ≤ order.now.version }

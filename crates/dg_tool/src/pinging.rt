@@ -109,12 +109,7 @@ fn push_named(text: &mut Vec<u8>, image: u8, kept: &Kept, name: &[u8]) -> Result
 }
 
 /// Appends the line of an image of which this is kept.
-fn push_kept<N: Nor>(
-    text: &mut Vec<u8>,
-    image: u8,
-    kept: &Kept,
-    nor: &mut N,
-) -> Result<(), Stop>
+fn push_kept<N: Nor>(text: &mut Vec<u8>, image: u8, kept: &Kept, nor: &mut N) -> Result<(), Stop>
     requires known_image { image < images }
     requires keeps { (h : Held) × KeepsImage (N.device nor.old).image image h × (kept.now ≡ told_held h) }
     ensures told { OnOk result ((h : Held) → KeepsImage (N.device nor.old).image image h → kept.now ≡ told_held h → text.new.items ≡ text.old.items ++ kept_line image (Some h)) }

@@ -25,7 +25,7 @@ returns-in-Ok-clause-done g c =
       whole_read _ _ _ (length c.args.boards.now) _ _ _ _ some x,
       no_fail _ _ _ c.format_on.ensures.of_board,
       on_any g.N.Nor.device c.args.boards.now _ _ _ (λ chip. by_input x.input (format_sized c.args.used)) (λ chip. IsFormatted c.args.name.now (content_in x.input) c.args.used) (λ chip. FormatStops c.args.name.now (content_in x.input) c.args.used) _ (length c.args.boards.now) refl some
-      (spelled _ _ (λ chip. format_sized c.args.used) (λ golden chip. IsFormatted c.args.name.now golden c.args.used) (λ golden chip. FormatStops c.args.name.now golden c.args.used) _ _ _ x.input c.deref.result.now x.reads.0.0 (x.reads.0.1 ∙ ap Ok (sym c.deref.ensures.value)) c.format_on.ensures),
+          (spelled _ _ (λ chip. format_sized c.args.used) (λ golden chip. IsFormatted c.args.name.now golden c.args.used) (λ golden chip. FormatStops c.args.name.now golden c.args.used) _ _ _ x.input c.deref.result.now x.reads.0.0 (x.reads.0.1 ∙ ap Ok (sym c.deref.ensures.value)) c.format_on.ensures),
     )
 
 pub returns-in-Err-clause-done : goal.returns-in-Err-clause-done

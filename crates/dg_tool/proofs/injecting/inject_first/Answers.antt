@@ -29,7 +29,7 @@ returns-in-Ok-clause-done g c =
       whole_read _ _ _ (length c.args.boards.now) _ _ _ _ some x,
       no_fail _ _ _ c.inject_on.ensures.of_board,
       on_first g.N.Nor.device c.args.boards.now _ _ _ (λ chip. by_input x.input (λ bytes. inject_into (row bytes) chip)) (WentOn (λ s. inject_trail s (row (content_in x.input)))) (StopsOn (λ s. inject_trail s (row (content_in x.input)))) _ (length c.args.boards.now) refl some
-      (spelled _ _ (λ chip bytes. inject_into (row bytes) chip) (λ bytes. WentOn (λ s. inject_trail s (row bytes))) (λ bytes. StopsOn (λ s. inject_trail s (row bytes))) _ _ _ x.input c.deref.result.now x.reads.0.0 (x.reads.0.1 ∙ ap Ok (sym c.deref.ensures.value)) c.inject_on.ensures),
+          (spelled _ _ (λ chip bytes. inject_into (row bytes) chip) (λ bytes. WentOn (λ s. inject_trail s (row bytes))) (λ bytes. StopsOn (λ s. inject_trail s (row bytes))) _ _ _ x.input c.deref.result.now x.reads.0.0 (x.reads.0.1 ∙ ap Ok (sym c.deref.ensures.value)) c.inject_on.ensures),
     )
 
 pub returns-in-Err-clause-done : goal.returns-in-Err-clause-done
