@@ -1,6 +1,6 @@
 -- The first of the boards.
-use Rattle.std.proofs.Common.{◌≡◌, ℕ, ◌<◌, Bool, true, false, List, [], ◌∷◌, ◌++◌, length, take, map, get_or, set, Option, Some, None, refl, sym, ap, subst, ◌∙◌, arith, cond}
-use Rattle.std.specs.Prelude.{slice_get, nat_lt}
+use Rattle.std.proofs.Common.{◌≡◌, ℕ, ◌<◌, Bool, true, false, List, [], ◌∷◌, ◌++◌, length, take, map, get_or, set, Option, Some, refl, sym, ap, subst, ◌∙◌, arith, cond}
+use Rattle.std.specs.Prelude.{nat_lt}
 use Rattle.std.proofs.lemmas.List.{take-append-le, take_all}
 use Rattle.std.proofs.lemmas.Bool.Decides.{nat_tests}
 use Rattle.dg_base.specs.declared.answers.Status.{Status}
@@ -8,8 +8,8 @@ use Rattle.dg_base.specs.declared.answers.Status.TheVariants as statuses
 use Rattle.dg_nor.specs.Device.{Device}
 use Rattle.dg_volume.specs.Store.{Store}
 use Rattle.dg_tool.specs.Endings.{Ending, NoBoards, by_boards, status_of, text_of, StandsAs, FirstAs}
-use Rattle.dg_tool.specs.Done.{LeftBy, Leaves, Finds, IsCaused, Wrote, Follows, Untouched, FirstStopped}
-use Rattle.dg_tool.specs.Stops.{Comes, IsStopped, StopsThere, StopsFirst, OfBoard, OnBoard, OnBoards}
+use Rattle.dg_tool.specs.Done.{LeftBy, Leaves, Finds, IsCaused, Wrote, Follows, Untouched}
+use Rattle.dg_tool.specs.Stops.{Comes, StopsThere, StopsFirst, OfBoard, OnBoard, OnBoards}
 
 lt_true : (k n : ℕ) → k < n → nat_lt k n ≡ true
 lt_true k n h = grind (arith, nat_tests)

@@ -7,8 +7,8 @@ use Rattle.dg_base.specs.declared.answers.Status.TheVariants as statuses
 use Rattle.dg_nor.specs.Device.{Device, Halts}
 use Rattle.dg_nor.specs.Reads.{Looked, ReadStopped}
 use Rattle.dg_volume.specs.Store.{Store}
-use Rattle.dg_volume.specs.Stands.{Stands, IsVolume, IsNoVolume}
-use Rattle.dg_volume.proofs.ReadLemmas.{Looked-none, Looked_then, Looked_stopped}
+use Rattle.dg_volume.specs.Stands.{Stands, IsVolume}
+use Rattle.dg_volume.proofs.ReadLemmas.{Looked_then, Looked_stopped}
 use Rattle.dg_tool.specs.declared.refusal.Refusal.{Refusal}
 use Rattle.dg_tool.specs.declared.stop.Stop.{Stop}
 use Rattle.dg_tool.specs.declared.stop.Stop.TheVariants as stops

@@ -1,5 +1,5 @@
 -- The end of a verb.
-use Rattle.std.proofs.Common.{◌≡◌, ◌≢◌, ◌≤◌, ◌<◌, ℕ, zero, suc, List, [], length, take, Option, Some, None, Result, Ok, Err, refl, sym, ap, subst, ◌∙◌, inl, inr, ⊎_elim, arith, ◌⊎◌}
+use Rattle.std.proofs.Common.{◌≡◌, ◌≢◌, ◌<◌, ℕ, zero, suc, List, [], length, take, Option, Result, Ok, Err, refl, sym, ap, subst, inr, ⊎_elim, ◌⊎◌}
 use Rattle.dg_words.specs.Counts.{Rose}
 use Rattle.dg_base.specs.Outside.{Puts, PutsFront, AtEnd}
 use Rattle.dg_base.specs.declared.answers.Status.{Status}
@@ -9,8 +9,8 @@ use Rattle.dg_volume.specs.Store.{Store}
 use Rattle.dg_tool.specs.declared.stop.Stop.{Stop}
 use Rattle.dg_tool.specs.declared.stop.Stop.TheVariants as stops
 use Rattle.dg_tool.specs.Endings.{Ending, text_of}
-use Rattle.dg_tool.specs.Done.{LeftBy, Leaves, IsCaused, Wrote, Follows, Finds, FirstStopped, Faulted, Untouched, ToolDone, InputRead, ReadBy, ReadEnough}
-use Rattle.dg_tool.specs.Stops.{stop_text, told_status, told_text, OnBoards, WritesLast, Silent, ClosesWith, InputFails}
+use Rattle.dg_tool.specs.Done.{LeftBy, Leaves, Wrote, FirstStopped, Faulted, ToolDone, InputRead, ReadBy, ReadEnough}
+use Rattle.dg_tool.specs.Stops.{stop_text, told_status, told_text, OnBoards, WritesLast, ClosesWith, InputFails}
 
 -- ---- a verb that comes to its last line
 
@@ -20,6 +20,9 @@ HasLine statuses.Memory = ⊥
 HasLine statuses.ReadFault = ⊥
 HasLine statuses.FlashFault = ⊥
 HasLine statuses.WriteFault = ⊥
+HasLine statuses.Usage = ⊥
+HasLine statuses.LinkFault = ⊥
+HasLine statuses.TooMany = ⊥
 HasLine status = Unit {0}
 
 wrote_line : (st : Status) (ending : Ending) (text : List ℕ) → HasLine st → Wrote st ending text → text ≡ text_of ending
@@ -57,16 +60,16 @@ left_line statuses.NoImage ending acted may a b line h = h
 faulted_line : (st : Status) (r w b : Type 0) (text : List ℕ) → HasLine st → Faulted st r w b text
 faulted_line statuses.Done r w b text line = tt
 faulted_line statuses.Memory r w b text line = absurd line
-faulted_line statuses.Usage r w b text line = tt
+faulted_line statuses.Usage r w b text line = absurd line
 faulted_line statuses.BadInput r w b text line = tt
 faulted_line statuses.ReadFault r w b text line = absurd line
 faulted_line statuses.WriteFault r w b text line = absurd line
 faulted_line statuses.FlashFault r w b text line = absurd line
 faulted_line statuses.NotAVolume r w b text line = tt
 faulted_line statuses.Refused r w b text line = tt
-faulted_line statuses.LinkFault r w b text line = tt
+faulted_line statuses.LinkFault r w b text line = absurd line
 faulted_line statuses.TooLong r w b text line = tt
-faulted_line statuses.TooMany r w b text line = tt
+faulted_line statuses.TooMany r w b text line = absurd line
 faulted_line statuses.NoBoard r w b text line = tt
 faulted_line statuses.NoImage r w b text line = tt
 

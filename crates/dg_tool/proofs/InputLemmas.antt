@@ -1,7 +1,6 @@
 -- What an input comes to.
-use Rattle.std.proofs.Common.{◌≡◌, ◌≢◌, ◌≤◌, ◌<◌, ℕ, zero, suc, Bool, true, false, List, [], length, Option, Some, None, Result, Ok, Err, refl, sym, ap, subst, ◌∙◌, inl, inr, arith, cond, ◌⊎◌}
-use Rattle.std.specs.Prelude.{nat_lt, ◌==◌}
-use Rattle.std.proofs.lemmas.Bool.{cond_both}
+use Rattle.std.proofs.Common.{◌≡◌, ◌≢◌, ◌≤◌, ◌<◌, ℕ, zero, suc, Bool, true, false, List, [], length, Option, Some, None, Result, Ok, Err, refl, sym, ap, subst, ◌∙◌, inl, arith, cond, ◌⊎◌}
+use Rattle.std.specs.Prelude.{nat_lt}
 use Rattle.std.proofs.lemmas.Bool.Decides.{nat_tests}
 use Rattle.dg_words.specs.Counts.{Rose}
 use Rattle.dg_base.specs.Outside.{Takes, AtEnd}
@@ -16,7 +15,7 @@ use Rattle.dg_volume.specs.Store.{Store}
 use Rattle.dg_volume.proofs.ReadLemmas.{Looked-none}
 use Rattle.dg_tool.specs.declared.stop.Stop.{Stop}
 use Rattle.dg_tool.specs.declared.stop.Stop.TheVariants as stops
-use Rattle.dg_tool.specs.Endings.{Ending, NoBoards, Over, FaultAt, by_boards, by_file, by_input, content_by, content_in, status_of, text_of}
+use Rattle.dg_tool.specs.Endings.{Ending, Over, FaultAt, by_boards, by_file, by_input, content_by, content_in, status_of, text_of}
 use Rattle.dg_tool.specs.Done.{LeftBy, NeedsInput, InputRead, ReadBy, ReadEnough}
 use Rattle.dg_tool.specs.Input.{SpellsNone, Spells, ReadsNone, Reads, ImageRead, stop_by, stop_of}
 use Rattle.dg_tool.specs.Stops.{stop_status, stop_text, OfBoard, Comes, InputFails, OnBoard, OnBoards}

@@ -1,5 +1,5 @@
 -- What a mounted volume tells of the images that it keeps.
-use Rattle.std.proofs.Common.{◌≡◌, ◌≢◌, ◌<◌, ◌≤◌, ℕ, Bool, true, false, List, [], ◌∷◌, ◌++◌, length, get_or, Option, Some, None, Result, Ok, Err, IfSome, OnOk, refl, sym, ap, subst, ◌∙◌, arith, cond}
+use Rattle.std.proofs.Common.{◌≡◌, ◌≢◌, ◌<◌, ℕ, Bool, true, false, List, [], ◌∷◌, ◌++◌, length, Option, Some, None, Result, Ok, Err, IfSome, OnOk, refl, sym, ap, subst, ◌∙◌, arith, cond}
 use Rattle.std.specs.Prelude.{◌==◌, IsSomeAnd, slice_index_or, codes}
 use Rattle.std.proofs.lemmas.Bool.Decides.{nat_tests}
 use Rattle.dg_nor.specs.Device.{Device}
@@ -7,7 +7,7 @@ use Rattle.dg_nor.specs.Reads.{Looked, ReadStopped}
 use Rattle.dg_slot.specs.Kept.{Held, KeepsImage}
 use Rattle.dg_volume.specs.Sizes.{images}
 use Rattle.dg_volume.specs.Store.{Store, held}
-use Rattle.dg_volume.specs.Stands.{Stands, Mounted, IsMounted, kept_at}
+use Rattle.dg_volume.specs.Stands.{Mounted, IsMounted, kept_at}
 use Rattle.dg_volume.specs.Told.{told, told_held}
 use Rattle.dg_volume.specs.declared.volume.Kept.{Kept}
 use Rattle.dg_volume.specs.declared.volume.Volume.{Volume}

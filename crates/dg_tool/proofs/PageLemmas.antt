@@ -1,5 +1,5 @@
 -- What the pages of an image tell of it.
-use Rattle.std.proofs.Common.{◌≡◌, ◌≢◌, ℕ, zero, suc, ◌+◌, ◌-◌, ◌*◌, ◌<◌, ◌≤◌, IsTrue, Bool, true, false, List, [], ◌∷◌, ◌++◌, map, length, take, drop, get_or, Some, None, refl, sym, ap, subst, ◌∙◌, arith, append_assoc, length-append, length-take}
+use Rattle.std.proofs.Common.{◌≡◌, ℕ, suc, ◌+◌, ◌-◌, ◌*◌, ◌<◌, ◌≤◌, IsTrue, Bool, true, false, List, [], ◌∷◌, ◌++◌, map, length, take, drop, get_or, refl, sym, ap, subst, ◌∙◌, arith, append_assoc, length-append, length-take}
 use Rattle.std.specs.Prelude.{not, ◌==◌, take_while}
 use Rattle.std.specs.List.{prefix_len, flat_map, range_with_len}
 use Rattle.std.proofs.lemmas.List.{append-nil, take_all, drop-take, take-take}
@@ -20,8 +20,7 @@ use Rattle.dg_object.proofs.RowLemmas.{content-object, get_or-object, descriptor
 use Rattle.dg_slot.proofs.PageLemmas.{part_none}
 use Rattle.dg_slot.specs.Layout.{page_sector}
 use Rattle.dg_slot.specs.Kept.{Held, KeepsImage}
-use Rattle.dg_slot.specs.Pages.{page_in, packet_in, slot_pages}
-use Rattle.dg_nor.specs.Chip.{sector}
+use Rattle.dg_slot.specs.Pages.{page_in}
 use Rattle.dg_volume.specs.Start.{length_in}
 use Rattle.dg_volume.specs.Store.{held_whole}
 use Rattle.dg_boot.proofs.DescriptorLemmas.{length_in-descriptor, first_of}

@@ -1,5 +1,5 @@
 -- What each verb comes to.
-use Rattle.std.proofs.Common.{◌≡◌, ◌≢◌, ◌≤◌, ◌<◌, ℕ, Bool, true, false, List, [], ◌∷◌, ◌++◌, length, Option, Some, None, Result, Ok, Err, IfOk, IfSome, refl, sym, ap, subst, ◌∙◌, inl, inr, ⊎_elim, arith, cond, ◌⊎◌}
+use Rattle.std.proofs.Common.{◌≡◌, ◌≢◌, ◌<◌, ℕ, Bool, true, false, List, [], ◌∷◌, ◌++◌, length, Option, Some, None, Result, Ok, Err, IfOk, IfSome, refl, sym, ap, subst, ◌∙◌, ⊎_elim, arith, cond, ◌⊎◌}
 use Rattle.std.specs.Prelude.{◌==◌, nat_lt, ◌-◌, codes}
 use Rattle.std.proofs.lemmas.Bool.Decides.{nat_tests}
 use Rattle.dg_base.specs.declared.answers.Status.TheVariants as statuses
@@ -35,9 +35,9 @@ use Rattle.dg_tool.specs.Texts.{numbers, line}
 use Rattle.dg_tool.specs.Endings.{Ending, Ends, Unfit, NoVolume, Refuses, LacksImage, by_store, StandsAs}
 use Rattle.dg_tool.specs.Verbs.{room_told, format_sized, order_told, order_by, order_cause, have_told, inject_by, inject_cause, inject_into, start_told, power_boot, boot_by}
 use Rattle.dg_tool.specs.Started.{Tells}
-use Rattle.dg_tool.specs.Done.{Went, WentOn, StopsOn, Booted, BootedOn, NeedsBoard, NeedsInput}
+use Rattle.dg_tool.specs.Done.{Went, StopsOn, Booted, BootedOn, NeedsBoard, NeedsInput}
 use Rattle.dg_tool.specs.Stops.{or_memory, told_status, told_text, Makes, Comes, IsStopped, OnStore, OnBoard}
-use Rattle.dg_tool.proofs.ComesLemmas.{made_comes, refused_comes, stopped_comes, image_comes, halts_stopped, finds, on_volume}
+use Rattle.dg_tool.proofs.ComesLemmas.{made_comes, refused_comes, stopped_comes, image_comes, halts_stopped, finds}
 
 -- ---- answers
 

@@ -3,11 +3,10 @@ use Rattle.std.specs.Prelude.{◌≡◌, ◌≢◌, ◌⊎◌, ℕ, zero, suc, �
 use Rattle.dg_words.specs.Counts.{Rose}
 use Rattle.dg_base.specs.Outside.{Takes, Puts, AtEnd}
 use Rattle.dg_base.specs.declared.answers.Status.{Status}
-use Rattle.dg_base.specs.declared.answers.Status.TheVariants.{Done, Memory, BadInput, ReadFault, WriteFault, FlashFault, NotAVolume, Refused, TooLong, NoBoard, NoImage}
+use Rattle.dg_base.specs.declared.answers.Status.TheVariants.{Done, Memory, Usage, BadInput, ReadFault, WriteFault, FlashFault, NotAVolume, Refused, LinkFault, TooLong, TooMany, NoBoard, NoImage}
 use Rattle.dg_nor.specs.Device.{Device, Ran, Halted}
 use Rattle.dg_nor.specs.Reads.{Looked, ReadStopped}
 use Rattle.dg_nor.specs.Trail.{Trail, operations, last}
-use Rattle.dg_object.specs.Object.{Row}
 use Rattle.dg_slot.specs.Pages.{program}
 use Rattle.dg_volume.specs.Acts.{Stops}
 use Rattle.dg_volume.specs.Formatting.{format_operations, GoldenFirst}
@@ -125,12 +124,15 @@ pub record FirstStopped (old new : List Device) : Type 0 where
   pub stopped : after.stopped ≡ true
   pub cause : (before.stopped ≡ true) ⊎ Rose before.faults after.faults
 
--- a fault of the outside has its cause, and writes nothing but a front of a line
+-- A fault of the outside has its cause, and writes nothing but a front of a line. A verb over one board has no words that may be none, no link and no events.
 abbrev pub Faulted : Status → (reads_failed writes_failed board_stopped : Type 0) → (text : List ℕ) → Type 0
 Faulted Memory r w b text = text ≡ []
 Faulted ReadFault r w b text = r × (text ≡ [])
 Faulted WriteFault r w b text = w
 Faulted FlashFault r w b text = b × (text ≡ [])
+Faulted Usage r w b text = ⊥
+Faulted LinkFault r w b text = ⊥
+Faulted TooMany r w b text = ⊥
 Faulted status r w b text = Unit {0}
 
 -- what ends a verb before the board is used

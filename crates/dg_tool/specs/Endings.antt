@@ -1,8 +1,7 @@
 -- How a verb over the first board ends by the rules, and what it writes then.
-use Rattle.std.specs.Prelude.{◌≡◌, ℕ, nat_lt, if◌then◌else◌, List, [], ◌∷◌, ◌++◌, length, take, codes, Option, Some, None, Result, Ok, Err}
-use Rattle.std.specs.Fmt.{decimal}
+use Rattle.std.specs.Prelude.{ℕ, nat_lt, if◌then◌else◌, List, [], ◌∷◌, ◌++◌, length, codes, Option, Some, None, Result, Ok, Err}
 use Rattle.dg_base.specs.declared.answers.Status.{Status}
-use Rattle.dg_base.specs.declared.answers.Status.TheVariants.{Done, Memory, BadInput, ReadFault, WriteFault, FlashFault, NotAVolume, Refused, TooLong, NoBoard, NoImage}
+use Rattle.dg_base.specs.declared.answers.Status.TheVariants.{Done, BadInput, NotAVolume, Refused, TooLong, NoBoard, NoImage}
 use Rattle.dg_ihex.specs.Causes.{cause_text}
 use Rattle.dg_ihex.specs.Files.{hex_file}
 use Rattle.dg_ihex.specs.declared.faults.HexFileFault.{HexFileFault}

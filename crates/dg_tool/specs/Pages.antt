@@ -1,5 +1,5 @@
 -- What the pages of an image tell of it.
-use Rattle.std.specs.Prelude.{ℕ, ◌==◌, not, List, [], ◌∷◌, take, drop, take_while, slice_index_or}
+use Rattle.std.specs.Prelude.{ℕ, ◌==◌, not, List, [], take, drop, take_while, slice_index_or}
 use Rattle.dg_object.specs.Object.{content}
 use Rattle.dg_object.specs.Sizes.{name_size}
 use Rattle.dg_slot.specs.Kept.{Held}

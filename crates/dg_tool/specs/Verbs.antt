@@ -1,9 +1,7 @@
 -- What the verbs over the first board do, by the bytes of the input and by what the board stands for.
 use Rattle.std.specs.Prelude.{ℕ, ◌==◌, ◌-◌, nat_lt, Bool, true, false, if◌then◌else◌, List, [], ◌∷◌, ◌++◌, length, codes, ◌/◌, ◌%◌, Option, Some, None}
 use Rattle.std.specs.List.{flat_map, range_with_len}
-use Rattle.std.specs.Fmt.{decimal}
 use Rattle.dg_base.specs.Hexadecimal.{hex_text}
-use Rattle.dg_nor.specs.Trail.{Trail}
 use Rattle.dg_object.specs.Object.{Row, pages_for}
 use Rattle.dg_control.specs.declared.snapshot.Order.{Order}
 use Rattle.dg_slot.specs.Kept.{Held}
@@ -22,7 +20,7 @@ use Rattle.dg_tool.specs.declared.refusal.Refusal.{Refusal}
 use Rattle.dg_tool.specs.declared.refusal.Refusal.TheVariants as refusals
 use Rattle.dg_tool.specs.Texts.{numbers, line}
 use Rattle.dg_tool.specs.Pages.{name_in, first_page, kept_bytes}
-use Rattle.dg_tool.specs.Endings.{Ending, Ends, NoVolume, Unfit, Refuses, LacksImage, by_boards, by_input, by_store}
+use Rattle.dg_tool.specs.Endings.{Ending, Ends, Unfit, Refuses, LacksImage, by_boards, by_input, by_store}
 
 -- ---- format
 

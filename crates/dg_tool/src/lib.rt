@@ -152,6 +152,3 @@ pub fn dump<K: Sink, N: Nor>(alloc: Global, image: u8, out: &mut K, boards: &mut
     let told = dump_boards(alloc, image, boards);
     end(alloc, out, told)
 }
-
-#[cfg(test)]
-mod tests;

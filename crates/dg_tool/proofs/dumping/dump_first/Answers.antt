@@ -1,7 +1,6 @@
-use Rattle.std.proofs.Common.{◌≡◌, ◌<◌, length, map, sym, ap, refl, subst, ◌∙◌, arith}
+use Rattle.std.proofs.Common.{◌<◌, length, map, sym, refl, ◌∙◌, arith}
 use Rattle.std.proofs.lemmas.Bool.{eqb-true, eqb-false}
 use Rattle.dg_nor.specs.Reads.{Looked, ReadStopped}
-use Rattle.dg_tool.specs.Endings.{FirstAs}
 use Rattle.dg_tool.specs.Verbs.{dump_on}
 use Rattle.dg_tool.proofs.ComesLemmas.{no_read}
 use Rattle.dg_tool.proofs.BoardLemmas.{no_board, on_first, same_bytes}

@@ -1,4 +1,4 @@
-use Rattle.std.proofs.Common.{◌≡◌, sym, ap, ◌∙◌, subst, Some, None}
+use Rattle.std.proofs.Common.{sym, ◌∙◌, Some, None}
 use Rattle.dg_nor.specs.Reads.{Looked, ReadStopped}
 use Rattle.dg_volume.proofs.ReadLemmas.{Looked-none}
 use Rattle.dg_tool.specs.declared.refusal.Refusal.TheVariants as refusals

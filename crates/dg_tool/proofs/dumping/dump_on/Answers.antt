@@ -1,4 +1,3 @@
-use Rattle.std.proofs.Common.{◌≡◌, sym, ap, ◌∙◌, subst}
 use Rattle.dg_nor.specs.Reads.{Looked, ReadStopped}
 use Rattle.dg_volume.specs.Store.{held}
 use Rattle.dg_volume.proofs.ReadLemmas.{Looked_then, Looked_stopped}

@@ -1,4 +1,4 @@
-use Rattle.std.proofs.Common.{◌≡◌, ◌<◌, List, [], ℕ, length, map, sym, ap, refl, subst, ◌∙◌, arith, Ok}
+use Rattle.std.proofs.Common.{◌≡◌, ◌<◌, [], length, map, sym, ap, refl, ◌∙◌, arith, Ok}
 use Rattle.std.proofs.lemmas.Bool.{eqb-true, eqb-false}
 use Rattle.dg_tool.specs.Verbs.{format_sized}
 use Rattle.dg_tool.specs.Done.{IsFormatted, FormatStops}

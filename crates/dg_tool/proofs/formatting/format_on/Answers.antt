@@ -1,4 +1,4 @@
-use Rattle.std.proofs.Common.{◌≡◌, ap, sym, ◌∙◌, Ok, Err, subst, refl, inl, inr, length}
+use Rattle.std.proofs.Common.{◌≡◌, ap, sym, ◌∙◌, Err, inl, inr, length}
 use Rattle.dg_volume.specs.declared.volume.FormatFault.{FormatFault}
 use Rattle.dg_volume.specs.declared.volume.FormatFault.TheVariants.{Stopped, Empty, TooLarge}
 use Rattle.dg_tool.specs.declared.stop.Stop.TheVariants as stops

@@ -1,4 +1,4 @@
-use Rattle.std.proofs.Common.{◌≡◌, ◌<◌, List, [], ℕ, length, map, sym, ap, refl, subst, ◌∙◌, arith, Ok}
+use Rattle.std.proofs.Common.{◌≡◌, ◌<◌, List, [], ℕ, length, map, sym, ap, refl, ◌∙◌, arith, Ok}
 use Rattle.std.proofs.lemmas.Bool.{eqb-true, eqb-false}
 use Rattle.dg_object.specs.Object.{Row, row_of}
 use Rattle.dg_volume.specs.Trails.{inject_trail}

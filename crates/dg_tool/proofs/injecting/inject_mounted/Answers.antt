@@ -1,4 +1,4 @@
-use Rattle.std.proofs.Common.{◌≡◌, ℕ, ap, sym, ◌∙◌, Ok, Err, subst, refl}
+use Rattle.std.proofs.Common.{ℕ, ap, Err, refl}
 use Rattle.dg_object.specs.Object.{row_of}
 use Rattle.dg_tool.proofs.VerbLemmas.{inject_ok, inject_fails}
 use Rattle.dg_tool.proofs.injecting.inject_mounted.Goals as goal

@@ -1,4 +1,3 @@
-use Rattle.std.proofs.Common.{◌≡◌, ap, sym, ◌∙◌, subst}
 use Rattle.dg_object.specs.Object.{row_of}
 use Rattle.dg_volume.specs.Changes.{inject_refusal}
 use Rattle.dg_volume.specs.Trails.{inject_trail}

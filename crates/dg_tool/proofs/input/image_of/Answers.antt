@@ -1,4 +1,4 @@
-use Rattle.std.proofs.Common.{◌≡◌, ap, sym, ◌∙◌, arith, ◌≤◌, length}
+use Rattle.std.proofs.Common.{arith, ◌≤◌, length}
 use Rattle.dg_tool.proofs.InputLemmas.{spells_fault}
 use Rattle.dg_tool.proofs.input.image_of.Goals as goal
 

@@ -1,4 +1,4 @@
-use Rattle.std.proofs.Common.{◌≡◌, ℕ, List, refl, ap, subst, sym, ◌∙◌, Ok, Err}
+use Rattle.std.proofs.Common.{◌≡◌, refl, ap, sym, ◌∙◌, Err}
 use Rattle.dg_input.specs.declared.ReadStop.TheVariants.{Memory, ReadFault}
 use Rattle.dg_tool.proofs.InputLemmas.{image_read}
 use Rattle.dg_tool.proofs.VerbLemmas.{ok_not, err_same}

@@ -1,7 +1,6 @@
-use Rattle.std.proofs.Common.{◌≡◌, ℕ, List, [], ◌∷◌, ◌++◌, subst}
+use Rattle.std.proofs.Common.{ℕ, [], ◌∷◌, ◌++◌}
 use Rattle.std.specs.Prelude.{codes}
 use Rattle.dg_tool.specs.Texts.{numbers, line}
-use Rattle.dg_tool.specs.Stops.{Makes}
 use Rattle.dg_tool.proofs.VerbLemmas.{makes_or, makes_same}
 use Rattle.dg_tool.proofs.ordering.order_line.Goals as goal
 

@@ -1,4 +1,4 @@
-use Rattle.std.proofs.Common.{◌≡◌, ℕ, ◌≢◌, ap, Err, refl}
+use Rattle.std.proofs.Common.{ℕ, ap, Err, refl}
 use Rattle.dg_tool.proofs.VerbLemmas.{order_kept, order_fails}
 use Rattle.dg_tool.proofs.ordering.order_mounted.Goals as goal
 

@@ -1,4 +1,3 @@
-use Rattle.std.proofs.Common.{◌≡◌, ap, sym, ◌∙◌, subst}
 use Rattle.dg_volume.specs.Changes.{order_refusal}
 use Rattle.dg_volume.specs.Trails.{order_trail}
 use Rattle.dg_volume.specs.Acts.{Stops}

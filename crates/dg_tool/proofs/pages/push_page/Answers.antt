@@ -1,4 +1,4 @@
-use Rattle.std.proofs.Common.{◌≡◌, ℕ, ◌++◌, ◌+◌, ◌*◌, ◌≤◌, ◌<◌, length, sym, ap, ◌∙◌, arith, length-append}
+use Rattle.std.proofs.Common.{◌≡◌, ℕ, ◌++◌, ◌*◌, ◌<◌, length, ap, ◌∙◌, arith}
 use Rattle.dg_words.specs.Cells.{part}
 use Rattle.dg_nor.specs.Sizes.{sectors}
 use Rattle.dg_nor.specs.Chip.{sector}

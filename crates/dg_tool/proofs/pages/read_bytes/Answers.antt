@@ -1,10 +1,5 @@
-use Rattle.std.proofs.Common.{◌≡◌, ◌+◌, ◌-◌, ◌*◌, ◌≤◌, ◌<◌, ℕ, List, length, take, drop, sym, ap, subst, ◌∙◌, arith, length-take}
-use Rattle.dg_words.specs.Lists.{joined}
-use Rattle.dg_slot.specs.Kept.{KeepsImage}
-use Rattle.dg_volume.specs.Start.{length_in}
+use Rattle.std.proofs.Common.{arith}
 use Rattle.dg_volume.proofs.ReadLemmas.{Looked-none}
-use Rattle.dg_tool.specs.Pages.{first_page}
-use Rattle.dg_tool.proofs.PageLemmas.{bytes_some}
 use Rattle.dg_tool.proofs.ComesLemmas.{reads_err}
 use Rattle.dg_tool.proofs.pages.read_bytes.Goals as goal
 

@@ -1,4 +1,4 @@
-use Rattle.std.proofs.Common.{refl, sym, ap}
+use Rattle.std.proofs.Common.{refl}
 use Rattle.dg_object.specs.Records.{details_of}
 use Rattle.dg_tool.proofs.PageLemmas.{first_tells, first_described}
 use Rattle.dg_tool.proofs.pages.read_first.Goals as goal

@@ -1,6 +1,5 @@
-use Rattle.std.proofs.Common.{◌≡◌, ◌<◌, length, map, sym, ap, refl, subst, ◌∙◌, arith}
+use Rattle.std.proofs.Common.{◌<◌, length, map, sym, refl, ◌∙◌, arith}
 use Rattle.std.proofs.lemmas.Bool.{eqb-true, eqb-false}
-use Rattle.dg_tool.specs.Endings.{FirstAs}
 use Rattle.dg_tool.specs.Verbs.{boot_on, power_boot}
 use Rattle.dg_tool.specs.Done.{BootedOn, StopsOn}
 use Rattle.dg_tool.proofs.ComesLemmas.{no_read}

@@ -1,4 +1,4 @@
-use Rattle.std.proofs.Common.{◌≡◌, ℕ, List, [], ap, sym, ◌∙◌, Err, subst}
+use Rattle.std.proofs.Common.{ap, Err}
 use Rattle.dg_boot.specs.declared.BootFault.{BootFault}
 use Rattle.dg_tool.specs.declared.stop.Stop.TheVariants as stops
 use Rattle.dg_tool.specs.Verbs.{boot_by, power_boot, start_told}
