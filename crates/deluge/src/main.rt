@@ -2,7 +2,7 @@
 #![tactic(auto)]
 
 use dg_base::{MOST_MOTES, Status, StdSink, StdSource};
-use dg_cli::run;
+use dg_cli::{flash_names, run};
 use dg_nor::Board;
 use std::env;
 use std::env::Args;
@@ -11,6 +11,9 @@ use std::process::ExitCode;
 
 /// What is handed on in place of words of which one is not UTF-8. It is no command.
 const NOT_TEXT: &str = "\u{fffd}";
+
+/// The command that makes the file of a chip where there is none.
+const FORMAT: &str = "format";
 
 /// The words after the program's name. None where memory runs out.
 fn words(rt: &HostRuntime) -> Option<Vec<String>> {
@@ -38,8 +41,35 @@ fn no_command(rt: &HostRuntime) -> Option<Vec<String>> {
     Some(words)
 }
 
-/// A chip in memory for each mote that a script may have. None where memory runs out.
-fn boards(rt: &HostRuntime) -> Option<Vec<Board>> {
+/// A chip for each file that the words name, or chips in memory where they name none. None where memory runs out.
+fn boards(rt: &HostRuntime, words: &Vec<String>) -> Option<Vec<Board>> {
+    let names = flash_names(rt.alloc(), words).ok()?;
+    if names.is_empty() {
+        return boards_in_memory(rt);
+    }
+    boards_on_files(rt, &names, begins_with_format(words))
+}
+
+/// Whether the words are those of `format`, which alone makes files.
+fn begins_with_format(words: &[String]) -> bool {
+    match words.first() {
+        Some(verb) => verb.as_str() == FORMAT,
+        None => false,
+    }
+}
+
+/// A chip on each of these files.
+fn boards_on_files(rt: &HostRuntime, names: &[String], create: bool) -> Option<Vec<Board>> {
+    let mut boards = Vec::new(rt.alloc());
+    for name in names {
+        let board = Board::on_file(rt, rt.alloc(), name.as_str(), create).ok()?;
+        boards.push(board).ok()?;
+    }
+    Some(boards)
+}
+
+/// A chip in memory for each mote that a script may have.
+fn boards_in_memory(rt: &HostRuntime) -> Option<Vec<Board>> {
     let mut boards = Vec::new(rt.alloc());
     for _ in 0..MOST_MOTES {
         boards.push(Board::memory(rt.alloc()).ok()?).ok()?;
@@ -52,7 +82,7 @@ fn status(rt: &HostRuntime) -> Status {
     let Some(words) = words(rt) else {
         return Status::Memory;
     };
-    let Some(mut boards) = boards(rt) else {
+    let Some(mut boards) = boards(rt, &words) else {
         return Status::Memory;
     };
     let mut input = StdSource::new(rt.stdin());
@@ -60,6 +90,15 @@ fn status(rt: &HostRuntime) -> Status {
     run(rt.alloc(), &words, &mut input, &mut out, &mut boards)
 }
 
+/// Tells, beside the output, where help is.
+fn point_to_help(rt: &HostRuntime) {
+    let _ = rt.eprintln("deluge: try deluge --help");
+}
+
 fn main(rt: HostRuntime) -> ExitCode {
-    ExitCode::from(status(&rt).code())
+    let status = status(&rt);
+    if status == Status::Usage {
+        point_to_help(&rt);
+    }
+    ExitCode::from(status.code())
 }

@@ -1,48 +1,56 @@
 //! The top call.
 ghost use Rattle.std.specs.Prelude.{◌≡◌, ◌≢◌, ◌⊎◌, ◌≤◌, ℕ, List, Some, map, length, string_bytes};
-ghost use Rattle.std.specs.Bool.{OnTrue, OnFalse};
 ghost use Rattle.dg_words.specs.Counts.{Rose};
-ghost use Rattle.dg_mote.specs.Sizes.{BuffersFit, ValuesAreSmall};
+ghost use Rattle.dg_mote.specs.Sizes.{buffered_bytes, BuffersFit, ValuesAreSmall};
 ghost use Rattle.dg_replay.specs.Ending.{InLimits, script_of};
 ghost use Rattle.dg_replay.specs.Items.{motes_in};
-ghost use Rattle.dg_replay.specs.Outcome.{Replayed};
-ghost use Rattle.dg_replay.specs.Promised.{StepsAreLegal, PagesStay, RowsStart, AllAgrees, HalvesAgree, HonestWithoutFrames, RoundsBringPages, RestsFillThePipeline, RestsComplete, StoresStayConsistent};
 ghost use Rattle.dg_replay.specs.Boards.{BoardStopped};
-ghost use Rattle.dg_cli.specs.Words.{IsReplay, Unknown, UsageTold};
+ghost use Rattle.dg_command.specs.Asking.{asked_of, Asks, Replay};
+ghost use Rattle.dg_cli.specs.Commands.{Around, ReplayDone, Does, ReadsInput};
+ghost use Rattle.dg_cli.specs.Promised.{Headline};
 
-use dg_base::{Sink, Source, Status, WriteFailed};
+use crate::carrying::carry_out;
+use crate::telling::{tell_help, tell_usage};
+use dg_base::{Sink, Source, Status};
+use dg_command::{Asked, asked};
 use dg_mote::a_mote_buffers_little;
 use dg_nor::Nor;
-use dg_replay::{replay, replays_keep_the_rules};
-use std::alloc::Global;
+use dg_replay::replays_keep_the_rules;
+use std::alloc::{AllocError, Global};
 
-/// Whether the words are the command `replay`.
-fn is_replay(words: &[String]) -> bool
-    ensures yes { OnTrue result (IsReplay (map string_bytes words.now)) }
-    ensures other { OnFalse result (IsReplay (map string_bytes words.now) → ⊥) }
+/// Does what the words ask for.
+fn answer<S: Source, K: Sink, N: Nor>(
+    alloc: Global,
+    words: &Vec<String>,
+    input: &mut S,
+    out: &mut K,
+    boards: &mut Vec<N>,
+) -> Status
+    ensures does { let before : Around = record { left = S.left input.old; reads = S.faults input.old; written = K.written out.old; writes = K.faults out.old; boards = map N.device boards.old.items } in
+        let after : Around = record { left = S.left input.new; reads = S.faults input.new; written = K.written out.new; writes = K.faults out.new; boards = map N.device boards.new.items } in
+        Does (asked_of (map string_bytes words.now.items)) result before after }
+    ensures untouched { (ReadsInput (asked_of (map string_bytes words.now.items)) → ⊥) → input.new ≡ input.old }
+    ensures complete { (flashes : List (List ℕ)) (bytes : List ℕ) → asked_of (map string_bytes words.now.items) ≡ Asks (Replay flashes) → S.left input.old ≡ Some bytes → InLimits (length boards.old.items) bytes
+        → (Rose (S.faults input.old) (S.faults input.new) → ⊥) → (Rose (K.faults out.old) (K.faults out.new) → ⊥)
+        → (BoardStopped (motes_in (script_of bytes).lines) (map N.device boards.old.items) (map N.device boards.new.items) → ⊥)
+        → (result ≡ Status.Done) ⊎ (result ≡ Status.Memory) }
+    ensures link { result ≢ Status.LinkFault }
+    ensures reads { S.faults input.old ≤ S.faults input.new }
+    ensures writes { K.faults out.old ≤ K.faults out.new }
 {
-    if words.len() != 1 {
-        return false;
-    }
-    words[0].as_str() == "replay"
-}
-
-/// Tells that the words are no command.
-fn tell_usage<K: Sink>(out: &mut K) -> Status
-    ensures told { UsageTold result (K.written out.old) (K.written out.new) (K.faults out.old) (K.faults out.new) }
-    ensures counts { K.faults out.old ≤ K.faults out.new }
-{
-    match out.write(b"usage\n") {
-        Ok(()) => Status::Usage,
-        Err(WriteFailed) => Status::WriteFault,
+    match asked(alloc, words) {
+        Ok(Asked::Command(command)) => carry_out(alloc, command, input, out, boards),
+        Ok(Asked::Help(text)) => tell_help(out, text.as_str()),
+        Ok(Asked::Usage) => tell_usage(out),
+        Err(AllocError) => Status::Memory,
     }
 }
 
 /// Does all that the program does with the words after its name, and answers how it ended.
 ///
-/// The one command is the word `replay`: it replays the script that `input` spells over the boards, and writes the
-/// report to `out`. All other words are [`Status::Usage`]. A status other than [`Status::Done`] writes its line last,
-/// where it has one.
+/// `replay` replays the script that `input` spells over the boards, and writes the report to `out`. `format`, `inject`,
+/// `order`, `boot`, `ping` and `dump` work on the first board. `--help` and `--version` write a text. All other words are
+/// [`Status::Usage`]. A status other than [`Status::Done`] writes its line last, where it has one.
 pub fn run<S: Source, K: Sink, N: Nor>(
     alloc: Global,
     words: &Vec<String>,
@@ -50,80 +58,31 @@ pub fn run<S: Source, K: Sink, N: Nor>(
     out: &mut K,
     boards: &mut Vec<N>,
 ) -> Status
-    // The report is true, whatever frames are brought from outside: it is that of a run of the rules over the items of the
-    // script, and each status comes where the rules say.
-    ensures replayed { IsReplay (map string_bytes words.now.items) → Replayed result (S.left input.old) (S.left input.new) (K.written out.old) (K.written out.new)
-        (S.faults input.old) (S.faults input.new) (K.faults out.old) (K.faults out.new) (map N.device boards.old.items) (map N.device boards.new.items) }
-    // Where each frame from outside is honest by the table of its moment, each step is legal after those before it.
-    ensures legal { (x : Replayed result (S.left input.old) (S.left input.new) (K.written out.old) (K.written out.new)
-        (S.faults input.old) (S.faults input.new) (K.faults out.old) (K.faults out.new) (map N.device boards.old.items) (map N.device boards.new.items))
-        → StepsAreLegal x.came }
-    // There no version falls and no complete page is lost, but to a newer version of its image, which a cut may have left half
-    // done.
-    ensures keeps { (x : Replayed result (S.left input.old) (S.left input.new) (K.written out.old) (K.written out.new)
-        (S.faults input.old) (S.faults input.new) (K.faults out.old) (K.faults out.new) (map N.device boards.old.items) (map N.device boards.new.items))
-        → PagesStay x.came }
-    // There what starts is one row of the table of images, byte for byte.
-    ensures starts { (x : Replayed result (S.left input.old) (S.left input.new) (K.written out.old) (K.written out.new)
-        (S.faults input.old) (S.faults input.new) (K.faults out.old) (K.faults out.new) (map N.device boards.old.items) (map N.device boards.new.items))
-        → RowsStart x.came }
-    // There every chip, also one that a cut left half done, every mote that is on and every frame that was sent agrees with the
-    // table: after each item, and in the last world.
-    ensures agrees { (x : Replayed result (S.left input.old) (S.left input.new) (K.written out.old) (K.written out.new)
-        (S.faults input.old) (S.faults input.new) (K.faults out.old) (K.faults out.new) (map N.device boards.old.items) (map N.device boards.new.items))
-        → AllAgrees x.came }
-    // So does the store of each half-done chip, wherever a stop comes in the next event.
-    ensures halves { (x : Replayed result (S.left input.old) (S.left input.new) (K.written out.old) (K.written out.new)
-        (S.faults input.old) (S.faults input.new) (K.faults out.old) (K.faults out.new) (map N.device boards.old.items) (map N.device boards.new.items))
-        → HalvesAgree x.came }
-    // Lines that bring no frame from outside meet that.
-    ensures honest { (x : Replayed result (S.left input.old) (S.left input.new) (K.written out.old) (K.written out.new)
-        (S.faults input.old) (S.faults input.new) (K.faults out.old) (K.faults out.new) (map N.device boards.old.items) (map N.device boards.new.items))
-        → HonestWithoutFrames x.came }
-    // There each round that was played between two neighbours, both on and with room for three commits at its end, and in
-    // which no power was cut, brought the second mote a page of the least image in which the first was ahead.
-    ensures rounds { (x : Replayed result (S.left input.old) (S.left input.new) (K.written out.old) (K.written out.new)
-        (S.faults input.old) (S.faults input.new) (K.faults out.old) (K.faults out.new) (map N.device boards.old.items) (map N.device boards.new.items))
-        → RoundsBringPages x.came }
-    // There pages go along the links as in a pipeline: where the run ends with an undisturbed rest of t sweeps, in which every
-    // mote is on and has room for three commits at its end, a mote within j links of a whole image has t + 1 - j pages of it,
-    // or all, if every smaller image was whole everywhere.
-    ensures pipeline { (x : Replayed result (S.left input.old) (S.left input.new) (K.written out.old) (K.written out.new)
-        (S.faults input.old) (S.faults input.new) (K.faults out.old) (K.faults out.new) (map N.device boards.old.items) (map N.device boards.new.items))
-        → RestsFillThePipeline x.came }
-    // There every mote keeps the newest version of every image whole, where the run ends with such a rest of enough sweeps.
-    ensures completes { (x : Replayed result (S.left input.old) (S.left input.new) (K.written out.old) (K.written out.new)
-        (S.faults input.old) (S.faults input.new) (K.faults out.old) (K.faults out.new) (map N.device boards.old.items) (map N.device boards.new.items))
-        → RestsComplete x.came }
-    // Whatever bytes its frames carry, every store is consistent: after each item, in the last world, and wherever a stop comes
-    // in the next event. What starts is golden byte for byte, or an object that fits its own descriptor.
-    ensures consistent { (x : Replayed result (S.left input.old) (S.left input.new) (K.written out.old) (K.written out.new)
-        (S.faults input.old) (S.faults input.new) (K.faults out.old) (K.faults out.new) (map N.device boards.old.items) (map N.device boards.new.items))
-        → StoresStayConsistent x.came }
-    // All arrays of bytes that are alive at once in a mote's call have no more than 256, and beside the outbox and its sets
-    // none lies in the value of a mote.
-    ensures buffers { BuffersFit × ValuesAreSmall }
-    ensures usage { (IsReplay (map string_bytes words.now.items) → ⊥) → Unknown result (S.left input.old) (S.left input.new) (K.written out.old) (K.written out.new)
-        (K.faults out.old) (K.faults out.new) (map N.device boards.old.items) (map N.device boards.new.items) }
-    ensures untouched { (IsReplay (map string_bytes words.now.items) → ⊥) → input.new ≡ input.old }
-
+    // Each command does what its rules say. A replay's report is true, whatever frames are brought from outside: it is that
+    // of a run of the rules over the items of the script. Each status comes where the rules say.
+    ensures does { let before : Around = record { left = S.left input.old; reads = S.faults input.old; written = K.written out.old; writes = K.faults out.old; boards = map N.device boards.old.items } in
+        let after : Around = record { left = S.left input.new; reads = S.faults input.new; written = K.written out.new; writes = K.faults out.new; boards = map N.device boards.new.items } in
+        Does (asked_of (map string_bytes words.now.items)) result before after }
+    // What was replayed keeps all parts of the headline.
+    ensures headline { let before : Around = record { left = S.left input.old; reads = S.faults input.old; written = K.written out.old; writes = K.faults out.old; boards = map N.device boards.old.items } in
+        let after : Around = record { left = S.left input.new; reads = S.faults input.new; written = K.written out.new; writes = K.faults out.new; boards = map N.device boards.new.items } in
+        (x : ReplayDone result before after) → Headline x.replayed.came }
+    // The arrays of bytes that a mote and its calls name have 244 bytes, and those that are named together in one call no
+    // more than 256. A mote's value has at most 400 bytes of memory, and its outbox 64.
+    ensures buffers { (buffered_bytes ≡ 244) × BuffersFit × ValuesAreSmall }
+    // A command that reads no input leaves it untouched.
+    ensures untouched { (ReadsInput (asked_of (map string_bytes words.now.items)) → ⊥) → input.new ≡ input.old }
     // A script in its grammar and limits, with boards for its motes, is replayed to its end, unless memory runs out or the outside fails.
-    ensures complete { (bytes : List ℕ) → IsReplay (map string_bytes words.now.items) → S.left input.old ≡ Some bytes → InLimits (length boards.old.items) bytes
+    ensures complete { (flashes : List (List ℕ)) (bytes : List ℕ) → asked_of (map string_bytes words.now.items) ≡ Asks (Replay flashes) → S.left input.old ≡ Some bytes → InLimits (length boards.old.items) bytes
         → (Rose (S.faults input.old) (S.faults input.new) → ⊥) → (Rose (K.faults out.old) (K.faults out.new) → ⊥)
         → (BoardStopped (motes_in (script_of bytes).lines) (map N.device boards.old.items) (map N.device boards.new.items) → ⊥)
         → (result ≡ Status.Done) ⊎ (result ≡ Status.Memory) }
-
-    // A replay formats its boards itself, so that they are volumes; no rule of `replay` refuses anything but its script;
-    // there is no link to a peer; and golden starts where nothing else does.
-    ensures never { (result ≢ Status.NotAVolume) × (result ≢ Status.Refused) × (result ≢ Status.LinkFault) × (result ≢ Status.NoImage) }
-
+    // There is no link to a peer.
+    ensures link { result ≢ Status.LinkFault }
     ensures reads { S.faults input.old ≤ S.faults input.new }
     ensures writes { K.faults out.old ≤ K.faults out.new }
 {
     replays_keep_the_rules();
     a_mote_buffers_little();
-    if is_replay(words) {
-        return replay(alloc, input, out, boards);
-    }
-    tell_usage(out)
+    answer(alloc, words, input, out, boards)
 }

@@ -1,8 +1,9 @@
-//! The commands of the program: `run` does all that it does.
-//!
-//! Today the one command is `replay`.
+//! The commands of the program: `run` does all that it does, and `flash_names` tells which files it works on.
 #![tactic(auto)]
 
+mod carrying;
 mod command;
+mod telling;
 
 pub use command::run;
+pub use dg_command::flash_names;

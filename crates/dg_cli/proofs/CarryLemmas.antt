@@ -1,0 +1,74 @@
+-- What a command did, from what its call tells.
+use Rattle.std.proofs.Common.{◌≡◌, ◌≢◌, ◌⊎◌, ℕ, true, List, length, Option, Some, None, refl, sym, ap, ◌∙◌, subst}
+use Rattle.dg_words.specs.Counts.{Rose}
+use Rattle.dg_base.specs.declared.answers.Status.{Status}
+use Rattle.dg_base.specs.declared.answers.Status.TheVariants as statuses
+use Rattle.dg_nor.specs.Device.{Device}
+use Rattle.dg_object.specs.Object.{row_of}
+use Rattle.dg_control.specs.declared.snapshot.Order.{Order}
+use Rattle.dg_volume.specs.Store.{Store}
+use Rattle.dg_volume.specs.Trails.{inject_trail, order_trail}
+use Rattle.dg_tool.specs.Endings.{Ending, FirstAs, content_in}
+use Rattle.dg_tool.specs.Verbs.{format_ending, inject_ending, order_ending, power_boot, boot_ending}
+use Rattle.dg_tool.specs.Done.{ToolDone, InputRead, IsFormatted, FormatStops, WentOn, StopsOn, BootedOn, Faulted}
+use Rattle.dg_command.specs.Asking.{Said, Asking, Asks, Helps, Misuses, said_by, asking}
+use Rattle.dg_command.specs.declared.command.Asked.{Asked}
+use Rattle.dg_command.specs.declared.command.Command.{Command}
+use Rattle.dg_cli.specs.Commands.{Around, SaidDone, FormatDone, InjectDone, OrderDone, BootDone}
+
+pub said_done : (c d : Command) → c ≡ d → (s : Status) (a b : Around) → SaidDone (said_by d) s a b → SaidDone (said_by c) s a b
+said_done c d e s a b h = subst (λ (x : Command). SaidDone (said_by x) s a b) (sym e) h
+
+-- ---- each command, with the number of boards and the name as its call has them
+
+abbrev pub FormatTold : (n : ℕ) → (name : List ℕ) → (used : ℕ) → Status → Around → Around → Type 0
+FormatTold n name used s a b =
+    (input : List ℕ) × InputRead s n input a.left b.left a.reads b.reads
+    × ToolDone s (λ chip. Unit {0}) (format_ending n used input) (λ chip. IsFormatted name (content_in input) used) (λ chip. FormatStops name (content_in input) used)
+    (Rose a.reads b.reads) a.written b.written a.writes b.writes a.boards b.boards
+
+pub format_done : (n : ℕ) (told name : List ℕ) (used : ℕ) (s : Status) (a b : Around) → n ≡ length a.boards → told ≡ name → FormatTold n told used s a b → FormatDone name used s a b
+format_done n told name used s a b e f h =
+    subst (λ (k : ℕ). FormatTold k name used s a b) e (subst (λ (t : List ℕ). FormatTold n t used s a b) f h)
+
+abbrev pub InjectTold : (n image version : ℕ) → (name : List ℕ) → Status → Around → Around → Type 0
+InjectTold n image version name s a b =
+    (input : List ℕ) × InputRead s n input a.left b.left a.reads b.reads
+    × ToolDone s (FirstAs a.boards) (inject_ending n (row_of image version name) input)
+    (WentOn (λ t. inject_trail t (row_of image version name (content_in input)))) (StopsOn (λ t. inject_trail t (row_of image version name (content_in input))))
+    (Rose a.reads b.reads) a.written b.written a.writes b.writes a.boards b.boards
+
+pub inject_done : (n image version : ℕ) (told name : List ℕ) (s : Status) (a b : Around) → n ≡ length a.boards → told ≡ name → InjectTold n image version told s a b → InjectDone image version name s a b
+inject_done n image version told name s a b e f h =
+    subst (λ (k : ℕ). InjectTold k image version name s a b) e (subst (λ (t : List ℕ). InjectTold n image version t s a b) f h)
+
+abbrev pub OrderTold : (n : ℕ) → Order → Status → Around → Around → Type 0
+OrderTold n o s a b = ToolDone s (FirstAs a.boards) (order_ending n o) (WentOn (λ t. order_trail t o)) (StopsOn (λ t. order_trail t o)) ⊥ a.written b.written a.writes b.writes a.boards b.boards
+
+pub order_done : (n : ℕ) (o : Order) (s : Status) (a b : Around) → n ≡ length a.boards → b.left ≡ a.left → b.reads ≡ a.reads → OrderTold n o s a b → OrderDone o s a b
+order_done n o s a b e left reads h = ((left, reads), subst (λ (k : ℕ). OrderTold k o s a b) e h)
+
+abbrev pub BootTold : (n : ℕ) → Status → Around → Around → Type 0
+BootTold n s a b = ToolDone s (FirstAs a.boards) (boot_ending n) (BootedOn power_boot) (StopsOn (λ t. (power_boot t).trail)) ⊥ a.written b.written a.writes b.writes a.boards b.boards
+
+pub boot_done : (n : ℕ) (s : Status) (a b : Around) → n ≡ length a.boards → b.left ≡ a.left → b.reads ≡ a.reads → BootTold n s a b → BootDone s a b
+boot_done n s a b e left reads h = ((left, reads), subst (λ (k : ℕ). BootTold k s a b) e h)
+
+-- ---- no command over one board speaks of a link
+
+pub no_link : (s : Status) (r w b : Type 0) (text : List ℕ) → Faulted s r w b text → s ≡ statuses.LinkFault → ⊥
+no_link s r w b text h e = subst (λ (x : Status). Faulted x r w b text) e h
+
+-- ---- what was asked for
+
+said_or : Said → Asking → Said
+said_or d (Asks said) = said
+said_or d Helps = d
+said_or d Misuses = d
+
+pub asks_same : (a b : Said) → Asks a ≡ Asks b → a ≡ b
+unfolding said_or
+asks_same a b e = ap (said_or a) e
+
+pub asked_said : (asked said : Asked) (asking_for : Asking) → asked ≡ said → asking asked ≡ asking_for → asking said ≡ asking_for
+asked_said asked said asking_for e h = ap asking (sym e) ∙ h

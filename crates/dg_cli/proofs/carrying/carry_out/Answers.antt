@@ -1,0 +1,38 @@
+use Rattle.std.proofs.Common.{sym, refl}
+use Rattle.std.proofs.lemmas.List.{length-map}
+use Rattle.dg_cli.proofs.CarryLemmas.{said_done, format_done, inject_done, order_done, boot_done, no_link}
+use Rattle.dg_cli.proofs.carrying.carry_out.Goals as goal
+
+pub returns-in-Format-clause-done : goal.returns-in-Format-clause-done
+returns-in-Format-clause-done g c =
+    said_done c.args.command _ c.in-Format.is _ _ _ (format_done _ _ _ c.in-Format.used _ _ _ (sym (length-map c.args.boards.now.items g.N.Nor.device)) c.as_bytes.ensures.value c.format.ensures.done)
+
+pub returns-in-Format-clause-link : goal.returns-in-Format-clause-link
+returns-in-Format-clause-link g c = no_link _ _ _ _ _ c.format.ensures.done.2.faulted
+
+pub returns-in-Inject-clause-done : goal.returns-in-Inject-clause-done
+returns-in-Inject-clause-done g c =
+    said_done c.args.command _ c.in-Inject.is _ _ _ (inject_done _ c.in-Inject.image c.in-Inject.version _ _ _ _ _ (sym (length-map c.args.boards.now.items g.N.Nor.device)) c.as_bytes-in-Inject.ensures.value c.inject.ensures.done)
+
+pub returns-in-Inject-clause-link : goal.returns-in-Inject-clause-link
+returns-in-Inject-clause-link g c = no_link _ _ _ _ _ c.inject.ensures.done.2.faulted
+
+pub returns-in-Order-clause-done : goal.returns-in-Order-clause-done
+returns-in-Order-clause-done g c =
+    said_done c.args.command _ c.in-Order.is _ _ _ (order_done _ (record { number = c.in-Order.number; image = c.in-Order.image; version = c.in-Order.version }) _ _ _ (sym (length-map c.args.boards.now.items g.N.Nor.device)) refl refl c.order.ensures.done)
+
+pub returns-in-Order-clause-link : goal.returns-in-Order-clause-link
+returns-in-Order-clause-link g c = no_link _ _ _ _ _ c.order.ensures.done.faulted
+
+pub returns-in-Boot-clause-done : goal.returns-in-Boot-clause-done
+returns-in-Boot-clause-done g c =
+    said_done c.args.command _ c.in-Boot.is _ _ _ (boot_done _ _ _ _ (sym (length-map c.args.boards.now.items g.N.Nor.device)) refl refl c.boot.ensures.done)
+
+pub returns-in-Boot-clause-link : goal.returns-in-Boot-clause-link
+returns-in-Boot-clause-link g c = no_link _ _ _ _ _ c.boot.ensures.done.faulted
+
+pub returns-in-Ping-clause-link : goal.returns-in-Ping-clause-link
+returns-in-Ping-clause-link g c = no_link _ _ _ _ _ c.ping.ensures.done.faulted
+
+pub returns-in-Dump-clause-link : goal.returns-in-Dump-clause-link
+returns-in-Dump-clause-link g c = no_link _ _ _ _ _ c.dump.ensures.done.faulted
