@@ -7,7 +7,7 @@ ghost use Rattle.dg_object.specs.Sizes.{packets};
 ghost use Rattle.dg_slot.specs.Jobs.{got_told};
 
 use dg_base::crc16;
-use dg_nor::{Board, Fused, Nor, Stopped};
+use dg_nor::{Board, Counted, Fused, Nor, Stopped};
 use dg_object::{PACKET_SIZE, PACKETS, PAGE_SIZE, Profile, page_of, profile_of};
 use dg_slot::{DirtySlot, OpenSlot, PageJob, Sealing, read_packet, read_page_crc};
 use std::test::Fail;
@@ -212,5 +212,21 @@ fn pages_that_do_not_fit(rt: HostRuntime) -> Result<(), Fail> {
         return Err("a page that is no descriptor".into());
     };
     assert_eq!(rt; OpenSlot::mount(&mut board, IMAGE, VERSION)?, Some(slot));
+    Ok(())
+}
+
+/// A slot of which the version is known is mounted again by its header alone.
+#[test]
+fn slots_are_mounted_again(rt: HostRuntime) -> Result<(), Fail> {
+    let content = content();
+    let mut board = Board::memory(rt.alloc())?;
+    let slot = prepared(&mut board, &content)?;
+    assert_eq!(rt; go_on(&mut board, slot, &content)?, Some(PAGES));
+    let Some(mounted) = OpenSlot::mount(&mut board, IMAGE, VERSION)? else {
+        return Err("no slot".into());
+    };
+    let mut counted = Counted::new(&mut board);
+    assert_eq!(rt; OpenSlot::remount(&mut counted, IMAGE, VERSION)?, mounted);
+    assert!(rt; counted.taken() <= 25);
     Ok(())
 }
