@@ -16,6 +16,8 @@ mod reports;
 #[cfg(test)]
 mod runs;
 #[cfg(test)]
+mod shapes;
+#[cfg(test)]
 mod slots;
 #[cfg(test)]
 mod starts;

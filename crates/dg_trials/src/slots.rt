@@ -12,11 +12,11 @@ use dg_object::{PACKET_SIZE, PACKETS, PAGE_SIZE, Profile, page_of, profile_of};
 use dg_slot::{DirtySlot, OpenSlot, PageJob, Sealing, read_packet, read_page_crc};
 use std::test::Fail;
 
-const IMAGE: u8 = 1;
+pub(crate) const IMAGE: u8 = 1;
 
-const VERSION: u32 = 1;
+pub(crate) const VERSION: u32 = 1;
 
-const NAME: &[u8; 5] = b"blink";
+pub(crate) const NAME: &[u8; 5] = b"blink";
 
 /// The pages of the image: its descriptor, and one page of content.
 const PAGES: u8 = 2;
@@ -26,7 +26,7 @@ const PAGE_OPERATIONS: u32 = 50;
 
 const OPERATIONS: u32 = 100;
 
-fn content() -> [u8; PAGE_SIZE] {
+pub(crate) fn content() -> [u8; PAGE_SIZE] {
     let mut content = [0; PAGE_SIZE];
     for k in 0..PAGE_SIZE {
         content[k] = (k % 251) as u8;
@@ -42,7 +42,7 @@ fn page(content: &[u8; PAGE_SIZE], p: u8) -> [u8; PAGE_SIZE]
     page
 }
 
-fn packet_of(page: &[u8; PAGE_SIZE], q: u8) -> [u8; PACKET_SIZE]
+pub(crate) fn packet_of(page: &[u8; PAGE_SIZE], q: u8) -> [u8; PACKET_SIZE]
     requires { q < packets }
 {
     let start = PACKET_SIZE * usize::from(q);
