@@ -1,0 +1,5 @@
+pub mod NetworkLemmas
+pub mod EventLemmas
+pub mod DoesLemmas
+pub mod SentLemmas
+pub mod StartLemmas

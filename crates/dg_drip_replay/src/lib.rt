@@ -1,0 +1,8 @@
+//! A network of nodes that spread small values, event by event, and what is told of each event.
+#![tactic(auto)]
+
+mod network;
+mod report;
+
+pub use network::DripNetwork;
+pub use report::{DripCause, DripReport};
