@@ -6,6 +6,7 @@ use dg_cli::{flash_names, run};
 use dg_nor::Board;
 use std::env;
 use std::env::Args;
+use std::fs::{File, OpenOptions};
 use std::io::ErrorKind;
 use std::process::ExitCode;
 
@@ -77,8 +78,20 @@ fn boards_in_memory(rt: &HostRuntime) -> Option<Vec<Board>> {
     Some(boards)
 }
 
+/// The file that keeps nothing and gives nothing.
+fn nothing(rt: &HostRuntime) -> Option<File> {
+    OpenOptions::new()
+        .read(true)
+        .write(true)
+        .open(rt, "/dev/null")
+        .ok()
+}
+
 /// Runs the command over standard input and output.
 fn status(rt: &HostRuntime) -> Status {
+    // Where a standard stream is closed, the file that is opened next takes its number, and gets what is written there:
+    // let that be one of these, and no chip.
+    let _streams = (nothing(rt), nothing(rt), nothing(rt));
     let Some(words) = words(rt) else {
         return Status::Memory;
     };
