@@ -4,4 +4,4 @@ pub use Rattle.dg_volume.specs.Sizes.{copy_pieces}
 
 -- the bytes of a page that are read and programmed at once
 abbrev pub copy_piece_size : ℕ
-copy_piece_size = 184
+copy_piece_size = 138

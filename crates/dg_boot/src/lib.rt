@@ -62,7 +62,7 @@ pub enum BootFault {
 }
 
 /// Starts the image of a chip: counts the start, makes the choice, copies the image where it is not in program memory
-/// yet, and sets program memory to it. A page is copied by 7 operations, an erase and 6 programs of 184 bytes. No clause
+/// yet, and sets program memory to it. A page is copied by 9 operations, an erase and 8 programs of 138 bytes. No clause
 /// bounds what is read.
 ///
 /// `NoImage` may follow a commit that counted the start, and one that waived the order.

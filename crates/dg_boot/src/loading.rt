@@ -68,7 +68,7 @@ pub(crate) fn measure<N: Nor>(nor: &mut N) -> Result<Loaded, Stopped>
 }
 
 /// Copies the pages of an image of that many bytes from its slot into program memory, and gives the checksum of its
-/// bytes. 7 operations a page.
+/// bytes. 9 operations a page.
 fn copy_pages<N: Nor>(nor: &mut N, image: u8, length: u32) -> Result<u16, Stopped>
     requires known_image { image < images }
     requires fits { length ≤ most_bytes }

@@ -15,10 +15,10 @@ use dg_base::crc16_more;
 use dg_nor::{Nor, Stopped, erase_sector, program_in, read_in};
 
 /// The bytes of a page that are read and programmed at once.
-pub const COPY_PIECE: u32 = 184;
+pub const COPY_PIECE: u32 = 138;
 
 /// The pieces of a page, each of which is one program.
-pub const COPY_PIECES: u32 = 6;
+pub const COPY_PIECES: u32 = 8;
 
 /// Reads the bytes of a sector from `at` on into `piece`, and gives their checksum behind `before`.
 fn piece_crc<N: Nor>(
@@ -89,7 +89,7 @@ fn copy_piece<N: Nor>(
 }
 
 /// Copies the page in one sector into another, which is erased first, and gives the checksum behind `before` of its
-/// first `count` bytes. 7 operations.
+/// first `count` bytes. 9 operations.
 pub(crate) fn copy_page<N: Nor>(
     nor: &mut N,
     from: u32,

@@ -28,10 +28,10 @@ const BASE: &[u8; 4] = b"base";
 const HEADER: [u8; 10] = [b'S', b'H', 1, 2, 0, 0, 0, 1, 0x2B, 0xA7];
 
 /// The bytes of a page that one program copies.
-const PIECE: usize = 184;
+const PIECE: usize = 138;
 
-/// A commit, two pages of an erase and 6 programs, and a commit.
-const START: u32 = 2 + 14 + 2;
+/// A commit, two pages of an erase and 8 programs, and a commit.
+const START: u32 = 2 + 18 + 2;
 
 /// The header, a commit, and two pages of an erase, 48 packets and a gate.
 const INJECTION: u32 = 2 + 2 + 100;
@@ -83,7 +83,7 @@ fn commit<N: Nor>(nor: &mut N, place: u32, bytes: &[u8; PLACE_SIZE]) -> Result<(
 
 /// A piece of a page.
 fn piece_of(page: &[u8; PAGE_SIZE], k: u8) -> [u8; PIECE]
-    requires { k < 6 }
+    requires { k < 8 }
 {
     let begin = PIECE * usize::from(k);
     let mut piece = [0; PIECE];
@@ -96,7 +96,7 @@ fn copy<N: Nor>(nor: &mut N, to: u32, page: &[u8; PAGE_SIZE]) -> Result<(), Stop
     requires { to < sectors }
 {
     erase_sector(nor, to)?;
-    for k in 0..6 {
+    for k in 0..8 {
         program_in(nor, to, PIECE as u32 * u32::from(k), &piece_of(page, k))?;
     }
     Ok(())

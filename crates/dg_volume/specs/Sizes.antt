@@ -14,7 +14,7 @@ most_take_commits = 2
 
 -- the programs by which a page is copied into program memory, each of a piece of it
 abbrev pub copy_pieces : ℕ
-copy_pieces = 6
+copy_pieces = 8
 
 -- a page is copied by an erase and these
 abbrev pub copy_operations : ℕ
