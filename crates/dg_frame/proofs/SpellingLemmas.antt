@@ -1,11 +1,10 @@
 -- A message that is written is read back, and one that was read is spelled by the same bytes.
-use Rattle.std.proofs.Common.{◌≡◌, ℕ, suc, zero, ◌+◌, ◌-◌, ◌*◌, ◌^◌, ◌<◌, ◌≤◌, true, List, [], ◌∷◌, ◌++◌, length, take, drop, map, get_or, Option, Some, Ok, refl, sym, ap, ◌∙◌, subst, arith, append_assoc, ⊎_elim}
-use Rattle.std.specs.Prelude.{◌==◌, slice_index, nat_le}
+use Rattle.std.proofs.Common.{◌≡◌, ℕ, suc, zero, ◌+◌, ◌-◌, ◌*◌, ◌^◌, ◌<◌, ◌≤◌, Bool, true, List, [], ◌∷◌, ◌++◌, length, take, drop, map, get_or, Some, Ok, refl, sym, ap, ◌∙◌, subst, arith, append_assoc, ⊎_elim}
+use Rattle.std.specs.Prelude.{◌&&◌, slice_index, nat_le}
 use Rattle.std.specs.List.{AllByRecursion, flat_map, list_all, range_with_len}
 use Rattle.std.specs.Int.{to_be_bytes, from_be_bytes, w16, w32}
-use Rattle.std.proofs.lemmas.Bool.{cond_both, eqb-true, and_parts, leb-true}
-use Rattle.std.proofs.lemmas.Option.{same_Some}
-use Rattle.std.proofs.lemmas.List.{take_at, drop_at, length-append, length-take-le, length-take, length-drop, get_or-drop, drop-drop, drop_more}
+use Rattle.std.proofs.lemmas.Bool.{and_parts, leb-true}
+use Rattle.std.proofs.lemmas.List.{length-map, take_at, drop_at, length-append, length-take-le, length-take, length-drop, get_or-drop, drop-drop, drop_more}
 use Rattle.std.proofs.lemmas.Nat.{be_bytes_2, be_bytes_4, from_be_bytes-to_be_bytes_2, from_be_bytes-to_be_bytes_4}
 use Rattle.dg_words.specs.Cells.{AreBytes, part}
 use Rattle.dg_words.proofs.ByteLemmas.{AreBytes-nil, AreBytes-cons, AreBytes-append, AreBytes-take, AreBytes-drop, AreBytes-high_first, All-from_AreBytes}
@@ -17,26 +16,15 @@ use Rattle.dg_bits.specs.ByteForm.{byte_form, byte_of, numbers_of}
 use Rattle.dg_bits.proofs.ByteFormLaws.{unmarked_past, AllBelow-packed, length-byte_form, numbers_of-byte_form, byte_form-numbers_of, byte_of-fits}
 use Rattle.dg_control.specs.Snapshot.{order_bytes}
 use Rattle.dg_control.specs.declared.snapshot.Order.{Order}
-use Rattle.dg_frame.specs.Sizes.{advert_kind, request_kind, packet_kind, shortest, entry_places, order_place, set_bytes, packet_size, last_packet, advert_frame_size, request_frame_size, packet_frame_size}
-use Rattle.dg_frame.specs.Grammar.{half_at, word_at, entry_at, order_at, advert_in, request_in, packet_in, kind_of, in_range, entry_fits, order_in_frame, page_fits}
-use Rattle.dg_frame.specs.Ranges.{TellsVersion, NamesImage, OrderInRange}
+use Rattle.dg_frame.specs.Sizes.{advert_kind, request_kind, packet_kind, wide_kind, shortest, narrow_images, wide_images, known_images, places, first_entry, order_place, entry_size, order_size, set_bytes, packet_size, last_packet, advert_frame_size, request_frame_size, packet_frame_size, wide_frame_size}
+use Rattle.dg_frame.specs.Grammar.{half_at, word_at, entry_at, order_at, entries_in, advert_in, request_in, packet_in, wide_in, kind_of, in_range, entry_fits, order_in_frame, page_fits}
+use Rattle.dg_frame.specs.Ranges.{TellsVersion, NamesImage, OrderInRange, IsInRange}
 use Rattle.dg_frame.specs.Readings.{IsChecked, IsReading}
-use Rattle.dg_frame.specs.Spelling.{entry_bytes, unchecked, frame_of, EntryFitsTypes, FitsTypes}
+use Rattle.dg_frame.specs.Spelling.{entry_bytes, advert_bytes, unchecked, frame_of, EntryFitsTypes, AdvertFits, FitsTypes}
 use Rattle.dg_frame.specs.declared.Entry.{Entry}
 use Rattle.dg_frame.specs.declared.Message.{Message}
-use Rattle.dg_frame.specs.declared.Message.TheVariants.{Advert, Request, Packet}
-use Rattle.dg_frame.proofs.ReadingLemmas.{entry_decides, order_decides, page_decides, ranges}
-
--- ---- kinds
-
--- what holds of each row of the table holds of a kind that is found
-by_kinds : (n : ℕ) (P : (ℕ × (List ℕ → Message)) → Type 0) → (n ≡ advert_kind → P (advert_frame_size, advert_in)) → (n ≡ request_kind → P (request_frame_size, request_in))
-    → (n ≡ packet_kind → P (packet_frame_size, packet_in)) → (k : ℕ × (List ℕ → Message)) → kind_of n ≡ Some k → P k
-by_kinds n P a r p =
-    let Q : Option (ℕ × (List ℕ → Message)) → Type 0 = λ o. (k : ℕ × (List ℕ → Message)) → o ≡ Some k → P k in
-    cond_both (n == advert_kind) _ _ Q (λ e k q. subst P (same_Some _ k q) (a (eqb-true _ _ e)))
-    (λ _. cond_both (n == request_kind) _ _ Q (λ e k q. subst P (same_Some _ k q) (r (eqb-true _ _ e)))
-    (λ _. cond_both (n == packet_kind) _ _ Q (λ e k q. subst P (same_Some _ k q) (p (eqb-true _ _ e))) (λ _ k q. absurd cc)))
+use Rattle.dg_frame.specs.declared.Message.TheVariants.{Advert, Request, Packet, Wide}
+use Rattle.dg_frame.proofs.ReadingLemmas.{entry_decides, order_decides, page_decides, known_more, ranges, by_kinds}
 
 -- ---- numbers that were read
 
@@ -82,11 +70,6 @@ order_part b p h l =
     (byte_before b _ (p + 4) (p + 5) 4 (omega arith) (omega arith) (word_part b (p + 5) h (omega arith)))
     refl refl l
 
--- the places of so many entries, one behind the other
-abbrev places : ℕ → ℕ → List ℕ
-places p zero = []
-places p (suc n) = p ∷ places (p + 8) n
-
 no_part : (b : List ℕ) (p : ℕ) → [] ≡ part b p 0
 unfolding part
 no_part b p = refl
@@ -108,11 +91,15 @@ piece_part b p n = refl
 head_part : (b : List ℕ) (kind : ℕ) → AreBytes b → 3 ≤ length b → slice_index b 0 ≡ kind → kind ∷ to_be_bytes w16 (half_at b 1) ≡ part b 0 3
 head_part b kind h l e = ap (λ x. x ∷ to_be_bytes w16 (half_at b 1)) (sym e) ∙ byte_before b _ 0 1 2 (omega arith) refl (half_part b 1 h (omega arith))
 
-advert_part : (b : List ℕ) → AreBytes b → length b ≡ advert_frame_size → slice_index b 0 ≡ advert_kind → unchecked (advert_in b) ≡ part b 0 36
-advert_part b h l e =
-    part_behind b _ _ 0 27 27 9 36
-    (part_behind b _ _ 0 3 3 24 27 (head_part b advert_kind h (omega arith) e) (entries_part b 3 3 h (omega arith)) refl refl (omega arith))
-    (order_part b 27 h (omega arith)) refl refl (omega arith)
+-- an advert of so many images
+advert_part : (b : List ℕ) (kind n : ℕ) → AreBytes b → length b ≡ order_place n + order_size + 2 → slice_index b 0 ≡ kind
+    → advert_bytes kind (half_at b 1) (entries_in n b) (order_at b (order_place n)) ≡ part b 0 (order_place n + order_size)
+unfolding entries_in
+advert_part b kind n h l e =
+    let p = order_place n in
+    part_behind b _ _ 0 p p 9 (p + 9)
+    (part_behind b _ _ 0 3 3 (8 * n) p (head_part b kind h (omega (arith, l)) e) (entries_part b 3 n h (omega (arith, l))) refl refl (omega (arith, l)))
+    (order_part b p h (omega (arith, l))) (omega arith) refl (omega (arith, l))
 
 request_part : (b : List ℕ) → AreBytes b → length b ≡ request_frame_size → slice_index b 0 ≡ request_kind → unchecked (request_in b) ≡ part b 0 17
 request_part b h l e =
@@ -132,8 +119,10 @@ packet_part b h l e =
 abbrev SpellsAgain : List ℕ → (ℕ × (List ℕ → Message)) → Type 0
 SpellsAgain b k = length b ≡ k.0 → unchecked (k.1 b) ≡ part b 0 (k.0 - 2)
 
-spelled_again : (b : List ℕ) (k : ℕ × (List ℕ → Message)) → AreBytes b → kind_of (slice_index b 0) ≡ Some k → SpellsAgain b k
-spelled_again b k h = by_kinds (slice_index b 0) (SpellsAgain b) (λ e l. advert_part b h l e) (λ e l. request_part b h l e) (λ e l. packet_part b h l e) k
+spelled_again : (b : List ℕ) (wide : Bool) (k : ℕ × (List ℕ → Message)) → AreBytes b → kind_of wide (slice_index b 0) ≡ Some k → SpellsAgain b k
+spelled_again b wide k h =
+    by_kinds wide (slice_index b 0) (SpellsAgain b) (λ e l. advert_part b advert_kind narrow_images h l e) (λ e l. request_part b h l e) (λ e l. packet_part b h l e)
+    (λ _ e l. advert_part b wide_kind wide_images h l e) k
 
 front_part : (b : List ℕ) (n : ℕ) → part b 0 n ≡ take n b
 unfolding part
@@ -145,17 +134,21 @@ with_check b u n h l e c =
     let same : crc_of u ≡ half_at b n = ap crc_of (e ∙ front_part b n) ∙ sym c in
     sym (part_behind b u (to_be_bytes w16 (crc_of u)) 0 n n 2 (n + 2) e (ap (to_be_bytes w16) same ∙ half_part b n h (omega arith)) (omega arith) refl (omega arith) ∙ part_whole b (n + 2) l)
 
-pub spelled : (b : List ℕ) (m : Message) → AreBytes b → IsReading b (Ok m) → b ≡ frame_of m
+pub spelled : (b : List ℕ) (wide : Bool) (m : Message) → AreBytes b → IsReading b wide (Ok m) → b ≡ frame_of m
 unfolding frame_of
-spelled b m h r =
+spelled b wide m h r =
     let size = r.0 in
     let k = r.2 in
-    let u : unchecked m ≡ part b 0 (size - 2) = ap unchecked r.6 ∙ spelled_again b (size, r.1) h k.kind r.3 in
+    let u : unchecked m ≡ part b 0 (size - 2) = ap unchecked r.6 ∙ spelled_again b wide (size, r.1) h k.kind r.3 in
     let long : length b ≡ (size - 2) + 2 = omega (arith, r.3, k.enough) in
     let at : length b - 2 ≡ size - 2 = omega (arith, r.3) in
     with_check b (unchecked m) (size - 2) h long u (ap (half_at b) (sym at) ∙ r.4 ∙ ap (λ n. crc_of (take n b)) at)
 
 -- ---- what was read fits the types
+
+length_places : (at n : ℕ) → length (places at n) ≡ n
+length_places at zero = refl
+length_places at (suc n) = ap suc (length_places (at + entry_size) n)
 
 entries_fit : (b ps : List ℕ) → AreBytes b → AllByRecursion EntryFitsTypes (map (entry_at b) ps)
 entries_fit b [] h = tt
@@ -167,16 +160,22 @@ set_small xs = AllBelow-packed (last_packet + 1) (take set_bytes xs) _ refl (λ 
 abbrev FitsAgain : List ℕ → (ℕ × (List ℕ → Message)) → Type 0
 FitsAgain b k = length b ≡ k.0 → FitsTypes (k.1 b)
 
-read_fits : (b : List ℕ) (k : ℕ × (List ℕ → Message)) → AreBytes b → kind_of (slice_index b 0) ≡ Some k → FitsAgain b k
-read_fits b k h =
-    by_kinds (slice_index b 0) (FitsAgain b)
-    (λ _ l. (half_small b 1 h, refl, entries_fit b entry_places h, word_small b 27 h, word_small b 32 h))
+advert_fits : (b : List ℕ) (n : ℕ) → AreBytes b → AdvertFits n (half_at b 1) (entries_in n b) (order_at b (order_place n))
+unfolding entries_in
+advert_fits b n h =
+    (half_small b 1 h, length-map (places first_entry n) (entry_at b) ∙ length_places first_entry n, entries_fit b (places first_entry n) h, word_small b (order_place n) h, word_small b (order_place n + 5) h)
+
+read_fits : (b : List ℕ) (wide : Bool) (k : ℕ × (List ℕ → Message)) → AreBytes b → kind_of wide (slice_index b 0) ≡ Some k → FitsAgain b k
+read_fits b wide k h =
+    by_kinds wide (slice_index b 0) (FitsAgain b)
+    (λ _ l. advert_fits b narrow_images h)
     (λ _ l. (half_small b 1 h, half_small b 3 h, word_small b 6 h, set_small (drop 11 b)))
     (λ _ l. (half_small b 1 h, word_small b 4 h, length_piece b 10 23 (omega arith), AreBytes-take 23 (drop 10 b) (AreBytes-drop 10 b h)))
+    (λ _ _ l. advert_fits b wide_images h)
     k
 
-pub fits : (b : List ℕ) (m : Message) → AreBytes b → IsReading b (Ok m) → FitsTypes m
-fits b m h r = subst FitsTypes (sym r.6) (read_fits b (r.0, r.1) h r.2.kind r.3)
+pub fits : (b : List ℕ) (wide : Bool) (m : Message) → AreBytes b → IsReading b wide (Ok m) → FitsTypes m
+fits b wide m h r = subst FitsTypes (sym r.6) (read_fits b wide (r.0, r.1) h r.2.kind r.3)
 
 -- ---- what was written is read back
 
@@ -202,9 +201,9 @@ entries_are_bytes (e ∷ es) h =
     let both = and_parts (entry_fits e) (list_all entry_fits es) h in
     AreBytes-append (entry_bytes e) (flat_map entry_bytes es) (entry_are_bytes e both.0) (entries_are_bytes es both.1)
 
-order_are_bytes : (o : Order) → OrderInRange o → AreBytes (order_bytes o)
-order_are_bytes o h =
-    let small : o.image < 256 = ⊎_elim (λ u. omega (arith, ap (λ (x : Order). x.image) u)) (λ (t : NamesImage o). omega (arith, t.image)) h in
+order_are_bytes : (images : ℕ) (o : Order) → images < 256 → OrderInRange images o → AreBytes (order_bytes o)
+order_are_bytes images o few h =
+    let small : o.image < 256 = ⊎_elim (λ u. omega (arith, ap (λ (x : Order). x.image) u)) (λ (t : NamesImage images o). omega (arith, t.image, few)) h in
     AreBytes-append (to_be_bytes w32 o.number) (o.image ∷ to_be_bytes w32 o.version) (AreBytes-high_first 4 o.number) (AreBytes-cons o.image (to_be_bytes w32 o.version) small (AreBytes-high_first 4 o.version))
 
 each_byte : (f : ℕ → ℕ) (xs : List ℕ) → ((x : ℕ) → f x < 256) → AreBytes (map f xs)
@@ -218,28 +217,34 @@ set_are_bytes s = each_byte (byte_of s) (range_with_len 0 set_bytes) (byte_of-fi
 number_bytes : (n byte : ℕ) → byte < 256 → AreBytes (byte ∷ to_be_bytes w32 n)
 number_bytes n byte h = AreBytes-cons byte (to_be_bytes w32 n) h (AreBytes-high_first 4 n)
 
-unchecked_bytes : (m : Message) → FitsTypes m → in_range m ≡ true → AreBytes (unchecked m)
+advert_are_bytes : (kind images source : ℕ) (entries : List Entry) (order : Order) → kind < 256 → images < 256 → (list_all entry_fits entries && order_in_frame images order) ≡ true
+    → AreBytes (advert_bytes kind source entries order)
+advert_are_bytes kind images source entries order small few h =
+    let both = and_parts (list_all entry_fits entries) (order_in_frame images order) h in
+    AreBytes-append ((kind ∷ to_be_bytes w16 source) ++ flat_map entry_bytes entries) (order_bytes order)
+    (AreBytes-append (kind ∷ to_be_bytes w16 source) (flat_map entry_bytes entries) (head_bytes kind source small) (entries_are_bytes entries both.0))
+    (order_are_bytes images order few ((order_decides images order).0 both.1))
+
+unchecked_bytes : (wide : Bool) (m : Message) → FitsTypes m → in_range wide m ≡ true → AreBytes (unchecked m)
 unfolding in_range
-unchecked_bytes (Advert source entries order) f h =
-    let both = and_parts (list_all entry_fits entries) (order_in_frame order) h in
-    AreBytes-append ((advert_kind ∷ to_be_bytes w16 source) ++ flat_map entry_bytes entries) (order_bytes order)
-    (AreBytes-append (advert_kind ∷ to_be_bytes w16 source) (flat_map entry_bytes entries) (head_bytes advert_kind source (omega arith)) (entries_are_bytes entries both.0))
-    (order_are_bytes order ((order_decides order).0 both.1))
-unchecked_bytes (Request source to image version page want) f h =
-    let both = and_parts (page_fits image version page) _ h in
-    let p = (page_decides image version page).0 both.0 in
+unchecked_bytes wide (Advert source entries order) f h = advert_are_bytes advert_kind narrow_images source entries order (omega arith) (omega arith) h
+unchecked_bytes wide (Request source to image version page want) f h =
+    let both = and_parts (page_fits (known_images wide) image version page) _ h in
+    let p = (page_decides (known_images wide) image version page).0 both.0 in
     AreBytes-append ((request_kind ∷ to_be_bytes w16 source) ++ to_be_bytes w16 to ++ image ∷ to_be_bytes w32 version) (page ∷ byte_form set_bytes want)
     (AreBytes-append ((request_kind ∷ to_be_bytes w16 source) ++ to_be_bytes w16 to) (image ∷ to_be_bytes w32 version)
     (AreBytes-append (request_kind ∷ to_be_bytes w16 source) (to_be_bytes w16 to) (head_bytes request_kind source (omega arith)) (AreBytes-high_first 2 to))
-    (number_bytes version image (omega (arith, p.last))))
+    (number_bytes version image (omega (arith, p.last, known_more wide))))
     (AreBytes-cons page (byte_form set_bytes want) (omega (arith, p.in_object)) (set_are_bytes want))
-unchecked_bytes (Packet source image version page packet bytes) f h =
-    let both = and_parts (page_fits image version page) (nat_le packet last_packet) h in
-    let p = (page_decides image version page).0 both.0 in
+unchecked_bytes wide (Packet source image version page packet bytes) f h =
+    let both = and_parts (page_fits (known_images wide) image version page) (nat_le packet last_packet) h in
+    let p = (page_decides (known_images wide) image version page).0 both.0 in
     let q : packet < 256 = omega (arith, leb-true packet last_packet both.1) in
     AreBytes-append ((packet_kind ∷ to_be_bytes w16 source) ++ image ∷ to_be_bytes w32 version) (page ∷ packet ∷ bytes)
-    (AreBytes-append (packet_kind ∷ to_be_bytes w16 source) (image ∷ to_be_bytes w32 version) (head_bytes packet_kind source (omega arith)) (number_bytes version image (omega (arith, p.last))))
+    (AreBytes-append (packet_kind ∷ to_be_bytes w16 source) (image ∷ to_be_bytes w32 version) (head_bytes packet_kind source (omega arith)) (number_bytes version image (omega (arith, p.last, known_more wide))))
     (AreBytes-cons page (packet ∷ bytes) (omega (arith, p.in_object)) (AreBytes-cons packet bytes q f.3))
+unchecked_bytes wide (Wide source entries order) f h =
+    advert_are_bytes wide_kind wide_images source entries order (omega arith) (omega arith) (and_parts wide (list_all entry_fits entries && order_in_frame wide_images order) h).1
 
 -- the CRC behind bytes is that of the bytes
 checked : (u : List ℕ) → AreBytes u → IsChecked (u ++ to_be_bytes w16 (crc_of u))
@@ -280,24 +285,45 @@ entries_read b rest p (e ∷ es) f d =
     λ i. first i ∷ others i
 
 -- a message is read of its bytes, whatever stands behind them
-abbrev IsReadBack : Message → (ℕ × (List ℕ → Message)) → Type 0
-IsReadBack m k = (rest : List ℕ) → (kind_of (slice_index (unchecked m ++ rest) 0) ≡ Some k) × (length (unchecked m) + 2 ≡ k.0) × (k.1 (unchecked m ++ rest) ≡ m)
+abbrev IsReadBack : (wide : Bool) → Message → (ℕ × (List ℕ → Message)) → Type 0
+IsReadBack wide m k = (rest : List ℕ) → (kind_of wide (slice_index (unchecked m ++ rest) 0) ≡ Some k) × (length (unchecked m) + 2 ≡ k.0) × (k.1 (unchecked m ++ rest) ≡ m)
 
-advert_back : (source : ℕ) (entries : List Entry) (order : Order) → FitsTypes (Advert source entries order) → IsReadBack (Advert source entries order) (advert_frame_size, advert_in)
-advert_back source entries order f rest =
-    let u = unchecked (Advert source entries order) in
-    let head = advert_kind ∷ to_be_bytes w16 source in
-    let long : length (flat_map entry_bytes entries) ≡ 24 = omega (arith, length_entries entries, f.1) in
-    let whole : length u ≡ 36 = omega (arith, length-append (head ++ flat_map entry_bytes entries) (order_bytes order), length-append head (flat_map entry_bytes entries)) in
+-- the fields of an advert
+record AdvertBack (kind n source : ℕ) (entries : List Entry) (order : Order) (rest : List ℕ) : Type 0 where
+  long : length (advert_bytes kind source entries order) ≡ order_place n + order_size
+  from : half_at (advert_bytes kind source entries order ++ rest) 1 ≡ source
+  told : entries_in n (advert_bytes kind source entries order ++ rest) ≡ entries
+  of : order_at (advert_bytes kind source entries order ++ rest) (order_place n) ≡ order
+
+advert_fields : (kind n source : ℕ) (entries : List Entry) (order : Order) (rest : List ℕ) → AdvertFits n source entries order → AdvertBack kind n source entries order rest
+unfolding entries_in
+advert_fields kind n source entries order rest f =
+    let u = advert_bytes kind source entries order in
+    let head = kind ∷ to_be_bytes w16 source in
+    let many : length (flat_map entry_bytes entries) ≡ 8 * n = length_entries entries ∙ ap (λ c. 8 * c) f.1 in
     let d : drop 3 (u ++ rest) ≡ flat_map entry_bytes entries ++ (order_bytes order ++ rest) = append_assoc (flat_map entry_bytes entries) (order_bytes order) rest in
-    let d27 : drop 27 (u ++ rest) ≡ order_bytes order ++ rest = sym (drop-drop 24 3 (u ++ rest)) ∙ ap (drop 24) d ∙ drop_at (flat_map entry_bytes entries) (order_bytes order ++ rest) 24 long in
-    let s : half_at (u ++ rest) 1 ≡ source = from_be_bytes-to_be_bytes_2 source f.0 in
-    let es : map (entry_at (u ++ rest)) entry_places ≡ entries = ap (λ n. map (entry_at (u ++ rest)) (places 3 n)) (sym f.1) ∙ entries_read (u ++ rest) (order_bytes order ++ rest) 3 entries f.2 d in
-    let o : order_at (u ++ rest) order_place ≡ order = order_read (u ++ rest) rest 27 order f.3 f.4 d27 in
-    (refl, omega arith, λ i. Advert (s i) (es i) (o i))
+    let p : order_place n ≡ 8 * n + 3 = omega arith in
+    let last : drop (order_place n) (u ++ rest) ≡ order_bytes order ++ rest =
+    ap (λ k. drop k (u ++ rest)) (omega arith) ∙ sym (drop-drop (8 * n) 3 (u ++ rest)) ∙ ap (drop (8 * n)) d ∙ drop_at (flat_map entry_bytes entries) (order_bytes order ++ rest) (8 * n) many in
+    record {
+      long = omega (arith, many, length-append (head ++ flat_map entry_bytes entries) (order_bytes order), length-append head (flat_map entry_bytes entries));
+      from = from_be_bytes-to_be_bytes_2 source f.0;
+      told = ap (λ k. map (entry_at (u ++ rest)) (places first_entry k)) (sym f.1) ∙ entries_read (u ++ rest) (order_bytes order ++ rest) 3 entries f.2 d;
+      of = order_read (u ++ rest) rest (order_place n) order f.3 f.4 last;
+    }
 
-request_back : (source to image version page : ℕ) (want : Numbers) → FitsTypes (Request source to image version page want) → IsReadBack (Request source to image version page want) (request_frame_size, request_in)
-request_back source to image version page want f rest =
+advert_back : (wide : Bool) (source : ℕ) (entries : List Entry) (order : Order) → FitsTypes (Advert source entries order) → IsReadBack wide (Advert source entries order) (advert_frame_size, advert_in)
+advert_back wide source entries order f rest =
+    let back = advert_fields advert_kind narrow_images source entries order rest f in
+    (refl, omega (arith, back.long), λ i. Advert (back.from i) (back.told i) (back.of i))
+
+wide_back : (source : ℕ) (entries : List Entry) (order : Order) → FitsTypes (Wide source entries order) → IsReadBack true (Wide source entries order) (wide_frame_size, wide_in)
+wide_back source entries order f rest =
+    let back = advert_fields wide_kind wide_images source entries order rest f in
+    (refl, omega (arith, back.long), λ i. Wide (back.from i) (back.told i) (back.of i))
+
+request_back : (wide : Bool) (source to image version page : ℕ) (want : Numbers) → FitsTypes (Request source to image version page want) → IsReadBack wide (Request source to image version page want) (request_frame_size, request_in)
+request_back wide source to image version page want f rest =
     let u = unchecked (Request source to image version page want) in
     let s : half_at (u ++ rest) 1 ≡ source = from_be_bytes-to_be_bytes_2 source f.0 in
     let t : half_at (u ++ rest) 3 ≡ to = from_be_bytes-to_be_bytes_2 to f.1 in
@@ -306,8 +332,8 @@ request_back source to image version page want f rest =
     ap numbers_of (take_at (byte_form set_bytes want) rest set_bytes (length-byte_form set_bytes want)) ∙ numbers_of-byte_form set_bytes want f.3 in
     (refl, omega (arith, length-byte_form set_bytes want), λ i. Request (s i) (t i) image (v i) page (w i))
 
-packet_back : (source image version page packet : ℕ) (bytes : List ℕ) → FitsTypes (Packet source image version page packet bytes) → IsReadBack (Packet source image version page packet bytes) (packet_frame_size, packet_in)
-packet_back source image version page packet bytes f rest =
+packet_back : (wide : Bool) (source image version page packet : ℕ) (bytes : List ℕ) → FitsTypes (Packet source image version page packet bytes) → IsReadBack wide (Packet source image version page packet bytes) (packet_frame_size, packet_in)
+packet_back wide source image version page packet bytes f rest =
     let u = unchecked (Packet source image version page packet bytes) in
     let s : half_at (u ++ rest) 1 ≡ source = from_be_bytes-to_be_bytes_2 source f.0 in
     let v : word_at (u ++ rest) 4 ≡ version = from_be_bytes-to_be_bytes_4 version f.1 in
@@ -319,23 +345,27 @@ abbrev row : Message → ℕ × (List ℕ → Message)
 row (Advert source entries order) = (advert_frame_size, advert_in)
 row (Request source to image version page want) = (request_frame_size, request_in)
 row (Packet source image version page packet bytes) = (packet_frame_size, packet_in)
+row (Wide source entries order) = (wide_frame_size, wide_in)
 
-read_back : (m : Message) → FitsTypes m → IsReadBack m (row m)
-read_back (Advert source entries order) f = advert_back source entries order f
-read_back (Request source to image version page want) f = request_back source to image version page want f
-read_back (Packet source image version page packet bytes) f = packet_back source image version page packet bytes f
+read_back : (wide : Bool) (m : Message) → FitsTypes m → IsInRange wide m → IsReadBack wide m (row m)
+read_back wide (Advert source entries order) f h = advert_back wide source entries order f
+read_back wide (Request source to image version page want) f h = request_back wide source to image version page want f
+read_back wide (Packet source image version page packet bytes) f h = packet_back wide source image version page packet bytes f
+read_back wide (Wide source entries order) f h = subst (λ w. IsReadBack w (Wide source entries order) (wide_frame_size, wide_in)) (sym h.0) (wide_back source entries order f)
 
 long_enough : (m : Message) → shortest ≤ (row m).0
 long_enough (Advert source entries order) = omega arith
 long_enough (Request source to image version page want) = omega arith
 long_enough (Packet source image version page packet bytes) = omega arith
+long_enough (Wide source entries order) = omega arith
 
-pub written : (m : Message) → FitsTypes m → in_range m ≡ true → IsReading (frame_of m) (Ok m)
+pub written : (wide : Bool) (m : Message) → FitsTypes m → in_range wide m ≡ true → IsReading (frame_of m) wide (Ok m)
 unfolding frame_of
-written m f h =
+written wide m f h =
     let u = unchecked m in
     let c = to_be_bytes w16 (crc_of u) in
-    let back = read_back m f c in
+    let fit = (ranges wide m).0 h in
+    let back = read_back wide m f fit c in
     let long : length (u ++ c) ≡ (row m).0 = length-append u c ∙ back.1 in
     let enough : shortest ≤ length (u ++ c) = omega (arith, long_enough m) in
-    ((row m).0, (row m).1, record { enough = enough; kind = back.0 }, long, checked u (unchecked_bytes m f h), (ranges m).0 h, sym back.2)
+    ((row m).0, (row m).1, record { enough = enough; kind = back.0 }, long, checked u (unchecked_bytes wide m f h), fit, sym back.2)

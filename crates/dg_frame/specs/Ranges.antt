@@ -1,11 +1,11 @@
 -- The ranges of the fields of a message, as relations.
-use Rattle.std.specs.Prelude.{◌≡◌, ◌≢◌, ◌⊎◌, ℕ, ◌≤◌, All}
+use Rattle.std.specs.Prelude.{◌≡◌, ◌≢◌, ◌⊎◌, ℕ, ◌≤◌, Bool, true, All}
 use Rattle.std.specs.FinSet as set
 use Rattle.dg_control.specs.declared.snapshot.Order.{Order}
-use Rattle.dg_frame.specs.Sizes.{frame_images, last_page, last_packet, fewest_pages, most_pages}
+use Rattle.dg_frame.specs.Sizes.{narrow_images, wide_images, known_images, last_page, last_packet, fewest_pages, most_pages}
 use Rattle.dg_frame.specs.declared.Entry.{Entry}
 use Rattle.dg_frame.specs.declared.Message.{Message}
-use Rattle.dg_frame.specs.declared.Message.TheVariants.{Advert, Request, Packet}
+use Rattle.dg_frame.specs.declared.Message.TheVariants.{Advert, Request, Packet, Wide}
 
 -- an entry of an image of which nothing is kept
 abbrev pub unused : Entry
@@ -24,24 +24,25 @@ EntryInRange e = (e ≡ unused) ⊎ TellsVersion e
 abbrev pub no_order : Order
 no_order = record { number = 0; image = 0; version = 0 }
 
--- an order of an image that frames speak of, or of golden
-pub record NamesImage (o : Order) : Type 0 where
+-- an order of one of so many images, or of golden
+pub record NamesImage (images : ℕ) (o : Order) : Type 0 where
   pub number : 1 ≤ o.number
-  pub image : o.image ≤ frame_images
+  pub image : o.image ≤ images
   pub version : 1 ≤ o.version
 
-abbrev pub OrderInRange : Order → Type 0
-OrderInRange o = (o ≡ no_order) ⊎ NamesImage o
+abbrev pub OrderInRange : (images : ℕ) → Order → Type 0
+OrderInRange images o = (o ≡ no_order) ⊎ NamesImage images o
 
--- a page of a version of an image that frames speak of
-pub record PageInRange (image version page : ℕ) : Type 0 where
+-- a page of a version of one of so many images
+pub record PageInRange (images image version page : ℕ) : Type 0 where
   pub first : 1 ≤ image
-  pub last : image ≤ frame_images
+  pub last : image ≤ images
   pub of_version : 1 ≤ version
   pub in_object : page ≤ last_page
 
--- each field is in its range. Sources and destinations are any
-abbrev pub IsInRange : Message → Type 0
-IsInRange (Advert source entries order) = All EntryInRange entries × OrderInRange order
-IsInRange (Request source to image version page want) = PageInRange image version page × (want ≢ set.empty)
-IsInRange (Packet source image version page packet bytes) = PageInRange image version page × (packet ≤ last_packet)
+-- each field is in its range for a reader that is wide or narrow. Sources and destinations are any
+abbrev pub IsInRange : (wide : Bool) → Message → Type 0
+IsInRange wide (Advert source entries order) = All EntryInRange entries × OrderInRange narrow_images order
+IsInRange wide (Request source to image version page want) = PageInRange (known_images wide) image version page × (want ≢ set.empty)
+IsInRange wide (Packet source image version page packet bytes) = PageInRange (known_images wide) image version page × (packet ≤ last_packet)
+IsInRange wide (Wide source entries order) = (wide ≡ true) × (All EntryInRange entries × OrderInRange wide_images order)

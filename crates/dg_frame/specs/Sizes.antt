@@ -1,11 +1,10 @@
 -- The bounds of frames. They are the frames' own: a chip may have more slots, and a volume more images. The format is of this profile.
-use Rattle.std.specs.Prelude.{ℕ, ◌-◌, List, [], ◌∷◌}
-use Rattle.dg_base.specs.Sizes.{network_images}
+use Rattle.std.specs.Prelude.{ℕ, zero, suc, ◌+◌, ◌-◌, ◌*◌, Bool, if◌then◌else◌, List, [], ◌∷◌}
 pub use Rattle.dg_object.specs.Sizes.{packets, packet_size, most_pages}
 
 -- the bytes of a frame, at most
 abbrev pub frame_bytes : ℕ
-frame_bytes = 48
+frame_bytes = 64
 
 -- the first byte of a frame names its kind
 abbrev pub advert_kind : ℕ
@@ -17,20 +16,23 @@ request_kind = 2
 abbrev pub packet_kind : ℕ
 packet_kind = 3
 
+abbrev pub wide_kind : ℕ
+wide_kind = 4
+
 -- kind, source and CRC take so many bytes, and no frame is shorter
 abbrev pub shortest : ℕ
 shortest = 5
 
--- frames speak of the images that a network names, and an order in an advert of these and golden
-abbrev pub frame_images : ℕ
-frame_images = network_images
+-- an advert speaks of the images from 1 to this number, and its order of these and golden; a wide advert of more
+abbrev pub narrow_images : ℕ
+narrow_images = 3
 
--- where the entries of an advert begin, one for each of these images, and where its order does
-abbrev pub entry_places : List ℕ
-entry_places = 3 ∷ 11 ∷ 19 ∷ []
+abbrev pub wide_images : ℕ
+wide_images = 6
 
-abbrev pub order_place : ℕ
-order_place = 27
+-- a wide reader, or a narrow one, knows the images from 1 to this number
+abbrev pub known_images : (wide : Bool) → ℕ
+known_images wide = if wide then wide_images else narrow_images
 
 -- the last page of an object, and the last packet of a page, both counted from 0
 abbrev pub last_page : ℕ
@@ -54,6 +56,18 @@ entry_size = 8
 abbrev pub order_size : ℕ
 order_size = 9
 
+-- where so many entries begin, one behind the other, the first at this place
+abbrev pub places : (at count : ℕ) → List ℕ
+places at zero = []
+places at (suc n) = at ∷ places (at + entry_size) n
+
+-- the entries of an advert begin behind its kind and its source, and its order behind so many entries
+abbrev pub first_entry : ℕ
+first_entry = 3
+
+abbrev pub order_place : (count : ℕ) → ℕ
+order_place n = first_entry + entry_size * n
+
 -- the bytes of each kind of frame
 abbrev pub advert_frame_size : ℕ
 advert_frame_size = 38
@@ -63,3 +77,6 @@ request_frame_size = 19
 
 abbrev pub packet_frame_size : ℕ
 packet_frame_size = 35
+
+abbrev pub wide_frame_size : ℕ
+wide_frame_size = 62

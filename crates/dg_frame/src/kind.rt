@@ -11,23 +11,27 @@ pub(crate) const REQUEST_BYTES: usize = 19;
 
 pub(crate) const PACKET_FRAME_BYTES: usize = 35;
 
+pub(crate) const WIDE_BYTES: usize = 62;
+
 /// The kind of a frame, and its first byte.
 #[derive(Clone, Copy, Debug, PartialEq, Eq)]
 pub(crate) enum Kind {
     Advert = 1,
     Request = 2,
     Packet = 3,
+    Wide = 4,
 }
 
 impl Kind {
-    /// The kind with this number.
-    pub(crate) fn of(number: u8) -> Option<Kind>
-        ensures { option_map row_of result ≡ kind_of number }
+    /// The kind with this number, for a reader that is wide or narrow.
+    pub(crate) fn of(number: u8, wide: bool) -> Option<Kind>
+        ensures { option_map row_of result ≡ kind_of wide number }
     {
         match number {
             1 => Some(Kind::Advert),
             2 => Some(Kind::Request),
             3 => Some(Kind::Packet),
+            4 if wide => Some(Kind::Wide),
             _ => None,
         }
     }
@@ -47,6 +51,7 @@ impl Kind {
             Kind::Advert => ADVERT_BYTES,
             Kind::Request => REQUEST_BYTES,
             Kind::Packet => PACKET_FRAME_BYTES,
+            Kind::Wide => WIDE_BYTES,
         }
     }
 }

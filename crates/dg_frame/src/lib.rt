@@ -2,7 +2,8 @@
 //!
 //! A frame is its kind, its source, the fields of its kind in their order and the CRC of all of these, the
 //! highest byte of a number first. A message that is in its ranges has one frame, and a frame spells one
-//! message. Nothing here allocates.
+//! message. A reader is wide or narrow: a narrow one knows fewer images, and no wide adverts. Nothing here
+//! allocates.
 #![tactic(auto)]
 
 mod fields;
@@ -13,7 +14,6 @@ mod reading;
 mod writing;
 
 use arrayvec::ArrayVec;
-use dg_base::NETWORK_IMAGES;
 use dg_bits::PageBits;
 use dg_control::Order;
 use dg_object::{PACKET_SIZE, PACKETS};
@@ -23,10 +23,13 @@ pub use reading::read;
 pub use writing::write;
 
 /// The most bytes of a frame.
-pub const FRAME_BYTES: usize = 48;
+pub const FRAME_BYTES: usize = 64;
 
-/// Frames speak of the images that a network names, those from 1 to this number.
-pub const FRAME_IMAGES: usize = NETWORK_IMAGES as usize;
+/// A narrow reader knows the images from 1 to this number, and an advert speaks of these.
+pub const NARROW_IMAGES: usize = 3;
+
+/// A wide reader knows the images from 1 to this number, and a wide advert speaks of these.
+pub const WIDE_IMAGES: usize = 6;
 
 /// The bytes of a packet set: a bit for each packet of a page.
 pub const SET_BYTES: usize = 6;
@@ -53,7 +56,7 @@ pub enum Message {
     /// knows none.
     Advert {
         source: u16,
-        entries: [Entry; FRAME_IMAGES],
+        entries: [Entry; NARROW_IMAGES],
         order: Order,
     },
     /// The source asks a mote for packets of a page.
@@ -74,6 +77,12 @@ pub enum Message {
         packet: u8,
         bytes: [u8; PACKET_SIZE],
     },
+    /// An advert that only wide readers know.
+    Wide {
+        source: u16,
+        entries: [Entry; WIDE_IMAGES],
+        order: Order,
+    },
 }
 
 /// Why bytes are no frame. Each cause is told only where none before it is there.
@@ -81,7 +90,7 @@ pub enum Message {
 pub enum FrameFault {
     /// They are fewer than a kind, a source and a CRC.
     Short,
-    /// The first byte names no kind.
+    /// The first byte names no kind that the reader knows.
     Kind,
     /// They have another length than that kind's frames.
     Length,

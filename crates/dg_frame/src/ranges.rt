@@ -1,39 +1,49 @@
 //! The ranges of the fields of a message.
-ghost use Rattle.std.specs.Prelude.{◌≡◌, ◌↔◌, IsTrue};
+ghost use Rattle.std.specs.Prelude.{◌≡◌, ◌↔◌, ◌&&◌, IsTrue};
 ghost use Rattle.std.specs.List.{list_all};
+ghost use Rattle.dg_frame.specs.Sizes.{known_images};
 ghost use Rattle.dg_frame.specs.Ranges.{IsInRange};
 ghost use Rattle.dg_frame.specs.Grammar.{entry_fits, order_in_frame, page_fits, in_range};
 
-use crate::{Entry, FRAME_IMAGES, Message};
+use crate::{Entry, Message, NARROW_IMAGES, WIDE_IMAGES};
 use dg_control::Order;
 use dg_object::{MOST_PAGES, PACKETS};
 
 /// The fewest pages that an entry may tell: a descriptor, and one page of the image.
 pub(crate) const FEWEST_PAGES: u8 = 2;
 
-/// Whether each field is in its range, so that the message has a frame. Sources and destinations are any.
+/// Whether each field is in its range, so that a reader that is wide or narrow takes the message. Sources and
+/// destinations are any.
 #[tactic(auto, unfolding(crate::specs::Grammar::in_range))]
-pub fn in_range(message: &Message) -> bool
-    ensures value { result ≡ in_range message.now }
-    ensures fields { IsTrue result ↔ IsInRange message.now }
+pub fn in_range(message: &Message, wide: bool) -> bool
+    ensures value { result ≡ in_range wide message.now }
+    ensures fields { IsTrue result ↔ IsInRange wide message.now }
 {
     match message {
-        Message::Advert { entries, order, .. } => entries_fit(entries) && order_fits(order),
+        Message::Advert { entries, order, .. } => advert_fits(entries, order, NARROW_IMAGES),
         Message::Request {
             image,
             version,
             page,
             want,
             ..
-        } => page_fits(*image, *version, *page) && want.count() != 0,
+        } => page_fits(*image, *version, *page, wide) && want.count() != 0,
         Message::Packet {
             image,
             version,
             page,
             packet,
             ..
-        } => page_fits(*image, *version, *page) && usize::from(*packet) < PACKETS,
+        } => page_fits(*image, *version, *page, wide) && usize::from(*packet) < PACKETS,
+        Message::Wide { entries, order, .. } => wide && advert_fits(entries, order, WIDE_IMAGES),
     }
+}
+
+/// Whether an advert of so many images tells what a chip may keep.
+fn advert_fits(entries: &[Entry], order: &Order, images: usize) -> bool
+    ensures { result ≡ (list_all entry_fits entries.now && order_in_frame images order.now) }
+{
+    entries_fit(entries) && order_fits(order, images)
 }
 
 fn entries_fit(entries: &[Entry]) -> bool
@@ -53,20 +63,27 @@ fn entry_fits(entry: &Entry) -> bool
     }
 }
 
-/// An order is all 0, or it names an image that frames speak of, or golden.
-fn order_fits(order: &Order) -> bool
-    ensures { result ≡ order_in_frame order.now }
+/// An order is all 0, or it names one of so many images, or golden.
+fn order_fits(order: &Order, images: usize) -> bool
+    ensures { result ≡ order_in_frame images order.now }
 {
     if order.number == 0 {
         order.image == 0 && order.version == 0
     } else {
-        usize::from(order.image) <= FRAME_IMAGES && order.version >= 1
+        usize::from(order.image) <= images && order.version >= 1
     }
 }
 
-/// Whether a page of a version of an image can be asked for and sent.
-fn page_fits(image: u8, version: u32, page: u8) -> bool
-    ensures { result ≡ page_fits image version page }
+/// Whether a page of a version of an image can be asked for and sent, by motes that are wide or narrow.
+fn page_fits(image: u8, version: u32, page: u8, wide: bool) -> bool
+    ensures { result ≡ page_fits (known_images wide) image version page }
 {
-    1 <= image && usize::from(image) <= FRAME_IMAGES && version >= 1 && page < MOST_PAGES
+    1 <= image && usize::from(image) <= known_images(wide) && version >= 1 && page < MOST_PAGES
+}
+
+/// A wide reader, or a narrow one, knows the images from 1 to this number.
+fn known_images(wide: bool) -> usize
+    ensures { result ≡ known_images wide }
+{
+    if wide { WIDE_IMAGES } else { NARROW_IMAGES }
 }

@@ -1,33 +1,33 @@
 //! From bytes to messages.
 ghost use Rattle.std.specs.Prelude.{◌≡◌, ◌==◌, ◌+◌, ◌-◌, ◌≤◌, length, take, IfOk};
 ghost use Rattle.dg_base.specs.Crc.{crc_of};
-ghost use Rattle.dg_frame.specs.Sizes.{advert_frame_size, request_frame_size, packet_frame_size};
+ghost use Rattle.dg_frame.specs.Sizes.{advert_frame_size, request_frame_size, packet_frame_size, wide_frame_size, narrow_images, wide_images};
 ghost use Rattle.dg_frame.specs.Kinds.{row_of};
 ghost use Rattle.dg_frame.specs.Spelling.{frame_of};
 ghost use Rattle.dg_frame.specs.Readings.{IsReading};
-ghost use Rattle.dg_frame.specs.Grammar.{half_at, advert_in, request_in, packet_in, message_of};
+ghost use Rattle.dg_frame.specs.Grammar.{half_at, entries_in, advert_in, request_in, packet_in, wide_in, message_of};
 
 use crate::fields::{entry_at, half_at, order_at, set_at, word_at};
-use crate::kind::{ADVERT_BYTES, Kind, PACKET_FRAME_BYTES, REQUEST_BYTES};
+use crate::kind::{ADVERT_BYTES, Kind, PACKET_FRAME_BYTES, REQUEST_BYTES, WIDE_BYTES};
 use crate::ranges::in_range;
-use crate::{FrameFault, Message};
+use crate::{Entry, FrameFault, Message, NARROW_IMAGES, WIDE_IMAGES};
 use dg_base::crc16;
 use dg_object::PACKET_SIZE;
 
 /// A kind, a source and a CRC take so many bytes.
 pub(crate) const SHORTEST: usize = 5;
 
-/// The message that bytes spell, or the first cause why they spell none. Any bytes may be handed in.
-#[tactic(auto, unfolding(crate::specs::Grammar::message_of))]
-pub fn read(bytes: &[u8]) -> Result<Message, FrameFault>
-    ensures value { result ≡ message_of bytes.now }
-    ensures reading { IsReading bytes.now result }
+/// The message that bytes spell for a reader that is wide or narrow, or the first cause why they spell none. Any bytes
+/// may be handed in.
+pub fn read(bytes: &[u8], wide: bool) -> Result<Message, FrameFault>
+    ensures value { result ≡ message_of bytes.now wide }
+    ensures reading { IsReading bytes.now wide result }
     ensures spelled { IfOk result (λ m. bytes.now ≡ frame_of m) }
 {
     if bytes.len() < SHORTEST {
         return Err(FrameFault::Short);
     }
-    let Some(kind) = Kind::of(bytes[0]) else {
+    let Some(kind) = Kind::of(bytes[0], wide) else {
         return Err(FrameFault::Kind);
     };
     if bytes.len() != kind.size() {
@@ -37,7 +37,7 @@ pub fn read(bytes: &[u8]) -> Result<Message, FrameFault>
         return Err(FrameFault::Check);
     }
     let message = fields(kind, bytes);
-    if in_range(&message) {
+    if in_range(&message, wide) {
         Ok(message)
     } else {
         Err(FrameFault::Range)
@@ -53,6 +53,7 @@ fn is_checked(kind: Kind, bytes: &[u8]) -> bool
         Kind::Advert => has_crc_at(bytes, ADVERT_BYTES - 2),
         Kind::Request => has_crc_at(bytes, REQUEST_BYTES - 2),
         Kind::Packet => has_crc_at(bytes, PACKET_FRAME_BYTES - 2),
+        Kind::Wide => has_crc_at(bytes, WIDE_BYTES - 2),
     }
 }
 
@@ -75,6 +76,7 @@ fn fields(kind: Kind, bytes: &[u8]) -> Message
         Kind::Advert => advert(bytes),
         Kind::Request => request(bytes),
         Kind::Packet => packet(bytes),
+        Kind::Wide => wide_advert(bytes),
     }
 }
 
@@ -84,9 +86,41 @@ fn advert(bytes: &[u8]) -> Message
 {
     Message::Advert {
         source: half_at(bytes, 1),
-        entries: [entry_at(bytes, 3), entry_at(bytes, 11), entry_at(bytes, 19)],
+        entries: narrow_entries(bytes),
         order: order_at(bytes, 27),
     }
+}
+
+fn wide_advert(bytes: &[u8]) -> Message
+    requires { length bytes.now ≡ wide_frame_size }
+    ensures { result ≡ wide_in bytes.now }
+{
+    Message::Wide {
+        source: half_at(bytes, 1),
+        entries: wide_entries(bytes),
+        order: order_at(bytes, 51),
+    }
+}
+
+fn narrow_entries(bytes: &[u8]) -> [Entry; NARROW_IMAGES]
+    requires { length bytes.now ≡ advert_frame_size }
+    ensures { result ≡ entries_in narrow_images bytes.now }
+{
+    [entry_at(bytes, 3), entry_at(bytes, 11), entry_at(bytes, 19)]
+}
+
+fn wide_entries(bytes: &[u8]) -> [Entry; WIDE_IMAGES]
+    requires { length bytes.now ≡ wide_frame_size }
+    ensures { result ≡ entries_in wide_images bytes.now }
+{
+    [
+        entry_at(bytes, 3),
+        entry_at(bytes, 11),
+        entry_at(bytes, 19),
+        entry_at(bytes, 27),
+        entry_at(bytes, 35),
+        entry_at(bytes, 43),
+    ]
 }
 
 fn request(bytes: &[u8]) -> Message

@@ -25,8 +25,16 @@ const ADVERT: [u8; 38] = [
     5, 2, 0, 0, 0, 7, 0x57, 0x2B,
 ];
 
-/// A frame with one byte changed and the CRC made anew: whether it is read.
-fn with_change(frame: &[u8], at: usize, byte: u8) -> Result<(), FrameFault> {
+/// A wide advert of 2, which has 1 of 3 pages of image 2, version 7, and the 65 pages of image 6 in the last version
+/// that there can be, and knows an order of image 6.
+const WIDE: [u8; 62] = [
+    4, 0, 2, 0, 0, 0, 0, 0, 0, 0, 0, 0, 0, 0, 7, 3, 1, 0x12, 0x34, 0, 0, 0, 0, 0, 0, 0, 0, 0, 0, 0,
+    0, 0, 0, 0, 0, 0, 0, 0, 0, 0, 0, 0, 0, 0xFF, 0xFF, 0xFF, 0xFF, 65, 65, 0xBE, 0xEF, 0, 0, 0, 5,
+    6, 0, 0, 0, 7, 0x0B, 0xA0,
+];
+
+/// A frame with one byte changed and the CRC made anew: whether a reader that is wide or narrow reads it.
+fn with_change(frame: &[u8], at: usize, byte: u8, wide: bool) -> Result<(), FrameFault> {
     let mut changed = Frame::new();
     for (place, old) in frame.iter().enumerate() {
         if place + 2 < frame.len() {
@@ -35,7 +43,7 @@ fn with_change(frame: &[u8], at: usize, byte: u8) -> Result<(), FrameFault> {
     }
     let crc = crc16(changed.as_slice());
     let _ = changed.try_extend_from_slice(&crc.to_be_bytes());
-    read(changed.as_slice())?;
+    read(changed.as_slice(), wide)?;
     Ok(())
 }
 
@@ -53,7 +61,8 @@ fn a_request_is_spelled(rt: HostRuntime) {
         want,
     };
     assert!(rt; write(&request).as_slice() == REQUEST.as_slice());
-    assert!(rt; read(&REQUEST) == Ok(request));
+    assert!(rt; read(&REQUEST, true) == Ok(request));
+    assert!(rt; read(&REQUEST, false) == read(&REQUEST, true));
 }
 
 #[test]
@@ -82,24 +91,76 @@ fn an_advert_is_read(rt: HostRuntime) {
             version: 7,
         },
     };
-    assert!(rt; read(&ADVERT) == Ok(advert));
+    assert!(rt; read(&ADVERT, true) == Ok(advert));
+    assert!(rt; read(&ADVERT, false) == read(&ADVERT, true));
+}
+
+#[test]
+fn a_wide_advert_is_read_by_wide_readers(rt: HostRuntime) {
+    let unused = Entry {
+        version: 0,
+        pages: 0,
+        have: 0,
+        crc: 0,
+    };
+    let advert = Message::Wide {
+        source: 2,
+        entries: [
+            unused,
+            Entry {
+                version: 7,
+                pages: 3,
+                have: 1,
+                crc: 0x1234,
+            },
+            unused,
+            unused,
+            unused,
+            Entry {
+                version: 0xFFFF_FFFF,
+                pages: 65,
+                have: 65,
+                crc: 0xBEEF,
+            },
+        ],
+        order: Order {
+            number: 5,
+            image: 6,
+            version: 7,
+        },
+    };
+    assert!(rt; read(&WIDE, true) == Ok(advert));
+    assert_eq!(rt; read(&WIDE, false).err(), Some(FrameFault::Kind));
+    assert_eq!(rt; read(&WIDE[..61], true).err(), Some(FrameFault::Length));
+    assert_eq!(rt; read(&WIDE[..5], true).err(), Some(FrameFault::Length));
+    assert_eq!(rt; read(&WIDE[..5], false).err(), Some(FrameFault::Kind));
+    assert_eq!(rt; read(&WIDE[..4], false).err(), Some(FrameFault::Short));
+    let mut turned = WIDE;
+    turned[0] = 5;
+    assert_eq!(rt; read(&turned, true).err(), Some(FrameFault::Kind));
+    turned[0] = 4;
+    turned[43] = 0;
+    assert_eq!(rt; read(&turned, true).err(), Some(FrameFault::Check));
 }
 
 #[test]
 fn lengths_are_looked_at(rt: HostRuntime) -> Result<(), Fail> {
-    assert_eq!(rt; read(&PACKET).err(), None);
-    assert_eq!(rt; read(&PACKET[..4]).err(), Some(FrameFault::Short));
-    assert_eq!(rt; read(&PACKET[..5]).err(), Some(FrameFault::Length));
-    assert_eq!(rt; read(&PACKET[..34]).err(), Some(FrameFault::Length));
-    assert_eq!(rt; read(&PACKET[1..6]).err(), Some(FrameFault::Kind));
+    assert_eq!(rt; read(&PACKET, false).err(), None);
+    assert_eq!(rt; read(&PACKET[..4], true).err(), Some(FrameFault::Short));
+    assert_eq!(rt; read(&PACKET[..5], true).err(), Some(FrameFault::Length));
+    assert_eq!(rt; read(&PACKET[..34], true).err(), Some(FrameFault::Length));
+    assert_eq!(rt; read(&PACKET[1..6], true).err(), Some(FrameFault::Kind));
     let mut longer = Frame::new();
     longer.try_extend_from_slice(&PACKET)?;
     longer.try_push(0)?;
     assert_eq!(rt; longer.len(), 36);
-    assert_eq!(rt; read(longer.as_slice()).err(), Some(FrameFault::Length));
+    assert_eq!(rt;
+        read(longer.as_slice(), false).err(),
+        Some(FrameFault::Length)
+    );
     let mut turned = PACKET;
     turned[12] ^= 1;
-    assert_eq!(rt; read(&turned).err(), Some(FrameFault::Check));
+    assert_eq!(rt; read(&turned, true).err(), Some(FrameFault::Check));
     Ok(())
 }
 
@@ -108,39 +169,53 @@ fn ranges_are_looked_at(rt: HostRuntime) {
     let request = REQUEST.as_slice();
     let packet = PACKET.as_slice();
     let advert = ADVERT.as_slice();
+    let wide_advert = WIDE.as_slice();
     let fitting = [
-        (request, 16, 0),
-        (packet, 9, 0),
-        (advert, 16, 3),
-        (advert, 32, 7),
+        (request, 16, 0, false),
+        (request, 5, 6, true),
+        (packet, 9, 0, false),
+        (packet, 3, 6, true),
+        (advert, 16, 3, true),
+        (advert, 32, 7, false),
+        (wide_advert, 16, 3, true),
+        (wide_advert, 55, 0, true),
     ];
-    for (frame, at, byte) in fitting {
-        assert_eq!(rt; with_change(frame, at, byte), Ok(()), "{at} {byte}");
+    for (frame, at, byte, wide) in fitting {
+        assert_eq!(rt; with_change(frame, at, byte, wide), Ok(()), "{at} {byte}");
     }
     let unfit = [
-        (request, 5, 0),
-        (request, 5, 4),
-        (request, 9, 0),
-        (request, 10, 65),
-        (packet, 3, 0),
-        (packet, 3, 4),
-        (packet, 7, 0),
-        (packet, 8, 65),
-        (packet, 9, 48),
-        (advert, 3, 1),
-        (advert, 8, 1),
-        (advert, 9, 1),
-        (advert, 10, 1),
-        (advert, 15, 1),
-        (advert, 15, 66),
-        (advert, 16, 4),
-        (advert, 30, 0),
-        (advert, 31, 4),
-        (advert, 35, 0),
+        (request, 5, 0, true),
+        (request, 5, 4, false),
+        (request, 5, 7, true),
+        (request, 9, 0, true),
+        (request, 10, 65, false),
+        (packet, 3, 0, true),
+        (packet, 3, 4, false),
+        (packet, 3, 7, true),
+        (packet, 7, 0, false),
+        (packet, 8, 65, true),
+        (packet, 9, 48, false),
+        (advert, 3, 1, true),
+        (advert, 8, 1, false),
+        (advert, 9, 1, true),
+        (advert, 10, 1, false),
+        (advert, 15, 1, true),
+        (advert, 15, 66, false),
+        (advert, 16, 4, true),
+        (advert, 30, 0, false),
+        (advert, 31, 4, true),
+        (advert, 31, 4, false),
+        (advert, 35, 0, true),
+        (wide_advert, 3, 1, true),
+        (wide_advert, 47, 66, true),
+        (wide_advert, 48, 66, true),
+        (wide_advert, 54, 0, true),
+        (wide_advert, 55, 7, true),
+        (wide_advert, 59, 0, true),
     ];
-    for (frame, at, byte) in unfit {
+    for (frame, at, byte, wide) in unfit {
         assert_eq!(rt;
-            with_change(frame, at, byte),
+            with_change(frame, at, byte, wide),
             Err(FrameFault::Range),
             "{at} {byte}"
         );
@@ -151,6 +226,6 @@ fn ranges_are_looked_at(rt: HostRuntime) {
 fn an_empty_packet_set_is_refused(rt: HostRuntime) {
     let mut last = REQUEST;
     last[11] = 0;
-    assert_eq!(rt; with_change(&last, 16, 1), Ok(()));
-    assert_eq!(rt; with_change(&last, 16, 0), Err(FrameFault::Range));
+    assert_eq!(rt; with_change(&last, 16, 1, true), Ok(()));
+    assert_eq!(rt; with_change(&last, 16, 0, true), Err(FrameFault::Range));
 }

@@ -1,5 +1,5 @@
 //! From messages to frames.
-ghost use Rattle.std.specs.Prelude.{◌≡◌, ◌≤◌, true, Ok, ◌+◌, ◌∷◌, ◌++◌, [], length};
+ghost use Rattle.std.specs.Prelude.{◌≡◌, ◌≤◌, Bool, true, Ok, ◌+◌, ◌∷◌, ◌++◌, [], length};
 ghost use Rattle.std.specs.Int.{to_be_bytes, w16};
 ghost use Rattle.arrayvec.specs.ArrayVec.{array_vec_len};
 ghost use Rattle.dg_frame.specs.Sizes.{frame_bytes, advert_frame_size, request_frame_size, packet_frame_size};
@@ -11,18 +11,20 @@ ghost use Rattle.dg_frame.specs.declared.Message.TheVariants as message;
 
 use crate::fields::{put, put_entries, put_half, put_order, put_set, put_word};
 use crate::kind::Kind;
-use crate::{Entry, FRAME_IMAGES, Frame, Message};
+use crate::{Entry, Frame, Message, NARROW_IMAGES, WIDE_IMAGES};
 use dg_base::crc16;
 use dg_bits::PageBits;
 use dg_control::Order;
 use dg_object::{PACKET_SIZE, PACKETS};
 
-/// The frame of a message whose fields are in their ranges.
+/// The frame of a message whose fields are in the ranges of a wide reader. A narrow reader reads it too, where they are in
+/// its ranges.
 #[tactic(auto, unfolding(crate::specs::Spelling::frame_of))]
 pub fn write(message: &Message) -> Frame
-    requires { in_range message.now ≡ true }
+    requires { in_range true message.now ≡ true }
     ensures spelled { result.items ≡ frame_of message.now }
-    ensures reads_back { message_of result.items ≡ Ok message.now }
+    ensures reads_back { message_of result.items true ≡ Ok message.now }
+    ensures read_by { (wide : Bool) → in_range wide message.now ≡ true → message_of result.items wide ≡ Ok message.now }
 {
     frame(message)
 }
@@ -54,15 +56,32 @@ fn frame(message: &Message) -> Frame
             packet,
             bytes,
         } => packet_frame(*source, *image, *version, *page, *packet, bytes),
+        Message::Wide {
+            source,
+            entries,
+            order,
+        } => wide_advert(*source, entries, order),
     }
 }
 
 #[tactic(auto, unfolding(crate::specs::Spelling::frame_of))]
-fn advert(source: u16, entries: &[Entry; FRAME_IMAGES], order: &Order) -> Frame
+fn advert(source: u16, entries: &[Entry; NARROW_IMAGES], order: &Order) -> Frame
     ensures items { result.items ≡ frame_of (message.Advert source entries.now order.now) }
     ensures fits { FitsTypes (message.Advert source entries.now order.now) }
 {
     let mut frame = begun(Kind::Advert, source);
+    put_entries(&mut frame, entries);
+    put_order(&mut frame, order);
+    end(&mut frame);
+    frame
+}
+
+#[tactic(auto, unfolding(crate::specs::Spelling::frame_of))]
+fn wide_advert(source: u16, entries: &[Entry; WIDE_IMAGES], order: &Order) -> Frame
+    ensures items { result.items ≡ frame_of (message.Wide source entries.now order.now) }
+    ensures fits { FitsTypes (message.Wide source entries.now order.now) }
+{
+    let mut frame = begun(Kind::Wide, source);
     put_entries(&mut frame, entries);
     put_order(&mut frame, order);
     end(&mut frame);

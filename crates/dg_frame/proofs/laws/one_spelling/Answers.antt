@@ -6,10 +6,10 @@ use Rattle.dg_frame.proofs.SpellingLemmas.{spelled, fits, written}
 use Rattle.dg_frame.proofs.laws.one_spelling.Goals as goal
 
 pub returns-clause-written : goal.returns-clause-written
-returns-clause-written c m f r = is_read (frame_of m) (Ok m) (written m f r)
+returns-clause-written c wide m f r = is_read (frame_of m) wide (Ok m) (written wide m f r)
 
 pub returns-clause-read : goal.returns-clause-read
-returns-clause-read c b m h e = spelled b m h (subst (IsReading b) e (reads b))
+returns-clause-read c b wide m h e = spelled b wide m h (subst (IsReading b wide) e (reads b wide))
 
 pub returns-clause-fits : goal.returns-clause-fits
-returns-clause-fits c b m h e = fits b m h (subst (IsReading b) e (reads b))
+returns-clause-fits c b wide m h e = fits b wide m h (subst (IsReading b wide) e (reads b wide))

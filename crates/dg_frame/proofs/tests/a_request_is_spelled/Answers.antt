@@ -1,4 +1,4 @@
-use Rattle.std.proofs.Common.{◌≡◌, ap, ◌∙◌, arith}
+use Rattle.std.proofs.Common.{◌≡◌, true, ap, ◌∙◌, arith}
 use Rattle.std.proofs.lemmas.Bool.{both_ways}
 use Rattle.std.specs.FinSet as set
 use Rattle.dg_bits.specs.Sets.{Numbers}
@@ -12,4 +12,4 @@ not_empty s t e empty = both_ways (set.contains t 47) (ap (λ x. set.contains x 
 
 pub write-requires : goal.write-requires
 write-requires g c =
-    (ranges _).1 (record { first = omega arith; last = omega arith; of_version = omega arith; in_object = omega arith }, not_empty _ _ c.set-2.ensures)
+    (ranges true _).1 (record { first = omega arith; last = omega arith; of_version = omega arith; in_object = omega arith }, not_empty _ _ c.set-2.ensures)
