@@ -67,9 +67,9 @@ pub fn run<S: Source, K: Sink, N: Nor>(
     ensures headline { let before : Around = record { left = S.left input.old; reads = S.faults input.old; written = K.written out.old; writes = K.faults out.old; boards = map N.device boards.old.items } in
         let after : Around = record { left = S.left input.new; reads = S.faults input.new; written = K.written out.new; writes = K.faults out.new; boards = map N.device boards.new.items } in
         (x : ReplayDone result before after) → Headline x.replayed.came }
-    // The arrays of bytes that a mote and its calls name have 244 bytes, and those that are named together in one call no
+    // The arrays of bytes that a mote and its calls name have 214 bytes, and those that are named together in one call no
     // more than 256. A mote's value has at most 400 bytes of memory, and its outbox 64.
-    ensures buffers { (buffered_bytes ≡ 244) × BuffersFit × ValuesAreSmall }
+    ensures buffers { (buffered_bytes ≡ 214) × BuffersFit × ValuesAreSmall }
     // A command that reads no input leaves it untouched.
     ensures untouched { (ReadsInput (asked_of (map string_bytes words.now.items)) → ⊥) → input.new ≡ input.old }
     // A script in its grammar and limits, with boards for its motes, is replayed to its end, unless memory runs out or the outside fails.

@@ -9,7 +9,7 @@ use Rattle.dg_slot.specs.Kept.{Held}
 use Rattle.dg_volume.specs.Store.{held, held_whole}
 use Rattle.dg_volume.specs.Table.{row_at}
 use Rattle.dg_volume.specs.Agreement.{KeepsRow}
-use Rattle.dg_frame.specs.Sizes.{frame_images}
+use Rattle.dg_frame.specs.Sizes.{narrow_images}
 use Rattle.dg_rules.specs.World.{World, store_at, linked}
 use Rattle.dg_rules.specs.Premises.{WorldAgrees}
 use Rattle.dg_rounds.specs.Rounds.{round, times, rounds_of}
@@ -121,7 +121,7 @@ module _ (free : FreeLaw) (law : RoundLaw) (links : List (ℕ × ℕ)) where
     grows : Grows w u
     done : DoneTo i u
 
-  step_image : (i n : ℕ) (o : Option Row) (w0 w v : World) (qs : List (ℕ × ℕ)) (es : List Event) → 1 ≤ i → i ≤ frame_images → newest w0.table i ≡ o → IsEnoughFor w0 o n → Grows w0 w → Waits w → DoneTo i w
+  step_image : (i n : ℕ) (o : Option Row) (w0 w v : World) (qs : List (ℕ × ℕ)) (es : List Event) → 1 ≤ i → i ≤ narrow_images → newest w0.table i ≡ o → IsEnoughFor w0 o n → Grows w0 w → Waits w → DoneTo i w
       → HasRounds (times n (rounds_of links) ++ qs) es → Follows w es v → ((m : ℕ) → m < length v.sites → HasRoomAt v m) → Stepped (i + 1) qs w v
   unfolding times within
   step_image i n None w0 w v qs es from to is enough g r d h f room =
@@ -175,7 +175,7 @@ module _ (free : FreeLaw) (law : RoundLaw) (links : List (ℕ × ℕ)) where
 
   -- ---- all of them
 
-  step_images : (k i n : ℕ) (w0 w v : World) (qs : List (ℕ × ℕ)) (es : List Event) → 1 ≤ i → i + k ≤ frame_images + 1 → IsEnoughOver w0 (range_with_len i k) n → Grows w0 w → Waits w → DoneTo i w
+  step_images : (k i n : ℕ) (w0 w v : World) (qs : List (ℕ × ℕ)) (es : List Event) → 1 ≤ i → i + k ≤ narrow_images + 1 → IsEnoughOver w0 (range_with_len i k) n → Grows w0 w → Waits w → DoneTo i w
       → HasRounds (times n (rounds_of links) ++ qs) es → Follows w es v → ((m : ℕ) → m < length v.sites → HasRoomAt v m) → Stepped (i + k) qs w0 v
   unfolding IsEnoughOver times
   step_images zero i n w0 w v qs es from to enough g r d h f room =
@@ -217,9 +217,9 @@ completes free law w v n k es rests enough many i row m from to is there =
     let sum : n ≡ k + left = omega (arith, many) in
     let split : times n rs ≡ times k rs ++ times left rs = ap (λ c. times c rs) sum ∙ times_add k left rs in
     let none : DoneTo 1 w = λ j a q low less e h. absurd (omega (arith, low, less)) in
-    let all = step_images free law w.links frame_images 1 k w w v (times left rs) es (omega arith) (omega arith) enough (grows_none w rests.good) r none (subst (λ l. HasRounds l es) split rests.rest) rests.run room in
+    let all = step_images free law w.links narrow_images 1 k w w v (times left rs) es (omega arith) (omega arith) enough (grows_none w rests.good) r none (subst (λ l. HasRounds l es) split rests.rest) rests.run room in
     let last = free_grows free all.rest all.u v all.grows.good (rounds_free (times left rs) all.rest all.rounds) all.run in
-    let done_v : DoneTo (1 + frame_images) v = done_on (1 + frame_images) all.u v last all.done in
+    let done_v : DoneTo (1 + narrow_images) v = done_on (1 + narrow_images) all.u v last all.done in
     let g = grows_then w all.u v all.grows last in
     let is_v : newest v.table i ≡ Some row = ap (λ t. newest t i) g.table ∙ is in
     let there_v : m < length v.sites = subst (λ c. m < c) (sym g.count) there in

@@ -5,7 +5,7 @@ use Rattle.std.specs.List.{Contains, list_any, range_with_len}
 use Rattle.std.proofs.lemmas.Bool.{cases_Bool, cases_lt, eq-eqb, eqb-true, le-leb, leb-true, lt-ltb, ltb-true, and_parts, and_from, or_cases, or_left, or_right}
 use Rattle.dg_object.specs.Object.{Row}
 use Rattle.dg_volume.specs.Sizes.{images}
-use Rattle.dg_frame.specs.Sizes.{frame_images}
+use Rattle.dg_frame.specs.Sizes.{narrow_images}
 use Rattle.dg_mote.specs.Sizes.{shared}
 use Rattle.dg_rounds.specs.Ways.{IsLinked, Way, here, more}
 use Rattle.dg_rules.specs.World.{World, store_at}
@@ -184,7 +184,7 @@ enough_over w reached (suc k) i from to =
     (x.0 + y.0, (x.0, y.0, x.1, y.1, refl))
 
 pub enough_law : EnoughLaw
-enough_law w reached = enough_over w reached frame_images 1 (omega arith) (omega arith)
+enough_law w reached = enough_over w reached narrow_images 1 (omega arith) (omega arith)
 
 -- ---- and only one
 

@@ -9,7 +9,7 @@ use Rattle.dg_slot.specs.Kept.{Held}
 use Rattle.dg_volume.specs.Store.{Store, held}
 use Rattle.dg_volume.specs.Table.{row_at}
 use Rattle.dg_volume.specs.Agreement.{Agrees, KeepsRow}
-use Rattle.dg_frame.specs.Sizes.{frame_images}
+use Rattle.dg_frame.specs.Sizes.{narrow_images}
 use Rattle.dg_rules.specs.World.{World, store_at, linked}
 use Rattle.dg_rules.specs.Premises.{WorldAgrees}
 use Rattle.dg_rounds.specs.Rounds.{round}
@@ -69,7 +69,7 @@ none_ahead (Some h) (Some g) v n some b l = elim (cases_eq g.version v) [
 
 pub record Below (row : Row) (w : World) : Type 0 where
   pub from : 1 ≤ row.image
-  pub to : row.image ≤ frame_images
+  pub to : row.image ≤ narrow_images
   pub newest_is : newest w.table row.image ≡ Some row
   pub whole : (j m : ℕ) (r : Row) → 1 ≤ j → j < row.image → newest w.table j ≡ Some r → m < length w.sites → page_count r ≤ count (held (store_at w m) j) r.version
 
@@ -113,9 +113,9 @@ least_from s t (suc k) j i from to a none = elim (cases_lt j i) [
       cond-true _ _ _ (ap (λ x. is_ahead (held s x) (held t x)) e ∙ a) ∙ ap (λ x. Some x) e
 ]
 
-is_least : (s t : Store) (i : ℕ) → 1 ≤ i → i ≤ frame_images → is_ahead (held s i) (held t i) ≡ true → ((j : ℕ) → 1 ≤ j → j < i → is_ahead (held s j) (held t j) ≡ false) → least_ahead s t ≡ Some i
+is_least : (s t : Store) (i : ℕ) → 1 ≤ i → i ≤ narrow_images → is_ahead (held s i) (held t i) ≡ true → ((j : ℕ) → 1 ≤ j → j < i → is_ahead (held s j) (held t j) ≡ false) → least_ahead s t ≡ Some i
 unfolding least_ahead
-is_least s t i from to a none = least_from s t frame_images 1 i from (omega (arith, to)) a none
+is_least s t i from to a none = least_from s t narrow_images 1 i from (omega (arith, to)) a none
 
 raised_count : (o : Option Held) (ahead g : Held) (v : ℕ) → ahead.version ≡ v → RaisedFrom o ahead g → count o v + 1 ≤ count (Some g) v
 raised_count None ahead g v e r = omega (arith, r.1, ap (λ c. cond c (length g.complete) 0) (eq-eqb g.version v (r.0 ∙ e)))

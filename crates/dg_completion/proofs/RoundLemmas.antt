@@ -19,7 +19,7 @@ use Rattle.dg_frame.specs.Spelling.{frame_of}
 use Rattle.dg_frame.specs.Grammar.{message_of}
 use Rattle.dg_mote.specs.Model.{maintains}
 use Rattle.dg_mote.specs.Summary.{advert_of, entries_of, ahead_in, entry_by, ahead_of, entry_for, no_entry}
-use Rattle.dg_frame.specs.Sizes.{frame_images}
+use Rattle.dg_frame.specs.Sizes.{narrow_images}
 use Rattle.dg_mote.specs.Hears.{heard_of, by_message}
 use Rattle.dg_mote.specs.Effects.{silent, frame_effect}
 use Rattle.dg_mote.specs.Agreement.{ReceivesRow, ModeAgrees}
@@ -44,7 +44,7 @@ use Rattle.dg_completion.proofs.WalkLemmas.{Spelled, WalkLaws, said_at, well_at,
 -- ---- a frame is heard
 
 pub hear_walks : (w u : World) (a b : ℕ) (x : Spot) (message : Message) (reports : List Report) → At w b x → linked w a b ≡ true → last_frame w a ≡ frame_told a (Some message)
-    → message_of (frame_of message) ≡ Ok message → WorldStep w (record { event = passed a b; cut = None }) u reports → Walks b w u (hears x w.moment message) None 0
+    → message_of (frame_of message) false ≡ Ok message → WorldStep w (record { event = passed a b; cut = None }) u reports → Walks b w u (hears x w.moment message) None 0
 unfolding WorldStep does frame_told frame_effect heard_of hears
 hear_walks w u a b x message reports at link sent spelled walk =
     let step : Step = record { event = passed a b; cut = None } in
@@ -167,19 +167,19 @@ find_same f g (suc k) j same =
     let others = find_same f g k (j + 1) (λ i low less. same i (omega (arith, low)) (omega (arith, less))) in
     λ l. cond (here l) (Some j) (others l)
 
-own_entry : (s : Store) (i : ℕ) → 1 ≤ i → i < 1 + frame_images → entry_for (entries_of s) i ≡ entry_by (held s i)
-own_entry s i from to = get_or-map-range_with_len (λ j. entry_by (held s j)) 1 frame_images (i - 1) i no_entry (omega (arith, from, to)) (omega (arith, from))
+own_entry : (s : Store) (i : ℕ) → 1 ≤ i → i < 1 + narrow_images → entry_for (entries_of s) i ≡ entry_by (held s i)
+own_entry s i from to = get_or-map-range_with_len (λ j. entry_by (held s j)) 1 narrow_images (i - 1) i no_entry (omega (arith, from, to)) (omega (arith, from))
 
 same_least : (table : List Row) (s t : Store) → Agrees table s → Agrees table t → least_ahead s t ≡ ahead_in (entries_of s) t
 unfolding least_ahead ahead_in
 same_least table s t a b =
-    find_same (λ i. is_ahead (held s i) (held t i)) (λ i. ahead_of (entry_for (entries_of s) i) (held t i)) frame_images 1
+    find_same (λ i. is_ahead (held s i) (held t i)) (λ i. ahead_of (entry_for (entries_of s) i) (held t i)) narrow_images 1
     (λ i from to. same_ahead table i (held s i) (held t i) (a.kept i) (b.kept i) ∙ ap (λ e. ahead_of e (held t i)) (sym (own_entry s i from to)))
 
 least_same : (s t s2 t2 : Store) → ((i : ℕ) → held s2 i ≡ held s i) → ((i : ℕ) → held t2 i ≡ held t i) → least_ahead s2 t2 ≡ least_ahead s t
 unfolding least_ahead
 least_same s t s2 t2 a b =
-    find_same (λ i. is_ahead (held s2 i) (held t2 i)) (λ i. is_ahead (held s i) (held t i)) frame_images 1 (λ i from to k. is_ahead (a i k) (b i k))
+    find_same (λ i. is_ahead (held s2 i) (held t2 i)) (λ i. is_ahead (held s i) (held t i)) narrow_images 1 (λ i from to k. is_ahead (a i k) (b i k))
 
 raised : (o : Option Held) (ahead kept : Held) (page : List ℕ) → kept.version ≡ ahead.version → KeepsNext o ahead kept → RaisedFrom o ahead (with_page kept page)
 raised None ahead kept page v n = (v, length-append kept.complete (page ∷ []) ∙ ap (λ (c : List (List ℕ)). length c + 1) n.complete)

@@ -18,6 +18,7 @@ use Rattle.dg_volume.specs.Start.{Runs, Boot, boot, boot_counted, by_gesture, or
 use Rattle.dg_volume.specs.Ends.{take_commits, taken, blank_commits, golden_started, golden_runs, blanked}
 use Rattle.dg_volume.specs.declared.volume.Kind.TheVariants as kind
 use Rattle.dg_frame.specs.Grammar.{message_of}
+use Rattle.dg_frame.proofs.ReadingLemmas.{no_wide}
 use Rattle.dg_frame.specs.declared.Entry.{Entry}
 use Rattle.dg_frame.specs.declared.FrameFault.{FrameFault}
 use Rattle.dg_frame.specs.declared.Message.{Message}
@@ -156,7 +157,7 @@ module _ (laws : TakeLaws) (entries : List Entry) where
 -- ---- a frame
 
 -- whatever message it is
-pub heard_spends : TakeLaws → ChangeLaws → (m : MoteState) (s : Store) (now word : ℕ) (bytes : List ℕ) (heard : Message) → message_of bytes ≡ Ok heard
+pub heard_spends : TakeLaws → ChangeLaws → (m : MoteState) (s : Store) (now word : ℕ) (bytes : List ℕ) (heard : Message) → message_of bytes false ≡ Ok heard
     → Spends 3 s (last (heard_of m s now word bytes).trail)
 unfolding heard_of
 heard_spends takes laws m s now word bytes (message.Advert source entries order) is =
@@ -164,6 +165,7 @@ heard_spends takes laws m s now word bytes (message.Advert source entries order)
 heard_spends takes laws m s now word bytes (message.Request source to image version page want) is =
     let e = ap last (laws.request m s now word bytes source to image version page want is) ∙ last-resting s 0 in
     omega (arith, ap (λ (x : Store). x.room) e)
+heard_spends takes laws m s now word bytes (message.Wide source entries order) is = absurd (no_wide bytes source entries order is)
 heard_spends takes laws m s now word bytes (message.Packet source image version page q content) is =
     by_case (Through-last (λ t. (t ≡ s) ⊎ Completes m.mode image version page q s t) (heard_of m s now word bytes).trail (laws.packet m s now word bytes source image version page q content is))
   where

@@ -22,6 +22,7 @@ use Rattle.dg_volume.specs.Ends.{BootEnds, Boots, OnTheWay, ordered_runs, order_
 use Rattle.dg_volume.specs.declared.volume.Kind.{Kind}
 use Rattle.dg_volume.specs.declared.volume.Kind.TheVariants as kind
 use Rattle.dg_frame.specs.Grammar.{message_of}
+use Rattle.dg_frame.proofs.ReadingLemmas.{no_wide}
 use Rattle.dg_frame.specs.declared.Entry.{Entry}
 use Rattle.dg_frame.specs.declared.Message.{Message}
 use Rattle.dg_frame.specs.declared.Message.TheVariants as message
@@ -181,20 +182,21 @@ stays_paged table s image page =
 -- what is promised below of frames
 pub record ChangeLaws : Type 0 where
   pub ticked : (m : MoteState) (s : Store) (now word : ℕ) → Through (MayClear s) (tick_of m s now word).trail
-  pub advert : (m : MoteState) (s : Store) (now word : ℕ) (bytes : List ℕ) (source : ℕ) (entries : List Entry) (order : Order) → message_of bytes ≡ Ok (message.Advert source entries order)
+  pub advert : (m : MoteState) (s : Store) (now word : ℕ) (bytes : List ℕ) (source : ℕ) (entries : List Entry) (order : Order) → message_of bytes false ≡ Ok (message.Advert source entries order)
       → Through (HeedsAdvert entries order true s) (heard_of m s now word bytes).trail × HeedsAdvert entries order false s (last (heard_of m s now word bytes).trail)
-  pub request : (m : MoteState) (s : Store) (now word : ℕ) (bytes : List ℕ) (source to image version page : ℕ) (want : Numbers) → message_of bytes ≡ Ok (message.Request source to image version page want)
+  pub request : (m : MoteState) (s : Store) (now word : ℕ) (bytes : List ℕ) (source to image version page : ℕ) (want : Numbers) → message_of bytes false ≡ Ok (message.Request source to image version page want)
       → (heard_of m s now word bytes).trail ≡ resting s 0
-  pub packet : (m : MoteState) (s : Store) (now word : ℕ) (bytes : List ℕ) (source image version page q : ℕ) (content : List ℕ) → message_of bytes ≡ Ok (message.Packet source image version page q content)
+  pub packet : (m : MoteState) (s : Store) (now word : ℕ) (bytes : List ℕ) (source image version page q : ℕ) (content : List ℕ) → message_of bytes false ≡ Ok (message.Packet source image version page q content)
       → Through (λ t. (t ≡ s) ⊎ Completes m.mode image version page q s t) (heard_of m s now word bytes).trail
 
 -- an honest message, whatever it is
-pub stays_heard : ChangeLaws → (table : List Row) (m : MoteState) (s : Store) (now word : ℕ) (bytes : List ℕ) (heard : Message) → message_of bytes ≡ Ok heard → HonestMessage table (Ok heard)
+pub stays_heard : ChangeLaws → (table : List Row) (m : MoteState) (s : Store) (now word : ℕ) (bytes : List ℕ) (heard : Message) → message_of bytes false ≡ Ok heard → HonestMessage table (Ok heard)
     → Stays table s (last (heard_of m s now word bytes).trail)
 stays_heard laws table m s now word bytes (message.Advert source entries order) is honest =
     stays_heed table entries order s (last (heard_of m s now word bytes).trail) honest (laws.advert m s now word bytes source entries order is).1
 stays_heard laws table m s now word bytes (message.Request source to image version page want) is honest =
     subst (Stays table s) (sym (ap last (laws.request m s now word bytes source to image version page want is) ∙ last-resting s 0)) (stays_same table s)
+stays_heard laws table m s now word bytes (message.Wide source entries order) is honest = absurd (no_wide bytes source entries order is)
 stays_heard laws table m s now word bytes (message.Packet source image version page q content) is honest =
     by_case (Through-last (λ t. (t ≡ s) ⊎ Completes m.mode image version page q s t) (heard_of m s now word bytes).trail (laws.packet m s now word bytes source image version page q content is))
   where

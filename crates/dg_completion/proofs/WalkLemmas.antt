@@ -1,5 +1,5 @@
 -- Events of a round over a world: what they do at their mote, and that all else stays.
-use Rattle.std.proofs.Common.{◌≡◌, ◌≢◌, ℕ, zero, suc, ◌+◌, ◌*◌, ◌<◌, ◌≤◌, cond, eqb, List, [], ◌∷◌, ◌++◌, length, replicate, Option, Some, None, option_map, IfSome, Ok, refl, sym, ap, subst, ◌∙◌, arith}
+use Rattle.std.proofs.Common.{◌≡◌, ◌≢◌, ℕ, zero, suc, ◌+◌, ◌*◌, ◌<◌, ◌≤◌, cond, eqb, List, [], ◌∷◌, ◌++◌, length, replicate, Option, Some, None, option_map, IfSome, Ok, refl, sym, ap, subst, ◌∙◌, arith, false}
 use Rattle.std.proofs.lemmas.Bool.{eq-eqb, ne_eqb}
 use Rattle.std.proofs.lemmas.List.{get_or-set_same, get_or-set_other, length-set}
 use Rattle.dg_nor.specs.Trail.{Trail, last}
@@ -141,7 +141,7 @@ tick_walks w u m x reports at walk =
 -- ---- what a well mote sends is read
 
 abbrev pub Spelled : Message → Type 0
-Spelled m = message_of (frame_of m) ≡ Ok m
+Spelled m = message_of (frame_of m) false ≡ Ok m
 
 -- what is known of free events, and of what a mote sends
 pub record WalkLaws : Type 0 where

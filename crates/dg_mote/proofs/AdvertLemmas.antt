@@ -25,7 +25,7 @@ use Rattle.dg_volume.specs.Changes.{is_version}
 use Rattle.dg_volume.specs.Trails.{BeginsAt, order_trail, clear_trail, take_trail, done_of}
 use Rattle.dg_volume.specs.Ends.{taken}
 use Rattle.dg_volume.specs.Table.{row_at}
-use Rattle.dg_frame.specs.Sizes.{frame_images}
+use Rattle.dg_frame.specs.Sizes.{narrow_images}
 use Rattle.dg_frame.specs.Ranges.{EntryInRange, TellsVersion}
 use Rattle.dg_frame.specs.declared.Entry.{Entry}
 use Rattle.dg_mote.specs.Model.{MoteState, Mode, Maintain, Receive, Transmit, came, Turn}
@@ -225,7 +225,7 @@ module _ (table : List Row) (laws : TakeLaws table) (now word source : ℕ) wher
   noting_keeps true m timer s w = rests (StoreIsWell table) table (record m { mode = Maintain (after_same timer) }) s 0 None _ w tt tt
   noting_keeps false m timer s w = rests (StoreIsWell table) table (record m { mode = Maintain (after_other timer now word) }) s 0 None _ w tt tt
 
-  module _ (entries : List Entry) (count : length entries ≡ frame_images) (ranges : (i : ℕ) → 1 ≤ i → i ≤ length entries → EntryInRange (entry_for entries i)) (honest : (i : ℕ) → 1 ≤ i → i ≤ length entries → HonestEntry table i (entry_for entries i)) where
+  module _ (entries : List Entry) (count : length entries ≡ narrow_images) (ranges : (i : ℕ) → 1 ≤ i → i ≤ length entries → EntryInRange (entry_for entries i)) (honest : (i : ℕ) → 1 ≤ i → i ≤ length entries → HonestEntry table i (entry_for entries i)) where
     ahead_keeps : (o : Option ℕ) (m : MoteState) (timer : Timer) (s : Store) (own : Bool) → StoreIsWell table s → ahead_in entries s ≡ o → Keeps (StoreIsWell table) table (by_ahead o m timer s now word source entries own)
     ahead_keeps None m timer s own w is = noting_keeps own m timer s w
     ahead_keeps (Some i) m timer s own w is =

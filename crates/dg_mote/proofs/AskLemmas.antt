@@ -19,7 +19,6 @@ use Rattle.dg_recv.specs.Steps.{begun}
 use Rattle.dg_bits.proofs.SetLaws.{same_numbers, contains-none}
 use Rattle.dg_control.specs.declared.snapshot.Order.{Order}
 use Rattle.dg_frame.specs.Ranges.{unused, EntryInRange, TellsVersion}
-use Rattle.dg_frame.specs.Sizes.{frame_images}
 use Rattle.dg_quiet.specs.Noted.{may_ask}
 use Rattle.dg_frame.specs.declared.Entry.{Entry}
 use Rattle.dg_object.specs.Object.{Outline}
@@ -273,11 +272,11 @@ idle_entry (Some h) = refl
 tells_ahead : (e : Entry) (o : Option Held) → EntryInRange e → ahead_of e o ≡ true → TellsVersion e
 tells_ahead e o range ahead = ⊎_elim (λ is. absurd (false≢true (sym (idle_entry o) ∙ ap (λ x. ahead_of x o) (sym is) ∙ ahead))) (λ tells. tells) range
 
-pub may_take : (m : MoteState) (s : Store) (entries : List Entry) (now i : ℕ) (e : Entry) → length entries ≡ frame_images → All EntryInRange entries → 1 ≤ i → i ≤ frame_images → e ≡ entry_for entries i → ahead_of (entry_for entries i) (held s i) ≡ true → asks m s now i e ≡ true → MayTake s i e
+pub may_take : (m : MoteState) (s : Store) (entries : List Entry) (now i : ℕ) (e : Entry) → length entries < images → All EntryInRange entries → 1 ≤ i → i ≤ length entries → e ≡ entry_for entries i → ahead_of (entry_for entries i) (held s i) ≡ true → asks m s now i e ≡ true → MayTake s i e
 may_take m s entries now i e count range low high is ahead can =
     let here : ahead_of e (held s i) ≡ true = ap (λ x. ahead_of x (held s i)) is ∙ ahead in
-    let fits : EntryInRange e = subst EntryInRange (sym is) (All-get_or EntryInRange entries (i - 1) no_entry (omega arith) range) in
-    record { not_golden = low; known = omega arith; tells = tells_ahead e (held s i) fits here; ahead = here; free = (and_parts (may_ask m.noted now i) (is_version (held s i) e.version || nat_le 2 s.room) can).1 }
+    let fits : EntryInRange e = subst EntryInRange (sym is) (All-get_or EntryInRange entries (i - 1) no_entry (omega (arith, low, high)) range) in
+    record { not_golden = low; known = omega (arith, high, count); tells = tells_ahead e (held s i) fits here; ahead = here; free = (and_parts (may_ask m.noted now i) (is_version (held s i) e.version || nat_le 2 s.room) can).1 }
 
 pub follows_none : (m : MoteState) (timer : Timer) (s : Store) (now word source : ℕ) (entries : List Entry) (own : Bool) → ahead_in entries s ≡ None → by_ahead (ahead_in entries s) m timer s now word source entries own ≡ noting m timer s now word own
 follows_none m timer s now word source entries own none = ap (λ (o : Option ℕ). by_ahead o m timer s now word source entries own) none

@@ -29,7 +29,7 @@ use Rattle.dg_volume.specs.Start.{order_waits}
 use Rattle.dg_frame.specs.Grammar.{message_of}
 use Rattle.dg_frame.specs.declared.Entry.{Entry}
 use Rattle.dg_frame.specs.declared.Message.{Message}
-use Rattle.dg_frame.specs.declared.Message.TheVariants.{Advert, Request, Packet}
+use Rattle.dg_frame.specs.declared.Message.TheVariants.{Advert, Request, Packet, Wide}
 use Rattle.dg_frame.specs.declared.FrameFault.{FrameFault}
 use Rattle.dg_mote.specs.Model.{MoteState, Mode, Maintain, Receive, Transmit, Receiving, Sending, came, reception, Turn}
 use Rattle.dg_mote.specs.Summary.{entry_for, is_own, ahead_in}
@@ -151,6 +151,7 @@ module _ (order : (s : Store) (o : Order) → BeginsAt s (order_trail s o)) (cle
   message_begins (Advert source entries o) m s now word = advert_begins m.mode m s now word source entries o
   message_begins (Request source to image version page want) m s now word = request_begins m s now to image version page want
   message_begins (Packet source image version page packet bytes) m s now word = packet_begins m.mode m s now word image version page packet bytes
+  message_begins (Wide source entries o) m s now word = advert_begins m.mode m s now word source entries o
 
   frame_begins : (r : Result Message FrameFault) (m : MoteState) (s : Store) (now word : ℕ) → Begins s (by_message r m s now word)
   frame_begins (Err fault) m s now word = resting_begins s 0
@@ -158,4 +159,4 @@ module _ (order : (s : Store) (o : Order) → BeginsAt s (order_trail s o)) (cle
 
   pub heard_begins : (m : MoteState) (s : Store) (now word : ℕ) (bytes : List ℕ) → Begins s (heard_of m s now word bytes)
   unfolding heard_of
-  heard_begins m s now word bytes = frame_begins (message_of bytes) m s now word
+  heard_begins m s now word bytes = frame_begins (message_of bytes false) m s now word

@@ -102,7 +102,7 @@ request_by_rests m s now word source to image version page want =
     (λ _. cond_both (concerns s image version page) _ _ (λ (step : Turn Heard). Rests s step) (λ _. refl) (λ _. refl)))
 
 pub request_rests : (m : MoteState) (s : Store) (now word : ℕ) (bytes : List ℕ) (source to image version page : ℕ) (want : Numbers)
-    → message_of bytes ≡ Ok (Request source to image version page want) → (heard_of m s now word bytes).trail ≡ resting s 0
+    → message_of bytes false ≡ Ok (Request source to image version page want) → (heard_of m s now word bytes).trail ≡ resting s 0
 unfolding heard_of
 request_rests m s now word bytes source to image version page want is =
     subst (λ (r : Result Message FrameFault). Rests s (by_message r m s now word)) (sym is) (request_by_rests m s now word source to image version page want)
@@ -157,7 +157,7 @@ module _ (m : MoteState) (s : Store) (image version page q : ℕ) where
       cond_both (source == m.id) _ _ (λ (step : Turn Heard). Through Turns step.trail) (λ _. rests_turns 0) (λ _. packet_turns m.mode now word bytes refl)
 
 pub packet_completes : (m : MoteState) (s : Store) (now word : ℕ) (bytes : List ℕ) (source image version page q : ℕ) (content : List ℕ)
-    → message_of bytes ≡ Ok (Packet source image version page q content) → Through (λ t. (t ≡ s) ⊎ Completes m.mode image version page q s t) (heard_of m s now word bytes).trail
+    → message_of bytes false ≡ Ok (Packet source image version page q content) → Through (λ t. (t ≡ s) ⊎ Completes m.mode image version page q s t) (heard_of m s now word bytes).trail
 unfolding heard_of
 packet_completes m s now word bytes source image version page q content is =
     subst (λ (r : Result Message FrameFault). Through (Turns m s image version page q) (by_message r m s now word).trail) (sym is) (packet_by_turns m s image version page q now word source content)
@@ -353,7 +353,7 @@ module _ (ends : (s : Store) (p : Outline) → last (take_trail s p) ≡ taken s
   advert_by_both : (m : MoteState) (now word source : ℕ) → Both (by_message (Ok (Advert source entries order)) m s now word)
   advert_by_both m now word source = cond_both (source == m.id) _ _ Both (λ _. same_both) (λ _. on_advert_both m.mode m now word source)
 
-  pub advert_heeds : (m : MoteState) (now word : ℕ) (bytes : List ℕ) (source : ℕ) → message_of bytes ≡ Ok (Advert source entries order)
+  pub advert_heeds : (m : MoteState) (now word : ℕ) (bytes : List ℕ) (source : ℕ) → message_of bytes false ≡ Ok (Advert source entries order)
       → Through (HeedsAdvert entries order true s) (heard_of m s now word bytes).trail × HeedsAdvert entries order false s (last (heard_of m s now word bytes).trail)
   unfolding heard_of
   advert_heeds m now word bytes source is = subst (λ (r : Result Message FrameFault). Both (by_message r m s now word)) (sym is) (advert_by_both m now word source)

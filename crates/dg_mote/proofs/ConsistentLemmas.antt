@@ -34,11 +34,10 @@ use Rattle.dg_volume.specs.Trails.{order_trail, clear_trail, take_trail}
 use Rattle.dg_volume.specs.Start.{order_waits}
 use Rattle.dg_volume.specs.Acts.{Stops}
 use Rattle.dg_volume.specs.Consistent.{Consistent}
-use Rattle.dg_frame.specs.Grammar.{message_of}
-use Rattle.dg_frame.specs.Sizes.{frame_images}
+use Rattle.dg_frame.specs.Grammar.{in_range, message_of}
 use Rattle.dg_frame.specs.declared.Entry.{Entry}
 use Rattle.dg_frame.specs.declared.Message.{Message}
-use Rattle.dg_frame.specs.declared.Message.TheVariants.{Advert, Request, Packet}
+use Rattle.dg_frame.specs.declared.Message.TheVariants.{Advert, Request, Packet, Wide}
 use Rattle.dg_frame.specs.declared.FrameFault.{FrameFault}
 use Rattle.dg_mote.specs.Model.{MoteState, Mode, Maintain, Receive, Transmit, Receiving, Sending, came, reception, maintains, Turn}
 use Rattle.dg_mote.specs.Summary.{entry_for, is_own, ahead_in}
@@ -56,6 +55,11 @@ use Rattle.dg_mote.proofs.ReadLemmas.{IsWellRead, HasShape, well_read}
 use Rattle.dg_mote.proofs.KeepLemmas.{through_both, through_then}
 use Rattle.dg_mote.proofs.WellStores.{HasPlaces, take_places}
 use Rattle.dg_mote.proofs.AdvertLemmas.{is_ahead}
+
+-- a narrow reader has no wide adverts
+no_wide_fits : (source : ℕ) (entries : List Entry) (order : Order) → in_range false (Wide source entries order) ≡ true → ⊥
+unfolding in_range
+no_wide_fits source entries order e = cc
 
 -- ---- what is promised below
 
@@ -151,7 +155,7 @@ module _ (golden : Row) (laws : ActLaws golden) (now word : ℕ) where
   noting_turns true m timer s p = rests (record m { mode = Maintain (after_same timer) }) s 0 None _ p tt
   noting_turns false m timer s p = rests (record m { mode = Maintain (after_other timer now word) }) s 0 None _ p tt
 
-  module _ (source : ℕ) (entries : List Entry) (count : length entries ≡ frame_images) where
+  module _ (source : ℕ) (entries : List Entry) (few : length entries < images) where
     asking_turns : (m : MoteState) (s : Store) (i : ℕ) (e : Entry) → 1 ≤ i → i < images → P s → Turns (asking m s now word source i e)
     asking_turns m s i e low high p = record { way = ask_way s i e low high p; asks = (low, high) }
 
@@ -161,7 +165,7 @@ module _ (golden : Row) (laws : ActLaws golden) (now word : ℕ) where
         let a = is_ahead entries s i is in
         let high = a.high in
         cond_both (asks m s now i (entry_for entries i)) _ _ Turns
-        (λ _. asking_turns m s i (entry_for entries i) a.low (omega (arith, high, count)) p)
+        (λ _. asking_turns m s i (entry_for entries i) a.low (omega (arith, high, few)) p)
         (λ _. noting_turns own m timer s p)
 
     behind_turns : (t : Trail Store) (step : Turn Heard) → Through P t → Turns step → Turns (behind t step)
@@ -226,19 +230,20 @@ module _ (golden : Row) (laws : ActLaws golden) (now word : ℕ) where
 
     -- ---- whatever is heard
 
-    message_turns : (message : Message) (m : MoteState) → AsksForKnown m.mode → HasShape message → Turns (on_message m s now word message)
-    message_turns (Advert source entries order) m own shape = advert_turns source entries shape m.mode m s order here own
-    message_turns (Request source to image version page want) m own shape = request_turns m to image version page want own
-    message_turns (Packet source image version page q bytes) m own shape = packet_turns m.mode m image version page q bytes own own
+    message_turns : (message : Message) (m : MoteState) → AsksForKnown m.mode → in_range false message ≡ true → HasShape message → Turns (on_message m s now word message)
+    message_turns (Advert source entries order) m own fits shape = advert_turns source entries (omega (arith, shape)) m.mode m s order here own
+    message_turns (Request source to image version page want) m own fits shape = request_turns m to image version page want own
+    message_turns (Packet source image version page q bytes) m own fits shape = packet_turns m.mode m image version page q bytes own own
+    message_turns (Wide source entries order) m own fits shape = absurd (no_wide_fits source entries order fits)
 
     frame_turns : (r : Result Message FrameFault) (m : MoteState) → AsksForKnown m.mode → IsWellRead r → Turns (by_message r m s now word)
     frame_turns (Err fault) m own read = rests m s 0 None _ here own
     frame_turns (Ok message) m own read =
-        cond_both (source_of message == m.id) _ _ Turns (λ _. rests m s 0 None _ here own) (λ _. message_turns message m own read.1)
+        cond_both (source_of message == m.id) _ _ Turns (λ _. rests m s 0 None _ here own) (λ _. message_turns message m own read.0 read.1)
 
     pub heard_consistent : (m : MoteState) (bytes : List ℕ) → AsksForKnown m.mode → Turns (heard_of m s now word bytes)
     unfolding heard_of
-    heard_consistent m bytes own = frame_turns (message_of bytes) m own (well_read bytes)
+    heard_consistent m bytes own = frame_turns (message_of bytes false) m own (well_read bytes)
 
 -- ---- what a stop leaves
 

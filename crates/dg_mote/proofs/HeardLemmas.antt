@@ -1,5 +1,5 @@
 -- Honest frames that are heard over agreeing stores.
-use Rattle.std.proofs.Common.{◌≡◌, ℕ, ◌-◌, ◌≤◌, true, List, length, None, Result, Ok, Err, arith}
+use Rattle.std.proofs.Common.{◌≡◌, ℕ, ◌-◌, ◌≤◌, true, List, length, None, Result, Ok, Err, arith, false}
 use Rattle.std.specs.Prelude.{◌==◌, All}
 use Rattle.std.proofs.lemmas.Bool.{cond_both}
 use Rattle.dg_object.specs.Object.{Row}
@@ -9,7 +9,7 @@ use Rattle.dg_frame.specs.Grammar.{in_range, message_of}
 use Rattle.dg_frame.specs.Ranges.{IsInRange, EntryInRange}
 use Rattle.dg_frame.specs.declared.Entry.{Entry}
 use Rattle.dg_frame.specs.declared.Message.{Message}
-use Rattle.dg_frame.specs.declared.Message.TheVariants.{Advert, Request, Packet}
+use Rattle.dg_frame.specs.declared.Message.TheVariants.{Advert, Request, Packet, Wide}
 use Rattle.dg_frame.specs.declared.FrameFault.{FrameFault}
 use Rattle.dg_mote.specs.Model.{MoteState}
 use Rattle.dg_mote.specs.Summary.{entry_for, no_entry}
@@ -25,12 +25,16 @@ use Rattle.dg_mote.proofs.PacketLemmas.{PageLaws, packet_keeps}
 entry_in_range : (entries : List Entry) → All EntryInRange entries → (i : ℕ) → 1 ≤ i → i ≤ length entries → EntryInRange (entry_for entries i)
 entry_in_range entries all i low high = all (i - 1) no_entry (omega (arith, low, high))
 
-module _ (table : List Row) (is_table : IsTable table) (takes : TakeLaws table) (pages : PageLaws table) (ranges : (m : Message) → in_range m ≡ true → IsInRange m) (s : Store) (well : StoreIsWell table s) (now word : ℕ) where
-  message_keeps : (message : Message) (m : MoteState) → ModeAgrees table s m.mode → IsInRange message → HasShape message → HonestMessage table (Ok message) → Keeps (StoreIsWell table) table (on_message m s now word message)
+narrow_only : false ≡ true → ⊥
+narrow_only e = cc
+
+module _ (table : List Row) (is_table : IsTable table) (takes : TakeLaws table) (pages : PageLaws table) (ranges : (m : Message) → in_range false m ≡ true → IsInRange false m) (s : Store) (well : StoreIsWell table s) (now word : ℕ) where
+  message_keeps : (message : Message) (m : MoteState) → ModeAgrees table s m.mode → IsInRange false message → HasShape message → HonestMessage table (Ok message) → Keeps (StoreIsWell table) table (on_message m s now word message)
   message_keeps (Advert source entries order) m own fits shape honest =
       advert_keeps table takes now word source entries shape (entry_in_range entries fits.0) honest m.mode m s order well own
   message_keeps (Request source to image version page want) m own fits shape honest = request_keeps (StoreIsWell table) table s well now m to image version page want fits.0 fits.1 own
   message_keeps (Packet source image version page q bytes) m own fits shape honest = packet_keeps table is_table pages s well now word m.mode m source image version page q bytes honest own own
+  message_keeps (Wide source entries order) m own fits shape honest = absurd (narrow_only fits.0)
 
   frame_keeps : (r : Result Message FrameFault) (m : MoteState) → ModeAgrees table s m.mode → IsWellRead r → HonestMessage table r → Keeps (StoreIsWell table) table (by_message r m s now word)
   frame_keeps (Err fault) m own read honest = rests (StoreIsWell table) table m s 0 None _ well own tt
@@ -40,4 +44,4 @@ module _ (table : List Row) (is_table : IsTable table) (takes : TakeLaws table) 
 
   pub heard_keeps : (m : MoteState) (bytes : List ℕ) → ModeAgrees table s m.mode → IsHonest table bytes → Keeps (StoreIsWell table) table (heard_of m s now word bytes)
   unfolding heard_of
-  heard_keeps m bytes own honest = frame_keeps (message_of bytes) m own (well_read bytes) honest
+  heard_keeps m bytes own honest = frame_keeps (message_of bytes false) m own (well_read bytes) honest

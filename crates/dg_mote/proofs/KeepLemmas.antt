@@ -9,7 +9,7 @@ use Rattle.dg_object.specs.Object.{Row}
 use Rattle.dg_slot.specs.Kept.{Held}
 use Rattle.dg_volume.specs.Store.{Store, held}
 use Rattle.dg_volume.specs.Agreement.{KeepsRow, Agrees}
-use Rattle.dg_frame.specs.Sizes.{frame_images}
+use Rattle.dg_frame.specs.Sizes.{narrow_images}
 use Rattle.dg_frame.specs.declared.Message.{Message}
 use Rattle.dg_mote.specs.Model.{MoteState, Mode, Maintain, Receive, Transmit, Turn}
 use Rattle.dg_mote.specs.Summary.{no_entry, entry_by, entries_of, entry_for}
@@ -75,8 +75,8 @@ mode_same table s t e (Transmit x) a = record {
 
 -- ---- the own summary
 
-pub entry_is : (s : Store) (i : ℕ) → 1 ≤ i → i ≤ frame_images → entry_for (entries_of s) i ≡ entry_by (held s i)
-entry_is s i low high = get_or-map-range_with_len (λ j. entry_by (held s j)) 1 frame_images (i - 1) i no_entry (omega (arith, low, high)) (omega (arith, low))
+pub entry_is : (s : Store) (i : ℕ) → 1 ≤ i → i ≤ narrow_images → entry_for (entries_of s) i ≡ entry_by (held s i)
+entry_is s i low high = get_or-map-range_with_len (λ j. entry_by (held s j)) 1 narrow_images (i - 1) i no_entry (omega (arith, low, high)) (omega (arith, low))
 
 entry_honest : (table : List Row) (i : ℕ) (o : Option Held) → IfSome o (KeepsRow table i) → HonestEntry table i (entry_by o)
 entry_honest table i None k = inl refl

@@ -31,7 +31,7 @@ use Rattle.dg_volume.specs.Start.{order_waits}
 use Rattle.dg_frame.specs.Grammar.{message_of}
 use Rattle.dg_frame.specs.declared.Entry.{Entry}
 use Rattle.dg_frame.specs.declared.Message.{Message}
-use Rattle.dg_frame.specs.declared.Message.TheVariants.{Advert, Request, Packet}
+use Rattle.dg_frame.specs.declared.Message.TheVariants.{Advert, Request, Packet, Wide}
 use Rattle.dg_frame.specs.declared.FrameFault.{FrameFault}
 use Rattle.dg_mote.specs.Model.{MoteState, Mode, Maintain, Receive, Transmit, Receiving, Sending, came, reception, maintains, Turn}
 use Rattle.dg_mote.specs.Summary.{entry_for, is_own, ahead_in}
@@ -200,6 +200,7 @@ module _ (image from until : ℕ) (Noting : Noted → Type 0) (shuts : Shuts ima
     message_quiet (Advert source entries order) m s word q = advert_quiet m.mode m s word source entries order q
     message_quiet (Request source to i version page want) m s word q = request_quiet m s to i version page want q
     message_quiet (Packet source i version page packet bytes) m s word q = packet_quiet m.mode m s word i version page packet bytes q q.mode
+    message_quiet (Wide source entries order) m s word q = advert_quiet m.mode m s word source entries order q
 
     frame_quiet : (r : Result Message FrameFault) (m : MoteState) (s : Store) (word : ℕ) → IsQuiet m → Hushed (by_message r m s now word)
     frame_quiet (Err cause) m s word q = q
@@ -207,7 +208,7 @@ module _ (image from until : ℕ) (Noting : Noted → Type 0) (shuts : Shuts ima
 
     heard_quiet : (m : MoteState) (s : Store) (word : ℕ) (bytes : List ℕ) → IsQuiet m → Hushed (heard_of m s now word bytes)
     unfolding heard_of
-    heard_quiet m s word bytes q = frame_quiet (message_of bytes) m s word q
+    heard_quiet m s word bytes q = frame_quiet (message_of bytes false) m s word q
 
   -- ---- in a row
 

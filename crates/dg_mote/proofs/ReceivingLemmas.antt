@@ -27,7 +27,7 @@ use Rattle.dg_frame.specs.Grammar.{message_of}
 use Rattle.dg_frame.specs.declared.Entry.{Entry}
 use Rattle.dg_frame.specs.declared.FrameFault.{FrameFault}
 use Rattle.dg_frame.specs.declared.Message.{Message}
-use Rattle.dg_frame.specs.declared.Message.TheVariants.{Advert, Request, Packet}
+use Rattle.dg_frame.specs.declared.Message.TheVariants.{Advert, Request, Packet, Wide}
 use Rattle.dg_mote.specs.Model.{MoteState, Mode, Maintain, Receive, Transmit, Receiving, Sending, came, reception, Turn}
 use Rattle.dg_mote.specs.Summary.{entry_for, is_own, ahead_in}
 use Rattle.dg_mote.specs.Ticks.{clears, maintain_by, receive_by, transmit_by, mode_tick, tick_of}
@@ -170,8 +170,9 @@ module _ (comes : (image version page q : ℕ) → Type 0) (m : MoteState) where
   message_hears (Advert source entries order) s now word brings = advert_hears m.mode s now word source entries order refl
   message_hears (Request source to image version page want) s now word brings = request_hears s now to image version page want
   message_hears (Packet source image version page q bytes) s now word brings = packet_hears m.mode s now word image version page q bytes refl (brings source image version page q bytes refl)
+  message_hears (Wide source entries order) s now word brings = advert_hears m.mode s now word source entries order refl
 
-frame_goes_by : (bytes : List ℕ) (r : Result Message FrameFault) (m : MoteState) (s : Store) (now word : ℕ) → message_of bytes ≡ r → Hears (Brings bytes) m (by_message r m s now word)
+frame_goes_by : (bytes : List ℕ) (r : Result Message FrameFault) (m : MoteState) (s : Store) (now word : ℕ) → message_of bytes false ≡ r → Hears (Brings bytes) m (by_message r m s now word)
 frame_goes_by bytes (Err fault) m s now word is = same_mode (Brings bytes) m m.mode refl
 frame_goes_by bytes (Ok message) m s now word is =
     cond_both (source_of message == m.id) _ _ (Hears (Brings bytes) m) (λ _. same_mode (Brings bytes) m m.mode refl)
@@ -179,4 +180,4 @@ frame_goes_by bytes (Ok message) m s now word is =
 
 pub frame_goes : (m : MoteState) (s : Store) (now word : ℕ) (bytes : List ℕ) → IfReceives (λ r. IsBegun r ⊎ Continues m.mode (Brings bytes) r) (heard_of m s now word bytes).mote.mode
 unfolding heard_of
-frame_goes m s now word bytes = frame_goes_by bytes (message_of bytes) m s now word refl
+frame_goes m s now word bytes = frame_goes_by bytes (message_of bytes false) m s now word refl

@@ -24,7 +24,7 @@ use Rattle.dg_volume.specs.Trails.{BeginsAt, order_trail, take_trail, done_of}
 use Rattle.dg_volume.specs.Ends.{taken}
 use Rattle.dg_volume.specs.Table.{row_at}
 use Rattle.dg_volume.specs.Agreement.{Agrees, KeepsRow, HoldsRow}
-use Rattle.dg_frame.specs.Sizes.{frame_images}
+use Rattle.dg_frame.specs.Sizes.{narrow_images}
 use Rattle.dg_frame.specs.declared.Entry.{Entry}
 use Rattle.dg_frame.specs.declared.Message.TheVariants.{Request}
 use Rattle.dg_mote.specs.Model.{MoteState, Maintain, Receive, Receiving, Turn, came, reception}
@@ -50,7 +50,7 @@ record Found (s t : Store) (i : ℕ) : Type 0 where
   ahead : Held
   kept : held s i ≡ Some ahead
   from : 1 ≤ i
-  to : i ≤ frame_images
+  to : i ≤ narrow_images
   entry : entry_for (entries_of s) i ≡ entry_by (Some ahead)
   is_ahead : ahead_of (entry_by (Some ahead)) (held t i) ≡ true
 

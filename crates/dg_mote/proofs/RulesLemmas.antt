@@ -79,14 +79,14 @@ concerns_is s image version page = use_by (held s image) version page
 
 -- ---- what is overheard
 
-pub request_overheard : (m : MoteState) (s : Store) (now word : ℕ) (bytes : List ℕ) (source to image version page : ℕ) (want : Numbers) → message_of bytes ≡ Ok (Request source to image version page want) → source ≢ m.id → to ≢ m.id
+pub request_overheard : (m : MoteState) (s : Store) (now word : ℕ) (bytes : List ℕ) (source to image version page : ℕ) (want : Numbers) → message_of bytes false ≡ Ok (Request source to image version page want) → source ≢ m.id → to ≢ m.id
     → IsOfUse (held s image) version page → heard_of m s now word bytes ≡ record { mote = record m { noted = with_request m.noted now image }; trail = resting s 0; sent = None; answer = Noted }
 request_overheard m s now word bytes source to image version page want e other not_me of_use =
     read_as (Request source to image version page want) m s now word bytes e other
     ∙ cond-false (to == m.id) (to_it m.mode m s now image version page want) (overheard m s now image version page) (ne_eqb to m.id not_me)
     ∙ cond-true (concerns s image version page) _ (dropped m s) ((concerns_is s image version page).1 of_use)
 
-pub packet_overheard : (m : MoteState) (s : Store) (timer : Timer) (now word : ℕ) (bytes : List ℕ) (source image version page q : ℕ) (content : List ℕ) → message_of bytes ≡ Ok (Packet source image version page q content) → source ≢ m.id → m.mode ≡ Maintain timer
+pub packet_overheard : (m : MoteState) (s : Store) (timer : Timer) (now word : ℕ) (bytes : List ℕ) (source image version page q : ℕ) (content : List ℕ) → message_of bytes false ≡ Ok (Packet source image version page q content) → source ≢ m.id → m.mode ≡ Maintain timer
     → IsOfUse (held s image) version page → heard_of m s now word bytes ≡ record { mote = record m { noted = with_packet m.noted now image }; trail = resting s 0; sent = None; answer = Noted }
 packet_overheard m s timer now word bytes source image version page q content e other is of_use =
     read_as (Packet source image version page q content) m s now word bytes e other
@@ -95,7 +95,7 @@ packet_overheard m s timer now word bytes source image version page q content e 
 
 -- ---- what is served
 
-pub union_owed : (m : MoteState) (s : Store) (t : Sending) (now word : ℕ) (bytes : List ℕ) (source : ℕ) (want : Numbers) → message_of bytes ≡ Ok (Request source m.id t.image t.version t.page want) → source ≢ m.id → m.mode ≡ Transmit t
+pub union_owed : (m : MoteState) (s : Store) (t : Sending) (now word : ℕ) (bytes : List ℕ) (source : ℕ) (want : Numbers) → message_of bytes false ≡ Ok (Request source m.id t.image t.version t.page want) → source ≢ m.id → m.mode ≡ Transmit t
     → heard_of m s now word bytes ≡ record { mote = record m { mode = Transmit (record t { owed = after_merge t.owed want }) }; trail = resting s 0; sent = None; answer = Merged }
 union_owed m s t now word bytes source want e other is =
     let served : is_served t t.image t.version t.page ≡ true =
@@ -118,20 +118,20 @@ can_serve_is s image version page = (
   λ p. serve_by_kept (held s image) s image version page refl p,
 )
 
-to_me : (m : MoteState) (s : Store) (timer : Timer) (now word : ℕ) (bytes : List ℕ) (source image version page : ℕ) (want : Numbers) → message_of bytes ≡ Ok (Request source m.id image version page want) → source ≢ m.id → m.mode ≡ Maintain timer
+to_me : (m : MoteState) (s : Store) (timer : Timer) (now word : ℕ) (bytes : List ℕ) (source image version page : ℕ) (want : Numbers) → message_of bytes false ≡ Ok (Request source m.id image version page want) → source ≢ m.id → m.mode ≡ Maintain timer
     → heard_of m s now word bytes ≡ to_it (Maintain timer) m s now image version page want
 to_me m s timer now word bytes source image version page want e other is =
     read_as (Request source m.id image version page want) m s now word bytes e other
     ∙ cond-true (m.id == m.id) (to_it m.mode m s now image version page want) (overheard m s now image version page) (eq-eqb m.id m.id refl)
     ∙ ap (λ mode. to_it mode m s now image version page want) is
 
-pub page_served : (m : MoteState) (s : Store) (timer : Timer) (now word : ℕ) (bytes : List ℕ) (source image version page : ℕ) (want : Numbers) → message_of bytes ≡ Ok (Request source m.id image version page want) → source ≢ m.id → m.mode ≡ Maintain timer → HasPage s image version page
+pub page_served : (m : MoteState) (s : Store) (timer : Timer) (now word : ℕ) (bytes : List ℕ) (source image version page : ℕ) (want : Numbers) → message_of bytes false ≡ Ok (Request source m.id image version page want) → source ≢ m.id → m.mode ≡ Maintain timer → HasPage s image version page
     → heard_of m s now word bytes ≡ record { mote = record m { mode = Transmit (record { image = image; version = version; page = page; owed = begun now want }) }; trail = resting s 0; sent = None; answer = Serves image page }
 page_served m s timer now word bytes source image version page want e other is has =
     to_me m s timer now word bytes source image version page want e other is
     ∙ cond-true (can_serve s image version page) _ (dropped m s) ((can_serve_is s image version page).1 has)
 
-pub page_missing : (m : MoteState) (s : Store) (timer : Timer) (now word : ℕ) (bytes : List ℕ) (source image version page : ℕ) (want : Numbers) → message_of bytes ≡ Ok (Request source m.id image version page want) → source ≢ m.id → m.mode ≡ Maintain timer → (HasPage s image version page → ⊥)
+pub page_missing : (m : MoteState) (s : Store) (timer : Timer) (now word : ℕ) (bytes : List ℕ) (source image version page : ℕ) (want : Numbers) → message_of bytes false ≡ Ok (Request source m.id image version page want) → source ≢ m.id → m.mode ≡ Maintain timer → (HasPage s image version page → ⊥)
     → heard_of m s now word bytes ≡ dropped m s
 page_missing m s timer now word bytes source image version page want e other is lacks =
     to_me m s timer now word bytes source image version page want e other is

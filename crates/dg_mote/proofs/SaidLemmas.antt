@@ -26,7 +26,7 @@ use Rattle.dg_volume.specs.Store.{Store, held}
 use Rattle.dg_volume.specs.Start.{order_waits, complete_pages}
 use Rattle.dg_volume.specs.Table.{IsTable}
 use Rattle.dg_volume.specs.Agreement.{KeepsRow}
-use Rattle.dg_frame.specs.Sizes.{last_packet}
+use Rattle.dg_frame.specs.Sizes.{last_packet, narrow_images}
 use Rattle.dg_frame.specs.Grammar.{message_of, in_range}
 use Rattle.dg_frame.specs.Ranges.{IsInRange, EntryInRange, PageInRange}
 use Rattle.dg_frame.specs.Spelling.{frame_of, FitsTypes, EntryFitsTypes}
@@ -56,8 +56,8 @@ pub record SpellLaws : Type 0 where
   pub bytes : (row : Row) (p : ℕ) → IsRow row → AreBytes (page_of_row row p)
   pub first : (row : Row) → page_of_row row 0 ≡ descriptor_page row
   pub crc : (bytes : List ℕ) → All (λ b. b < 256) bytes → crc_of bytes < 2 ^ 16
-  pub ranges : (m : Message) → IsInRange m → in_range m ≡ true
-  pub written : (m : Message) → FitsTypes m → in_range m ≡ true → message_of (frame_of m) ≡ Ok m
+  pub ranges : (m : Message) → IsInRange false m → in_range false m ≡ true
+  pub written : (m : Message) → FitsTypes m → in_range false m ≡ true → message_of (frame_of m) false ≡ Ok m
 
 -- ---- rows
 
@@ -65,7 +65,7 @@ all_bytes : (xs : List ℕ) → AreBytes xs → All (λ b. b < 256) xs
 all_bytes xs bytes = All-from_get_or (λ b. b < 256) xs 0 (λ k _. bytes k)
 
 module _ (laws : SpellLaws) where
-  said : (id : ℕ) (message : Message) → source_of message ≡ id → FitsTypes message → IsInRange message → IsSaid id message
+  said : (id : ℕ) (message : Message) → source_of message ≡ id → FitsTypes message → IsInRange false message → IsSaid id message
   said id message source fits range = record { source = source; fits = fits; is_read = laws.written message fits (laws.ranges message range) }
 
   crc_small : (row : Row) → IsRow row → (profile row).crc < 2 ^ 16
@@ -106,7 +106,7 @@ module _ (laws : SpellLaws) where
 
     -- ---- pages
 
-    page_in : (image page : ℕ) (h : Held) → (k : KeepsRow table image h) → held s image ≡ Some h → 1 ≤ image → page < length (object k.row) → PageInRange image h.version page
+    page_in : (image page : ℕ) (h : Held) → (k : KeepsRow table image h) → held s image ≡ Some h → 1 ≤ image → page < length (object k.row) → PageInRange narrow_images image h.version page
     page_in image page h k here low less =
         let is = laws.rows.row table image h.version k.row is_table k.in_table in
         let key = laws.rows.key table image h.version k.row k.in_table in
@@ -148,7 +148,7 @@ module _ (laws : SpellLaws) where
         let range = page_in r.image r.page a.kept k a.held_here a.not_golden (omega (arith, a.more, k.pages, laws.count k.row)) in
         said id (Request id r.server r.image r.version r.page (missing (reception r))) refl
         (small, server, omega (arith, a.version, version_small r.image a.kept k), missing_below r)
-        (subst (λ v. PageInRange r.image v r.page) a.version range, missing_some r a.missing)
+        (subst (λ v. PageInRange narrow_images r.image v r.page) a.version range, missing_some r a.missing)
 
     -- ---- a packet
 
@@ -173,7 +173,7 @@ module _ (laws : SpellLaws) where
         let same : stored s t q ≡ packet_of (page_of_row k.row t.page) q = ap (λ (xs : List ℕ). packet_of xs q) page in
         said id (Packet id t.image t.version t.page q (stored s t q)) refl
         (small, omega (arith, v.version, version_small t.image v.kept k), ap length same ∙ packet_long (page_of_row k.row t.page) q long less, subst AreBytes (sym same) (part_bytes (page_of_row k.row t.page) q long less (laws.bytes k.row t.page is)))
-        (subst (λ x. PageInRange t.image x t.page) v.version (page_in t.image t.page v.kept k v.held_here v.not_golden there), omega (arith, less))
+        (subst (λ x. PageInRange narrow_images t.image x t.page) v.version (page_in t.image t.page v.kept k v.held_here v.not_golden there), omega (arith, less))
 
     -- ---- ticks
 

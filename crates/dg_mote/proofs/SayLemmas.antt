@@ -30,6 +30,7 @@ use Rattle.dg_volume.specs.declared.volume.Volume.{Volume}
 use Rattle.dg_volume.specs.Start.{complete_pages}
 use Rattle.dg_volume.proofs.CompareLemmas.{packet_same}
 use Rattle.dg_volume.proofs.LendingLemmas.{KeptFits, kept_fits}
+use Rattle.dg_frame.specs.Sizes.{narrow_images}
 use Rattle.dg_frame.specs.Grammar.{entry_fits, order_in_frame, in_range}
 use Rattle.dg_frame.specs.declared.Entry.{Entry}
 use Rattle.dg_frame.specs.declared.Message.TheVariants.{Advert, Request, Packet}
@@ -57,19 +58,19 @@ entry_by_fits c v i (Some h) known m is = entry_of_kept h (kept_fits c v i (told
 held_fits : (c : List ℕ) (v : Volume) (s : Store) (i : ℕ) → i < images → Mounted c v s → entry_fits (entry_by (held s i)) ≡ true
 held_fits c v s i known m = entry_by_fits c v i (held s i) known (s, m) (m.tells.kept i known (λ h. h))
 
-order_fits_frame : (o : Order) → IsTrue (order_fits o) → order_in_frame o ≡ true
+order_fits_frame : (o : Order) → IsTrue (order_fits o) → order_in_frame narrow_images o ≡ true
 order_fits_frame o fits = grind (arith, nat_tests)
 
-pub order_fits_here : (c : List ℕ) (v : Volume) (s : Store) → Mounted c v s → order_in_frame s.order ≡ true
+pub order_fits_here : (c : List ℕ) (v : Volume) (s : Store) → Mounted c v s → order_in_frame narrow_images s.order ≡ true
 order_fits_here c v s m = order_fits_frame s.order (subst (λ (o : Order). IsTrue (order_fits o)) m.tells.says.order (snapshot_in_range (snapshot_of v)).order)
 
 three_and : (x y z w : Bool) → x ≡ true → y ≡ true → z ≡ true → w ≡ true → (x && (y && (z && true))) && w ≡ true
 three_and x y z w a b c d = cc
 
-pub advert_fits : (c : List ℕ) (v : Volume) (s : Store) (id : ℕ) → Mounted c v s → in_range (advert_of id s) ≡ true
+pub advert_fits : (c : List ℕ) (v : Volume) (s : Store) (id : ℕ) → Mounted c v s → in_range false (advert_of id s) ≡ true
 unfolding in_range
 advert_fits c v s id m =
-    three_and (entry_fits (entry_by (held s 1))) (entry_fits (entry_by (held s 2))) (entry_fits (entry_by (held s 3))) (order_in_frame s.order)
+    three_and (entry_fits (entry_by (held s 1))) (entry_fits (entry_by (held s 2))) (entry_fits (entry_by (held s 3))) (order_in_frame narrow_images s.order)
     (held_fits c v s 1 (lit< tt) m) (held_fits c v s 2 (lit< tt) m) (held_fits c v s 3 (lit< tt) m) (order_fits_here c v s m)
 
 pub same_advert : (id : ℕ) (s : Store) (a b c : Entry) (o : Order) → a ≡ entry_by (held s 1) → b ≡ entry_by (held s 2) → c ≡ entry_by (held s 3) → o ≡ s.order → Advert id (a ∷ b ∷ c ∷ []) o ≡ advert_of id s
@@ -98,12 +99,12 @@ asked_by false false a want e = cc
 asked_for : (r : Reception) (now : ℕ) (want : Numbers) → Ask.Request want ≡ ask_of r now → want ≡ missing r
 asked_for r now want is = asked_by (nat_lt now r.due) (nat_le most_requests r.tries) (missing r) want is
 
-request_in_range : (id to image version page : ℕ) (want : Numbers) → 1 ≤ image → image < images → 1 ≤ version → page < most_pages → set.len want ≢ 0 → in_range (Request id to image version page want) ≡ true
+request_in_range : (id to image version page : ℕ) (want : Numbers) → 1 ≤ image → image < images → 1 ≤ version → page < most_pages → set.len want ≢ 0 → in_range false (Request id to image version page want) ≡ true
 unfolding in_range
 request_in_range id to image version page want a b c d some = grind (arith, nat_tests)
 
 pub request_fits : (c : List ℕ) (v : Volume) (s : Store) (job : PageJob) (r : Receiving) (id to version now : ℕ) (asking : Reception) (want : Numbers) → Receives c v s job r → version ≡ r.version → asking ≡ reception r → Ask.Request want ≡ ask_of asking now
-    → in_range (Request id to (outline_told (slot_of job)).image version (done_told (slot_of job)) want) ≡ true
+    → in_range false (Request id to (outline_told (slot_of job)).image version (done_told (slot_of job)) want) ≡ true
 request_fits c v s job r id to version now asking want receives of_version asks is =
     let o = slot_of job in
     let known = o.known in
@@ -149,14 +150,14 @@ served_stands c v s t m serves =
       stands = λ q less. packet_same (sector c (page_sector t.image t.page)) page q less here;
     }
 
-packet_in_range : (id image version page q : ℕ) (bytes : List ℕ) → 1 ≤ image → image < images → 1 ≤ version → page < most_pages → q < packets → in_range (Packet id image version page q bytes) ≡ true
+packet_in_range : (id image version page q : ℕ) (bytes : List ℕ) → 1 ≤ image → image < images → 1 ≤ version → page < most_pages → q < packets → in_range false (Packet id image version page q bytes) ≡ true
 unfolding in_range
 packet_in_range id image version page q bytes a b c d e = grind (arith, nat_tests)
 
 -- the message of a packet that is read where the page stands
 pub record PacketSays (c : List ℕ) (s : Store) (t : Sending) (image version page q : ℕ) : Type 0 where
   pub known_page : page < most_pages
-  pub fits : (id : ℕ) → in_range (Packet id image version page q (packet_in c (page_sector image page) q)) ≡ true
+  pub fits : (id : ℕ) → in_range false (Packet id image version page q (packet_in c (page_sector image page) q)) ≡ true
   pub is : (id own : ℕ) → id ≡ own → Packet id image version page q (packet_in c (page_sector image page) q) ≡ Packet own t.image t.version t.page q (stored s t q)
 
 pub packet_says : (c : List ℕ) (v : Volume) (s : Store) (t : Sending) (image version page q : ℕ) → image ≡ t.image → version ≡ t.version → page ≡ t.page → Mounted c v s → Serves s t → q < packets → PacketSays c s t image version page q

@@ -17,7 +17,7 @@ use Rattle.dg_volume.specs.Table.{row_at, IsTable}
 use Rattle.dg_frame.specs.Grammar.{message_of}
 use Rattle.dg_frame.specs.declared.Entry.{Entry}
 use Rattle.dg_frame.specs.declared.Message.{Message}
-use Rattle.dg_frame.specs.declared.Message.TheVariants.{Advert, Request, Packet}
+use Rattle.dg_frame.specs.declared.Message.TheVariants.{Advert, Request, Packet, Wide}
 use Rattle.dg_frame.specs.declared.FrameFault.{FrameFault}
 use Rattle.dg_mote.specs.Model.{MoteState, Mode, Maintain, Receive, Transmit, Receiving, came, Turn}
 use Rattle.dg_mote.specs.Summary.{entry_for, is_own, ahead_in}
@@ -109,6 +109,7 @@ module _ (table : List Row) (is_table : IsTable table) (laws : PageLaws table) (
   message_fine (Advert source entries order) m own honest = advert_fine m.mode m s now word source entries order
   message_fine (Request source to image version page want) m own honest = request_fine m s now to image version page want
   message_fine (Packet source image version page q bytes) m own honest = packet_fine m.mode m source image version page q bytes honest own
+  message_fine (Wide source entries order) m own honest = advert_fine m.mode m s now word source entries order
 
   frame_fine : (r : Result Message FrameFault) (m : MoteState) → ModeAgrees table s m.mode → HonestMessage table r → Fine (by_message r m s now word)
   frame_fine (Err cause) m own honest = tt
@@ -116,4 +117,4 @@ module _ (table : List Row) (is_table : IsTable table) (laws : PageLaws table) (
 
   pub heard_fine : (m : MoteState) (bytes : List ℕ) → ModeAgrees table s m.mode → IsHonest table bytes → (image page : ℕ) → (heard_of m s now word bytes).answer ≡ Bad image page → ⊥
   unfolding heard_of
-  heard_fine m bytes own honest image page e = subst NotBad e (frame_fine (message_of bytes) m own honest)
+  heard_fine m bytes own honest image page e = subst NotBad e (frame_fine (message_of bytes false) m own honest)

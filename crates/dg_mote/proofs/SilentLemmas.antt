@@ -15,7 +15,7 @@ use Rattle.dg_volume.specs.Store.{Store, held}
 use Rattle.dg_frame.specs.Grammar.{message_of}
 use Rattle.dg_frame.specs.declared.Entry.{Entry}
 use Rattle.dg_frame.specs.declared.Message.{Message}
-use Rattle.dg_frame.specs.declared.Message.TheVariants.{Advert, Request, Packet}
+use Rattle.dg_frame.specs.declared.Message.TheVariants.{Advert, Request, Packet, Wide}
 use Rattle.dg_frame.specs.declared.FrameFault.{FrameFault}
 use Rattle.dg_mote.specs.Model.{MoteState, Mode, Maintain, Receive, Transmit, Receiving, came, Turn}
 use Rattle.dg_mote.specs.Summary.{entry_for, is_own, ahead_in}
@@ -94,6 +94,7 @@ message_plain : (message : Message) (m : MoteState) (s : Store) (now word : ℕ)
 message_plain (Advert source entries order) m s now word = advert_plain m.mode m s now word source entries order
 message_plain (Request source to image version page want) m s now word = request_plain m s now to image version page want
 message_plain (Packet source image version page packet bytes) m s now word = packet_plain m.mode m s now word image version page packet bytes
+message_plain (Wide source entries order) m s now word = advert_plain m.mode m s now word source entries order
 
 read_plain : (message : Message) (m : MoteState) (s : Store) (now word : ℕ) → IsPlain m s (by_message (Ok message) m s now word)
 read_plain message m s now word = cond_both (source_of message == m.id) _ _ (IsPlain m s) (λ _. dropped_plain m s) (λ _. message_plain message m s now word)
@@ -106,24 +107,24 @@ by_silent (Ok message) m s now word = (read_plain message m s now word).silent
 
 pub heard_silent : (m : MoteState) (s : Store) (now word : ℕ) (bytes : List ℕ) → (heard_of m s now word bytes).sent ≡ None
 unfolding heard_of
-heard_silent m s now word bytes = by_silent (message_of bytes) m s now word
+heard_silent m s now word bytes = by_silent (message_of bytes false) m s now word
 
 -- a refusal is told
 by_told : (r : Result Message FrameFault) (m : MoteState) (s : Store) (now word : ℕ) (cause : FrameFault) → r ≡ Err cause → by_message r m s now word ≡ record { mote = m; trail = resting s 0; sent = None; answer = Refused cause }
 by_told r m s now word cause e = ap (λ (x : Result Message FrameFault). by_message x m s now word) e
 
-pub refused_is : (m : MoteState) (s : Store) (now word : ℕ) (bytes : List ℕ) (cause : FrameFault) → message_of bytes ≡ Err cause → heard_of m s now word bytes ≡ record { mote = m; trail = resting s 0; sent = None; answer = Refused cause }
+pub refused_is : (m : MoteState) (s : Store) (now word : ℕ) (bytes : List ℕ) (cause : FrameFault) → message_of bytes false ≡ Err cause → heard_of m s now word bytes ≡ record { mote = m; trail = resting s 0; sent = None; answer = Refused cause }
 unfolding heard_of
-refused_is m s now word bytes cause e = by_told (message_of bytes) m s now word cause e
+refused_is m s now word bytes cause e = by_told (message_of bytes false) m s now word cause e
 
 by_cause : (r : Result Message FrameFault) (m : MoteState) (s : Store) (now word : ℕ) (cause : FrameFault) → (by_message r m s now word).answer ≡ Refused cause → r ≡ Err cause
 by_cause (Err other) m s now word cause e = cc
 by_cause (Ok message) m s now word cause e =
     let p = read_plain message m s now word in absurd (subst (Unchanged m s (by_message (Ok message) m s now word)) e p.unchanged)
 
-pub refused_by : (m : MoteState) (s : Store) (now word : ℕ) (bytes : List ℕ) (cause : FrameFault) → (heard_of m s now word bytes).answer ≡ Refused cause → message_of bytes ≡ Err cause
+pub refused_by : (m : MoteState) (s : Store) (now word : ℕ) (bytes : List ℕ) (cause : FrameFault) → (heard_of m s now word bytes).answer ≡ Refused cause → message_of bytes false ≡ Err cause
 unfolding heard_of
-refused_by m s now word bytes cause e = by_cause (message_of bytes) m s now word cause e
+refused_by m s now word bytes cause e = by_cause (message_of bytes false) m s now word cause e
 
 by_dropped : (r : Result Message FrameFault) (m : MoteState) (s : Store) (now word : ℕ) → (by_message r m s now word).answer ≡ Dropped → ((by_message r m s now word).mote ≡ m) × ((by_message r m s now word).trail ≡ resting s 0)
 by_dropped (Err cause) m s now word e = (refl, refl)
@@ -131,4 +132,4 @@ by_dropped (Ok message) m s now word e = let p = read_plain message m s now word
 
 pub dropped_is : (m : MoteState) (s : Store) (now word : ℕ) (bytes : List ℕ) → (heard_of m s now word bytes).answer ≡ Dropped → ((heard_of m s now word bytes).mote ≡ m) × ((heard_of m s now word bytes).trail ≡ resting s 0)
 unfolding heard_of
-dropped_is m s now word bytes e = by_dropped (message_of bytes) m s now word e
+dropped_is m s now word bytes e = by_dropped (message_of bytes false) m s now word e

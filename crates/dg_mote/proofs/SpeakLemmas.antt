@@ -38,7 +38,7 @@ use Rattle.dg_frame.specs.Ranges.{IsInRange}
 use Rattle.dg_frame.specs.Spelling.{FitsTypes}
 use Rattle.dg_frame.specs.declared.Entry.{Entry}
 use Rattle.dg_frame.specs.declared.Message.{Message}
-use Rattle.dg_frame.specs.declared.Message.TheVariants.{Advert, Request, Packet}
+use Rattle.dg_frame.specs.declared.Message.TheVariants.{Advert, Request, Packet, Wide}
 use Rattle.dg_frame.specs.declared.FrameFault.{FrameFault}
 use Rattle.dg_mote.specs.Model.{MoteState, Mode, Maintain, Receive, Transmit, Receiving, Sending, came, reception, maintains, Turn}
 use Rattle.dg_mote.specs.Summary.{entry_for, is_own, ahead_in}
@@ -213,24 +213,28 @@ packet_says (Maintain timer) m s now word image version page q bytes o own serve
     (λ _. rests_as m.id (record m { noted = with_packet m.noted now image }) s 0 None _ refl o own) (λ _. rests m s 0 None _ o own)
 packet_says (Transmit t) m s now word image version page q bytes o own server = rests m s 0 None _ o own
 
-message_says : ((m : Message) → in_range m ≡ true → IsInRange m) → (message : Message) (m : MoteState) (s : Store) (now word : ℕ) → in_range message ≡ true → FitsTypes message → TellsOrder s → ServerFits m.mode → Says m.id (on_message m s now word message)
+narrow_only : false ≡ true → ⊥
+narrow_only e = cc
+
+message_says : ((m : Message) → in_range false m ≡ true → IsInRange false m) → (message : Message) (m : MoteState) (s : Store) (now word : ℕ) → in_range false message ≡ true → FitsTypes message → TellsOrder s → ServerFits m.mode → Says m.id (on_message m s now word message)
 message_says ranges (Advert source entries order) m s now word range fits o server =
     advert_says m.mode m s now word source entries order fits.0 (record { in_range = (ranges (Advert source entries order) range).1; number = fits.3; version = fits.4 }) o server
 message_says ranges (Request source to image version page want) m s now word range fits o server = request_says m s now to image version page want o server
 message_says ranges (Packet source image version page packet bytes) m s now word range fits o server = packet_says m.mode m s now word image version page packet bytes o server server
+message_says ranges (Wide source entries order) m s now word range fits o server = absurd (narrow_only (ranges (Wide source entries order) range).0)
 
 -- what was read fits the types
 abbrev pub ReadFits : Result Message FrameFault → Type 0
 ReadFits r = IfOk r FitsTypes
 
-frame_says : ((m : Message) → in_range m ≡ true → IsInRange m) → (r : Result Message FrameFault) (m : MoteState) (s : Store) (now word : ℕ) → IsWellRead r → ReadFits r → TellsOrder s → ServerFits m.mode → Says m.id (by_message r m s now word)
+frame_says : ((m : Message) → in_range false m ≡ true → IsInRange false m) → (r : Result Message FrameFault) (m : MoteState) (s : Store) (now word : ℕ) → IsWellRead r → ReadFits r → TellsOrder s → ServerFits m.mode → Says m.id (by_message r m s now word)
 frame_says ranges (Err cause) m s now word read fits o server = rests m s 0 None _ o server
 frame_says ranges (Ok message) m s now word read fits o server =
     cond_both (source_of message == m.id) _ _ (λ (x : Turn Heard). Says m.id x) (λ _. rests m s 0 None _ o server) (λ _. message_says ranges message m s now word read.0 fits o server)
 
-pub heard_says : ((m : Message) → in_range m ≡ true → IsInRange m) → (m : MoteState) (s : Store) (now word : ℕ) (bytes : List ℕ) → ReadFits (message_of bytes) → TellsOrder s → ServerFits m.mode → Says m.id (heard_of m s now word bytes)
+pub heard_says : ((m : Message) → in_range false m ≡ true → IsInRange false m) → (m : MoteState) (s : Store) (now word : ℕ) (bytes : List ℕ) → ReadFits (message_of bytes false) → TellsOrder s → ServerFits m.mode → Says m.id (heard_of m s now word bytes)
 unfolding heard_of
-heard_says ranges m s now word bytes fits o server = frame_says ranges (message_of bytes) m s now word (well_read bytes) fits o server
+heard_says ranges m s now word bytes fits o server = frame_says ranges (message_of bytes false) m s now word (well_read bytes) fits o server
 
 -- ---- events
 

@@ -19,7 +19,7 @@ use Rattle.dg_volume.specs.Start.{order_waits}
 use Rattle.dg_frame.specs.Grammar.{message_of}
 use Rattle.dg_frame.specs.declared.Entry.{Entry}
 use Rattle.dg_frame.specs.declared.Message.{Message}
-use Rattle.dg_frame.specs.declared.Message.TheVariants.{Advert, Request, Packet}
+use Rattle.dg_frame.specs.declared.Message.TheVariants.{Advert, Request, Packet, Wide}
 use Rattle.dg_frame.specs.declared.FrameFault.{FrameFault}
 use Rattle.dg_mote.specs.Model.{MoteState, Mode, Maintain, Receive, Transmit, Turn}
 use Rattle.dg_mote.specs.Summary.{entry_for, entry_by, named, same_entry, same_order, is_own, ahead_of, ahead_in}
@@ -36,7 +36,7 @@ use Rattle.dg_mote.proofs.AdvertLemmas.{some_page, more_pages}
 
 -- ---- frames as their messages
 
-pub read_as : (message : Message) (m : MoteState) (s : Store) (now word : ℕ) (bytes : List ℕ) → message_of bytes ≡ Ok message → source_of message ≢ m.id → heard_of m s now word bytes ≡ on_message m s now word message
+pub read_as : (message : Message) (m : MoteState) (s : Store) (now word : ℕ) (bytes : List ℕ) → message_of bytes false ≡ Ok message → source_of message ≢ m.id → heard_of m s now word bytes ≡ on_message m s now word message
 unfolding heard_of
 read_as message m s now word bytes e other =
     ap (λ (r : Result Message FrameFault). by_message r m s now word) e
@@ -95,7 +95,7 @@ own_heard m timer s now word source entries order own =
     ∙ ap (λ b. behind (resting s 0) (noting m timer (last (resting s 0)) now word b)) own
     ∙ behind_none s (record m { mode = Maintain (after_same timer) }) Same
 
-pub equal_heard : (m : MoteState) (s : Store) (timer : Timer) (now word : ℕ) (bytes : List ℕ) (source : ℕ) (entries : List Entry) (order : Order) → message_of bytes ≡ Ok (Advert source entries order) → source ≢ m.id → m.mode ≡ Maintain timer → is_own entries order s ≡ true
+pub equal_heard : (m : MoteState) (s : Store) (timer : Timer) (now word : ℕ) (bytes : List ℕ) (source : ℕ) (entries : List Entry) (order : Order) → message_of bytes false ≡ Ok (Advert source entries order) → source ≢ m.id → m.mode ≡ Maintain timer → is_own entries order s ≡ true
     → heard_of m s now word bytes ≡ record { mote = record m { mode = Maintain (after_same timer) }; trail = resting s 0; sent = None; answer = Same }
 equal_heard m s timer now word bytes source entries order e other is own =
     read_as (Advert source entries order) m s now word bytes e other
@@ -193,6 +193,7 @@ message_counts timer (Advert source entries order) m s now word q = advert_count
 message_counts timer (Request source to image version page want) m s now word q =
     cond_both (to == m.id) _ _ (Counts timer) (λ _. to_it_counts timer m.mode m s now image version page want q q) (λ _. cond_both (concerns s image version page) _ _ (Counts timer) (λ _ _. q) (λ _ _. q))
 message_counts timer (Packet source image version page packet bytes) m s now word q = packet_counts timer m.mode m s now word image version page packet bytes q q
+message_counts timer (Wide source entries order) m s now word q = advert_counts timer m.mode m s now word source entries order q
 
 frame_counts : (timer : Timer) (r : Result Message FrameFault) (m : MoteState) (s : Store) (now word : ℕ) → Suppressed timer m.mode → Counts timer (by_message r m s now word)
 frame_counts timer (Err cause) m s now word q = λ _. q
@@ -200,7 +201,7 @@ frame_counts timer (Ok message) m s now word q = cond_both (source_of message ==
 
 heard_counts : (timer : Timer) (m : MoteState) (s : Store) (now word : ℕ) (bytes : List ℕ) → Suppressed timer m.mode → Counts timer (heard_of m s now word bytes)
 unfolding heard_of
-heard_counts timer m s now word bytes q = frame_counts timer (message_of bytes) m s now word q
+heard_counts timer m s now word bytes q = frame_counts timer (message_of bytes false) m s now word q
 
 silent_in : ((m : MoteState) (s : Store) (now word : ℕ) (bytes : List ℕ) → (heard_of m s now word bytes).sent ≡ None) → (timer : Timer) (events : List Happens) (m : MoteState) (s : Store) → Suppressed timer m.mode → HappenIn timer events m s → IsSilent (sent_in events m s)
 unfolding sent_in HappenIn

@@ -35,7 +35,7 @@ use Rattle.dg_mote.specs.Ticks.{clears, maintain_by, asked, receive_by, serving,
 use Rattle.dg_frame.specs.Grammar.{message_of}
 use Rattle.dg_frame.specs.declared.Entry.{Entry}
 use Rattle.dg_frame.specs.declared.Message.{Message}
-use Rattle.dg_frame.specs.declared.Message.TheVariants.{Advert, Request, Packet}
+use Rattle.dg_frame.specs.declared.Message.TheVariants.{Advert, Request, Packet, Wide}
 use Rattle.dg_frame.specs.declared.FrameFault.{FrameFault}
 use Rattle.dg_control.specs.declared.snapshot.Order.{Order}
 use Rattle.dg_nor.specs.Trail.{last, resting}
@@ -237,6 +237,7 @@ message_timely : (message : Message) (m : MoteState) (s : Store) (now word : ℕ
 message_timely (Advert source entries order) m s now word fits y = on_advert_timely m.mode m s now word source entries order y y.mode
 message_timely (Request source to image version page want) m s now word fits y = request_timely m s now to image version page want fits.1 y
 message_timely (Packet source image version page packet bytes) m s now word fits y = packet_timely m.mode m s now word image version page packet bytes y y.mode
+message_timely (Wide source entries order) m s now word fits y = on_advert_timely m.mode m s now word source entries order y y.mode
 
 heard_timely_by : (r : Result Message FrameFault) (m : MoteState) (s : Store) (now word : ℕ) → IsWellRead r → Timely m now → Timely (by_message r m s now word).mote now
 heard_timely_by (Err fault) m s now word fits y = y
@@ -245,4 +246,4 @@ heard_timely_by (Ok message) m s now word fits y =
 
 pub timely_heard : (m : MoteState) (s : Store) (now word : ℕ) (bytes : List ℕ) → Timely m now → Timely (heard_of m s now word bytes).mote now
 unfolding heard_of
-timely_heard m s now word bytes y = heard_timely_by (message_of bytes) m s now word (well_read bytes) y
+timely_heard m s now word bytes y = heard_timely_by (message_of bytes false) m s now word (well_read bytes) y

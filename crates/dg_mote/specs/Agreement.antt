@@ -1,5 +1,5 @@
 -- Motes that agree with a table, and frames that are honest by it.
-use Rattle.std.specs.Prelude.{◌≡◌, ◌≢◌, ◌⊎◌, ℕ, ◌<◌, ◌≤◌, List, length, slice_index_or, [], Some, Result, Ok, Err}
+use Rattle.std.specs.Prelude.{◌≡◌, ◌≢◌, ◌⊎◌, ℕ, ◌<◌, ◌≤◌, List, length, slice_index_or, [], Some, Result, Ok, Err, false}
 use Rattle.std.specs.FinSet as set
 use Rattle.dg_object.specs.Object.{Row, object, profile}
 use Rattle.dg_slot.specs.Layout.{packets}
@@ -10,7 +10,7 @@ use Rattle.dg_volume.specs.Table.{row_at}
 use Rattle.dg_frame.specs.Grammar.{message_of}
 use Rattle.dg_frame.specs.declared.Entry.{Entry}
 use Rattle.dg_frame.specs.declared.Message.{Message}
-use Rattle.dg_frame.specs.declared.Message.TheVariants.{Advert, Request, Packet}
+use Rattle.dg_frame.specs.declared.Message.TheVariants.{Advert, Request, Packet, Wide}
 use Rattle.dg_frame.specs.declared.FrameFault.{FrameFault}
 use Rattle.dg_mote.specs.Model.{Mode, Maintain, Receive, Transmit, Receiving, Sending, came}
 use Rattle.dg_mote.specs.Summary.{entry_for, no_entry}
@@ -56,8 +56,9 @@ abbrev pub HonestMessage : List Row → Result Message FrameFault → Type 0
 HonestMessage table (Err fault) = Unit {0}
 HonestMessage table (Ok (Request source to image version page want)) = Unit {0}
 HonestMessage table (Ok (Advert source entries order)) = (i : ℕ) → 1 ≤ i → i ≤ length entries → HonestEntry table i (entry_for entries i)
+HonestMessage table (Ok (Wide source entries order)) = (i : ℕ) → 1 ≤ i → i ≤ length entries → HonestEntry table i (entry_for entries i)
 HonestMessage table (Ok (Packet source image version page q bytes)) =
     (row : Row) × (row_at table image version ≡ Some row) × (page < length (object row)) × (bytes ≡ packet_of (slice_index_or (object row) page []) q)
 
 abbrev pub IsHonest : List Row → List ℕ → Type 0
-IsHonest table bytes = HonestMessage table (message_of bytes)
+IsHonest table bytes = HonestMessage table (message_of bytes false)

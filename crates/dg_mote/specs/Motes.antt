@@ -65,7 +65,7 @@ sent_in o = option_map (λ f. f.items) o.frame
 
 -- the frame of a message is read as the message
 abbrev pub IsRead : Message → Type 0
-IsRead message = message_of (frame_of message) ≡ Ok message
+IsRead message = message_of (frame_of message) false ≡ Ok message
 
 -- a call did what the rules say: the chip went the trail, and the mote is where they say
 pub record Done {A : Type 0} (turn : Turn A) (old new : Device) (v : Mote) (answer : A) : Type 0 where

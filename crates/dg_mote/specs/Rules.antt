@@ -11,7 +11,7 @@ use Rattle.dg_slot.specs.Jobs.{packet}
 use Rattle.dg_volume.specs.Store.{Store, held}
 use Rattle.dg_volume.specs.Start.{order_waits}
 use Rattle.dg_frame.specs.declared.Message.{Message}
-use Rattle.dg_frame.specs.declared.Message.TheVariants.{Advert, Request, Packet}
+use Rattle.dg_frame.specs.declared.Message.TheVariants.{Advert, Request, Packet, Wide}
 use Rattle.dg_mote.specs.Model.{MoteState, Mode, Maintain, Receive, Transmit, Receiving}
 use Rattle.dg_mote.specs.Ticks.{clears, tick_of}
 use Rattle.dg_mote.specs.Hears.{heard_of}
@@ -81,6 +81,7 @@ NoRequest image None = Unit {0}
 NoRequest image (Some (Advert source entries order)) = Unit {0}
 NoRequest image (Some (Request source to i version page want)) = i ≢ image
 NoRequest image (Some (Packet source i version page packet bytes)) = Unit {0}
+NoRequest image (Some (Wide source entries order)) = Unit {0}
 
 -- it asks for no page of the image
 abbrev pub AsksNotFor : ℕ → Mode → Type 0

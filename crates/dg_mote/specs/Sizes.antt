@@ -5,13 +5,13 @@ use Rattle.dg_object.specs.Sizes.{head_size, name_size, descriptor_piece_size}
 use Rattle.dg_control.specs.Sizes.{place_size}
 use Rattle.dg_slot.specs.Layout.{crc_piece_size}
 use Rattle.dg_boot.specs.Sizes.{copy_piece_size}
-use Rattle.dg_frame.specs.Sizes.{frame_images, frame_bytes, packet_size, set_bytes, entry_size, order_size}
+use Rattle.dg_frame.specs.Sizes.{narrow_images, wide_images, frame_bytes, packet_size, set_bytes, entry_size, order_size}
 use Rattle.dg_mote.specs.declared.mote.TheConstants.{MOTE_SIZE}
 use Rattle.dg_mote.specs.declared.outbox.TheConstants.{OUTBOX_SIZE}
 
 -- the images that motes hand on: those that frames speak of
 abbrev pub shared : List ℕ
-shared = range_with_len 1 frame_images
+shared = range_with_len 1 narrow_images
 
 -- a mote that runs so long clears the count of short starts, in milliseconds
 abbrev pub long_run : ℕ
@@ -53,8 +53,8 @@ pub record BuffersFit : Type 0 where
   pub sending : kept_bytes + packet_size + packet_size + frame_bytes ≤ most_buffered
   -- a request is sent: the set that it names, in its message and in its frame
   pub asking : kept_bytes + set_bytes + frame_bytes ≤ most_buffered
-  -- an advert is heard, and a snapshot committed: the entries, the place, and a part of it
-  pub committing : kept_bytes + frame_images * entry_size + place_size + order_size ≤ most_buffered
+  -- an advert is heard, and a snapshot committed: the entries of a wide one, the place, and a part of it
+  pub committing : kept_bytes + wide_images * entry_size + place_size + order_size ≤ most_buffered
   -- a packet is heard: as it is read, and in its message
   pub taking : kept_bytes + packet_size + packet_size ≤ most_buffered
   -- it was the last one of its page: with it the piece in which the page is read for its CRC
@@ -73,7 +73,7 @@ most_mote_size = 400
 
 -- the bytes of an outbox in memory: a frame, how long it is, and whether there is one
 abbrev pub most_outbox_size : ℕ
-most_outbox_size = 64
+most_outbox_size = 80
 
 pub record ValuesAreSmall : Type 0 where
   pub mote : MOTE_SIZE ≤ most_mote_size

@@ -1,9 +1,10 @@
 -- Motes whose messages fit into frames: what they say is read as they say it.
-use Rattle.std.specs.Prelude.{◌≡◌, ℕ, ◌<◌, ◌^◌, Ok, IfSome}
+use Rattle.std.specs.Prelude.{◌≡◌, ℕ, ◌<◌, ◌^◌, Ok, IfSome, false}
 use Rattle.dg_nor.specs.Trail.{last}
 use Rattle.dg_nor.specs.Through.{Through}
 use Rattle.dg_control.specs.declared.snapshot.Order.{Order}
 use Rattle.dg_volume.specs.Store.{Store}
+use Rattle.dg_frame.specs.Sizes.{narrow_images}
 use Rattle.dg_frame.specs.Grammar.{message_of}
 use Rattle.dg_frame.specs.Ranges.{OrderInRange}
 use Rattle.dg_frame.specs.Spelling.{frame_of, FitsTypes}
@@ -14,7 +15,7 @@ use Rattle.dg_mote.specs.Hears.{source_of}
 
 -- an order that a frame can tell
 pub record OrderFits (o : Order) : Type 0 where
-  pub in_range : OrderInRange o
+  pub in_range : OrderInRange narrow_images o
   pub number : o.number < 2 ^ 32
   pub version : o.version < 2 ^ 32
 
@@ -45,4 +46,4 @@ pub record EffectSpeaks (id : ℕ) (e : Effect) : Type 0 where
 pub record IsSaid (id : ℕ) (message : Message) : Type 0 where
   pub source : source_of message ≡ id
   pub fits : FitsTypes message
-  pub is_read : message_of (frame_of message) ≡ Ok message
+  pub is_read : message_of (frame_of message) false ≡ Ok message

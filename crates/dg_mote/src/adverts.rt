@@ -1,8 +1,8 @@
 //! Adverts that are heard: a better order is kept, and an image is asked for in which the advertiser is ahead.
-ghost use Rattle.std.specs.Prelude.{◌≡◌, ◌≢◌, ℕ, ◌<◌, ◌≤◌, ◌^◌, ◌&&◌, ◌||◌, ◌==◌, nat_le, nat_lt, true, false, List, Option, Some, All, IfOk, OnOk, OnErr, IfSome};
+ghost use Rattle.std.specs.Prelude.{◌≡◌, ◌≢◌, ℕ, ◌+◌, ◌<◌, ◌≤◌, ◌^◌, ◌&&◌, ◌||◌, ◌==◌, nat_le, nat_lt, true, false, List, length, Option, Some, All, IfOk, OnOk, OnErr, IfSome};
 ghost use Rattle.dg_nor.specs.Trail.{last};
 ghost use Rattle.dg_trickle.specs.Timer.{Timer};
-ghost use Rattle.dg_frame.specs.Sizes.{frame_images};
+ghost use Rattle.dg_frame.specs.Sizes.{narrow_images};
 ghost use Rattle.dg_frame.specs.Ranges.{EntryInRange, OrderInRange};
 ghost use Rattle.dg_slot.specs.Kept.{Held};
 ghost use Rattle.dg_slot.specs.Jobs.{IsOpen, outline_told};
@@ -20,9 +20,8 @@ ghost use Rattle.dg_mote.specs.Hearing.{Rests, StaysIf, MayTake, slot_trail, Ope
 
 use crate::summary::entry_of;
 use crate::{Heard, Mode, Mote};
-use dg_base::NETWORK_IMAGES;
 use dg_control::Order;
-use dg_frame::{Entry, FRAME_IMAGES};
+use dg_frame::Entry;
 use dg_nor::{Nor, Stopped};
 use dg_object::Profile;
 use dg_order::better;
@@ -44,13 +43,14 @@ impl Mote {
         now: u64,
         word: u32,
         source: u16,
-        entries: &[Entry; FRAME_IMAGES],
+        entries: &[Entry],
         order: &Order,
     ) -> Result<Heard, Stopped>
         requires mote { (m : MoteState) × (s : Store) × IsMote (N.device nor.old).image self.old m s }
         requires moment { now < 2 ^ 62 }
         requires entries { All EntryInRange entries.now }
-        requires order { OrderInRange order.now }
+        requires known { length entries.now < images }
+        requires order { OrderInRange narrow_images order.now }
         ensures done { IfOk result (λ heard. (m : MoteState) (s : Store) → IsMote (N.device nor.old).image self.old m s
             → Done (on_advert m.mode m s now word source entries.now order.now) (N.device nor.old) (N.device nor.new) self.new heard) }
         ensures unchanged { IfOk result (λ heard. StaysIf heard ((N.device nor.new ≡ N.device nor.old) × (self.new ≡ self.old))) }
@@ -72,13 +72,14 @@ impl Mote {
         now: u64,
         word: u32,
         source: u16,
-        entries: &[Entry; FRAME_IMAGES],
+        entries: &[Entry],
         order: &Order,
     ) -> Result<Heard, Stopped>
         requires mote { (m : MoteState) × (s : Store) × (timer : Timer) × IsMote (N.device nor.old).image self.old m s × (m.mode ≡ Maintain timer) }
         requires moment { now < 2 ^ 62 }
         requires entries { All EntryInRange entries.now }
-        requires order { OrderInRange order.now }
+        requires known { length entries.now < images }
+        requires order { OrderInRange narrow_images order.now }
         ensures done { IfOk result (λ heard. (m : MoteState) (s : Store) (timer : Timer) → IsMote (N.device nor.old).image self.old m s → m.mode ≡ Maintain timer
             → Done (advert_heard m timer s now word source entries.now order.now) (N.device nor.old) (N.device nor.new) self.new heard) }
         ensures not_dropped { IfOk result (λ heard. StaysIf heard ⊥) }
@@ -99,12 +100,13 @@ impl Mote {
         now: u64,
         word: u32,
         source: u16,
-        entries: &[Entry; FRAME_IMAGES],
+        entries: &[Entry],
         same: bool,
     ) -> Result<Heard, Stopped>
         requires mote { (m : MoteState) × (s : Store) × (timer : Timer) × IsMote (N.device nor.old).image self.old m s × (m.mode ≡ Maintain timer) }
         requires moment { now < 2 ^ 62 }
         requires entries { All EntryInRange entries.now }
+        requires known { length entries.now < images }
         ensures done { IfOk result (λ heard. (m : MoteState) (s : Store) (timer : Timer) → IsMote (N.device nor.old).image self.old m s → m.mode ≡ Maintain timer
             → Done (by_ahead (ahead_in entries.now s) m timer s now word source entries.now same) (N.device nor.old) (N.device nor.new) self.new heard) }
         ensures not_dropped { IfOk result (λ heard. StaysIf heard ⊥) }
@@ -125,7 +127,7 @@ impl Mote {
     /// Whether no window of an image is open, and its slot need not be taken, or there is room to take it.
     fn may_ask(&self, now: u64, image: u8, entry: Entry) -> bool
         requires not_golden { 1 ≤ image }
-        requires known { image ≤ frame_images }
+        requires known { image < images }
         ensures { (c : List ℕ) (m : MoteState) (s : Store) → IsMote c self.now m s → result ≡ asks m s now image entry }
     {
         self.windows.may_ask(now, image) && can_open(&self.volume, image, entry.version)
@@ -183,7 +185,8 @@ impl Mote {
 }
 
 /// Whether an advert equals what a mote would say that keeps this.
-fn would_say(volume: &Volume, entries: &[Entry; FRAME_IMAGES], order: &Order) -> bool
+fn would_say(volume: &Volume, entries: &[Entry], order: &Order) -> bool
+    requires { length entries.now < images }
     ensures { (s : Store) → Tells volume.now s → result ≡ is_own entries.now order.now s }
 {
     if !says_entries(volume, entries) {
@@ -199,11 +202,13 @@ fn is_same_order(a: &Order, b: &Order) -> bool
 }
 
 /// Whether entries equal what a mote would say that keeps this.
-fn says_entries(volume: &Volume, entries: &[Entry; FRAME_IMAGES]) -> bool
-    ensures told { result ≡ true → (s : Store) → Tells volume.now s → (i : ℕ) → 1 ≤ i → i ≤ frame_images → same_entry (entry_for entries.now i) (entry_by (held s i)) ≡ true }
-    ensures other { result ≡ false → (i : ℕ) × (1 ≤ i) × (i ≤ frame_images) × ((s : Store) → Tells volume.now s → same_entry (entry_for entries.now i) (entry_by (held s i)) ≡ false) }
+fn says_entries(volume: &Volume, entries: &[Entry]) -> bool
+    requires { length entries.now < images }
+    ensures told { result ≡ true → (s : Store) → Tells volume.now s → (i : ℕ) → 1 ≤ i → i ≤ length entries.now → same_entry (entry_for entries.now i) (entry_by (held s i)) ≡ true }
+    ensures other { result ≡ false → (i : ℕ) × (1 ≤ i) × (i ≤ length entries.now) × ((s : Store) → Tells volume.now s → same_entry (entry_for entries.now i) (entry_by (held s i)) ≡ false) }
 {
-    for image in 1..=NETWORK_IMAGES {
+    let past = past_last(entries);
+    for image in 1..past {
         if !is_same_entry(&entry_for(entries, image), &entry_of(volume.kept(image))) {
             return false;
         }
@@ -218,12 +223,14 @@ fn is_same_entry(a: &Entry, b: &Entry) -> bool
 }
 
 /// The least image in which an advertiser is ahead of a mote that keeps this.
-fn first_ahead(volume: &Volume, entries: &[Entry; FRAME_IMAGES]) -> Option<u8>
+fn first_ahead(volume: &Volume, entries: &[Entry]) -> Option<u8>
+    requires { length entries.now < images }
     ensures least { (s : Store) → Tells volume.now s → result ≡ ahead_in entries.now s }
-    ensures within { IfSome result (λ i. (1 ≤ i) × (i ≤ frame_images)) }
+    ensures within { IfSome result (λ i. (1 ≤ i) × (i ≤ length entries.now)) }
     ensures ahead { IfSome result (λ i. (s : Store) → Tells volume.now s → ahead_of (entry_for entries.now i) (held s i) ≡ true) }
 {
-    for image in 1..=NETWORK_IMAGES {
+    let past = past_last(entries);
+    for image in 1..past {
         if is_ahead(volume.kept(image), entry_for(entries, image)) {
             return Some(image);
         }
@@ -253,10 +260,18 @@ fn is_same_object(kept: Kept, entry: Entry) -> bool
     entry.version == kept.version && entry.pages == kept.pages && entry.crc == kept.crc
 }
 
+/// The number behind that of the last image that an advert names.
+fn past_last(entries: &[Entry]) -> u8
+    requires { length entries.now < images }
+    ensures { result ≡ length entries.now + 1 }
+{
+    entries.len() as u8 + 1
+}
+
 /// The entry of an image in an advert.
-fn entry_for(entries: &[Entry; FRAME_IMAGES], image: u8) -> Entry
+fn entry_for(entries: &[Entry], image: u8) -> Entry
     requires not_golden { 1 ≤ image }
-    requires known { image ≤ frame_images }
+    requires known { image ≤ length entries.now }
     ensures { result ≡ entry_for entries.now image }
 {
     entries[usize::from(image) - 1]
@@ -290,7 +305,7 @@ fn heeds(volume: &Volume, order: &Order) -> bool
 /// Keeps a better order, while there is room.
 fn heed<N: Nor>(nor: &mut N, volume: &mut Volume, order: &Order) -> Result<(), Stopped>
     requires mounted { IsMounted (N.device nor.old).image volume.old }
-    requires range { OrderInRange order.now }
+    requires range { OrderInRange narrow_images order.now }
     ensures acted { OnOk result ((s : Store) → Mounted (N.device nor.old).image volume.old s
         → Acted (heed_trail s order.now) (N.device nor.old) (N.device nor.new) volume.new) }
     ensures lent { (i : ℕ) → is_lent volume.new i ≡ is_lent volume.old i }

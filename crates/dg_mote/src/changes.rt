@@ -22,12 +22,12 @@ use dg_volume::{acts_end, trails_begin};
 pub fn what_a_mote_may_change()
     ensures ticked { (m : MoteState) (s : Store) (now word : ℕ) → Through (MayClear s) (tick_of m s now word).trail }
     ensures advert { (m : MoteState) (s : Store) (now word : ℕ) (bytes : List ℕ) (source : ℕ) (entries : List Entry) (order : Order)
-        → message_of bytes ≡ Ok (message.Advert source entries order)
+        → message_of bytes false ≡ Ok (message.Advert source entries order)
         → Through (HeedsAdvert entries order true s) (heard_of m s now word bytes).trail × HeedsAdvert entries order false s (last (heard_of m s now word bytes).trail) }
     ensures request { (m : MoteState) (s : Store) (now word : ℕ) (bytes : List ℕ) (source to image version page : ℕ) (want : Numbers)
-        → message_of bytes ≡ Ok (message.Request source to image version page want) → (heard_of m s now word bytes).trail ≡ resting s 0 }
+        → message_of bytes false ≡ Ok (message.Request source to image version page want) → (heard_of m s now word bytes).trail ≡ resting s 0 }
     ensures packet { (m : MoteState) (s : Store) (now word : ℕ) (bytes : List ℕ) (source image version page q : ℕ) (content : List ℕ)
-        → message_of bytes ≡ Ok (message.Packet source image version page q content)
+        → message_of bytes false ≡ Ok (message.Packet source image version page q content)
         → Through (λ t. (t ≡ s) ⊎ Completes m.mode image version page q s t) (heard_of m s now word bytes).trail }
 {
     acts_end();

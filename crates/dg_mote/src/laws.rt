@@ -1,5 +1,5 @@
 //! What holds of motes by their rules. These functions do nothing: their contracts are the laws.
-ghost use Rattle.std.specs.Prelude.{◌≡◌, ℕ, ◌<◌, ◌≤◌, ◌^◌, List, length, Ok, IfSome, IfOk};
+ghost use Rattle.std.specs.Prelude.{◌≡◌, ℕ, ◌<◌, ◌≤◌, ◌^◌, Bool, List, length, Ok, IfSome, IfOk, false};
 ghost use Rattle.dg_nor.specs.Trail.{Trail, last, Leaves};
 ghost use Rattle.dg_nor.specs.Through.{Through};
 ghost use Rattle.dg_object.specs.Object.{Row};
@@ -116,9 +116,9 @@ pub fn what_is_sent_is_read()
         → IfSome (tick_of m s now word).sent (λ message. IsHonest table (frame_of message)) }
     ensures begins { (s : Store) (id now word : ℕ) → id < 2 ^ 16 → OrderFits s.order → Speaks (begun id now word) s }
     ensures ticked { (m : MoteState) (s : Store) (now word : ℕ) → Speaks m s → TurnSpeaks m.id (tick_of m s now word) }
-    ensures heard { (m : MoteState) (s : Store) (now word : ℕ) (bytes : List ℕ) → IfOk (message_of bytes) FitsTypes → Speaks m s → TurnSpeaks m.id (heard_of m s now word bytes) }
+    ensures heard { (m : MoteState) (s : Store) (now word : ℕ) (bytes : List ℕ) → IfOk (message_of bytes false) FitsTypes → Speaks m s → TurnSpeaks m.id (heard_of m s now word bytes) }
     ensures tick_effect { (m : MoteState) (s : Store) (now word : ℕ) → Speaks m s → EffectSpeaks m.id (tick_effect m s now word) }
-    ensures frame_effect { (m : MoteState) (s : Store) (now word : ℕ) (bytes : List ℕ) → IfOk (message_of bytes) FitsTypes → Speaks m s → EffectSpeaks m.id (frame_effect m s now word bytes) }
+    ensures frame_effect { (m : MoteState) (s : Store) (now word : ℕ) (bytes : List ℕ) → IfOk (message_of bytes false) FitsTypes → Speaks m s → EffectSpeaks m.id (frame_effect m s now word bytes) }
     ensures reset_effect { (s : Store) (id now word : ℕ) → id < 2 ^ 16 → OrderFits s.order → EffectSpeaks id (reset_effect s id now word) }
     ensures stopped { (t : Trail Store) (k : ℕ) (s : Store) → Through (λ x. OrderFits x.order) t → Leaves IsNear t k s → OrderFits s.order }
 {
@@ -133,14 +133,14 @@ pub fn what_is_sent_is_read()
     one_spelling();
 }
 
-/// The outbox, the packet sets and the largest array of a call have 244 bytes. All arrays of bytes that are alive at once
+/// The outbox, the packet sets and the largest array of a call have 214 bytes. All arrays of bytes that are alive at once
 /// in a call have no more than 256, and beside the outbox and the sets no array lies in the value of a mote. Each frame
-/// that is read has room in the outbox.
+/// that is read, by a wide reader or a narrow one, has room in the outbox.
 pub fn a_mote_buffers_little()
-    ensures counted { buffered_bytes ≡ 244 }
+    ensures counted { buffered_bytes ≡ 214 }
     ensures alive { BuffersFit }
     ensures values { ValuesAreSmall }
-    ensures frames { (bytes : List ℕ) (message : Message) → message_of bytes ≡ Ok message → length bytes ≤ outbox_bytes }
+    ensures frames { (wide : Bool) (bytes : List ℕ) (message : Message) → message_of bytes wide ≡ Ok message → length bytes ≤ outbox_bytes }
 {
     one_reading();
 }

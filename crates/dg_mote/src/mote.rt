@@ -7,6 +7,7 @@ ghost use Rattle.dg_mote.specs.Model.{MoteState, begun, maintains};
 ghost use Rattle.dg_mote.specs.Timely.{Timely};
 ghost use Rattle.dg_mote.specs.Motes.{IsMote, id_told, volume_of};
 
+use dg_boot::COPY_PIECE;
 use dg_frame::{FRAME_BYTES, FrameFault, SET_BYTES};
 use dg_quiet::Windows;
 use dg_recv::Asking;
@@ -21,7 +22,7 @@ use std::mem::{self, size_of};
 const SETS: usize = 2;
 
 /// The bytes of the largest array of a call: the piece in which a start copies a page.
-const SCRATCH_BYTES: usize = 184;
+const SCRATCH_BYTES: usize = COPY_PIECE as usize;
 
 /// The bytes of the outbox, the packet sets and the largest array of a call.
 const BUFFERED: u32 = (FRAME_BYTES + SETS * SET_BYTES + SCRATCH_BYTES) as u32;

@@ -1,5 +1,5 @@
 //! What a mote says of itself.
-ghost use Rattle.std.specs.Prelude.{◌≡◌, ℕ, true, List, Option};
+ghost use Rattle.std.specs.Prelude.{◌≡◌, ℕ, true, List, Option, false};
 ghost use Rattle.dg_slot.specs.Kept.{Held};
 ghost use Rattle.dg_volume.specs.Store.{Store};
 ghost use Rattle.dg_volume.specs.Told.{told};
@@ -34,7 +34,7 @@ pub(crate) fn entry_of(kept: Option<Kept>) -> Entry
 pub(crate) fn advert_message(id: u16, volume: &Volume) -> Message
     requires { (c : List ℕ) × IsMounted c volume.now }
     ensures says { (s : Store) → Tells volume.now s → result ≡ advert_of id s }
-    ensures fits { in_range result ≡ true }
+    ensures fits { in_range false result ≡ true }
 {
     Message::Advert {
         source: id,

@@ -72,8 +72,8 @@ pub record MoteLaws : Type 0 where
   pub says : (table : List Row) (m : MoteState) (s : Store) (now word : ℕ) → IsTable table → IsWell table m s now → Speaks m s → IfSome (tick_of m s now word).sent (IsSaid m.id)
   pub speaks_first : (s : Store) (id now word : ℕ) → id < 2 ^ 16 → OrderFits s.order → Speaks (begun id now word) s
   pub speaks_ticked : (m : MoteState) (s : Store) (now word : ℕ) → Speaks m s → TurnSpeaks m.id (tick_of m s now word)
-  pub speaks_heard : (m : MoteState) (s : Store) (now word : ℕ) (bytes : List ℕ) → IfOk (message_of bytes) FitsTypes → Speaks m s → TurnSpeaks m.id (heard_of m s now word bytes)
-  pub bytes_fit : (b : List ℕ) (m : Message) → AreBytes b → message_of b ≡ Ok m → FitsTypes m
+  pub speaks_heard : (m : MoteState) (s : Store) (now word : ℕ) (bytes : List ℕ) → IfOk (message_of bytes false) FitsTypes → Speaks m s → TurnSpeaks m.id (heard_of m s now word bytes)
+  pub bytes_fit : (b : List ℕ) (m : Message) → AreBytes b → message_of b false ≡ Ok m → FitsTypes m
 
 pub record Laws : Type 0 where
   pub volume : VolumeLaws
@@ -260,7 +260,7 @@ module _ (laws : Laws) (w : World) (agrees : WorldAgrees w) where
       turn_agrees m dt r step step.sent known.id well (laws.mote.speaks_ticked r.mote s now word known.speaks)
       (said_well m r.mote.id step.sent known.id (laws.mote.says w.table r.mote s now word agrees.table (well_now m dt r low is) known.speaks) well.sent)
 
-  hear_agrees : (m dt word : ℕ) (bytes : List ℕ) (r : Running) → (site w m).runs ≡ Some r → m < length w.sites → IsHonest w.table bytes → IfOk (message_of bytes) FitsTypes
+  hear_agrees : (m dt word : ℕ) (bytes : List ℕ) (r : Running) → (site w m).runs ≡ Some r → m < length w.sites → IsHonest w.table bytes → IfOk (message_of bytes false) FitsTypes
       → AgreesDoes w m dt (hears w m (w.moment + dt) word bytes r)
   hear_agrees m dt word bytes r is low honest fits =
       let s = store_at w m in
@@ -274,11 +274,11 @@ module _ (laws : Laws) (w : World) (agrees : WorldAgrees w) where
   sent_honest : (f : Sent) → SentIsWell w.table f → IsHonest w.table f.bytes
   sent_honest f well = subst (HonestMessage w.table) (sym well.spelled) well.honest
 
-  sent_fits : (f : Sent) → SentIsWell w.table f → IfOk (message_of f.bytes) FitsTypes
+  sent_fits : (f : Sent) → SentIsWell w.table f → IfOk (message_of f.bytes false) FitsTypes
   sent_fits f well = subst (λ (r : Result Message FrameFault). IfOk r FitsTypes) (sym well.spelled) well.fits
 
   -- one from outside
-  bytes_fit : (bytes : List ℕ) → AreBytes bytes → (r : Result Message FrameFault) → message_of bytes ≡ r → IfOk r FitsTypes
+  bytes_fit : (bytes : List ℕ) → AreBytes bytes → (r : Result Message FrameFault) → message_of bytes false ≡ r → IfOk r FitsTypes
   bytes_fit bytes are (Err fault) is = tt
   bytes_fit bytes are (Ok message) is = laws.mote.bytes_fit bytes message are is
 
@@ -366,7 +366,7 @@ module _ (laws : Laws) (w : World) (agrees : WorldAgrees w) where
       (λ m dt word fits honest. start_agrees kind.Power m dt m word fits refl)
       (λ m dt word number f r is at q fits honest. hear_agrees m dt word f.bytes r is fits.0 (sent_honest f q) (sent_fits f q))
       (λ from m dt word f r is at q fits honest. hear_agrees m dt word f.bytes r is fits.1 (sent_honest f q) (sent_fits f q))
-      (λ m dt word bytes r is fits honest. hear_agrees m dt word bytes r is fits.0 honest (bytes_fit bytes fits.2 (message_of bytes) refl))
+      (λ m dt word bytes r is fits honest. hear_agrees m dt word bytes r is fits.0 honest (bytes_fit bytes fits.2 (message_of bytes false) refl))
       (λ m image version dt word row known none fits honest. inject_agrees m image version dt word row fits.0 known none)
       (λ m number image version dt word none fits honest. order_agrees m number image version dt word fits.0 (order_fits number image version fits.1 fits.2 fits.3 fits.4 fits.5))
 

@@ -226,7 +226,7 @@ module _ (laws : StepLaws) (past : Past) (w : World) (agrees : WorldAgrees w) (s
         let n = (heard_of r.mote Listener.store Now word bytes).mote in
         record {
           whole = λ runs e. (is_on m r on, mote (last Heard) Listener.runs, ends.whole.0, same_key (last Heard) runs Listener.runs (on_key m r n runs on e), refl);
-          cut = Through-map (λ t. LegalMessage (Came m bytes past) true m (message_of bytes) (small_mote Listener) (mote t Listener.runs) × IsCalm Listener.store t) (λ s. Brought true (mote s None))
+          cut = Through-map (λ t. LegalMessage (Came m bytes past) true m (message_of bytes false) (small_mote Listener) (mote t Listener.runs) × IsCalm Listener.store t) (λ s. Brought true (mote s None))
               (λ t may. (is_on m r on, mote t Listener.runs, may.0, refl, refl)) Heard ends.cut;
           calm = λ runs. if_any (IsSettled (last Heard)) runs (calm_settled Listener.store (last Heard) ends.whole.1 (settled_here m r on here));
         }

@@ -8,10 +8,11 @@ use Rattle.dg_object.specs.Object.{Row}
 use Rattle.dg_control.specs.declared.snapshot.Order.{Order}
 use Rattle.dg_volume.specs.Store.{Store}
 use Rattle.dg_frame.specs.Grammar.{message_of}
+use Rattle.dg_frame.proofs.ReadingLemmas.{no_wide}
 use Rattle.dg_frame.specs.declared.Entry.{Entry}
 use Rattle.dg_frame.specs.declared.FrameFault.{FrameFault}
 use Rattle.dg_frame.specs.declared.Message.{Message}
-use Rattle.dg_frame.specs.declared.Message.TheVariants.{Advert, Request, Packet}
+use Rattle.dg_frame.specs.declared.Message.TheVariants.{Advert, Request, Packet, Wide}
 use Rattle.dg_mote.specs.Model.{MoteState}
 use Rattle.dg_mote.specs.Ticks.{tick_of}
 use Rattle.dg_mote.specs.Hears.{heard_of}
@@ -78,7 +79,7 @@ module _ (laws : ChangeLaws) (table : List Row) (past : Past) (m : ℕ) (x : Sit
   completes_calm image version page q t may =
       ⊎_elim (λ same. same_calm x.store t same) (λ c. subst (IsCalm x.store) (sym c.paged_is) (record { gesture = inl refl; room = omega arith })) may
 
-  ends_by : (r : Result Message FrameFault) → message_of bytes ≡ r → Ends r
+  ends_by : (r : Result Message FrameFault) → message_of bytes false ≡ r → Ends r
   ends_by (Err fault) is = rests_ends (Err fault) (λ blew. (refl, calm_here)) (refused_trail laws n x.store now word bytes fault is)
   ends_by (Ok (Advert source entries order)) is =
       let known = laws.adverts n x.store now word bytes source entries order is in
@@ -87,6 +88,7 @@ module _ (laws : ChangeLaws) (table : List Row) (past : Past) (m : ℕ) (x : Sit
       record { cut = Through-map (HeedsAdvert entries order true x.store) (May (Ok (Advert source entries order)) true) (may true) Step known.0; whole = may false (last Step) known.1 }
   ends_by (Ok (Request source to image version page want)) is =
       rests_ends (Ok (Request source to image version page want)) (λ blew. (refl, calm_here)) (laws.requests n x.store now word bytes source to image version page want is)
+  ends_by (Ok (Wide source entries order)) is = absurd (no_wide bytes source entries order is)
   ends_by (Ok (Packet source image version page q content)) is =
       let r : Result Message FrameFault = Ok (Packet source image version page q content) in
       let Q : Store → Type 0 = λ t. (t ≡ x.store) ⊎ Completes n.mode image version page q x.store t in
@@ -95,5 +97,5 @@ module _ (laws : ChangeLaws) (table : List Row) (past : Past) (m : ℕ) (x : Sit
       λ blew t c. (packet_legal past m bytes x source image version page q content is table n.mode agrees there t c, completes_calm image version page q t c) in
       record { cut = Through-map Q (May r true) (may true) Step known; whole = may false (last Step) (Through-last Q Step known) }
 
-  pub heard_ends : Ends (message_of bytes)
-  heard_ends = ends_by (message_of bytes) refl
+  pub heard_ends : Ends (message_of bytes false)
+  heard_ends = ends_by (message_of bytes false) refl

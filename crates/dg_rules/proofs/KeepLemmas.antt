@@ -5,10 +5,11 @@ use Rattle.std.proofs.lemmas.List.{get_or-set_same, get_or-set_other, get_or_pas
 use Rattle.dg_control.specs.declared.snapshot.Order.{Order}
 use Rattle.dg_object.specs.Object.{Row}
 use Rattle.dg_frame.specs.Grammar.{message_of}
+use Rattle.dg_frame.proofs.ReadingLemmas.{no_wide}
 use Rattle.dg_frame.specs.declared.Entry.{Entry}
 use Rattle.dg_frame.specs.declared.FrameFault.{FrameFault}
 use Rattle.dg_frame.specs.declared.Message.{Message}
-use Rattle.dg_frame.specs.declared.Message.TheVariants.{Advert, Request, Packet}
+use Rattle.dg_frame.specs.declared.Message.TheVariants.{Advert, Request, Packet, Wide}
 use Rattle.dg_mote.specs.Summary.{entry_for}
 use Rattle.dg_rules.specs.World.{World}
 use Rattle.dg_rules.specs.Small.{Holding, SmallMote, Small, small, mote_in, holds, whole}
@@ -122,7 +123,7 @@ module _ (bytes : List ℕ) (blew : Bool) (i : ℕ) (h : Holding) (old mid : Sma
   framed_stays : mid ≡ old → Framed (Some bytes) blew i h (holds mid i)
   framed_stays same = inl (kept_itself (holds mid i) h (ap (λ (x : SmallMote). holds x i) same ∙ had))
 
-  framed_advert : (source : ℕ) (entries : List Entry) (order : Order) → message_of bytes ≡ Ok (Advert source entries order) → LegalAdvert blew entries order old mid → Framed (Some bytes) blew i h (holds mid i)
+  framed_advert : (source : ℕ) (entries : List Entry) (order : Order) → message_of bytes false ≡ Ok (Advert source entries order) → LegalAdvert blew entries order old mid → Framed (Some bytes) blew i h (holds mid i)
   framed_advert source entries order is l =
       ⊎_elim
       (λ here.
@@ -159,15 +160,16 @@ module _ (bytes : List ℕ) (blew : Bool) (i : ℕ) (h : Holding) (old mid : Sma
       (λ apart. inl (kept_itself (holds mid i) h (ap (λ (x : SmallMote). holds x i) l.change ∙ get_or-set_other old.holdings image i l.held None apart ∙ had)))
       (cases_eq i image)
 
-  framed_by : (past : Past) (m : ℕ) (r : Result Message FrameFault) → message_of bytes ≡ r → LegalMessage past blew m r old mid → Framed (Some bytes) blew i h (holds mid i)
+  framed_by : (past : Past) (m : ℕ) (r : Result Message FrameFault) → message_of bytes false ≡ r → LegalMessage past blew m r old mid → Framed (Some bytes) blew i h (holds mid i)
   framed_by past m (Err fault) is legal = framed_stays legal
   framed_by past m (Ok (Advert source entries order)) is legal = framed_advert source entries order is legal
   framed_by past m (Ok (Request source to image version page want)) is legal = framed_stays legal
+  framed_by past m (Ok (Wide source entries order)) is legal = absurd (no_wide bytes source entries order is)
   framed_by past m (Ok (Packet source image version page q content)) is legal = framed_packet past m image version page legal
 
 framed : (frame : Option (List ℕ)) (blew : Bool) (i : ℕ) (h : Holding) (past : Past) (m : ℕ) (old mid : SmallMote) → holds old i ≡ Some h → LegalFrame past blew m frame old mid → Framed frame blew i h (holds mid i)
 framed None blew i h past m old mid had legal = absurd legal
-framed (Some bytes) blew i h past m old mid had legal = framed_by bytes blew i h old mid had (Came m bytes past) m (message_of bytes) refl legal
+framed (Some bytes) blew i h past m old mid had legal = framed_by bytes blew i h old mid had (Came m bytes past) m (message_of bytes false) refl legal
 
 -- the same, where the mote is off behind a cut
 framed_then : (frame : Option (List ℕ)) (blew : Bool) (i : ℕ) (h : Holding) (past : Past) (m : ℕ) (old mid new : SmallMote) → holds old i ≡ Some h → LegalFrame past blew m frame old mid → new ≡ off_after blew mid
@@ -181,6 +183,8 @@ golden_message past blew m (Err fault) old mid legal = ap (λ (x : SmallMote). h
 golden_message past blew m (Ok (Advert source entries order)) old mid legal =
     let low = legal.known in ap (λ (x : SmallMote). holds x 0) legal.change ∙ get_or-set_other old.holdings legal.image 0 legal.held None (λ e. absurd (omega (arith, e, low)))
 golden_message past blew m (Ok (Request source to image version page want)) old mid legal = ap (λ (x : SmallMote). holds x 0) legal
+golden_message past blew m (Ok (Wide source entries order)) old mid legal =
+    let low = legal.known in ap (λ (x : SmallMote). holds x 0) legal.change ∙ get_or-set_other old.holdings legal.image 0 legal.held None (λ e. absurd (omega (arith, e, low)))
 golden_message past blew m (Ok (Packet source image version page q content)) old mid legal =
     ap (λ (x : SmallMote). holds x 0) legal.change
     ∙ ⊎_elim
@@ -191,7 +195,7 @@ golden_message past blew m (Ok (Packet source image version page q content)) old
 golden_frame : (frame : Option (List ℕ)) (past : Past) (blew : Bool) (m : ℕ) (old mid new : SmallMote) → LegalFrame past blew m frame old mid → new ≡ off_after blew mid → holds new 0 ≡ holds old 0
 golden_frame None past blew m old mid new legal is = absurd legal
 golden_frame (Some bytes) past blew m old mid new legal is =
-    ap (λ (x : SmallMote). holds x 0) is ∙ off_holds blew mid 0 ∙ golden_message (Came m bytes past) blew m (message_of bytes) old mid legal
+    ap (λ (x : SmallMote). holds x 0) is ∙ off_holds blew mid 0 ∙ golden_message (Came m bytes past) blew m (message_of bytes false) old mid legal
 
 -- ---- every kind of event
 

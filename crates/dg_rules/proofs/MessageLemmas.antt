@@ -1,5 +1,5 @@
 -- What a frame that is heard may change of the small state.
-use Rattle.std.proofs.Common.{◌≡◌, ◌⊎◌, ℕ, ◌+◌, ◌<◌, Bool, true, List, map, Option, Some, None, option_map, IfSome, is_some, Ok, refl, sym, ap, subst, ◌∙◌, inl, inr, ⊎_elim, arith}
+use Rattle.std.proofs.Common.{◌≡◌, ◌⊎◌, ℕ, ◌+◌, ◌<◌, Bool, true, List, map, Option, Some, None, option_map, IfSome, is_some, Ok, refl, sym, ap, subst, ◌∙◌, inl, inr, ⊎_elim, arith, false}
 use Rattle.std.proofs.lemmas.List.{map-set, length_push, set-get_or}
 use Rattle.std.specs.Prelude.{slice_set}
 use Rattle.dg_object.specs.Object.{Row}
@@ -64,7 +64,7 @@ advert_legal blew entries order x t h =
 
 -- ---- packets
 
-module _ (past : Past) (m : ℕ) (bytes : List ℕ) (x : Site) (source image version page q : ℕ) (content : List ℕ) (is : message_of bytes ≡ Ok (Packet source image version page q content)) where
+module _ (past : Past) (m : ℕ) (bytes : List ℕ) (x : Site) (source image version page q : ℕ) (content : List ℕ) (is : message_of bytes false ≡ Ok (Packet source image version page q content)) where
   packet_stays : (t : Store) → t ≡ x.store → LegalPacket (Came m bytes past) m image version page (small_mote x) (mote t x.runs)
   packet_stays t same = record { held = holds (small_mote x) image; held_change = inl refl; change = stays_small x t same ∙ same_holding_stays (small_mote x) image }
 

@@ -10,7 +10,7 @@ use Rattle.dg_volume.specs.Agreement.{Agrees}
 use Rattle.dg_frame.specs.declared.Entry.{Entry}
 use Rattle.dg_frame.specs.declared.FrameFault.{FrameFault}
 use Rattle.dg_frame.specs.declared.Message.{Message}
-use Rattle.dg_frame.specs.declared.Message.TheVariants.{Advert, Request, Packet}
+use Rattle.dg_frame.specs.declared.Message.TheVariants.{Advert, Request, Packet, Wide}
 use Rattle.dg_mote.specs.Model.{MoteState, Mode, Maintain, Receive, Transmit}
 use Rattle.dg_mote.specs.Agreement.{ModeAgrees, HonestEntry, HonestMessage}
 use Rattle.dg_mote.specs.Well.{StoreIsWell, IsWell}
@@ -73,6 +73,7 @@ module _ (table more : List Row) (wider : Wider table more) where
   message_wider (Err fault) h = tt
   message_wider (Ok (Request source to image version page want)) h = tt
   message_wider (Ok (Advert source entries order)) h = λ i low high. entry_wider i _ (h i low high)
+  message_wider (Ok (Wide source entries order)) h = λ i low high. entry_wider i _ (h i low high)
   message_wider (Ok (Packet source image version page q bytes)) h = (h.0, wider image version h.0 h.1, h.2, h.3)
 
   pub sent_wider : (f : Sent) → SentIsWell table f → SentIsWell more f

@@ -10,7 +10,7 @@ use Rattle.dg_volume.specs.Store.{Store, held}
 use Rattle.dg_volume.specs.Changes.{same_bytes}
 use Rattle.dg_volume.specs.Start.{Runs, runs_length, runs_crc}
 use Rattle.dg_frame.specs.declared.Message.{Message}
-use Rattle.dg_frame.specs.declared.Message.TheVariants.{Advert, Request, Packet}
+use Rattle.dg_frame.specs.declared.Message.TheVariants.{Advert, Request, Packet, Wide}
 use Rattle.dg_script.specs.declared.report.Report.{Report}
 use Rattle.dg_script.specs.declared.report.Report.TheVariants.{Order as OrderLine, Lost, Have, Start, SentAdvert, SentRequest, SentData, Taken, End, MoteOn, MoteOff, Kept}
 use Rattle.dg_rules.specs.World.{World, Running, Site, site}
@@ -47,6 +47,7 @@ sent_line m None = []
 sent_line m (Some (Advert source entries order)) = SentAdvert m ∷ []
 sent_line m (Some (Request source to image version page want)) = SentRequest m to image version page (set.len want) ∷ []
 sent_line m (Some (Packet source image version page packet bytes)) = SentData m image version page packet ∷ []
+sent_line m (Some (Wide source entries order)) = SentAdvert m ∷ []
 
 -- `sent` lines are told where they are wanted
 abbrev pub is_told : Bool → Report → Bool

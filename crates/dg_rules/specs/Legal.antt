@@ -5,7 +5,7 @@ use Rattle.dg_control.specs.declared.snapshot.Order.{Order}
 use Rattle.dg_slot.specs.Layout.{packets}
 use Rattle.dg_frame.specs.Grammar.{message_of}
 use Rattle.dg_frame.specs.declared.Message.{Message}
-use Rattle.dg_frame.specs.declared.Message.TheVariants.{Advert, Request, Packet}
+use Rattle.dg_frame.specs.declared.Message.TheVariants.{Advert, Request, Packet, Wide}
 use Rattle.dg_frame.specs.declared.FrameFault.{FrameFault}
 use Rattle.dg_frame.specs.declared.Entry.{Entry}
 use Rattle.dg_mote.specs.Summary.{entry_for}
@@ -29,7 +29,7 @@ unfoldable pub CameTo : ℕ → (image version page q : ℕ) → Past → Type 0
 CameTo m image version page q Begins = ⊥
 CameTo m image version page q (Started mote before) = (mote ≢ m) × CameTo m image version page q before
 CameTo m image version page q (Came mote bytes before) =
-    ((mote ≡ m) × ((source : ℕ) × (data_bytes : List ℕ) × (message_of bytes ≡ Ok (Packet source image version page q data_bytes))))
+    ((mote ≡ m) × ((source : ℕ) × (data_bytes : List ℕ) × (message_of bytes false ≡ Ok (Packet source image version page q data_bytes))))
     ⊎ CameTo m image version page q before
 
 abbrev pub AllCame : ℕ → (image version page : ℕ) → Past → Type 0
@@ -130,6 +130,7 @@ LegalMessage past blew m (Err fault) old new = new ≡ old
 LegalMessage past blew m (Ok (Advert source entries order)) old new = LegalAdvert blew entries order old new
 LegalMessage past blew m (Ok (Request source to image version page want)) old new = new ≡ old
 LegalMessage past blew m (Ok (Packet source image version page q bytes)) old new = LegalPacket past m image version page old new
+LegalMessage past blew m (Ok (Wide source entries order)) old new = LegalAdvert blew entries order old new
 
 -- ---- a step
 
@@ -149,7 +150,7 @@ LegalReset table true old new = CutStart (MayStart table old) old new
 -- the frame that an event brings is the last of those that came
 abbrev pub LegalFrame : Past → Bool → ℕ → Option (List ℕ) → SmallMote → SmallMote → Type 0
 LegalFrame past blew m None old new = ⊥
-LegalFrame past blew m (Some bytes) old new = LegalMessage (Came m bytes past) blew m (message_of bytes) old new
+LegalFrame past blew m (Some bytes) old new = LegalMessage (Came m bytes past) blew m (message_of bytes false) old new
 
 -- what an event that is not refused may change at its mote, where `frame` is the one that it brings. A cut that blew makes the mote off
 abbrev pub LegalAt : Past → List Row → List Row → Bool → Option (List ℕ) → Event → SmallMote → SmallMote → List Row → Type 0

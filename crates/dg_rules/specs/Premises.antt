@@ -1,5 +1,5 @@
 -- Worlds that agree with their table, and runs over honest frames.
-use Rattle.std.specs.Prelude.{◌≡◌, ◌≢◌, ℕ, ◌<◌, ◌≤◌, ◌^◌, IsTrue, List, length, Some, None, IfSome, Ok}
+use Rattle.std.specs.Prelude.{◌≡◌, ◌≢◌, ℕ, ◌<◌, ◌≤◌, ◌^◌, IsTrue, List, length, Some, None, IfSome, Ok, false}
 use Rattle.std.specs.List.{AllByRecursion}
 use Rattle.dg_words.specs.Cells.{AreBytes}
 use Rattle.dg_base.specs.Texts.{spells_name}
@@ -47,7 +47,7 @@ pub record SiteIsWell (table : List Row) (m now : ℕ) (x : Site) : Type 0 where
 -- a frame that was sent spells a message of its sender, which is honest, and whose fields fit into a frame
 pub record SentIsWell (table : List Row) (f : Sent) : Type 0 where
   pub message : Message
-  pub spelled : message_of f.bytes ≡ Ok message
+  pub spelled : message_of f.bytes false ≡ Ok message
   pub fits : FitsTypes message
   pub source : source_of message ≡ f.by
   pub honest : HonestMessage table (Ok message)

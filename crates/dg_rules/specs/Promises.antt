@@ -1,6 +1,6 @@
 -- What holds of each item of a run: it is legal, what is kept stays, what starts is one row of the table, byte for byte, and
 -- wherever it is stopped, the chip agrees with the table.
-use Rattle.std.specs.Prelude.{◌≡◌, ◌⊎◌, ℕ, ◌<◌, ◌≤◌, true, List, length, Option, Some, None, IfSome, Ok}
+use Rattle.std.specs.Prelude.{◌≡◌, ◌⊎◌, ℕ, ◌<◌, ◌≤◌, true, List, length, Option, Some, None, IfSome, Ok, false}
 use Rattle.dg_nor.specs.Trail.{Leaves}
 use Rattle.dg_object.specs.Object.{Row, object}
 use Rattle.dg_base.specs.Crc.{crc_of}
@@ -52,7 +52,7 @@ IsKeptIn (Some k) h = (h.version < k.version) ⊎ ((h.version ≡ k.version) × 
 abbrev pub NamesNewer : Option (List ℕ) → ℕ → Holding → Type 0
 NamesNewer None i h = ⊥
 NamesNewer (Some bytes) i h =
-    (source : ℕ) × (entries : List Entry) × (order : Order) × (message_of bytes ≡ Ok (Advert source entries order))
+    (source : ℕ) × (entries : List Entry) × (order : Order) × (message_of bytes false ≡ Ok (Advert source entries order))
     × (1 ≤ (entry_for entries i).have) × (h.version < (entry_for entries i).version)
 
 -- an injection brings a newer version of the image, or an advert that is heard names one

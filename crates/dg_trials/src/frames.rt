@@ -3,7 +3,7 @@
 use dg_base::{MemSink, MemSource, Status};
 use dg_cli::run;
 use dg_control::Order;
-use dg_frame::{Entry, FRAME_IMAGES, Message, in_range, write};
+use dg_frame::{Entry, Message, NARROW_IMAGES, in_range, write};
 use dg_nor::Board;
 use dg_object::{PACKET_SIZE, PACKETS};
 use std::alloc::Global;
@@ -28,7 +28,7 @@ const REPORT: &[u8] =
 
 /// An advert of two pages of image 1.
 fn advert(crc: u16) -> Message {
-    let mut entries = [NOTHING; FRAME_IMAGES];
+    let mut entries = [NOTHING; NARROW_IMAGES];
     entries[0] = Entry {
         version: VERSION,
         pages: 2,
@@ -60,7 +60,7 @@ fn packet(number: u8) -> Message {
 
 /// Puts the line that brings a message to mote 0.
 fn bring(alloc: Global, script: &mut Vec<u8>, message: &Message) -> Result<(), Fail> {
-    if !in_range(message) {
+    if !in_range(message, true) {
         return Err("the message has no frame".into());
     }
     script.extend_from_slice(b"frame 0 0 0 hex:")?;

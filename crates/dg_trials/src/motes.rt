@@ -131,7 +131,7 @@ fn sent(told: (Did, Option<Frame>)) -> Result<Frame, Fail> {
 
 /// Whether a frame is an advert of a mote.
 fn is_advert(frame: &Frame, mote: u16) -> bool {
-    match read(frame.as_slice()) {
+    match read(frame.as_slice(), false) {
         Ok(Message::Advert { source, .. }) => source == mote,
         _ => false,
     }
@@ -139,7 +139,7 @@ fn is_advert(frame: &Frame, mote: u16) -> bool {
 
 /// Whether a frame is a packet of page 0 of the image, from mote 0.
 fn is_packet(frame: &Frame, number: u8) -> bool {
-    match read(frame.as_slice()) {
+    match read(frame.as_slice(), false) {
         Ok(
             Message::Packet {
                 source: 0,
@@ -181,7 +181,7 @@ fn single_events_with_suppression_and_a_served_request(rt: HostRuntime) -> Resul
     assert_eq!(rt; one.hear(500, &advert)?, Heard::Asks { image: 1, page: 0 });
     assert_eq!(rt; one.kept(), Some((1, 0)));
     let asked = sent(one.tick(501)?)?;
-    assert_eq!(rt; read(asked.as_slice()), Ok(request()));
+    assert_eq!(rt; read(asked.as_slice(), false), Ok(request()));
     assert_eq!(rt;
         zero.hear(501, &asked)?,
         Heard::Serves { image: 1, page: 0 }

@@ -39,8 +39,8 @@ const ORDERED_RUNS: Running = Running {
 /// The operations of a commit that is no hand-over.
 const COMMIT: u32 = 2;
 
-/// The operations by which two pages are copied: an erase and six programs for each.
-const COPY: u32 = 2 * 7;
+/// The operations by which two pages are copied: an erase and eight programs for each.
+const COPY: u32 = 2 * 9;
 
 /// The operations of a first start: it is counted, golden is copied, and program memory is set to it.
 const FIRST_START: u32 = COMMIT + COPY + COMMIT;

@@ -20,7 +20,7 @@ use Rattle.dg_frame.specs.Grammar.{message_of}
 use Rattle.dg_frame.specs.declared.Entry.{Entry}
 use Rattle.dg_frame.specs.declared.FrameFault.{FrameFault}
 use Rattle.dg_frame.specs.declared.Message.{Message}
-use Rattle.dg_frame.specs.declared.Message.TheVariants.{Advert, Request, Packet}
+use Rattle.dg_frame.specs.declared.Message.TheVariants.{Advert, Request, Packet, Wide}
 use Rattle.dg_bits.specs.Sets.{Numbers}
 use Rattle.dg_mote.specs.Model.{MoteState, Mode, Maintain, Receive, Transmit, Receiving, came, maintains, Turn}
 use Rattle.dg_mote.specs.Summary.{is_own, same_order, same_entry, entry_for, entry_by, named, ahead_in}
@@ -130,6 +130,7 @@ module _ (s : Store) where
   message_calm (Advert source entries order) m now word = on_advert_calm m.mode m now word source entries order
   message_calm (Request source to image version page want) m now word = on_request_calm m now to image version page want
   message_calm (Packet source image version page packet bytes) m now word = on_packet_calm m.mode m now word image version page packet bytes
+  message_calm (Wide source entries order) m now word = on_advert_calm m.mode m now word source entries order
 
   by_message_calm : (r : Result Message FrameFault) (m : MoteState) (now word : ℕ) → IsCalm s (by_message r m s now word)
   by_message_calm (Err fault) m now word = λ is. rests 0
@@ -138,4 +139,4 @@ module _ (s : Store) where
 
   pub heard_calm : (m : MoteState) (now word : ℕ) (bytes : List ℕ) → IsCalm s (heard_of m s now word bytes)
   unfolding heard_of
-  heard_calm m now word bytes = by_message_calm (message_of bytes) m now word
+  heard_calm m now word bytes = by_message_calm (message_of bytes false) m now word

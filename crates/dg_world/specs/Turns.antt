@@ -46,7 +46,7 @@ sent_shown m (Ok message) = sent_line m (Some message)
 abbrev pub turn_lines : ℕ → Turn → List Report
 turn_lines m (Refused why) = RefusedLine m why ∷ []
 turn_lines m Rests = []
-turn_lines m (Sends bytes) = sent_shown m (message_of bytes)
+turn_lines m (Sends bytes) = sent_shown m (message_of bytes false)
 turn_lines m (Changes old new) = changes_shown m old new
 turn_lines m (Starts x) = Start m x.key.image x.key.version x.length x.crc ∷ []
 

@@ -1,5 +1,5 @@
 //! A step at the board of its mote, and what is told of it.
-ghost use Rattle.std.specs.Prelude.{◌≡◌, ◌+◌, ◌^◌, ◌<◌, ◌≤◌, ◌∷◌, ◌++◌, ℕ, [], None, Some, length, vec_len, option_to_list, OnErr};
+ghost use Rattle.std.specs.Prelude.{◌≡◌, ◌+◌, ◌^◌, ◌<◌, ◌≤◌, ◌∷◌, ◌++◌, ℕ, [], None, Some, length, vec_len, option_to_list, OnErr, false};
 ghost use Rattle.std.specs.List.{filter};
 ghost use Rattle.std.specs.Vec.{vec_capacity};
 ghost use Rattle.dg_volume.specs.Store.{Store};
@@ -52,7 +52,7 @@ fn push_told(mote: u8, telling: &Telling, loud: bool, out: &mut Vec<Report>)
 /// Appends the line on a frame where it is wanted.
 fn push_sent(mote: u8, frame: &Frame, loud: bool, out: &mut Vec<Report>)
     requires room { vec_len out.old + 1 ≤ vec_capacity out.old }
-    ensures told { out.new.items ≡ out.old.items ++ filter (is_told loud) (sent_shown mote (message_of frame.now.items)) }
+    ensures told { out.new.items ≡ out.old.items ++ filter (is_told loud) (sent_shown mote (message_of frame.now.items false)) }
     ensures room { vec_capacity out.new ≡ vec_capacity out.old }
     ensures few { vec_len out.new ≤ vec_len out.old + 1 }
 {
@@ -63,9 +63,9 @@ fn push_sent(mote: u8, frame: &Frame, loud: bool, out: &mut Vec<Report>)
 
 /// The line on a frame.
 fn sent_line(mote: u8, frame: &Frame) -> Option<Report>
-    ensures { option_to_list result ≡ sent_shown mote (message_of frame.now.items) }
+    ensures { option_to_list result ≡ sent_shown mote (message_of frame.now.items false) }
 {
-    match read(frame.as_slice()) {
+    match read(frame.as_slice(), false) {
         Ok(message) => Some(message_line(mote, &message)),
         Err(_) => None,
     }
@@ -75,7 +75,7 @@ fn message_line(mote: u8, message: &Message) -> Report
     ensures { result ∷ [] ≡ sent_line mote (Some message.now) }
 {
     match message {
-        Message::Advert { .. } => Report::SentAdvert { mote },
+        Message::Advert { .. } | Message::Wide { .. } => Report::SentAdvert { mote },
         Message::Request {
             to,
             image,

@@ -18,4 +18,4 @@ pub returns-clause-values : goal.returns-clause-values
 returns-clause-values c = record { mote = omega arith; outbox = omega arith }
 
 pub returns-clause-frames : goal.returns-clause-frames
-returns-clause-frames c = frame_short c.one_reading.ensures.reading
+returns-clause-frames c = λ wide. frame_short wide (λ b r. c.one_reading.ensures.reading b wide r)

@@ -1,4 +1,4 @@
-use Rattle.std.proofs.Common.{ℕ, List, Option, Some, None, IfSome, refl, sym, subst}
+use Rattle.std.proofs.Common.{ℕ, List, Option, Some, None, IfSome, refl, sym, subst, false}
 use Rattle.dg_nor.proofs.ThroughLemmas.{Leaves-through}
 use Rattle.dg_object.specs.Object.{Row}
 use Rattle.dg_volume.specs.Store.{Store, IsNear}
@@ -25,8 +25,8 @@ returns-clause-said c table m s now word is_table w speaks =
       bytes = rows.bytes;
       first = c.a_row_has_a_descriptor.ensures.first;
       crc = c.checksum_is_a_remainder.ensures.degree;
-      ranges = λ message. (c.one_reading.ensures.ranges message).1;
-      written = c.one_spelling.ensures.written;
+      ranges = λ message. (c.one_reading.ensures.ranges false message).1;
+      written = c.one_spelling.ensures.written false;
     } in
     tick_said laws table is_table s w.store m.id speaks.id m now word refl speaks.order w.mode w.timely.mode speaks.server
 
@@ -47,7 +47,7 @@ returns-clause-ticked c m s now word speaks = turn_speaks m.id _ speaks.id (tick
 
 pub returns-clause-heard : goal.returns-clause-heard
 returns-clause-heard c m s now word bytes fits speaks =
-    turn_speaks m.id _ speaks.id (heard_says (λ message. (c.one_reading.ensures.ranges message).0) m s now word bytes fits speaks.order speaks.server)
+    turn_speaks m.id _ speaks.id (heard_says (λ message. (c.one_reading.ensures.ranges false message).0) m s now word bytes fits speaks.order speaks.server)
 
 pub returns-clause-tick_effect : goal.returns-clause-tick_effect
 returns-clause-tick_effect c m s now word speaks = tick_effect_speaks c.a_start_ends.ensures c.trails_begin.ensures.boot m s now word (returns-clause-ticked c m s now word speaks)

@@ -1,4 +1,4 @@
-use Rattle.std.proofs.Common.{◌≡◌, true, subst, sym, ap, ◌∙◌, lit<}
+use Rattle.std.proofs.Common.{◌≡◌, true, subst, sym, ap, ◌∙◌, lit<, false}
 use Rattle.dg_volume.specs.Store.{held}
 use Rattle.dg_frame.specs.Grammar.{in_range}
 use Rattle.dg_frame.specs.declared.Message.{Message}
@@ -10,7 +10,7 @@ returns-clause-fits c =
     let s = c.requires.1.0 in
     let m = c.requires.1.1 in
     let told = m.tells.kept in
-    subst (λ (x : Message). in_range x ≡ true)
+    subst (λ (x : Message). in_range false x ≡ true)
     (sym (same_advert c.args.id s _ _ _ _
     (c.entry_of.ensures (held s 1) (c.kept.ensures ∙ told 1 (lit< tt) (λ h. h)))
     (c.entry_of-2.ensures (held s 2) (c.kept-2.ensures ∙ told 2 (lit< tt) (λ h. h)))

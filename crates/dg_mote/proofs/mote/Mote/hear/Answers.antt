@@ -1,4 +1,4 @@
-use Rattle.std.proofs.Common.{◌≡◌, ℕ, List, Result, Ok, Err, refl, sym, ap, subst, ◌∙◌}
+use Rattle.std.proofs.Common.{◌≡◌, ℕ, List, Result, Ok, Err, refl, sym, ap, subst, ◌∙◌, false}
 use Rattle.dg_frame.specs.Grammar.{message_of}
 use Rattle.dg_frame.specs.declared.Message.{Message}
 use Rattle.dg_frame.specs.declared.FrameFault.{FrameFault}
@@ -14,7 +14,7 @@ use Rattle.dg_mote.proofs.ServeLemmas.{rests_done, if_ok, on_err}
 use Rattle.dg_mote.proofs.ConsistentLemmas.{turn_consistent, stop_consistent, on_each, on_each_err}
 use Rattle.dg_mote.proofs.mote.Mote.hear.Goals as goal
 
-heard_is : (m : MoteState) (s : Store) (now word : ℕ) (bytes : List ℕ) (r : Result Message FrameFault) → r ≡ message_of bytes → by_message r m s now word ≡ heard_of m s now word bytes
+heard_is : (m : MoteState) (s : Store) (now word : ℕ) (bytes : List ℕ) (r : Result Message FrameFault) → r ≡ message_of bytes false → by_message r m s now word ≡ heard_of m s now word bytes
 unfolding heard_of
 heard_is m s now word bytes r e = ap (λ (x : Result Message FrameFault). by_message x m s now word) e
 

@@ -1,4 +1,4 @@
-use Rattle.std.proofs.Common.{◌≡◌, ℕ, ◌<◌, true, List, Some, None, IfSome, option_map, refl, sym, ap, subst, ◌∙◌}
+use Rattle.std.proofs.Common.{◌≡◌, ℕ, ◌<◌, true, List, Some, None, IfSome, option_map, refl, sym, ap, subst, ◌∙◌, false}
 use Rattle.dg_nor.proofs.DeviceLemmas.{OnErr_from}
 use Rattle.dg_nor.proofs.ReadLemmas.{Looked-none}
 use Rattle.dg_recv.specs.Reception.{Reception}
@@ -42,9 +42,9 @@ says d v m s image version page q owed is h less =
     (at, packet_says d v.volume s at.t image version page q at.of_image at.of_version at.of_page h.mounted at.transmits.serves less)
 
 said_fits : (d : List ℕ) (v : Mote) (m : MoteState) (s : Store) (image version page q : ℕ) (owed : Owed) (x : Message) → v.mode ≡ value.Transmit image version page owed → IsMote d v m s → q < packets
-    → x ≡ Packet v.id image version page q (packet_in d (page_sector image page) q) → in_range x ≡ true
+    → x ≡ Packet v.id image version page q (packet_in d (page_sector image page) q) → in_range false x ≡ true
 said_fits d v m s image version page q owed x is h less e =
-    subst (λ (y : Message). in_range y ≡ true) (sym e) ((says d v m s image version page q owed is h less).1.fits v.id)
+    subst (λ (y : Message). in_range false y ≡ true) (sym e) ((says d v m s image version page q owed is h less).1.fits v.id)
 
 pub put-requires : goal.put-requires
 put-requires g c =
@@ -53,7 +53,7 @@ put-requires g c =
     let x = c.requires.mote in
     let arm = c.in-Receive in
     let at = receiving a.image v x.0 x.1 arm.version arm.server arm.asking arm.job arm.is x.2 in
-    subst (λ (y : Message). in_range y ≡ true) (sym {b = Request v.id arm.server (outline_told (slot_of arm.job)).image arm.version (done_told (slot_of arm.job)) c.in-Request.want} c.request_message.ensures)
+    subst (λ (y : Message). in_range false y ≡ true) (sym {b = Request v.id arm.server (outline_told (slot_of arm.job)).image arm.version (done_told (slot_of arm.job)) c.in-Request.want} c.request_message.ensures)
     (request_fits a.image v.volume x.1 arm.job at.r v.id arm.server arm.version c.args.now arm.asking c.in-Request.want at.receives at.of_version at.asks c.in-Request.ensures.ask)
 
 pub maintain_anew-requires-clause-mote : goal.maintain_anew-requires-clause-mote
