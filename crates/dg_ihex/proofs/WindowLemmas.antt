@@ -1,9 +1,8 @@
 -- Blocks in a window.
-use Rattle.std.proofs.Common.{◌≡◌, ◌≢◌, ℕ, zero, suc, ◌+◌, ◌-◌, ◌%◌, ◌<◌, ◌≤◌, ◌^◌, ◌||◌, inl, inr, Bool, true, false, List, [], ◌∷◌, ◌++◌, length, get_or, set, take, replicate, map, Option, Some, None, is_some, unwrap_or, refl, sym, ap, ◌∙◌, arith}
+use Rattle.std.proofs.Common.{◌≡◌, ◌≢◌, ℕ, zero, suc, ◌+◌, ◌-◌, ◌%◌, ◌<◌, ◌≤◌, ◌^◌, ◌||◌, Bool, true, false, List, [], ◌∷◌, ◌++◌, length, get_or, set, take, map, Option, Some, None, is_some, unwrap_or, refl, sym, ap, ◌∙◌, arith}
 use Rattle.std.specs.List.{list_any, range_with_len}
 use Rattle.std.specs.Option.{option_or}
-use Rattle.std.proofs.lemmas.Bool.{cases_lt}
-use Rattle.std.proofs.lemmas.List.{take_all, take_more_set, get_or-replicate, get_or_past, length-replicate}
+use Rattle.std.proofs.lemmas.List.{take_all, take_more_set, get_or_past}
 use Rattle.std.proofs.lemmas.List.FromFn.{map-range_with_len_more}
 use Rattle.dg_ihex.specs.Sizes.{most_image}
 use Rattle.dg_ihex.specs.Blocks.{Block, block_byte, byte_at, is_given, overlaps, lowest_of, past_of, span_of, image_of}
@@ -23,19 +22,27 @@ pub none_behind : (blocks : List Block) (a : ℕ) → past_of blocks ≤ a → N
 none_behind blocks a high = sym (none_unless (byte_at blocks a) (λ y h. let w = byte_at-within blocks a y h in omega (arith, w.1)))
 
 -- Within them the byte is that of its cell.
-in_cell : (blocks : List Block) (a : ℕ) (cell byte : Option ℕ) (cells : List (Option ℕ)) → Keeps cells (byte_at blocks) → span_of blocks ≤ most_image
-    → lowest_of blocks ≤ a → a < past_of blocks → get_or cells (a % most_image) None ≡ cell → byte_at blocks a ≡ byte → cell ≡ byte
-in_cell blocks a cell (Some y) cells k close low high at is = sym at ∙ k.there a y is
-in_cell blocks a None None cells k close low high at is = refl
-in_cell blocks a (Some b) None cells k close low high at is =
-    let o = k.only (a % most_image) b at in
+in_cell : (blocks : List Block) (a shift : ℕ) (cell byte : Option ℕ) (cells : List (Option ℕ)) → Keeps shift cells (byte_at blocks) → span_of blocks ≤ most_image
+    → lowest_of blocks ≤ a → a < past_of blocks → get_or cells ((a + shift) % most_image) None ≡ cell → byte_at blocks a ≡ byte → cell ≡ byte
+in_cell blocks a shift cell (Some y) cells k close low high at is = sym at ∙ k.there a y is
+in_cell blocks a shift None None cells k close low high at is = refl
+in_cell blocks a shift (Some b) None cells k close low high at is =
+    let o = k.only ((a + shift) % most_image) b at in
     let w = byte_at-within blocks o.0 b o.2 in
     let apart : o.0 ≢ a = λ same. (let e : Some b ≡ None = sym o.2 ∙ ap (byte_at blocks) same ∙ is in cc) in
-    absurd (cells_differ o.0 a apart (omega (arith, w.0, w.1)) (omega (arith, w.0, w.1)) o.1)
+    absurd (cells_differ shift o.0 a apart (omega (arith, w.0, w.1)) (omega (arith, w.0, w.1)) o.1)
 
-pub cell_is : (blocks : List Block) (a : ℕ) (cells : List (Option ℕ)) → Keeps cells (byte_at blocks) → span_of blocks ≤ most_image
-    → lowest_of blocks ≤ a → a < past_of blocks → get_or cells (a % most_image) None ≡ byte_at blocks a
-cell_is blocks a cells k close low high = in_cell blocks a (get_or cells (a % most_image) None) (byte_at blocks a) cells k close low high refl refl
+cell_is : (blocks : List Block) (a shift : ℕ) (cells : List (Option ℕ)) → Keeps shift cells (byte_at blocks) → span_of blocks ≤ most_image
+    → lowest_of blocks ≤ a → a < past_of blocks → get_or cells ((a + shift) % most_image) None ≡ byte_at blocks a
+cell_is blocks a shift cells k close low high = in_cell blocks a shift (get_or cells ((a + shift) % most_image) None) (byte_at blocks a) cells k close low high refl refl
+
+-- the cell of an address, whose number is taken modulo the most bytes of an image before the shift is added
+same_cell : (a shift cell : ℕ) → cell ≡ (a % most_image + shift) % most_image → cell ≡ (a + shift) % most_image
+same_cell a shift cell is = omega (arith, is)
+
+pub told_by_cell : (blocks : List Block) (a shift cell : ℕ) (cells : List (Option ℕ)) → cell ≡ (a % most_image + shift) % most_image
+    → Keeps shift cells (byte_at blocks) → span_of blocks ≤ most_image → lowest_of blocks ≤ a → a < past_of blocks → get_or cells cell None ≡ byte_at blocks a
+told_by_cell blocks a shift cell cells is k close low high = ap (λ n. get_or cells n None) (same_cell a shift cell is) ∙ cell_is blocks a shift cells k close low high
 
 -- ---- a block more
 
@@ -58,17 +65,18 @@ option_or_none : (o : Option ℕ) → option_or o None ≡ o
 option_or_none None = refl
 option_or_none (Some y) = refl
 
-pub keeps_block : (blocks : List Block) (block : Block) (cells : List (Option ℕ)) → length cells ≡ most_image → block.address < 2 ^ 32
-    → overlaps blocks block ≡ false → span_of (blocks ++ block ∷ []) ≤ most_image → Keeps cells (byte_at blocks)
-    → Keeps (written cells block.address block.bytes) (byte_at (blocks ++ block ∷ []))
-keeps_block blocks block cells whole fits apart close k =
+pub keeps_block : (blocks : List Block) (block : Block) (shift : ℕ) (cells : List (Option ℕ))
+    → ((k : ℕ) → k < length block.bytes → (block.address + shift + k) % most_image < length cells) → block.address < 2 ^ 32
+    → overlaps blocks block ≡ false → span_of (blocks ++ block ∷ []) ≤ most_image → Keeps shift cells (byte_at blocks)
+    → Keeps shift (written cells (block.address + shift) block.bytes) (byte_at (blocks ++ block ∷ []))
+keeps_block blocks block shift cells room fits apart close k =
     let low = lowest_of-more blocks block fits in
     let high = past_of-more blocks block in
-    keeps_written block.bytes cells (byte_at blocks) (byte_at (blocks ++ block ∷ [])) block.address whole (omega (arith, low, high))
+    keeps_written block.bytes shift cells (byte_at blocks) (byte_at (blocks ++ block ∷ [])) block.address (block.address + shift) refl room (omega (arith, low, high))
     (λ x y j given within.
     let w = byte_at-within blocks x y given in
     let other : x ≢ block.address + j = λ same. (let e : Some y ≡ None = sym given ∙ ap (byte_at blocks) same ∙ free_at blocks (length block.bytes) block.address j apart within in cc) in
-    cells_differ x (block.address + j) other (omega (arith, low, high, w.0, w.1)) (omega (arith, low, high, w.0, w.1)))
+    cells_differ shift x (block.address + j) other (omega (arith, low, high, w.0, w.1)) (omega (arith, low, high, w.0, w.1)))
     (λ j within.
     byte_at-more blocks block (block.address + j)
     ∙ ap (λ o. option_or o (option_or (block_byte block (block.address + j)) None)) (free_at blocks (length block.bytes) block.address j apart within)
@@ -79,20 +87,11 @@ keeps_block blocks block cells whole fits apart close k =
 
 -- ---- a window with nothing in it
 
-abbrev pub no_byte : Option ℕ
-no_byte = None
-
-pub blank_cells : (n p : ℕ) → get_or (replicate n no_byte) p None ≡ None
-blank_cells n p = elim (cases_lt p n) [
-  | inl low ↦ get_or-replicate n p None None low
-  | inr high ↦ get_or_past (replicate n None) p None (omega (arith, length-replicate {A = Option ℕ} n None))
-]
-
-pub keeps_nothing : (cells : List (Option ℕ)) → ((p : ℕ) → get_or cells p None ≡ None) → Keeps cells (byte_at [])
+pub keeps_nothing : (shift : ℕ) → Keeps shift [] (byte_at [])
 unfolding byte_at
-keeps_nothing cells blank = record {
+keeps_nothing shift = record {
   there = λ x y e. (let f : ⊥ = cc in absurd f);
-  only = λ p y e. (let both : Some y ≡ None = sym e ∙ blank p in let f : ⊥ = cc in absurd f);
+  only = λ p y e. (let both : Some y ≡ None = sym e ∙ get_or_past [] p None (omega arith) in let f : ⊥ = cc in absurd f);
 }
 
 pub none_given : (n : ℕ) → (lowest_of [] ≡ 4294967296) × (past_of [] ≡ 0)

@@ -10,4 +10,4 @@ pub record Holds (window : Window) (blocks : List Block) : Type 0 where
   pub lowest : window.lowest ≡ lowest_of blocks
   pub past : window.past ≡ past_of blocks
   pub close : span_of blocks ≤ most_image
-  pub cells : Keeps window.cells.items (byte_at blocks)
+  pub cells : Keeps window.shift window.cells.items (byte_at blocks)

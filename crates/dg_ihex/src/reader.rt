@@ -9,7 +9,7 @@ use crate::faults::{HexCause, HexFileFault};
 use crate::record::{Record, SEGMENT, read_record};
 use crate::window::{MOST_IMAGE, Window};
 use dg_base::next_line;
-use std::alloc::{AllocError, Global};
+use std::alloc::Global;
 
 /// The most bytes of a HEX file that is read.
 pub const MOST_TEXT: usize = 16_777_216;
@@ -36,14 +36,14 @@ impl Reader {
     ghost use Rattle.dg_ihex.specs.declared.record.Record.TheVariants as records;
 
     // A reader before the first record.
-    fn new(alloc: Global) -> Result<Reader, AllocError>
-        ensures { IfOk result (λ reader. Stands reader []) }
+    fn new(alloc: Global) -> Reader
+        ensures { Stands result [] }
     {
-        Ok(Reader {
-            window: Window::new(alloc)?,
+        Reader {
+            window: Window::new(alloc),
             base: 0,
             has_ended: false,
-        })
+        }
     }
 
     // The next record.
@@ -76,7 +76,7 @@ impl Reader {
             return Err(HexCause::Span);
         }
         self.check_open()?;
-        self.window.give(address, bytes);
+        self.window.give(address, bytes)?;
         Ok(())
     }
 
@@ -178,7 +178,7 @@ pub fn read_ihex(alloc: Global, bytes: &[u8]) -> Result<Vec<u8>, HexFileFault>
     ensures read { ReadsFile (λ image. image.items) result (hex_file bytes.now) }
     ensures memory { IfErr result (λ fault. fault.cause ≡ HexCause.Memory → fault.line ≡ 0) }
 {
-    let mut reader = Reader::new(alloc)?;
+    let mut reader = Reader::new(alloc);
     let line = reader.take_lines(alloc, bytes)?;
     if !reader.has_ended {
         return Err(fault_at(line, HexCause::End));

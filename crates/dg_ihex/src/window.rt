@@ -1,5 +1,5 @@
 //! The bytes that records gave, by their addresses.
-ghost use Rattle.std.specs.Prelude.{◌≡◌, ℕ, None, slice_index_or, ◌+◌, ◌-◌, ◌≤◌, ◌<◌, ◌^◌, List, ◌++◌, [], ◌∷◌, false, length, min, max, IfOk};
+ghost use Rattle.std.specs.Prelude.{◌≡◌, ℕ, None, slice_index_or, ◌+◌, ◌-◌, ◌≤◌, ◌<◌, ◌%◌, ◌^◌, List, ◌++◌, [], ◌∷◌, false, length, min, max, IfOk, OnOk};
 ghost use Rattle.dg_ihex.specs.Blocks.{Block, byte_at, image_of, overlaps, span_of};
 ghost use Rattle.dg_ihex.specs.Cells.{written};
 ghost use Rattle.dg_ihex.specs.Sizes.{most_image, addresses};
@@ -17,15 +17,19 @@ pub(crate) const NO_ADDRESS: usize = 4_294_967_296;
 pub(crate) const GAP_BYTE: u8 = 0xff;
 
 /// Bytes at addresses of which no two are further apart than an image is long. So these differ
-/// modulo the length of an image, and the byte at an address is kept there.
+/// modulo the length of an image, and the byte at an address is kept there, counted from the address
+/// that was given first. There are as many cells as the addresses so far need.
 #[derive(Debug, Drop)]
 pub struct Window {
     cells: Vec<Option<u8>>,
+    // What is added to an address, so that the first that was given has the first cell.
+    shift: usize,
     // The lowest address, and the one behind the highest.
     lowest: usize,
     past: usize,
 
-    ghost whole: { cells.len ≡ most_image },
+    ghost few: { cells.len ≤ most_image },
+    ghost shifted: { shift ≤ most_image },
     ghost low: { lowest ≤ addresses },
 }
 
@@ -33,14 +37,15 @@ impl Window {
     ghost use Rattle.dg_ihex.specs.Windows.{Holds};
 
     /// A window with no bytes.
-    pub fn new(alloc: Global) -> Result<Window, AllocError>
-        ensures { IfOk result (λ window. Holds window []) }
+    pub fn new(alloc: Global) -> Window
+        ensures { Holds result [] }
     {
-        Ok(Window {
-            cells: blank(alloc, MOST_IMAGE)?,
+        Window {
+            cells: Vec::new(alloc),
+            shift: 0,
             lowest: NO_ADDRESS,
             past: 0,
-        })
+        }
     }
 
     // The byte at an address, if one was given.
@@ -53,7 +58,10 @@ impl Window {
         if address >= self.past {
             return None;
         }
-        self.cells[address % MOST_IMAGE]
+        cell_at(
+            &self.cells,
+            (address % MOST_IMAGE + self.shift) % MOST_IMAGE,
+        )
     }
 
     /// Whether a block has an address that was given before.
@@ -81,8 +89,46 @@ impl Window {
     }
 
     /// Gives the bytes of a block.
-    pub fn give(&mut self, address: usize, bytes: &[u8])
+    pub fn give(&mut self, address: usize, bytes: &[u8]) -> Result<(), AllocError>
         requires { address < addresses }
+        ensures { (blocks : List Block) → Holds self.old blocks
+            → let block : Block = record { address = address; bytes = bytes.now } in
+            overlaps blocks block ≡ false → span_of (blocks ++ block ∷ []) ≤ most_image
+            → OnOk result (Holds self.new (blocks ++ block ∷ [])) }
+    {
+        self.begin_at(address);
+        self.reach(address, bytes.len())?;
+        self.put(address, bytes);
+        Ok(())
+    }
+
+    // Has the first cell for an address, where no other has it.
+    fn begin_at(&mut self, address: usize)
+        ensures { (blocks : List Block) → Holds self.old blocks → Holds self.new blocks }
+    {
+        if self.cells.is_empty() {
+            self.shift = MOST_IMAGE - address % MOST_IMAGE;
+        }
+    }
+
+    // Has a cell for each of so many addresses.
+    fn reach(&mut self, address: usize, count: usize) -> Result<(), AllocError>
+        requires { address < addresses }
+        ensures holds { (blocks : List Block) → Holds self.old blocks → OnOk result (Holds self.new blocks) }
+        ensures room { OnOk result ((k : ℕ) → k < count → (address + self.new.shift + k) % most_image < self.new.cells.len) }
+    {
+        let first = (address + self.shift) % MOST_IMAGE;
+        let needed = first.saturating_add(count).min(MOST_IMAGE);
+        if needed > self.cells.len() {
+            self.cells.resize(needed, None)?;
+        }
+        Ok(())
+    }
+
+    // Writes the bytes of a block, for which there are cells.
+    fn put(&mut self, address: usize, bytes: &[u8])
+        requires fits { address < addresses }
+        requires room { (k : ℕ) → k < length bytes.now → (address + self.old.shift + k) % most_image < self.old.cells.len }
         ensures { (blocks : List Block) → Holds self.old blocks
             → let block : Block = record { address = address; bytes = bytes.now } in
             overlaps blocks block ≡ false → span_of (blocks ++ block ∷ []) ≤ most_image
@@ -90,7 +136,7 @@ impl Window {
     {
         self.lowest = self.lowest.min(address);
         self.past = self.past.max(address + bytes.len());
-        write(&mut self.cells, address, bytes);
+        write(&mut self.cells, address + self.shift, bytes);
     }
 
     /// The image from the lowest address to the highest.
@@ -112,22 +158,24 @@ impl Window {
     }
 }
 
-// Cells with no byte in them.
-fn blank(alloc: Global, count: usize) -> Result<Vec<Option<u8>>, AllocError>
-    ensures count { IfOk result (λ cells. cells.len ≡ count) }
-    ensures blank { IfOk result (λ cells. (cell : ℕ) → slice_index_or cells.items cell None ≡ None) }
+// The byte in a cell, if it has one. A cell that is not there has none.
+fn cell_at(cells: &[Option<u8>], cell: usize) -> Option<u8>
+    ensures { result ≡ slice_index_or cells.now cell None }
 {
-    let cells = vec![in alloc; None; count]?;
-    Ok(cells)
+    if cell < cells.len() {
+        cells[cell]
+    } else {
+        None
+    }
 }
 
 // Writes the bytes of a block into their cells.
-fn write(cells: &mut [Option<u8>], address: usize, bytes: &[u8])
-    requires fits { address < addresses }
-    requires whole { length cells.old ≡ most_image }
-    ensures { cells.new ≡ written cells.old address bytes.now }
+fn write(cells: &mut [Option<u8>], from: usize, bytes: &[u8])
+    requires fits { from < addresses + most_image + 1 }
+    requires room { (k : ℕ) → k < length bytes.now → (from + k) % most_image < length cells.old }
+    ensures { cells.new ≡ written cells.old from bytes.now }
 {
     for at in 0..bytes.len() {
-        cells[(address + at) % MOST_IMAGE] = Some(bytes[at]);
+        cells[(from + at) % MOST_IMAGE] = Some(bytes[at]);
     }
 }

@@ -9,7 +9,7 @@ unfolding written
 loop-at-preserved c =
     let at = c.loop-at.at in
     let bytes = c.args.bytes.now in
-    let a = c.args.address in
+    let a = c.args.from in
     let next : a + (at + 1) ≡ a + at + 1 = omega arith in
     ap (λ n. written (set c.loop-at.cells ((a + at) % most_image) (Some (get_or bytes at 0))) n (drop (at + 1) bytes)) next
     ∙ sym (ap (written c.loop-at.cells (a + at)) (drop_more bytes at 0 (omega arith)))
@@ -18,4 +18,4 @@ loop-at-preserved c =
 pub returns : goal.returns
 unfolding written
 returns c =
-    sym (ap (written c.loop-at.cells (c.args.address + c.loop-at.at)) (drop_all c.loop-at.at c.args.bytes.now (omega arith))) ∙ c.loop-at.invariant
+    sym (ap (written c.loop-at.cells (c.args.from + c.loop-at.at)) (drop_all c.loop-at.at c.args.bytes.now (omega arith))) ∙ c.loop-at.invariant

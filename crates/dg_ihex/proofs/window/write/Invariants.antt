@@ -4,4 +4,4 @@ use Rattle.dg_ihex.specs.Cells.{written}
 use Rattle.dg_ihex.proofs.window.write.Given as goal
 
 abbrev pub invariant-loop-at : goal.invariant-loop-at
-invariant-loop-at l = written l.cells (l.address + l.at) (drop l.at l.bytes) ≡ written l.fn.cells l.address l.bytes
+invariant-loop-at l = written l.cells (l.from + l.at) (drop l.at l.bytes) ≡ written l.fn.cells l.from l.bytes

@@ -4,4 +4,4 @@ use Rattle.dg_ihex.proofs.reader.Reader.new.Goals as goal
 
 pub returns : goal.returns
 unfolding blocks_of
-returns c = record { base = refl; has_ended = refl; window = c.in_ok-new.ensures }
+returns c = record { base = refl; has_ended = refl; window = c.new.ensures }

@@ -68,6 +68,6 @@ returns c before h =
       record {
         base = base_next before next c.args.self.now.base _ h.base refl;
         has_ended = end_same before next c.args.self.now.has_ended h.has_ended refl;
-        window = subst (Holds c.give.new.self) (blocks_next before next block own) (c.give.ensures (blocks_of before) h.window apart (omega (arith, span, c.if-span_with-gt-MOST_IMAGE.false)));
+        window = subst (Holds c.give.new.self) (blocks_next before next block own) (c.in_ok-give.ensures (blocks_of before) h.window apart (omega (arith, span, c.if-span_with-gt-MOST_IMAGE.false)));
       },
     )

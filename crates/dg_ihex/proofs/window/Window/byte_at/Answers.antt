@@ -1,6 +1,6 @@
-use Rattle.std.proofs.Common.{◌∙◌, None, arith, rules}
-use Rattle.std.proofs.lemmas.List.{get_or_read}
-use Rattle.dg_ihex.proofs.WindowLemmas.{none_below, none_behind, cell_is}
+use Rattle.std.proofs.Common.{ℕ, ◌+◌, ◌%◌, ◌∙◌, None, get_or, ap, refl, arith}
+use Rattle.dg_ihex.specs.Sizes.{most_image}
+use Rattle.dg_ihex.proofs.WindowLemmas.{none_below, none_behind, told_by_cell}
 use Rattle.dg_ihex.proofs.window.Window.byte_at.Goals as goal
 
 pub returns-then-address-self : goal.returns-then-address-self
@@ -17,5 +17,6 @@ pub returns : goal.returns
 returns c blocks h =
     let low = h.lowest in
     let high = h.past in
-    get_or_read c.args.self.now.cells.items _ _ (search rules) c.index.ensures None
-    ∙ cell_is blocks c.args.address c.args.self.now.cells.items h.cells h.close (omega (arith, low)) (omega (arith, high))
+    let cell : ℕ = (c.args.address % most_image + c.args.self.now.shift) % most_image in
+    c.cell_at.ensures ∙ ap (λ cells. get_or cells cell None) c.deref.ensures.value
+    ∙ told_by_cell blocks c.args.address c.args.self.now.shift cell c.args.self.now.cells.items refl h.cells h.close (omega (arith, low)) (omega (arith, high))
