@@ -11,3 +11,4 @@ pub mod BootLemmas
 pub mod CaseLemmas
 pub mod StartLemmas
 pub mod LawLemmas
+pub mod ConsistentLemmas

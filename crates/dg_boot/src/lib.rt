@@ -18,20 +18,23 @@ mod sound;
 mod starting;
 
 ghost use Rattle.std.specs.Prelude.{◌≡◌, false, IfOk, OnOk, IsErrOf};
+ghost use Rattle.dg_object.specs.Object.{Row};
 ghost use Rattle.dg_nor.specs.Trail.{operations};
 ghost use Rattle.dg_nor.specs.Reads.{Looked, ReadStopped, ActStopped};
 ghost use Rattle.dg_slot.specs.Layout.{program_sector, program_end};
+ghost use Rattle.dg_slot.specs.Pages.{program};
 ghost use Rattle.dg_volume.specs.Store.{Store};
 ghost use Rattle.dg_volume.specs.Stands.{Stands, IsNoVolume};
 ghost use Rattle.dg_volume.specs.Start.{boot};
 ghost use Rattle.dg_volume.specs.Acts.{Stops, TouchesBut};
+ghost use Rattle.dg_volume.specs.Consistent.{Consistent, IsSoundApp};
 ghost use Rattle.dg_boot.specs.Started.{Starts, Lacks};
 
 use crate::starting::start_mounted;
 pub use choosing::waits;
 use dg_nor::Nor;
 pub use dg_volume::Kind;
-use dg_volume::Volume;
+use dg_volume::{Volume, trails_keep_consistency};
 pub use laws::{
     a_copy_has_these_sizes, a_waived_order_is_not_started, an_image_is_set_once_it_is_copied,
     golden_can_be_started, three_short_starts_start_golden,
@@ -86,7 +89,14 @@ pub fn start<N: Nor>(nor: &mut N, kind: Kind) -> Result<Started, BootFault>
     ensures no_volume { IsErrOf result BootFault.Stopped → IsNoVolume (N.device nor.old).image
         → ReadStopped (N.device nor.old) (N.device nor.new) }
     ensures cause { IsErrOf result BootFault.Stopped → ActStopped (N.device nor.old) (N.device nor.new) }
+    // whatever frames made its store: golden runs byte for byte, or pages that fit the descriptor before them
+    ensures sound { IfOk result (λ told. (golden : Row) (s : Store) → Stands (N.device nor.old).image s → Consistent golden s
+        → IsSoundApp golden (record { image = told.image; version = told.version; pages = program (N.device nor.new).image told.pages })) }
+    // and a consistent chip stays so, however the start ends, also where it stops
+    ensures consistent { (golden : Row) (s : Store) → Stands (N.device nor.old).image s → Consistent golden s
+        → (t : Store) × Stands (N.device nor.new).image t × Consistent golden t }
 {
+    trails_keep_consistency();
     let volume = Volume::mount(nor)?;
     start_mounted(nor, volume, kind)
 }
