@@ -30,3 +30,4 @@ pub mod SoundLemmas
 pub mod StartEndLemmas
 pub mod ConsistentLemmas
 pub mod ConsistentBoot
+pub mod ShapedLemmas

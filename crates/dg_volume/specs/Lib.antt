@@ -19,3 +19,4 @@ pub use Rattle.dg_slot.specs.Layout
 pub use Rattle.dg_slot.specs.Kept
 pub use Rattle.dg_slot.specs.Pages
 pub mod Consistent
+pub mod Shaped

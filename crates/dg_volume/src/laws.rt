@@ -13,6 +13,7 @@ ghost use Rattle.dg_slot.specs.Jobs.{seal_trail, SlotStops};
 ghost use Rattle.dg_volume.specs.Sizes.{images, golden_version, short_starts, control_sectors, most_take_commits};
 ghost use Rattle.dg_volume.specs.Store.{App, Store, IsNear, held, held_to, held_whole, golden_row, fresh};
 ghost use Rattle.dg_volume.specs.Stands.{Stands, Tells, MountedBut, Mounted, IsMounted};
+ghost use Rattle.dg_volume.specs.Shaped.{IsShaped};
 ghost use Rattle.dg_volume.specs.Changes.{spent, keeping, paged, ordered, gesture_cleared, advanced, inject_refusal, FitAll};
 ghost use Rattle.dg_volume.specs.Trails.{BeginsAt, order_trail, clear_trail, advance_trail, take_trail, fill_trail, inject_trail, sealing_trail};
 ghost use Rattle.dg_volume.specs.Acts.{Acted, Stops};
@@ -39,6 +40,11 @@ pub fn a_volume_has_these_sizes()
 pub fn a_chip_stands_for_one_store()
     ensures one { (c : List ℕ) (s t : Store) → Stands c s → Stands c t → s ≡ t }
     ensures told { (c : List ℕ) (v : Volume) (s : Store) → IsMounted c v → Stands c s → Tells v s }
+{}
+
+/// What a chip stands for has a place for each image, and an order in its ranges.
+pub fn a_chip_stands_for_a_shaped_store()
+    ensures { (c : List ℕ) (s : Store) → Stands c s → IsShaped s }
 {}
 
 /// Trails of stores that follow one another.
