@@ -1,5 +1,5 @@
 -- Steps and declarations keep agreement with the table, also where they are stopped.
-use Rattle.std.proofs.Common.{◌≡◌, ℕ, ◌<◌, ◌≤◌, ◌+◌, ◌^◌, Bool, true, false, List, length, Option, Some, None, IfSome, IfOk, Result, Ok, Err, refl, sym, ap, subst, ◌∙◌, inr, ⊎_elim, arith, ltb-false}
+use Rattle.std.proofs.Common.{◌≡◌, ℕ, ◌<◌, ◌≤◌, ◌+◌, ◌^◌, Bool, true, false, List, length, Option, Some, None, IfSome, IfOk, Result, Ok, Err, refl, sym, ap, subst, ◌∙◌, inr, arith, ltb-false}
 use Rattle.std.specs.List.{AllByRecursion}
 use Rattle.std.proofs.lemmas.Bool.{cond_both}
 use Rattle.std.proofs.lemmas.Bool.Decides.{nat_tests}
@@ -41,14 +41,14 @@ use Rattle.dg_rules.specs.World.{World, Site, Running, Sent, site, store_at, cou
 use Rattle.dg_rules.specs.Events.{Deed, Does, Refuses, Goes, trail_of, does, mote_of, dt_of, key_of, reloaded}
 use Rattle.dg_rules.specs.Steps.{blows, and_sent, StepDoes, WorldStep, DeclareStep, declared_as}
 use Rattle.dg_rules.specs.Ranges.{EventFits, StepFits}
-use Rattle.dg_rules.specs.Premises.{IsDeclared, LinkFits, RunsWell, SiteIsWell, SentIsWell, WorldAgrees, HonestEvent, MayDeclare}
+use Rattle.dg_rules.specs.Premises.{IsDeclared, LinkFits, RunsWell, SiteIsWell, SentIsWell, WorldAgrees, TrueEvent}
 use Rattle.dg_rules.specs.Promises.{table_of, StopsAgree}
 use Rattle.dg_base.specs.declared.events.Event.{Event}
 use Rattle.dg_base.specs.declared.events.Event.TheVariants.{Tick, Hear, Last, Reset, Inject, Order as OrderEvent, Frame}
 use Rattle.dg_base.specs.declared.events.Step.{Step}
 use Rattle.dg_script.specs.declared.report.Report.{Report}
 use Rattle.dg_rules.proofs.ThroughLemmas.{cut_holds, Through-map, Through-both}
-use Rattle.dg_rules.proofs.TableLemmas.{row_at-key, row_at-each, row_at-own, row_at-with_row, row_at-added, row_at-of_with_row, row_at-of_push, IsTable-with_row, same_some}
+use Rattle.dg_rules.proofs.TableLemmas.{row_at-key, row_at-each, row_at-with_row, row_at-added, IsTable-with_row}
 use Rattle.dg_rules.proofs.SiteLemmas.{each_site, site_count}
 use Rattle.dg_rules.proofs.InjectLemmas.{OnInject, inject_way, refused_not}
 use Rattle.dg_rules.proofs.WiderLemmas.{Wider, wider_same, agrees_wider, site_wider, sent_wider, all_map, all_pushed}
@@ -78,9 +78,6 @@ pub record MoteLaws : Type 0 where
 pub record Laws : Type 0 where
   pub volume : VolumeLaws
   pub mote : MoteLaws
-
-abbrev pub SameRows : List Row → List Row → Type 0
-SameRows table known = (image version : ℕ) (row declared : Row) → row_at table image version ≡ Some row → row_at known image version ≡ Some declared → row ≡ declared
 
 -- a store that agrees, and whose order fits into a frame
 pub record IsGood (table : List Row) (s : Store) : Type 0 where
@@ -126,7 +123,6 @@ is_row s row d fits =
 
 pub record AgreesDeed (w : World) (m dt : ℕ) (d : Deed) : Type 0 where
   pub table : IsTable d.table
-  pub same : SameRows d.table w.declared
   pub wider : Wider w.table d.table
   pub way : Through (IsGood d.table) d.trail
   pub mote : (runs : Option Running) → d.runs ≡ Some runs → IfSome runs (RunsWell d.table m (w.moment + dt) (last d.trail))
@@ -159,18 +155,18 @@ module _ (w : World) (agrees : WorldAgrees w) where
     pub wider : Wider w.table (with_row w.table row)
     pub agrees_more : Agrees (with_row w.table row) (store_at w m)
 
-  pub injected : (m image version : ℕ) (row : Row) → m < length w.sites → row_at w.declared image version ≡ Some row → Injected m image version row
-  injected m image version row low known =
+  pub injected : (m image version : ℕ) (row : Row) → m < length w.sites → row_at w.declared image version ≡ Some row → ((kept : Row) → row_at w.table image version ≡ Some kept → kept ≡ row)
+      → Injected m image version row
+  injected m image version row low known same =
       let d = row_at-each IsDeclared w.declared image version row agrees.rows known in
       let key = row_at-key w.declared image version row known in
-      let own = row_at-own w.declared image version row known in
       let old = agrees.sites m low in
       let wider : Wider w.table (with_row w.table row) = λ i v r e. row_at-with_row w.table row r i v e in
       record {
         declared = d;
         image_is = key.0;
         version_is = key.1;
-        in_table = row_at-added w.table row (λ r e. agrees.same row.image row.version r row e own);
+        in_table = row_at-added w.table row (λ r e. same r (ap (λ i. row_at w.table i version) (sym key.0) ∙ ap (row_at w.table row.image) (sym key.1) ∙ e));
         within = let few = d.image in let count = old.store.places in omega (arith, few, count);
         wider = wider;
         agrees_more = agrees_wider w.table (with_row w.table row) wider (store_at w m) old.store.agrees;
@@ -198,7 +194,6 @@ module _ (laws : Laws) (w : World) (agrees : WorldAgrees w) where
       → IfSome d.sent (λ message. SentIsWell w.table (record { by = m; bytes = frame_of message })) → AgreesDeed w m dt d
   same_table m dt d is way mote sent = record {
     table = subst IsTable (sym is) agrees.table;
-    same = subst (λ (t : List Row). SameRows t w.declared) (sym is) agrees.same;
     wider = subst (λ (t : List Row). Wider w.table t) (sym is) (wider_same w.table);
     way = subst (λ (t : List Row). Through (IsGood t) d.trail) (sym is) way;
     mote = λ runs e. subst (λ (t : List Row). IfSome runs (RunsWell t m (w.moment + dt) (last d.trail))) (sym is) (mote runs e);
@@ -324,18 +319,12 @@ module _ (laws : Laws) (w : World) (agrees : WorldAgrees w) where
 
   -- ---- injections
 
-  inject_same : (image version : ℕ) (row : Row) → row_at w.declared image version ≡ Some row → SameRows (with_row w.table row) w.declared
-  inject_same image version row known im ve r declared e known2 =
-      ⊎_elim
-      (λ new. new.0 ∙ same_some row declared (sym (row_at-own w.declared image version row known) ∙ ap (λ n. row_at w.declared n row.version) new.1 ∙ ap (row_at w.declared im) new.2 ∙ known2))
-      (λ old. agrees.same im ve r declared old known2)
-      (row_at-of_with_row w.table row r im ve e)
-
-  inject_agrees : (m image version dt word : ℕ) (row : Row) → m < length w.sites → row_at w.declared image version ≡ Some row → inject_refusal (store_at w m) row ≡ None
+  inject_agrees : (m image version dt word : ℕ) (row : Row) → m < length w.sites → row_at w.declared image version ≡ Some row
+      → ((kept : Row) → row_at w.table image version ≡ Some kept → kept ≡ row) → inject_refusal (store_at w m) row ≡ None
       → AgreesDoes w m dt (Goes (record { trail = inject_trail (store_at w m) row; table = with_row w.table row; started = None; sent = None; runs = Some (reloaded (site w m).runs (w.moment + dt) word) }))
-  inject_agrees m image version dt word row low known fits =
+  inject_agrees m image version dt word row low known same fits =
       let s = store_at w m in
-      let i = injected w agrees m image version row low known in
+      let i = injected w agrees m image version row low known same in
       let more = with_row w.table row in
       let old = here m low in
       let t = inject_trail s row in
@@ -348,7 +337,6 @@ module _ (laws : Laws) (w : World) (agrees : WorldAgrees w) where
       (Through-map (OnInject s row) (λ x. OrderFits x.order) (λ x o. subst OrderFits (sym o.order) old.order) t on) in
       record {
         table = IsTable-with_row w.table row agrees.table (is_row s row i.declared fits) (refused_not s row fits).0;
-        same = inject_same image version row known;
         wider = i.wider;
         way = way;
         mote = λ runs e. reloads_well m dt word more (last t) runs low (Through-last (IsGood more) t way) e;
@@ -357,9 +345,9 @@ module _ (laws : Laws) (w : World) (agrees : WorldAgrees w) where
 
   -- ---- every event
 
-  pub agrees_does : (e : Event) → EventFits (length w.sites) e → HonestEvent w.table e → AgreesDoes w (mote_of e) (dt_of e) (does w e)
+  pub agrees_does : (e : Event) → EventFits (length w.sites) e → TrueEvent w e → AgreesDoes w (mote_of e) (dt_of e) (does w e)
   agrees_does =
-      does_cases laws.mote.restarts w (SentIsWell w.table) agrees.sent (λ e D. EventFits (length w.sites) e → HonestEvent w.table e → AgreesDoes w (mote_of e) (dt_of e) D)
+      does_cases laws.mote.restarts w (SentIsWell w.table) agrees.sent (λ e D. EventFits (length w.sites) e → TrueEvent w e → AgreesDoes w (mote_of e) (dt_of e) D)
       (λ e why fits honest. tt)
       (λ m dt word r is fits honest. tick_agrees m dt word r is fits)
       (λ m dt word r is waits fits honest. start_agrees kind.Order m dt r.mote.id word fits (runs_here m r fits is).id)
@@ -367,7 +355,7 @@ module _ (laws : Laws) (w : World) (agrees : WorldAgrees w) where
       (λ m dt word number f r is at q fits honest. hear_agrees m dt word f.bytes r is fits.0 (sent_honest f q) (sent_fits f q))
       (λ from m dt word f r is at q fits honest. hear_agrees m dt word f.bytes r is fits.1 (sent_honest f q) (sent_fits f q))
       (λ m dt word bytes r is fits honest. hear_agrees m dt word bytes r is fits.0 honest (bytes_fit bytes fits.2 (message_of bytes false) refl))
-      (λ m image version dt word row known none fits honest. inject_agrees m image version dt word row fits.0 known none)
+      (λ m image version dt word row known none fits honest. inject_agrees m image version dt word row fits.0 known (λ kept e. honest row kept known e) none)
       (λ m number image version dt word none fits honest. order_agrees m number image version dt word fits.0 (order_fits number image version fits.1 fits.2 fits.3 fits.4 fits.5))
 
 -- ---- steps
@@ -391,7 +379,6 @@ sent_agrees u m (Some message) is a = record {
   few = a.few;
   table = a.table;
   rows = a.rows;
-  same = a.same;
   links = a.links;
   sites = a.sites;
   sent = all_pushed (SentIsWell u.table) u.sent (record { by = m; bytes = frame_of message }) a.sent is;
@@ -420,7 +407,6 @@ module _ (laws : Laws) (w : World) (x : Step) (v : World) (reports : List Report
         few = subst (λ (n : ℕ). n ≤ most_motes) (sym count) agrees.few;
         table = g.table;
         rows = agrees.rows;
-        same = g.same;
         links = subst (λ (n : ℕ). AllByRecursion (LinkFits n) w.links) (sym count) agrees.links;
         sites = each_site (λ k y. SiteIsWell d.table k now y) mid m end.0 within end.2 (λ k less _. site_wider w.table d.table g.wider (laws.mote.later w.table) k w.moment now (site w k) (omega arith) (agrees.sites k less));
         sent = all_map (SentIsWell w.table) (SentIsWell d.table) (sent_wider w.table d.table g.wider) w.sent agrees.sent;
@@ -436,37 +422,31 @@ module _ (laws : Laws) (w : World) (x : Step) (v : World) (reports : List Report
         few = agrees.few;
         table = agrees.table;
         rows = agrees.rows;
-        same = agrees.same;
         links = agrees.links;
         sites = λ j low. site_wider w.table w.table (wider_same w.table) (laws.mote.later w.table) j w.moment (w.moment + dt_of x.event) (site w j) (omega arith) (agrees.sites j low);
         sent = agrees.sent;
       })
   does_agrees (Goes d) g did = deed_agrees d g did
 
-  pub step_agrees : HonestEvent w.table x.event → WorldStep w x v reports → WorldAgrees v
+  pub step_agrees : TrueEvent w x.event → WorldStep w x v reports → WorldAgrees v
   unfolding WorldStep
   step_agrees honest did = does_agrees (does w x.event) (agrees_does laws w agrees x.event fits.event honest) did
 
 -- ---- declarations
 
-declared_agrees : (w : World) (row : Row) (o : Option Row) → row_at w.declared row.image row.version ≡ o → MayDeclare w row → WorldAgrees w → WorldAgrees (declared_as o w row)
-declared_agrees w row (Some kept) is may agrees = agrees
-declared_agrees w row None is may agrees = record {
+declared_agrees : (w : World) (row : Row) (o : Option Row) → IsDeclared row → WorldAgrees w → WorldAgrees (declared_as o w row)
+declared_agrees w row (Some kept) may agrees = agrees
+declared_agrees w row None may agrees = record {
   few = agrees.few;
   table = agrees.table;
-  rows = all_pushed IsDeclared w.declared row agrees.rows may.row_fits;
-  same = λ image version r known e f.
-      ⊎_elim
-      (λ old. agrees.same image version r known e old)
-      (λ new. may.same is r (ap (λ i. row_at w.table i row.version) new.2 ∙ ap (row_at w.table image) new.3 ∙ e) ∙ sym new.1)
-      (row_at-of_push w.declared row known image version f);
+  rows = all_pushed IsDeclared w.declared row agrees.rows may;
   links = agrees.links;
   sites = agrees.sites;
   sent = agrees.sent;
 }
 
-pub declare_agrees : (w v : World) (row : Row) (reports : List Report) → WorldAgrees w → MayDeclare w row → DeclareStep w row v reports → WorldAgrees v
-declare_agrees w v row reports agrees may did = subst WorldAgrees (sym did.world) (declared_agrees w row (row_at w.declared row.image row.version) refl may agrees)
+pub declare_agrees : (w v : World) (row : Row) (reports : List Report) → WorldAgrees w → IsDeclared row → DeclareStep w row v reports → WorldAgrees v
+declare_agrees w v row reports agrees may did = subst WorldAgrees (sym did.world) (declared_agrees w row (row_at w.declared row.image row.version) may agrees)
 
 -- ---- stops
 
@@ -477,7 +457,7 @@ stop_agrees : (w : World) (m dt : ℕ) (old : Store) → IsGood w.table old → 
 stop_agrees w m dt old good (Refuses why) agrees k s left = stop_good w.table (resting old 0) k s (Through-resting (IsGood w.table) old 0 good) left
 stop_agrees w m dt old good (Goes d) agrees k s left = stop_good d.table d.trail k s agrees.way left
 
-pub stops_agree : Laws → (w : World) (e : Event) → WorldAgrees w → EventFits (length w.sites) e → HonestEvent w.table e → StopsAgree w e
+pub stops_agree : Laws → (w : World) (e : Event) → WorldAgrees w → EventFits (length w.sites) e → TrueEvent w e → StopsAgree w e
 stops_agree laws w e agrees fits honest =
     let m = mote_of e in
     stop_agrees w m (dt_of e) (store_at w m) (here laws w agrees m (mote_within (length w.sites) e fits)) (does w e) (agrees_does laws w agrees e fits honest)

@@ -30,7 +30,7 @@ use Rattle.dg_rules.specs.Small.{Holding, SmallMote, holding, app_key, running_k
 use Rattle.dg_rules.specs.Events.{Deed, Does, Refuses, Goes, does, mote_of, dt_of, key_of, reloaded, acts}
 use Rattle.dg_rules.specs.Steps.{blows, and_sent, StepDoes, WorldStep}
 use Rattle.dg_rules.specs.Ranges.{EventFits, StepFits}
-use Rattle.dg_rules.specs.Premises.{RunsWell, WorldAgrees}
+use Rattle.dg_rules.specs.Premises.{RunsWell, WorldAgrees, TrueEvent}
 use Rattle.dg_rules.specs.Legal.{Past, Came, MayInject, CutHolding, LegalInject, IsOn, MayStart, MayRestart, CutStart, LegalFrame, LegalMessage, LegalAt, LegalStep, taking, off_after}
 use Rattle.dg_rules.specs.Past.{brought}
 use Rattle.dg_rules.specs.Promises.{LegalDoes}
@@ -282,7 +282,8 @@ module _ (laws : StepLaws) (past : Past) (w : World) (agrees : WorldAgrees w) (s
 
   -- ---- injections
 
-  module _ (m image version dt word : ℕ) (row : Row) (known : row_at w.declared image version ≡ Some row) (none : inject_refusal (store_at w m) row ≡ None) (here : m < length w.sites) where
+  module _ (m image version dt word : ℕ) (row : Row) (known : row_at w.declared image version ≡ Some row) (none : inject_refusal (store_at w m) row ≡ None) (here : m < length w.sites)
+      (same : (kept : Row) → row_at w.table image version ≡ Some kept → kept ≡ row) where
     abbrev Here : Site
     Here = site w m
 
@@ -290,7 +291,7 @@ module _ (laws : StepLaws) (past : Past) (w : World) (agrees : WorldAgrees w) (s
     More = with_row w.table row
 
     fact : Injected w agrees m image version row
-    fact = injected w agrees m image version row here known
+    fact = injected w agrees m image version row here known same
 
     held_old : holds (small_mote Here) image ≡ option_map holding (held Here.store row.image)
     held_old = holds_at Here image ∙ ap (λ (i : ℕ). option_map holding (held Here.store i)) (sym fact.image_is)
@@ -331,18 +332,18 @@ module _ (laws : StepLaws) (past : Past) (w : World) (agrees : WorldAgrees w) (s
 
   -- ---- every event
 
-  legal_deed : (e : Event) → EventFits (length w.sites) e → LegalDeedDoes past w e (does w e)
+  legal_deed : (e : Event) → EventFits (length w.sites) e → TrueEvent w e → LegalDeedDoes past w e (does w e)
   legal_deed =
-      does_cases laws.restarts w (λ f. Unit {0}) (all_sent w.sent) (λ e D. EventFits (length w.sites) e → LegalDeedDoes past w e D)
-      (λ e why fits. tt)
-      (λ m dt word r on fits. tick_legal m dt word r on fits)
-      (λ m dt word r on waits fits. start_tick_legal m dt word r on waits fits)
-      (λ m dt word fits. reset_legal m dt word fits)
-      (λ m dt word number f r on at q fits. hear_legal m dt word number f r on at fits.0)
-      (λ from m dt word f r on at q fits. last_legal from m dt word f r on at fits.1)
-      (λ m dt word bytes r on fits. frame_legal m dt word bytes r on fits.0)
-      (λ m image version dt word row known none fits. inject_legal m image version dt word row known none fits.0)
-      (λ m number image version dt word none fits. order_legal m number image version dt word none fits.0)
+      does_cases laws.restarts w (λ f. Unit {0}) (all_sent w.sent) (λ e D. EventFits (length w.sites) e → TrueEvent w e → LegalDeedDoes past w e D)
+      (λ e why fits honest. tt)
+      (λ m dt word r on fits honest. tick_legal m dt word r on fits)
+      (λ m dt word r on waits fits honest. start_tick_legal m dt word r on waits fits)
+      (λ m dt word fits honest. reset_legal m dt word fits)
+      (λ m dt word number f r on at q fits honest. hear_legal m dt word number f r on at fits.0)
+      (λ from m dt word f r on at q fits honest. last_legal from m dt word f r on at fits.1)
+      (λ m dt word bytes r on fits honest. frame_legal m dt word bytes r on fits.0)
+      (λ m image version dt word row known none fits honest. inject_legal m image version dt word row known none fits.0 (λ kept e. honest row kept known e))
+      (λ m number image version dt word none fits honest. order_legal m number image version dt word none fits.0)
 
   -- ---- every step
 
@@ -362,7 +363,7 @@ module _ (laws : StepLaws) (past : Past) (w : World) (agrees : WorldAgrees w) (s
   sent_small u m None = refl
   sent_small u m (Some message) = refl
 
-  module _ (x : Step) (v : World) (reports : List Report) (fits : StepFits (length w.sites) x) where
+  module _ (x : Step) (v : World) (reports : List Report) (fits : StepFits (length w.sites) x) (honest : TrueEvent w x.event) where
     step_legal_by : (D : Does) → LegalDeedDoes past w x.event D → StepDoes D w x v reports → LegalDoes D past w x v
     step_legal_by (Refuses why) g did = ap small did.0
     step_legal_by (Goes d) g did =
@@ -376,7 +377,7 @@ module _ (laws : StepLaws) (past : Past) (w : World) (agrees : WorldAgrees w) (s
 
     pub step_legal : WorldStep w x v reports → LegalDoes (does w x.event) past w x v
     unfolding WorldStep
-    step_legal did = step_legal_by (does w x.event) (legal_deed x.event fits.event) did
+    step_legal did = step_legal_by (does w x.event) (legal_deed x.event fits.event honest) did
 
     settled_lands : (D : Does) → LegalDeedDoes past w x.event D → LandsDoes (λ b y. IfSome y.runs (λ r. IsSettled y.store)) D
     settled_lands (Refuses why) g = tt
@@ -385,4 +386,4 @@ module _ (laws : StepLaws) (past : Past) (w : World) (agrees : WorldAgrees w) (s
     pub step_settled : WorldStep w x v reports → WorldSettled v
     step_settled did =
         step_sites w x v reports fits (λ b y. IfSome y.runs (λ r. IsSettled y.store)) (λ j y. IfSome y.runs (λ r. IsSettled y.store)) (λ s room p. tt) (λ b y p. p) settled
-        (settled_lands (does w x.event) (legal_deed x.event fits.event)) did
+        (settled_lands (does w x.event) (legal_deed x.event fits.event honest)) did

@@ -20,6 +20,8 @@ pub mod CameLemmas
 pub mod KeepLemmas
 pub mod PlayLemmas
 pub mod SoundLemmas
+pub mod BeginLemmas
+pub mod BoardLemmas
 pub mod ScriptLemmas
 pub mod ConsistentLemmas
 pub mod ConsistentRuns

@@ -1,5 +1,5 @@
 -- What holds of all that is played, from the worlds in which scripts begin.
-use Rattle.std.proofs.Common.{◌≡◌, ℕ, zero, suc, ◌-◌, ◌<◌, ◌≤◌, List, [], ◌∷◌, length, replicate, get_or, Option, Some, None, IfSome, refl, sym, ap, subst, ◌∙◌, ⊎_elim, inl, arith}
+use Rattle.std.proofs.Common.{◌≡◌, ℕ, zero, suc, ◌-◌, ◌<◌, ◌≤◌, List, [], ◌∷◌, ◌++◌, length, replicate, get_or, Option, Some, None, IfSome, refl, sym, ap, subst, ◌∙◌, ⊎_elim, inl, arith}
 use Rattle.std.specs.List.{AllByRecursion}
 use Rattle.std.proofs.Math.ListN.{get_or-map}
 use Rattle.std.proofs.Math.Seq.{take-length}
@@ -16,16 +16,18 @@ use Rattle.dg_rules.specs.World.{World, Site, site, counted, off_site, first_wor
 use Rattle.dg_rules.specs.Events.{Does, Refuses, Goes, does, mote_of, dt_of}
 use Rattle.dg_rules.specs.Steps.{blows, and_sent, StepDoes, WorldStep, declared_as}
 use Rattle.dg_rules.specs.Ranges.{EventFits, StepFits}
-use Rattle.dg_rules.specs.Premises.{LinkFits, SiteIsWell, WorldAgrees, ItemFits, PlayedFits, ItemInRange, IsInRange, HonestEvent, HonestItem, IsHonestThen, LeavesAgreement, AllOff}
-use Rattle.dg_rules.specs.Promises.{StopsAgree}
+use Rattle.dg_rules.specs.Premises.{IsDeclared, LinkFits, SiteIsWell, WorldAgrees, ItemInRange, IsInRange, HonestEvent, HonestItem, IsHonestThen, TrueEvent, TrueItem, IsTrueThen, AllOff}
+use Rattle.dg_rules.specs.Begins.{PlaysFrom}
 use Rattle.dg_rules.specs.Golden.{SiteKeepsGolden, WorldKeepsGolden, FindsImage, PlaysGolden}
 use Rattle.dg_script.specs.Items.{Item, Declares, Happens}
 use Rattle.dg_rules.specs.Runs.{Played, ItemStep, Plays}
 use Rattle.dg_base.specs.declared.events.Event.{Event}
+use Rattle.dg_base.specs.declared.events.Event.TheVariants.{Tick, Hear, Last, Reset, Inject, Order as OrderEvent, Frame as FrameEvent}
 use Rattle.dg_base.specs.declared.events.Step.{Step}
 use Rattle.dg_script.specs.declared.report.Report.{Report}
 use Rattle.dg_rules.proofs.ThroughLemmas.{Through-each}
-use Rattle.dg_rules.proofs.TableLemmas.{row_at-own, row_at-cons, row_at-of_with_row, row_at-push, IsTable-one, not_none}
+use Rattle.dg_rules.proofs.TableLemmas.{row_at-key, row_at-each, row_at-own, row_at-cons, row_at-of_with_row, row_at-push, IsTable-one, not_none, same_some}
+use Rattle.dg_rules.proofs.WiderLemmas.{all_pushed}
 use Rattle.dg_rules.proofs.SiteLemmas.{site_count}
 use Rattle.dg_rules.proofs.EventLemmas.{RestartLaws, does_cases, all_sent, EndsAs, ended_world, sent_unless, ends_as}
 use Rattle.dg_rules.proofs.PlayLemmas.{Ended, plays, all_then, all_both}
@@ -60,20 +62,21 @@ known_does restarts w known =
 -- the rows and the number of motes
 record Frame (motes : ℕ) (v : World) : Type 0 where
   pub known : KnownRows v.table v.declared
+  pub rows : AllByRecursion IsDeclared v.declared
   pub count : length v.sites ≡ motes
 
 frame_sent : (motes : ℕ) (u : World) (m : ℕ) (o : Option Message) → Frame motes u → Frame motes (and_sent u m o)
 frame_sent motes u m None f = f
-frame_sent motes u m (Some message) f = record { known = f.known; count = f.count }
+frame_sent motes u m (Some message) f = record { known = f.known; rows = f.rows; count = f.count }
 
 frame_by : (motes : ℕ) (w : World) (x : Step) (v : World) (reports : List Report) (D : Does) → Frame motes w → KnownDoes w D → StepDoes D w x v reports → Frame motes v
-frame_by motes w x v reports (Refuses why) f k did = subst (Frame motes) (sym did.0) (record { known = f.known; count = f.count })
+frame_by motes w x v reports (Refuses why) f k did = subst (Frame motes) (sym did.0) (record { known = f.known; rows = f.rows; count = f.count })
 frame_by motes w x v reports (Goes d) f k did =
     let b = blows x.cut d.trail in
     let end : EndsAs (λ b y. Unit {0}) b w x d v = ends_as (λ b y. Unit {0}) (λ s room p. tt) w x d v reports (λ runs e. tt) (Through-each (λ s. Unit {0}) (λ s. tt) d.trail) b did in
     subst (Frame motes) (sym end.1)
     (frame_sent motes (ended_world w x d end.0) (mote_of x.event) (sent_unless b d)
-    (record { known = k; count = site_count (record (counted w (dt_of x.event)) { table = d.table }) (mote_of x.event) end.0 ∙ f.count }))
+    (record { known = k; rows = f.rows; count = site_count (record (counted w (dt_of x.event)) { table = d.table }) (mote_of x.event) end.0 ∙ f.count }))
 
 step_frame : RestartLaws → (motes : ℕ) (w : World) (x : Step) (v : World) (reports : List Report) → Frame motes w → WorldStep w x v reports → Frame motes v
 unfolding WorldStep
@@ -83,17 +86,22 @@ declared_known : (o : Option Row) (w : World) (row : Row) → KnownRows w.table 
 declared_known None w row known = λ i v r low e. row_at-push w.declared row r i v (known i v r low e)
 declared_known (Some kept) w row known = known
 
-declared_frame : (motes : ℕ) (w v : World) (row : Row) → v ≡ declared_as (row_at w.declared row.image row.version) w row → Frame motes w → Frame motes v
-declared_frame motes w v row is f =
+declared_rows : (o : Option Row) (w : World) (row : Row) → AllByRecursion IsDeclared w.declared → IsDeclared row → AllByRecursion IsDeclared (declared_as o w row).declared
+declared_rows None w row rows may = all_pushed IsDeclared w.declared row rows may
+declared_rows (Some kept) w row rows may = rows
+
+declared_frame : (motes : ℕ) (w v : World) (row : Row) → v ≡ declared_as (row_at w.declared row.image row.version) w row → IsDeclared row → Frame motes w → Frame motes v
+declared_frame motes w v row is may f =
     let o = row_at w.declared row.image row.version in
     record {
       known = subst (λ (u : World). KnownRows u.table u.declared) (sym is) (declared_known o w row f.known);
+      rows = subst (λ (u : World). AllByRecursion IsDeclared u.declared) (sym is) (declared_rows o w row f.rows may);
       count = ap length (ap (λ (u : World). u.sites) is ∙ declared_sites o w row) ∙ f.count;
     }
 
-item_frame : RestartLaws → (motes : ℕ) (item : Item) (w v : World) (reports : List Report) → Frame motes w → ItemStep w item v reports → Frame motes v
-item_frame restarts motes (Declares row) w v reports f did = declared_frame motes w v row did.world f
-item_frame restarts motes (Happens x loud) w v reports f did = step_frame restarts motes w x v did.0 f did.1
+item_frame : RestartLaws → (motes : ℕ) (item : Item) (w v : World) (reports : List Report) → ItemInRange motes item → Frame motes w → ItemStep w item v reports → Frame motes v
+item_frame restarts motes (Declares row) w v reports range f did = declared_frame motes w v row did.world range f
+item_frame restarts motes (Happens x loud) w v reports range f did = step_frame restarts motes w x v did.0 f did.1
 
 -- ---- golden is kept in every mote
 
@@ -109,7 +117,7 @@ module _ (restarts : RestartLaws) (stepped : (w v : World) (x : Step) (reports :
 
   keeps_played : (past : List Played) (p : Played) → Keeps motes past p.before → IsInRange motes p → ItemStep p.before p.item p.after p.reports → Keeps motes (p ∷ past) p.after × Unit {0}
   keeps_played past p k range did = (
-    record { golden = golden_item p.item p.before p.after p.reports k.golden k.frame.count range did; frame = item_frame restarts motes p.item p.before p.after p.reports k.frame did },
+    record { golden = golden_item p.item p.before p.after p.reports k.golden k.frame.count range did; frame = item_frame restarts motes p.item p.before p.after p.reports range k.frame did },
     tt,
   )
 
@@ -118,35 +126,56 @@ module _ (restarts : RestartLaws) (stepped : (w v : World) (x : Step) (reports :
 
 -- ---- honest scripts
 
--- an item in its ranges fits, since each row of the table is golden or declared
-item_fits : (motes : ℕ) (item : Item) (w : World) → Frame motes w → ItemInRange motes item → HonestItem item w → ItemFits item w
-item_fits motes (Declares row) w f range honest = record {
-  row_fits = range;
-  same = λ none kept e. absurd (not_none (row_at w.declared row.image row.version) kept (f.known row.image row.version kept range.not_golden e) none);
-}
-item_fits motes (Happens x loud) w f range honest = (subst (λ (n : ℕ). StepFits n x) (sym f.count) range, honest)
+-- an honest event is true, since each row of the table is golden or declared
+event_true : (motes : ℕ) (w : World) → Frame motes w → (e : Event) → HonestEvent w.table e → TrueEvent w e
+event_true motes w f (Tick m dt word) honest = tt
+event_true motes w f (Hear m dt word frame) honest = tt
+event_true motes w f (Last from m dt word) honest = tt
+event_true motes w f (Reset m dt word) honest = tt
+event_true motes w f (Inject m image version dt word) honest = λ row kept here there.
+    let low = (row_at-each IsDeclared w.declared image version row f.rows here).not_golden in
+    let key = row_at-key w.declared image version row here in
+    same_some kept row (sym (f.known image version kept (subst (λ (n : ℕ). 1 ≤ n) key.0 low) there) ∙ here)
+event_true motes w f (OrderEvent m number image version dt word) honest = tt
+event_true motes w f (FrameEvent m dt word bytes) honest = honest
+
+-- and a true event is honest
+event_honest : (w : World) (e : Event) → TrueEvent w e → HonestEvent w.table e
+event_honest w (Tick m dt word) is_true = tt
+event_honest w (Hear m dt word frame) is_true = tt
+event_honest w (Last from m dt word) is_true = tt
+event_honest w (Reset m dt word) is_true = tt
+event_honest w (Inject m image version dt word) is_true = tt
+event_honest w (OrderEvent m number image version dt word) is_true = tt
+event_honest w (FrameEvent m dt word bytes) is_true = is_true
+
+item_honest : (item : Item) (w : World) → TrueItem item w → HonestItem item w
+item_honest (Declares row) w is_true = tt
+item_honest (Happens x loud) w is_true = event_honest w x.event is_true
+
+all_honest : (played : List Played) → AllByRecursion IsTrueThen played → AllByRecursion IsHonestThen played
+all_honest [] are_true = tt
+all_honest (p ∷ ps) are_true = (item_honest p.item p.before are_true.0, all_honest ps are_true.1)
+
+item_true : (motes : ℕ) (item : Item) (w : World) → Frame motes w → HonestItem item w → TrueItem item w
+item_true motes (Declares row) w f honest = tt
+item_true motes (Happens x loud) w f honest = event_true motes w f x.event honest
 
 module _ (restarts : RestartLaws) (motes : ℕ) where
-  fits_played : (past : List Played) (p : Played) → Frame motes p.before → IsInRange motes p × IsHonestThen p → ItemStep p.before p.item p.after p.reports → Frame motes p.after × PlayedFits p
-  fits_played past p f range did = (item_frame restarts motes p.item p.before p.after p.reports f did, item_fits motes p.item p.before f range.0 range.1)
+  true_played : (past : List Played) (p : Played) → Frame motes p.before → IsInRange motes p × IsHonestThen p → ItemStep p.before p.item p.after p.reports → Frame motes p.after × IsTrueThen p
+  true_played past p f range did = (item_frame restarts motes p.item p.before p.after p.reports range.0 f did, item_true motes p.item p.before f range.1)
 
-  fits_plays : (played : List Played) (w v : World) → Plays w played v → AllByRecursion (IsInRange motes) played → AllByRecursion IsHonestThen played → Frame motes w → AllByRecursion PlayedFits played
-  fits_plays played w v run ranges honest f =
-      all_then (λ past p. PlayedFits p) PlayedFits (λ past p fits. fits) [] played
-      (plays (λ past u. Frame motes u) (λ p. IsInRange motes p × IsHonestThen p) (λ past p. PlayedFits p) fits_played [] played w v run (all_both (IsInRange motes) IsHonestThen played ranges honest) f).1
+  true_plays : (played : List Played) (w v : World) → Plays w played v → AllByRecursion (IsInRange motes) played → AllByRecursion IsHonestThen played → Frame motes w → AllByRecursion IsTrueThen played
+  true_plays played w v run ranges honest f =
+      all_then (λ past p. IsTrueThen p) IsTrueThen (λ past p is_true. is_true) [] played
+      (plays (λ past u. Frame motes u) (λ p. IsInRange motes p × IsHonestThen p) (λ past p. IsTrueThen p) true_played [] played w v run (all_both (IsInRange motes) IsHonestThen played ranges honest) f).1
 
--- the last world agrees too
-ends_agree : (played : List Played) (w v : World) → Plays w played v → WorldAgrees w → AllByRecursion LeavesAgreement played → WorldAgrees v
+-- the rows and the number of motes in the end
+frame_ends : RestartLaws → (motes : ℕ) (played : List Played) (w v : World) → Plays w played v → AllByRecursion (IsInRange motes) played → Frame motes w → Frame motes v
 unfolding Plays
-ends_agree [] w v run agrees all = subst WorldAgrees run agrees
-ends_agree (p ∷ ps) w v run agrees all = ends_agree ps p.after v run.2 all.0 all.1
-
--- and the number of its motes is the same
-frame_ends : RestartLaws → (motes : ℕ) (played : List Played) (w v : World) → Plays w played v → Frame motes w → Frame motes v
-unfolding Plays
-frame_ends restarts motes [] w v run f = subst (Frame motes) run f
-frame_ends restarts motes (p ∷ ps) w v run f =
-    frame_ends restarts motes ps p.after v run.2 (item_frame restarts motes p.item p.before p.after p.reports (subst (Frame motes) (sym run.0) f) run.1)
+frame_ends restarts motes [] w v run ranges f = subst (Frame motes) run f
+frame_ends restarts motes (p ∷ ps) w v run ranges f =
+    frame_ends restarts motes ps p.after v run.2 ranges.1 (item_frame restarts motes p.item p.before p.after p.reports ranges.0 (subst (Frame motes) (sym run.0) f) run.1)
 
 -- ---- the first world
 
@@ -188,7 +217,7 @@ module _ (name bytes : List ℕ) (used motes : ℕ) (links : List (ℕ × ℕ)) 
       ⊎_elim (λ here. let zero_is = here.1 in absurd (omega (arith, low, zero_is))) (λ there. absurd (not_none None row there refl)) (row_at-cons [] Golden row image version e)
 
   first_frame : Frame motes First
-  first_frame = record { known = first_known; count = first_count }
+  first_frame = record { known = first_known; rows = tt; count = first_count }
 
   first_golden : Keeps motes [] First
   first_golden = record {
@@ -208,7 +237,6 @@ module _ (name bytes : List ℕ) (used motes : ℕ) (links : List (ℕ × ℕ)) 
     few = subst (λ (n : ℕ). n ≤ most_motes) (sym first_count) few;
     table = IsTable-one Golden is_row refl refl;
     rows = tt;
-    same = λ image version row known e f. absurd (not_none None known f refl);
     links = subst (λ (n : ℕ). AllByRecursion (LinkFits n) links) (sym first_count) links_fit;
     sites = λ m here. subst (SiteIsWell Table m 0) (sym (first_site m here)) (first_well m);
     sent = tt;
@@ -223,23 +251,40 @@ module _ (name bytes : List ℕ) (used motes : ℕ) (links : List (ℕ × ℕ)) 
   abbrev pub Begins : World
   Begins = first_world (golden_row name bytes ∷ []) links (replicate motes (fresh name bytes used))
 
-  pub script_agrees : WorldAgrees Begins
-  script_agrees = first_agrees name bytes used motes links script.is_row script.few script.links_fit
+  Count : length Begins.sites ≡ motes
+  Count = first_count name bytes used motes links script.is_row
 
-  pub script_off : AllOff Begins
-  script_off = first_off name bytes used motes links script.is_row
+  Start : Frame motes Begins
+  Start = first_frame name bytes used motes links script.is_row
 
-  pub script_fits : RestartLaws → AllByRecursion IsHonestThen played → AllByRecursion PlayedFits played
-  script_fits restarts honest = fits_plays restarts motes played Begins v script.plays script.ranges honest (first_frame name bytes used motes links script.is_row)
+  pub script_from : RestartLaws → AllByRecursion IsHonestThen played → PlaysFrom Begins played v
+  script_from restarts honest = record {
+    agrees = first_agrees name bytes used motes links script.is_row script.few script.links_fit;
+    off = first_off name bytes used motes links script.is_row;
+    plays = script.plays;
+    ranges = subst (λ (n : ℕ). AllByRecursion (IsInRange n) played) (sym Count) script.ranges;
+    are_true = true_plays restarts motes played Begins v script.plays script.ranges honest Start;
+  }
 
-  pub script_ends : AllByRecursion LeavesAgreement played → WorldAgrees v
-  script_ends all = ends_agree played Begins v script.plays script_agrees all
+  -- what is played more from there is of such a script too
+  pub script_more : (more : List Played) (z : World) → PlaysFrom Begins (played ++ more) z → PlaysGolden name bytes used motes links (played ++ more) z × AllByRecursion IsHonestThen (played ++ more)
+  script_more more z from = (
+    record {
+      is_row = script.is_row;
+      plays = from.plays;
+      few = script.few;
+      links_fit = script.links_fit;
+      ranges = subst (λ (n : ℕ). AllByRecursion (IsInRange n) (played ++ more)) Count from.ranges;
+    },
+    all_honest (played ++ more) from.are_true,
+  )
 
-  pub script_halves : RestartLaws → ((w : World) (e : Event) → WorldAgrees w → EventFits (length w.sites) e → HonestEvent w.table e → StopsAgree w e)
-      → AllByRecursion LeavesAgreement played → (e : Event) → EventFits motes e → HonestEvent v.table e → StopsAgree v e
-  script_halves restarts stopped all e fits honest =
-      let end = frame_ends restarts motes played Begins v script.plays (first_frame name bytes used motes links script.is_row) in
-      stopped v e (script_ends all) (subst (λ (n : ℕ). EventFits n e) (sym end.count) fits) honest
+  -- the next event, where it is honest
+  pub script_true : RestartLaws → (e : Event) → HonestEvent v.table e → TrueEvent v e
+  script_true restarts e honest = event_true motes v (frame_ends restarts motes played Begins v script.plays script.ranges Start) e honest
+
+  pub script_fits : (e : Event) → EventFits motes e → EventFits (length Begins.sites) e
+  script_fits e fits = subst (λ (n : ℕ). EventFits n e) (sym Count) fits
 
   pub script_found : RestartLaws → ((w v : World) (x : Step) (reports : List Report) → WorldKeepsGolden w → StepFits (length w.sites) x → WorldStep w x v reports → WorldKeepsGolden v)
       → ((w : World) (e : Event) → WorldKeepsGolden w → EventFits (length w.sites) e → FindsImage (does w e)) → (e : Event) → EventFits motes e → FindsImage (does v e)

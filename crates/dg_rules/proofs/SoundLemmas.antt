@@ -13,7 +13,7 @@ use Rattle.dg_base.specs.declared.events.Event.{Event}
 use Rattle.dg_base.specs.declared.events.Step.{Step}
 use Rattle.dg_rules.specs.Legal.{Past}
 use Rattle.dg_rules.specs.Past.{past_item, past_of}
-use Rattle.dg_rules.specs.Premises.{WorldAgrees, HonestEvent, MayDeclare, ItemFits, PlayedFits, LeavesAgreement, AllOff}
+use Rattle.dg_rules.specs.Premises.{IsDeclared, WorldAgrees, TrueEvent, ItemFits, PlayedFits, LeavesAgreement, AllOff}
 use Rattle.dg_rules.specs.Promises.{IsLegal, LegalItem, KeepsAll, StartsDoes, StartsRow, StartsItem}
 use Rattle.dg_script.specs.Items.{Item, Declares, Happens}
 use Rattle.dg_rules.specs.Runs.{Played, ItemStep, Plays, EachAfter}
@@ -57,8 +57,8 @@ pub record Holds (past : List Played) (p : Played) : Type 0 where
 -- what is known of agreement, of starts and of what is kept
 pub record RunLaws : Type 0 where
   pub steps : StepLaws
-  pub stepped : (w v : World) (x : Step) (reports : List Report) → WorldAgrees w → StepFits (length w.sites) x → HonestEvent w.table x.event → WorldStep w x v reports → WorldAgrees v
-  pub declared : (w v : World) (row : Row) (reports : List Report) → WorldAgrees w → MayDeclare w row → DeclareStep w row v reports → WorldAgrees v
+  pub stepped : (w v : World) (x : Step) (reports : List Report) → WorldAgrees w → StepFits (length w.sites) x → TrueEvent w x.event → WorldStep w x v reports → WorldAgrees v
+  pub declared : (w v : World) (row : Row) (reports : List Report) → WorldAgrees w → IsDeclared row → DeclareStep w row v reports → WorldAgrees v
   pub starts : (w : World) (e : Event) → WorldAgrees w → EventFits (length w.sites) e → StartsDoes (does w e) w.table
   pub keeps : (past : List Played) (p : Played) → IsLegal past p → KeepsAll p
 
@@ -79,10 +79,10 @@ module _ (laws : RunLaws) where
   sound_item past (Happens x loud) w v reports i fits did = (
     record {
       agrees = laws.stepped w v x did.0 i.agrees fits.0 fits.1 did.1;
-      settled = step_settled laws.steps past w i.agrees i.settled i.came x v did.0 fits.0 did.1;
+      settled = step_settled laws.steps past w i.agrees i.settled i.came x v did.0 fits.0 fits.1 did.1;
       came = step_came laws.steps.restarts laws.steps.changes past w i.came x v did.0 fits.0 did.1;
     },
-    step_legal laws.steps past w i.agrees i.settled i.came x v did.0 fits.0 did.1,
+    step_legal laws.steps past w i.agrees i.settled i.came x v did.0 fits.0 fits.1 did.1,
     laws.starts w x.event i.agrees fits.0.event,
   )
 

@@ -12,3 +12,4 @@ pub mod Ranges
 pub mod Premises
 pub mod Golden
 pub mod Consistency
+pub mod Begins

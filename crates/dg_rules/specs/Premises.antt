@@ -1,4 +1,4 @@
--- Worlds that agree with their table, and runs over honest frames.
+-- Worlds that agree with their table, and runs over honest frames and true injections.
 use Rattle.std.specs.Prelude.{◌≡◌, ◌≢◌, ℕ, ◌<◌, ◌≤◌, ◌^◌, IsTrue, List, length, Some, None, IfSome, Ok, false}
 use Rattle.std.specs.List.{AllByRecursion}
 use Rattle.dg_words.specs.Cells.{AreBytes}
@@ -21,7 +21,7 @@ use Rattle.dg_rules.specs.Ranges.{StepFits}
 use Rattle.dg_script.specs.Items.{Item, Declares, Happens}
 use Rattle.dg_rules.specs.Runs.{Played}
 use Rattle.dg_base.specs.declared.events.Event.{Event}
-use Rattle.dg_base.specs.declared.events.Event.TheVariants.{Frame}
+use Rattle.dg_base.specs.declared.events.Event.TheVariants.{Tick, Hear, Last, Reset, Inject, Order as OrderEvent, Frame}
 
 -- What the script language lets be declared. Only what is injected has 1 to 70,656 bytes
 pub record IsDeclared (row : Row) : Type 0 where
@@ -58,12 +58,11 @@ pub record LinkFits (motes : ℕ) (l : ℕ × ℕ) : Type 0 where
   pub second : l.1 < motes
   pub two : l.0 ≢ l.1
 
--- Every chip, every mote that is on and every frame that was sent agrees with the table, and what is declared is the table's.
+-- Every chip, every mote that is on and every frame that was sent agrees with the table, and what is declared may be injected.
 pub record WorldAgrees (w : World) : Type 0 where
   pub few : length w.sites ≤ most_motes
   pub table : IsTable w.table
   pub rows : AllByRecursion IsDeclared w.declared
-  pub same : (image version : ℕ) (row declared : Row) → row_at w.table image version ≡ Some row → row_at w.declared image version ≡ Some declared → row ≡ declared
   pub links : AllByRecursion (LinkFits (length w.sites)) w.links
   pub sites : (m : ℕ) → m < length w.sites → SiteIsWell w.table m w.moment (site w m)
   pub sent : AllByRecursion (SentIsWell w.table) w.sent
@@ -77,16 +76,21 @@ abbrev pub HonestEvent : List Row → Event → Type 0
 HonestEvent table (Frame mote dt word bytes) = IsHonest table bytes
 HonestEvent table event = Unit {0}
 
--- A row that may be declared: where its key is in the table and not declared yet, it is the table's row. One whose key is
--- declared with another content may be declared too, and is refused
-pub record MayDeclare (w : World) (row : Row) : Type 0 where
-  pub row_fits : IsDeclared row
-  pub same : row_at w.declared row.image row.version ≡ None → (kept : Row) → row_at w.table row.image row.version ≡ Some kept → kept ≡ row
+-- An event is true in a world: a frame that it brings from outside is honest by the table before it, and a row that it
+-- injects is the table's, where the table has its key
+abbrev pub TrueEvent : World → Event → Type 0
+TrueEvent w (Tick mote dt word) = Unit {0}
+TrueEvent w (Hear mote dt word frame) = Unit {0}
+TrueEvent w (Last from to dt word) = Unit {0}
+TrueEvent w (Reset mote dt word) = Unit {0}
+TrueEvent w (Inject mote image version dt word) = (row kept : Row) → row_at w.declared image version ≡ Some row → row_at w.table image version ≡ Some kept → kept ≡ row
+TrueEvent w (OrderEvent mote number image version dt word) = Unit {0}
+TrueEvent w (Frame mote dt word bytes) = IsHonest w.table bytes
 
--- what is played is in its ranges, and honest
+-- what is played is in its ranges, and true
 abbrev pub ItemFits : Item → World → Type 0
-ItemFits (Declares row) w = MayDeclare w row
-ItemFits (Happens step loud) w = StepFits (length w.sites) step × HonestEvent w.table step.event
+ItemFits (Declares row) w = IsDeclared row
+ItemFits (Happens step loud) w = StepFits (length w.sites) step × TrueEvent w step.event
 
 abbrev pub PlayedFits : Played → Type 0
 PlayedFits p = ItemFits p.item p.before
@@ -106,6 +110,14 @@ HonestItem (Happens step loud) w = HonestEvent w.table step.event
 
 abbrev pub IsHonestThen : Played → Type 0
 IsHonestThen p = HonestItem p.item p.before
+
+-- an event is true in the world of that moment
+abbrev pub TrueItem : Item → World → Type 0
+TrueItem (Declares row) w = Unit {0}
+TrueItem (Happens step loud) w = TrueEvent w step.event
+
+abbrev pub IsTrueThen : Played → Type 0
+IsTrueThen p = TrueItem p.item p.before
 
 abbrev pub LeavesAgreement : Played → Type 0
 LeavesAgreement p = WorldAgrees p.after

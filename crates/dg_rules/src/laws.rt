@@ -1,18 +1,19 @@
 //! What holds of worlds and of runs. These functions do nothing: their contracts are the laws.
-ghost use Rattle.std.specs.Prelude.{◌≡◌, ℕ, List, [], length};
+ghost use Rattle.std.specs.Prelude.{◌≡◌, ℕ, List, [], ◌∷◌, ◌++◌, length, replicate};
 ghost use Rattle.std.specs.List.{AllByRecursion};
 ghost use Rattle.dg_nor.specs.Trail.{Trail, Leaves};
 ghost use Rattle.dg_nor.specs.Through.{Through};
 ghost use Rattle.dg_object.specs.Object.{Row};
-ghost use Rattle.dg_volume.specs.Store.{Store, IsNear, golden_row};
+ghost use Rattle.dg_volume.specs.Store.{Store, IsNear, golden_row, fresh};
 ghost use Rattle.dg_volume.specs.Agreement.{Agrees};
-ghost use Rattle.dg_rules.specs.World.{World};
+ghost use Rattle.dg_rules.specs.World.{World, first_world};
 ghost use Rattle.dg_rules.specs.Steps.{WorldStep, DeclareStep, EndsRun};
 ghost use Rattle.dg_rules.specs.Events.{does};
-ghost use Rattle.dg_rules.specs.Runs.{Played, Plays, EachAfter};
+ghost use Rattle.dg_rules.specs.Runs.{Played, EachAfter};
 ghost use Rattle.dg_rules.specs.Promises.{IsLegal, KeepsAll, GoldenStays, StartsDoes, StartsRow, StopsAgree};
 ghost use Rattle.dg_rules.specs.Ranges.{EventFits, StepFits};
-ghost use Rattle.dg_rules.specs.Premises.{WorldAgrees, WorldTimely, HonestEvent, IsHonestThen, MayDeclare, PlayedFits, LeavesAgreement, AllOff, IsDeclared};
+ghost use Rattle.dg_rules.specs.Premises.{WorldAgrees, WorldTimely, HonestEvent, IsHonestThen, TrueEvent, IsTrueThen, LeavesAgreement, IsDeclared};
+ghost use Rattle.dg_rules.specs.Begins.{PlaysFrom, StoresAgree, PlaysBoards};
 ghost use Rattle.dg_rules.specs.Consistency.{WorldConsistent, LeavesConsistent, StartsSoundDoes, StartsSound, StopsConsistent};
 ghost use Rattle.dg_rules.specs.Golden.{WorldKeepsGolden, FindsImage, PlaysGolden};
 ghost use Rattle.dg_base.specs.declared.events.Event.{Event};
@@ -34,13 +35,13 @@ pub fn what_a_cut_leaves_agrees()
     ensures { (table : List Row) (t : Trail Store) (k : ℕ) (s : Store) → Through (Agrees table) t → Leaves IsNear t k s → Agrees table s }
 {}
 
-/// A world that agrees with its table still does after a step, also a cut one, where a frame from outside is honest, and
-/// after a declaration. Wherever a stop comes in such an event, each store that the chip may then stand for agrees with the
+/// A world that agrees with its table still does after a step, also a cut one, where a frame from outside is honest and
+/// what is injected is the table's row where the table has its key, and after a declaration. Wherever a stop comes in such an event, each store that the chip may then stand for agrees with the
 /// table behind the event. And no moment of a mote that is on is later than the world's, whatever frames come.
 pub fn agreement_is_kept()
-    ensures stepped { (w v : World) (x : Step) (reports : List Report) → WorldAgrees w → StepFits (length w.sites) x → HonestEvent w.table x.event → WorldStep w x v reports → WorldAgrees v }
-    ensures stopped { (w : World) (e : Event) → WorldAgrees w → EventFits (length w.sites) e → HonestEvent w.table e → StopsAgree w e }
-    ensures declared { (w v : World) (row : Row) (reports : List Report) → WorldAgrees w → MayDeclare w row → DeclareStep w row v reports → WorldAgrees v }
+    ensures stepped { (w v : World) (x : Step) (reports : List Report) → WorldAgrees w → StepFits (length w.sites) x → TrueEvent w x.event → WorldStep w x v reports → WorldAgrees v }
+    ensures stopped { (w : World) (e : Event) → WorldAgrees w → EventFits (length w.sites) e → TrueEvent w e → StopsAgree w e }
+    ensures declared { (w v : World) (row : Row) (reports : List Report) → WorldAgrees w → IsDeclared row → DeclareStep w row v reports → WorldAgrees v }
     ensures timely { (w v : World) (x : Step) (reports : List Report) → WorldTimely w → StepFits (length w.sites) x → WorldStep w x v reports → WorldTimely v }
 {
     trails_keep_agreement();
@@ -75,13 +76,16 @@ pub fn golden_is_found()
     a_restart_is_for_the_order();
 }
 
-/// In a run from a world that agrees with its table and in which no mote is on, each step is legal after those before
-/// it, each item leaves agreement and starts only rows of the table, and no version falls.
+/// In a run from a world that agrees with its table and in which no mote is on, where every event is true, each step is
+/// legal after those before it, each item leaves agreement and starts only rows of the table, and no version falls. Where
+/// the next event is true too, then wherever a stop comes in it, each store that the chip may then stand for agrees with
+/// the table behind it.
 pub fn every_step_is_legal()
-    ensures legal { (w v : World) (played : List Played) → WorldAgrees w → AllOff w → Plays w played v → AllByRecursion PlayedFits played → EachAfter IsLegal [] played }
-    ensures agrees { (w v : World) (played : List Played) → WorldAgrees w → AllOff w → Plays w played v → AllByRecursion PlayedFits played → AllByRecursion LeavesAgreement played }
-    ensures starts { (w v : World) (played : List Played) → WorldAgrees w → AllOff w → Plays w played v → AllByRecursion PlayedFits played → AllByRecursion StartsRow played }
-    ensures keeps { (w v : World) (played : List Played) → WorldAgrees w → AllOff w → Plays w played v → AllByRecursion PlayedFits played → AllByRecursion KeepsAll played }
+    ensures legal { (w v : World) (played : List Played) → PlaysFrom w played v → EachAfter IsLegal [] played }
+    ensures agrees { (w v : World) (played : List Played) → PlaysFrom w played v → AllByRecursion LeavesAgreement played × WorldAgrees v }
+    ensures starts { (w v : World) (played : List Played) → PlaysFrom w played v → AllByRecursion StartsRow played }
+    ensures keeps { (w v : World) (played : List Played) → PlaysFrom w played v → AllByRecursion KeepsAll played }
+    ensures halves { (w v : World) (played : List Played) (e : Event) → PlaysFrom w played v → EventFits (length w.sites) e → TrueEvent v e → StopsAgree v e }
 {
     agreement_is_kept();
     what_starts_is_a_row();
@@ -147,9 +151,37 @@ pub fn scripts_with_golden()
         → EventFits motes e → FindsImage (does v e) }
     ensures halves { (name bytes : List ℕ) (used motes : ℕ) (links : List (ℕ × ℕ)) (played : List Played) (v : World) (e : Event) → PlaysGolden name bytes used motes links played v
         → AllByRecursion IsHonestThen played → EventFits motes e → HonestEvent v.table e → StopsAgree v e }
+    // each row of the table but golden was declared, so that it is played from a world that agrees, and every event is true
+    ensures plays { (name bytes : List ℕ) (used motes : ℕ) (links : List (ℕ × ℕ)) (played : List Played) (v : World) → PlaysGolden name bytes used motes links played v
+        → AllByRecursion IsHonestThen played → PlaysFrom (first_world (golden_row name bytes ∷ []) links (replicate motes (fresh name bytes used))) played v }
+    // and what is played more from there, with true events, is of a script with golden, over honest frames
+    ensures more { (name bytes : List ℕ) (used motes : ℕ) (links : List (ℕ × ℕ)) (played more : List Played) (w v : World) → PlaysGolden name bytes used motes links played w
+        → PlaysFrom (first_world (golden_row name bytes ∷ []) links (replicate motes (fresh name bytes used))) (played ++ more) v
+        → PlaysGolden name bytes used motes links (played ++ more) v × AllByRecursion IsHonestThen (played ++ more) }
 {
-    agreement_is_kept();
     every_step_is_legal();
     golden_is_found();
     a_restart_is_for_the_order();
+}
+
+/// A script over chips as they stand, which agree with a table. Where each event is true in the world of its moment, so
+/// that each frame from outside is honest and no key of the table is injected with another content, each step is legal,
+/// versions do not fall, what starts is a row of the table, and the chips, the motes that are on and the frames that were
+/// sent agree with the table; and where the next event is true too, then wherever a stop comes in it, each store that the
+/// chip may then stand for agrees with the table behind it.
+pub fn scripts_with_boards()
+    ensures legal { (table : List Row) (stores : List Store) (links : List (ℕ × ℕ)) (played : List Played) (v : World) → PlaysBoards table stores links played v
+        → StoresAgree table stores → AllByRecursion IsTrueThen played → EachAfter IsLegal [] played }
+    ensures keeps { (table : List Row) (stores : List Store) (links : List (ℕ × ℕ)) (played : List Played) (v : World) → PlaysBoards table stores links played v
+        → StoresAgree table stores → AllByRecursion IsTrueThen played → AllByRecursion KeepsAll played }
+    ensures starts { (table : List Row) (stores : List Store) (links : List (ℕ × ℕ)) (played : List Played) (v : World) → PlaysBoards table stores links played v
+        → StoresAgree table stores → AllByRecursion IsTrueThen played → AllByRecursion StartsRow played }
+    ensures agrees { (table : List Row) (stores : List Store) (links : List (ℕ × ℕ)) (played : List Played) (v : World) → PlaysBoards table stores links played v
+        → StoresAgree table stores → AllByRecursion IsTrueThen played → AllByRecursion LeavesAgreement played × WorldAgrees v }
+    ensures halves { (table : List Row) (stores : List Store) (links : List (ℕ × ℕ)) (played : List Played) (v : World) (e : Event) → PlaysBoards table stores links played v
+        → StoresAgree table stores → AllByRecursion IsTrueThen played → EventFits (length stores) e → TrueEvent v e → StopsAgree v e }
+    ensures plays { (table : List Row) (stores : List Store) (links : List (ℕ × ℕ)) (played : List Played) (v : World) → PlaysBoards table stores links played v
+        → StoresAgree table stores → AllByRecursion IsTrueThen played → PlaysFrom (first_world table links stores) played v }
+{
+    every_step_is_legal();
 }

@@ -1,5 +1,6 @@
 use Rattle.dg_rules.proofs.ChangesLemmas.{StepLaws}
 use Rattle.dg_rules.proofs.SoundLemmas.{RunLaws, run_legal, run_agrees, run_starts, run_keeps}
+use Rattle.dg_rules.proofs.BeginLemmas.{from_fits, from_ends, from_halves}
 use Rattle.dg_rules.proofs.laws.every_step_is_legal.Goals as goal
 
 pub returns : goal.returns
@@ -24,8 +25,10 @@ returns c =
     let agreement = c.agreement_is_kept.ensures in
     let laws : RunLaws = record { steps = steps; stepped = agreement.stepped; declared = agreement.declared; starts = c.what_starts_is_a_row.ensures; keeps = c.versions_do_not_fall.ensures.versions } in
     record {
-      legal = λ w v played agrees off run fits. run_legal laws w v played agrees off run fits;
-      agrees = λ w v played agrees off run fits. run_agrees laws w v played agrees off run fits;
-      starts = λ w v played agrees off run fits. run_starts laws w v played agrees off run fits;
-      keeps = λ w v played agrees off run fits. run_keeps laws w v played agrees off run fits;
+      legal = λ w v played from. run_legal laws w v played from.agrees from.off from.plays (from_fits w v played from);
+      agrees = λ w v played from. let all = run_agrees laws w v played from.agrees from.off from.plays (from_fits w v played from) in (all, from_ends w v played from all);
+      starts = λ w v played from. run_starts laws w v played from.agrees from.off from.plays (from_fits w v played from);
+      keeps = λ w v played from. run_keeps laws w v played from.agrees from.off from.plays (from_fits w v played from);
+      halves = λ w v played e from fits is_true.
+          from_halves w v played from agreement.stopped (run_agrees laws w v played from.agrees from.off from.plays (from_fits w v played from)) e fits is_true;
     }

@@ -1,0 +1,44 @@
+-- What is played from worlds that agree with their tables, and over chips as they stand.
+use Rattle.std.specs.Prelude.{ℕ, ◌<◌, ◌≤◌, List, length, slice_index_or}
+use Rattle.std.specs.List.{AllByRecursion}
+use Rattle.dg_object.specs.Object.{Row}
+use Rattle.dg_volume.specs.Store.{Store}
+use Rattle.dg_volume.specs.Shaped.{IsShaped}
+use Rattle.dg_volume.specs.Table.{IsTable}
+use Rattle.dg_volume.specs.Agreement.{Agrees}
+use Rattle.dg_rules.specs.Sizes.{most_motes}
+use Rattle.dg_rules.specs.World.{World, no_site, first_world}
+use Rattle.dg_rules.specs.Runs.{Played, Plays}
+use Rattle.dg_rules.specs.Premises.{LinkFits, WorldAgrees, AllOff, IsInRange, IsTrueThen}
+
+-- What is played from a world that agrees with its table and in which no mote is on: every number is in its range, and
+-- every event is true in the world of its moment.
+pub record PlaysFrom (u : World) (played : List Played) (v : World) : Type 0 where
+  pub agrees : WorldAgrees u
+  pub off : AllOff u
+  pub plays : Plays u played v
+  pub ranges : AllByRecursion (IsInRange (length u.sites)) played
+  pub are_true : AllByRecursion IsTrueThen played
+
+-- ---- chips as they stand
+
+-- what the chip of mote m stands for
+abbrev pub store_of : List Store → ℕ → Store
+store_of stores m = slice_index_or stores m no_site.store
+
+-- what the chips stand for agrees with a table
+pub record StoresAgree (table : List Row) (stores : List Store) : Type 0 where
+  pub is_table : IsTable table
+  pub each : (m : ℕ) → m < length stores → Agrees table (store_of stores m)
+
+-- Each has a place for each image, and an order in its ranges, as whatever a chip stands for.
+abbrev pub AreShaped : List Store → Type 0
+AreShaped stores = (m : ℕ) → m < length stores → IsShaped (store_of stores m)
+
+-- what is played over chips that stand for these stores, against a table: every number is in its range
+pub record PlaysBoards (table : List Row) (stores : List Store) (links : List (ℕ × ℕ)) (played : List Played) (v : World) : Type 0 where
+  pub shaped : AreShaped stores
+  pub plays : Plays (first_world table links stores) played v
+  pub few : length stores ≤ most_motes
+  pub links_fit : AllByRecursion (LinkFits (length stores)) links
+  pub ranges : AllByRecursion (IsInRange (length stores)) played
