@@ -1,19 +1,19 @@
 -- What is played to its end with a rest.
-use Rattle.std.proofs.Common.{◌≡◌, ℕ, zero, suc, ◌+◌, ◌<◌, ◌&&◌, ◌||◌, cond, eqb, List, [], ◌∷◌, ◌++◌, drop, length, replicate, Option, Some, None, refl, sym, ap, subst, ◌∙◌}
+use Rattle.std.proofs.Common.{◌≡◌, ℕ, zero, suc, ◌+◌, ◌<◌, ◌&&◌, ◌||◌, cond, eqb, List, [], ◌∷◌, ◌++◌, drop, length, replicate, append_assoc, Option, Some, None, refl, sym, ap, subst, ◌∙◌}
 use Rattle.std.specs.List.{AllByRecursion, list_any}
 use Rattle.dg_object.specs.Object.{Row}
 use Rattle.dg_nor.specs.Trail.{last}
-use Rattle.dg_volume.specs.Store.{Store, golden_row, fresh}
+use Rattle.dg_volume.specs.Store.{Store}
 use Rattle.dg_volume.specs.Table.{row_at}
 use Rattle.dg_frame.specs.declared.Message.{Message}
 use Rattle.dg_mote.specs.Sizes.{shared}
 use Rattle.dg_script.specs.Items.{Item, Declares, Happens}
-use Rattle.dg_rules.specs.World.{World, Running, Sent, site, store_at, linked, frame_at, last_frame, first_world, counted, with_site}
+use Rattle.dg_rules.specs.World.{World, Running, Sent, site, store_at, linked, frame_at, last_frame, counted, with_site}
 use Rattle.dg_rules.specs.Events.{Does, Refuses, Goes, does, mote_of, dt_of, tick_by, hear_by, heard_sent, heard_last, unless_off}
 use Rattle.dg_rules.specs.Steps.{WorldStep, StepDoes, and_sent, declared_as}
 use Rattle.dg_rules.specs.Runs.{Played, ItemStep, Plays}
-use Rattle.dg_rules.specs.Premises.{WorldAgrees, IsInRange, IsHonestThen, LeavesAgreement}
-use Rattle.dg_rules.specs.Golden.{PlaysGolden}
+use Rattle.dg_rules.specs.Premises.{WorldAgrees, IsInRange, IsTrueThen, LeavesAgreement}
+use Rattle.dg_rules.specs.Begins.{PlaysFrom}
 use Rattle.dg_rounds.specs.Rounds.{round, times, rounds_of, paced}
 use Rattle.dg_base.specs.declared.events.Event.{Event}
 use Rattle.dg_base.specs.declared.events.Event.TheVariants.{Tick, Hear, Last, Reset, Inject, Order as OrderEvent, Frame}
@@ -24,7 +24,7 @@ use Rattle.dg_completion.specs.Rests.{IsFree}
 use Rattle.dg_completion.specs.Completion.{Follows, FreeLaw, newest, within, IsHops, IsEnoughFor, IsEnoughOver, Rests, IsOn, RoundLaw, PipelineLaw, CompletionLaw}
 use Rattle.dg_completion.specs.Ends.{event_in, events_of, IsUncutItem, IsUncut, PlayedLaw, EndsInRest, EndsLaw, EndsPipelineLaw}
 use Rattle.dg_completion.specs.Played.{Passes, DrainedLaw, RoundsBring, RoundsLaw}
-use Rattle.dg_completion.proofs.GrowLemmas.{all_append, all_replicate, round_free, rounds_free}
+use Rattle.dg_completion.proofs.GrowLemmas.{all_replicate, round_free, rounds_free}
 
 -- ---- the front and the rest of what was played
 
@@ -191,60 +191,58 @@ enough_same rows w [] n enough = enough
 enough_same rows w (i ∷ is) n enough =
     (enough.0, enough.1, enough_for_same rows w (newest w.table i) enough.0 enough.2, enough_same rows w is enough.1 enough.3, enough.4)
 
--- ---- a script
+-- ---- from a world that agrees
 
--- what is declared later agrees with the table too, which stays
-declaring_agrees : (w v : World) → WorldAgrees w → WorldAgrees v → v.table ≡ w.table → WorldAgrees (declaring v.declared w)
-declaring_agrees w v a b table = record {
+-- what is declared later may be injected too
+declaring_agrees : (w v : World) → WorldAgrees w → WorldAgrees v → WorldAgrees (declaring v.declared w)
+declaring_agrees w v a b = record {
   few = a.few;
   table = a.table;
   rows = b.rows;
-  same = λ image version row declared is known. b.same image version row declared (ap (λ t. row_at t image version) table ∙ is) known;
   links = a.links;
   sites = a.sites;
   sent = a.sent;
 }
 
-module _
-    (agrees : (name bytes : List ℕ) (used motes : ℕ) (links : List (ℕ × ℕ)) (played : List Played) (v : World) → PlaysGolden name bytes used motes links played v
-    → AllByRecursion IsHonestThen played → AllByRecursion LeavesAgreement played × WorldAgrees v)
-    (free : FreeLaw) where
-  module _ (name bytes : List ℕ) (used motes : ℕ) (links : List (ℕ × ℕ)) (played : List Played) (w v : World) (n : ℕ) (script : PlaysGolden name bytes used motes links played v)
-      (honest : AllByRecursion IsHonestThen played) (end : EndsInRest played w n v) where
-    abbrev begins : World
-    begins = first_world (golden_row name bytes ∷ []) links (replicate motes (fresh name bytes used))
+-- the front of what was played
+played_front : (u v w : World) (xs ys : List Played) → PlaysFrom u (xs ++ ys) v → Plays u xs w → PlaysFrom u xs w
+played_front u v w xs ys from plays = record {
+  agrees = from.agrees;
+  off = from.off;
+  plays = plays;
+  ranges = front (IsInRange (length u.sites)) xs ys from.ranges;
+  are_true = front IsTrueThen xs ys from.are_true;
+}
 
-    whole : AllByRecursion LeavesAgreement played × WorldAgrees v
-    whole = agrees name bytes used motes links played v script honest
+module _
+    (agrees : (u v : World) (played : List Played) → PlaysFrom u played v → AllByRecursion LeavesAgreement played × WorldAgrees v)
+    (free : FreeLaw) where
+  module _ (u : World) (played : List Played) (w v : World) (n : ℕ) (from : PlaysFrom u played v) (end : EndsInRest played w n v) where
+    in_parts : PlaysFrom u (end.before ++ end.rest) v
+    in_parts = subst (λ ps. PlaysFrom u ps v) end.parts from
+
+    whole : AllByRecursion LeavesAgreement (end.before ++ end.rest) × WorldAgrees v
+    whole = agrees u v (end.before ++ end.rest) in_parts
 
     -- what was played before the rest leads to w
-    before : Plays begins end.before w
+    before : Plays u end.before w
     before =
-        let parts = plays_split end.before end.rest begins v (subst (λ ps. Plays begins ps v) end.parts script.plays) in
-        subst (Plays begins end.before) (begins_once end.rest parts.0 w v parts.2 end.run) parts.1
-
-    first : PlaysGolden name bytes used motes links end.before w
-    first = record {
-      is_row = script.is_row;
-      plays = before;
-      few = script.few;
-      links_fit = script.links_fit;
-      ranges = front (IsInRange motes) end.before end.rest (subst (AllByRecursion (IsInRange motes)) end.parts script.ranges);
-    }
+        let parts = plays_split end.before end.rest u v in_parts.plays in
+        subst (Plays u end.before) (begins_once end.rest parts.0 w v parts.2 end.run) parts.1
 
     agrees_then : WorldAgrees w
-    agrees_then = (agrees name bytes used motes links end.before w first (front IsHonestThen end.before end.rest (subst (AllByRecursion IsHonestThen) end.parts honest))).1
+    agrees_then = (agrees u w end.before (played_front u v w end.before end.rest in_parts before)).1
 
     free_rest : AllByRecursion IsFree (events_of end.rest)
     free_rest = rounds_free (times n (rounds_of w.links)) (events_of end.rest) end.sweeps
 
     stays : Stays w v
-    stays = plays_stay free end.rest w v agrees_then end.run (behind LeavesAgreement end.before end.rest (subst (AllByRecursion LeavesAgreement) end.parts whole.0)) end.uncut free_rest
+    stays = plays_stay free end.rest w v agrees_then end.run (behind LeavesAgreement end.before end.rest whole.0) end.uncut free_rest
 
     -- the rest begins in the world w with all rows declared
     rests : Rests (declaring v.declared w) n (events_of end.rest) v
     rests = record {
-      good = declaring_agrees w v agrees_then whole.1 stays.table;
+      good = declaring_agrees w v agrees_then whole.1;
       rest = end.sweeps;
       run = follows v.declared end.rest w v end.run end.uncut free_rest;
       on = λ j h. record { running = (end.on j h).running; runs = (end.on j h).runs };
@@ -252,14 +250,14 @@ module _
     }
 
   pub ends : CompletionLaw → EndsLaw
-  ends complete name bytes used motes links played w v n k script honest end enough many i row m from to is there =
-      let s = stays name bytes used motes links played w v n script honest end in
-      complete (declaring v.declared w) v n k (events_of end.rest) (rests name bytes used motes links played w v n script honest end) (enough_same v.declared w shared k enough) many i row m from to
+  ends complete u played w v n k begins end enough many i row m from to is there =
+      let s = stays u played w v n begins end in
+      complete (declaring v.declared w) v n k (events_of end.rest) (rests u played w v n begins end) (enough_same v.declared w shared k enough) many i row m from to
       (ap (λ t. newest t i) (sym s.table) ∙ is) (subst (λ c. m < c) s.count there)
 
   pub ends_pipeline : PipelineLaw → EndsPipelineLaw
-  ends_pipeline fill name bytes used motes links played w v t script honest end i row done from to is m j there one near =
-      fill (declaring v.declared w) v t (events_of end.rest) i row (rests name bytes used motes links played w v t script honest end) done from to is m j there one
+  ends_pipeline fill u played w v t begins end i row done from to is m j there one near =
+      fill (declaring v.declared w) v t (events_of end.rest) i row (rests u played w v t begins end) done from to is m j there one
       (within_same v.declared w row j m ∙ near)
 
 pub played : PlayedLaw
@@ -293,31 +291,23 @@ record LeadsOn (w : World) (es : List Event) (v : World) : Type 0 where
   good : WorldAgrees (declaring v.declared w)
   run : Follows (declaring v.declared w) es v
 
-module _
-    (agrees : (name bytes : List ℕ) (used motes : ℕ) (links : List (ℕ × ℕ)) (played : List Played) (v : World) → PlaysGolden name bytes used motes links played v
-    → AllByRecursion IsHonestThen played → AllByRecursion LeavesAgreement played × WorldAgrees v)
-    (free : FreeLaw) where
-  passes_on : (name bytes : List ℕ) (used motes : ℕ) (links : List (ℕ × ℕ)) (played : List Played) (end w v : World) (e : Event) (more : List Event) → PlaysGolden name bytes used motes links played end
-      → AllByRecursion IsHonestThen played → AllByRecursion IsFree (e ∷ more) → Passes played w (e ∷ more) v → LeadsOn w (e ∷ more) v
-  passes_on name bytes used motes links played end w v e more script honest all p =
-      let begins : World = first_world (golden_row name bytes ∷ []) links (replicate motes (fresh name bytes used)) in
+module _ (agrees : (u v : World) (played : List Played) → PlaysFrom u played v → AllByRecursion LeavesAgreement played × WorldAgrees v) where
+  passes_on : (u : World) (played : List Played) (end w v : World) (e : Event) (more : List Event) → PlaysFrom u played end → AllByRecursion IsFree (e ∷ more) → Passes played w (e ∷ more) v
+      → LeadsOn w (e ∷ more) v
+  passes_on u played end w v e more from all p =
       let rest = p.part ++ p.behind in
-      let whole = plays_split p.before rest begins end (subst (λ ps. Plays begins ps end) p.parts script.plays) in
+      let in_parts : PlaysFrom u (p.before ++ rest) end = subst (λ ps. PlaysFrom u ps end) p.parts from in
+      let whole = plays_split p.before rest u end in_parts.plays in
       let here = plays_split p.part p.behind whole.0 end whole.2 in
-      let to_w : Plays begins p.before w = subst (Plays begins p.before) (starts_same p.part e more whole.0 w here.0 v p.events here.1 p.run) whole.1 in
-      let to_v : Plays begins (p.before ++ p.part) v = plays_join p.before p.part begins w v to_w p.run in
-      let honest_all = subst (AllByRecursion IsHonestThen) p.parts honest in
-      let range_all = subst (AllByRecursion (IsInRange motes)) p.parts script.ranges in
-      let honest_w = front IsHonestThen p.before rest honest_all in
-      let range_w = front (IsInRange motes) p.before rest range_all in
-      let honest_v = all_append IsHonestThen p.before p.part honest_w (front IsHonestThen p.part p.behind (behind IsHonestThen p.before rest honest_all)) in
-      let range_v = all_append (IsInRange motes) p.before p.part range_w (front (IsInRange motes) p.part p.behind (behind (IsInRange motes) p.before rest range_all)) in
-      let at_w = agrees name bytes used motes links p.before w (record { is_row = script.is_row; plays = to_w; few = script.few; links_fit = script.links_fit; ranges = range_w }) honest_w in
-      let at_v = agrees name bytes used motes links (p.before ++ p.part) v (record { is_row = script.is_row; plays = to_v; few = script.few; links_fit = script.links_fit; ranges = range_v }) honest_v in
+      let to_w : Plays u p.before w = subst (Plays u p.before) (starts_same p.part e more whole.0 w here.0 v p.events here.1 p.run) whole.1 in
+      let to_v : Plays u (p.before ++ p.part) v = plays_join p.before p.part u w v to_w p.run in
+      let together = append_assoc p.before p.part p.behind in
+      let with_part : PlaysFrom u ((p.before ++ p.part) ++ p.behind) end = subst (λ ps. PlaysFrom u ps end) (sym together) in_parts in
+      let at_w = agrees u w p.before (played_front u end w p.before rest in_parts to_w) in
+      let at_v = agrees u v (p.before ++ p.part) (played_front u end v (p.before ++ p.part) p.behind with_part to_v) in
       let all_part = subst (AllByRecursion IsFree) (sym p.events) all in
-      let stays = plays_stay free p.part w v at_w.1 p.run (behind LeavesAgreement p.before p.part at_v.0) p.uncut all_part in
       record {
-        good = declaring_agrees w v at_w.1 at_v.1 stays.table;
+        good = declaring_agrees w v at_w.1 at_v.1;
         run = subst (λ es. Follows (declaring v.declared w) es v) p.events (follows v.declared p.part w v p.run p.uncut all_part);
       }
 
@@ -326,14 +316,14 @@ module _
 
   pub rounds_bring : DrainedLaw → RoundLaw → RoundsLaw
   unfolding round
-  rounds_bring drained raises name bytes used motes links played end script honest =
+  rounds_bring drained raises u played end from =
       record {
         rests = λ w v m t.
-            let l = passes_on name bytes used motes links played end w v (paced m) (replicate 49 (paced m)) script honest (all_replicate IsFree 50 (paced m) refl) t.passes in
+            let l = passes_on u played end w v (paced m) (replicate 49 (paced m)) from (all_replicate IsFree 50 (paced m) refl) t.passes in
             let r = drained (declaring v.declared w) v m l.good t.there (on_too w v m t.on) l.run t.room in
             record { running = r.running; runs = r.runs; drained = r.drained; kept = r.kept; others = r.others };
         raises = λ w v a b i r ahead.
-            let l = passes_on name bytes used motes links played end w v (paced a) (drop 1 (round a b)) script honest (round_free a b) r.passes in
+            let l = passes_on u played end w v (paced a) (drop 1 (round a b)) from (round_free a b) r.passes in
             let d = raises (declaring v.declared w) v a b i l.good r.near (on_too w v a r.on_a) (on_too w v b r.on_b) l.run r.room_a r.room_b ahead in
             record { raises = d.0; kept = d.1; others = d.2 };
       }

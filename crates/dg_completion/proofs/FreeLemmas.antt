@@ -20,7 +20,7 @@ use Rattle.dg_mote.specs.Well.{IsWell}
 use Rattle.dg_rules.specs.World.{World, Running, Site, Sent, site, store_at, with_site, counted, no_site, linked, frame_at, last_frame}
 use Rattle.dg_rules.specs.Events.{Deed, Does, Refuses, Goes, does, mote_of, dt_of, key_of, tick_by, heard_sent, heard_last, unless_off}
 use Rattle.dg_rules.specs.Steps.{WorldStep, StepDoes, and_sent}
-use Rattle.dg_rules.specs.Premises.{WorldAgrees, SentIsWell, HonestEvent}
+use Rattle.dg_rules.specs.Premises.{WorldAgrees, SentIsWell, TrueEvent}
 use Rattle.dg_rules.specs.Ranges.{EventFits, StepFits}
 use Rattle.dg_rules.proofs.EventLemmas.{RestartLaws, does_cases, running_by}
 use Rattle.dg_rules.proofs.AgreementLemmas.{same_running, step_within}
@@ -38,7 +38,7 @@ use Rattle.dg_completion.proofs.GrowLemmas.{link_ends}
 
 -- what is known of lower crates
 pub record Laws : Type 0 where
-  pub agrees : (w v : World) (x : Step) (reports : List Report) → WorldAgrees w → StepFits (length w.sites) x → HonestEvent w.table x.event → WorldStep w x v reports → WorldAgrees v
+  pub agrees : (w v : World) (x : Step) (reports : List Report) → WorldAgrees w → StepFits (length w.sites) x → TrueEvent w x.event → WorldStep w x v reports → WorldAgrees v
   pub later : (table : List Row) (m : MoteState) (s : Store) (now then : ℕ) → now ≤ then → IsWell table m s now → IsWell table m s then
   pub restarts : RestartLaws
   pub starts : StartLaws
@@ -93,15 +93,15 @@ ranged w (Inject m image version dt word) good free = absurd cc
 ranged w (OrderEvent m number image version dt word) good free = absurd cc
 ranged w (Frame m dt word bytes) good free = absurd cc
 
--- a free event brings no frame from outside
-pub honest_free : (table : List Row) (e : Event) → IsFree e → HonestEvent table e
-honest_free table (Tick m dt word) free = tt
-honest_free table (Hear m dt word number) free = tt
-honest_free table (Last from m dt word) free = tt
-honest_free table (Reset m dt word) free = tt
-honest_free table (Inject m image version dt word) free = tt
-honest_free table (OrderEvent m number image version dt word) free = tt
-honest_free table (Frame m dt word bytes) free = absurd cc
+-- a free event brings no frame from outside, and injects nothing
+pub true_free : (w : World) (e : Event) → IsFree e → TrueEvent w e
+true_free w (Tick m dt word) free = tt
+true_free w (Hear m dt word number) free = tt
+true_free w (Last from m dt word) free = tt
+true_free w (Reset m dt word) free = tt
+true_free w (Inject m image version dt word) free = absurd cc
+true_free w (OrderEvent m number image version dt word) free = tt
+true_free w (Frame m dt word bytes) free = absurd cc
 
 -- ---- what a free event does
 
@@ -168,7 +168,6 @@ module _ (laws : Laws) (w : World) (good : WorldAgrees w) where
     few = good.few;
     table = good.table;
     rows = good.rows;
-    same = good.same;
     links = good.links;
     sites = λ j low. site_wider w.table w.table (wider_same w.table) (laws.later w.table) j w.moment (w.moment + dt) (site w j) (omega arith) (good.sites j low);
     sent = good.sent;
@@ -235,7 +234,7 @@ module _ (laws : Laws) (w : World) (good : WorldAgrees w) where
     event_grows did = by_range (ranged w e good free)
       where
         by_range : Ranged w e → Grows w v
-        by_range (inl fits) = does_grows (does w e) fits (laws.agrees w v step reports good (record { event = fits; cut = tt }) (honest_free w.table e free) did) (free_does e free) did
+        by_range (inl fits) = does_grows (does w e) fits (laws.agrees w v step reports good (record { event = fits; cut = tt }) (true_free w e free) did) (free_does e free) did
         by_range (inr refused) = refused_grows v (dt_of e) (subst (λ D. StepDoes D w step v reports) refused.1 did).0
 
 pub free_law : Laws → FreeLaw

@@ -1,14 +1,13 @@
 -- What was played of a script goes on with a rest.
-use Rattle.std.proofs.Common.{◌≡◌, ℕ, Bool, List, [], ◌∷◌, ◌++◌, map, replicate, refl, sym, ap, subst, arith}
+use Rattle.std.proofs.Common.{◌≡◌, ℕ, Bool, List, [], ◌∷◌, ◌++◌, length, map, refl, sym, ap, subst, arith}
 use Rattle.std.specs.List.{AllByRecursion, filter}
-use Rattle.dg_volume.specs.Store.{golden_row, fresh}
 use Rattle.dg_script.specs.Items.{Item}
-use Rattle.dg_rules.specs.World.{World, first_world}
+use Rattle.dg_rules.specs.World.{World}
 use Rattle.dg_rules.specs.Changes.{is_told}
 use Rattle.dg_rules.specs.Runs.{Played, Plays}
 use Rattle.dg_rules.specs.Ranges.{EventFits}
-use Rattle.dg_rules.specs.Premises.{WorldAgrees, IsInRange, IsHonestThen, LeavesAgreement}
-use Rattle.dg_rules.specs.Golden.{PlaysGolden}
+use Rattle.dg_rules.specs.Premises.{WorldAgrees, IsInRange, IsTrueThen, LeavesAgreement}
+use Rattle.dg_rules.specs.Begins.{PlaysFrom}
 use Rattle.dg_rounds.specs.Rounds.{times, rounds_of}
 use Rattle.dg_base.specs.declared.events.Event.{Event}
 use Rattle.dg_completion.specs.Rests.{IsFree, IsRest}
@@ -16,7 +15,7 @@ use Rattle.dg_completion.specs.Completion.{Follows, FreeLaw}
 use Rattle.dg_completion.specs.Ends.{events_of, IsUncut}
 use Rattle.dg_completion.specs.Met.{HappensLaw, SpendLaw, happening, GoesOnLaw}
 use Rattle.dg_completion.proofs.GrowLemmas.{all_append, rounds_free}
-use Rattle.dg_completion.proofs.FreeLemmas.{honest_free}
+use Rattle.dg_completion.proofs.FreeLemmas.{true_free}
 use Rattle.dg_completion.proofs.MetLemmas.{comes}
 
 plays_join : (xs ys : List Played) (w u v : World) → Plays w xs u → Plays u ys v → Plays w (xs ++ ys) v
@@ -31,12 +30,12 @@ record AsPlayed (motes : ℕ) (loud : Bool) (w v : World) (es : List Event) : Ty
   plays : Plays w rest v
   events : events_of rest ≡ es
   ranges : AllByRecursion (IsInRange motes) rest
-  honest : AllByRecursion IsHonestThen rest
+  are_true : AllByRecursion IsTrueThen rest
   uncut : AllByRecursion IsUncut rest
 
 as_played : (motes : ℕ) (loud : Bool) (es : List Event) (w v : World) → Follows w es v → AllByRecursion IsFree es → AllByRecursion (EventFits motes) es → AsPlayed motes loud w v es
 unfolding Plays Follows events_of
-as_played motes loud [] w v f free fits = record { rest = []; items = refl; plays = f; events = refl; ranges = tt; honest = tt; uncut = tt }
+as_played motes loud [] w v f free fits = record { rest = []; items = refl; plays = f; events = refl; ranges = tt; are_true = tt; uncut = tt }
 as_played motes loud (e ∷ es) w v f free fits =
     let more = as_played motes loud es f.0 v f.3 free.1 fits.1 in
     let p : Played = record { item = happening loud e; before = w; after = f.0; reports = filter (is_told loud) f.1 } in
@@ -46,34 +45,32 @@ as_played motes loud (e ∷ es) w v f free fits =
       plays = (refl, (f.1, f.2, refl), more.plays);
       events = ap (λ (events : List Event). e ∷ events) more.events;
       ranges = (record { event = fits.0; cut = tt }, more.ranges);
-      honest = (honest_free w.table e free.0, more.honest);
+      are_true = (true_free w e free.0, more.are_true);
       uncut = (refl, more.uncut);
     }
 
 module _
-    (agrees : (name bytes : List ℕ) (used motes : ℕ) (links : List (ℕ × ℕ)) (played : List Played) (v : World) → PlaysGolden name bytes used motes links played v
-    → AllByRecursion IsHonestThen played → AllByRecursion LeavesAgreement played × WorldAgrees v)
+    (agrees : (u v : World) (played : List Played) → PlaysFrom u played v → AllByRecursion LeavesAgreement played × WorldAgrees v)
     (free : FreeLaw)
     (happen : HappensLaw)
     (spend : SpendLaw) where
   pub goes_on_law : GoesOnLaw
-  goes_on_law name bytes used motes links before w n es loud script honest may =
-      let good = (agrees name bytes used motes links before w script honest).1 in
+  goes_on_law u before w n es loud from may =
+      let good = (agrees u w before from).1 in
       let all = rounds_free (times n (rounds_of w.links)) es may.rest in
       let came = comes free happen spend es w good all in
-      let known = as_played motes loud es w came.v came.run all may.ranges in
+      let known = as_played (length u.sites) loud es w came.v came.run all may.ranges in
       record {
         rest = known.rest;
         items = known.items;
         v = came.v;
         plays = record {
-          is_row = script.is_row;
-          plays = plays_join before known.rest (first_world (golden_row name bytes ∷ []) links (replicate motes (fresh name bytes used))) w came.v script.plays known.plays;
-          few = script.few;
-          links_fit = script.links_fit;
-          ranges = all_append (IsInRange motes) before known.rest script.ranges known.ranges;
+          agrees = from.agrees;
+          off = from.off;
+          plays = plays_join before known.rest u w came.v from.plays known.plays;
+          ranges = all_append (IsInRange (length u.sites)) before known.rest from.ranges known.ranges;
+          are_true = all_append IsTrueThen before known.rest from.are_true known.are_true;
         };
-        honest = all_append IsHonestThen before known.rest honest known.honest;
         ends = record {
           before = before;
           rest = known.rest;

@@ -8,8 +8,7 @@ use Rattle.dg_volume.specs.Store.{held, held_whole}
 use Rattle.dg_script.specs.Items.{Item, Declares, Happens}
 use Rattle.dg_rules.specs.World.{World, store_at}
 use Rattle.dg_rules.specs.Runs.{Played, Plays}
-use Rattle.dg_rules.specs.Premises.{IsHonestThen}
-use Rattle.dg_rules.specs.Golden.{PlaysGolden}
+use Rattle.dg_rules.specs.Begins.{PlaysFrom}
 use Rattle.dg_completion.specs.Rests.{IsFree, IsRest}
 use Rattle.dg_completion.specs.Completion.{Follows, IsOn, HasRoomAt, newest, page_count, pages_of, within, DoneBelow, IsEnough}
 
@@ -53,11 +52,10 @@ pub record EndsInRest (played : List Played) (w : World) (n : ℕ) (v : World) :
 abbrev pub KeepsNewest : World → Type 0
 KeepsNewest v = (i : ℕ) (row : Row) (m : ℕ) → 1 ≤ i → i < images → newest v.table i ≡ Some row → m < length v.sites → held (store_at v m) i ≡ Some (held_whole row)
 
--- What is played of a script with golden, over honest frames: where it ends with a rest of enough sweeps, every mote keeps
--- the newest version of each image whole.
+-- What is played from a world that agrees with its table, with true events: where it ends with a rest of enough sweeps,
+-- every mote keeps the newest version of each image whole.
 abbrev pub EndsLaw : Type 0
-EndsLaw = (name bytes : List ℕ) (used motes : ℕ) (links : List (ℕ × ℕ)) (played : List Played) (w v : World) (n k : ℕ) → PlaysGolden name bytes used motes links played v
-    → AllByRecursion IsHonestThen played → EndsInRest played w n v → IsEnough w k → k ≤ n → KeepsNewest v
+EndsLaw = (u : World) (played : List Played) (w v : World) (n k : ℕ) → PlaysFrom u played v → EndsInRest played w n v → IsEnough w k → k ≤ n → KeepsNewest v
 
 -- From world w pages came along the links as in a pipeline, by t sweeps that lead to world v: of the newest row of an image,
 -- where every smaller image was whole everywhere, a mote within j links of a whole one has t + 1 - j pages, or all.
@@ -67,5 +65,4 @@ PagesCome w t v = (i : ℕ) (row : Row) → DoneBelow w i → 1 ≤ i → i < im
 
 -- So it is behind a rest, also of fewer sweeps than enough.
 abbrev pub EndsPipelineLaw : Type 0
-EndsPipelineLaw = (name bytes : List ℕ) (used motes : ℕ) (links : List (ℕ × ℕ)) (played : List Played) (w v : World) (t : ℕ) → PlaysGolden name bytes used motes links played v
-    → AllByRecursion IsHonestThen played → EndsInRest played w t v → PagesCome w t v
+EndsPipelineLaw = (u : World) (played : List Played) (w v : World) (t : ℕ) → PlaysFrom u played v → EndsInRest played w t v → PagesCome w t v

@@ -9,8 +9,8 @@ use Rattle.dg_rules.specs.Events.{mote_of}
 use Rattle.dg_rules.specs.Steps.{WorldStep}
 use Rattle.dg_rules.specs.Runs.{Played}
 use Rattle.dg_rules.specs.Ranges.{EventFits}
-use Rattle.dg_rules.specs.Premises.{WorldAgrees, IsHonestThen}
-use Rattle.dg_rules.specs.Golden.{PlaysGolden}
+use Rattle.dg_rules.specs.Premises.{WorldAgrees}
+use Rattle.dg_rules.specs.Begins.{PlaysFrom}
 use Rattle.dg_mote.specs.Drained.{spare_room}
 use Rattle.dg_completion.specs.Rests.{IsFree, IsRest}
 use Rattle.dg_completion.specs.Completion.{IsOn, Rests}
@@ -59,15 +59,13 @@ pub record MayGoOn (motes : ℕ) (w : World) (n : ℕ) (es : List Event) : Type 
   pub room : (m : ℕ) → m < length w.sites → spare_room + sum_by (commits_at m) es ≤ (store_at w m).room
 
 -- What was played before goes on with these events, and so ends with a rest of n sweeps that begins in world w.
-pub record GoesOn (name bytes : List ℕ) (used motes : ℕ) (links : List (ℕ × ℕ)) (before : List Played) (w : World) (n : ℕ) (es : List Event) (loud : Bool) : Type 0 where
+pub record GoesOn (u : World) (before : List Played) (w : World) (n : ℕ) (es : List Event) (loud : Bool) : Type 0 where
   pub rest : List Played
   pub items : map (λ p. p.item) rest ≡ map (happening loud) es
   pub v : World
-  pub plays : PlaysGolden name bytes used motes links (before ++ rest) v
-  pub honest : AllByRecursion IsHonestThen (before ++ rest)
+  pub plays : PlaysFrom u (before ++ rest) v
   pub ends : EndsInRest (before ++ rest) w n v
 
--- Whatever was played of a script with golden over honest frames goes on so.
+-- Whatever was played from a world that agrees with its table, with true events, goes on so.
 abbrev pub GoesOnLaw : Type 0
-GoesOnLaw = (name bytes : List ℕ) (used motes : ℕ) (links : List (ℕ × ℕ)) (before : List Played) (w : World) (n : ℕ) (es : List Event) (loud : Bool) → PlaysGolden name bytes used motes links before w
-    → AllByRecursion IsHonestThen before → MayGoOn motes w n es → GoesOn name bytes used motes links before w n es loud
+GoesOnLaw = (u : World) (before : List Played) (w : World) (n : ℕ) (es : List Event) (loud : Bool) → PlaysFrom u before w → MayGoOn (length u.sites) w n es → GoesOn u before w n es loud

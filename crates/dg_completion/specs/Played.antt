@@ -6,9 +6,9 @@ use Rattle.dg_rounds.specs.Rounds.{round, paced}
 use Rattle.dg_mote.specs.Drained.{Drained, SameKept}
 use Rattle.dg_mote.specs.Completing.{drain_ticks}
 use Rattle.dg_rules.specs.World.{World, Running, site, store_at, linked}
-use Rattle.dg_rules.specs.Premises.{WorldAgrees, IsHonestThen}
+use Rattle.dg_rules.specs.Premises.{WorldAgrees}
+use Rattle.dg_rules.specs.Begins.{PlaysFrom}
 use Rattle.dg_rules.specs.Runs.{Played, Plays}
-use Rattle.dg_rules.specs.Golden.{PlaysGolden}
 use Rattle.dg_completion.specs.Completion.{Follows, IsOn, HasRoomAt, least_ahead, Raises}
 use Rattle.dg_completion.specs.Ends.{events_of, IsUncut}
 
@@ -69,7 +69,6 @@ pub record RoundsBring (played : List Played) : Type 0 where
   pub rests : (w v : World) (m : ℕ) → TicksPlayed played w m v → ComesToRest w m v
   pub raises : (w v : World) (a b i : ℕ) → RoundPlayed played w a b v → least_ahead (store_at w a) (store_at w b) ≡ Some i → RaisesOne w a b i v
 
--- Whatever was played of a script with golden, over honest frames, brought that.
+-- Whatever was played from a world that agrees with its table, with true events, brought that.
 abbrev pub RoundsLaw : Type 0
-RoundsLaw = (name bytes : List ℕ) (used motes : ℕ) (links : List (ℕ × ℕ)) (played : List Played) (v : World) → PlaysGolden name bytes used motes links played v
-    → AllByRecursion IsHonestThen played → RoundsBring played
+RoundsLaw = (u : World) (played : List Played) (v : World) → PlaysFrom u played v → RoundsBring played

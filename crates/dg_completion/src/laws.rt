@@ -15,7 +15,7 @@ use dg_mote::{
     a_mote_stays_well, a_page_comes, a_restart_is_for_the_order, what_a_mote_may_change,
     what_is_sent_is_read,
 };
-use dg_rules::{agreement_is_kept, scripts_with_golden};
+use dg_rules::{agreement_is_kept, every_step_is_legal};
 use dg_volume::{a_start_ends, a_table_holds_sound_rows, acts_end, starts_end, trails_begin};
 
 /// Sweeps one after the other are a rest, and so are ticks and heard frames, with no sweep. Rests that follow one another
@@ -92,8 +92,8 @@ pub fn distances_are_ways()
     ensures one { OneEnoughLaw }
 {}
 
-/// What is played of a script with golden, over honest frames: where it ends with a rest of enough sweeps, every mote
-/// keeps the newest version of each image whole. Where the sweeps are fewer, each brings every page one link further, if
+/// What is played from a world that agrees with its table, with true events: where it ends with a rest of enough sweeps,
+/// every mote keeps the newest version of each image whole. Where the sweeps are fewer, each brings every page one link further, if
 /// every smaller image is whole everywhere. What is played of free events that are not cut is a run of them.
 pub fn scripts_end_complete()
     ensures completes { EndsLaw }
@@ -101,20 +101,19 @@ pub fn scripts_end_complete()
     ensures played { PlayedLaw }
 {
     a_free_event_keeps_a_good_world();
-    scripts_with_golden();
+    every_step_is_legal();
     sweeps_fill_the_pipeline();
     enough_sweeps_complete();
 }
 
-/// Wherever a round was played of a script with golden, over honest frames, and no power was cut in it: its first ticks
-/// brought its mote to rest, and a whole one brought the second mote a page of the least image in which the first was
+/// Wherever a round was played from a world that agrees with its table, with true events, and no power was cut in it: its
+/// first ticks brought its mote to rest, and a whole one brought the second mote a page of the least image in which the first was
 /// ahead.
 pub fn rounds_of_scripts_bring_pages()
     ensures brings { RoundsLaw }
     ensures nothing { RoundsBring [] }
 {
-    a_free_event_keeps_a_good_world();
-    scripts_with_golden();
+    every_step_is_legal();
     a_round_brings_a_mote_to_rest();
     a_round_raises();
 }
@@ -144,12 +143,12 @@ pub fn a_rest_happens()
     a_free_event_happens();
 }
 
-/// What was played of a script with golden, over honest frames, can go on with a rest: where every mote is on and has room
-/// for what it may commit, there is what is played of these items, and it ends with a rest of so many sweeps.
+/// What was played from a world that agrees with its table, with true events, can go on with a rest: where every mote is on
+/// and has room for what it may commit, there is what is played of these items, and it ends with a rest of so many sweeps.
 pub fn a_script_goes_on_with_a_rest()
     ensures { GoesOnLaw }
 {
-    scripts_with_golden();
+    every_step_is_legal();
     a_free_event_keeps_a_good_world();
     a_free_event_happens();
 }
