@@ -20,3 +20,4 @@ pub mod DoneLemmas
 pub mod FinishLemmas
 pub mod PlaceLemmas
 pub mod SoundLemmas
+pub mod MountLemmas

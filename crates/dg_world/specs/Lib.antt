@@ -14,3 +14,4 @@ pub mod Cuts
 pub mod Stepped
 pub mod Finished
 pub mod Unseen
+pub mod Mounted
