@@ -27,6 +27,7 @@ use Rattle.dg_rules.specs.Premises.{IsDeclared, ItemInRange, IsInRange, LinkFits
 use Rattle.dg_rules.specs.Runs.{Played, Plays}
 use Rattle.dg_rules.specs.Events.{Goes, does}
 use Rattle.dg_rules.specs.Golden.{PlaysGolden, FindsImage}
+use Rattle.dg_rules.specs.Begins.{PlaysFrom}
 use Rattle.dg_rules.specs.Promises.{StopsAgree}
 use Rattle.dg_script.specs.Items.{Item, Happens as Happened, quietly, item_by, cut_by, cut_behind, place_behind, items_behind, items_of}
 use Rattle.dg_replay.specs.Items.{BringsNone, IsNoFrame, Beginning, begin_by, begin_behind, beginning_of, with_link, lacking, no_beginning, next_items}
@@ -403,19 +404,33 @@ pub holds_of_runs : (P : List Played → Type 0) → P [] → ((name bytes : Lis
     → (input : List ℕ) (c : Progress (script_of input)) → P c.played
 holds_of_runs P none law input c = holds_of_worlds (λ ps last. P ps) none law input c
 
+-- what is played over honest frames is played from a world that agrees with its table, with true events
+abbrev pub GoldenWay : Type 0
+GoldenWay = (name bytes : List ℕ) (used motes : ℕ) (links : List (ℕ × ℕ)) (played : List Played) (v : World) → PlaysGolden name bytes used motes links played v
+    → AllByRecursion IsHonestThen played → PlaysFrom (first_world (golden_row name bytes ∷ []) links (replicate motes (fresh name bytes used))) played v
+
+-- so what holds of all that is played from such a world holds of every run of a script
+pub honest_runs : GoldenWay → (P : List Played → Type 0) → P [] → ((u v : World) (played : List Played) → PlaysFrom u played v → P played) → (input : List ℕ) (c : Progress (script_of input)) → AllByRecursion IsHonestThen c.played → P c.played
+honest_runs way P none law =
+    holds_of_runs (λ ps. AllByRecursion IsHonestThen ps → P ps) (λ honest. none)
+    (λ name bytes used motes links played v plays honest.
+    law (first_world (golden_row name bytes ∷ []) links (replicate motes (fresh name bytes used))) v played (way name bytes used motes links played v plays honest))
+
 -- where it ends with a rest of enough sweeps
-pub ended_complete : EndsLaw → (input : List ℕ) (c : Progress (script_of input)) (w v : World) (n k : ℕ) → AllByRecursion IsHonestThen c.played → c.last ≡ Some v → EndsInRest c.played w n v → IsEnough w k → k ≤ n → KeepsNewest v
-ended_complete law input c w v n k honest is ends enough most =
+pub ended_complete : GoldenWay → EndsLaw → (input : List ℕ) (c : Progress (script_of input)) (w v : World) (n k : ℕ) → AllByRecursion IsHonestThen c.played → c.last ≡ Some v → EndsInRest c.played w n v → IsEnough w k → k ≤ n → KeepsNewest v
+ended_complete way law input c w v n k honest is ends enough most =
     let P : List Played → Option World → Type 0 = λ ps last. AllByRecursion IsHonestThen ps → last ≡ Some v → EndsInRest ps w n v → KeepsNewest v in
     holds_of_worlds P (λ h e. absurd (let f : None ≡ Some v = e in cc)) (λ name bytes used motes links played u plays h e rests.
-    law name bytes used motes links played w v n k (subst (PlaysGolden name bytes used motes links played) (some_is u v e) plays) h rests enough most) input c honest is ends
+    law (first_world (golden_row name bytes ∷ []) links (replicate motes (fresh name bytes used))) played w v n k
+    (way name bytes used motes links played v (subst (PlaysGolden name bytes used motes links played) (some_is u v e) plays) h) rests enough most) input c honest is ends
 
 -- where it ends with a rest of any number of sweeps
-pub ended_pipelined : EndsPipelineLaw → (input : List ℕ) (c : Progress (script_of input)) (w v : World) (t : ℕ) → AllByRecursion IsHonestThen c.played → c.last ≡ Some v → EndsInRest c.played w t v → PagesCome w t v
-ended_pipelined law input c w v t honest is ends =
+pub ended_pipelined : GoldenWay → EndsPipelineLaw → (input : List ℕ) (c : Progress (script_of input)) (w v : World) (t : ℕ) → AllByRecursion IsHonestThen c.played → c.last ≡ Some v → EndsInRest c.played w t v → PagesCome w t v
+ended_pipelined way law input c w v t honest is ends =
     let P : List Played → Option World → Type 0 = λ ps last. AllByRecursion IsHonestThen ps → last ≡ Some v → EndsInRest ps w t v → PagesCome w t v in
     holds_of_worlds P (λ h e. absurd (let f : None ≡ Some v = e in cc)) (λ name bytes used motes links played u plays h e rests.
-    law name bytes used motes links played w v t (subst (PlaysGolden name bytes used motes links played) (some_is u v e) plays) h rests) input c honest is ends
+    law (first_world (golden_row name bytes ∷ []) links (replicate motes (fresh name bytes used))) played w v t
+    (way name bytes used motes links played v (subst (PlaysGolden name bytes used motes links played) (some_is u v e) plays) h) rests) input c honest is ends
 
 -- ---- the next event, wherever it is stopped
 

@@ -6,7 +6,7 @@ use Rattle.dg_rules.specs.Runs.{Played, EachAfter}
 use Rattle.dg_rules.specs.Promises.{IsLegal, KeepsAll, StartsRow}
 use Rattle.dg_rules.specs.Premises.{IsHonestThen, LeavesAgreement, WorldAgrees}
 use Rattle.dg_completion.specs.Played.{RoundsBring}
-use Rattle.dg_replay.proofs.GoldenLemmas.{holds_of_runs, holds_of_worlds, progress_honest, ended_complete, ended_pipelined, halves_agree}
+use Rattle.dg_replay.proofs.GoldenLemmas.{holds_of_runs, holds_of_worlds, honest_runs, progress_honest, ended_complete, ended_pipelined, halves_agree}
 use Rattle.dg_replay.proofs.ConsistentLemmas.{progress_consistent}
 use Rattle.dg_replay.specs.Ending.{script_of}
 use Rattle.dg_replay.proofs.laws.replays_keep_the_rules.Goals as goal
@@ -31,17 +31,17 @@ returns-clause-halves c = λ input came w step loud more honest is next here. ha
 pub returns-clause-rounds : goal.returns-clause-rounds
 returns-clause-rounds c =
     let rounds = c.rounds_of_scripts_bring_pages.ensures in
-    holds_of_runs (λ (ps : List Played). AllByRecursion IsHonestThen ps → RoundsBring ps) (λ honest. rounds.nothing) rounds.brings
+    honest_runs c.scripts_with_golden.ensures.plays RoundsBring rounds.nothing (λ u v played plays. rounds.brings u played v plays)
 
 pub returns-clause-pipeline : goal.returns-clause-pipeline
-returns-clause-pipeline c = λ input came w v t honest is ends. ended_pipelined c.scripts_end_complete.ensures.pipeline input came w v t honest is ends
+returns-clause-pipeline c = λ input came w v t honest is ends. ended_pipelined c.scripts_with_golden.ensures.plays c.scripts_end_complete.ensures.pipeline input came w v t honest is ends
 
 pub returns-clause-honest : goal.returns-clause-honest
 returns-clause-honest c = λ input came. progress_honest (script_of input) came
 
 pub returns-clause-completes : goal.returns-clause-completes
 returns-clause-completes c = λ input came w v n k honest is ends enough most.
-    ended_complete c.scripts_end_complete.ensures.completes input came w v n k honest is ends enough most
+    ended_complete c.scripts_with_golden.ensures.plays c.scripts_end_complete.ensures.completes input came w v n k honest is ends enough most
 
 pub returns-clause-consistent : goal.returns-clause-consistent
 returns-clause-consistent c = λ input came golden w is table.
