@@ -22,6 +22,7 @@ pub mod PlayLemmas
 pub mod SoundLemmas
 pub mod BeginLemmas
 pub mod BoardLemmas
+pub mod TableRunLemmas
 pub mod ScriptLemmas
 pub mod ConsistentLemmas
 pub mod ConsistentRuns

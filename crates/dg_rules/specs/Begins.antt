@@ -1,11 +1,15 @@
 -- What is played from worlds that agree with their tables, and over chips as they stand.
-use Rattle.std.specs.Prelude.{ℕ, ◌<◌, ◌≤◌, List, length, slice_index_or}
+use Rattle.std.specs.Prelude.{◌≡◌, ℕ, ◌<◌, ◌≤◌, List, length, slice_index_or, Some}
 use Rattle.std.specs.List.{AllByRecursion}
 use Rattle.dg_object.specs.Object.{Row}
 use Rattle.dg_volume.specs.Store.{Store}
 use Rattle.dg_volume.specs.Shaped.{IsShaped}
-use Rattle.dg_volume.specs.Table.{IsTable}
+use Rattle.dg_volume.specs.Table.{row_at, IsTable}
 use Rattle.dg_volume.specs.Agreement.{Agrees}
+use Rattle.dg_mote.specs.Agreement.{IsHonest}
+use Rattle.dg_base.specs.declared.events.Event.{Event}
+use Rattle.dg_base.specs.declared.events.Event.TheVariants.{Tick, Hear, Last, Reset, Inject, Order as OrderEvent, Frame}
+use Rattle.dg_script.specs.Items.{Item, Declares, Happens}
 use Rattle.dg_rules.specs.Sizes.{most_motes}
 use Rattle.dg_rules.specs.World.{World, no_site, first_world}
 use Rattle.dg_rules.specs.Runs.{Played, Plays}
@@ -34,6 +38,24 @@ pub record StoresAgree (table : List Row) (stores : List Store) : Type 0 where
 -- Each has a place for each image, and an order in its ranges, as whatever a chip stands for.
 abbrev pub AreShaped : List Store → Type 0
 AreShaped stores = (m : ℕ) → m < length stores → IsShaped (store_of stores m)
+
+-- An event holds to a table: a frame that it brings from outside is honest by the table of its moment, and a row that it
+-- injects is this table's, where this table has its key.
+abbrev pub HoldsTo : List Row → World → Event → Type 0
+HoldsTo table w (Tick mote dt word) = Unit {0}
+HoldsTo table w (Hear mote dt word frame) = Unit {0}
+HoldsTo table w (Last from to dt word) = Unit {0}
+HoldsTo table w (Reset mote dt word) = Unit {0}
+HoldsTo table w (Inject mote image version dt word) = (row kept : Row) → row_at w.declared image version ≡ Some row → row_at table image version ≡ Some kept → kept ≡ row
+HoldsTo table w (OrderEvent mote number image version dt word) = Unit {0}
+HoldsTo table w (Frame mote dt word bytes) = IsHonest w.table bytes
+
+abbrev pub ItemHoldsTo : List Row → Item → World → Type 0
+ItemHoldsTo table (Declares row) w = Unit {0}
+ItemHoldsTo table (Happens step loud) w = HoldsTo table w step.event
+
+abbrev pub HoldsToThen : List Row → Played → Type 0
+HoldsToThen table p = ItemHoldsTo table p.item p.before
 
 -- what is played over chips that stand for these stores, against a table: every number is in its range
 pub record PlaysBoards (table : List Row) (stores : List Store) (links : List (ℕ × ℕ)) (played : List Played) (v : World) : Type 0 where

@@ -12,8 +12,8 @@ ghost use Rattle.dg_rules.specs.Events.{does};
 ghost use Rattle.dg_rules.specs.Runs.{Played, EachAfter};
 ghost use Rattle.dg_rules.specs.Promises.{IsLegal, KeepsAll, GoldenStays, StartsDoes, StartsRow, StopsAgree};
 ghost use Rattle.dg_rules.specs.Ranges.{EventFits, StepFits};
-ghost use Rattle.dg_rules.specs.Premises.{WorldAgrees, WorldTimely, HonestEvent, IsHonestThen, TrueEvent, IsTrueThen, LeavesAgreement, IsDeclared};
-ghost use Rattle.dg_rules.specs.Begins.{PlaysFrom, StoresAgree, PlaysBoards};
+ghost use Rattle.dg_rules.specs.Premises.{WorldAgrees, WorldTimely, HonestEvent, IsHonestThen, TrueEvent, LeavesAgreement, IsDeclared};
+ghost use Rattle.dg_rules.specs.Begins.{PlaysFrom, StoresAgree, HoldsTo, HoldsToThen, PlaysBoards};
 ghost use Rattle.dg_rules.specs.Consistency.{WorldConsistent, LeavesConsistent, StartsSoundDoes, StartsSound, StopsConsistent};
 ghost use Rattle.dg_rules.specs.Golden.{WorldKeepsGolden, FindsImage, PlaysGolden};
 ghost use Rattle.dg_base.specs.declared.events.Event.{Event};
@@ -164,24 +164,25 @@ pub fn scripts_with_golden()
     a_restart_is_for_the_order();
 }
 
-/// A script over chips as they stand, which agree with a table. Where each event is true in the world of its moment, so
-/// that each frame from outside is honest and no key of the table is injected with another content, each step is legal,
-/// versions do not fall, what starts is a row of the table, and the chips, the motes that are on and the frames that were
-/// sent agree with the table; and where the next event is true too, then wherever a stop comes in it, each store that the
-/// chip may then stand for agrees with the table behind it.
+/// A script over chips as they stand, which agree with a table. Where each event holds to it, so that each frame from
+/// outside is honest and no key of the table is injected with another content, each step is legal, versions do not fall,
+/// what starts is a row of the table, and the chips, the motes that are on and the frames that were sent agree with the
+/// table; and where the next event holds to it too, then wherever a stop comes in it, each store that the chip may then
+/// stand for agrees with the table behind it.
 pub fn scripts_with_boards()
     ensures legal { (table : List Row) (stores : List Store) (links : List (ℕ × ℕ)) (played : List Played) (v : World) → PlaysBoards table stores links played v
-        → StoresAgree table stores → AllByRecursion IsTrueThen played → EachAfter IsLegal [] played }
+        → StoresAgree table stores → AllByRecursion (HoldsToThen table) played → EachAfter IsLegal [] played }
     ensures keeps { (table : List Row) (stores : List Store) (links : List (ℕ × ℕ)) (played : List Played) (v : World) → PlaysBoards table stores links played v
-        → StoresAgree table stores → AllByRecursion IsTrueThen played → AllByRecursion KeepsAll played }
+        → StoresAgree table stores → AllByRecursion (HoldsToThen table) played → AllByRecursion KeepsAll played }
     ensures starts { (table : List Row) (stores : List Store) (links : List (ℕ × ℕ)) (played : List Played) (v : World) → PlaysBoards table stores links played v
-        → StoresAgree table stores → AllByRecursion IsTrueThen played → AllByRecursion StartsRow played }
+        → StoresAgree table stores → AllByRecursion (HoldsToThen table) played → AllByRecursion StartsRow played }
     ensures agrees { (table : List Row) (stores : List Store) (links : List (ℕ × ℕ)) (played : List Played) (v : World) → PlaysBoards table stores links played v
-        → StoresAgree table stores → AllByRecursion IsTrueThen played → AllByRecursion LeavesAgreement played × WorldAgrees v }
+        → StoresAgree table stores → AllByRecursion (HoldsToThen table) played → AllByRecursion LeavesAgreement played × WorldAgrees v }
     ensures halves { (table : List Row) (stores : List Store) (links : List (ℕ × ℕ)) (played : List Played) (v : World) (e : Event) → PlaysBoards table stores links played v
-        → StoresAgree table stores → AllByRecursion IsTrueThen played → EventFits (length stores) e → TrueEvent v e → StopsAgree v e }
+        → StoresAgree table stores → AllByRecursion (HoldsToThen table) played → EventFits (length stores) e → HoldsTo table v e → StopsAgree v e }
     ensures plays { (table : List Row) (stores : List Store) (links : List (ℕ × ℕ)) (played : List Played) (v : World) → PlaysBoards table stores links played v
-        → StoresAgree table stores → AllByRecursion IsTrueThen played → PlaysFrom (first_world table links stores) played v }
+        → StoresAgree table stores → AllByRecursion (HoldsToThen table) played → PlaysFrom (first_world table links stores) played v }
 {
     every_step_is_legal();
+    a_restart_is_for_the_order();
 }
