@@ -21,3 +21,4 @@ pub mod FinishLemmas
 pub mod PlaceLemmas
 pub mod SoundLemmas
 pub mod MountLemmas
+pub mod AloneLemmas

@@ -15,3 +15,4 @@ pub mod Stepped
 pub mod Finished
 pub mod Unseen
 pub mod Mounted
+pub mod Alone

@@ -21,6 +21,7 @@ ghost use Rattle.dg_world.specs.Worlds.{MoteStands, SiteStands, IsTimelyMote, Ma
 ghost use Rattle.dg_world.specs.Turn.{Starts, Changes};
 ghost use Rattle.dg_world.specs.Turns.{BeginsOver, TurnEnds};
 ghost use Rattle.dg_world.specs.Unseen.{RefusesUnseen};
+ghost use Rattle.dg_world.specs.Alone.{Powers};
 ghost use Rattle.dg_world.specs.Tellings.{IsNothing, halt_of, turned};
 
 use crate::images::{Image, Images};
@@ -66,6 +67,7 @@ fn begin<N: Nor>(kind: Kind, id: u16, now: u64, word: u32, board: &mut N) -> Res
         → TurnEnds (Ok (Starts b.line)) w m (of_effect w (boots kind (store_at w m) id now word) old) v (Some b.running) (N.device board.old) (N.device board.new)) }
     ensures halts { (f : Fault) → result ≡ Err f → (w : RuleWorld) (m : ℕ) (old : Option KeyValue) (v u : Option RunningMote) → Stands (N.device board.old).image (store_at w m)
         → TurnEnds (Err (halt_of f None)) w m (of_effect w (boots kind (store_at w m) id now word) old) v u (N.device board.old) (N.device board.new) }
+    ensures powers { Powers result (N.device board.old) (N.device board.new) }
     ensures same_reference { (N.device board.new).references ≡ (N.device board.old).references }
 {
     match start(board, kind) {
@@ -108,7 +110,7 @@ fn start_line(started: &Started) -> StartLine
 }
 
 /// A board starts by power. What ran on it is dropped.
-fn reset<N: Nor>(
+pub(crate) fn reset<N: Nor>(
     runs: &mut Option<RunningMote>,
     id: u16,
     now: u64,
@@ -120,6 +122,7 @@ fn reset<N: Nor>(
     requires nothing { IsNothing telling.old }
     ensures ends { (w : RuleWorld) (m : ℕ) → m ≡ id → Stands (N.device board.old).image (store_at w m)
         → TurnEnds (turned result telling.new) w m (of_effect w (reset_effect (store_at w m) m now word) None) runs.old runs.new (N.device board.old) (N.device board.new) }
+    ensures powers { Powers result (N.device board.old) (N.device board.new) }
     ensures same_reference { (N.device board.new).references ≡ (N.device board.old).references }
 {
     let begun = begin(Kind::Power, id, now, word, board)?;
@@ -184,7 +187,7 @@ fn tick_on<N: Nor>(
 }
 
 /// A tick.
-fn tick<N: Nor>(
+pub(crate) fn tick<N: Nor>(
     runs: &mut Option<RunningMote>,
     now: u64,
     word: u32,
@@ -239,7 +242,7 @@ fn hear_on<N: Nor>(
 }
 
 /// A frame is heard.
-fn hear<N: Nor>(
+pub(crate) fn hear<N: Nor>(
     runs: &mut Option<RunningMote>,
     now: u64,
     word: u32,

@@ -2,6 +2,7 @@
 #![tactic(auto)]
 
 mod air;
+mod alone;
 mod apply;
 mod cutting;
 mod declare;
@@ -20,10 +21,12 @@ mod telling;
 mod world;
 
 pub use air::Air;
+pub use alone::play_alone;
 pub use format::{FormatStopped, format_boards};
 pub use images::{Image, Images};
 pub use links::Links;
 pub use mount::{MountStopped, mount_boards};
 pub use sent::SentFrame;
 pub use shared::Shared;
+pub use telling::Fault;
 pub use world::{DeclareFault, RunningMote, World, WorldFault};

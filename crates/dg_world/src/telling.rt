@@ -45,10 +45,12 @@ impl Telling {
 
 /// Why an event was not done.
 #[derive(Clone, Copy, Debug, PartialEq, Eq)]
-pub(crate) enum Fault {
+pub enum Fault {
     /// The board is stopped.
     Stopped,
+    /// The board is no volume.
     NotAVolume,
+    /// The mote was to start, and there was no image.
     NoImage,
 }
 

@@ -1,0 +1,87 @@
+-- What a mote does alone at its board, as a step of the world.
+use Rattle.std.proofs.Common.{◌≡◌, ℕ, ◌+◌, ◌<◌, true, List, [], length, refl, sym, subst}
+use Rattle.std.specs.Prelude.{Option, Result, Ok, Err, IsErrAnd}
+use Rattle.std.specs.List.{filter}
+use Rattle.std.proofs.lemmas.Bool.{both_ways}
+use Rattle.dg_nor.specs.Device.{Device, Endures}
+use Rattle.dg_nor.specs.Fuse.{beneath_of}
+use Rattle.dg_nor.specs.Reads.{ActStopped}
+use Rattle.dg_volume.specs.Stands.{Stands}
+use Rattle.dg_mote.specs.Motes.{sent_in}
+use Rattle.dg_mote.specs.Effects.{reset_effect}
+use Rattle.dg_rules.specs.World.{World as RuleWorld, site, store_at}
+use Rattle.dg_rules.specs.Events.{Does, of_effect, tick_by, hear_by, does, mote_of, dt_of}
+use Rattle.dg_rules.specs.Changes.{is_told}
+use Rattle.dg_base.specs.declared.events.Event.{Event}
+use Rattle.dg_base.specs.declared.events.Event.TheVariants.{Tick, Reset, Frame}
+use Rattle.std.specs.Prelude.{None}
+use Rattle.dg_script.specs.declared.report.Report.{Report}
+use Rattle.dg_world.specs.Alone.{uncut as uncut_step, PlaysAlone, Powers}
+use Rattle.dg_world.specs.Tellings.{turn_of, halt_of}
+use Rattle.dg_world.specs.Turns.{turn_lines, TurnEnds}
+use Rattle.dg_world.specs.Worlds.{SiteStands}
+use Rattle.dg_world.specs.declared.telling.Fault.{Fault}
+use Rattle.dg_world.specs.declared.telling.Fault.TheVariants as fault
+use Rattle.dg_world.specs.declared.telling.Telling.{Telling}
+use Rattle.dg_world.specs.declared.world.RunningMote.{RunningMote}
+use Rattle.dg_world.specs.Turn.{Turn, Halt, Stopped, NotAVolume, NoImage}
+use Rattle.dg_world.proofs.CutLemmas.{uncut}
+use Rattle.dg_world.proofs.DoneLemmas.{step_turn}
+use Rattle.dg_world.proofs.TellingLemmas.{frame_told}
+
+-- ---- which event it is
+
+abbrev pub HappensAlone : Result Turn Halt → RuleWorld → (v u : Option RunningMote) → ℕ → Device → Device → Event → Type 0
+HappensAlone r w v u now a b event = SiteStands a v (site w (mote_of event)) → now ≡ w.moment + dt_of event → TurnEnds r w (mote_of event) (does w event) v u a b
+
+module _ (r : Result Turn Halt) (w : RuleWorld) (v u : Option RunningMote) (now : ℕ) (a b : Device) where
+  at_moment : (m : ℕ) (D : ℕ → Does) (moment : ℕ) → now ≡ moment → TurnEnds r w m (D now) v u a b → TurnEnds r w m (D moment) v u a b
+  at_moment m D moment e ends = subst (λ (n : ℕ). TurnEnds r w m (D n) v u a b) e ends
+
+  pub alone_ticks : (m dt word : ℕ) → (SiteStands a v (site w m) → TurnEnds r w m (tick_by w (store_at w m) (site w m).runs now word) v u a b) → HappensAlone r w v u now a b (Tick m dt word)
+  unfolding does
+  alone_ticks m dt word ends = λ stands at. at_moment m (λ n. tick_by w (store_at w m) (site w m).runs n word) _ at (ends stands)
+
+  pub alone_hears : (m dt word : ℕ) (bytes : List ℕ) → (SiteStands a v (site w m) → TurnEnds r w m (hear_by w (store_at w m) (site w m).runs now word bytes) v u a b) → HappensAlone r w v u now a b (Frame m dt word bytes)
+  unfolding does
+  alone_hears m dt word bytes ends = λ stands at. at_moment m (λ n. hear_by w (store_at w m) (site w m).runs n word bytes) _ at (ends stands)
+
+  pub alone_starts : (m dt word : ℕ) → (Stands a.image (store_at w m) → TurnEnds r w m (of_effect w (reset_effect (store_at w m) m now word) None) v u a b) → HappensAlone r w v u now a b (Reset m dt word)
+  unfolding does
+  alone_starts m dt word ends = λ stands at. at_moment m (λ n. of_effect w (reset_effect (store_at w m) m n word) None) _ at (ends stands.stands)
+
+-- ---- how it ends
+
+pub alone_done : (t : Telling) (w : RuleWorld) (e : Event) (v u : Option RunningMote) (a b : Device) → mote_of e < length w.sites → SiteStands a v (site w (mote_of e)) → TurnEnds (Ok (turn_of t)) w (mote_of e) (does w e) v u a b
+    → PlaysAlone (Ok t.outbox) w e u a b
+alone_done t w e v u a b known stands ends =
+    let told : List Report = filter (is_told true) (turn_lines (mote_of e) (turn_of t)) in
+    let s = step_turn w (uncut_step e) true v u (sent_in t.outbox) (turn_of t) a b [] told known stands (uncut (Ok (turn_of t)) w (mote_of e) (does w e) v u a b ends) (frame_told t) refl in
+    record { ends = record { told = told; done = s.ends }; endures = s.endures; count = s.count }
+
+pub alone_fails : (f : Fault) (t : Telling) (w : RuleWorld) (e : Event) (v u : Option RunningMote) (a b : Device) → TurnEnds (Err (halt_of f t.before)) w (mote_of e) (does w e) v u a b → PlaysAlone (Err f) w e u a b
+alone_fails fault.Stopped t w e v u a b ends =
+    let p = uncut (Err (Stopped t.before)) w (mote_of e) (does w e) v u a b ends in
+    record { ends = p.ends; endures = p.endures; count = tt }
+alone_fails fault.NotAVolume t w e v u a b ends = absurd ends
+alone_fails fault.NoImage t w e v u a b ends =
+    let p = uncut (Err NoImage) w (mote_of e) (does w e) v u a b ends in
+    record { ends = p.ends; endures = p.endures; count = p.count }
+
+-- ---- starts
+
+pub stopped_endures : (a b : Device) → ActStopped a b → Endures (beneath_of a) (beneath_of b)
+stopped_endures a b x = record { faults = x.faults; cause = λ stopped. x.cause; stays = λ was. x.stopped; calm = λ awake. absurd (both_ways b.stopped awake x.stopped) }
+
+powers_with : {S T : Type 0} (f : Fault) (a b : Device) → Powers {T = S} (Err f) a b → Powers {T = T} (Err f) a b
+powers_with fault.Stopped a b p = record { ends = p.ends; endures = p.endures; count = p.count }
+powers_with fault.NotAVolume a b p = record { ends = p.ends; endures = p.endures; count = p.count }
+powers_with fault.NoImage a b p = record { ends = p.ends; endures = p.endures; count = p.count }
+
+-- a fault that is handed on
+pub powers_on : {S T : Type 0} (r : Result T Fault) (f : Fault) (a b : Device) → IsErrAnd r (λ e. e ≡ f) → Powers {T = S} (Err f) a b → Powers r a b
+powers_on (Ok x) f a b is p = absurd is
+powers_on {S} {T} (Err e) f a b is p = subst (λ (y : Fault). Powers {T = T} (Err y) a b) (sym is) (powers_with f a b p)
+
+pub powers_done : {S T : Type 0} (x : S) (y : T) (a b : Device) → Powers (Ok x) a b → Powers (Ok y) a b
+powers_done x y a b p = record { ends = p.ends; endures = p.endures; count = p.count }
