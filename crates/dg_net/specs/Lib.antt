@@ -1,0 +1,1 @@
+-- No definitions: the contracts speak in words of dg_base and dg_link.

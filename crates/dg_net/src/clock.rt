@@ -1,0 +1,45 @@
+//! The clock of the system.
+ghost use Rattle.std.specs.Prelude.{◌≡◌, ◌≤◌, None};
+
+use dg_base::Clock;
+use std::time::{Clock as Timer, Instant};
+
+/// The clock of the system, in whole milliseconds since it was made. Where the system's clock can't be read, it answers
+/// its last answer again.
+#[derive(Drop)]
+pub struct SystemClock<'r, R> {
+    timer: &'r R,
+    began: Option<Instant>,
+    last: u64,
+}
+
+impl<'r, R: Timer> SystemClock<'r, R> {
+    /// A clock that begins at 0 now.
+    pub fn new(timer: &'r R) -> SystemClock<'r, R>
+        ensures { result.last ≡ 0 }
+    {
+        SystemClock {
+            timer,
+            began: Instant::now(timer).ok(),
+            last: 0,
+        }
+    }
+}
+
+impl<'r, R: Timer> Clock for SystemClock<'r, R> {
+    ghost told = { λ _. None };
+
+    ghost reached = { λ c. c.last };
+
+    fn read(&mut self) -> u64 {
+        let now = passed(self.began, self.timer).unwrap_or(0);
+        self.last = self.last.max(now);
+        self.last
+    }
+}
+
+// The milliseconds since a moment, where the system tells them.
+fn passed<R: Timer>(began: Option<Instant>, timer: &R) -> Option<u64> {
+    let passed = began?.elapsed(timer).ok()?;
+    u64::try_from(passed.as_millis()).ok()
+}

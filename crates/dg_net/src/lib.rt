@@ -1,0 +1,11 @@
+//! The real link and the real clock: datagrams between sockets of this machine, and the clock of its system.
+#![tactic(auto)]
+
+mod clock;
+mod udp;
+
+pub use clock::SystemClock;
+pub use udp::UdpLink;
+
+#[cfg(test)]
+mod tests;

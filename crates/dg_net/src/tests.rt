@@ -1,0 +1,67 @@
+//! Sockets and the clock of this machine.
+ghost use Rattle.std.specs.Prelude.{◌<◌, ◌≤◌};
+
+use crate::{SystemClock, UdpLink};
+use dg_base::{Clock, LONGEST_FRAME};
+use dg_link::{Link, OpenFault};
+use std::alloc::Global;
+use std::net::{IpAddr, Ipv4Addr, Net, SocketAddr, UdpSocket};
+use std::process;
+use std::test::Fail;
+
+// A port from which two are free, as far as can be told. Each process looks elsewhere first.
+fn free_port<R: Net>(rt: &R, alloc: Global, process: u32) -> u16
+    ensures { result < 65000 }
+{
+    for step in 0..200 {
+        let port = 20_000 + 200 * (((process % 200) as u16 + step) % 200);
+        if UdpLink::new(rt, alloc).open(alloc, port, 2).is_ok() {
+            return port;
+        }
+    }
+    20_000
+}
+
+#[test]
+fn datagrams_come_to_their_mote(rt: HostRuntime) -> Result<(), Fail> {
+    let alloc = rt.alloc();
+    let port = free_port(&rt, alloc, process::id(rt.process()));
+    let mut link = UdpLink::new(&rt, alloc);
+    let mut into = [0; LONGEST_FRAME];
+    link.open(alloc, port, 2)?;
+    assert_eq!(rt; link.receive(1, &mut into)?, None);
+    link.send(0, 1, b"hello")?;
+    link.send(0, 1, b"")?;
+    assert_eq!(rt; link.receive(0, &mut into)?, None);
+    assert_eq!(rt; link.receive(1, &mut into)?, Some(5));
+    assert_eq!(rt; into[..5], b"hello"[..]);
+    assert_eq!(rt; link.receive(1, &mut into)?, Some(0));
+    let stranger = UdpSocket::bind(&rt, "127.0.0.1:0")?;
+    let mote = SocketAddr::new(IpAddr::V4(Ipv4Addr::new(127, 0, 0, 1)), port);
+    stranger.send_to(&[9; 65], mote)?;
+    assert_eq!(rt; link.receive(0, &mut into)?, Some(LONGEST_FRAME));
+    assert_eq!(rt; into, [9; LONGEST_FRAME]);
+    let mut other = UdpLink::new(&rt, alloc);
+    assert_eq!(rt;
+        other.open(alloc, port + 1, 1).err(),
+        Some(OpenFault::LinkFailed)
+    );
+    Ok(())
+}
+
+#[test]
+fn the_clock_goes_on(rt: HostRuntime) -> Result<(), Fail> {
+    let alloc = rt.alloc();
+    let mut clock = SystemClock::new(&rt);
+    let port = free_port(&rt, alloc, process::id(rt.process()));
+    let mut link = UdpLink::new(&rt, alloc);
+    let mut into = [0; LONGEST_FRAME];
+    link.open(alloc, port, 1)?;
+    let before = clock.read();
+    for _ in 0..20 {
+        assert_eq!(rt; link.receive(0, &mut into)?, None);
+    }
+    let after = clock.read();
+    assert!(rt; before < after);
+    Ok(())
+}

@@ -1,0 +1,174 @@
+//! A link over datagrams between sockets of this machine.
+ghost use Rattle.std.specs.Prelude.{◌≡◌, ◌+◌, ◌^◌, ◌<◌, ◌≤◌, [], length, Err, None, IfOk, IfErr, IfSome, OnOk, OnErr};
+ghost use Rattle.dg_words.specs.Counts.{Rose};
+ghost use Rattle.dg_base.specs.Sizes.{longest_frame, most_motes, greatest_port};
+
+use dg_base::LONGEST_FRAME;
+use dg_link::{Link, LinkFailed, OpenFault};
+use std::alloc::{AllocError, Global};
+use std::io;
+use std::io::ErrorKind;
+use std::net::{IpAddr, Ipv4Addr, Net, SocketAddr, UdpSocket};
+use std::time::Duration;
+
+/// How long a receive waits for a datagram, in milliseconds.
+const PATIENCE: u64 = 1;
+
+/// A link of which each mote has a socket on 127.0.0.1. Mote m has the first mote's port and m more.
+///
+/// What comes to a socket is received, whoever sent it. A datagram of more than 64 bytes is cut to 64. What is sent may
+/// be lost.
+#[derive(Drop)]
+pub struct UdpLink<'r, R> {
+    net: &'r R,
+    port: u16,
+    sockets: Vec<UdpSocket>,
+    faults: u64,
+}
+
+impl<'r, R: Net> UdpLink<'r, R> {
+    /// A link without sockets.
+    pub fn new(net: &'r R, alloc: Global) -> UdpLink<'r, R>
+        ensures sockets { result.sockets.items ≡ [] }
+        ensures faults { result.faults ≡ 0 }
+    {
+        UdpLink {
+            net,
+            port: 0,
+            sockets: Vec::new(alloc),
+            faults: 0,
+        }
+    }
+
+    // A call failed.
+    fn count_fault(&mut self)
+        ensures rose { Rose self.old.faults self.new.faults }
+        ensures counts { self.old.faults ≤ self.new.faults }
+        ensures same_sockets { self.new.sockets ≡ self.old.sockets }
+    {
+        self.faults = self.faults.saturating_add(1);
+    }
+}
+
+impl<'r, R: Net> Link for UdpLink<'r, R> {
+    ghost inboxes = { λ _. None };
+
+    ghost mote_count = { λ l. length l.sockets.items };
+
+    ghost faults = { λ l. l.faults };
+
+    fn open(&mut self, alloc: Global, port: u16, motes: u16) -> Result<(), OpenFault> {
+        self.sockets.clear();
+        self.port = port;
+        match open_sockets(self.net, alloc, port, motes) {
+            Ok(sockets) => {
+                self.sockets = sockets;
+                Ok(())
+            }
+            Err(OpenFault::Memory) => Err(OpenFault::Memory),
+            Err(OpenFault::LinkFailed) => {
+                self.count_fault();
+                Err(OpenFault::LinkFailed)
+            }
+        }
+    }
+
+    fn send(&mut self, from: u16, to: u16, bytes: &[u8]) -> Result<(), LinkFailed> {
+        let to = address(self.port.saturating_add(to));
+        if is_sent(&self.sockets[usize::from(from)], to, bytes) {
+            Ok(())
+        } else {
+            self.count_fault();
+            Err(LinkFailed)
+        }
+    }
+
+    fn receive(
+        &mut self,
+        at: u16,
+        into: &mut [u8; LONGEST_FRAME],
+    ) -> Result<Option<usize>, LinkFailed> {
+        match receive_datagram(&self.sockets[usize::from(at)], into) {
+            Ok(received) => Ok(received),
+            Err(LinkFailed) => {
+                self.count_fault();
+                Err(LinkFailed)
+            }
+        }
+    }
+
+    ghost has_inboxes = { λ _. tt };
+}
+
+// A port of this machine.
+fn address(port: u16) -> SocketAddr {
+    SocketAddr::new(IpAddr::V4(Ipv4Addr::new(127, 0, 0, 1)), port)
+}
+
+// Sockets at so many ports, from `port` on.
+fn open_sockets<R: Net>(
+    net: &R,
+    alloc: Global,
+    port: u16,
+    motes: u16,
+) -> Result<Vec<UdpSocket>, OpenFault>
+    requires most { motes ≤ most_motes }
+    requires ports { port ≤ greatest_port }
+    ensures { IfOk result (λ sockets. length sockets.items ≡ motes) }
+{
+    let mut sockets = Vec::with_capacity(alloc, usize::from(motes))?;
+    for mote in 0..motes {
+        let Ok(socket) = open_socket(net, port + mote) else {
+            return Err(OpenFault::LinkFailed);
+        };
+        push(&mut sockets, socket)?;
+    }
+    Ok(sockets)
+}
+
+// One socket more.
+fn push(sockets: &mut Vec<UdpSocket>, socket: UdpSocket) -> Result<(), OpenFault>
+    ensures more { OnOk result (length sockets.new.items ≡ length sockets.old.items + 1) }
+{
+    match sockets.push(socket) {
+        Ok(()) => Ok(()),
+        Err(_full) => Err(OpenFault::Memory),
+    }
+}
+
+// A socket at a port, whose receives wait no longer than told.
+fn open_socket<R: Net>(net: &R, port: u16) -> io::Result<UdpSocket> {
+    let socket = UdpSocket::bind(net, address(port))?;
+    socket.set_read_timeout(Some(Duration::from_millis(PATIENCE)))?;
+    Ok(socket)
+}
+
+// Sends a datagram, and tells whether it went out whole.
+fn is_sent(socket: &UdpSocket, to: SocketAddr, bytes: &[u8]) -> bool {
+    match socket.send_to(bytes, to) {
+        Ok(count) => count == bytes.len(),
+        Err(_) => false,
+    }
+}
+
+// Receives a datagram, if one comes in time. A receive that is interrupted has received none.
+fn receive_datagram(
+    socket: &UdpSocket,
+    into: &mut [u8; LONGEST_FRAME],
+) -> Result<Option<usize>, LinkFailed>
+    ensures fits { IfOk result (λ r. IfSome r (λ n. n ≤ longest_frame)) }
+{
+    match socket.recv_from(into.as_mut_slice()) {
+        Ok((count, _sender)) => Ok(Some(count)),
+        Err(error) if is_late(error.kind()) => Ok(None),
+        Err(_) => Err(LinkFailed),
+    }
+}
+
+// Whether a receive failed with this since no datagram came in time.
+fn is_late(kind: ErrorKind) -> bool {
+    matches!(
+        kind,
+        ErrorKind::WouldBlock | ErrorKind::TimedOut | ErrorKind::Interrupted
+    )
+}
