@@ -12,7 +12,7 @@ use Rattle.dg_volume.proofs.ReadLemmas.{Looked_then, Looked_stopped}
 use Rattle.dg_tool.specs.declared.refusal.Refusal.{Refusal}
 use Rattle.dg_tool.specs.declared.stop.Stop.{Stop}
 use Rattle.dg_tool.specs.declared.stop.Stop.TheVariants as stops
-use Rattle.dg_tool.specs.Endings.{Ending, Ends, NoBoards, Over, FaultAt, Unfit, NoVolume, Refuses, LacksImage, by_store, StandsAs}
+use Rattle.dg_tool.specs.Endings.{Ending, Ends, NoBoards, Over, FaultAt, Unfit, NoVolume, Refuses, Breaks, LacksImage, by_store, StandsAs}
 use Rattle.dg_tool.specs.Done.{LeftBy, Leaves, NeedsBoard, Finds}
 use Rattle.dg_tool.specs.Stops.{told_status, told_text, stop_status, stop_text, Makes, Comes, IsStopped, StopsThere, MountFails, OfBoard, FailsOn, ReadsOn, OnStore, OnBoard}
 
@@ -36,6 +36,9 @@ made_comes view (Err stops.NoImage) text acted may a b m did = absurd m
 
 pub refused_comes : {T : Type 0} (view : T → List ℕ) (cause : Refusal) (acted may : Device → Device → Type 0) (a b : Device) → Looked a b → OnStore view (Err (stops.Refused cause)) (Refuses cause) acted may a b
 refused_comes view cause acted may a b looked = record { comes = record { caused = refl; wrote = refl; board = looked }; of_board = tt; stops = tt }
+
+pub breaks_comes : {T : Type 0} (view : T → List ℕ) (cause : Refusal) (acted may : Device → Device → Type 0) (a b : Device) → acted a b → OnStore view (Err (stops.Refused cause)) (Breaks cause) acted may a b
+breaks_comes view cause acted may a b did = record { comes = record { caused = refl; wrote = refl; board = did }; of_board = tt; stops = tt }
 
 pub stopped_comes : {T : Type 0} (view : T → List ℕ) (ending : Ending) (acted may : Device → Device → Type 0) (a b : Device) → NeedsBoard ending → may a b → IsStopped a b → OnStore view (Err stops.FlashFault) ending acted may a b
 stopped_comes view ending acted may a b needs held stopped = record { comes = record { caused = needs; wrote = refl; board = held }; of_board = tt; stops = stopped }
@@ -85,6 +88,7 @@ left_looked (FaultAt fault) acted acted2 a m b needs l f h = absurd needs
 left_looked (Unfit cause) acted acted2 a m b needs l f h = absurd needs
 left_looked NoVolume acted acted2 a m b needs l f h = Looked_then l h
 left_looked (Refuses cause) acted acted2 a m b needs l f h = Looked_then l h
+left_looked (Breaks cause) acted acted2 a m b needs l f h = f h
 left_looked LacksImage acted acted2 a m b needs l f h = f h
 
 leaves_looked : (status : Status) (ending : Ending) (acted acted2 may may2 : Device → Device → Type 0) (a m b : Device) → NeedsBoard ending → Looked a m → (acted m b → acted2 a b) → (may m b → may2 a b) → Leaves status ending acted may m b → Leaves status ending acted2 may2 a b

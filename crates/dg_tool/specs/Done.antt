@@ -13,7 +13,7 @@ use Rattle.dg_volume.specs.Formatting.{format_operations, GoldenFirst}
 use Rattle.dg_volume.specs.Start.{Boot}
 use Rattle.dg_volume.specs.Store.{Store, fresh, golden_row}
 use Rattle.dg_volume.specs.Stands.{Stands}
-use Rattle.dg_tool.specs.Endings.{Ending, Ends, NoBoards, Over, FaultAt, Unfit, NoVolume, Refuses, LacksImage, status_of, text_of}
+use Rattle.dg_tool.specs.Endings.{Ending, Ends, NoBoards, Over, FaultAt, Unfit, NoVolume, Refuses, Breaks, LacksImage, status_of, text_of}
 
 -- ---- acts on the first board
 
@@ -53,10 +53,11 @@ BootedOn boot (Some s) a b = Booted (boot s) a b
 
 -- ---- how the board is left
 
--- By the rules: what was asked for was done, also where a start found no image; a refusal only reads; and what ends a verb before it comes to the board leaves that unused.
+-- By the rules: what was asked for was done, also where a start found no image, or up to where the rest of it was refused; a refusal only reads; and what ends a verb before it comes to the board leaves that unused.
 abbrev pub LeftBy : Ending → (acted : Device → Device → Type 0) → Device → Device → Type 0
 LeftBy (Ends told) acted a b = acted a b
 LeftBy LacksImage acted a b = acted a b
+LeftBy (Breaks cause) acted a b = acted a b
 LeftBy NoVolume acted a b = Looked a b
 LeftBy (Refuses cause) acted a b = Looked a b
 LeftBy NoBoards acted a b = b ≡ a
@@ -83,6 +84,7 @@ abbrev pub NeedsBoard : Ending → Type 0
 NeedsBoard (Ends told) = Unit {0}
 NeedsBoard NoVolume = Unit {0}
 NeedsBoard (Refuses cause) = Unit {0}
+NeedsBoard (Breaks cause) = Unit {0}
 NeedsBoard LacksImage = Unit {0}
 NeedsBoard ending = ⊥
 

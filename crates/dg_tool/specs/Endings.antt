@@ -2,6 +2,7 @@
 use Rattle.std.specs.Prelude.{ℕ, nat_lt, if◌then◌else◌, List, [], ◌∷◌, ◌++◌, length, codes, Option, Some, None, Result, Ok, Err}
 use Rattle.dg_base.specs.declared.answers.Status.{Status}
 use Rattle.dg_base.specs.declared.answers.Status.TheVariants.{Done, BadInput, NotAVolume, Refused, TooLong, NoBoard, NoImage}
+use Rattle.dg_base.specs.Hexadecimal.{hex_text}
 use Rattle.dg_ihex.specs.Causes.{cause_text}
 use Rattle.dg_ihex.specs.Files.{hex_file}
 use Rattle.dg_ihex.specs.declared.faults.HexFileFault.{HexFileFault}
@@ -28,6 +29,8 @@ pub data Ending : Type 0 where
   NoVolume : Ending
   -- what the board holds refuses it
   Refuses : (cause : Refusal) → Ending
+  -- what is met on the way refuses the rest of it
+  Breaks : (cause : Refusal) → Ending
   -- the board has no image to start
   LacksImage : Ending
 
@@ -39,6 +42,7 @@ status_of (FaultAt fault) = BadInput
 status_of (Unfit cause) = Refused
 status_of NoVolume = NotAVolume
 status_of (Refuses cause) = Refused
+status_of (Breaks cause) = Refused
 status_of LacksImage = NoImage
 
 -- ---- what is written
@@ -54,6 +58,9 @@ refusal_text (refusals.Worn room) = codes "worn" ++ numbers (room ∷ [])
 refusal_text (refusals.OldOrder number) = codes "oldorder" ++ numbers (number ∷ [])
 refusal_text refusals.Absent = codes "none"
 refusal_text (refusals.NotWhole done pages) = codes "notwhole" ++ numbers (done ∷ pages ∷ [])
+refusal_text (refusals.Broken page kept found) = codes "broken" ++ numbers (page ∷ []) ++ 32 ∷ hex_text kept ++ 32 ∷ hex_text found
+refusal_text refusals.Shape = codes "shape"
+refusal_text (refusals.Foreign page) = codes "foreign" ++ numbers (page ∷ [])
 
 abbrev pub refused_line : Refusal → List ℕ
 refused_line cause = line (codes "refused " ++ refusal_text cause)
@@ -70,6 +77,7 @@ text_of (FaultAt fault) = fault_line fault
 text_of (Unfit cause) = refused_line cause
 text_of NoVolume = line (codes "notavolume")
 text_of (Refuses cause) = refused_line cause
+text_of (Breaks cause) = refused_line cause
 text_of LacksImage = line (codes "noimage")
 
 -- ---- the order of causes: the board that is there, the input, and then what the board holds

@@ -9,8 +9,8 @@ use crate::stop::Stop;
 use dg_nor::Nor;
 use dg_volume::{MountFault, Volume};
 
-/// Mounts a board.
-pub(crate) fn mount<N: Nor>(nor: &mut N) -> Result<Volume, Stop>
+/// Mounts the volume of a board, whatever its bytes are.
+pub fn mount<N: Nor>(nor: &mut N) -> Result<Volume, Stop>
     ensures mounted { IfOk result (λ v. (s : Store) → Stands (N.device nor.old).image s → Mounted (N.device nor.new).image v s) }
     ensures volume { IfOk result (λ v. IsMounted (N.device nor.new).image v) }
     ensures free { IfOk result NothingLent }

@@ -8,7 +8,7 @@ ghost use Rattle.dg_tool.specs.Stops.{WritesLast, ClosesWith, stop_status, stop_
 use crate::Refusal;
 use crate::stop::Stop;
 use crate::text::{push_numbers, push_words};
-use dg_base::{Sink, Status, WriteFailed};
+use dg_base::{Sink, Status, WriteFailed, push_hex};
 use dg_ihex::HexFileFault;
 use std::alloc::{AllocError, Global};
 
@@ -64,7 +64,27 @@ fn push_refusal(alloc: Global, text: &mut Vec<u8>, cause: Refusal) -> Result<(),
         Refusal::NotWhole { done, pages } => {
             push_words(text, b"notwhole", &[u32::from(done), u32::from(pages)])
         }
+        Refusal::Broken { page, kept, found } => push_broken(text, page, &kept, &found),
+        Refusal::Shape => push_words(text, b"shape", &[]),
+        Refusal::Foreign { page } => push_words(text, b"foreign", &[u32::from(page)]),
     }
+}
+
+/// Appends that a page is broken, with the digest that is kept of it and the one that it has.
+fn push_broken(
+    text: &mut Vec<u8>,
+    page: u8,
+    kept: &[u8; 32],
+    found: &[u8; 32],
+) -> Result<(), AllocError>
+    ensures { OnOk result (text.new.items ≡ text.old.items ++ refusal_text (refusals.Broken page kept.now found.now)) }
+{
+    push_words(text, b"broken", &[u32::from(page)])?;
+    text.push(b' ')?;
+    push_hex(text, kept.as_slice())?;
+    text.push(b' ')?;
+    push_hex(text, found.as_slice())?;
+    Ok(())
 }
 
 /// Appends that an image has too many bytes.
@@ -107,7 +127,7 @@ fn end_at_stop<K: Sink>(alloc: Global, out: &mut K, stop: Stop) -> Status
 }
 
 /// Ends a verb that came to its text, or was stopped: one write at most.
-pub(crate) fn end<K: Sink>(alloc: Global, out: &mut K, told: Result<Vec<u8>, Stop>) -> Status
+pub fn end<K: Sink>(alloc: Global, out: &mut K, told: Result<Vec<u8>, Stop>) -> Status
     ensures ends { ClosesWith result (told_status told) (told_text (λ text. text.items) told) (K.written out.old) (K.written out.new) (Rose (K.faults out.old) (K.faults out.new)) (K.faults out.new ≡ K.faults out.old) }
     ensures counts { K.faults out.old ≤ K.faults out.new }
 {

@@ -25,8 +25,8 @@ use dg_nor::Nor;
 use dg_volume::{InjectFault, Volume};
 use std::alloc::Global;
 
-/// What a refused injection makes of a verb.
-fn stop_at(fault: InjectFault, size: usize) -> Stop
+/// What an injection that is not done makes of a verb. `size` is the length of the image.
+pub fn stop_at(fault: InjectFault, size: usize) -> Stop
     ensures stopped { fault ≡ InjectFault.Stopped → result ≡ stops.FlashFault }
     ensures refused { fault ≢ InjectFault.Stopped → (row : Row) → size ≡ length row.bytes → result ≡ stops.Refused (inject_cause row fault) }
 {
@@ -42,7 +42,7 @@ fn stop_at(fault: InjectFault, size: usize) -> Stop
 }
 
 /// The line that tells of an image that is kept whole, with all its pages.
-fn have_line(alloc: Global, image: u8, version: u32, pages: u8) -> Result<Vec<u8>, Stop>
+pub fn have_line(alloc: Global, image: u8, version: u32, pages: u8) -> Result<Vec<u8>, Stop>
     ensures { Makes (λ text. text.items) result (line (codes "have" ++ numbers (0 ∷ image ∷ version ∷ pages ∷ []))) }
 {
     let number = u32::from(image);

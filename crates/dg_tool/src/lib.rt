@@ -1,7 +1,8 @@
 //! The verbs over one board: format, inject, order, boot, ping and dump.
 //!
 //! Each works on the first of the boards that it is given, looks for what ends it in one order, first whether there is
-//! a board, then what the input spells, and then what the board holds, and writes once, at its end.
+//! a board, then what the input spells, and then what the board holds, and writes once, at its end. The parts that
+//! other verbs are made of are handed out too: reading an image, mounting, lines, and the end.
 #![tactic(auto)]
 
 mod board;
@@ -30,15 +31,20 @@ ghost use Rattle.dg_tool.specs.Endings.{FirstAs, content_in};
 ghost use Rattle.dg_tool.specs.Verbs.{format_ending, inject_ending, order_ending, power_boot, boot_ending, ping_ending, dump_ending};
 ghost use Rattle.dg_tool.specs.Done.{ToolDone, InputRead, IsFormatted, FormatStops, WentOn, StopsOn, BootedOn};
 
+pub use crate::board::mount;
 use crate::dumping::dump_boards;
-use crate::ending::end;
+pub use crate::ending::end;
 use crate::formatting::format_boards;
 use crate::injecting::inject_boards;
+pub use crate::injecting::{have_line, stop_at};
+pub use crate::input::read_image;
 pub use crate::laws::a_whole_image_tells_its_row;
 use crate::ordering::order_boards;
 use crate::pinging::ping_boards;
 pub use crate::refusal::Refusal;
 use crate::starting::boot_boards;
+pub use crate::stop::{Stop, or_memory};
+pub use crate::text::line_of;
 use dg_base::{Sink, Source, Status};
 use dg_nor::Nor;
 use dg_volume::Order;

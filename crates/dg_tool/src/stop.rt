@@ -8,20 +8,29 @@ use std::alloc::AllocError;
 
 /// Why a verb does not end well.
 #[derive(Clone, Copy, Debug, PartialEq, Eq)]
-pub(crate) enum Stop {
+pub enum Stop {
+    /// Memory ran out.
     Memory,
+    /// A read of the input failed.
     ReadFault,
+    /// The board is stopped.
     FlashFault,
+    /// There is no board.
     NoBoard,
+    /// The input has more than 16,777,216 bytes.
     TooLong,
+    /// The input is no HEX file.
     BadInput(HexFileFault),
+    /// The board is no volume.
     NotAVolume,
+    /// It is refused.
     Refused(Refusal),
+    /// The board has no image to start.
     NoImage,
 }
 
 /// What was made, unless memory ran out.
-pub(crate) fn or_memory<T>(made: Result<T, AllocError>) -> Result<T, Stop>
+pub fn or_memory<T>(made: Result<T, AllocError>) -> Result<T, Stop>
     ensures { result ≡ or_memory made }
 {
     match made {

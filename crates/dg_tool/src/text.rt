@@ -34,8 +34,8 @@ pub(crate) fn push_line(text: &mut Vec<u8>, word: &[u8], values: &[u32]) -> Resu
     Ok(())
 }
 
-/// A line of a word and numbers.
-pub(crate) fn line_of(alloc: Global, word: &[u8], values: &[u32]) -> Result<Vec<u8>, AllocError>
+/// A line of a word and numbers, each behind a space.
+pub fn line_of(alloc: Global, word: &[u8], values: &[u32]) -> Result<Vec<u8>, AllocError>
     ensures { IfOk result (λ text. text.items ≡ line (word.now ++ numbers values.now)) }
 {
     let mut text = Vec::new(alloc);
