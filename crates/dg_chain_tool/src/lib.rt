@@ -1,0 +1,72 @@
+//! The verbs of chained images.
+//!
+//! Each looks for what ends it in one order, first whether there is a board, where it uses one, then what the input
+//! spells, and then what the board holds, and writes once, at its end.
+#![tactic(auto)]
+
+mod checking;
+mod wrapping;
+
+ghost use Rattle.std.specs.Prelude.{◌≡◌, ◌⊎◌, ◌<◌, ◌≤◌, ℕ, List, Some, length, drop, map};
+ghost use Rattle.dg_words.specs.Counts.{Rose};
+ghost use Rattle.dg_nor.specs.Reads.{Looked, ReadStopped};
+ghost use Rattle.dg_slot.specs.Kept.{Held};
+ghost use Rattle.dg_volume.specs.Sizes.{images};
+ghost use Rattle.dg_volume.specs.Store.{Store, held};
+ghost use Rattle.dg_chain.specs.Chain.{IsPayload, chain, root_of};
+ghost use Rattle.dg_chain.specs.Checking.{Collision};
+ghost use Rattle.dg_tool.specs.Endings.{FirstAs};
+ghost use Rattle.dg_tool.specs.Done.{ToolDone, InputRead};
+ghost use Rattle.dg_chain_tool.specs.Verbs.{wrap_ending, check_ending};
+ghost use Rattle.dg_chain_tool.specs.Done.{TextDone, TellsLength};
+
+use crate::checking::check_boards;
+use crate::wrapping::wrap_input;
+use dg_base::{Sink, Source, Status};
+use dg_chain::{DIGEST_SIZE, a_root_names_its_pages};
+use dg_nor::Nor;
+use dg_tool::end;
+use std::alloc::Global;
+
+/// Wraps the payload of the HEX file that `input` spells, 1 to 68,604 bytes, into an image of which each page carries the
+/// digest of the next (SHA-256). Writes `root HEX`, the digest of the first page, and then the HEX file of the image. No
+/// board is used.
+pub fn wrap<S: Source, K: Sink>(alloc: Global, input: &mut S, out: &mut K) -> Status
+    ensures done { (bytes : List ℕ) × InputRead result 1 bytes (S.left input.old) (S.left input.new) (S.faults input.old) (S.faults input.new)
+        × TextDone result (wrap_ending bytes) (Rose (S.faults input.old) (S.faults input.new)) (K.written out.old) (K.written out.new) (K.faults out.old) (K.faults out.new) }
+    ensures reads { S.faults input.old ≤ S.faults input.new }
+    ensures writes { K.faults out.old ≤ K.faults out.new }
+{
+    let told = wrap_input(alloc, input);
+    end(alloc, out, told)
+}
+
+/// Compares the data pages of an image that the first board keeps whole with a root, and changes no byte. Writes
+/// `chain LENGTH`, the length of the payload whose pages they are.
+pub fn check<K: Sink, N: Nor>(
+    alloc: Global,
+    image: u8,
+    root: &[u8; DIGEST_SIZE],
+    out: &mut K,
+    boards: &mut Vec<N>,
+) -> Status
+    requires image { image < images }
+    ensures done { ToolDone result (FirstAs (map N.device boards.old.items)) (check_ending (length boards.old.items) image root.now)
+        (λ chip. Looked) (λ chip. ReadStopped)
+        ⊥ (K.written out.old) (K.written out.new) (K.faults out.old) (K.faults out.new)
+        (map N.device boards.old.items) (map N.device boards.new.items) }
+    // Whatever made the board's bytes: pages that pass for the root of a payload are its pages, or two that differ at one
+    // place have one digest.
+    ensures named { (x : List ℕ) (s : Store) (h : Held) → IsPayload x → root.now ≡ root_of x → FirstAs (map N.device boards.old.items) (Some s) → held s image ≡ Some h
+        → result ≡ Status.Done → (drop 1 h.complete ≡ chain x) ⊎ Collision (drop 1 h.complete) (chain x) }
+    // Its own pages pass, and its length is told.
+    ensures own { (x : List ℕ) (s : Store) (h : Held) → IsPayload x → root.now ≡ root_of x → FirstAs (map N.device boards.old.items) (Some s) → held s image ≡ Some h
+        → 1 ≤ length boards.old.items → length h.complete ≡ h.pages → drop 1 h.complete ≡ chain x
+        → TellsLength result (length x) (K.written out.old) (K.written out.new) }
+    ensures unchanged { map (λ board. (N.device board).image) boards.new.items ≡ map (λ board. (N.device board).image) boards.old.items }
+    ensures writes { K.faults out.old ≤ K.faults out.new }
+{
+    a_root_names_its_pages();
+    let told = check_boards(alloc, image, root, boards);
+    end(alloc, out, told)
+}
