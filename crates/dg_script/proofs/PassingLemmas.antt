@@ -256,6 +256,7 @@ answer_since (Ok (Some n)) bytes old now new A F p q h = (
   h.0,
   record {
     first = h.1.first;
+    last = h.1.last;
     short = h.1.short;
     number = h.1.number ∙ ap (λ k. k + 1) q;
     passed = h.1.passed ∙ ap (λ k. k + length bytes) p;
