@@ -1,10 +1,9 @@
 -- How a replay ends, by the ending that the rules give to its script.
-use Rattle.std.proofs.Common.{◌≡◌, ◌≢◌, inl, inr, ℕ, ◌+◌, ◌<◌, ◌≤◌, Bool, true, false, cond, ◌==◌, not, List, [], ◌∷◌, ◌++◌, length, map, take, drop, get_or, ◌-◌, length-take, refl, append-nil, append_assoc, ap, sym, ◌∙◌, subst, arith}
-use Rattle.std.specs.Prelude.{Option, Some, None, Err, nat_lt, if◌then◌else◌}
+use Rattle.std.proofs.Common.{◌≡◌, ◌⊎◌, inl, inr, ⊎_elim, ℕ, ◌+◌, ◌<◌, ◌≤◌, Bool, true, false, cond, not, List, [], ◌∷◌, ◌++◌, length, map, take, drop, refl, append-nil, append_assoc, ap, sym, ◌∙◌, subst, arith}
+use Rattle.std.specs.Prelude.{⊤, Option, Some, None, nat_lt, if◌then◌else◌}
 use Rattle.std.specs.Str.Lines.{lines}
 use Rattle.std.proofs.lemmas.List.Sums.{sum_by-cons}
-use Rattle.std.proofs.lemmas.List.{take-append-drop, take_more, take-take}
-use Rattle.std.proofs.Math.Seq.{take-length}
+use Rattle.std.proofs.lemmas.List.{take-append-drop}
 use Rattle.std.proofs.lemmas.Bool.Decides.{nat_tests}
 use Rattle.dg_base.specs.Outside.{Puts}
 use Rattle.dg_base.proofs.OutsideLemmas.{Puts-join}
@@ -25,15 +24,17 @@ use Rattle.dg_script.specs.declared.fault.LineFault.{LineFault}
 use Rattle.dg_script.specs.Report.{report_text}
 use Rattle.dg_rules.specs.World.{World}
 use Rattle.dg_replay.specs.Boards.{WorldStands, BoardsStand, BoardStopped, StoppedIn}
-use Rattle.dg_replay.specs.Ending.{Ending, Ends, NoBoards, TooManyEvents, FaultAt, Over, events_in, InBounds, by_fault, by_events, by_boards, ending_from, ending_line, status_of, up_to, whole_lines, used, is_over, script_of, ending_of, InLimits}
-use Rattle.dg_replay.specs.Outcome.{Progress, item_played, played_text, EventNext, AtTooMany, ReachesEnding, closing, IsWholeReport, StopsAt, Wrote, BoardsLeft, IsCaused, RunsTo}
-use Rattle.dg_replay.specs.Replaying.{StopEnds, Reached, PlayedFront, HasFew, LinesAnswer, ReadyToEnd, EndsWith, FinishesWith, ScriptReplayed}
+use Rattle.dg_replay.specs.Ending.{Ending, Ends, NoBoards, TooManyEvents, FaultAt, Over, events_in, InBounds, by_fault, by_events, by_boards, ending_from, ending_line, status_of, whole_lines, used, is_over, script_of, ending_of, InLimits}
+use Rattle.dg_replay.specs.Near.{behind_lines, IsNear}
+use Rattle.dg_replay.specs.Outcome.{Progress, item_played, played_text, EventNext, AtTooMany, ReachesEnding, closing, IsWholeReport, StopsAt, Wrote, BoardsLeft, IsCaused, RunsTo, IsSettled, NextIsWhole, DoneIsWhole, ReadEnough, ReadsNear}
+use Rattle.dg_replay.specs.Replaying.{StopEnds, Reached, HasFew, StopsAtText, StopsIn, ByRules, ReadyToEnd, EndsWith, FinishesWith, ScriptReplayed}
 use Rattle.dg_base.specs.declared.events.Step.{Step}
 use Rattle.dg_replay.specs.declared.player.Player.{Player}
 use Rattle.dg_script.specs.declared.line.Line.{Line}
 use Rattle.dg_script.specs.declared.line.Line.TheVariants.{Nothing, Motes, Golden, Boards as BoardsLine, Link, Image, Cut, Happens, Round, Sweeps}
 use Rattle.dg_replay.specs.declared.stop.Stop.{Stop}
 use Rattle.dg_replay.specs.declared.stop.Stop.TheVariants.{Memory, BadInput, WriteFault, FlashFault, TooMany, NoBoard, NoImage}
+use Rattle.dg_replay.proofs.NearLemmas.{near_later}
 use Rattle.dg_replay.proofs.ItemLemmas.{items_split, items_first, events_among-append}
 
 wrote_whole : {script : Script} (e : Ending) (c : Progress script) (text : List ℕ) → IsWholeReport e c text → Wrote (status_of e) e c text
@@ -57,25 +58,36 @@ caused_by TooManyEvents r w b = refl
 caused_by (FaultAt line f) r w b = refl
 caused_by Over r w b = refl
 
+-- the bytes that were taken settle the ending
+enough_by : {script : Script} (e : Ending) (n : ℕ) (input : List ℕ) (at_end : Type 0) (c : Progress script) (text : List ℕ) → at_end ⊎ IsSettled n input → ReadEnough (status_of e) n input at_end c text
+enough_by Ends n input at_end c text settled = settled
+enough_by (NoBoards m b) n input at_end c text settled = settled
+enough_by TooManyEvents n input at_end c text settled = settled
+enough_by (FaultAt line f) n input at_end c text settled = settled
+enough_by Over n input at_end c text settled = settled
+
 -- the end of the report was written, or a front of it, or memory ran out
-pub ended : (result : Status) (script : Script) (e : Ending) (piece : List ℕ) (initial now : List Device) (before mid after : Option (List ℕ)) (failed worse : Type 0) → (failed → worse)
-    → ReadyToEnd script e piece initial now before mid → EndsWith result (status_of e) piece mid after failed → ScriptReplayed result script e initial now before after worse
-ended result script e piece initial now before mid after failed worse spread r (inl done) =
+pub ended : (result : Status) (script : Script) (e : Ending) (piece input : List ℕ) (at_end : Type 0) (initial now : List Device) (before mid after : Option (List ℕ)) (failed reads worse : Type 0) → (failed → worse)
+    → (r : ReadyToEnd script e piece initial now before mid) → at_end ⊎ IsSettled (length initial) input → at_end ⊎ DoneIsWhole input r.came.done r.came.rest r.came.begun → ((text : List ℕ) → ReadsNear (status_of e) e input r.came text)
+    → EndsWith result (status_of e) piece mid after failed → ScriptReplayed result script e input at_end initial now before after reads worse
+ended result script e piece input at_end initial now before mid after failed reads worse spread r settled whole near (inl done) =
     let text : List ℕ = played_text r.came.played ++ piece in
     let all : IsWholeReport e r.came text = record { all = r.all; told = ap (λ (xs : List ℕ). played_text r.came.played ++ xs) (sym r.line) } in
-    let made : ScriptReplayed (status_of e) script e initial now before after worse = record {
+    let made : ScriptReplayed (status_of e) script e input at_end initial now before after reads worse = record {
       came = r.came;
       text = text;
       written = Puts-join before mid after _ _ r.told done.1;
       report = wrote_whole e r.came text all;
+      enough = enough_by e (length initial) input at_end r.came text settled;
+      near = near text;
       limits = r.limits;
       boards = boards_of e r.came initial now r.boards;
-      caused = caused_by e ⊥ worse (BoardStopped (motes_in r.came.done) initial now);
+      caused = caused_by e reads worse (BoardStopped (motes_in r.came.done) initial now);
     } in
-    subst (λ (s : Status). ScriptReplayed s script e initial now before after worse) (sym done.0) made
-ended result script e piece initial now before mid after failed worse spread r (inr (inl cut)) =
+    subst (λ (s : Status). ScriptReplayed s script e input at_end initial now before after reads worse) (sym done.0) made
+ended result script e piece input at_end initial now before mid after failed reads worse spread r settled whole near (inr (inl cut)) =
     let k = cut.1.0 in
-    let made : ScriptReplayed status.WriteFault script e initial now before after worse = record {
+    let made : ScriptReplayed status.WriteFault script e input at_end initial now before after reads worse = record {
       came = r.came;
       text = played_text r.came.played ++ take k piece;
       written = Puts-join before mid after _ _ r.told cut.1.2;
@@ -86,31 +98,26 @@ ended result script e piece initial now before mid after failed worse spread r (
           told = append_assoc (played_text r.came.played) (take k piece) (drop k piece) ∙ ap (λ (xs : List ℕ). played_text r.came.played ++ xs) (take-append-drop k piece ∙ sym r.line);
         });
       };
+      enough = ⊎_elim (λ (x : at_end). inl x) (λ (x : IsSettled (length initial) input). inr (inl x)) settled;
+      near = inr (record { all = r.all; more = take k piece; told = refl });
       limits = r.limits;
       boards = inl r.boards;
       caused = spread cut.2;
     } in
-    subst (λ (s : Status). ScriptReplayed s script e initial now before after worse) (sym cut.0) made
-ended result script e piece initial now before mid after failed worse spread r (inr (inr memory)) =
-    let made : ScriptReplayed status.Memory script e initial now before after worse = record {
+    subst (λ (s : Status). ScriptReplayed s script e input at_end initial now before after reads worse) (sym cut.0) made
+ended result script e piece input at_end initial now before mid after failed reads worse spread r settled whole near (inr (inr memory)) =
+    let made : ScriptReplayed status.Memory script e input at_end initial now before after reads worse = record {
       came = r.came;
       text = played_text r.came.played;
       written = subst (λ (o : Option (List ℕ)). Puts before o (played_text r.came.played)) (sym memory.1) r.told;
       report = record { more = []; front = append-nil (played_text r.came.played) };
+      enough = whole;
+      near = tt;
       limits = r.limits;
       boards = r.boards;
       caused = tt;
     } in
-    subst (λ (s : Status). ScriptReplayed s script e initial now before after worse) (sym memory.0) made
-
--- a front was played and reported, and more of its report may have been written
-front_only : (script : Script) (e : Ending) (initial now : List Device) (before after : Option (List ℕ)) (worse : Type 0) → PlayedFront script initial before after (λ c. BoardsStand c.last initial now) → ScriptReplayed status.Memory script e initial now before after worse
-front_only script e initial now before after worse f =
-    record { came = f.came; text = f.text; written = f.told; report = record { more = f.more; front = f.whole }; limits = f.limits; boards = f.there; caused = tt }
-
-front_cut : (script : Script) (e : Ending) (initial now : List Device) (before after : Option (List ℕ)) (worse : Type 0) → worse → PlayedFront script initial before after (λ c. BoardsLeft status.WriteFault c initial now) → ScriptReplayed status.WriteFault script e initial now before after worse
-front_cut script e initial now before after worse rose f =
-    record { came = f.came; text = f.text; written = f.told; report = record { more = f.more; front = inl f.whole }; limits = f.limits; boards = f.there; caused = rose }
+    subst (λ (s : Status). ScriptReplayed s script e input at_end initial now before after reads worse) (sym memory.0) made
 
 -- ---- the ending of a script
 
@@ -190,42 +197,87 @@ many_ending over script initial c enough at =
     let test : nat_lt most_events (events_in script.lines) ≡ true = ap (λ (ls : List Line). nat_lt most_events (events_in ls)) (sym c.lines) ∙ over_is _ _ many in
     ap (λ (o : Option ℕ). by_boards o (length initial) (by_events over script)) enough ∙ ap (λ (b : Bool). if b then TooManyEvents else by_fault over script.fault) test
 
+-- the ending that the rules give where they stop a replay
+abbrev pub EndsBy : Stop → Ending → Type 0
+EndsBy (BadInput line fault) e = e ≡ FaultAt line fault
+EndsBy TooMany e = e ≡ TooManyEvents
+EndsBy (NoBoard motes boards) e = e ≡ NoBoards motes boards
+EndsBy stop e = Unit {0}
+
+pub stop_ending : (stop : Stop) (over : Bool) (script : Script) (W V : Progress script → Type 0) (number : ℕ) (initial now : List Device) (before after : Option (List ℕ)) (failed : Type 0)
+    → StopsAtText stop script W V number initial now before after failed → EndsBy stop (ending_from (length initial) over script)
+stop_ending Memory over script W V number initial now before after failed f = tt
+stop_ending (BadInput line fault) over script W V number initial now before after failed (same, f) = fault_ending over script initial line fault f.there.3 f.there.1
+stop_ending WriteFault over script W V number initial now before after failed f = tt
+stop_ending FlashFault over script W V number initial now before after failed f = tt
+stop_ending TooMany over script W V number initial now before after failed f = many_ending over script initial f.came f.there.2 f.there.0
+stop_ending (NoBoard motes boards) over script W V number initial now before after failed f =
+    let same : boards ≡ length initial = f.there.0.0 in
+    let short : length initial < motes = subst (λ (n : ℕ). n < motes) same f.there.0.1 in
+    board_ending over script initial motes f.came.done f.there.1.0 short f.there.3 (ap (λ (ls : List Line). f.came.done ++ ls) (sym f.there.1.1) ∙ f.came.lines) ∙ ap (λ (n : ℕ). NoBoards motes n) (sym same)
+stop_ending NoImage over script W V number initial now before after failed f = tt
+
 -- the end of a replay that stopped
-pub stopped_ends : (stop : Stop) (result : Status) (script : Script) (ends over : Bool) (initial now : List Device) (before mid after : Option (List ℕ)) (failed later worse : Type 0) → (failed → worse) → (later → worse)
-    → LinesAnswer (Err stop) ends script initial now before mid failed → StopEnds stop result mid after later → ScriptReplayed result script (ending_from (length initial) over script) initial now before after worse
-stopped_ends Memory result script ends over initial now before mid after failed later worse spread widen f (same, told) =
-    subst (λ (s : Status). ScriptReplayed s script (ending_from (length initial) over script) initial now before after worse) (sym same)
-    (front_only script (ending_from (length initial) over script) initial now before after worse (subst (λ (o : Option (List ℕ)). PlayedFront script initial before o (λ c. BoardsStand c.last initial now)) (sym told) f))
-stopped_ends (BadInput line fault) result script ends over initial now before mid after failed later worse spread widen f done =
+pub stopped_ends : (stop : Stop) (result : Status) (script : Script) (over : Bool) (input : List ℕ) (at_end : Type 0) (number : ℕ) (initial now : List Device) (before mid after : Option (List ℕ)) (failed later reads worse : Type 0)
+    → (failed → worse) → (later → worse) → IsNear number input → ByRules stop (at_end ⊎ IsSettled (length initial) input)
+    → StopsIn stop script input at_end number initial now before mid failed → StopEnds stop result mid after later → ScriptReplayed result script (ending_from (length initial) over script) input at_end initial now before after reads worse
+stopped_ends Memory result script over input at_end number initial now before mid after failed later reads worse spread widen near settled f (same, told) =
+    let made : ScriptReplayed status.Memory script (ending_from (length initial) over script) input at_end initial now before after reads worse = record {
+      came = f.came;
+      text = f.text;
+      written = subst (λ (o : Option (List ℕ)). Puts before o f.text) (sym told) f.told;
+      report = record { more = f.more; front = f.whole };
+      enough = f.there.1;
+      near = tt;
+      limits = f.limits;
+      boards = f.there.0;
+      caused = tt;
+    } in
+    subst (λ (s : Status). ScriptReplayed s script (ending_from (length initial) over script) input at_end initial now before after reads worse) (sym same) made
+stopped_ends (BadInput line fault) result script over input at_end number initial now before mid after failed later reads worse spread widen near settled (numbered, f) done =
     let e = fault_ending over script initial line fault f.there.3 f.there.1 in
     let ready : ReadyToEnd script (FaultAt line fault) (ending_line (FaultAt line fault)) initial now before mid = record { came = f.came; told = f.told; boards = f.there.2; all = f.there.0; line = refl; limits = f.limits } in
-    subst (λ (x : Ending). ScriptReplayed result script x initial now before after worse) (sym e) (ended result script (FaultAt line fault) _ initial now before mid after later worse widen ready done)
-stopped_ends WriteFault result script ends over initial now before mid after failed later worse spread widen (rose, f) (same, told) =
-    subst (λ (s : Status). ScriptReplayed s script (ending_from (length initial) over script) initial now before after worse) (sym same)
-    (front_cut script (ending_from (length initial) over script) initial now before after worse (spread rose) (subst (λ (o : Option (List ℕ)). PlayedFront script initial before o (λ c. BoardsLeft status.WriteFault c initial now)) (sym told) f))
-stopped_ends FlashFault result script ends over initial now before mid after failed later worse spread widen f (same, told) =
-    let made : ScriptReplayed status.FlashFault script (ending_from (length initial) over script) initial now before after worse = record {
+    let there : IsNear line input = subst (λ (n : ℕ). IsNear n input) (sym numbered) near in
+    subst (λ (x : Ending). ScriptReplayed result script x input at_end initial now before after reads worse) (sym e)
+    (ended result script (FaultAt line fault) _ input at_end initial now before mid after later reads worse widen ready settled f.there.4 (λ text. there) done)
+stopped_ends WriteFault result script over input at_end number initial now before mid after failed later reads worse spread widen near settled (rose, f) (same, told) =
+    let before_it = f.there.1 in
+    let made : ScriptReplayed status.WriteFault script (ending_from (length initial) over script) input at_end initial now before after reads worse = record {
+      came = f.came;
+      text = f.text;
+      written = subst (λ (o : Option (List ℕ)). Puts before o f.text) (sym told) f.told;
+      report = record { more = f.more; front = inl f.whole };
+      enough = ⊎_elim (λ (x : at_end). inl x) (λ (x : DoneIsWhole input f.came.done f.came.rest f.came.begun). inr (inr (x, record { more = f.more; front = f.whole }))) f.there.2;
+      near = inl (record { lines = before_it.lines; more = before_it.more; told = before_it.told; near = near_later number (before_it.lines + 1) input before_it.behind near });
+      limits = f.limits;
+      boards = f.there.0;
+      caused = spread rose;
+    } in
+    subst (λ (s : Status). ScriptReplayed s script (ending_from (length initial) over script) input at_end initial now before after reads worse) (sym same) made
+stopped_ends FlashFault result script over input at_end number initial now before mid after failed later reads worse spread widen near settled f (same, told) =
+    let made : ScriptReplayed status.FlashFault script (ending_from (length initial) over script) input at_end initial now before after reads worse = record {
       came = f.came;
       text = played_text f.came.played;
       written = subst (λ (o : Option (List ℕ)). Puts before o (played_text f.came.played)) (sym told) f.told;
       report = (refl, subst (λ (ls : List Line). StopsAt (ending_from (length initial) over script) ls) (sym f.there.0.2) f.there.0.3);
+      enough = f.there.2;
+      near = tt;
       limits = f.limits;
       boards = f.there.1;
       caused = f.there.1.stopped;
     } in
-    subst (λ (s : Status). ScriptReplayed s script (ending_from (length initial) over script) initial now before after worse) (sym same) made
-stopped_ends TooMany result script ends over initial now before mid after failed later worse spread widen f done =
+    subst (λ (s : Status). ScriptReplayed s script (ending_from (length initial) over script) input at_end initial now before after reads worse) (sym same) made
+stopped_ends TooMany result script over input at_end number initial now before mid after failed later reads worse spread widen near settled f done =
     let e = many_ending over script initial f.came f.there.2 f.there.0 in
     let ready : ReadyToEnd script TooManyEvents (ending_line TooManyEvents) initial now before mid = record { came = f.came; told = f.told; boards = f.there.1; all = f.there.0; line = refl; limits = f.limits } in
-    subst (λ (x : Ending). ScriptReplayed result script x initial now before after worse) (sym e) (ended result script TooManyEvents _ initial now before mid after later worse widen ready done)
-stopped_ends (NoBoard motes boards) result script ends over initial now before mid after failed later worse spread widen f done =
-    let same : boards ≡ length initial = f.there.0.0 in
-    let short : length initial < motes = subst (λ (n : ℕ). n < motes) same f.there.0.1 in
-    let e : ending_from (length initial) over script ≡ NoBoards motes boards =
-    board_ending over script initial motes f.came.done f.there.1.0 short f.there.3 (ap (λ (ls : List Line). f.came.done ++ ls) (sym f.there.1.1) ∙ f.came.lines) ∙ ap (λ (n : ℕ). NoBoards motes n) (sym same) in
+    subst (λ (x : Ending). ScriptReplayed result script x input at_end initial now before after reads worse) (sym e)
+    (ended result script TooManyEvents _ input at_end initial now before mid after later reads worse widen ready settled f.there.3 (λ text. tt) done)
+stopped_ends (NoBoard motes boards) result script over input at_end number initial now before mid after failed later reads worse spread widen near settled f done =
+    let e = stop_ending (NoBoard motes boards) over script (λ c. at_end ⊎ DoneIsWhole input c.done c.rest c.begun) (λ c. at_end ⊎ NextIsWhole input c.done c.rest) number initial now before mid failed f in
     let ready : ReadyToEnd script (NoBoards motes boards) (ending_line (NoBoards motes boards)) initial now before mid = record { came = f.came; told = f.told; boards = f.there.2; all = f.there.1; line = refl; limits = f.limits } in
-    subst (λ (x : Ending). ScriptReplayed result script x initial now before after worse) (sym e) (ended result script (NoBoards motes boards) _ initial now before mid after later worse widen ready done)
-stopped_ends NoImage result script ends over initial now before mid after failed later worse spread widen never done = absurd never
+    subst (λ (x : Ending). ScriptReplayed result script x input at_end initial now before after reads worse) (sym e)
+    (ended result script (NoBoards motes boards) _ input at_end initial now before mid after later reads worse widen ready settled f.there.4 (λ text. tt) done)
+stopped_ends NoImage result script over input at_end number initial now before mid after failed later reads worse spread widen near settled f done = absurd f
 
 -- a script all of whose lines were played
 lines_done : (ends : Bool) (script : Script) (n : ℕ) (p : Player) (initial now : List Device) (before mid : Option (List ℕ)) → (r : Reached ends script [] n p initial now before mid) → r.done ++ [] ≡ script.lines
@@ -258,53 +310,62 @@ came_to ends script n p initial now before mid last r is =
       run = subst (λ (o : Option World). RunsTo (beginning_of r.done).world r.played o) is r.run;
     }
 
-bounds_done : (ends : Bool) (script : Script) (n : ℕ) (p : Player) (initial now : List Device) (before mid : Option (List ℕ)) → (r : Reached ends script [] n p initial now before mid) → InBounds (length initial) r.done (map item_played r.played)
+pub bounds_done : (ends : Bool) (script : Script) (n : ℕ) (p : Player) (initial now : List Device) (before mid : Option (List ℕ)) → (r : Reached ends script [] n p initial now before mid) → InBounds (length initial) r.done (map item_played r.played)
 bounds_done ends script n p initial now before mid r = record { boards_enough = r.boards_enough; few_events = subst (λ (xs : List Item). events_among xs ≤ most_events) (sym r.items) r.few }
 
 -- the last line of a report is to be written
-ready_done : (ends : Bool) (script : Script) (e : Ending) (n : ℕ) (p : Player) (initial now : List Device) (before mid : Option (List ℕ)) → (r : Reached ends script [] n p initial now before mid) → ((c : Progress script) → c.rest ≡ [] → ReachesEnding e c)
+abbrev ready_done : (ends : Bool) (script : Script) (e : Ending) (n : ℕ) (p : Player) (initial now : List Device) (before mid : Option (List ℕ)) → (r : Reached ends script [] n p initial now before mid) → ((c : Progress script) → c.rest ≡ [] → ReachesEnding e c)
     → ((w : Option World) → closing e w ≡ ending_line e) → ReadyToEnd script e (ending_line e) initial now before mid
 ready_done ends script e n p initial now before mid r all closes =
     let came = came_to ends script n p initial now before mid r.last r refl in
     record { came = came; told = r.told; boards = r.stood.boards; all = all came refl; line = closes r.last; limits = bounds_done ends script n p initial now before mid r }
 
+-- nothing stands behind the last line
+nothing_near : (n : ℕ) (input : List ℕ) → behind_lines n input ≡ [] → IsNear n input
+nothing_near n input e = omega (arith, ap length e)
+
 -- an input that is too long
-over_ends : (result : Status) (script : Script) (n : ℕ) (p : Player) (initial now : List Device) (before mid after : Option (List ℕ)) (failed worse : Type 0) → (failed → worse)
-    → Reached false script [] n p initial now before mid → EndsWith result status.TooLong (ending_line Over) mid after failed → ScriptReplayed result script (ending_from (length initial) true script) initial now before after worse
-over_ends result script n p initial now before mid after failed worse spread r done =
+pub over_ends : (result : Status) (script : Script) (input : List ℕ) (at_end : Type 0) (n : ℕ) (p : Player) (initial now : List Device) (before mid after : Option (List ℕ)) (failed reads worse : Type 0) → (failed → worse)
+    → IsSettled (length initial) input → ((c : Progress script) → DoneIsWhole input c.done c.rest c.begun)
+    → Reached false script [] n p initial now before mid → EndsWith result status.TooLong (ending_line Over) mid after failed → ScriptReplayed result script (ending_from (length initial) true script) input at_end initial now before after reads worse
+over_ends result script input at_end n p initial now before mid after failed reads worse spread settled whole r done =
     let e : ending_from (length initial) true script ≡ Over =
     few_ending true script initial (few_done false script n p initial now before mid r) ∙ ap (λ (f : Option (ℕ × LineFault)). by_fault true f) (sym (fault_done false script n p initial now before mid r)) in
     let ready = ready_done false script Over n p initial now before mid r (λ c none. none) (λ w. refl) in
-    subst (λ (x : Ending). ScriptReplayed result script x initial now before after worse) (sym e) (ended result script Over _ initial now before mid after failed worse spread ready done)
+    subst (λ (x : Ending). ScriptReplayed result script x input at_end initial now before after reads worse) (sym e)
+    (ended result script Over _ input at_end initial now before mid after failed reads worse spread ready (inr settled) (inr (whole ready.came)) (λ text. tt) done)
 
 -- a script that ends before its second line, or behind a cut
-pub short_ends : (result : Status) (script : Script) (n : ℕ) (fault : LineFault) (p : Player) (initial now : List Device) (before mid after : Option (List ℕ)) (failed worse : Type 0) → (failed → worse) → fault_at_end p.place ≡ Some fault
-    → Reached true script [] n p initial now before mid → EndsWith result status.BadInput (ending_line (FaultAt n fault)) mid after failed → ScriptReplayed result script (ending_from (length initial) false script) initial now before after worse
-short_ends result script n fault p initial now before mid after failed worse spread early r done =
+pub short_ends : (result : Status) (script : Script) (input : List ℕ) (n : ℕ) (fault : LineFault) (p : Player) (initial now : List Device) (before mid after : Option (List ℕ)) (failed reads worse : Type 0) → (failed → worse) → fault_at_end p.place ≡ Some fault → behind_lines n input ≡ []
+    → Reached true script [] n p initial now before mid → EndsWith result status.BadInput (ending_line (FaultAt n fault)) mid after failed → ScriptReplayed result script (ending_from (length initial) false script) input ⊤ initial now before after reads worse
+short_ends result script input n fault p initial now before mid after failed reads worse spread early behind r done =
     let is : script.fault ≡ Some (n, fault) = sym (fault_done true script n p initial now before mid r) ∙ ap (λ (o : Option LineFault). numbered n o) early in
     let e = fault_ending false script initial n fault (few_done true script n p initial now before mid r) is in
     let ready = ready_done true script (FaultAt n fault) n p initial now before mid r (λ c none. none) (λ w. refl) in
-    subst (λ (x : Ending). ScriptReplayed result script x initial now before after worse) (sym e) (ended result script (FaultAt n fault) _ initial now before mid after failed worse spread ready done)
+    subst (λ (x : Ending). ScriptReplayed result script x input ⊤ initial now before after reads worse) (sym e)
+    (ended result script (FaultAt n fault) _ input ⊤ initial now before mid after failed reads worse spread ready (inl tt) (inl tt) (λ text. nothing_near n input behind) done)
 
 -- a player that is behind the second line has a world
-finish_as : (result : Status) (script : Script) (w : World) (n : ℕ) (p : Player) (initial now new : List Device) (before mid after : Option (List ℕ)) (failed worse : Type 0) → (failed → worse)
-    → (r : Reached true script [] n p initial now before mid) → r.last ≡ Some w → motes_in r.done ≡ length w.sites → FinishesWith result w initial new mid after failed → ScriptReplayed result script Ends initial new before after worse
-finish_as result script w n p initial now new before mid after failed worse spread r is count (inl (ends, boards)) =
+finish_as : (result : Status) (script : Script) (input : List ℕ) (w : World) (n : ℕ) (p : Player) (initial now new : List Device) (before mid after : Option (List ℕ)) (failed reads worse : Type 0) → (failed → worse)
+    → (r : Reached true script [] n p initial now before mid) → r.last ≡ Some w → motes_in r.done ≡ length w.sites → FinishesWith result w initial new mid after failed → ScriptReplayed result script Ends input ⊤ initial new before after reads worse
+finish_as result script input w n p initial now new before mid after failed reads worse spread r is count (inl (ends, boards)) =
     let came = came_to true script n p initial now before mid (Some w) r is in
-    ended result script Ends (report_text (final_lines w)) initial new before mid after failed worse spread
-    (record { came = came; told = r.told; boards = boards; all = refl; line = refl; limits = bounds_done true script n p initial now before mid r }) ends
-finish_as result script w n p initial now new before mid after failed worse spread r is count (inr (same, stopped, kept)) =
+    ended result script Ends (report_text (final_lines w)) input ⊤ initial new before mid after failed reads worse spread
+    (record { came = came; told = r.told; boards = boards; all = refl; line = refl; limits = bounds_done true script n p initial now before mid r }) (inl tt) (inl tt) (λ text. tt) ends
+finish_as result script input w n p initial now new before mid after failed reads worse spread r is count (inr (same, stopped, kept)) =
     let there : StoppedIn (motes_in r.done) [] [] (Some w) initial new = stopped (motes_in r.done) count in
-    let made : ScriptReplayed status.FlashFault script Ends initial new before after worse = record {
+    let made : ScriptReplayed status.FlashFault script Ends input ⊤ initial new before after reads worse = record {
       came = came_to true script n p initial now before mid (Some w) r is;
       text = played_text r.played;
       written = subst (λ (o : Option (List ℕ)). Puts before o (played_text r.played)) (sym kept) r.told;
       report = (refl, refl);
+      enough = inl tt;
+      near = tt;
       limits = bounds_done true script n p initial now before mid r;
       boards = there;
       caused = there.stopped;
     } in
-    subst (λ (s : Status). ScriptReplayed s script Ends initial new before after worse) (sym same) made
+    subst (λ (s : Status). ScriptReplayed s script Ends input ⊤ initial new before after reads worse) (sym same) made
 
 kept_world : (p : Player) (v : KeptWorld) (last : Option World) (initial now : List Device) → p.world ≡ Some v → InWorld p last now → BoardsStand last initial now → (w : World) × (last ≡ Some w) × IsWorld v now w × WorldStands w initial now × (length w.sites ≡ p.place.motes)
 kept_world p v None initial now is kept stands = absurd (let e : Some v ≡ None = sym is ∙ kept.0 in cc)
@@ -314,107 +375,41 @@ kept_world p v (Some w) initial now is kept stands = (w, refl, subst (λ (x : Ke
     same_kept a b e = cc
 
 -- a script that ended
-pub script_ends : (result : Status) (script : Script) (n : ℕ) (p : Player) (v : KeptWorld) (initial now new : List Device) (before mid after : Option (List ℕ)) (failed worse : Type 0) → (failed → worse) → fault_at_end p.place ≡ None → p.world ≡ Some v
+pub script_ends : (result : Status) (script : Script) (input : List ℕ) (n : ℕ) (p : Player) (v : KeptWorld) (initial now new : List Device) (before mid after : Option (List ℕ)) (failed reads worse : Type 0) → (failed → worse) → fault_at_end p.place ≡ None → p.world ≡ Some v
     → (r : Reached true script [] n p initial now before mid) → ((w : World) → IsWorld v now w → WorldStands w initial now → FinishesWith result w initial new mid after failed)
-    → ScriptReplayed result script (ending_from (length initial) false script) initial new before after worse
-script_ends result script n p v initial now new before mid after failed worse spread none has r finishes =
+    → ScriptReplayed result script (ending_from (length initial) false script) input ⊤ initial new before after reads worse
+script_ends result script input n p v initial now new before mid after failed reads worse spread none has r finishes =
     let world = kept_world p v r.last initial now has r.stood.world r.stood.boards in
     let w = world.0 in
     let fault : script.fault ≡ None = sym (fault_done true script n p initial now before mid r) ∙ ap (λ (o : Option LineFault). numbered n o) none in
     let e : ending_from (length initial) false script ≡ Ends =
     few_ending false script initial (few_done true script n p initial now before mid r) ∙ ap (λ (f : Option (ℕ × LineFault)). by_fault false f) fault in
-    subst (λ (x : Ending). ScriptReplayed result script x initial new before after worse) (sym e)
-    (finish_as result script w n p initial now new before mid after failed worse spread r world.1 (sym r.stood.motes ∙ sym world.4) (finishes w world.2 world.3))
+    subst (λ (x : Ending). ScriptReplayed result script x input ⊤ initial new before after reads worse) (sym e)
+    (finish_as result script input w n p initial now new before mid after failed reads worse spread r world.1 (sym r.stood.motes ∙ sym world.4) (finishes w world.2 world.3))
 
--- the bytes up to the last LF
-front_cell : (c : ℕ) (xs : List ℕ) → up_to c (xs ++ 10 ∷ []) ≡ c ∷ xs ++ 10 ∷ []
-front_cell c [] = refl
-front_cell c (x ∷ xs) = refl
+-- ---- the bytes that are used
 
-whole_lines-ended : (xs : List ℕ) (c : ℕ) → c ≡ 10 → whole_lines (xs ++ c ∷ []) ≡ xs ++ c ∷ []
-unfolding whole_lines
-whole_lines-ended [] c e = subst (λ (x : ℕ). up_to x [] ≡ x ∷ []) (sym e) refl
-whole_lines-ended (x ∷ xs) c e =
-    ap (up_to x) (whole_lines-ended xs c e) ∙ subst (λ (y : ℕ). up_to x (xs ++ y ∷ []) ≡ x ∷ xs ++ y ∷ []) (sym e) (front_cell x xs)
-
-whole_lines-other : (xs : List ℕ) (c : ℕ) → c ≢ 10 → whole_lines (xs ++ c ∷ []) ≡ whole_lines xs
-unfolding whole_lines
-whole_lines-other [] c other =
-    let test : (c == 10) ≡ false = grind (arith, nat_tests) in
-    ap (λ (b : Bool). if b then c ∷ [] else []) test
-whole_lines-other (x ∷ xs) c other = ap (up_to x) (whole_lines-other xs c other)
-
--- one byte from the end
-pub whole_front : (xs : List ℕ) (n : ℕ) → 0 < n → n ≤ length xs → get_or xs (n - 1) 0 ≢ 10 → whole_lines (take n xs) ≡ whole_lines (take (n - 1) xs)
-whole_front xs n some within other =
-    let place : n - 1 + 1 ≡ n = omega arith in
-    let below : n - 1 < length xs = omega arith in
-    ap (λ k. whole_lines (take k xs)) (sym place) ∙ ap whole_lines (take_more xs (n - 1) 0 below) ∙ whole_lines-other (take (n - 1) xs) (get_or xs (n - 1) 0) other
-
-pub whole_here : (xs : List ℕ) (n : ℕ) → 0 < n → n ≤ length xs → get_or xs (n - 1) 0 ≡ 10 → whole_lines (take n xs) ≡ take n xs
-whole_here xs n some within here =
-    let place : n - 1 + 1 ≡ n = omega arith in
-    let below : n - 1 < length xs = omega arith in
-    let cells : take n xs ≡ take (n - 1) xs ++ get_or xs (n - 1) 0 ∷ [] = ap (λ k. take k xs) (sym place) ∙ take_more xs (n - 1) 0 below in
-    ap whole_lines cells ∙ whole_lines-ended (take (n - 1) xs) (get_or xs (n - 1) 0) here ∙ sym cells
-
-pub whole_none : whole_lines [] ≡ []
-unfolding whole_lines
-whole_none = refl
-
-over_not : (text : List ℕ) → length text ≤ most_used_bytes → is_over text ≡ false
+pub over_not : (text : List ℕ) → length text ≤ most_used_bytes → is_over text ≡ false
 over_not text h = below_is_false most_used_bytes (length text) h
-
--- the bytes that are used of an input
-pub used_all : (text : List ℕ) → length text ≤ most_used_bytes → take (length text) text ≡ used text
-used_all text h = take-length text ∙ ap (λ (b : Bool). if b then whole_lines (take most_used_bytes text) else text) (sym (over_not text h))
-
-pub taken_length : (n : ℕ) (xs : List ℕ) → n ≤ length xs → n ≡ length (take n xs)
-taken_length n xs h = omega (arith, length-take n xs, h)
-
-used_front_of : (k : ℕ) (text : List ℕ) (n : ℕ) → k < length text → n ≤ length (take k text) → take n (take k text) ≡ whole_lines (take k text) → take n text ≡ whole_lines (take k text)
-used_front_of k text n more within whole = sym (take-take n k text (omega (arith, length-take k text, within))) ∙ whole
-
-pub used_front : (text : List ℕ) (n : ℕ) → most_used_bytes < length text → n ≤ length (take most_used_bytes text) → take n (take most_used_bytes text) ≡ whole_lines (take most_used_bytes text) → take n text ≡ used text
-used_front text n more within whole = used_front_of most_used_bytes text n more within whole ∙ ap (λ (b : Bool). if b then whole_lines (take most_used_bytes text) else text) (sym (over_is most_used_bytes (length text) more))
 
 pub is_over-true : (text : List ℕ) → most_used_bytes < length text → is_over text ≡ true
 is_over-true text more = over_is most_used_bytes (length text) more
+
+-- the script of an input that is not too long
+pub script_all : (input : List ℕ) → length input ≤ most_used_bytes → script_of input ≡ script_from true first_place 1 (lines input)
+unfolding script_of
+script_all input few = ap (λ (b : Bool). script_from (not b) first_place 1 (lines (if b then whole_lines (take most_used_bytes input) else input))) (over_not input few)
+
+-- and of one that is, where these bytes are used
+pub script_over : (input front : List ℕ) → most_used_bytes < length input → used input ≡ front → script_of input ≡ script_from false first_place 1 (lines front)
+unfolding script_of
+script_over input front more is = ap (λ (xs : List ℕ). script_from (not (is_over input)) first_place 1 (lines xs)) is ∙ ap (λ (b : Bool). script_from (not b) first_place 1 (lines front)) (is_over-true input more)
 
 below_true : (n m : ℕ) → nat_lt n m ≡ true → n < m
 below_true n m e = grind (arith, nat_tests)
 
 pub over_more : (input : List ℕ) → is_over input ≡ true → most_used_bytes < length input
 over_more input over = below_true most_used_bytes (length input) over
-
--- an input that is known to be too long, and one that is known not to be
-pub at_over : (result : Status) (script : Script) (over : Bool) (n : ℕ) (p : Player) (initial now : List Device) (before mid after : Option (List ℕ)) (failed worse : Type 0) → over ≡ true → (failed → worse)
-    → Reached (not over) script [] n p initial now before mid → EndsWith result status.TooLong (ending_line Over) mid after failed → ScriptReplayed result script (ending_from (length initial) over script) initial now before after worse
-at_over result script over n p initial now before mid after failed worse is spread r done =
-    let P : Bool → Type 0 = λ b. Reached (not b) script [] n p initial now before mid → ScriptReplayed result script (ending_from (length initial) b script) initial now before after worse in
-    subst P (sym is) (λ s. over_ends result script n p initial now before mid after failed worse spread s done) r
-
-pub at_ended : (result : Status) (script : Script) (over : Bool) (n : ℕ) (p : Player) (initial now new : List Device) (before mid after : Option (List ℕ)) (worse : Type 0) → over ≡ false
-    → Reached (not over) script [] n p initial now before mid → (Reached true script [] n p initial now before mid → ScriptReplayed result script (ending_from (length initial) false script) initial new before after worse)
-    → ScriptReplayed result script (ending_from (length initial) over script) initial new before after worse
-at_ended result script over n p initial now new before mid after worse is r ends =
-    let P : Bool → Type 0 = λ b. Reached (not b) script [] n p initial now before mid → ScriptReplayed result script (ending_from (length initial) b script) initial new before after worse in
-    subst P (sym is) ends r
-
-script_used : (text cells : List ℕ) (over : Bool) → over ≡ is_over text → cells ≡ used text → script_from (not over) first_place 1 (lines cells) ≡ script_of text
-unfolding script_of
-script_used text cells over is same = ap (λ (b : Bool). script_from (not b) first_place 1 (lines cells)) is ∙ ap (λ (xs : List ℕ). script_from (not (is_over text)) first_place 1 (lines xs)) same
-
--- what was played of the bytes that are used is what was played of the input
-pub replayed_as : (result : Status) (text cells : List ℕ) (over : Bool) (n m : ℕ) (initial now : List Device) (before after : Option (List ℕ)) (worse : Type 0) → over ≡ is_over text → cells ≡ used text → n ≡ m
-    → ScriptReplayed result (script_from (not over) first_place 1 (lines cells)) (ending_from n over (script_from (not over) first_place 1 (lines cells))) initial now before after worse
-    → ScriptReplayed result (script_of text) (ending_of m text) initial now before after worse
-replayed_as result text cells over n m initial now before after worse is same count r =
-    let script = script_used text cells over is same in
-    let by_script : Script → Type 0 = λ s. ScriptReplayed result s (ending_from n over s) initial now before after worse in
-    let by_over : Bool → Type 0 = λ b. ScriptReplayed result (script_of text) (ending_from n b (script_of text)) initial now before after worse in
-    let by_count : ℕ → Type 0 = λ k. ScriptReplayed result (script_of text) (ending_from k (is_over text) (script_of text)) initial now before after worse in
-    subst by_count count (subst by_over is (subst by_script script r))
 
 -- an input in its grammar and limits is played to its end
 pub in_limits : (n : ℕ) (input : List ℕ) → InLimits n input → ending_of n input ≡ Ends

@@ -140,7 +140,7 @@ texts_begin ends place n (text ∷ texts) more =
     (λ line. texts_begin ends (place_after place line) (n + 1) texts more)
 
 -- the script of an input whose first texts are these
-script_begins : (input : List ℕ) (texts rest : List (List ℕ)) → lines (used input) ≡ texts ++ rest → script_of input ≡ script_from (not (is_over input)) first_place 1 (texts ++ rest)
+pub script_begins : (input : List ℕ) (texts rest : List (List ℕ)) → lines (used input) ≡ texts ++ rest → script_of input ≡ script_from (not (is_over input)) first_place 1 (texts ++ rest)
 unfolding script_of
 script_begins input texts rest are = ap (λ (ls : List (List ℕ)). script_from (not (is_over input)) first_place 1 ls) are
 

@@ -10,6 +10,7 @@ pub mod ReplayLemmas
 pub mod FinishLemmas
 pub mod GoldenLemmas
 pub mod ConsistentLemmas
+pub mod NearLemmas
 pub mod EndLemmas
 pub mod TakenLemmas
 pub mod WholeLemmas
@@ -17,4 +18,6 @@ pub mod FrontLemmas
 pub mod LiftLemmas
 pub mod LineByLine
 pub mod UsedLemmas
+pub mod FollowingLemmas
+pub mod InputLemmas
 pub mod RunLemmas

@@ -1,22 +1,25 @@
 -- What was played of the whole lines that were read is a run of the script of every input that begins with them.
-use Rattle.std.proofs.Common.{◌≡◌, ◌≢◌, inl, inr, ℕ, ◌≤◌, false, List, [], ◌∷◌, ◌++◌, length, append_assoc, refl, ap, sym, ◌∙◌, subst}
-use Rattle.std.specs.Prelude.{Option}
+use Rattle.std.proofs.Common.{◌≡◌, ◌≢◌, ◌⊎◌, inl, inr, ℕ, ◌≤◌, false, List, [], ◌∷◌, ◌++◌, length, append-nil, append_assoc, refl, ap, sym, ◌∙◌, subst}
+use Rattle.std.specs.Prelude.{Option, Some, None}
 use Rattle.std.specs.Str.Lines.{lines}
 use Rattle.dg_base.specs.declared.answers.Status.TheVariants as status
 use Rattle.dg_nor.specs.Device.{Device}
 use Rattle.dg_rules.specs.World.{World}
 use Rattle.dg_script.specs.Sizes.{most_used_bytes}
-use Rattle.dg_script.specs.Fitting.{UsesBoard}
-use Rattle.dg_script.specs.Items.{Item}
+use Rattle.dg_rules.specs.Runs.{Played}
+use Rattle.dg_script.specs.Items.{Item, Happens as Happened}
 use Rattle.dg_script.specs.Places.{first_place}
 use Rattle.dg_script.specs.Script.{Script, script_from}
+use Rattle.dg_script.specs.declared.fault.LineFault.{LineFault}
 use Rattle.dg_script.specs.declared.line.Line.{Line}
 use Rattle.dg_replay.specs.Boards.{BoardsStand, StoppedIn}
-use Rattle.dg_replay.specs.Items.{motes_in, next_items}
+use Rattle.dg_replay.specs.Items.{motes_in, lacking, next_items}
 use Rattle.dg_replay.specs.Ending.{script_of}
 use Rattle.dg_replay.specs.Fronts.{IsFront, BeginsAs}
-use Rattle.dg_replay.specs.Outcome.{Progress, BoardStoppedThere, BoardsLeft, AreWhole, NextIsWhole, DoneIsWhole}
-use Rattle.dg_replay.specs.Replaying.{PlayedFront, PlayedUpTo}
+use Rattle.dg_replay.specs.Outcome.{Progress, EventNext, AtTooMany, BoardsLeft, AreWhole, NextIsWhole, DoneIsWhole}
+use Rattle.dg_replay.specs.Replaying.{PlayedUpTo, HasFew, ToldBefore, StopsThere, StopsIn}
+use Rattle.dg_replay.specs.declared.stop.Stop.{Stop}
+use Rattle.dg_replay.specs.declared.stop.Stop.TheVariants.{Memory, BadInput, WriteFault, FlashFault, TooMany, NoBoard, NoImage}
 use Rattle.dg_replay.proofs.FrontLemmas.{front_begins}
 
 -- ---- a run goes over to a longer script
@@ -58,53 +61,30 @@ stopped_on : (done rest more : List Line) (begun left : List Item) (last : Optio
 stopped_on done [] more begun left last old new e some s = absurd (some (none_begun begun left e))
 stopped_on done (line ∷ rest) more begun left last old new e some s = record { stopped = s.stopped; there = s.there }
 
--- memory ran out
-pub lifted_front : (first script : Script) (initial now : List Device) (before after : Option (List ℕ)) → BeginsAs first script → PlayedFront first initial before after (λ c. BoardsStand c.last initial now) → PlayedFront script initial before after (λ c. BoardsStand c.last initial now)
-lifted_front first script initial now before after b f = record { came = lifted b f.came; text = f.text; more = f.more; told = f.told; whole = f.whole; limits = f.limits; there = f.there }
+left_there : {first script : Script} (b : BeginsAs first script) (c : Progress first) (initial now : List Device) → BoardsLeft status.WriteFault c initial now → BoardsLeft status.WriteFault (lifted b c) initial now
+left_there b c initial now (inl stand) = inl stand
+left_there b c initial now (inr (some, stop)) = inr (some, stopped_on c.done c.rest b.rest c.begun c.left c.last initial now c.parts some stop)
 
--- a write failed
-pub lifted_cut : (first script : Script) (initial now : List Device) (before after : Option (List ℕ)) → BeginsAs first script → PlayedFront first initial before after (λ c. BoardsLeft status.WriteFault c initial now) → PlayedFront script initial before after (λ c. BoardsLeft status.WriteFault c initial now)
-lifted_cut first script initial now before after b f = record {
-  came = lifted b f.came;
-  text = f.text;
-  more = f.more;
-  told = f.told;
-  whole = f.whole;
-  limits = f.limits;
-  there = left_there f.there;
-}
-  where
-    left_there : BoardsLeft status.WriteFault f.came initial now → BoardsLeft status.WriteFault (lifted b f.came) initial now
-    left_there (inl stand) = inl stand
-    left_there (inr (some, stop)) = inr (some, stopped_on f.came.done f.came.rest b.rest f.came.begun f.came.left f.came.last initial now f.came.parts some stop)
+told_there : {first script : Script} (b : BeginsAs first script) (c : Progress first) (line : ℕ) (text : List ℕ) → ToldBefore line c text → ToldBefore line (lifted b c) text
+told_there b c line text t = record { lines = t.lines; behind = t.behind; more = t.more; told = t.told }
 
--- a board stopped
-abbrev StoppedAtLine : {script : Script} → Progress script → (initial now : List Device) → Type 0
-StoppedAtLine c initial now = ((line : Line) × (more : List Line) × (c.rest ≡ line ∷ more) × UsesBoard line) × BoardStoppedThere c initial now
+no_items : {A : Type 0} (xs ys : List Item) → EventNext ys → [] ≡ xs ++ ys → A
+no_items [] ys e none = absurd (let f : [] ≡ Happened e.step e.loud ∷ e.more = none ∙ e.is in cc)
+no_items (x ∷ xs) ys e none = absurd (cc)
+
+many_on : (done rest more : List Line) (begun left : List Item) (played : List Played) → next_items done rest ≡ begun ++ left → AtTooMany left played → AtTooMany (left_of done rest more left) played
+many_on done [] more begun left played e at = no_items begun left at.next e
+many_on done (line ∷ rest) more begun left played e at = at
 
 stopped_line : (done rest more : List Line) (left : List Item) (last : Option World) (old new : List Device) (line : Line) (behind : List Line) → rest ≡ line ∷ behind → StoppedIn (motes_in done) rest left last old new
     → StoppedIn (motes_in done) (rest ++ more) (left_of done rest more left) last old new
 stopped_line done [] more left last old new line behind e s = absurd (let f : [] ≡ line ∷ behind = e in cc)
 stopped_line done (l ∷ rest) more left last old new line behind e s = record { stopped = s.stopped; there = s.there }
 
-pub lifted_stop : (first script : Script) (initial now : List Device) (before after : Option (List ℕ)) → BeginsAs first script → PlayedUpTo first initial before after (λ c. StoppedAtLine c initial now) → PlayedUpTo script initial before after (λ c. StoppedAtLine c initial now)
-lifted_stop first script initial now before after b f =
-    let c = f.came in
-    let at = f.there.0 in
-    record {
-      came = lifted b c;
-      told = f.told;
-      limits = f.limits;
-      there = (
-        (at.0, at.1 ++ b.rest, ap (λ (ls : List Line). ls ++ b.rest) at.2, at.3),
-        stopped_line c.done c.rest b.rest c.left c.last initial now at.0 at.1 at.2 f.there.1,
-      );
-    }
-
 -- ---- its lines are whole
 
 module _ (front ahead : List ℕ) (is : IsFront front) (few : length front ≤ most_used_bytes) where
-  begins : (more : List ℕ) → BeginsAs (script_from false first_place 1 (lines front)) (script_of ((front ++ ahead) ++ more))
+  pub begins : (more : List ℕ) → BeginsAs (script_from false first_place 1 (lines front)) (script_of ((front ++ ahead) ++ more))
   begins more = subst (λ (xs : List ℕ). BeginsAs (script_from false first_place 1 (lines front)) (script_of xs)) (sym (append_assoc front ahead more)) (front_begins front (ahead ++ more) is few)
 
   -- some of the lines of whole lines are whole
@@ -132,3 +112,73 @@ module _ (front ahead : List ℕ) (is : IsFront front) (few : length front ≤ m
   -- and one that was begun
   pub done_whole : (c : Progress (script_from false first_place 1 (lines front))) (more : List Line) → DoneIsWhole (front ++ ahead) c.done (c.rest ++ more) c.begun
   done_whole c more = done_of c.done c.rest more c.begun c.left c.parts c.lines
+
+  -- the script of these bytes
+  begins_here : BeginsAs (script_from false first_place 1 (lines front)) (script_of (front ++ ahead))
+  begins_here = front_begins front ahead is few
+
+  -- A stop at the last line of whole lines is one in every script that begins with them, and the bytes are enough for it.
+  module _ (at_end : Type 0) (number : ℕ) (initial now : List Device) (before after : Option (List ℕ)) (failed : Type 0) where
+    fault_here : (line : ℕ) (fault : LineFault) → StopsThere (BadInput line fault) (script_from false first_place 1 (lines front)) number initial now before after failed
+        → StopsIn (BadInput line fault) (script_of (front ++ ahead)) (front ++ ahead) at_end number initial now before after failed
+    fault_here line fault (same, f) =
+        let first : Script = script_from false first_place 1 (lines front) in
+        let input : List ℕ = front ++ ahead in
+        let Q : (s : Script) → Progress s → Type 0 = λ s c. (c.rest ≡ []) × (s.fault ≡ Some (line, fault)) × BoardsStand c.last initial now × HasFew s initial × (at_end ⊎ DoneIsWhole input c.done c.rest c.begun) in
+        let P : Script → Type 0 = λ s. PlayedUpTo s initial before after (Q s) in
+        let c = f.came in
+        let all : DoneIsWhole input c.done c.rest c.begun = subst (λ (r : List Line). DoneIsWhole input c.done r c.begun) (append-nil c.rest) (done_whole c []) in
+        let made : P first = record { came = c; told = f.told; limits = f.limits; there = (f.there.0, f.there.1, f.there.2, f.there.3, inr all) } in
+        (same, subst P (sym (begins_here.fault (line, fault) f.there.1)) made)
+
+    pub stops_here : (stop : Stop) → StopsThere stop (script_from false first_place 1 (lines front)) number initial now before after failed
+        → (stop ≡ TooMany → lacking (length initial) (script_of (front ++ ahead)).lines ≡ None)
+        → StopsIn stop (script_of (front ++ ahead)) (front ++ ahead) at_end number initial now before after failed
+    stops_here Memory f enough =
+        record { came = lifted begins_here f.came; text = f.text; more = f.more; told = f.told; whole = f.whole; limits = f.limits; there = (f.there.0, inr (done_whole f.came begins_here.rest)) }
+    stops_here (BadInput line fault) f enough = fault_here line fault f
+    stops_here WriteFault (rose, f) enough = (
+      rose,
+      record {
+        came = lifted begins_here f.came;
+        text = f.text;
+        more = f.more;
+        told = f.told;
+        whole = f.whole;
+        limits = f.limits;
+        there = (left_there begins_here f.came initial now f.there.0, told_there begins_here f.came number f.text f.there.1, inr (done_whole f.came begins_here.rest));
+      },
+    )
+    stops_here FlashFault f enough =
+        let c = f.came in
+        let b = begins_here in
+        let at = f.there.0 in
+        record {
+          came = lifted b c;
+          told = f.told;
+          limits = f.limits;
+          there = (
+            (at.0, at.1 ++ b.rest, ap (λ (ls : List Line). ls ++ b.rest) at.2, at.3),
+            stopped_line c.done c.rest b.rest c.left c.last initial now at.0 at.1 at.2 f.there.1,
+            inr (next_whole c b.rest at.0 at.1 at.2),
+          );
+        }
+    stops_here TooMany f enough =
+        let c = f.came in
+        let b = begins_here in
+        record {
+          came = lifted b c;
+          told = f.told;
+          limits = f.limits;
+          there = (many_on c.done c.rest b.rest c.begun c.left c.played c.parts f.there.0, f.there.1, enough refl, inr (done_whole c b.rest));
+        }
+    stops_here (NoBoard motes boards) f enough =
+        let c = f.came in
+        let b = begins_here in
+        record {
+          came = lifted b c;
+          told = f.told;
+          limits = f.limits;
+          there = (f.there.0, (f.there.1.0 ++ b.rest, ap (λ (ls : List Line). ls ++ b.rest) f.there.1.1), f.there.2, f.there.3, inr (done_whole c b.rest));
+        }
+    stops_here NoImage f enough = absurd f

@@ -12,21 +12,24 @@ use Rattle.dg_script.specs.Script.{Script, script_from}
 use Rattle.dg_script.specs.declared.line.Line.{Line}
 use Rattle.dg_replay.specs.Fronts.{IsFront}
 use Rattle.dg_replay.specs.Playing.{Stood}
-use Rattle.dg_replay.specs.Replaying.{TextTold, TextAnswer, Reached, LinesAnswer}
+use Rattle.dg_replay.specs.Near.{behind_line, behind_lines}
+use Rattle.dg_replay.specs.Replaying.{TextTold, TextAnswer, Reached, StopsThere}
 use Rattle.dg_replay.specs.declared.player.Player.{Player}
 use Rattle.dg_replay.specs.declared.stop.Stop.{Stop}
 use Rattle.dg_replay.proofs.FrontLemmas.{lines_front}
 use Rattle.dg_replay.proofs.GoldenLemmas.{ImageIsFound, image_found, script_fits}
+use Rattle.dg_replay.proofs.NearLemmas.{behind_next, behind_none, behind_whole}
 use Rattle.dg_replay.proofs.ReplayLemmas.{reached_first, reached_next, stopped_at}
 
--- the lines of these bytes were played, and a line that follows would have this number
-pub record FrontPlayed (front : List ℕ) (number : ℕ) (p : Player) (initial now : List Device) (before after : Option (List ℕ)) : Type 0 where
+-- the lines of these bytes, which are so many, were played
+pub record FrontPlayed (front : List ℕ) (given : ℕ) (p : Player) (initial now : List Device) (before after : Option (List ℕ)) : Type 0 where
   pub is : IsFront front
-  pub reached : (ends : Bool) (more : List (List ℕ)) → Reached ends (script_from ends first_place 1 (lines front ++ more)) more number p initial now before after
+  pub behind : (more : List ℕ) → behind_lines given (front ++ more) ≡ more
+  pub reached : (ends : Bool) (more : List (List ℕ)) → Reached ends (script_from ends first_place 1 (lines front ++ more)) more (given + 1) p initial now before after
 
 -- nothing was read
-pub front_first : (p : Player) (initial : List Device) (before : Option (List ℕ)) → p.place ≡ first_place → p.cut ≡ None → p.world ≡ None → FrontPlayed [] 1 p initial initial before before
-front_first p initial before place cut world = record { is = inl refl; reached = λ ends more. reached_first ends more p initial before place cut world }
+pub front_first : (p : Player) (initial : List Device) (before : Option (List ℕ)) → p.place ≡ first_place → p.cut ≡ None → p.world ≡ None → FrontPlayed [] 0 p initial initial before before
+front_first p initial before place cut world = record { is = inl refl; behind = λ more. behind_none more; reached = λ ends more. reached_first ends more p initial before place cut world }
 
 not_feed : (bytes : List ℕ) → HasNoEnd bytes → All (λ b. (b == 10) ≡ false) bytes
 not_feed bytes h k d within = ne_eqb (get_or bytes k d) 10 (h k d within)
@@ -43,26 +46,39 @@ texts_next front text line more is l =
 pub front_more : (front text line : List ℕ) → IsLine text line → IsFront (front ++ line)
 front_more front text line l = inr (front ++ l.before, ap (λ (xs : List ℕ). front ++ xs) l.ended ∙ sym (append_assoc front l.before (10 ∷ [])))
 
+pub behind_more : (front text line : List ℕ) (given : ℕ) → ((more : List ℕ) → behind_lines given (front ++ more) ≡ more) → IsLine text line → (more : List ℕ) → behind_lines (given + 1) ((front ++ line) ++ more) ≡ more
+behind_more front text line given behind l more =
+    behind_next given ((front ++ line) ++ more) ∙ ap behind_line (ap (behind_lines given) (append_assoc front line more) ∙ behind (line ++ more)) ∙ behind_whole text line more l
+
 -- one more line was played, and what is told of it was written
-pub front_next : (front text line : List ℕ) (n : ℕ) (p q : Player) (initial old now : List Device) (before mid after : Option (List ℕ)) → FrontPlayed front n p initial old before mid → IsLine text line
-    → ((done : List Line) (w : Option World) → Stood p done w initial old → TextTold text p q done w initial now mid after) → FrontPlayed (front ++ line) (n + 1) q initial now before after
-front_next front text line n p q initial old now before mid after f l told = record {
+pub front_next : (front text line : List ℕ) (given : ℕ) (p q : Player) (initial old now : List Device) (before mid after : Option (List ℕ)) → FrontPlayed front given p initial old before mid → IsLine text line
+    → ((done : List Line) (w : Option World) → Stood p done w initial old → TextTold text p q done w initial now mid after) → FrontPlayed (front ++ line) (given + 1) q initial now before after
+front_next front text line given p q initial old now before mid after f l told = record {
   is = front_more front text line l;
+  behind = behind_more front text line given f.behind l;
   reached = λ ends more.
       let r = f.reached ends (text ∷ more) in
-      subst (λ (ts : List (List ℕ)). Reached ends (script_from ends first_place 1 ts) more (n + 1) q initial now before after) (sym (texts_next front text line more f.is l))
-      (reached_next ends (script_from ends first_place 1 (lines front ++ text ∷ more)) more text n p q initial old now before mid after r (told r.done r.last r.stood));
+      subst (λ (ts : List (List ℕ)). Reached ends (script_from ends first_place 1 ts) more (given + 1 + 1) q initial now before after) (sym (texts_next front text line more f.is l))
+      (reached_next ends (script_from ends first_place 1 (lines front ++ text ∷ more)) more text (given + 1) p q initial old now before mid after r (told r.done r.last r.stood));
 }
 
--- the replay stopped at one more line, whatever lines follow
-pub front_stopped : (law : ImageIsFound) (stop : Stop) (front text line : List ℕ) (n : ℕ) (p q : Player) (initial old now : List Device) (before mid after : Option (List ℕ)) (failed worse : Type 0) → (failed → worse)
-    → FrontPlayed front n p initial old before mid → IsLine text line
-    → ((done : List Line) (w : Option World) → Stood p done w initial old → TextAnswer (Err stop) text n p q done w initial old now mid after failed)
-    → (ends : Bool) (more : List (List ℕ)) → LinesAnswer (Err stop) ends (script_from ends first_place 1 (lines (front ++ line) ++ more)) initial now before after worse
-front_stopped law stop front text line n p q initial old now before mid after failed worse spread f l answer ends more =
+-- the replay stopped at the text that follows, whatever texts follow that
+pub text_stopped : (law : ImageIsFound) (stop : Stop) (front text : List ℕ) (given : ℕ) (p q : Player) (initial old now : List Device) (before mid after : Option (List ℕ)) (failed worse : Type 0) → (failed → worse)
+    → FrontPlayed front given p initial old before mid
+    → ((done : List Line) (w : Option World) → Stood p done w initial old → TextAnswer (Err stop) text (given + 1) p q done w initial old now mid after failed)
+    → (ends : Bool) (more : List (List ℕ)) → StopsThere stop (script_from ends first_place 1 (lines front ++ text ∷ more)) (given + 1) initial now before after worse
+text_stopped law stop front text given p q initial old now before mid after failed worse spread f answer ends more =
     let r = f.reached ends (text ∷ more) in
     let script : Script = script_from ends first_place 1 (lines front ++ text ∷ more) in
-    subst (λ (ts : List (List ℕ)). LinesAnswer (Err stop) ends (script_from ends first_place 1 ts) initial now before after worse) (sym (texts_next front text line more f.is l))
-    (stopped_at stop ends script more text n p q initial old now before mid after failed worse spread r
-    (image_found law ends script (text ∷ more) n p initial old before mid (script_fits ends first_place 1 (lines front ++ text ∷ more)) r text)
-    (answer r.done r.last r.stood))
+    stopped_at stop ends script more text (given + 1) p q initial old now before mid after failed worse spread r
+    (image_found law ends script (text ∷ more) (given + 1) p initial old before mid (script_fits ends first_place 1 (lines front ++ text ∷ more)) r text)
+    (answer r.done r.last r.stood)
+
+-- the same at one more line
+pub front_stopped : (law : ImageIsFound) (stop : Stop) (front text line : List ℕ) (given : ℕ) (p q : Player) (initial old now : List Device) (before mid after : Option (List ℕ)) (failed worse : Type 0) → (failed → worse)
+    → FrontPlayed front given p initial old before mid → IsLine text line
+    → ((done : List Line) (w : Option World) → Stood p done w initial old → TextAnswer (Err stop) text (given + 1) p q done w initial old now mid after failed)
+    → (ends : Bool) (more : List (List ℕ)) → StopsThere stop (script_from ends first_place 1 (lines (front ++ line) ++ more)) (given + 1) initial now before after worse
+front_stopped law stop front text line given p q initial old now before mid after failed worse spread f l answer ends more =
+    subst (λ (ts : List (List ℕ)). StopsThere stop (script_from ends first_place 1 ts) (given + 1) initial now before after worse) (sym (texts_next front text line more f.is l))
+    (text_stopped law stop front text given p q initial old now before mid after failed worse spread f answer ends more)

@@ -1,7 +1,7 @@
 -- What the texts of a script do, one after the other.
-use Rattle.std.proofs.Common.{◌≡◌, ◌≢◌, ◌⊎◌, inl, inr, ℕ, ◌+◌, ◌≤◌, Bool, true, false, List, [], ◌∷◌, ◌++◌, length, map, take, drop, refl, append-nil, append_assoc, ap, sym, ◌∙◌, subst, arith}
+use Rattle.std.proofs.Common.{◌≡◌, ◌≢◌, ◌⊎◌, inl, inr, ⊎_elim, ℕ, ◌+◌, ◌≤◌, Bool, true, false, List, [], ◌∷◌, ◌++◌, length, map, take, drop, length-append, refl, append-nil, append_assoc, ap, sym, ◌∙◌, subst, arith}
 use Rattle.std.specs.Prelude.{Option, Some, None, Result, Ok, Err, IfSome, nat_lt, if◌then◌else◌}
-use Rattle.std.proofs.lemmas.List.{take-append-drop, map-append}
+use Rattle.std.proofs.lemmas.List.{take-append-drop, take_at, take_all, map-append, length-map}
 use Rattle.dg_base.proofs.OutsideLemmas.{Puts-join, Puts-nil, PutsFront-nil}
 use Rattle.dg_base.specs.Outside.{Puts, PutsFront}
 use Rattle.dg_nor.specs.Device.{Device}
@@ -24,7 +24,7 @@ use Rattle.dg_replay.specs.Ending.{events_in, InBounds}
 use Rattle.dg_base.specs.declared.answers.Status.TheVariants as status
 use Rattle.dg_replay.specs.Outcome.{Progress, AtTooMany, EventNext, BoardStoppedThere, BoardsLeft, RunsTo, item_played, played_text}
 use Rattle.dg_replay.specs.Playing.{InWorld, Stood, Ready, Joined, RunsOn, RunsFrom, LineBegun, InSome, IsOneTooMany, LacksImage}
-use Rattle.dg_replay.specs.Replaying.{TextPlayed, TextTold, TextCut, TextRead, NothingDone, TextAnswer, CutAtStop, CutAtTooMany, Reached, PlayedFront, PlayedUpTo, HasFew, LinesAnswer}
+use Rattle.dg_replay.specs.Replaying.{TextPlayed, TextTold, TextCut, TextRead, NothingDone, TextAnswer, CutAtStop, CutAtTooMany, Reached, PlayedFront, PlayedUpTo, HasFew, ToldBefore, StopsThere}
 use Rattle.dg_replay.specs.declared.player.Player.{Player}
 use Rattle.dg_replay.specs.declared.stop.Stop.{Stop}
 use Rattle.dg_replay.specs.declared.stop.Stop.TheVariants.{Memory, BadInput, WriteFault, FlashFault, TooMany, NoBoard, NoImage}
@@ -163,6 +163,7 @@ reached_next ends script texts text n p q initial old now before mid after r t =
       done = r.done ++ line ∷ [];
       played = on.now;
       last = to.world;
+      numbered = omega (arith, length-append r.done (line ∷ []), r.numbered);
       lines = lines_behind ends script texts text n p q r.done line t.played.spelled t.played.behind r.lines;
       fault = ap (λ (x : Place). (script_from ends x (n + 1) texts).fault) t.played.behind ∙ ap (λ (x : Script). x.fault) (sym (script_line ends p.place n text texts line t.played.spelled)) ∙ r.fault;
       items = on.items;
@@ -176,8 +177,8 @@ reached_next ends script texts text n p q initial old now before mid after r t =
 -- ---- what was written
 
 -- more was told, and a front of it was written
-front_put : (script : Script) {P : Progress script → Type 0} (initial : List Device) (before mid after : Option (List ℕ)) (ps : List Played) (t : List ℕ) (came : Progress script) → Puts before mid (played_text ps) → played_text came.played ≡ played_text ps ++ t
-    → PutsFront mid after t → InBounds (length initial) came.done (map item_played came.played) → P came → PlayedFront script initial before after P
+front_put : (script : Script) {P : Progress script → List ℕ → Type 0} (initial : List Device) (before mid after : Option (List ℕ)) (ps : List Played) (t : List ℕ) (came : Progress script) → Puts before mid (played_text ps) → played_text came.played ≡ played_text ps ++ t
+    → PutsFront mid after t → InBounds (length initial) came.done (map item_played came.played) → ((k : ℕ) → P came (played_text ps ++ take k t)) → PlayedFront script initial before after P
 front_put script initial before mid after ps t came told tells put limits there =
     let k = put.0 in
     record {
@@ -187,7 +188,7 @@ front_put script initial before mid after ps t came told tells put limits there 
       told = Puts-join before mid after _ _ told put.2;
       whole = append_assoc (played_text ps) (take k t) (drop k t) ∙ ap (λ (xs : List ℕ). played_text ps ++ xs) (take-append-drop k t) ∙ sym tells;
       limits = limits;
-      there = there;
+      there = there k;
     }
 
 -- nothing more was written
@@ -201,7 +202,7 @@ all_put before mid after ps qs t told tells put = subst (λ (xs : List ℕ). Put
 -- ---- how far a replay came
 
 -- It began no line behind those that were done.
-abbrev at_line : (ends : Bool) (script : Script) (texts : List (List ℕ)) (n : ℕ) (p : Player) (initial now : List Device) (before mid : Option (List ℕ)) → Reached ends script texts n p initial now before mid → Progress script
+abbrev pub at_line : (ends : Bool) (script : Script) (texts : List (List ℕ)) (n : ℕ) (p : Player) (initial now : List Device) (before mid : Option (List ℕ)) → Reached ends script texts n p initial now before mid → Progress script
 at_line ends script texts n p initial now before mid r =
     record {
       done = r.done;
@@ -367,12 +368,12 @@ begun_some o v ps begun t x some none = some (x.told ∙ none_told x.now (x.are 
 
 -- memory ran out in a line
 memory_begun : (ends : Bool) (script : Script) (texts : List (List ℕ)) (text : List ℕ) (n : ℕ) (p : Player) (initial old now : List Device) (before mid after : Option (List ℕ)) (line : Line) (r : Reached ends script (text ∷ texts) n p initial old before mid)
-    → line_of p.place text ≡ Ok line → (b : LineBegun r.done line r.last (λ v left t. BoardsStand v initial now)) → Choice b.begun b.left → after ≡ mid → PlayedFront script initial before after (λ c. BoardsStand c.last initial now)
+    → line_of p.place text ≡ Ok line → (b : LineBegun r.done line r.last (λ v left t. BoardsStand v initial now)) → Choice b.begun b.left → after ≡ mid → PlayedFront script initial before after (λ c text. BoardsStand c.last initial now × Unit {0})
 memory_begun ends script texts text n p initial old now before mid after line r spelled b (inl within) none =
     let o = run_of ends script texts text n p initial old before mid line r b in
     front_put script initial before mid after r.played b.text (in_line ends script texts text n p initial old before mid line r spelled b o within) r.told
     (over_tells (beginning_of r.done).world b.world r.played b.begun b.text o) (front_kept mid after b.text none)
-    (over_bounds (length initial) r.done b.world r.played b.begun b.text r.boards_enough o) b.there
+    (over_bounds (length initial) r.done b.world r.played b.begun b.text r.boards_enough o) (λ k. (b.there, tt))
 memory_begun ends script texts text n p initial old now before mid after line r spelled b (inr (left, (item, items, begun))) none =
     let o = run_of ends script texts text n p initial old before mid line r b in
     let parts = b.parts ∙ ap (λ (xs : List Item). b.begun ++ xs) left ∙ append-nil b.begun in
@@ -382,11 +383,46 @@ memory_begun ends script texts text n p initial old now before mid after line r 
     (record {
       boards_enough = lacking_next (length initial) r.done line r.boards_enough (does.enough (length initial));
       few_events = (over_bounds (length initial) r.done b.world r.played b.begun b.text r.boards_enough o).few_events;
-    }) b.there
+    }) (λ k. (b.there, tt))
+
+-- what is told of the lines that were done before is what was told then
+told_front : (done all : List Line) (ps behind : List Played) → take (length done) all ≡ done → map item_played ps ≡ items_of done → played_text (take (length (items_of (take (length done) all))) (ps ++ behind)) ≡ played_text ps
+told_front done all ps behind front items =
+    let count : length ps ≡ length (items_of done) = sym (length-map ps item_played) ∙ ap length items in
+    ap (λ (ls : List Line). played_text (take (length (items_of ls)) (ps ++ behind))) front ∙ ap played_text (take_at ps behind (length (items_of done)) count)
+
+told_all : (done : List Line) (ps : List Played) → map item_played ps ≡ items_of done → played_text (take (length (items_of (take (length done) done))) ps) ≡ played_text ps
+told_all done ps items =
+    let count : length ps ≡ length (items_of done) = sym (length-map ps item_played) ∙ ap length items in
+    ap (λ (ls : List Line). played_text (take (length (items_of ls)) ps)) (take_all (length done) done (omega arith)) ∙ ap played_text (take_all (length (items_of done)) ps (omega (arith, count)))
+
+-- all that was told before a line that was played was written
+told_line : (ends : Bool) (script : Script) (texts : List (List ℕ)) (text : List ℕ) (n : ℕ) (p q : Player) (initial old now : List Device) (before mid : Option (List ℕ))
+    → (r : Reached ends script (text ∷ texts) n p initial old before mid) → (t : TextPlayed text p q r.done r.last initial now) → (on : RunsOn r.done t.line t.to.world t.to.text r.played) → (told : List ℕ) (k : ℕ) → told ≡ t.to.text
+    → ToldBefore n (behind_line ends script texts text n p q initial old now before mid r t on) (played_text r.played ++ take k told)
+told_line ends script texts text n p q initial old now before mid r t on told k same =
+    ⊎_elim
+    (λ (none : t.to.text ≡ []).
+    let all : played_text on.now ≡ played_text r.played = on.told ∙ ap (λ (xs : List ℕ). played_text r.played ++ xs) none ∙ append-nil (played_text r.played) in
+    record {
+      lines = length (r.done ++ t.line ∷ []);
+      behind = omega (arith, r.numbered, length-append r.done (t.line ∷ []));
+      more = take k told;
+      told = ap (λ (xs : List ℕ). xs ++ take k told) (sym (told_all (r.done ++ t.line ∷ []) on.now on.items ∙ all));
+    })
+    (λ (went : (more : List Played) × (on.now ≡ r.played ++ more)). record {
+      lines = length r.done;
+      behind = omega (arith, r.numbered);
+      more = take k told;
+      told = ap (λ (xs : List ℕ). xs ++ take k told)
+          (sym (ap (λ (ps : List Played). played_text (take (length (items_of (take (length r.done) (r.done ++ t.line ∷ [])))) ps)) went.1
+          ∙ told_front r.done (r.done ++ t.line ∷ []) r.played went.0 (take_at r.done (t.line ∷ []) (length r.done) refl) r.items));
+    })
+    on.on
 
 -- a line was played, and what is told of it was not all written
 cut_told : (ends : Bool) (script : Script) (texts : List (List ℕ)) (text : List ℕ) (n : ℕ) (p q : Player) (initial old now : List Device) (before mid after : Option (List ℕ))
-    → (r : Reached ends script (text ∷ texts) n p initial old before mid) → TextCut text p q r.done r.last initial now mid after → PlayedFront script initial before after (λ c. BoardsLeft status.WriteFault c initial now)
+    → (r : Reached ends script (text ∷ texts) n p initial old before mid) → TextCut text p q r.done r.last initial now mid after → PlayedFront script initial before after (λ c text. BoardsLeft status.WriteFault c initial now × ToldBefore n c text × Unit {0})
 cut_told ends script texts text n p q initial old now before mid after r t =
     let to = t.played.to in
     let line = t.played.line in
@@ -396,30 +432,45 @@ cut_told ends script texts text n p q initial old now before mid after r t =
     (record {
       boards_enough = lacking_next (length initial) r.done line r.boards_enough to.boards_enough;
       few_events = few_next (r.done ++ line ∷ []) to.world on.now q now on.run to.stood.world;
-    }) (inl to.stood.boards)
+    }) (λ k. (inl to.stood.boards, told_line ends script texts text n p q initial old now before mid r t.played on t.played.told k to.told_now, tt))
+
+-- all that was told before a line that was begun was written
+told_begun : {P : Option World → List Item → List ℕ → Type 0} (ends : Bool) (script : Script) (texts : List (List ℕ)) (text : List ℕ) (n : ℕ) (p : Player) (initial old : List Device) (before mid : Option (List ℕ)) (line : Line)
+    → (r : Reached ends script (text ∷ texts) n p initial old before mid) → (spelled : line_of p.place text ≡ Ok line) → (b : LineBegun r.done line r.last P) → (o : Over (beginning_of r.done).world r.played b.begun b.world b.text) → (within : b.left ≡ [] → b.begun ≡ []) → (k : ℕ)
+    → ToldBefore n (in_line ends script texts text n p initial old before mid line r spelled b o within) (played_text r.played ++ take k b.text)
+told_begun ends script texts text n p initial old before mid line r spelled b o within k = record {
+  lines = length r.done;
+  behind = omega (arith, r.numbered);
+  more = take k b.text;
+  told = ap (λ (xs : List ℕ). xs ++ take k b.text) (sym (told_front r.done r.done r.played o.now (take_all (length r.done) r.done (omega arith)) r.items));
+}
 
 -- a line was begun, and so
 cut_begun : (ends : Bool) (script : Script) (texts : List (List ℕ)) (text : List ℕ) (n : ℕ) (p : Player) (initial old now : List Device) (before mid after : Option (List ℕ)) (line : Line) (r : Reached ends script (text ∷ texts) n p initial old before mid)
     → line_of p.place text ≡ Ok line → (b : LineBegun r.done line r.last (λ v left t. CutAtStop r.done line v left t initial now mid after ⊎ CutAtTooMany v left t initial now mid after))
-    → CutAtStop r.done line b.world b.left b.text initial now mid after ⊎ CutAtTooMany b.world b.left b.text initial now mid after → PlayedFront script initial before after (λ c. BoardsLeft status.WriteFault c initial now)
+    → CutAtStop r.done line b.world b.left b.text initial now mid after ⊎ CutAtTooMany b.world b.left b.text initial now mid after → PlayedFront script initial before after (λ c text. BoardsLeft status.WriteFault c initial now × ToldBefore n c text × Unit {0})
 cut_begun ends script texts text n p initial old now before mid after line r spelled b (inl (some, stop, cut)) =
     let o = run_of ends script texts text n p initial old before mid line r b in
     let within = stop_within (place_behind first_place r.done) (cut_behind None r.done) line (motes_in r.done) b.begun b.left b.world initial now b.parts stop in
     front_put script initial before mid after r.played b.text (in_line ends script texts text n p initial old before mid line r spelled b o within) r.told
     (over_tells (beginning_of r.done).world b.world r.played b.begun b.text o) cut
     (over_bounds (length initial) r.done b.world r.played b.begun b.text r.boards_enough o)
-    (inr (begun_some (beginning_of r.done).world b.world r.played b.begun b.text o some, stopped_more (motes_in r.done) line _ b.left b.world initial now stop))
+    (λ k. (
+      inr (begun_some (beginning_of r.done).world b.world r.played b.begun b.text o some, stopped_more (motes_in r.done) line _ b.left b.world initial now stop),
+      told_begun ends script texts text n p initial old before mid line r spelled b o within k,
+      tt,
+    ))
 cut_begun ends script texts text n p initial old now before mid after line r spelled b (inr (full, boards, cut)) =
     let o = run_of ends script texts text n p initial old before mid line r b in
     front_put script initial before mid after r.played b.text (in_line ends script texts text n p initial old before mid line r spelled b o (λ none. absurd (some_left b.world b.left full none))) r.told
     (over_tells (beginning_of r.done).world b.world r.played b.begun b.text o) cut
     (over_bounds (length initial) r.done b.world r.played b.begun b.text r.boards_enough o)
-    (inl boards)
+    (λ k. (inl boards, told_begun ends script texts text n p initial old before mid line r spelled b o (λ none. absurd (some_left b.world b.left full none)) k, tt))
 
 -- a board stopped in a line
 stop_begun : (ends : Bool) (script : Script) (texts : List (List ℕ)) (text : List ℕ) (n : ℕ) (p : Player) (initial old now : List Device) (before mid after : Option (List ℕ)) (line : Line) (r : Reached ends script (text ∷ texts) n p initial old before mid)
     → line_of p.place text ≡ Ok line → UsesBoard line → LineBegun r.done line r.last (λ v left t. StoppedIn (motes_in r.done) (line ∷ []) left v initial now × Puts mid after t)
-    → PlayedUpTo script initial before after (λ c. ((line : Line) × (more : List Line) × (c.rest ≡ line ∷ more) × UsesBoard line) × BoardStoppedThere c initial now)
+    → PlayedUpTo script initial before after (λ c. ((line : Line) × (more : List Line) × (c.rest ≡ line ∷ more) × UsesBoard line) × BoardStoppedThere c initial now × Unit {0})
 stop_begun ends script texts text n p initial old now before mid after line r spelled uses b =
     let o = run_of ends script texts text n p initial old before mid line r b in
     let stop = b.there.0 in
@@ -428,13 +479,13 @@ stop_begun ends script texts text n p initial old now before mid after line r sp
           (stop_within (place_behind first_place r.done) (cut_behind None r.done) line (motes_in r.done) b.begun b.left b.world initial now b.parts stop);
       told = all_put before mid after r.played (r.played ++ o.now) b.text r.told (over_tells (beginning_of r.done).world b.world r.played b.begun b.text o) b.there.1;
       limits = over_bounds (length initial) r.done b.world r.played b.begun b.text r.boards_enough o;
-      there = ((line, _, refl, uses), stopped_more (motes_in r.done) line _ b.left b.world initial now stop);
+      there = ((line, _, refl, uses), stopped_more (motes_in r.done) line _ b.left b.world initial now stop, tt);
     }
 
 -- there were too many events in it
 many_begun : (ends : Bool) (script : Script) (texts : List (List ℕ)) (text : List ℕ) (n : ℕ) (p : Player) (initial old now : List Device) (before mid after : Option (List ℕ)) (line : Line) (r : Reached ends script (text ∷ texts) n p initial old before mid)
     → line_of p.place text ≡ Ok line → LineBegun r.done line r.last (λ v left t. InSome v (λ u. IsOneTooMany u left) × BoardsStand v initial now × Puts mid after t)
-    → PlayedUpTo script initial before after (λ c. AtTooMany c.left c.played × BoardsStand c.last initial now × (lacking (length initial) script.lines ≡ None))
+    → PlayedUpTo script initial before after (λ c. AtTooMany c.left c.played × BoardsStand c.last initial now × (lacking (length initial) script.lines ≡ None) × Unit {0})
 many_begun ends script texts text n p initial old now before mid after line r spelled b =
     let o = run_of ends script texts text n p initial old before mid line r b in
     record {
@@ -447,16 +498,17 @@ many_begun ends script texts text n p initial old now before mid after line r sp
         subst (λ (ls : List Line). lacking (length initial) ls ≡ None) r.lines
             (lacking_append (length initial) r.done (script_from ends p.place n (text ∷ texts)).lines r.boards_enough
             (lacking_none (length initial) p.place _ (begun_world (λ u. IsOneTooMany u b.left) p r.last b.world b.begun b.text old b.there.0 b.runs r.stood.world) (script_fits ends p.place n (text ∷ texts)))),
+        tt,
       );
     }
 
 -- nothing was done behind the lines that were done
 nothing_more : (ends : Bool) (script : Script) (texts : List (List ℕ)) (n : ℕ) (p : Player) (initial old now : List Device) (before mid after : Option (List ℕ))
-    → Reached ends script texts n p initial old before mid → NothingDone old now mid after → PlayedFront script initial before after (λ c. BoardsStand c.last initial now)
+    → Reached ends script texts n p initial old before mid → NothingDone old now mid after → PlayedFront script initial before after (λ c text. BoardsStand c.last initial now × Unit {0})
 nothing_more ends script texts n p initial old now before mid after r none =
     front_put script initial before mid after r.played [] (at_line ends script texts n p initial old before mid r) r.told (sym (append-nil (played_text r.played))) (front_kept mid after [] none.told)
     (record { boards_enough = r.boards_enough; few_events = few_items r.done r.played r.items r.few })
-    (subst (λ (ds : List Device). BoardsStand r.last initial ds) (sym none.boards) r.stood.boards)
+    (λ k. (subst (λ (ds : List Device). BoardsStand r.last initial ds) (sym none.boards) r.stood.boards, tt))
 
 -- where a line was read and not begun
 at_line_put : (ends : Bool) (script : Script) (texts : List (List ℕ)) (n : ℕ) (p : Player) (initial old : List Device) (before mid after : Option (List ℕ)) {P : Progress script → Type 0} → (r : Reached ends script texts n p initial old before mid) → after ≡ mid
@@ -482,18 +534,21 @@ all_done ends script texts n p initial now before mid r none =
 -- a stop at a line, behind the lines that were done
 pub stopped_at : (stop : Stop) (ends : Bool) (script : Script) (texts : List (List ℕ)) (text : List ℕ) (n : ℕ) (p q : Player) (initial old now : List Device) (before mid after : Option (List ℕ)) (failed worse : Type 0) → (failed → worse)
     → (r : Reached ends script (text ∷ texts) n p initial old before mid) → (TextRead text p (λ line. LineBegun r.done line r.last (λ v left t. InSome v (λ u. LacksImage u left))) → ⊥)
-    → TextAnswer (Err stop) text n p q r.done r.last initial old now mid after failed → LinesAnswer (Err stop) ends script initial now before after worse
+    → TextAnswer (Err stop) text n p q r.done r.last initial old now mid after failed → StopsThere stop script n initial now before after worse
 stopped_at Memory ends script texts text n p q initial old now before mid after failed worse spread r found (inl none) = nothing_more ends script (text ∷ texts) n p initial old now before mid after r none
 stopped_at Memory ends script texts text n p q initial old now before mid after failed worse spread r found (inr (t, none)) =
     memory_begun ends script texts text n p initial old now before mid after t.line r t.spelled t.there (choose t.there.begun t.there.left) none
 stopped_at (BadInput line fault) ends script texts text n p q initial old now before mid after failed worse spread r found (same, spelled, none) =
     let bad = script_fault ends p.place n text texts fault spelled in
-    let rest : (script_from ends p.place n (text ∷ texts)).lines ≡ [] = ap (λ (s : Script). s.lines) bad in
-    at_line_put ends script (text ∷ texts) n p initial old before mid after r none.told (
-      rest,
-      sym r.fault ∙ ap (λ (s : Script). s.fault) bad ∙ ap (λ (k : ℕ). Some (k, fault)) (sym same),
-      subst (λ (ds : List Device). BoardsStand r.last initial ds) (sym none.boards) r.stood.boards,
-      all_done ends script (text ∷ texts) n p initial old before mid r rest,
+    let rest : (script_from ends p.place n (text ∷ texts)).lines ≡ [] = ap (λ (s : Script). s.lines) bad in (
+      same,
+      at_line_put ends script (text ∷ texts) n p initial old before mid after r none.told (
+        rest,
+        sym r.fault ∙ ap (λ (s : Script). s.fault) bad ∙ ap (λ (k : ℕ). Some (k, fault)) (sym same),
+        subst (λ (ds : List Device). BoardsStand r.last initial ds) (sym none.boards) r.stood.boards,
+        all_done ends script (text ∷ texts) n p initial old before mid r rest,
+        tt,
+      ),
     )
 stopped_at WriteFault ends script texts text n p q initial old now before mid after failed worse spread r found (rose, inl cut) =
     (spread rose, cut_told ends script texts text n p q initial old now before mid after r cut)
@@ -511,6 +566,7 @@ stopped_at (NoBoard motes boards) ends script texts text n p q initial old now b
       (_, ap (λ (s : Script). s.lines) (script_line ends p.place n text texts (Motes motes) spelled)),
       subst (λ (ds : List Device). BoardsStand r.last initial ds) (sym m.same) r.stood.boards,
       r.boards_enough,
+      tt,
     )
 stopped_at NoImage ends script texts text n p q initial old now before mid after failed worse spread r found t = absurd (found t)
 
@@ -525,6 +581,7 @@ reached_first ends texts p initial before place cut world =
       last = None;
       lines = ap (λ (at : Place). (script_from ends at 1 texts).lines) place;
       fault = ap (λ (at : Place). (script_from ends at 1 texts).fault) place;
+      numbered = refl;
       items = refl;
       run = (refl, refl);
       told = Puts-nil before;

@@ -1,6 +1,6 @@
 -- What the top call did.
-use Rattle.std.proofs.Common.{◌≡◌, ◌≢◌, ◌⊎◌, inl, inr, ℕ, ◌+◌, ◌<◌, ◌≤◌, true, List, [], ◌∷◌, ◌++◌, length, append_assoc, refl, ap, sym, ◌∙◌, subst, arith}
-use Rattle.std.specs.Prelude.{Option, Some, None}
+use Rattle.std.proofs.Common.{◌≡◌, ◌≢◌, ◌⊎◌, inl, inr, ℕ, ◌+◌, ◌≤◌, Bool, true, false, List, [], ◌∷◌, ◌++◌, length, append_assoc, refl, ap, sym, ◌∙◌, subst, arith}
+use Rattle.std.specs.Prelude.{⊤, Option, Some, None, Err}
 use Rattle.dg_base.specs.Outside.{Takes, AtEnd}
 use Rattle.dg_base.proofs.OutsideLemmas.{Puts-nil, Takes-told, Takes-all}
 use Rattle.dg_base.specs.declared.answers.Status.{Status}
@@ -11,38 +11,34 @@ use Rattle.dg_script.specs.Sizes.{most_used_bytes}
 use Rattle.dg_script.specs.Items.{items_behind, items_of}
 use Rattle.dg_script.specs.Script.{Script}
 use Rattle.dg_script.specs.declared.line.Line.{Line}
-use Rattle.dg_replay.specs.Boards.{BoardStopped}
+use Rattle.dg_replay.specs.Boards.{BoardsStand, BoardStopped}
 use Rattle.dg_replay.specs.Items.{begin_behind, beginning_of, motes_in, lacking, next_items}
-use Rattle.dg_replay.specs.Ending.{Ending, Ends, ending_of, status_of, script_of, is_over, InBounds, InLimits}
-use Rattle.dg_replay.specs.Outcome.{Progress, RunsTo, Wrote, IsSettled, NextIsWhole, ReadEnough, IsCaused, Replayed}
-use Rattle.dg_replay.specs.Replaying.{ScriptReplayed}
-use Rattle.dg_replay.proofs.EndLemmas.{is_over-true, in_limits}
-use Rattle.dg_replay.proofs.TakenLemmas.{over_settled, over_done, over_next, none_whole, stopped_of_script}
+use Rattle.dg_replay.specs.Ending.{Ending, Ends, Over, ending_from, ending_of, ending_line, status_of, script_of, is_over, InBounds, InLimits}
+use Rattle.dg_replay.specs.Outcome.{Progress, RunsTo, played_text, Wrote, IsSettled, AreWhole, AllWhole, NextIsWhole, ReadEnough, IsCaused, Replayed}
+use Rattle.dg_replay.specs.Replaying.{Reached, PlayedUpTo, InputAnswer, StopEnds, EndsWith, ScriptReplayed}
+use Rattle.dg_replay.specs.declared.halt.Halt.{Halt}
+use Rattle.dg_replay.specs.declared.halt.Halt.TheVariants as halts
+use Rattle.dg_replay.specs.declared.stop.Stop.{Stop}
+use Rattle.dg_replay.specs.declared.player.Player.{Player}
+use Rattle.dg_replay.proofs.EndLemmas.{over_not, is_over-true, over_ends, stopped_ends, in_limits}
+use Rattle.dg_replay.proofs.TakenLemmas.{over_settled, over_done, none_whole, stopped_of_script}
 
-settled_for : (n : ℕ) (input : List ℕ) (at_end : Type 0) → at_end ⊎ (is_over input ≡ true) → at_end ⊎ IsSettled n input
-settled_for n input at_end (inl e) = inl e
-settled_for n input at_end (inr over) = inr (over_settled n input over)
-
--- an input that was read to its end, or as far as it is used
-enough_for : (s : Status) (n : ℕ) (input : List ℕ) (at_end : Type 0) (c : Progress (script_of input)) (text : List ℕ) (w b : Type 0) → at_end ⊎ (is_over input ≡ true)
-    → Wrote s (ending_of n input) c text → IsCaused s (ending_of n input) ⊥ w b → ReadEnough s n input at_end c text
-enough_for Memory n input at_end c text w b (inl e) wrote caused = inl e
-enough_for Memory n input at_end c text w b (inr over) wrote caused = inr (over_done input c.done c.rest c.begun c.left over c.lines c.parts)
-enough_for ReadFault n input at_end c text w b e wrote caused = absurd caused
-enough_for WriteFault n input at_end c text w b (inl e) wrote caused = inl e
-enough_for WriteFault n input at_end c text w b (inr over) wrote caused = inr (inl (over_settled n input over))
-enough_for FlashFault n input at_end c text w b (inl e) wrote caused = inl e
-enough_for FlashFault n input at_end c text w b (inr over) wrote caused = inr (over_next n input c.done c.rest over c.lines wrote.1)
-enough_for Done n input at_end c text w b e wrote caused = settled_for n input at_end e
-enough_for Usage n input at_end c text w b e wrote caused = settled_for n input at_end e
-enough_for BadInput n input at_end c text w b e wrote caused = settled_for n input at_end e
-enough_for NotAVolume n input at_end c text w b e wrote caused = settled_for n input at_end e
-enough_for Refused n input at_end c text w b e wrote caused = settled_for n input at_end e
-enough_for LinkFault n input at_end c text w b e wrote caused = settled_for n input at_end e
-enough_for TooLong n input at_end c text w b e wrote caused = settled_for n input at_end e
-enough_for TooMany n input at_end c text w b e wrote caused = settled_for n input at_end e
-enough_for NoBoard n input at_end c text w b e wrote caused = settled_for n input at_end e
-enough_for NoImage n input at_end c text w b e wrote caused = settled_for n input at_end e
+-- where an input is at its end, the bytes are enough
+at_end_for : {script : Script} (s : Status) (n : ℕ) (input : List ℕ) (at_end : Type 0) (c : Progress script) (text : List ℕ) → at_end → ReadEnough s n input ⊤ c text → ReadEnough s n input at_end c text
+at_end_for ReadFault n input at_end c text e enough = enough
+at_end_for Memory n input at_end c text e enough = inl e
+at_end_for WriteFault n input at_end c text e enough = inl e
+at_end_for FlashFault n input at_end c text e enough = inl e
+at_end_for Done n input at_end c text e enough = inl e
+at_end_for Usage n input at_end c text e enough = inl e
+at_end_for BadInput n input at_end c text e enough = inl e
+at_end_for NotAVolume n input at_end c text e enough = inl e
+at_end_for Refused n input at_end c text e enough = inl e
+at_end_for LinkFault n input at_end c text e enough = inl e
+at_end_for TooLong n input at_end c text e enough = inl e
+at_end_for TooMany n input at_end c text e enough = inl e
+at_end_for NoBoard n input at_end c text e enough = inl e
+at_end_for NoImage n input at_end c text e enough = inl e
 
 caused_too : (s : Status) (e : Ending) (r w b : Type 0) → IsCaused s e ⊥ w b → IsCaused s e r w b
 caused_too ReadFault e r w b h = absurd h
@@ -51,31 +47,70 @@ caused_too WriteFault e r w b h = h
 caused_too FlashFault e r w b h = h
 caused_too _ e r w b h = h
 
-over_or : (input : List ℕ) (at_end : Type 0) → at_end ⊎ (most_used_bytes < length input) → at_end ⊎ (is_over input ≡ true)
-over_or input at_end (inl e) = inl e
-over_or input at_end (inr more) = inr (is_over-true input more)
+-- a script whose input was read to its end
+pub end_replayed : (s : Status) (input : List ℕ) (at_end : Type 0) (old new : List Device) (before after : Option (List ℕ)) (reads writes : Type 0) → at_end → length input ≤ most_used_bytes
+    → ScriptReplayed s (script_of input) (ending_from (length old) false (script_of input)) input ⊤ old new before after ⊥ writes
+    → ScriptReplayed s (script_of input) (ending_of (length old) input) input at_end old new before after reads writes
+end_replayed s input at_end old new before after reads writes ended few r =
+    let made : ScriptReplayed s (script_of input) (ending_from (length old) false (script_of input)) input at_end old new before after reads writes = record {
+      came = r.came;
+      text = r.text;
+      written = r.written;
+      report = r.report;
+      enough = at_end_for s (length old) input at_end r.came r.text ended r.enough;
+      near = r.near;
+      limits = r.limits;
+      boards = r.boards;
+      caused = caused_too s (ending_from (length old) false (script_of input)) reads writes (BoardStopped (motes_in r.came.done) old new) r.caused;
+    } in
+    subst (λ (b : Bool). ScriptReplayed s (script_of input) (ending_from (length old) b (script_of input)) input at_end old new before after reads writes) (sym (over_not input few)) made
 
--- a script that was read and replayed
-read_replayed : (s : Status) (text : List ℕ) (lb la wb wa : Option (List ℕ)) (rb ra kb ka : ℕ) (old new : List Device) (n : ℕ) → n ≡ length old → Takes lb la text → length text ≤ (most_used_bytes + 1) → AtEnd la ⊎ (most_used_bytes < length text)
-    → ScriptReplayed s (script_of text) (ending_of n text) old new wb wa (Rose kb ka) → ra ≡ rb → (s ≢ WriteFault → ka ≡ kb) → Replayed s lb la wb wa rb ra kb ka old new
-read_replayed s text lb la wb wa rb ra kb ka old new n count taken few enough replayed reads writes =
-    let P : ℕ → Type 0 = λ k. ScriptReplayed s (script_of text) (ending_of k text) old new wb wa (Rose kb ka) in
-    let t = subst P count replayed in
-    record {
-      input = text;
-      taken = taken;
-      few_bytes = few;
-      came = t.came;
-      text = t.text;
-      written = t.written;
-      report = t.report;
-      enough = enough_for s (length old) text (AtEnd la) t.came t.text (Rose kb ka) (BoardStopped (motes_in t.came.done) old new) (over_or text (AtEnd la) enough) t.report t.caused;
-      limits = t.limits;
-      boards = t.boards;
-      caused = caused_too s (ending_of (length old) text) (Rose rb ra) (Rose kb ka) (BoardStopped (motes_in t.came.done) old new) t.caused;
-      read_faults = λ other. reads;
-      write_faults = writes;
-    }
+-- an input that is too long
+pub over_replayed : (s : Status) (input : List ℕ) (at_end : Type 0) (n : ℕ) (p : Player) (old new : List Device) (before mid after : Option (List ℕ)) (failed reads writes : Type 0) → (failed → writes) → length input ≡ most_used_bytes + 1
+    → Reached false (script_of input) [] n p old new before mid → EndsWith s TooLong (ending_line Over) mid after failed
+    → ScriptReplayed s (script_of input) (ending_of (length old) input) input at_end old new before after reads writes
+over_replayed s input at_end n p old new before mid after failed reads writes spread long r done =
+    let over : is_over input ≡ true = is_over-true input (omega (arith, long)) in
+    subst (λ (b : Bool). ScriptReplayed s (script_of input) (ending_from (length old) b (script_of input)) input at_end old new before after reads writes) (sym over)
+    (over_ends s (script_of input) input at_end n p old new before mid after failed reads writes spread (over_settled (length old) input over)
+    (λ c. over_done input c.done c.rest c.begun c.left over c.lines c.parts) r done)
+
+-- a read failed
+pub failed_replayed : (input : List ℕ) (at_end : Type 0) (ending : Ending) (old new : List Device) (before after : Option (List ℕ)) (reads writes : Type 0) → reads
+    → PlayedUpTo (script_of input) old before after (λ c. (c.begun ≡ []) × BoardsStand c.last old new × AreWhole input c.done × AllWhole input c.done)
+    → ScriptReplayed ReadFault (script_of input) ending input at_end old new before after reads writes
+failed_replayed input at_end ending old new before after reads writes rose f =
+    record { came = f.came; text = played_text f.came.played; written = f.told; report = (refl, f.there.0); enough = (f.there.2, f.there.3); near = tt; limits = f.limits; boards = f.there.1; caused = rose }
+
+-- ---- how the lines that were played end
+
+-- a read failed
+pub halt_failed : (halt : Halt) (input : List ℕ) (at_end reads : Type 0) (old new : List Device) (before after : Option (List ℕ)) (writes worse : Type 0) → halt ≡ halts.ReadFault → InputAnswer (Err halt) input at_end reads old new before after writes
+    → (length input ≤ most_used_bytes + 1) × ScriptReplayed ReadFault (script_of input) (ending_of (length old) input) input at_end old new before after reads worse
+halt_failed halt input at_end reads old new before after writes worse is answer =
+    let h : InputAnswer (Err halts.ReadFault) input at_end reads old new before after writes = subst (λ (x : Halt). InputAnswer (Err x) input at_end reads old new before after writes) is answer in
+    (omega (arith, h.1), failed_replayed input at_end (ending_of (length old) input) old new before after reads worse h.0 h.2)
+
+-- the input is too long
+pub halt_over : (halt : Halt) (s : Status) (input : List ℕ) (at_end reads : Type 0) (old new : List Device) (before mid after : Option (List ℕ)) (failed later worse : Type 0) → halt ≡ halts.TooLong → (later → worse) → InputAnswer (Err halt) input at_end reads old new before mid failed
+    → EndsWith s TooLong (ending_line Over) mid after later → (length input ≤ most_used_bytes + 1) × ScriptReplayed s (script_of input) (ending_of (length old) input) input at_end old new before after reads worse
+halt_over halt s input at_end reads old new before mid after failed later worse is widen answer done =
+    let h : InputAnswer (Err halts.TooLong) input at_end reads old new before mid failed = subst (λ (x : Halt). InputAnswer (Err x) input at_end reads old new before mid failed) is answer in
+    (omega (arith, h.0), over_replayed s input at_end h.1.0 h.1.1 old new before mid after later reads worse widen h.0 h.1.2 done)
+
+-- the replay stopped at a line
+pub halt_stopped : (halt : Halt) (stop : Stop) (s : Status) (input : List ℕ) (at_end reads : Type 0) (old new : List Device) (before mid after : Option (List ℕ)) (failed later worse : Type 0) → halt ≡ halts.Stopped stop → (failed → worse) → (later → worse)
+    → InputAnswer (Err halt) input at_end reads old new before mid failed → StopEnds stop s mid after later
+    → (length input ≤ most_used_bytes + 1) × ScriptReplayed s (script_of input) (ending_of (length old) input) input at_end old new before after reads worse
+halt_stopped halt stop s input at_end reads old new before mid after failed later worse is spread widen answer done =
+    let h : InputAnswer (Err (halts.Stopped stop)) input at_end reads old new before mid failed = subst (λ (x : Halt). InputAnswer (Err x) input at_end reads old new before mid failed) is answer in
+    (omega (arith, h.0), stopped_ends stop s (script_of input) (is_over input) input at_end h.2.0 old new before mid after failed later reads worse spread widen h.2.1 h.1 h.2.2 done)
+
+-- what a replay did, where these bytes were taken
+pub replayed_of : (s : Status) (bytes : List ℕ) (lb la wb wa : Option (List ℕ)) (rb ra kb ka : ℕ) (old new : List Device) → Takes lb la bytes → length bytes ≤ most_used_bytes + 1
+    → ScriptReplayed s (script_of bytes) (ending_of (length old) bytes) bytes (AtEnd la) old new wb wa (Rose rb ra) (Rose kb ka) → (s ≢ ReadFault → ra ≡ rb) → (s ≢ WriteFault → ka ≡ kb) → Replayed s lb la wb wa rb ra kb ka old new
+replayed_of s bytes lb la wb wa rb ra kb ka old new taken few r reads writes =
+    record { input = bytes; taken = taken; few_bytes = few; came = r.came; text = r.text; written = r.written; report = r.report; enough = r.enough; near = r.near; limits = r.limits; boards = r.boards; caused = r.caused; read_faults = reads; write_faults = writes }
 
 -- before the first line nothing is done
 none_bound : (boards : ℕ) → InBounds boards [] []
@@ -105,23 +140,10 @@ none_played script = record {
   run = no_run;
 }
 
--- memory ran out in reading, and a read failed
+-- memory ran out before anything was read
 pub memory_unread : (bytes : List ℕ) (lb la wb : Option (List ℕ)) (rb ra k : ℕ) (old : List Device) → Takes lb la bytes → length bytes ≤ (most_used_bytes + 1) → ra ≡ rb → Replayed Memory lb la wb wb rb ra k k old old
 memory_unread bytes lb la wb rb ra k old taken few reads =
-    record { input = bytes; taken = taken; few_bytes = few; came = none_played (script_of bytes); text = []; written = Puts-nil wb; report = record { more = []; front = refl }; enough = inr (none_whole bytes); limits = none_bound (length old); boards = refl; caused = tt; read_faults = λ other. reads; write_faults = λ other. refl }
-
-pub read_failed : (bytes : List ℕ) (lb la wb : Option (List ℕ)) (rb ra k : ℕ) (old : List Device) → Takes lb la bytes → length bytes ≤ (most_used_bytes + 1) → Rose rb ra → Replayed ReadFault lb la wb wb rb ra k k old old
-read_failed bytes lb la wb rb ra k old taken few rose =
-    record { input = bytes; taken = taken; few_bytes = few; came = none_played (script_of bytes); text = []; written = Puts-nil wb; report = (refl, refl); enough = none_whole bytes; limits = none_bound (length old); boards = refl; caused = rose; read_faults = λ other. absurd (other refl); write_faults = λ other. refl }
-
--- the same, where the text was read into a vector
-pub vector_replayed : (s : Status) (text items bytes : List ℕ) (lb la wb wa : Option (List ℕ)) (rb ra kb ka : ℕ) (old new : List Device) (n : ℕ) → text ≡ items → items ≡ bytes → n ≡ length old → Takes lb la bytes → length items ≤ (most_used_bytes + 1) → AtEnd la ⊎ (most_used_bytes < length items)
-    → ScriptReplayed s (script_of text) (ending_of n text) old new wb wa (Rose kb ka) → ra ≡ rb → (s ≢ WriteFault → ka ≡ kb) → Replayed s lb la wb wa rb ra kb ka old new
-vector_replayed s text items bytes lb la wb wa rb ra kb ka old new n same read count taken few enough replayed reads writes =
-    let T : List ℕ → Type 0 = λ xs. Takes lb la xs in
-    let F : List ℕ → Type 0 = λ xs. length xs ≤ (most_used_bytes + 1) in
-    let E : List ℕ → Type 0 = λ xs. AtEnd la ⊎ (most_used_bytes < length xs) in
-    read_replayed s text lb la wb wa rb ra kb ka old new n count (subst T (sym (same ∙ read)) taken) (subst F (sym same) few) (subst E (sym same) enough) replayed reads writes
+    record { input = bytes; taken = taken; few_bytes = few; came = none_played (script_of bytes); text = []; written = Puts-nil wb; report = record { more = []; front = refl }; enough = inr (none_whole bytes); near = tt; limits = none_bound (length old); boards = refl; caused = tt; read_faults = λ other. reads; write_faults = λ other. refl }
 
 -- the status of an ending that is the script's
 by_status : (s : Status) (input : List ℕ) (at_end : Type 0) (c : Progress (script_of input)) (text : List ℕ) (r w b : Type 0) (n : ℕ) → ReadEnough s n input at_end c text → IsCaused s (ending_of n input) r w b → (r → ⊥) → (w → ⊥)

@@ -1,5 +1,5 @@
 -- What one more line makes of where a replay stands, and of its run.
-use Rattle.std.proofs.Common.{◌≡◌, ℕ, ◌≤◌, true, false, List, [], ◌∷◌, ◌++◌, length, map, refl, append-nil, ap, sym, ◌∙◌, subst, arith, eqb-true}
+use Rattle.std.proofs.Common.{◌≡◌, ℕ, ◌≤◌, true, false, List, [], ◌∷◌, ◌++◌, length, map, refl, append-nil, ap, sym, ◌∙◌, subst, arith, eqb-true, inl, inr}
 use Rattle.std.specs.Prelude.{Option, Some, None, option_map, IfSome}
 use Rattle.std.specs.List.{AllByRecursion}
 use Rattle.std.proofs.lemmas.List.{map-append}
@@ -115,6 +115,7 @@ silent_runs done line w none same = λ played items r. record {
   items = items ∙ same_items done line none;
   run = same_run done line played w same r;
   told = sym (append-nil (played_text played));
+  on = inl refl;
 }
 
 -- a line with items
@@ -125,6 +126,7 @@ busy_runs done line u z items text are same x = λ played before r. record {
   items = map-append item_played played x.played ∙ ap (λ (xs : List Item). xs ++ map item_played x.played) before ∙ ap (λ (xs : List Item). items_of done ++ xs) (x.are ∙ sym are) ∙ sym (items_next done line);
   run = same_run done line (played ++ x.played) (Some z) same (runs_append (beginning_of done).world u z played x.played r x.run);
   told = played_more played x.played ∙ ap (λ (xs : List ℕ). played_text played ++ xs) (sym x.told);
+  on = inr (x.played, refl);
 }
 
 pub golden_runs : (done : List Line) (name : List ℕ) (used : ℕ) (content : List ℕ) (motes : ℕ) → motes ≡ (beginning_of done).motes → LineRuns done (Golden name used content) None (Some (golden_world motes name used content)) []
@@ -137,6 +139,7 @@ golden_runs done name used content motes is = λ played items r. record {
     plays_none (golden_world (beginning_of done).motes name used content) (golden_world motes name used content) played (runs_from_none (beginning_of done).world played r).1 (ap (λ (n : ℕ). golden_world n name used content) (sym is)),
   );
   told = sym (append-nil (played_text played));
+  on = inl refl;
 }
 
 -- ---- links
@@ -180,6 +183,7 @@ link_runs done a b w all = λ played items r. record {
   run = subst (λ (x : Beginning). RunsTo x.world (map (with_links (a, b)) played) (Some (with_link (a, b) w))) (sym (begin_next no_beginning done (Link a b)))
       (run_linked (a, b) (beginning_of done).world played w (subst (λ (xs : List Item). AllByRecursion IsDeclaration xs) (sym items) all) r);
   told = text_linked (a, b) played ∙ sym (append-nil (played_text played));
+  on = inl refl;
 }
 
 -- ---- a line that was begun

@@ -1,22 +1,20 @@
 -- What the bytes that were taken tell of an input that goes on behind them.
-use Rattle.std.proofs.Common.{◌≡◌, ℕ, ◌<◌, Bool, true, false, List, [], ◌∷◌, ◌++◌, length, take, length-append, append_assoc, refl, ap, sym, ◌∙◌, subst, arith}
-use Rattle.std.specs.Prelude.{Option, Some, None, nat_lt, if◌then◌else◌, not}
+use Rattle.std.proofs.Common.{◌≡◌, ℕ, ◌<◌, Bool, true, List, [], ◌∷◌, ◌++◌, length, take, length-append, append_assoc, refl, ap, sym, ◌∙◌, subst, arith}
+use Rattle.std.specs.Prelude.{None, if◌then◌else◌, not}
 use Rattle.std.specs.Str.Lines.{lines}
 use Rattle.std.proofs.lemmas.List.{take-append-le}
 use Rattle.dg_nor.specs.Device.{Device}
 use Rattle.dg_script.specs.Sizes.{most_used_bytes}
 use Rattle.dg_script.specs.Places.{first_place, place_after}
 use Rattle.dg_script.specs.Script.{Script, script_from}
-use Rattle.dg_script.specs.declared.fault.LineFault.{LineFault}
 use Rattle.dg_script.specs.declared.place.Place.{Place}
 use Rattle.dg_script.specs.declared.line.Line.{Line}
 use Rattle.dg_script.specs.declared.line.Line.TheVariants.{Nothing, Motes, Golden, Boards, Link, Image, Cut, Happens, Round, Sweeps}
-use Rattle.dg_rules.specs.Sizes.{most_events}
 use Rattle.dg_script.specs.Items.{Item}
-use Rattle.dg_replay.specs.Items.{Beginning, begin_by, begin_behind, motes_in, lacking, next_items}
+use Rattle.dg_replay.specs.Items.{Beginning, begin_by, begin_behind, motes_in, next_items}
 use Rattle.dg_replay.specs.Boards.{BoardStopped}
-use Rattle.dg_replay.specs.Ending.{Ends, TooManyEvents, whole_lines, used, is_over, script_of, events_in, by_fault, by_events, by_boards, ending_from, ending_of}
-use Rattle.dg_replay.specs.Outcome.{IsSettled, AreWhole, NextIsWhole, DoneIsWhole, StopsAt}
+use Rattle.dg_replay.specs.Ending.{whole_lines, used, is_over, script_of, ending_from}
+use Rattle.dg_replay.specs.Outcome.{IsSettled, AreWhole, DoneIsWhole}
 use Rattle.dg_replay.proofs.EndLemmas.{is_over-true, over_more}
 use Rattle.dg_replay.proofs.GoldenLemmas.{LinesFit, front_fits, not_first, script_of_fits}
 use Rattle.dg_replay.proofs.PlayLemmas.{unplayed, second_at, later_at, link_at, event_at}
@@ -61,26 +59,6 @@ over_done input done (line ∷ rest) (x ∷ begun) left over lines parts = over_
 -- nothing was done
 pub none_whole : (input : List ℕ) → AreWhole input []
 none_whole input = λ more. ((script_of (input ++ more)).lines, refl)
-
--- a script that is too long does not end by itself
-not_fault_ends : (fault : Option (ℕ × LineFault)) → by_fault true fault ≡ Ends → ⊥
-not_fault_ends None e = cc
-not_fault_ends (Some n) e = cc
-
-not_events_end : (b : Bool) (fault : Option (ℕ × LineFault)) → (if b then TooManyEvents else by_fault true fault) ≡ Ends → ⊥
-not_events_end true fault e = cc
-not_events_end false fault e = not_fault_ends fault e
-
-not_boards_end : (o : Option ℕ) (boards : ℕ) (script : Script) → by_boards o boards (by_events true script) ≡ Ends → ⊥
-not_boards_end None boards script e = not_events_end (nat_lt most_events (events_in script.lines)) script.fault e
-not_boards_end (Some n) boards script e = cc
-
-over_not_ends : (boards : ℕ) (input : List ℕ) → is_over input ≡ true → ending_of boards input ≡ Ends → ⊥
-over_not_ends boards input over e = not_boards_end (lacking boards (script_of input).lines) boards (script_of input) (ap (λ (b : Bool). ending_from boards b (script_of input)) (sym over) ∙ e)
-
-pub over_next : (boards : ℕ) (input : List ℕ) (done rest : List Line) → is_over input ≡ true → done ++ rest ≡ (script_of input).lines → StopsAt (ending_of boards input) rest → NextIsWhole input done rest
-over_next boards input done [] over front stops = over_not_ends boards input over stops
-over_next boards input done (line ∷ rest) over front stops = over_whole input (done ++ line ∷ []) rest over (append_assoc done (line ∷ []) rest ∙ front)
 
 -- ---- how many motes there are
 

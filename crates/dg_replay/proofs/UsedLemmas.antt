@@ -1,6 +1,6 @@
 -- What is used of the bytes that were taken, where no line ends among those behind the lines that were played.
 use Rattle.std.proofs.Common.{◌≡◌, ◌≢◌, ℕ, ◌+◌, ◌-◌, ◌<◌, ◌≤◌, Bool, false, List, [], ◌∷◌, ◌++◌, length, take, append-nil, refl, ap, sym, ◌∙◌, arith}
-use Rattle.std.specs.Prelude.{if◌then◌else◌, None, Option}
+use Rattle.std.specs.Prelude.{if◌then◌else◌, Option}
 use Rattle.std.proofs.Math.Seq.{take-append-add}
 use Rattle.std.proofs.lemmas.Bool.{ne_eqb}
 use Rattle.std.proofs.lemmas.List.Elements.{All-head, All-tail}
@@ -9,9 +9,9 @@ use Rattle.dg_script.specs.Sizes.{most_used_bytes}
 use Rattle.dg_script.specs.LineReading.{HasNoEnd}
 use Rattle.dg_script.specs.Places.{first_place}
 use Rattle.dg_script.specs.Script.{script_from}
-use Rattle.dg_script.specs.declared.line.Line.{Line}
 use Rattle.dg_replay.specs.Ending.{up_to, whole_lines, used}
 use Rattle.dg_replay.specs.Fronts.{IsFront}
+use Rattle.dg_replay.specs.Outcome.{AllRead}
 use Rattle.dg_replay.specs.Replaying.{Reached}
 use Rattle.dg_replay.specs.declared.player.Player.{Player}
 use Rattle.dg_replay.proofs.EndLemmas.{is_over-true}
@@ -45,10 +45,6 @@ over_used front ahead is few over none =
 -- ---- what was played
 
 -- all lines of these texts were played
-pub record AllRead (texts : List (List ℕ)) (done : List Line) : Type 0 where
-  pub lines : done ≡ (script_from false first_place 1 texts).lines
-  pub fault : (script_from false first_place 1 texts).fault ≡ None
-
 pub all_read : (texts : List (List ℕ)) (n : ℕ) (p : Player) (initial now : List Device) (before after : Option (List ℕ)) → (r : Reached false (script_from false first_place 1 texts) [] n p initial now before after) → AllRead texts r.done
 unfolding script_from
 all_read texts n p initial now before after r = record { lines = sym (append-nil r.done) ∙ r.lines; fault = sym r.fault }

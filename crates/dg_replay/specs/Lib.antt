@@ -3,8 +3,10 @@ pub mod Boards
 pub mod Ending
 pub mod WholeLines
 pub mod Fronts
+pub mod Near
 pub mod Outcome
 pub mod Promised
 pub mod Steps
 pub mod Playing
 pub mod Replaying
+pub mod Following

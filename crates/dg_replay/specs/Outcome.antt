@@ -1,5 +1,6 @@
 -- What a replay did: the items that it played, what it wrote, and how it left the boards.
-use Rattle.std.specs.Prelude.{◌≡◌, ◌≢◌, ◌⊎◌, ℕ, ◌+◌, ◌≤◌, Bool, List, [], ◌∷◌, ◌++◌, length, map, Option, Some, None}
+use Rattle.std.specs.Prelude.{◌≡◌, ◌≢◌, ◌⊎◌, ℕ, ◌+◌, ◌≤◌, Bool, false, List, [], ◌∷◌, ◌++◌, length, map, take, Option, Some, None}
+use Rattle.std.specs.Str.Lines.{lines}
 use Rattle.std.specs.List.{flat_map}
 use Rattle.dg_words.specs.Counts.{Rose}
 use Rattle.dg_base.specs.Outside.{Takes, Puts, AtEnd}
@@ -10,7 +11,8 @@ use Rattle.dg_nor.specs.Device.{Device}
 use Rattle.dg_script.specs.Report.{report_text}
 use Rattle.dg_script.specs.Fitting.{UsesBoard}
 use Rattle.dg_script.specs.Sizes.{most_used_bytes}
-use Rattle.dg_script.specs.Script.{Script}
+use Rattle.dg_script.specs.Places.{first_place}
+use Rattle.dg_script.specs.Script.{Script, script_from}
 use Rattle.dg_script.specs.declared.line.Line.{Line}
 use Rattle.dg_script.specs.declared.line.Line.TheVariants.{Motes}
 use Rattle.dg_rules.specs.Sizes.{most_events}
@@ -18,9 +20,10 @@ use Rattle.dg_rules.specs.World.{World}
 use Rattle.dg_rules.specs.Changes.{final_lines}
 use Rattle.dg_rules.specs.Runs.{Played, Plays}
 use Rattle.dg_script.specs.Items.{Item, Happens, items_of}
+use Rattle.dg_replay.specs.Near.{IsNear}
 use Rattle.dg_replay.specs.Boards.{BoardsStand, BoardStopped, StoppedIn}
 use Rattle.dg_replay.specs.Items.{beginning_of, motes_in, next_items, events_among}
-use Rattle.dg_replay.specs.Ending.{Ending, Ends, NoBoards, TooManyEvents, FaultAt, Over, InBounds, ending_of, ending_line, status_of, script_of}
+use Rattle.dg_replay.specs.Ending.{Ending, Ends, NoBoards, TooManyEvents, FaultAt, Over, InBounds, whole_lines, ending_of, ending_line, status_of, script_of}
 
 abbrev pub item_played : Played → Item
 item_played p = p.item
@@ -150,14 +153,46 @@ abbrev pub DoneIsWhole : List ℕ → (done rest : List Line) → (begun : List 
 DoneIsWhole input done rest [] = AreWhole input done
 DoneIsWhole input done rest (item ∷ begun) = NextIsWhole input done rest
 
+-- These are the lines of these texts, each of which spells one.
+pub record AllRead (texts : List (List ℕ)) (done : List Line) : Type 0 where
+  pub lines : done ≡ (script_from false first_place 1 texts).lines
+  pub fault : (script_from false first_place 1 texts).fault ≡ None
+
+-- These are the lines of all whole lines among the bytes.
+abbrev pub AllWhole : List ℕ → List Line → Type 0
+AllWhole input done = AllRead (lines (whole_lines input)) done
+
 -- What was taken of the input is enough for what was done. A status of the rules is that of every input that begins with these bytes, or the input is at its end.
--- A fault and want of memory leave only whole lines done and begun, or the input is at its end; the line in which a board stopped is whole too.
+-- A read that failed leaves all whole lines done. Another fault and want of memory leave only whole lines done and begun, or the input is at its end; the line in which a board stopped is whole too.
 abbrev pub ReadEnough : {script : Script} → Status → (boards : ℕ) → (input : List ℕ) → (at_end : Type 0) → Progress script → (text : List ℕ) → Type 0
 ReadEnough Memory boards input at_end c text = at_end ⊎ DoneIsWhole input c.done c.rest c.begun
-ReadEnough ReadFault boards input at_end c text = AreWhole input c.done
+ReadEnough ReadFault boards input at_end c text = AreWhole input c.done × AllWhole input c.done
 ReadEnough WriteFault boards input at_end c text = at_end ⊎ (IsSettled boards input ⊎ (DoneIsWhole input c.done c.rest c.begun × IsFrontOfLines c.played text))
 ReadEnough FlashFault boards input at_end c text = at_end ⊎ NextIsWhole input c.done c.rest
 ReadEnough status boards input at_end c text = at_end ⊎ IsSettled boards input
+
+-- what is told of so many lines, the first of those that were done
+abbrev pub told_of : {script : Script} → ℕ → Progress script → List ℕ
+told_of n c = played_text (take (length (items_of (take n c.done))) c.played)
+
+-- All that is told of some first lines was written, and what was taken of the input ends near the line behind them.
+pub record ToldAndNear {script : Script} (input : List ℕ) (c : Progress script) (text : List ℕ) : Type 0 where
+  pub lines : ℕ
+  pub more : List ℕ
+  pub told : text ≡ told_of lines c ++ more
+  pub near : IsNear (lines + 1) input
+
+-- All that is told before the end of the report was written, and the end was begun.
+pub record EndBegun {script : Script} (ending : Ending) (c : Progress script) (text : List ℕ) : Type 0 where
+  pub all : ReachesEnding ending c
+  pub more : List ℕ
+  pub told : text ≡ played_text c.played ++ more
+
+-- Not much more was taken than the lines that were needed: no more than 300,002 bytes behind a line with a fault, and behind the first line whose report was not wholly written.
+abbrev pub ReadsNear : {script : Script} → Status → Ending → (input : List ℕ) → Progress script → (text : List ℕ) → Type 0
+ReadsNear BadInput (FaultAt line fault) input c text = IsNear line input
+ReadsNear WriteFault ending input c text = ToldAndNear input c text ⊎ EndBegun ending c text
+ReadsNear _ ending input c text = Unit {0}
 
 -- What a replay did. Some bytes were taken from the source: the bytes left before it and after it, where they are told, say which. What was written is told in the same way.
 pub record Replayed (status : Status) (left_before left_after written_before written_after : Option (List ℕ)) (reads_before reads_after writes_before writes_after : ℕ) (old new : List Device) : Type 0 where
@@ -172,6 +207,7 @@ pub record Replayed (status : Status) (left_before left_after written_before wri
   pub written : Puts written_before written_after text
   pub report : Wrote status (ending_of (length old) input) came text
   pub enough : ReadEnough status (length old) input (AtEnd left_after) came text
+  pub near : ReadsNear status (ending_of (length old) input) input came text
   -- nothing behind the ending was done
   pub limits : InBounds (length old) came.done (map item_played came.played)
   -- the boards of the motes stand for that world's stores, but for one that is stopped, and the others are as before

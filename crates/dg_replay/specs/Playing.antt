@@ -1,5 +1,5 @@
 -- What playing the items of a line, and the line, does.
-use Rattle.std.specs.Prelude.{◌≡◌, ℕ, ◌<◌, ◌≤◌, true, false, List, [], ◌∷◌, ◌++◌, length, map, Option, Some, None, slice_get, IfSome, OnOk, OnErr, Result, Ok, Err}
+use Rattle.std.specs.Prelude.{◌≡◌, ◌⊎◌, ℕ, ◌<◌, ◌≤◌, true, false, List, [], ◌∷◌, ◌++◌, length, map, Option, Some, None, slice_get, IfSome, OnOk, OnErr, Result, Ok, Err}
 use Rattle.std.specs.List.{AllByRecursion}
 use Rattle.dg_nor.specs.Device.{Device}
 use Rattle.dg_script.specs.Fitting.{FitsCut, FitsLine, StandsAt, IsPlayed, UsesBoard}
@@ -155,6 +155,8 @@ pub record RunsOn (done : List Line) (line : Line) (v : Option World) (text : Li
   pub items : map item_played now ≡ items_of (done ++ line ∷ [])
   pub run : RunsTo (beginning_of (done ++ line ∷ [])).world now v
   pub told : played_text now ≡ played_text played ++ text
+  -- where something is told, it goes on behind what was played before
+  pub on : (text ≡ []) ⊎ ((more : List Played) × (now ≡ played ++ more))
 
 -- What a line behind others makes of a run that leads to a world. Behind a link it is the run of the same items from a world that has the link.
 abbrev pub LineRuns : (done : List Line) → (line : Line) → (w v : Option World) → (text : List ℕ) → Type 0

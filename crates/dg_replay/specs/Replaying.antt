@@ -1,10 +1,11 @@
 -- What the steps of a replay do, text by text.
-use Rattle.std.specs.Prelude.{◌≡◌, ◌≢◌, ◌⊎◌, ℕ, ◌<◌, ◌≤◌, Bool, List, [], ◌∷◌, ◌++◌, length, map, Option, Some, None, Result, Ok, Err}
+use Rattle.std.specs.Prelude.{◌≡◌, ◌≢◌, ◌⊎◌, ℕ, ◌+◌, ◌<◌, ◌≤◌, Bool, true, false, List, [], ◌∷◌, ◌++◌, length, map, Option, Some, None, Result, Ok, Err}
 use Rattle.dg_base.specs.Outside.{Puts, PutsFront}
 use Rattle.dg_nor.specs.Device.{Device}
 use Rattle.dg_script.specs.Fitting.{UsesBoard}
 use Rattle.dg_script.specs.Lines.{line_of}
 use Rattle.dg_script.specs.Places.{place_after}
+use Rattle.dg_script.specs.Sizes.{most_used_bytes}
 use Rattle.dg_script.specs.Script.{Script, script_from}
 use Rattle.dg_script.specs.declared.fault.LineFault.{LineFault}
 use Rattle.dg_script.specs.declared.fault.LineFault.TheVariants as line_fault
@@ -18,12 +19,15 @@ use Rattle.dg_rules.specs.Runs.{Played}
 use Rattle.dg_script.specs.Items.{Item, items_of}
 use Rattle.dg_replay.specs.Boards.{BoardsStand, BoardStopped, StoppedIn}
 use Rattle.dg_replay.specs.Items.{beginning_of, motes_in, lacking}
-use Rattle.dg_replay.specs.Ending.{Ending, NoBoards, TooManyEvents, FaultAt, events_in, InBounds, ending_line}
-use Rattle.dg_replay.specs.Outcome.{Progress, ReachesEnding, AtTooMany, closing, Wrote, BoardsLeft, BoardStoppedThere, IsCaused, RunsTo, item_played, played_text}
+use Rattle.dg_replay.specs.Ending.{Ending, NoBoards, TooManyEvents, FaultAt, script_of, events_in, InBounds, ending_line}
+use Rattle.dg_replay.specs.Near.{behind_lines, IsNear}
+use Rattle.dg_replay.specs.Outcome.{Progress, ReachesEnding, AtTooMany, closing, Wrote, BoardsLeft, BoardStoppedThere, IsCaused, RunsTo, item_played, played_text, told_of, IsSettled, AreWhole, AllWhole, NextIsWhole, DoneIsWhole, ReadEnough, ReadsNear}
 use Rattle.dg_replay.specs.Playing.{Stood, PlayedLine, LineBegun, InSome, IsOneTooMany, LacksBoards, LacksImage}
 use Rattle.dg_replay.specs.declared.player.Player.{Player}
 use Rattle.dg_script.specs.declared.line.Line.{Line}
 use Rattle.dg_script.specs.declared.line.Line.TheVariants.{Motes}
+use Rattle.dg_replay.specs.declared.halt.Halt.{Halt}
+use Rattle.dg_replay.specs.declared.halt.Halt.TheVariants.{ReadFault, TooLong, Stopped}
 use Rattle.dg_replay.specs.declared.stop.Stop.{Stop}
 use Rattle.dg_replay.specs.declared.stop.Stop.TheVariants.{Memory, BadInput, WriteFault, FlashFault, TooMany, NoBoard, NoImage}
 
@@ -102,6 +106,7 @@ pub record Reached (ends : Bool) (script : Script) (texts : List (List ℕ)) (nu
   pub last : Option World
   pub lines : done ++ (script_from ends p.place number texts).lines ≡ script.lines
   pub fault : (script_from ends p.place number texts).fault ≡ script.fault
+  pub numbered : number ≡ length done + 1
   pub items : map item_played played ≡ items_of done
   pub run : RunsTo (beginning_of done).world played last
   pub told : Puts before after (played_text played)
@@ -110,15 +115,15 @@ pub record Reached (ends : Bool) (script : Script) (texts : List (List ℕ)) (nu
   -- there are boards for the motes of every line that was done
   pub boards_enough : lacking (length initial) done ≡ None
 
--- A script was played so far, what was written is a front of what is told of that, and P holds of how far.
-pub record PlayedFront (script : Script) (initial : List Device) (before after : Option (List ℕ)) (P : Progress script → Type 0) : Type 0 where
+-- A script was played so far, what was written is a front of what is told of that, and P holds of how far, and of what was written.
+pub record PlayedFront (script : Script) (initial : List Device) (before after : Option (List ℕ)) (P : Progress script → List ℕ → Type 0) : Type 0 where
   pub came : Progress script
   pub text : List ℕ
   pub more : List ℕ
   pub told : Puts before after text
   pub whole : text ++ more ≡ played_text came.played
   pub limits : InBounds (length initial) came.done (map item_played came.played)
-  pub there : P came
+  pub there : P came text
 
 -- A script was played so far, and all that is told of that was written.
 pub record PlayedUpTo (script : Script) (initial : List Device) (before after : Option (List ℕ)) (P : Progress script → Type 0) : Type 0 where
@@ -132,17 +137,53 @@ pub record HasFew (script : Script) (initial : List Device) : Type 0 where
   pub events : events_in script.lines ≤ most_events
   pub boards_enough : lacking (length initial) script.lines ≡ None
 
--- what playing all texts of a script answers
-abbrev pub LinesAnswer : Result (Player × ℕ) Stop → Bool → Script → (initial now : List Device) → (before after : Option (List ℕ)) → (write_failed : Type 0) → Type 0
-LinesAnswer (Ok reached) ends script initial now before after failed = Reached ends script [] reached.1 reached.0 initial now before after
-LinesAnswer (Err Memory) ends script initial now before after failed = PlayedFront script initial before after (λ c. BoardsStand c.last initial now)
-LinesAnswer (Err (BadInput line fault)) ends script initial now before after failed = PlayedUpTo script initial before after (λ c. (c.rest ≡ []) × (script.fault ≡ Some (line, fault)) × BoardsStand c.last initial now × HasFew script initial)
-LinesAnswer (Err WriteFault) ends script initial now before after failed = failed × PlayedFront script initial before after (λ c. BoardsLeft status.WriteFault c initial now)
-LinesAnswer (Err FlashFault) ends script initial now before after failed = PlayedUpTo script initial before after (λ c. ((line : Line) × (more : List Line) × (c.rest ≡ line ∷ more) × UsesBoard line) × BoardStoppedThere c initial now)
-LinesAnswer (Err TooMany) ends script initial now before after failed = PlayedUpTo script initial before after (λ c. AtTooMany c.left c.played × BoardsStand c.last initial now × (lacking (length initial) script.lines ≡ None))
-LinesAnswer (Err (NoBoard motes boards)) ends script initial now before after failed =
-    PlayedUpTo script initial before after (λ c. ((boards ≡ length initial) × (boards < motes)) × ((more : List Line) × (c.rest ≡ Motes motes ∷ more)) × BoardsStand c.last initial now × (lacking (length initial) c.done ≡ None))
-LinesAnswer (Err NoImage) ends script initial now before after failed = ⊥
+-- All that is told of the lines before this one was written.
+pub record ToldBefore {script : Script} (line : ℕ) (c : Progress script) (text : List ℕ) : Type 0 where
+  pub lines : ℕ
+  pub behind : line ≤ lines + 1
+  pub more : List ℕ
+  pub told : text ≡ told_of lines c ++ more
+
+-- Why playing a script stops at the line of this number, and how far it came: W holds of that, or V where a board stopped.
+abbrev pub StopsAtText : Stop → (script : Script) → (W V : Progress script → Type 0) → (number : ℕ) → (initial now : List Device) → (before after : Option (List ℕ)) → (write_failed : Type 0) → Type 0
+StopsAtText Memory script W V number initial now before after failed = PlayedFront script initial before after (λ c text. BoardsStand c.last initial now × W c)
+StopsAtText (BadInput line fault) script W V number initial now before after failed =
+    (line ≡ number) × PlayedUpTo script initial before after (λ c. (c.rest ≡ []) × (script.fault ≡ Some (line, fault)) × BoardsStand c.last initial now × HasFew script initial × W c)
+StopsAtText WriteFault script W V number initial now before after failed = failed × PlayedFront script initial before after (λ c text. BoardsLeft status.WriteFault c initial now × ToldBefore number c text × W c)
+StopsAtText FlashFault script W V number initial now before after failed = PlayedUpTo script initial before after (λ c. ((line : Line) × (more : List Line) × (c.rest ≡ line ∷ more) × UsesBoard line) × BoardStoppedThere c initial now × V c)
+StopsAtText TooMany script W V number initial now before after failed = PlayedUpTo script initial before after (λ c. AtTooMany c.left c.played × BoardsStand c.last initial now × (lacking (length initial) script.lines ≡ None) × W c)
+StopsAtText (NoBoard motes boards) script W V number initial now before after failed =
+    PlayedUpTo script initial before after
+    (λ c. ((boards ≡ length initial) × (boards < motes)) × ((more : List Line) × (c.rest ≡ Motes motes ∷ more)) × BoardsStand c.last initial now × (lacking (length initial) c.done ≡ None) × W c)
+StopsAtText NoImage script W V number initial now before after failed = ⊥
+
+-- the same where nothing more is said of how far it came
+abbrev pub StopsThere : Stop → (script : Script) → (number : ℕ) → (initial now : List Device) → (before after : Option (List ℕ)) → (write_failed : Type 0) → Type 0
+StopsThere stop script number initial now before after failed = StopsAtText stop script (λ c. Unit {0}) (λ c. Unit {0}) number initial now before after failed
+
+-- the same where these bytes were taken, which are enough for what was done
+abbrev pub StopsIn : Stop → (script : Script) → (input : List ℕ) → (at_end : Type 0) → (number : ℕ) → (initial now : List Device) → (before after : Option (List ℕ)) → (write_failed : Type 0) → Type 0
+StopsIn stop script input at_end number initial now before after failed =
+    StopsAtText stop script (λ c. at_end ⊎ DoneIsWhole input c.done c.rest c.begun) (λ c. at_end ⊎ NextIsWhole input c.done c.rest) number initial now before after failed
+
+-- where the rules end the script there, S holds
+abbrev pub ByRules : Stop → Type 0 → Type 0
+ByRules (BadInput line fault) S = S
+ByRules TooMany S = S
+ByRules (NoBoard motes boards) S = S
+ByRules stop S = Unit {0}
+
+-- What playing the lines of an input as they are read answers, where these bytes were taken.
+abbrev pub InputAnswer : Result (Player × ℕ) Halt → (input : List ℕ) → (at_end read_failed : Type 0) → (initial now : List Device) → (before after : Option (List ℕ)) → (write_failed : Type 0) → Type 0
+InputAnswer (Ok reached) input at_end read_failed initial now before after failed =
+    at_end × (length input ≤ most_used_bytes) × (behind_lines reached.1 input ≡ []) × Reached true (script_of input) [] reached.1 reached.0 initial now before after
+InputAnswer (Err ReadFault) input at_end read_failed initial now before after failed =
+    read_failed × (length input ≤ most_used_bytes) × PlayedUpTo (script_of input) initial before after (λ c. (c.begun ≡ []) × BoardsStand c.last initial now × AreWhole input c.done × AllWhole input c.done)
+InputAnswer (Err TooLong) input at_end read_failed initial now before after failed =
+    (length input ≡ most_used_bytes + 1) × ((number : ℕ) × (p : Player) × Reached false (script_of input) [] number p initial now before after)
+InputAnswer (Err (Stopped stop)) input at_end read_failed initial now before after failed =
+    (length input ≤ most_used_bytes) × ByRules stop (at_end ⊎ IsSettled (length initial) input)
+    × ((number : ℕ) × IsNear number input × StopsIn stop (script_of input) input at_end number initial now before after failed)
 
 -- A script came to its ending, and the end of its report, which is this piece, is not written yet.
 pub record ReadyToEnd (script : Script) (ending : Ending) (piece : List ℕ) (initial now : List Device) (before after : Option (List ℕ)) : Type 0 where
@@ -176,12 +217,14 @@ FinishesWith result w initial now before after failed =
     (EndsWith result status.Done (report_text (final_lines w)) before after failed × BoardsStand (Some w) initial now)
     ⊎ ((result ≡ status.FlashFault) × ((motes : ℕ) → motes ≡ length w.sites → StoppedIn motes [] [] (Some w) initial now) × (after ≡ before))
 
--- A script was replayed, as its ending and the status say.
-pub record ScriptReplayed (status : Status) (script : Script) (ending : Ending) (initial now : List Device) (before after : Option (List ℕ)) (write_failed : Type 0) : Type 0 where
+-- A script was replayed, as its ending and the status say, and these bytes were taken for it.
+pub record ScriptReplayed (status : Status) (script : Script) (ending : Ending) (input : List ℕ) (at_end : Type 0) (initial now : List Device) (before after : Option (List ℕ)) (read_failed write_failed : Type 0) : Type 0 where
   pub came : Progress script
   pub text : List ℕ
   pub written : Puts before after text
   pub report : Wrote status ending came text
+  pub enough : ReadEnough status (length initial) input at_end came text
+  pub near : ReadsNear status ending input came text
   pub limits : InBounds (length initial) came.done (map item_played came.played)
   pub boards : BoardsLeft status came initial now
-  pub caused : IsCaused status ending ⊥ write_failed (BoardStopped (motes_in came.done) initial now)
+  pub caused : IsCaused status ending read_failed write_failed (BoardStopped (motes_in came.done) initial now)

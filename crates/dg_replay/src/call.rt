@@ -8,15 +8,15 @@ ghost use Rattle.dg_replay.specs.Outcome.{Replayed};
 ghost use Rattle.dg_replay.specs.Promised.{StepsAreLegal, PagesStay, RowsStart, AllAgrees, HalvesAgree, HonestWithoutFrames, RoundsBringPages, RestsFillThePipeline, RestsComplete, StoresStayConsistent};
 ghost use Rattle.dg_replay.specs.Boards.{BoardStopped};
 
-use crate::ends::replay_text;
+use crate::ends::replay_lines;
 use crate::laws::replays_keep_the_rules;
 use dg_base::{Sink, Source, Status};
-use dg_input::{ReadStop, read_input};
 use dg_mote::a_mote_buffers_little;
 use dg_nor::Nor;
-use std::alloc::Global;
+use dg_script::LineReader;
+use std::alloc::{AllocError, Global};
 
-/// Reads the script that `input` spells, and replays it.
+/// Reads the script that `input` spells line by line, and replays it.
 fn read_and_replay<S: Source, K: Sink, N: Nor>(
     alloc: Global,
     input: &mut S,
@@ -28,15 +28,17 @@ fn read_and_replay<S: Source, K: Sink, N: Nor>(
     ensures reads { S.faults input.old ≤ S.faults input.new }
     ensures writes { K.faults out.old ≤ K.faults out.new }
 {
-    match read_input(alloc, input) {
-        Ok(text) => replay_text(alloc, &text, boards, out),
-        Err(ReadStop::Memory) => Status::Memory,
-        Err(ReadStop::ReadFault) => Status::ReadFault,
+    match LineReader::new(alloc) {
+        Ok(mut reader) => replay_lines(alloc, &mut reader, input, boards, out),
+        Err(AllocError) => Status::Memory,
     }
 }
 
 /// Replays the script that `input` spells over the boards, and writes the report to `out`. A status other than
 /// [`Status::Done`] writes its line last, where it has one.
+///
+/// The input is read line by line, and what a line reports is written before the next one is asked for: no more than
+/// 300,002 bytes are taken behind the line that is played.
 ///
 /// From the `golden` line on the boards of the script's motes are used, and no others. No more than a million events
 /// are played, and no more than 16,777,216 bytes of the input are used.

@@ -1,4 +1,4 @@
-//! Replays a script over boards: `replay` reads it, plays it line by line, and writes the report.
+//! Replays a script over boards: `replay` reads it line by line, plays each line, and writes what it reports.
 //!
 //! Scripts are of 1 to 16 motes: their chips are formatted, images are declared, injected, ordered and started, time
 //! passes, frames are sent, heard and brought from outside, rounds and sweeps bring pages from mote to mote, and power is
@@ -8,6 +8,8 @@
 mod call;
 mod ends;
 mod finish;
+mod following;
+mod halt;
 mod items;
 mod laws;
 mod lines;

@@ -1,26 +1,21 @@
-//! Replays a script over boards.
+//! Plays a line and writes what it reports.
 ghost use Rattle.std.specs.Prelude.{◌≡◌, ◌≢◌, ◌⊎◌, ◌+◌, ◌≤◌, [], ℕ, Bool, List, Option, Ok, map, length, OnOk, OnErr, Err};
-ghost use Rattle.std.specs.Str.Lines.{lines};
 ghost use Rattle.dg_words.specs.Counts.{Rose};
 ghost use Rattle.dg_base.specs.Outside.{Puts, PutsFront};
 ghost use Rattle.dg_nor.specs.Device.{Device};
 ghost use Rattle.dg_script.specs.Fitting.{StandsAt, FitsLine, IsPlayed};
 ghost use Rattle.dg_script.specs.Lines.{line_of};
-ghost use Rattle.dg_script.specs.Places.{first_place};
-ghost use Rattle.dg_script.specs.Script.{script_from};
-ghost use Rattle.dg_script.specs.Sizes.{most_used_bytes};
 ghost use Rattle.dg_rules.specs.World.{World};
 ghost use Rattle.dg_replay.specs.Playing.{Stood, Ready, Passed, MayPlay};
-ghost use Rattle.dg_replay.specs.Replaying.{StopsAtLine, BegunWritten, TextAnswer, LinesAnswer};
+ghost use Rattle.dg_replay.specs.Replaying.{StopsAtLine, BegunWritten, TextAnswer};
 ghost use Rattle.dg_script.specs.declared.line.Line.{Line};
 
 use crate::items::Told;
 use crate::player::{Player, play_line};
 use crate::stop::Stop;
-use dg_base::{Sink, WriteFailed, next_line};
+use dg_base::{Sink, WriteFailed};
 use dg_nor::Nor;
-use dg_rules::scripts_with_golden;
-use dg_script::{Line, LineFault, Place, read_line};
+use dg_script::{Line, LineFault, read_line};
 use std::alloc::{AllocError, Global};
 
 /// Writes a piece.
@@ -139,7 +134,7 @@ fn stop_at(line: u32, fault: LineFault) -> Stop
 }
 
 /// Reads the text of line `number`, plays it and writes what it reports.
-fn play_text<K: Sink, N: Nor>(
+pub fn play_text<K: Sink, N: Nor>(
     alloc: Global,
     text: &[u8],
     number: u32,
@@ -159,50 +154,4 @@ fn play_text<K: Sink, N: Nor>(
         Ok(line) => play_read(alloc, line, player, boards, out, told),
         Err(fault) => Err(stop_at(number, fault)),
     }
-}
-
-/// Plays the lines of a text, one after the other, and answers where the replay then stands, with the number of the line
-/// after the last.
-pub fn play_lines<K: Sink, N: Nor>(
-    alloc: Global,
-    text: &[u8],
-    boards: &mut Vec<N>,
-    out: &mut K,
-) -> Result<(Player, u32), Stop>
-    requires { length text.now ≤ most_used_bytes + 1 }
-    ensures answer { (ends : Bool) → LinesAnswer result ends (script_from ends first_place 1 (lines text.now)) (map N.device boards.old.items) (map N.device boards.new.items)
-        (K.written out.old) (K.written out.new) (Rose (K.faults out.old) (K.faults out.new)) }
-    ensures counts { K.faults out.old ≤ K.faults out.new }
-    ensures unfailed { result ≢ Err Stop.WriteFault → K.faults out.new ≡ K.faults out.old }
-{
-    scripts_with_golden();
-    let mut player = Player {
-        place: Place::first(alloc),
-        cut: None,
-        world: None,
-    };
-    let mut told = Told {
-        reports: Vec::new(alloc),
-        text: Vec::new(alloc),
-    };
-    let mut number = 1;
-    let mut from = 0;
-    while from < text.len() {
-        let (end, next) = next_line(text, from);
-        match play_text(
-            alloc,
-            &text[from..end],
-            number,
-            &mut player,
-            boards,
-            out,
-            &mut told,
-        ) {
-            Ok(()) => {}
-            Err(stop) => return Err(stop),
-        }
-        number += 1;
-        from = next;
-    }
-    Ok((player, number))
 }

@@ -1,0 +1,459 @@
+-- What was played of an input that is read line by line.
+use Rattle.std.proofs.Common.{◌≡◌, ◌≢◌, ◌⊎◌, ⊎_elim, inl, inr, ℕ, ◌+◌, ◌-◌, ◌<◌, ◌≤◌, ◌==◌, Bool, true, false, not, List, [], ◌∷◌, ◌++◌, length, get_or, take, All, append-nil, append_assoc, length-append, refl, ap, sym, ◌∙◌, subst, arith}
+use Rattle.std.specs.Prelude.{Option, None, Result, Ok, Err, IsErrAnd}
+use Rattle.std.specs.Str.Lines.{lines}
+use Rattle.std.proofs.lemmas.Bool.{ne_eqb}
+use Rattle.dg_base.specs.Outside.{Takes}
+use Rattle.dg_base.proofs.LineLemmas.{lines-last}
+use Rattle.dg_base.proofs.OutsideLemmas.{Takes-nil, Takes-join}
+use Rattle.dg_nor.specs.Device.{Device}
+use Rattle.dg_rules.specs.World.{World}
+use Rattle.dg_script.specs.LineReading.{Reading, HasNoEnd, IsLine, IsLastLine, Gives, IsAtEnd, IsTooLong}
+use Rattle.dg_script.specs.Places.{first_place}
+use Rattle.dg_script.specs.Script.{Script, script_from}
+use Rattle.dg_script.specs.Sizes.{most_used_bytes, most_kept}
+use Rattle.dg_script.specs.declared.line.Line.{Line}
+use Rattle.dg_replay.specs.Boards.{BoardsStand}
+use Rattle.dg_replay.specs.Items.{lacking}
+use Rattle.dg_replay.specs.Ending.{script_of, is_over, used, ending_of}
+use Rattle.dg_replay.specs.Fronts.{IsFront}
+use Rattle.dg_replay.specs.Following.{LineTaken, AllAsBefore, NextPlayed}
+use Rattle.dg_replay.specs.Near.{behind_line, behind_lines}
+use Rattle.dg_replay.specs.Outcome.{Progress, IsSettled, NextIsWhole, DoneIsWhole, AllRead, AllWhole, AreWhole}
+use Rattle.dg_replay.specs.Playing.{Stood, Ready}
+use Rattle.dg_replay.specs.Replaying.{TextAnswer, Reached, PlayedUpTo, StopsAtText, StopsThere, StopsIn, ByRules, InputAnswer}
+use Rattle.dg_replay.specs.declared.halt.Halt.{Halt}
+use Rattle.dg_replay.specs.declared.halt.Halt.TheVariants.{ReadFault, TooLong, Stopped}
+use Rattle.dg_replay.specs.declared.player.Player.{Player}
+use Rattle.dg_replay.specs.declared.stop.Stop.{Stop}
+use Rattle.dg_replay.specs.declared.stop.Stop.TheVariants.{Memory, BadInput, WriteFault, FlashFault, TooMany, NoBoard, NoImage}
+use Rattle.dg_replay.proofs.EndLemmas.{script_all, script_over, stop_ending, bounds_done}
+use Rattle.dg_replay.proofs.FollowingLemmas.{TextPlays}
+use Rattle.dg_replay.proofs.FrontLemmas.{lines_front, used_begins, script_begins, front_begins}
+use Rattle.dg_replay.proofs.GoldenLemmas.{ImageIsFound}
+use Rattle.dg_replay.proofs.LiftLemmas.{lifted, progress_whole, stops_here}
+use Rattle.dg_replay.proofs.LineByLine.{FrontPlayed, front_first, front_more, front_next, front_stopped, text_stopped, behind_more}
+use Rattle.dg_replay.proofs.NearLemmas.{behind_next, none_behind, behind_endless}
+use Rattle.dg_replay.proofs.ReplayLemmas.{reached_next, at_line, ready_of}
+use Rattle.dg_replay.proofs.UsedLemmas.{whole_of_taken, over_used, all_read}
+
+-- Lines were read and played, and of the bytes that were taken these are left.
+pub record LinesRead (left_old left_now : Option (List ℕ)) (reader : Reading) (number : ℕ) (p : Player) (initial now : List Device) (before after : Option (List ℕ)) : Type 0 where
+  pub front : List ℕ
+  pub given : ℕ
+  pub taken : Takes left_old left_now (front ++ reader.ahead)
+  pub passed : reader.passed ≡ length front
+  pub used : reader.passed + length reader.ahead ≤ most_used_bytes
+  pub numbered : number ≡ given + 1
+  pub counted : reader.number ≡ given
+  pub few : given ≤ reader.passed
+  pub played : FrontPlayed front given p initial now before after
+
+-- nothing was read
+pub lines_first : (left : Option (List ℕ)) (reader : Reading) (p : Player) (initial : List Device) (before : Option (List ℕ)) → reader.ahead ≡ [] → reader.passed ≡ 0 → reader.number ≡ 0 → p.place ≡ first_place → p.cut ≡ None → p.world ≡ None
+    → LinesRead left left reader 1 p initial initial before before
+lines_first left reader p initial before none unread first place cut world = record {
+  front = [];
+  given = 0;
+  taken = subst (λ (xs : List ℕ). Takes left left xs) (sym none) (Takes-nil left);
+  passed = unread;
+  used = omega (arith, unread, ap length none);
+  numbered = refl;
+  counted = first;
+  few = omega arith;
+  played = front_first p initial before place cut world;
+}
+
+-- what is played of a text, from a player that stands behind lines
+abbrev pub PlaysText : Result (Unit {0}) Stop → (text : List ℕ) → (number : ℕ) → (p q : Player) → (initial old now : List Device) → (mid after : Option (List ℕ)) → (failed : Type 0) → Type 0
+PlaysText r text number p q initial old now mid after failed = (done : List Line) (w : Option World) → Stood p done w initial old → TextAnswer r text number p q done w initial old now mid after failed
+
+-- the bytes that came behind the lines
+joined : (a b c : Option (List ℕ)) (front ahead more : List ℕ) → Takes a b (front ++ ahead) → Takes b c more → Takes a c (front ++ (ahead ++ more))
+joined a b c front ahead more first next = subst (λ (xs : List ℕ). Takes a c xs) (append_assoc front ahead more) (Takes-join a b c (front ++ ahead) more first next)
+
+-- and those behind one line more
+joined_line : (a c : Option (List ℕ)) (front line rest bytes : List ℕ) → bytes ≡ line ++ rest → Takes a c (front ++ bytes) → Takes a c ((front ++ line) ++ rest)
+joined_line a c front line rest bytes parts taken =
+    subst (λ (xs : List ℕ). Takes a c xs) (ap (λ (xs : List ℕ). front ++ xs) parts ∙ sym (append_assoc front line rest)) taken
+
+line_some : (text line : List ℕ) → IsLine text line → 1 ≤ length line
+line_some text line l = omega (arith, ap length l.ended, length-append l.before (10 ∷ []))
+
+-- one more line was read and played
+next_line : (a b c : Option (List ℕ)) (old new : Reading) (more line : List ℕ) (number : ℕ) (p q : Player) (initial was now : List Device) (before mid after : Option (List ℕ)) (at_end failed : Type 0)
+    → (i : LinesRead a b old number p initial was before mid) → Takes b c more → Gives (old.ahead ++ more) old new at_end → old.ahead ++ more ≡ line ++ new.ahead → IsLine new.text line
+    → PlaysText (Ok tt) new.text (old.number + 1) p q initial was now mid after failed → LinesRead a c new (number + 1) q initial now before after
+next_line a b c old new more line number p q initial was now before mid after at_end failed i taken g parts l told =
+    let some = line_some new.text line l in
+    let long : length (old.ahead ++ more) ≡ length line + length new.ahead = ap length parts ∙ length-append line new.ahead in
+    record {
+      front = i.front ++ line;
+      given = i.given + 1;
+      taken = joined_line a c i.front line new.ahead (old.ahead ++ more) parts (joined a b c i.front old.ahead more i.taken taken);
+      passed = omega (arith, g.passed, long, i.passed, length-append i.front line);
+      used = omega (arith, g.passed, g.used);
+      numbered = ap (λ k. k + 1) i.numbered;
+      counted = g.number ∙ ap (λ k. k + 1) i.counted;
+      few = omega (arith, g.passed, long, i.few, some);
+      played = front_next i.front new.text line i.given p q initial was now before mid after i.played l (λ done w s. told done w s);
+    }
+
+pub lines_next : (a b c : Option (List ℕ)) (old new : Reading) (more : List ℕ) (number : ℕ) (p q : Player) (initial was now : List Device) (before mid after : Option (List ℕ)) (at_end failed : Type 0)
+    → LinesRead a b old number p initial was before mid → Takes b c more → Gives (old.ahead ++ more) old new at_end → new.last ≡ false
+    → PlaysText (Ok tt) new.text (old.number + 1) p q initial was now mid after failed → LinesRead a c new (number + 1) q initial now before after
+lines_next a b c old new more number p q initial was now before mid after at_end failed i taken g more_lines told =
+    ⊎_elim
+    (λ l. next_line a b c old new more g.first.line number p q initial was now before mid after at_end failed i taken g g.first.parts l told)
+    (λ l. absurd (let e : true ≡ false = sym l.2.1 ∙ more_lines in cc))
+    g.first.is
+
+-- a reader has passed more where it gave a line
+pub passes : (bytes : List ℕ) (old new : Reading) (at_end : Type 0) → Gives bytes old new at_end → (old.passed < new.passed) × (new.passed ≤ most_used_bytes)
+passes bytes old new at_end g =
+    let long : length bytes ≡ length g.first.line + length new.ahead = ap length g.first.parts ∙ length-append g.first.line new.ahead in
+    let some : 1 ≤ length g.first.line = ⊎_elim (λ l. line_some new.text g.first.line l) (λ l. some_bytes g.first.line l.0.some) g.first.is in
+    (omega (arith, g.passed, long, some), omega (arith, g.passed, g.used))
+  where
+    some_bytes : (xs : List ℕ) → xs ≢ [] → 1 ≤ length xs
+    some_bytes [] some = absurd (some refl)
+    some_bytes (x ∷ xs) some = omega arith
+
+-- ---- the end of an input
+
+not_feed : (bytes : List ℕ) → HasNoEnd bytes → All (λ b. (b == 10) ≡ false) bytes
+not_feed bytes h k d within = ne_eqb (get_or bytes k d) 10 (h k d within)
+
+last_text : (front text line : List ℕ) → IsFront front → IsLastLine text line → lines (front ++ line) ≡ lines front ++ text ∷ []
+last_text front text line is l =
+    lines_front front line is
+    ∙ ap (λ (ls : List (List ℕ)). lines front ++ ls) (lines-last line (not_feed line l.whole) (some_of line l.some) ∙ ap (λ (t : List ℕ). t ∷ []) (sym l.told))
+  where
+    some_of : (xs : List ℕ) → xs ≢ [] → 0 < length xs
+    some_of [] some = absurd (some refl)
+    some_of (x ∷ xs) some = omega arith
+
+-- behind the last line
+behind_last : (front text line : List ℕ) (given : ℕ) → ((more : List ℕ) → behind_lines given (front ++ more) ≡ more) → IsLastLine text line → behind_lines (given + 1) (front ++ line) ≡ []
+behind_last front text line given behind l = behind_next given (front ++ line) ∙ ap behind_line (behind line) ∙ behind_endless line l.whole
+
+then_none : (n : ℕ) (bytes : List ℕ) → behind_lines n bytes ≡ [] → behind_lines (n + 1) bytes ≡ []
+then_none n bytes e = behind_next n bytes ∙ ap behind_line e ∙ none_behind
+
+abbrev Comes : (a c : Option (List ℕ)) → Result (Player × ℕ) Halt → (at_end read_failed : Type 0) → (initial now : List Device) → (before after : Option (List ℕ)) → (write_failed : Type 0) → Type 0
+Comes a c r at_end reads initial now before after failed = (bytes : List ℕ) × Takes a c bytes × InputAnswer r bytes at_end reads initial now before after failed
+
+at_number : (script : Script) (n m : ℕ) (q : Player) (initial now : List Device) (before after : Option (List ℕ)) → n ≡ m → Reached true script [] m q initial now before after → Reached true script [] n q initial now before after
+at_number script n m q initial now before after e r = subst (λ k. Reached true script [] k q initial now before after) (sym e) r
+
+-- the last line was read and played
+last_whole : (a c : Option (List ℕ)) (reads writes at_end : Type 0) (front line text : List ℕ) (given number : ℕ) (p q : Player) (initial was now : List Device) (before mid after : Option (List ℕ)) (failed : Type 0)
+    → FrontPlayed front given p initial was before mid → number ≡ given + 1 → Takes a c (front ++ line) → length (front ++ line) ≤ most_used_bytes → at_end
+    → IsLine text line → PlaysText (Ok tt) text (given + 1) p q initial was now mid after failed → Comes a c (Ok (q, number + 1)) at_end reads initial now before after writes
+last_whole a c reads writes at_end front line text given number p q initial was now before mid after failed f numbered taken few ended l told =
+    let input : List ℕ = front ++ line in
+    let next = front_next front text line given p q initial was now before mid after f l (λ done w s. told done w s) in
+    let same : number + 1 ≡ given + 1 + 1 = ap (λ k. k + 1) numbered in
+    let behind : behind_lines (given + 1) input ≡ [] = ap (behind_lines (given + 1)) (sym (append-nil input)) ∙ next.behind [] in
+    let script : script_from true first_place 1 (lines input ++ []) ≡ script_of input = ap (λ (ls : List (List ℕ)). script_from true first_place 1 ls) (append-nil (lines input)) ∙ sym (script_all input few) in (
+      input,
+      taken,
+      (
+        ended,
+        few,
+        ap (λ k. behind_lines k input) same ∙ then_none (given + 1) input behind,
+        at_number (script_of input) (number + 1) (given + 1 + 1) q initial now before after same (subst (λ (s : Script). Reached true s [] (given + 1 + 1) q initial now before after) script (next.reached true [])),
+      ),
+    )
+
+last_part : (a c : Option (List ℕ)) (reads writes at_end : Type 0) (front line text : List ℕ) (given number : ℕ) (p q : Player) (initial was now : List Device) (before mid after : Option (List ℕ)) (failed : Type 0)
+    → FrontPlayed front given p initial was before mid → number ≡ given + 1 → Takes a c (front ++ line) → length (front ++ line) ≤ most_used_bytes → at_end
+    → IsLastLine text line → PlaysText (Ok tt) text (given + 1) p q initial was now mid after failed → Comes a c (Ok (q, number + 1)) at_end reads initial now before after writes
+last_part a c reads writes at_end front line text given number p q initial was now before mid after failed f numbered taken few ended l told =
+    let input : List ℕ = front ++ line in
+    let r = f.reached true (text ∷ []) in
+    let script : Script = script_from true first_place 1 (lines front ++ text ∷ []) in
+    let next = reached_next true script [] text (given + 1) p q initial was now before mid after r (told r.done r.last r.stood) in
+    let same : number + 1 ≡ given + 1 + 1 = ap (λ k. k + 1) numbered in
+    let spelled : script ≡ script_of input = ap (λ (ls : List (List ℕ)). script_from true first_place 1 ls) (sym (last_text front text line f.is l)) ∙ sym (script_all input few) in (
+      input,
+      taken,
+      (
+        ended,
+        few,
+        ap (λ k. behind_lines k input) same ∙ then_none (given + 1) input (behind_last front text line given f.behind l),
+        at_number (script_of input) (number + 1) (given + 1 + 1) q initial now before after same (subst (λ (s : Script). Reached true s [] (given + 1 + 1) q initial now before after) spelled next),
+      ),
+    )
+
+pub lines_last : (a b c : Option (List ℕ)) (reads writes : Type 0) (old new : Reading) (more : List ℕ) (number : ℕ) (p q : Player) (initial was now : List Device) (before mid after : Option (List ℕ)) (at_end failed : Type 0)
+    → LinesRead a b old number p initial was before mid → Takes b c more → Gives (old.ahead ++ more) old new at_end → new.last ≡ true
+    → PlaysText (Ok tt) new.text (old.number + 1) p q initial was now mid after failed → Comes a c (Ok (q, number + 1)) at_end reads initial now before after writes
+lines_last a b c reads writes old new more number p q initial was now before mid after at_end failed i taken g last told =
+    let e = g.last last in
+    let line = g.first.line in
+    let parts : old.ahead ++ more ≡ line ++ [] = g.first.parts ∙ ap (λ (xs : List ℕ). line ++ xs) e.1 in
+    let all : Takes a c (i.front ++ line) = subst (λ (xs : List ℕ). Takes a c xs) (append-nil (i.front ++ line)) (joined_line a c i.front line [] (old.ahead ++ more) parts (joined a b c i.front old.ahead more i.taken taken)) in
+    let few : length (i.front ++ line) ≤ most_used_bytes = omega (arith, length-append i.front line, ap length parts, length-append line [], i.passed, g.used) in
+    let plays = at_given new.text old.number i.given p q initial was now mid after failed i.counted told in
+    ⊎_elim
+    (λ l. last_whole a c reads writes at_end i.front line new.text i.given number p q initial was now before mid after failed i.played i.numbered all few e.0 l plays)
+    (λ l. last_part a c reads writes at_end i.front line new.text i.given number p q initial was now before mid after failed i.played i.numbered all few e.0 l.0 plays)
+    g.first.is
+  where
+    at_given : (text : List ℕ) (n given : ℕ) (p q : Player) (initial was now : List Device) (mid after : Option (List ℕ)) (failed : Type 0) → n ≡ given → PlaysText (Ok tt) text (n + 1) p q initial was now mid after failed → PlaysText (Ok tt) text (given + 1) p q initial was now mid after failed
+    at_given text n given p q initial was now mid after failed e told = λ done w s. told done w s
+
+-- where nothing was played
+pub reached_same : (ends : Bool) (script : Script) (n : ℕ) (p q : Player) (initial was now : List Device) (before mid after : Option (List ℕ)) → AllAsBefore p q was now mid after → Reached ends script [] n p initial was before mid → Reached ends script [] n q initial now before after
+reached_same ends script n p q initial was now before mid after same r =
+    subst (λ (o : Option (List ℕ)). Reached ends script [] n q initial now before o) (sym same.told)
+    (subst (λ (ds : List Device). Reached ends script [] n q initial ds before mid) (sym same.boards) (subst (λ (x : Player). Reached ends script [] n x initial was before mid) (sym same.player) r))
+
+-- no line was left
+pub lines_end : (a b c : Option (List ℕ)) (reads writes : Type 0) (old new : Reading) (more : List ℕ) (number : ℕ) (p q : Player) (initial was now : List Device) (before mid after : Option (List ℕ)) (at_end : Type 0)
+    → LinesRead a b old number p initial was before mid → Takes b c more → IsAtEnd (old.ahead ++ more) old new at_end → AllAsBefore p q was now mid after
+    → Comes a c (Ok (q, number)) at_end reads initial now before after writes
+lines_end a b c reads writes old new more number p q initial was now before mid after at_end i taken ended same =
+    let input : List ℕ = i.front in
+    let f = i.played in
+    let all : Takes a c input = subst (λ (xs : List ℕ). Takes a c xs) (ap (λ (xs : List ℕ). i.front ++ xs) ended.none ∙ append-nil i.front) (joined a b c i.front old.ahead more i.taken taken) in
+    let few : length input ≤ most_used_bytes = omega (arith, i.passed, i.used) in
+    let behind : behind_lines i.given input ≡ [] = ap (behind_lines i.given) (sym (append-nil input)) ∙ f.behind [] in
+    let script : script_from true first_place 1 (lines input ++ []) ≡ script_of input = ap (λ (ls : List (List ℕ)). script_from true first_place 1 ls) (append-nil (lines input)) ∙ sym (script_all input few) in
+    let r : Reached true (script_of input) [] (i.given + 1) p initial was before mid = subst (λ (s : Script). Reached true s [] (i.given + 1) p initial was before mid) script (f.reached true []) in (
+      input,
+      all,
+      (
+        ended.ended,
+        few,
+        ap (λ k. behind_lines k input) i.numbered ∙ then_none i.given input behind,
+        at_number (script_of input) number (i.given + 1) q initial now before after i.numbered (reached_same true (script_of input) (i.given + 1) p q initial was now before mid after same r),
+      ),
+    )
+
+-- ---- reads that stop
+
+-- the script of the lines that were read so far
+front_reached : (front : List ℕ) (given : ℕ) (p : Player) (initial now : List Device) (before after : Option (List ℕ)) → FrontPlayed front given p initial now before after
+    → Reached false (script_from false first_place 1 (lines front)) [] (given + 1) p initial now before after
+front_reached front given p initial now before after f =
+    subst (λ (ls : List (List ℕ)). Reached false (script_from false first_place 1 ls) [] (given + 1) p initial now before after) (append-nil (lines front)) (f.reached false [])
+
+whole_read : (front bytes : List ℕ) (done : List Line) → IsFront front → HasNoEnd bytes → AllRead (lines front) done → AllWhole (front ++ bytes) done
+whole_read front bytes done is none all = subst (λ (xs : List ℕ). AllRead (lines xs) done) (sym (whole_of_taken front bytes is none)) all
+
+read_stopped : (front bytes : List ℕ) (given : ℕ) (p : Player) (initial now : List Device) (before after : Option (List ℕ)) → IsFront front → length front ≤ most_used_bytes → HasNoEnd bytes
+    → Reached false (script_from false first_place 1 (lines front)) [] (given + 1) p initial now before after
+    → PlayedUpTo (script_of (front ++ bytes)) initial before after (λ c. (c.begun ≡ []) × BoardsStand c.last initial now × AreWhole (front ++ bytes) c.done × AllWhole (front ++ bytes) c.done)
+read_stopped front bytes given p initial now before after is few none r =
+    let first : Script = script_from false first_place 1 (lines front) in
+    let c = at_line false first [] (given + 1) p initial now before after r in
+    record {
+      came = lifted (front_begins front bytes is few) c;
+      told = r.told;
+      limits = bounds_done false first (given + 1) p initial now before after r;
+      there = (refl, r.stood.boards, progress_whole front bytes is few c, whole_read front bytes r.done is none (all_read (lines front) (given + 1) p initial now before after r));
+    }
+
+pub lines_failed : (a b c : Option (List ℕ)) (reads failed writes : Type 0) → (failed → reads) → (old : Reading) (more : List ℕ) (number : ℕ) (p q : Player) (initial was now : List Device) (before mid after : Option (List ℕ)) (at_end : Type 0)
+    → LinesRead a b old number p initial was before mid → Takes b c more → failed × HasNoEnd (old.ahead ++ more) × (old.passed + length (old.ahead ++ more) ≤ most_used_bytes) × AllAsBefore p q was now mid after
+    → Comes a c (Err ReadFault) at_end reads initial now before after writes
+lines_failed a b c reads failed writes spread old more number p q initial was now before mid after at_end i taken (rose, none, fits, same) =
+    let bytes : List ℕ = old.ahead ++ more in
+    let few : length (i.front ++ bytes) ≤ most_used_bytes = omega (arith, length-append i.front bytes, i.passed, fits) in
+    let r = reached_same false (script_from false first_place 1 (lines i.front)) (i.given + 1) p q initial was now before mid after same (front_reached i.front i.given p initial was before mid i.played) in (
+      i.front ++ bytes,
+      joined a b c i.front old.ahead more i.taken taken,
+      (spread rose, few, read_stopped i.front bytes i.given q initial now before after i.played.is (omega (arith, length-append i.front bytes, few)) none r),
+    )
+
+pub lines_over : (a b c : Option (List ℕ)) (reads writes : Type 0) (old : Reading) (more : List ℕ) (number : ℕ) (p q : Player) (initial was now : List Device) (before mid after : Option (List ℕ)) (at_end : Type 0)
+    → LinesRead a b old number p initial was before mid → Takes b c more → IsTooLong (old.ahead ++ more) old × AllAsBefore p q was now mid after
+    → Comes a c (Err TooLong) at_end reads initial now before after writes
+lines_over a b c reads writes old more number p q initial was now before mid after at_end i taken (over, same) =
+    let bytes : List ℕ = old.ahead ++ more in
+    let input : List ℕ = i.front ++ bytes in
+    let long : length input ≡ most_used_bytes + 1 = omega (arith, length-append i.front bytes, i.passed, over.all) in
+    let few : length i.front ≤ most_used_bytes = omega (arith, i.passed, i.used) in
+    let none : HasNoEnd (take (most_used_bytes - length i.front) bytes) = subst (λ k. HasNoEnd (take (most_used_bytes - k) bytes)) i.passed over.none in
+    let uses : used input ≡ i.front = over_used i.front bytes i.played.is few (omega (arith, long)) none in
+    let script : script_from false first_place 1 (lines i.front) ≡ script_of input = sym (script_over input i.front (omega (arith, long)) uses) in
+    let r = reached_same false (script_from false first_place 1 (lines i.front)) (i.given + 1) p q initial was now before mid after same (front_reached i.front i.given p initial was before mid i.played) in (
+      input,
+      joined a b c i.front old.ahead more i.taken taken,
+      (long, (i.given + 1, q, subst (λ (s : Script). Reached false s [] (i.given + 1) q initial now before after) script r)),
+    )
+
+-- ---- a line at which a replay stops
+
+-- a stop is known by more of what was done
+stops_with : (stop : Stop) (script : Script) (W V : Progress script → Type 0) (number : ℕ) (initial now : List Device) (before after : Option (List ℕ)) (failed : Type 0) → ((c : Progress script) → W c) → ((c : Progress script) → V c)
+    → StopsThere stop script number initial now before after failed → StopsAtText stop script W V number initial now before after failed
+stops_with Memory script W V number initial now before after failed w v f = record { came = f.came; text = f.text; more = f.more; told = f.told; whole = f.whole; limits = f.limits; there = (f.there.0, w f.came) }
+stops_with (BadInput line fault) script W V number initial now before after failed w v (same, f) = (same, record { came = f.came; told = f.told; limits = f.limits; there = (f.there.0, f.there.1, f.there.2, f.there.3, w f.came) })
+stops_with WriteFault script W V number initial now before after failed w v (rose, f) = (rose, record { came = f.came; text = f.text; more = f.more; told = f.told; whole = f.whole; limits = f.limits; there = (f.there.0, f.there.1, w f.came) })
+stops_with FlashFault script W V number initial now before after failed w v f = record { came = f.came; told = f.told; limits = f.limits; there = (f.there.0, f.there.1, v f.came) }
+stops_with TooMany script W V number initial now before after failed w v f = record { came = f.came; told = f.told; limits = f.limits; there = (f.there.0, f.there.1, f.there.2, w f.came) }
+stops_with (NoBoard motes boards) script W V number initial now before after failed w v f = record { came = f.came; told = f.told; limits = f.limits; there = (f.there.0, f.there.1, f.there.2, f.there.3, w f.came) }
+stops_with NoImage script W V number initial now before after failed w v f = f
+
+by_rules : (stop : Stop) {S : Type 0} → S → ByRules stop S
+by_rules Memory s = tt
+by_rules (BadInput line fault) s = s
+by_rules WriteFault s = tt
+by_rules FlashFault s = tt
+by_rules TooMany s = s
+by_rules (NoBoard motes boards) s = s
+by_rules NoImage s = tt
+
+lacking_of : (stop : Stop) (script : Script) (number : ℕ) (initial now : List Device) (before after : Option (List ℕ)) (failed : Type 0) → StopsThere stop script number initial now before after failed → stop ≡ TooMany → lacking (length initial) script.lines ≡ None
+lacking_of TooMany script number initial now before after failed f e = f.there.2
+lacking_of Memory script number initial now before after failed f e = absurd cc
+lacking_of (BadInput line fault) script number initial now before after failed f e = absurd cc
+lacking_of WriteFault script number initial now before after failed f e = absurd cc
+lacking_of FlashFault script number initial now before after failed f e = absurd cc
+lacking_of (NoBoard motes boards) script number initial now before after failed f e = absurd cc
+lacking_of NoImage script number initial now before after failed f e = absurd f
+
+abbrev same_ending : (stop : Stop) (input more : List ℕ) (number : ℕ) (initial now : List Device) (before after : Option (List ℕ)) (failed : Type 0) → Type 0
+same_ending stop input more number initial now before after failed =
+    StopsThere stop (script_of (input ++ more)) number initial now before after failed → StopsThere stop (script_of input) number initial now before after failed → ByRules stop (ending_of (length initial) (input ++ more) ≡ ending_of (length initial) input)
+
+ends_same : (stop : Stop) (input more : List ℕ) (number : ℕ) (initial now : List Device) (before after : Option (List ℕ)) (failed : Type 0) → same_ending stop input more number initial now before after failed
+ends_same Memory input more number initial now before after failed f g = tt
+ends_same (BadInput line fault) input more number initial now before after failed f g =
+    stop_ending (BadInput line fault) (is_over (input ++ more)) (script_of (input ++ more)) (λ c. Unit {0}) (λ c. Unit {0}) number initial now before after failed f
+    ∙ sym (stop_ending (BadInput line fault) (is_over input) (script_of input) (λ c. Unit {0}) (λ c. Unit {0}) number initial now before after failed g)
+ends_same WriteFault input more number initial now before after failed f g = tt
+ends_same FlashFault input more number initial now before after failed f g = tt
+ends_same TooMany input more number initial now before after failed f g =
+    stop_ending TooMany (is_over (input ++ more)) (script_of (input ++ more)) (λ c. Unit {0}) (λ c. Unit {0}) number initial now before after failed f
+    ∙ sym (stop_ending TooMany (is_over input) (script_of input) (λ c. Unit {0}) (λ c. Unit {0}) number initial now before after failed g)
+ends_same (NoBoard motes boards) input more number initial now before after failed f g =
+    stop_ending (NoBoard motes boards) (is_over (input ++ more)) (script_of (input ++ more)) (λ c. Unit {0}) (λ c. Unit {0}) number initial now before after failed f
+    ∙ sym (stop_ending (NoBoard motes boards) (is_over input) (script_of input) (λ c. Unit {0}) (λ c. Unit {0}) number initial now before after failed g)
+ends_same NoImage input more number initial now before after failed f g = tt
+
+-- the rules end every input there that begins with these bytes
+settled_by : (stop : Stop) (input : List ℕ) (at_end : Type 0) (n : ℕ) → ((more : List ℕ) → ByRules stop (ending_of n (input ++ more) ≡ ending_of n input)) → ByRules stop (at_end ⊎ IsSettled n input)
+settled_by Memory input at_end n same = tt
+settled_by (BadInput line fault) input at_end n same = inr same
+settled_by WriteFault input at_end n same = tt
+settled_by FlashFault input at_end n same = tt
+settled_by TooMany input at_end n same = inr same
+settled_by (NoBoard motes boards) input at_end n same = inr same
+settled_by NoImage input at_end n same = tt
+
+-- whatever follows whole lines
+module _ (stop : Stop) (front rest : List ℕ) (is : IsFront front) (few : length front ≤ most_used_bytes) (number : ℕ) (initial now : List Device) (before after : Option (List ℕ)) (failed : Type 0)
+    (all : (ends : Bool) (more : List (List ℕ)) → StopsThere stop (script_from ends first_place 1 (lines front ++ more)) number initial now before after failed) where
+  in_more : (more : List ℕ) → StopsThere stop (script_of (front ++ more)) number initial now before after failed
+  in_more more =
+      let u = used_begins front more is few in
+      subst (λ (s : Script). StopsThere stop s number initial now before after failed) (sym (script_begins (front ++ more) (lines front) u.0 u.1)) (all (not (is_over (front ++ more))) u.0)
+
+  in_front : StopsThere stop (script_from false first_place 1 (lines front)) number initial now before after failed
+  in_front = subst (λ (ls : List (List ℕ)). StopsThere stop (script_from false first_place 1 ls) number initial now before after failed) (append-nil (lines front)) (all false [])
+
+  behind_more_bytes : (more : List ℕ) → StopsThere stop (script_of ((front ++ rest) ++ more)) number initial now before after failed
+  behind_more_bytes more = subst (λ (xs : List ℕ). StopsThere stop (script_of xs) number initial now before after failed) (sym (append_assoc front rest more)) (in_more (rest ++ more))
+
+  pub settles : (at_end : Type 0) → ByRules stop (at_end ⊎ IsSettled (length initial) (front ++ rest))
+  settles at_end = settled_by stop (front ++ rest) at_end (length initial) (λ more. ends_same stop (front ++ rest) more number initial now before after failed (behind_more_bytes more) (in_more rest))
+
+  pub stops_in : (at_end : Type 0) → StopsIn stop (script_of (front ++ rest)) (front ++ rest) at_end number initial now before after failed
+  stops_in at_end = stops_here front rest is few at_end number initial now before after failed stop in_front (lacking_of stop (script_of (front ++ rest)) number initial now before after failed (in_more rest))
+
+-- it stops at a line that ends in LF
+stopped_whole : (law : ImageIsFound) (stop : Stop) (a c : Option (List ℕ)) (reads at_end : Type 0) (front line text rest : List ℕ) (given : ℕ) (p q : Player) (initial was now : List Device) (before mid after : Option (List ℕ)) (failed worse : Type 0) → (failed → worse)
+    → FrontPlayed front given p initial was before mid → Takes a c ((front ++ line) ++ rest) → length ((front ++ line) ++ rest) ≤ most_used_bytes → length rest ≤ most_kept
+    → IsLine text line → PlaysText (Err stop) text (given + 1) p q initial was now mid after failed → Comes a c (Err (Stopped stop)) at_end reads initial now before after worse
+stopped_whole law stop a c reads at_end front line text rest given p q initial was now before mid after failed worse spread f taken fits near l answer =
+    let whole : List ℕ = front ++ line in
+    let few : length whole ≤ most_used_bytes = omega (arith, length-append whole rest, fits) in
+    let is = front_more front text line l in
+    let all = front_stopped law stop front text line given p q initial was now before mid after failed worse spread f l (λ done w s. answer done w s) in
+    let behind : behind_lines (given + 1) (whole ++ rest) ≡ rest = behind_more front text line given f.behind l rest in (
+      whole ++ rest,
+      taken,
+      (
+        fits,
+        settles stop whole rest is few (given + 1) initial now before after worse all at_end,
+        (given + 1, omega (arith, ap length behind, near), stops_in stop whole rest is few (given + 1) initial now before after worse all at_end),
+      ),
+    )
+
+-- it stops at the last line of an input that does not end in LF
+stopped_part : (law : ImageIsFound) (stop : Stop) (a c : Option (List ℕ)) (reads at_end : Type 0) (front line text : List ℕ) (given : ℕ) (p q : Player) (initial was now : List Device) (before mid after : Option (List ℕ)) (failed worse : Type 0) → (failed → worse)
+    → FrontPlayed front given p initial was before mid → Takes a c (front ++ line) → length (front ++ line) ≤ most_used_bytes → at_end
+    → IsLastLine text line → PlaysText (Err stop) text (given + 1) p q initial was now mid after failed → Comes a c (Err (Stopped stop)) at_end reads initial now before after worse
+stopped_part law stop a c reads at_end front line text given p q initial was now before mid after failed worse spread f taken fits ended l answer =
+    let input : List ℕ = front ++ line in
+    let spelled : script_from true first_place 1 (lines front ++ text ∷ []) ≡ script_of input = ap (λ (ls : List (List ℕ)). script_from true first_place 1 ls) (sym (last_text front text line f.is l)) ∙ sym (script_all input fits) in
+    let there = subst (λ (s : Script). StopsThere stop s (given + 1) initial now before after worse) spelled
+    (text_stopped law stop front text given p q initial was now before mid after failed worse spread f (λ done w s. answer done w s) true []) in (
+      input,
+      taken,
+      (
+        fits,
+        by_rules stop (inl ended),
+        (
+          given + 1,
+          omega (arith, ap length (behind_last front text line given f.behind l)),
+          stops_with stop (script_of input) (λ c. at_end ⊎ DoneIsWhole input c.done c.rest c.begun) (λ c. at_end ⊎ NextIsWhole input c.done c.rest) (given + 1) initial now before after worse (λ c. inl ended) (λ c. inl ended) there,
+        ),
+      ),
+    )
+
+pub lines_stopped : (law : ImageIsFound) (stop : Stop) (a b c : Option (List ℕ)) (reads : Type 0) (old : Reading) (more : List ℕ) (number : ℕ) (p q : Player) (initial was now : List Device) (before mid after : Option (List ℕ)) (at_end failed worse : Type 0) → (failed → worse)
+    → LinesRead a b old number p initial was before mid → Takes b c more → (text rest : List ℕ) → LineTaken (old.ahead ++ more) old at_end text rest → PlaysText (Err stop) text (old.number + 1) p q initial was now mid after failed
+    → Comes a c (Err (Stopped stop)) at_end reads initial now before after worse
+lines_stopped law stop a b c reads old more number p q initial was now before mid after at_end failed worse spread i taken text rest t answer =
+    let bytes : List ℕ = old.ahead ++ more in
+    let line = t.first.line in
+    let all = joined_line a c i.front line rest bytes t.first.parts (joined a b c i.front old.ahead more i.taken taken) in
+    let long : length bytes ≡ length line + length rest = ap length t.first.parts ∙ length-append line rest in
+    let fits : length ((i.front ++ line) ++ rest) ≤ most_used_bytes = omega (arith, length-append (i.front ++ line) rest, length-append i.front line, long, i.passed, t.used) in
+    let plays : PlaysText (Err stop) text (i.given + 1) p q initial was now mid after failed = subst (λ k. PlaysText (Err stop) text (k + 1) p q initial was now mid after failed) i.counted answer in
+    ⊎_elim
+    (λ l. stopped_whole law stop a c reads at_end i.front line text rest i.given p q initial was now before mid after failed worse spread i.played all fits t.near l plays)
+    (λ l.
+    let none : (i.front ++ line) ++ rest ≡ i.front ++ line = ap (λ (xs : List ℕ). (i.front ++ line) ++ xs) l.1 ∙ append-nil (i.front ++ line) in
+    stopped_part law stop a c reads at_end i.front line text i.given p q initial was now before mid after failed worse spread i.played
+    (subst (λ (xs : List ℕ). Takes a c xs) none all) (subst (λ (xs : List ℕ). length xs ≤ most_used_bytes) none fits) l.2 l.0 plays)
+    t.first.is
+
+-- what was played so far is ready for the next line
+pub lines_ready : (a b : Option (List ℕ)) (reader : Reading) (number : ℕ) (p : Player) (initial now : List Device) (before after : Option (List ℕ)) → LinesRead a b reader number p initial now before after → Ready p now
+lines_ready a b reader number p initial now before after i = let r = i.played.reached true [] in ready_of p r.done r.last initial now r.stood
+
+-- ---- one turn of the loop
+
+-- a line was given and played, and no line was left
+pub given_of : (given : Bool) (bytes : List ℕ) (old new : Reading) (A F N : Type 0) (P : Result (Unit {0}) Stop → List ℕ → Type 0) → given ≡ true → NextPlayed (Ok given) bytes old new A F N P → Gives bytes old new A × P (Ok tt) new.text
+given_of given bytes old new A F N P e h = subst (λ (b : Bool). NextPlayed (Ok b) bytes old new A F N P) e h
+
+pub none_of : (given : Bool) (bytes : List ℕ) (old new : Reading) (A F N : Type 0) (P : Result (Unit {0}) Stop → List ℕ → Type 0) → given ≡ false → NextPlayed (Ok given) bytes old new A F N P → IsAtEnd bytes old new A × N
+none_of given bytes old new A F N P e h = subst (λ (b : Bool). NextPlayed (Ok b) bytes old new A F N P) e h
+
+-- fewer bytes are left
+pub less_left : (n m k : ℕ) → n < m → m ≤ k → k - m < k - n
+less_left n m k h few = omega (arith, h, few)
+
+halt_is : (r : Result (Player × ℕ) Halt) (halt : Halt) → IsErrAnd r (λ e. e ≡ halt) → Err halt ≡ r
+halt_is (Ok n) halt h = absurd h
+halt_is (Err e) halt h = ap Err (sym h)
+
+-- the replay halts
+pub lines_halted : (law : ImageIsFound) (r : Result (Player × ℕ) Halt) (halt : Halt) (a b c : Option (List ℕ)) (old new : Reading) (more : List ℕ) (number : ℕ) (p q : Player) (initial was now : List Device) (before mid after : Option (List ℕ)) (at_end rose reads failed writes : Type 0)
+    → (rose → reads) → (failed → writes) → IsErrAnd r (λ e. e ≡ halt) → LinesRead a b old number p initial was before mid → Takes b c more
+    → NextPlayed (Err halt) (old.ahead ++ more) old new at_end rose (AllAsBefore p q was now mid after) (λ x t. TextPlays x t (old.number + 1) p q was now mid after failed)
+    → Comes a c r at_end reads initial now before after writes
+lines_halted law r halt a b c old new more number p q initial was now before mid after at_end rose reads failed writes spread widen is i taken h =
+    subst (λ (x : Result (Player × ℕ) Halt). Comes a c x at_end reads initial now before after writes) (halt_is r halt is) (by_halt halt h)
+  where
+    by_halt : (x : Halt) → NextPlayed (Err x) (old.ahead ++ more) old new at_end rose (AllAsBefore p q was now mid after) (λ y t. TextPlays y t (old.number + 1) p q was now mid after failed) → Comes a c (Err x) at_end reads initial now before after writes
+    by_halt ReadFault k = lines_failed a b c reads rose writes spread old more number p q initial was now before mid after at_end i taken k
+    by_halt TooLong k = lines_over a b c reads writes old more number p q initial was now before mid after at_end i taken k
+    by_halt (Stopped stop) k = lines_stopped law stop a b c reads old more number p q initial was now before mid after at_end failed writes widen i taken k.0 k.1 k.2 (λ done w s. k.3 done w initial s)

@@ -1,0 +1,46 @@
+-- What reading the next line and playing it answers.
+use Rattle.std.specs.Prelude.{◌≡◌, ℕ, ◌+◌, ◌≤◌, Bool, true, false, List, length, Option, Result, Ok, Err}
+use Rattle.dg_nor.specs.Device.{Device}
+use Rattle.dg_script.specs.LineReading.{Reading, most_kept, most_used_bytes, HasNoEnd, FirstLine, Gives, IsAtEnd, IsTooLong}
+use Rattle.dg_script.specs.declared.fault.LineFault.TheVariants as line_fault
+use Rattle.dg_script.specs.declared.line_reader.ReadStop.{ReadStop}
+use Rattle.dg_script.specs.declared.line_reader.ReadStop.TheVariants as read_stop
+use Rattle.dg_replay.specs.declared.player.Player.{Player}
+use Rattle.dg_replay.specs.declared.halt.Halt.{Halt}
+use Rattle.dg_replay.specs.declared.halt.Halt.TheVariants.{ReadFault, TooLong, Stopped}
+use Rattle.dg_replay.specs.declared.stop.Stop.{Stop}
+use Rattle.dg_replay.specs.declared.stop.Stop.TheVariants.{BadInput}
+
+-- The next line was taken, of which this is the text, and these bytes behind it.
+pub record LineTaken (bytes : List ℕ) (old : Reading) (at_end : Type 0) (text rest : List ℕ) : Type 0 where
+  pub first : FirstLine bytes at_end text rest
+  pub used : old.passed + length bytes ≤ most_used_bytes
+  pub near : length rest ≤ most_kept
+
+-- nothing was played and nothing written
+pub record AllAsBefore (p q : Player) (old new : List Device) (before after : Option (List ℕ)) : Type 0 where
+  pub player : q ≡ p
+  pub boards : new ≡ old
+  pub told : after ≡ before
+
+-- why a replay ends at a line that could not be read
+abbrev pub HaltedAs : ReadStop → Halt → Type 0
+HaltedAs read_stop.ReadFault halt = halt ≡ ReadFault
+HaltedAs read_stop.TooLong halt = halt ≡ TooLong
+HaltedAs (read_stop.Long line) halt = halt ≡ Stopped (BadInput line line_fault.Long)
+
+-- a line that was given was played, of which P says what became of it
+abbrev pub GivenPlayed : Result Bool Halt → (P : Result (Unit {0}) Stop → Type 0) → Type 0
+GivenPlayed (Ok true) P = P (Ok tt)
+GivenPlayed (Ok false) P = ⊥
+GivenPlayed (Err ReadFault) P = ⊥
+GivenPlayed (Err TooLong) P = ⊥
+GivenPlayed (Err (Stopped stop)) P = P (Err stop)
+
+-- what reading and playing the next line answers, where these are the bytes that were there and those that came
+abbrev pub NextPlayed : Result Bool Halt → (bytes : List ℕ) → (old new : Reading) → (at_end read_failed nothing : Type 0) → (P : Result (Unit {0}) Stop → (text : List ℕ) → Type 0) → Type 0
+NextPlayed (Ok true) bytes old new at_end failed nothing P = Gives bytes old new at_end × P (Ok tt) new.text
+NextPlayed (Ok false) bytes old new at_end failed nothing P = IsAtEnd bytes old new at_end × nothing
+NextPlayed (Err ReadFault) bytes old new at_end failed nothing P = failed × HasNoEnd bytes × (old.passed + length bytes ≤ most_used_bytes) × nothing
+NextPlayed (Err TooLong) bytes old new at_end failed nothing P = IsTooLong bytes old × nothing
+NextPlayed (Err (Stopped stop)) bytes old new at_end failed nothing P = (text : List ℕ) × (rest : List ℕ) × LineTaken bytes old at_end text rest × P (Err stop) text

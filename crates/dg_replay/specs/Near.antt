@@ -1,0 +1,17 @@
+-- How far behind a line bytes go.
+use Rattle.std.specs.Prelude.{ℕ, zero, suc, ◌≤◌, ◌==◌, if◌then◌else◌, List, [], ◌∷◌, length}
+use Rattle.dg_script.specs.Sizes.{most_kept}
+
+-- the bytes behind the first LF
+unfoldable pub behind_line : List ℕ → List ℕ
+behind_line [] = []
+behind_line (c ∷ cs) = if c == 10 then cs else behind_line cs
+
+-- the bytes behind so many lines
+unfoldable pub behind_lines : ℕ → List ℕ → List ℕ
+behind_lines zero bytes = bytes
+behind_lines (suc n) bytes = behind_line (behind_lines n bytes)
+
+-- no more than 300,002 bytes stand behind this line
+abbrev pub IsNear : (line : ℕ) → List ℕ → Type 0
+IsNear line bytes = length (behind_lines line bytes) ≤ most_kept

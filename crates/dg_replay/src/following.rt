@@ -1,0 +1,127 @@
+//! Plays the lines of an input one after another, as they are read.
+ghost use Rattle.std.specs.Prelude.{◌≡◌, ◌≢◌, ◌≤◌, ◌+◌, [], ℕ, List, ◌++◌, Option, map, Err};
+ghost use Rattle.dg_words.specs.Counts.{Rose};
+ghost use Rattle.dg_base.specs.Outside.{Takes, AtEnd};
+ghost use Rattle.dg_nor.specs.Device.{Device};
+ghost use Rattle.dg_rules.specs.World.{World};
+ghost use Rattle.dg_script.specs.declared.line.Line.{Line};
+ghost use Rattle.dg_replay.specs.Following.{GivenPlayed, HaltedAs, NextPlayed, AllAsBefore};
+ghost use Rattle.dg_replay.specs.Playing.{Stood, Ready};
+ghost use Rattle.dg_replay.specs.Replaying.{TextAnswer, InputAnswer};
+
+use crate::halt::Halt;
+use crate::items::Told;
+use crate::lines::play_text;
+use crate::player::Player;
+use crate::stop::Stop;
+use dg_base::{Sink, Source};
+use dg_nor::Nor;
+use dg_rules::scripts_with_golden;
+use dg_script::{LineFault, LineReader, Place, ReadStop};
+use std::alloc::Global;
+
+/// Why a replay ends at a line that could not be read.
+fn halted(stop: ReadStop) -> Halt
+    ensures { HaltedAs stop result }
+{
+    match stop {
+        ReadStop::ReadFault => Halt::ReadFault,
+        ReadStop::TooLong => Halt::TooLong,
+        ReadStop::Long { line } => Halt::Stopped(Stop::BadInput {
+            line,
+            fault: LineFault::Long,
+        }),
+    }
+}
+
+/// Plays a line that was given, and writes what it reports.
+fn play_given<K: Sink, N: Nor>(
+    alloc: Global,
+    text: &[u8],
+    number: u32,
+    player: &mut Player,
+    boards: &mut Vec<N>,
+    out: &mut K,
+    told: &mut Told,
+) -> Result<bool, Halt>
+    requires { Ready player.old (map N.device boards.old.items) }
+    ensures played { GivenPlayed result (λ r. (done : List Line) (w : Option World) (initial : List Device) → Stood player.old done w initial (map N.device boards.old.items)
+        → TextAnswer r text.now number player.old player.new done w initial (map N.device boards.old.items) (map N.device boards.new.items)
+        (K.written out.old) (K.written out.new) (Rose (K.faults out.old) (K.faults out.new))) }
+    ensures counts { K.faults out.old ≤ K.faults out.new }
+    ensures unfailed { result ≢ Err (Halt.Stopped Stop.WriteFault) → K.faults out.new ≡ K.faults out.old }
+{
+    match play_text(alloc, text, number, player, boards, out, told) {
+        Ok(()) => Ok(true),
+        Err(stop) => Err(Halt::Stopped(stop)),
+    }
+}
+
+/// Reads the next line, plays it and writes what it reports. Answers whether there was one.
+fn play_next<S: Source, K: Sink, N: Nor>(
+    alloc: Global,
+    reader: &mut LineReader,
+    input: &mut S,
+    player: &mut Player,
+    boards: &mut Vec<N>,
+    out: &mut K,
+    told: &mut Told,
+) -> Result<bool, Halt>
+    requires { Ready player.old (map N.device boards.old.items) }
+    ensures answer { (more : List ℕ) × Takes (S.left input.old) (S.left input.new) more
+        × NextPlayed result (reader.old.ahead ++ more) reader.old reader.new (AtEnd (S.left input.new)) (Rose (S.faults input.old) (S.faults input.new))
+        (AllAsBefore player.old player.new (map N.device boards.old.items) (map N.device boards.new.items) (K.written out.old) (K.written out.new))
+        (λ r text. (done : List Line) (w : Option World) (initial : List Device) → Stood player.old done w initial (map N.device boards.old.items)
+        → TextAnswer r text (reader.old.number + 1) player.old player.new done w initial (map N.device boards.old.items) (map N.device boards.new.items)
+        (K.written out.old) (K.written out.new) (Rose (K.faults out.old) (K.faults out.new))) }
+    ensures reads { S.faults input.old ≤ S.faults input.new }
+    ensures unread { result ≢ Err Halt.ReadFault → S.faults input.new ≡ S.faults input.old }
+    ensures counts { K.faults out.old ≤ K.faults out.new }
+    ensures unfailed { result ≢ Err (Halt.Stopped Stop.WriteFault) → K.faults out.new ≡ K.faults out.old }
+{
+    match reader.next(input) {
+        Ok(Some(number)) => play_given(alloc, reader.text(), number, player, boards, out, told),
+        Ok(None) => Ok(false),
+        Err(stop) => Err(halted(stop)),
+    }
+}
+
+/// Reads the lines of an input one after another and plays each before the next one is asked for. Answers where the replay
+/// then stands, with the number of the line after the last.
+pub fn play_lines<S: Source, K: Sink, N: Nor>(
+    alloc: Global,
+    reader: &mut LineReader,
+    input: &mut S,
+    boards: &mut Vec<N>,
+    out: &mut K,
+) -> Result<(Player, u32), Halt>
+    requires none { reader.old.ahead ≡ [] }
+    requires unread { reader.old.passed ≡ 0 }
+    requires first { reader.old.number ≡ 0 }
+    ensures answer { (bytes : List ℕ) × Takes (S.left input.old) (S.left input.new) bytes
+        × InputAnswer result bytes (AtEnd (S.left input.new)) (Rose (S.faults input.old) (S.faults input.new)) (map N.device boards.old.items) (map N.device boards.new.items)
+        (K.written out.old) (K.written out.new) (Rose (K.faults out.old) (K.faults out.new)) }
+    ensures reads { S.faults input.old ≤ S.faults input.new }
+    ensures unread { result ≢ Err Halt.ReadFault → S.faults input.new ≡ S.faults input.old }
+    ensures counts { K.faults out.old ≤ K.faults out.new }
+    ensures unfailed { result ≢ Err (Halt.Stopped Stop.WriteFault) → K.faults out.new ≡ K.faults out.old }
+{
+    scripts_with_golden();
+    let mut player = Player {
+        place: Place::first(alloc),
+        cut: None,
+        world: None,
+    };
+    let mut told = Told {
+        reports: Vec::new(alloc),
+        text: Vec::new(alloc),
+    };
+    let mut number = 1;
+    while play_next(alloc, reader, input, &mut player, boards, out, &mut told)? {
+        number += 1;
+        if reader.is_last() {
+            return Ok((player, number));
+        }
+    }
+    Ok((player, number))
+}
