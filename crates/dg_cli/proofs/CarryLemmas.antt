@@ -14,7 +14,7 @@ use Rattle.dg_tool.specs.Done.{ToolDone, InputRead, IsFormatted, FormatStops, We
 use Rattle.dg_command.specs.Asking.{Said, Asking, Asks, Helps, Misuses, said_by, asking}
 use Rattle.dg_command.specs.declared.command.Asked.{Asked}
 use Rattle.dg_command.specs.declared.command.Command.{Command}
-use Rattle.dg_cli.specs.Commands.{Around, SaidDone, FormatDone, InjectDone, OrderDone, BootDone}
+use Rattle.dg_cli.specs.Commands.{Around, ReadsInput, SaidDone, FormatDone, InjectDone, OrderDone, BootDone}
 
 pub said_done : (c d : Command) → c ≡ d → (s : Status) (a b : Around) → SaidDone (said_by d) s a b → SaidDone (said_by c) s a b
 said_done c d e s a b h = subst (λ (x : Command). SaidDone (said_by x) s a b) (sym e) h
@@ -72,3 +72,6 @@ asks_same a b e = ap (said_or a) e
 
 pub asked_said : (asked said : Asked) (asking_for : Asking) → asked ≡ said → asking asked ≡ asking_for → asking said ≡ asking_for
 asked_said asked said asking_for e h = ap asking (sym e) ∙ h
+
+pub reads_same : (a b : Asking) → a ≡ b → ReadsInput a → ReadsInput b
+reads_same a b e h = subst ReadsInput e h

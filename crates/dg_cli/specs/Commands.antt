@@ -10,7 +10,7 @@ use Rattle.dg_control.specs.declared.snapshot.Order.{Order}
 use Rattle.dg_volume.specs.Store.{Store}
 use Rattle.dg_volume.specs.Trails.{inject_trail, order_trail}
 use Rattle.dg_replay.specs.Outcome.{Replayed}
-use Rattle.dg_command.specs.Asking.{Said, Replay, Serve, Format, Inject, Order as OrderSaid, Boot, Ping, Dump, Trial, Asking, Asks, Helps, Misuses}
+use Rattle.dg_command.specs.Asking.{Said, Replay, Serve, Format, Inject, Order as OrderSaid, Boot, Ping, Dump, Trial, Wrap, Check, Receive, Drip, Base, Asking, Asks, Helps, Misuses}
 use Rattle.dg_tool.specs.Endings.{Ending, FirstAs, content_in}
 use Rattle.dg_tool.specs.Verbs.{format_ending, inject_ending, order_ending, power_boot, boot_ending, ping_ending, dump_ending}
 use Rattle.dg_tool.specs.Done.{ToolDone, InputRead, IsFormatted, FormatStops, WentOn, StopsOn, BootedOn}
@@ -88,7 +88,7 @@ pub record HelpDone (status : Status) (a b : Around) : Type 0 where
   pub boards : b.boards ≡ a.boards
   pub told : HelpTold status a.written b.written a.writes b.writes
 
--- `serve` and `trial` are still to come: their words are taken as none
+-- the commands `serve`, `trial`, `wrap`, `check`, `receive`, `drip` and `base` are still to come: their words are taken as none
 abbrev pub SaidDone : Said → Status → Around → Around → Type 0
 SaidDone (Replay flashes) status a b = ReplayDone status a b
 SaidDone (Serve turns seed flashes) status a b = UsageDone status a b
@@ -99,6 +99,11 @@ SaidDone (Boot flash) status a b = BootDone status a b
 SaidDone (Ping flash) status a b = PingDone status a b
 SaidDone (Dump image flash) status a b = DumpDone image status a b
 SaidDone (Trial motes pages seed) status a b = UsageDone status a b
+SaidDone Wrap status a b = UsageDone status a b
+SaidDone (Check image root flash) status a b = UsageDone status a b
+SaidDone (Receive image version name root flash) status a b = UsageDone status a b
+SaidDone Drip status a b = UsageDone status a b
+SaidDone (Base id step seed flash) status a b = UsageDone status a b
 
 -- by what the words ask for; the words themselves may take more memory than there is
 abbrev pub AskedDone : Asking → Status → Around → Around → Type 0

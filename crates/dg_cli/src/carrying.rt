@@ -4,7 +4,7 @@ ghost use Rattle.dg_words.specs.Counts.{Rose};
 ghost use Rattle.dg_replay.specs.Ending.{InLimits, script_of};
 ghost use Rattle.dg_replay.specs.Items.{motes_in};
 ghost use Rattle.dg_replay.specs.Boards.{BoardStopped};
-ghost use Rattle.dg_command.specs.Asking.{Replay, Asks, said_by, has_name};
+ghost use Rattle.dg_command.specs.Asking.{Replay, Asks, said_by, is_well_formed};
 ghost use Rattle.dg_command.specs.Bounds.{IsInRange};
 ghost use Rattle.dg_cli.specs.Commands.{Around, SaidDone, ReadsInput};
 
@@ -25,7 +25,7 @@ pub(crate) fn carry_out<S: Source, K: Sink, N: Nor>(
     boards: &mut Vec<N>,
 ) -> Status
     requires ranges { IsInRange (said_by command) }
-    requires named { has_name (said_by command) ≡ true }
+    requires formed { is_well_formed (said_by command) ≡ true }
     ensures done { let before : Around = record { left = S.left input.old; reads = S.faults input.old; written = K.written out.old; writes = K.faults out.old; boards = map N.device boards.old.items } in
         let after : Around = record { left = S.left input.new; reads = S.faults input.new; written = K.written out.new; writes = K.faults out.new; boards = map N.device boards.new.items } in
         SaidDone (said_by command) result before after }
@@ -79,6 +79,26 @@ pub(crate) fn carry_out<S: Source, K: Sink, N: Nor>(
             motes: _motes,
             pages: _pages,
             seed: _seed,
+        } => tell_usage(out),
+        Command::Wrap => tell_usage(out),
+        Command::Check {
+            image: _image,
+            root: _root,
+            flash: _flash,
+        } => tell_usage(out),
+        Command::Receive {
+            image: _image,
+            version: _version,
+            name: _name,
+            root: _root,
+            flash: _flash,
+        } => tell_usage(out),
+        Command::Drip => tell_usage(out),
+        Command::Base {
+            id: _id,
+            step: _step,
+            seed: _seed,
+            flash: _flash,
         } => tell_usage(out),
     }
 }

@@ -14,7 +14,7 @@ use Rattle.dg_command.specs.Apps.{app_for, app_of_verb, rules_of, top_app}
 use Rattle.dg_command.specs.Verbs.{word_of}
 use Rattle.dg_command.proofs.KindLemmas.{AtMostOne, one_kind}
 use Rattle.dg_command.specs.declared.verbs.Verb.{Verb}
-use Rattle.dg_command.specs.declared.verbs.Verb.TheVariants.{Replay, Serve, Format, Inject, Order, Boot, Ping, Dump, Trial}
+use Rattle.dg_command.specs.declared.verbs.Verb.TheVariants.{Replay, Serve, Format, Inject, Order, Boot, Ping, Dump, Trial, Wrap, Check, Receive, Drip, Base}
 
 -- ---- arguments added in turn
 
@@ -62,6 +62,11 @@ simple_rules Boot = refl
 simple_rules Ping = refl
 simple_rules Dump = refl
 simple_rules Trial = refl
+simple_rules Wrap = refl
+simple_rules Check = refl
+simple_rules Receive = refl
+simple_rules Drip = refl
+simple_rules Base = refl
 
 -- a command to which the arguments of a verb were added is that verb's
 pub built_app : (v : Verb) (xs : List Arg) (old new : Command) → app_of old ≡ new_app (word_of v) → map rule_of xs ≡ rules_of v → AddsInTurn AddsArg old xs new
@@ -85,6 +90,11 @@ plain_for (Some Boot) = refl
 plain_for (Some Ping) = refl
 plain_for (Some Dump) = refl
 plain_for (Some Trial) = refl
+plain_for (Some Wrap) = refl
+plain_for (Some Check) = refl
+plain_for (Some Receive) = refl
+plain_for (Some Drip) = refl
+plain_for (Some Base) = refl
 
 pub simple_for : (o : Option Verb) → is_simple (app_for o) ≡ true
 simple_for o = (both (is_simple (app_for o)) _ (plain_for o)).0
@@ -101,3 +111,8 @@ one_for (Some Boot) words = one_kind (built (app_of_verb Boot)).top refl (argume
 one_for (Some Ping) words = one_kind (built (app_of_verb Ping)).top refl (argument_words (app_of_verb Ping) words)
 one_for (Some Dump) words = one_kind (built (app_of_verb Dump)).top refl (argument_words (app_of_verb Dump) words)
 one_for (Some Trial) words = one_kind (built (app_of_verb Trial)).top refl (argument_words (app_of_verb Trial) words)
+one_for (Some Wrap) words = one_kind (built (app_of_verb Wrap)).top refl (argument_words (app_of_verb Wrap) words)
+one_for (Some Check) words = one_kind (built (app_of_verb Check)).top refl (argument_words (app_of_verb Check) words)
+one_for (Some Receive) words = one_kind (built (app_of_verb Receive)).top refl (argument_words (app_of_verb Receive) words)
+one_for (Some Drip) words = one_kind (built (app_of_verb Drip)).top refl (argument_words (app_of_verb Drip) words)
+one_for (Some Base) words = one_kind (built (app_of_verb Base)).top refl (argument_words (app_of_verb Base) words)

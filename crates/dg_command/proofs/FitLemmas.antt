@@ -7,11 +7,11 @@ use Rattle.clap.specs.declared.error.kind.ErrorKind.{ErrorKind}
 use Rattle.clap.specs.declared.error.kind.ErrorKind.TheVariants.{DisplayHelp, DisplayVersion}
 use Rattle.clap.specs.declared.parser.matches.ArgMatches.{ArgMatches}
 use Rattle.dg_command.specs.Apps.{app_for, app_of_verb, most_number}
-use Rattle.dg_command.specs.Asking.{Said, has_name, named, refused_by, said_at, taken_by}
+use Rattle.dg_command.specs.Asking.{Said, is_well_formed, named, refused_by, said_at, taken_by}
 use Rattle.dg_command.specs.Bounds.{FitsRanges, IsInRange}
-use Rattle.dg_command.specs.Sizes.{network_images, last_slot, most_turns, most_room, least_motes, most_motes, least_pages, most_pages}
+use Rattle.dg_command.specs.Sizes.{network_images, last_slot, most_turns, most_room, least_motes, most_motes, least_pages, most_pages, most_step, most_id}
 use Rattle.dg_command.specs.declared.verbs.Verb.{Verb}
-use Rattle.dg_command.specs.declared.verbs.Verb.TheVariants.{Replay, Serve, Format, Inject, Order, Boot, Ping, Dump, Trial}
+use Rattle.dg_command.specs.declared.verbs.Verb.TheVariants.{Replay, Serve, Format, Inject, Order, Boot, Ping, Dump, Trial, Wrap, Check, Receive, Drip, Base}
 use Rattle.dg_command.proofs.RangeLemmas.{in_range}
 
 numbers : (v : Verb) (old : Command) (m : ArgMatches) → app_of old ≡ app_of_verb v → IsParsedFrom old m → IsInRange (said_at v (rows_of (found_of m)))
@@ -34,11 +34,20 @@ numbers Trial old m is p =
     let motes = in_range Trial old m 0 least_motes most_motes 8 (codes "motes") is p (omega arith) (λ d. refl) refl refl (omega arith) in
     let pages = in_range Trial old m 1 least_pages most_pages 8 (codes "pages") is p (omega arith) (λ d. refl) refl refl (omega arith) in
     (motes.0, motes.1, pages.0, pages.1)
+numbers Wrap old m is p = tt
+numbers Check old m is p = (in_range Check old m 0 0 last_slot 8 (codes "image") is p (omega arith) (λ d. refl) refl refl (omega arith)).1
+numbers Receive old m is p =
+    let image = in_range Receive old m 0 1 last_slot 8 (codes "image") is p (omega arith) (λ d. refl) refl refl (omega arith) in
+    (image.0, image.1, (in_range Receive old m 1 1 most_number 32 (codes "ver") is p (omega arith) (λ d. refl) refl refl (omega arith)).0)
+numbers Drip old m is p = tt
+numbers Base old m is p =
+    let step = in_range Base old m 1 1 most_step 32 (codes "step") is p (omega arith) (λ d. refl) refl refl (omega arith) in
+    ((in_range Base old m 0 0 most_id 16 (codes "id") is p (omega arith) (λ d. refl) refl refl (omega arith)).1, step.0, step.1)
 
 named_fits : (s : Said) → IsInRange s → FitsRanges (named s)
-named_fits s h = go (has_name s) refl
+named_fits s h = go (is_well_formed s) refl
   where
-    go : (b : Bool) → has_name s ≡ b → FitsRanges (named s)
+    go : (b : Bool) → is_well_formed s ≡ b → FitsRanges (named s)
     go true e = rw e (h, e)
     go false e = rw e tt
 

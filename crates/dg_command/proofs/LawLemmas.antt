@@ -4,7 +4,7 @@ use Rattle.clap.specs.Words.{Kinds, Text, fault_of, matches_of}
 use Rattle.clap.specs.declared.error.kind.ErrorKind.{ErrorKind}
 use Rattle.clap.specs.declared.error.kind.ErrorKind.TheVariants.{DisplayHelp, DisplayVersion}
 use Rattle.dg_command.specs.Apps.{app_for, app_of_verb}
-use Rattle.dg_command.specs.Asking.{Asking, Asks, Misuses, Said, answer_for, asked_of, by_fault, has_name, named, refused_by, said_at, taken_by}
+use Rattle.dg_command.specs.Asking.{Asking, Asks, Misuses, Said, answer_for, asked_of, by_fault, is_well_formed, named, refused_by, said_at, taken_by}
 use Rattle.dg_command.specs.Verbs.{verb_in}
 use Rattle.dg_command.specs.declared.verbs.Verb.{Verb}
 
@@ -22,14 +22,14 @@ taken_fault : (ks : Kinds) (x : Asking) (said : Said) → by_fault ks x ≡ Asks
 taken_fault [] x said e = e
 taken_fault (k ∷ ks) x said e = absurd (refusal k said e)
 
-named_is : (s said : Said) → named s ≡ Asks said → (s ≡ said) × (has_name said ≡ true)
-named_is s said e = go (has_name s) refl
+named_is : (s said : Said) → named s ≡ Asks said → (s ≡ said) × (is_well_formed said ≡ true)
+named_is s said e = go (is_well_formed s) refl
   where
-    go : (b : Bool) → has_name s ≡ b → (s ≡ said) × (has_name said ≡ true)
+    go : (b : Bool) → is_well_formed s ≡ b → (s ≡ said) × (is_well_formed said ≡ true)
     go true h =
         let same : Asks s ≡ Asks said = rw h at e in
         let is : s ≡ said = cc in
-        (is, ap has_name (sym is) ∙ h)
+        (is, ap is_well_formed (sym is) ∙ h)
     go false h =
         let bad : Misuses ≡ Asks said = rw h at e in
         absurd cc
@@ -52,19 +52,19 @@ was_taken words said v is asks = no_fault (fault_of (app_of_verb v) words) (take
 pub has_values : (words : List Text) (said : Said) (v : Verb) → verb_in words ≡ Some v → asked_of words ≡ Asks said → said ≡ said_at v (matches_of (app_of_verb v) words)
 has_values words said v is asks = sym (named_is (said_at v (matches_of (app_of_verb v) words)) said (taken_is (Some v) words said (as_answer words (Some v) said is asks))).0
 
-named_for : (o : Option Verb) (words : List Text) (said : Said) → answer_for o words ≡ Asks said → has_name said ≡ true
+named_for : (o : Option Verb) (words : List Text) (said : Said) → answer_for o words ≡ Asks said → is_well_formed said ≡ true
 named_for (Some v) words said e = (named_is (said_at v (matches_of (app_of_verb v) words)) said (taken_is (Some v) words said e)).1
 named_for None words said e =
     let bad : Misuses ≡ Asks said = taken_is None words said e in
     absurd cc
 
-pub was_named : (words : List Text) (said : Said) → asked_of words ≡ Asks said → has_name said ≡ true
+pub was_named : (words : List Text) (said : Said) → asked_of words ≡ Asks said → is_well_formed said ≡ true
 was_named words said asks = named_for (verb_in words) words said (as_answer words (verb_in words) said refl asks)
 
-named_yes : (s : Said) → has_name s ≡ true → named s ≡ Asks s
+named_yes : (s : Said) → is_well_formed s ≡ true → named s ≡ Asks s
 named_yes s h = rw h refl
 
-pub is_command : (words : List Text) (v : Verb) → verb_in words ≡ Some v → fault_of (app_of_verb v) words ≡ [] → has_name (said_at v (matches_of (app_of_verb v) words)) ≡ true
+pub is_command : (words : List Text) (v : Verb) → verb_in words ≡ Some v → fault_of (app_of_verb v) words ≡ [] → is_well_formed (said_at v (matches_of (app_of_verb v) words)) ≡ true
     → asked_of words ≡ Asks (said_at v (matches_of (app_of_verb v) words))
 unfolding asked_of
 is_command words v is none name =

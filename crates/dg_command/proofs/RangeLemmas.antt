@@ -26,7 +26,7 @@ use Rattle.dg_command.specs.Apps.{app_of_verb, number_option, rules_of}
 use Rattle.dg_command.specs.Values.{number_at, number_in}
 use Rattle.dg_command.proofs.ReadLemmas.{digits_from, digits_pass, is_read}
 use Rattle.dg_command.specs.declared.verbs.Verb.{Verb}
-use Rattle.dg_command.specs.declared.verbs.Verb.TheVariants.{Replay, Serve, Format, Inject, Order, Boot, Ping, Dump, Trial}
+use Rattle.dg_command.specs.declared.verbs.Verb.TheVariants.{Replay, Serve, Format, Inject, Order, Boot, Ping, Dump, Trial, Wrap, Check, Receive, Drip, Base}
 
 -- ---- the number that a text writes, as `signed_reads` wants it
 
@@ -78,6 +78,11 @@ ready Boot = refl
 ready Ping = refl
 ready Dump = refl
 ready Trial = refl
+ready Wrap = refl
+ready Check = refl
+ready Receive = refl
+ready Drip = refl
+ready Base = refl
 
 free : (v : Verb) → list_all (λ (r : Rule). r.is_free) (rules_of v) ≡ true
 free Replay = refl
@@ -89,6 +94,11 @@ free Boot = refl
 free Ping = refl
 free Dump = refl
 free Trial = refl
+free Wrap = refl
+free Check = refl
+free Receive = refl
+free Drip = refl
+free Base = refl
 
 rules_are : (v : Verb) (old : Command) → app_of old ≡ app_of_verb v → map rule_of (args_of old) ≡ rules_of v
 unfolding app_of_verb

@@ -5,9 +5,9 @@ use Rattle.clap.specs.Simple.{new_shape}
 use Rattle.clap.specs.declared.builder.action.ArgAction.TheVariants.{Set, Append}
 use Rattle.clap.specs.declared.builder.value_parser.ValueParser.TheVariants as vp
 use Rattle.dg_command.specs.Verbs.{word_of}
-use Rattle.dg_command.specs.Sizes.{network_images, last_slot, most_turns, most_room, least_motes, most_motes, least_pages, most_pages}
+use Rattle.dg_command.specs.Sizes.{network_images, last_slot, most_turns, most_room, least_motes, most_motes, least_pages, most_pages, most_step, most_id}
 use Rattle.dg_command.specs.declared.verbs.Verb.{Verb}
-use Rattle.dg_command.specs.declared.verbs.Verb.TheVariants.{Replay, Serve, Format, Inject, Order, Boot, Ping, Dump, Trial}
+use Rattle.dg_command.specs.declared.verbs.Verb.TheVariants.{Replay, Serve, Format, Inject, Order, Boot, Ping, Dump, Trial, Wrap, Check, Receive, Drip, Base}
 
 -- the largest number of 32 bits
 abbrev pub most_number : ℕ
@@ -29,6 +29,13 @@ image_option = number_option (codes "image") 0 network_images
 -- an image that a chip has a slot for
 abbrev pub slot_option : Rule
 slot_option = number_option (codes "image") 0 last_slot
+
+-- a slot that is not golden's
+abbrev pub other_slot_option : Rule
+other_slot_option = number_option (codes "image") 1 last_slot
+
+abbrev pub root_option : Rule
+root_option = text_option (codes "root")
 
 abbrev pub version_option : Rule
 version_option = number_option (codes "ver") 1 most_number
@@ -55,6 +62,11 @@ rules_of Ping = flash_word ∷ []
 rules_of Dump = slot_option ∷ flash_word ∷ []
 rules_of Trial =
     number_option (codes "motes") least_motes most_motes ∷ number_option (codes "pages") least_pages most_pages ∷ seed_option ∷ []
+rules_of Wrap = []
+rules_of Check = slot_option ∷ root_option ∷ flash_word ∷ []
+rules_of Receive = other_slot_option ∷ version_option ∷ text_option (codes "name") ∷ root_option ∷ flash_word ∷ []
+rules_of Drip = []
+rules_of Base = number_option (codes "id") 0 most_id ∷ number_option (codes "step") 1 most_step ∷ seed_option ∷ flash_word ∷ []
 
 -- a command of a verb, and one for words without a verb, which has help and a version and takes no word
 unfoldable pub app_of_verb : Verb → App

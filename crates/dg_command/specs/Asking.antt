@@ -1,11 +1,12 @@
 -- What words ask for.
-use Rattle.std.specs.Prelude.{ℕ, Bool, true, if◌then◌else◌, List, [], ◌∷◌, map, Option, Some, None, codes, string_bytes}
+use Rattle.std.specs.Prelude.{ℕ, Bool, true, ◌&&◌, if◌then◌else◌, List, [], ◌∷◌, map, Option, Some, None, codes, string_bytes}
 use Rattle.dg_base.specs.Texts.{spells_name}
 use Rattle.clap.specs.Words.{Kinds, Row, Text, fault_of, matches_of}
 use Rattle.clap.specs.declared.error.kind.ErrorKind.{ErrorKind}
 use Rattle.clap.specs.declared.error.kind.ErrorKind.TheVariants.{DisplayHelp, DisplayVersion}
 use Rattle.dg_command.specs.Apps.{app_for}
 use Rattle.dg_command.specs.Values.{number_at, text_at, texts_at}
+use Rattle.dg_command.specs.Roots.{spells_root}
 use Rattle.dg_command.specs.Verbs.{verb_in}
 use Rattle.dg_command.specs.declared.verbs.Verb.{Verb}
 use Rattle.dg_command.specs.declared.verbs.Verb.TheVariants as verb
@@ -25,6 +26,11 @@ pub data Said : Type 0 where
   Ping : (flash : Text) → Said
   Dump : (image : ℕ) → (flash : Text) → Said
   Trial : (motes pages seed : ℕ) → Said
+  Wrap : Said
+  Check : (image : ℕ) → (root flash : Text) → Said
+  Receive : (image version : ℕ) → (name root flash : Text) → Said
+  Drip : Said
+  Base : (id step seed : ℕ) → (flash : Text) → Said
 
 -- a command, a text of help, or neither
 pub data Asking : Type 0 where
@@ -44,6 +50,11 @@ said_by (command.Boot flash) = Boot (string_bytes flash)
 said_by (command.Ping flash) = Ping (string_bytes flash)
 said_by (command.Dump image flash) = Dump image (string_bytes flash)
 said_by (command.Trial motes pages seed) = Trial motes pages seed
+said_by command.Wrap = Wrap
+said_by (command.Check image root flash) = Check image (string_bytes root) (string_bytes flash)
+said_by (command.Receive image version name root flash) = Receive image version (string_bytes name) (string_bytes root) (string_bytes flash)
+said_by command.Drip = Drip
+said_by (command.Base id step seed flash) = Base id step seed (string_bytes flash)
 
 abbrev pub asking : Asked → Asking
 asking (asked.Command c) = Asks (said_by c)
@@ -63,17 +74,25 @@ said_at verb.Boot rows = Boot (text_at (codes "FLASH") rows)
 said_at verb.Ping rows = Ping (text_at (codes "FLASH") rows)
 said_at verb.Dump rows = Dump (number_at 8 (codes "image") rows) (text_at (codes "FLASH") rows)
 said_at verb.Trial rows = Trial (number_at 8 (codes "motes") rows) (number_at 8 (codes "pages") rows) (number_at 32 (codes "seed") rows)
+said_at verb.Wrap rows = Wrap
+said_at verb.Check rows = Check (number_at 8 (codes "image") rows) (text_at (codes "root") rows) (text_at (codes "FLASH") rows)
+said_at verb.Receive rows =
+    Receive (number_at 8 (codes "image") rows) (number_at 32 (codes "ver") rows) (text_at (codes "name") rows) (text_at (codes "root") rows) (text_at (codes "FLASH") rows)
+said_at verb.Drip rows = Drip
+said_at verb.Base rows = Base (number_at 16 (codes "id") rows) (number_at 32 (codes "step") rows) (number_at 32 (codes "seed") rows) (text_at (codes "FLASH") rows)
 
--- whether the name that a command gives an image is one
-abbrev pub has_name : Said → Bool
-has_name (Format name used flash) = spells_name name
-has_name (Inject image version name flash) = spells_name name
-has_name _ = true
+-- whether the texts of a command have their form: the name that it gives an image is one, and so is a root
+abbrev pub is_well_formed : Said → Bool
+is_well_formed (Format name used flash) = spells_name name
+is_well_formed (Inject image version name flash) = spells_name name
+is_well_formed (Check image root flash) = spells_root root
+is_well_formed (Receive image version name root flash) = spells_name name && spells_root root
+is_well_formed _ = true
 
 abbrev pub named : Said → Asking
-named said = if has_name said then Asks said else Misuses
+named said = if is_well_formed said then Asks said else Misuses
 
--- words that `clap` takes: those of a verb are its command, unless the name is none
+-- words that `clap` takes: those of a verb are its command, unless a name or a root is none
 abbrev pub taken_by : Option Verb → List Row → Asking
 taken_by (Some verb) rows = named (said_at verb rows)
 taken_by None rows = Misuses
@@ -107,6 +126,11 @@ flashes_said (Boot flash) = flash ∷ []
 flashes_said (Ping flash) = flash ∷ []
 flashes_said (Dump image flash) = flash ∷ []
 flashes_said (Trial motes pages seed) = []
+flashes_said Wrap = []
+flashes_said (Check image root flash) = flash ∷ []
+flashes_said (Receive image version name root flash) = flash ∷ []
+flashes_said Drip = []
+flashes_said (Base id step seed flash) = flash ∷ []
 
 abbrev pub flashes_of : Asking → List Text
 flashes_of (Asks said) = flashes_said said

@@ -1,7 +1,7 @@
 -- The ranges of a command's values.
 use Rattle.std.specs.Prelude.{◌≡◌, ◌≤◌, ⊤, true}
-use Rattle.dg_command.specs.Asking.{Said, Replay, Serve, Format, Inject, Order, Boot, Ping, Dump, Trial, Asking, Asks, Helps, Misuses, has_name}
-use Rattle.dg_command.specs.Sizes.{network_images, last_slot, most_turns, most_room, least_motes, most_motes, least_pages, most_pages}
+use Rattle.dg_command.specs.Asking.{Said, Replay, Serve, Format, Inject, Order, Boot, Ping, Dump, Trial, Wrap, Check, Receive, Drip, Base, Asking, Asks, Helps, Misuses, is_well_formed}
+use Rattle.dg_command.specs.Sizes.{network_images, last_slot, most_turns, most_room, least_motes, most_motes, least_pages, most_pages, most_step, most_id}
 
 abbrev pub IsInRange : Said → Type 0
 IsInRange (Replay flashes) = ⊤
@@ -13,9 +13,14 @@ IsInRange (Boot flash) = ⊤
 IsInRange (Ping flash) = ⊤
 IsInRange (Dump image flash) = image ≤ last_slot
 IsInRange (Trial motes pages seed) = (least_motes ≤ motes) × (motes ≤ most_motes) × (least_pages ≤ pages) × (pages ≤ most_pages)
+IsInRange Wrap = ⊤
+IsInRange (Check image root flash) = image ≤ last_slot
+IsInRange (Receive image version name root flash) = (1 ≤ image) × (image ≤ last_slot) × (1 ≤ version)
+IsInRange Drip = ⊤
+IsInRange (Base id step seed flash) = (id ≤ most_id) × (1 ≤ step) × (step ≤ most_step)
 
--- a command's numbers are in their ranges, and the name that it gives an image is one
+-- a command's numbers are in their ranges, and its texts have their form
 abbrev pub FitsRanges : Asking → Type 0
-FitsRanges (Asks said) = IsInRange said × (has_name said ≡ true)
+FitsRanges (Asks said) = IsInRange said × (is_well_formed said ≡ true)
 FitsRanges Helps = ⊤
 FitsRanges Misuses = ⊤

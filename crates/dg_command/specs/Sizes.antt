@@ -1,5 +1,5 @@
 -- The ranges of a command's numbers. Those of this profile that stand here are the program's own.
-use Rattle.std.specs.Prelude.{ℕ, ◌-◌}
+use Rattle.std.specs.Prelude.{ℕ, ◌-◌, ◌*◌}
 pub use Rattle.dg_base.specs.Sizes.{most_motes, network_images}
 pub use Rattle.dg_object.specs.Sizes.{slots, most_pages}
 pub use Rattle.dg_control.specs.Sizes.{most_room}
@@ -19,3 +19,18 @@ least_motes = 2
 -- the pages of a trial's image, at least: its descriptor, and one page of the image
 abbrev pub least_pages : ℕ
 least_pages = 2
+
+-- the milliseconds between two events of a base mote, at most. There is one at least
+abbrev pub most_step : ℕ
+most_step = 60000
+
+-- the largest number of a mote
+abbrev pub most_id : ℕ
+most_id = 65535
+
+-- the bytes of the root of a chain, a digest of SHA-256, and its hex digits
+abbrev pub root_bytes : ℕ
+root_bytes = 32
+
+abbrev pub root_digits : ℕ
+root_digits = 2 * root_bytes

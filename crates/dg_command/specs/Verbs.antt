@@ -1,7 +1,7 @@
 -- The verbs of the program, and their words.
 use Rattle.std.specs.Prelude.{ℕ, if◌then◌else◌, List, [], ◌∷◌, codes, bytes_eq, Option, Some, None}
 use Rattle.dg_command.specs.declared.verbs.Verb.{Verb}
-use Rattle.dg_command.specs.declared.verbs.Verb.TheVariants.{Replay, Serve, Format, Inject, Order, Boot, Ping, Dump, Trial}
+use Rattle.dg_command.specs.declared.verbs.Verb.TheVariants.{Replay, Serve, Format, Inject, Order, Boot, Ping, Dump, Trial, Wrap, Check, Receive, Drip, Base}
 
 abbrev pub word_of : Verb → List ℕ
 word_of Replay = codes "replay"
@@ -13,6 +13,11 @@ word_of Boot = codes "boot"
 word_of Ping = codes "ping"
 word_of Dump = codes "dump"
 word_of Trial = codes "trial"
+word_of Wrap = codes "wrap"
+word_of Check = codes "check"
+word_of Receive = codes "receive"
+word_of Drip = codes "drip"
+word_of Base = codes "base"
 
 -- the verb of a word
 abbrev pub verb_of : List ℕ → Option Verb
@@ -26,6 +31,11 @@ verb_of word =
     else if bytes_eq word (codes "ping") then Some Ping
     else if bytes_eq word (codes "dump") then Some Dump
     else if bytes_eq word (codes "trial") then Some Trial
+    else if bytes_eq word (codes "wrap") then Some Wrap
+    else if bytes_eq word (codes "check") then Some Check
+    else if bytes_eq word (codes "receive") then Some Receive
+    else if bytes_eq word (codes "drip") then Some Drip
+    else if bytes_eq word (codes "base") then Some Base
     else None
 
 -- the verb of words: that of the first one

@@ -1,9 +1,9 @@
 //! The commands of `clap`, one for each verb, and the one for words without a verb.
 ghost use Rattle.std.specs.Prelude.{◌≡◌, false, IfOk, map, Some};
 ghost use Rattle.clap.specs.Words.{app_of, rule_of};
-ghost use Rattle.dg_command.specs.Apps.{app_for, app_of_verb, flash_word, flash_words, image_option, number_option, rules_of, seed_option, slot_option, text_option, top_app, version_option};
+ghost use Rattle.dg_command.specs.Apps.{app_for, app_of_verb, flash_word, flash_words, image_option, number_option, other_slot_option, root_option, rules_of, seed_option, slot_option, text_option, top_app, version_option};
 
-use crate::ranges::{LEAST_MOTES, LEAST_PAGES, MOST_TURNS};
+use crate::ranges::{LEAST_MOTES, LEAST_PAGES, MOST_STEP, MOST_TURNS};
 use crate::verbs::Verb;
 use clap::{Arg, ArgAction, Command, value_parser};
 use dg_base::{MOST_MOTES, NETWORK_IMAGES};
@@ -80,6 +80,24 @@ fn slot<'a>(alloc: Global) -> Arg<'a>
     number(alloc, "image", IMAGE, 0, u32::from(SLOTS - 1))
 }
 
+/// The number of an image that a chip has a slot for, and that is not golden.
+fn other_slot<'a>(alloc: Global) -> Arg<'a>
+    ensures { rule_of result ≡ other_slot_option }
+{
+    number(alloc, "image", "The image, 1 to 3", 1, u32::from(SLOTS - 1))
+}
+
+/// The root of a chain.
+fn root<'a>(alloc: Global) -> Arg<'a>
+    ensures { rule_of result ≡ root_option }
+{
+    text(
+        alloc,
+        "root",
+        "The root of the chain: the 64 hex digits that wrap wrote",
+    )
+}
+
 /// A version.
 fn version<'a>(alloc: Global) -> Arg<'a>
     ensures { rule_of result ≡ version_option }
@@ -113,6 +131,10 @@ fn arguments<'a>(alloc: Global, verb: Verb) -> Result<Vec<Arg<'a>>, AllocError>
         Verb::Boot | Verb::Ping => Ok(vec![in alloc; flash(alloc)]?),
         Verb::Dump => Ok(vec![in alloc; slot(alloc), flash(alloc)]?),
         Verb::Trial => trial_arguments(alloc),
+        Verb::Wrap | Verb::Drip => Ok(Vec::new(alloc)),
+        Verb::Check => Ok(vec![in alloc; slot(alloc), root(alloc), flash(alloc)]?),
+        Verb::Receive => receive_arguments(alloc),
+        Verb::Base => base_arguments(alloc),
     }
 }
 
@@ -185,6 +207,43 @@ fn trial_arguments<'a>(alloc: Global) -> Result<Vec<Arg<'a>>, AllocError>
     Ok(vec![in alloc; motes, pages, seed(alloc)]?)
 }
 
+fn receive_arguments<'a>(alloc: Global) -> Result<Vec<Arg<'a>>, AllocError>
+    ensures { IfOk result (λ v. map rule_of v.items ≡ rules_of Verb.Receive) }
+{
+    let name = text(
+        alloc,
+        "name",
+        "The name of the image: 1 to 16 letters, digits, _, - and .",
+    );
+    Ok(vec![in alloc;
+        other_slot(alloc),
+        version(alloc),
+        name,
+        root(alloc),
+        flash(alloc),
+    ]?)
+}
+
+fn base_arguments<'a>(alloc: Global) -> Result<Vec<Arg<'a>>, AllocError>
+    ensures { IfOk result (λ v. map rule_of v.items ≡ rules_of Verb.Base) }
+{
+    let id = number(
+        alloc,
+        "id",
+        "The number of the mote, 0 to 65535",
+        0,
+        u32::from(u16::MAX),
+    );
+    let step = number(
+        alloc,
+        "step",
+        "The milliseconds from one event to the next, 1 to 60000",
+        1,
+        MOST_STEP,
+    );
+    Ok(vec![in alloc; id, step, seed(alloc), flash(alloc)]?)
+}
+
 /// What a verb does, and how the program is called for it.
 fn description<'a>(verb: Verb) -> (&'a str, &'a str) {
     match verb {
@@ -197,6 +256,14 @@ fn description<'a>(verb: Verb) -> (&'a str, &'a str) {
         Verb::Ping => ("deluge ping", "Tells what a chip keeps"),
         Verb::Dump => ("deluge dump", "Writes an image of a chip as Intel HEX"),
         Verb::Trial => ("deluge trial", "Replays a schedule that a seed makes"),
+        Verb::Wrap => ("deluge wrap", "Makes a hash-chained image of a payload"),
+        Verb::Check => ("deluge check", "Tests an image of a chip against its root"),
+        Verb::Receive => (
+            "deluge receive",
+            "Puts a hash-chained image into a chip, against its root",
+        ),
+        Verb::Drip => ("deluge drip", "Replays a script of small values"),
+        Verb::Base => ("deluge base", "Runs a mote on a serial line"),
     }
 }
 

@@ -53,6 +53,34 @@ pub enum Command {
         pages: u8,
         seed: u32,
     },
+    /// Makes a hash-chained image of a payload.
+    Wrap,
+    /// Tests an image of a chip against the root of its chain.
+    Check {
+        image: u8,
+        /// The root, as 64 hex digits.
+        root: String,
+        flash: String,
+    },
+    /// Puts a hash-chained image into a chip, page by page against its root.
+    Receive {
+        image: u8,
+        version: u32,
+        name: String,
+        /// The root, as 64 hex digits.
+        root: String,
+        flash: String,
+    },
+    /// Replays a script of small values that nodes spread.
+    Drip,
+    /// Runs a mote on a serial line.
+    Base {
+        id: u16,
+        /// The milliseconds from one event to the next.
+        step: u32,
+        seed: u32,
+        flash: String,
+    },
 }
 
 /// What words ask for.

@@ -2,8 +2,8 @@
 ghost use Rattle.std.specs.Prelude.{◌≡◌, ◌≢◌, ℕ, true, List, [], ◌∷◌, codes, Some, None};
 ghost use Rattle.clap.specs.Words.{fault_of, matches_of};
 ghost use Rattle.dg_command.specs.Apps.{app_of_verb};
-ghost use Rattle.dg_command.specs.Asking.{Asking, Asks, Helps, Misuses, Said, asked_of, has_name, said_at};
-ghost use Rattle.dg_command.specs.Asking.{Replay, Serve, Format, Inject, Order, Boot, Ping, Dump, Trial};
+ghost use Rattle.dg_command.specs.Asking.{Asking, Asks, Helps, Misuses, Said, asked_of, is_well_formed, said_at};
+ghost use Rattle.dg_command.specs.Asking.{Replay, Serve, Format, Inject, Order, Boot, Ping, Dump, Trial, Wrap, Check, Receive, Drip, Base};
 ghost use Rattle.dg_command.specs.Laws.{line};
 ghost use Rattle.dg_command.specs.Verbs.{verb_in};
 ghost use Rattle.dg_command.specs.declared.verbs.Verb.{Verb};
@@ -20,6 +20,13 @@ pub fn lines_are_commands()
     ensures ping { asked_of (line (codes "ping f")) ≡ Asks (Ping (codes "f")) }
     ensures dump { asked_of (line (codes "dump --image 3 f")) ≡ Asks (Dump 3 (codes "f")) }
     ensures trial { asked_of (line (codes "trial --motes 16 --pages 65 --seed 0")) ≡ Asks (Trial 16 65 0) }
+    ensures wrap { asked_of (line (codes "wrap")) ≡ Asks Wrap }
+    ensures drip { asked_of (line (codes "drip")) ≡ Asks Drip }
+    ensures base { asked_of (line (codes "base --id 65535 --step 60000 --seed 0 f")) ≡ Asks (Base 65535 60000 0 (codes "f")) }
+    ensures check { asked_of (line (codes "check --image 0 --root 58E59bcd00000000000000000000000000000000000000000000000000000000 f"))
+        ≡ Asks (Check 0 (codes "58E59bcd00000000000000000000000000000000000000000000000000000000") (codes "f")) }
+    ensures receive { asked_of (line (codes "receive --image 1 --ver 2 --name app --root ffffffffffffffffffffffffffffffffffffffffffffffffffffffffffffffff f"))
+        ≡ Asks (Receive 1 2 (codes "app") (codes "ffffffffffffffffffffffffffffffffffffffffffffffffffffffffffffffff") (codes "f")) }
 {}
 
 /// Options may stand in any order, and behind the file, and may have their value behind `=`. A number
@@ -51,18 +58,23 @@ pub fn misused_words()
     ensures too_high { asked_of (line (codes "dump --image 4 f")) ≡ Misuses }
     ensures too_low { asked_of (line (codes "order --number 0 --image 1 --ver 1 f")) ≡ Misuses }
     ensures name { asked_of (line (codes "format --name a/b --used 0 f")) ≡ Misuses }
+    ensures short_root { asked_of (line (codes "check --image 1 --root 58e5 f")) ≡ Misuses }
+    ensures no_root { asked_of (line (codes "check --image 1 --root 58g59bcd00000000000000000000000000000000000000000000000000000000 f")) ≡ Misuses }
+    ensures golden_received { asked_of (line (codes "receive --image 0 --ver 2 --name app --root ffffffffffffffffffffffffffffffffffffffffffffffffffffffffffffffff f")) ≡ Misuses }
+    ensures long_step { asked_of (line (codes "base --id 0 --step 60001 --seed 0 f")) ≡ Misuses }
+    ensures file_of_a_script { asked_of (line (codes "drip f")) ≡ Misuses }
 {}
 
-/// Words are a command exactly where the first is a verb, that verb's command of `clap` takes them, and
-/// a name for an image is one. Its values are those that `clap` reads.
+/// Words are a command exactly where the first is a verb, that verb's command of `clap` takes them, a
+/// name for an image is one, and so is a root. Its values are those that `clap` reads.
 pub fn what_a_command_is()
     ensures verb { (words : List (List ℕ)) (said : Said) → verb_in words ≡ None → asked_of words ≢ Asks said }
     ensures taken { (words : List (List ℕ)) (said : Said) (verb : Verb) → verb_in words ≡ Some verb → asked_of words ≡ Asks said
         → fault_of (app_of_verb verb) words ≡ [] }
     ensures values { (words : List (List ℕ)) (said : Said) (verb : Verb) → verb_in words ≡ Some verb → asked_of words ≡ Asks said
         → said ≡ said_at verb (matches_of (app_of_verb verb) words) }
-    ensures name { (words : List (List ℕ)) (said : Said) → asked_of words ≡ Asks said → has_name said ≡ true }
+    ensures name { (words : List (List ℕ)) (said : Said) → asked_of words ≡ Asks said → is_well_formed said ≡ true }
     ensures command { (words : List (List ℕ)) (verb : Verb) → verb_in words ≡ Some verb → fault_of (app_of_verb verb) words ≡ []
-        → has_name (said_at verb (matches_of (app_of_verb verb) words)) ≡ true
+        → is_well_formed (said_at verb (matches_of (app_of_verb verb) words)) ≡ true
         → asked_of words ≡ Asks (said_at verb (matches_of (app_of_verb verb) words)) }
 {}

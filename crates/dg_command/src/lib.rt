@@ -9,6 +9,7 @@ mod command;
 mod laws;
 mod ranges;
 mod reading;
+mod roots;
 mod values;
 mod verbs;
 
@@ -16,8 +17,11 @@ pub use command::{Asked, Command};
 pub use laws::{
     forms_of_a_command, help_is_shown, lines_are_commands, misused_words, what_a_command_is,
 };
-pub use ranges::{LEAST_MOTES, LEAST_PAGES, MOST_TURNS, the_ranges_are_these};
+pub use ranges::{
+    LEAST_MOTES, LEAST_PAGES, MOST_STEP, MOST_TURNS, ROOT_BYTES, ROOT_DIGITS, the_ranges_are_these,
+};
 pub use reading::{asked, flash_names};
+pub use roots::root_bytes;
 
 #[cfg(test)]
 mod tests;

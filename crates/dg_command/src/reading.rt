@@ -2,11 +2,12 @@
 ghost use Rattle.std.specs.Prelude.{◌≡◌, ◌≢◌, [], ◌∷◌, IfOk, map, string_bytes, Some};
 ghost use Rattle.clap.specs.Words.{found_of, kind_of, rows_of};
 ghost use Rattle.dg_command.specs.Bounds.{FitsRanges};
-ghost use Rattle.dg_command.specs.Asking.{asked_of, asking, flashes_of, flashes_said, has_name, named, refused_by, said_at, said_by, taken_by};
+ghost use Rattle.dg_command.specs.Asking.{asked_of, asking, flashes_of, flashes_said, is_well_formed, named, refused_by, said_at, said_by, taken_by};
 
 use crate::apps::command_for;
 use crate::command::{Asked, Command};
-use crate::values::{number, small_number, text, texts};
+use crate::roots::is_root;
+use crate::values::{number, short_number, small_number, text, texts};
 use crate::verbs::Verb;
 use clap::error::ErrorKind;
 use clap::{ArgMatches, Error};
@@ -17,7 +18,7 @@ use std::alloc::{AllocError, Global};
 pub fn asked(alloc: Global, words: &Vec<String>) -> Result<Asked, AllocError>
     ensures answer { IfOk result (λ a. asking a ≡ asked_of (map string_bytes words.now.items)) }
 
-    // A command's numbers are in their ranges, and the name that it gives an image is one.
+    // A command's numbers are in their ranges, the name that it gives an image is one, and so is a root.
     ensures fits { IfOk result (λ a. FitsRanges (asking a)) }
 {
     let verb = Verb::among(words);
@@ -79,6 +80,26 @@ fn flashes(alloc: Global, command: Command) -> Result<Vec<String>, AllocError>
             pages: _pages,
             seed: _seed,
         } => Ok(Vec::new(alloc)),
+        Command::Wrap => Ok(Vec::new(alloc)),
+        Command::Check {
+            image: _image,
+            root: _root,
+            flash,
+        } => one(alloc, flash),
+        Command::Receive {
+            image: _image,
+            version: _version,
+            name: _name,
+            root: _root,
+            flash,
+        } => one(alloc, flash),
+        Command::Drip => Ok(Vec::new(alloc)),
+        Command::Base {
+            id: _id,
+            step: _step,
+            seed: _seed,
+            flash,
+        } => one(alloc, flash),
     }
 }
 
@@ -101,22 +122,26 @@ fn taken(alloc: Global, verb: Option<Verb>, matches: &ArgMatches<'_>) -> Result<
     }
 }
 
-// A command, unless the name that it gives an image is none.
+// A command, unless the name that it gives an image is none, or a root.
 fn named(command: Command) -> Asked
     ensures { asking result ≡ named (said_by command) }
 {
-    if has_name(&command) {
+    if is_well_formed(&command) {
         Asked::Command(command)
     } else {
         Asked::Usage
     }
 }
 
-fn has_name(command: &Command) -> bool
-    ensures { result ≡ has_name (said_by command.now) }
+fn is_well_formed(command: &Command) -> bool
+    ensures { result ≡ is_well_formed (said_by command.now) }
 {
     match command {
         Command::Format { name, .. } | Command::Inject { name, .. } => is_name(name.as_bytes()),
+        Command::Check { root, .. } => is_root(root.as_bytes()),
+        Command::Receive { name, root, .. } => {
+            is_name(name.as_bytes()) && is_root(root.as_bytes())
+        }
         _ => true,
     }
 }
@@ -178,6 +203,26 @@ fn command_at(alloc: Global, verb: Verb, matches: &ArgMatches<'_>) -> Result<Com
             motes: small_number(matches, "motes"),
             pages: small_number(matches, "pages"),
             seed: number(matches, "seed"),
+        }),
+        Verb::Wrap => Ok(Command::Wrap),
+        Verb::Check => Ok(Command::Check {
+            image: small_number(matches, "image"),
+            root: text(alloc, matches, "root")?,
+            flash: text(alloc, matches, "FLASH")?,
+        }),
+        Verb::Receive => Ok(Command::Receive {
+            image: small_number(matches, "image"),
+            version: number(matches, "ver"),
+            name: text(alloc, matches, "name")?,
+            root: text(alloc, matches, "root")?,
+            flash: text(alloc, matches, "FLASH")?,
+        }),
+        Verb::Drip => Ok(Command::Drip),
+        Verb::Base => Ok(Command::Base {
+            id: short_number(matches, "id"),
+            step: number(matches, "step"),
+            seed: number(matches, "seed"),
+            flash: text(alloc, matches, "FLASH")?,
         }),
     }
 }

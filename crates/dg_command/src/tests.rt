@@ -5,7 +5,7 @@ use std::test::Fail;
 
 // Word lists, with one space between words, and what they ask for: a command's values in the order of
 // its fields and its flash files, `help` or `usage`.
-static COMMANDS: [(&str, &str); 21] = [
+static COMMANDS: [(&str, &str); 27] = [
     ("replay", "replay []"),
     ("replay a", "replay [\"a\"]"),
     ("replay b a b", "replay [\"b\", \"a\", \"b\"]"),
@@ -54,9 +54,24 @@ static COMMANDS: [(&str, &str); 21] = [
     ("dump f --image 0", "dump 0 [\"f\"]"),
     ("trial --motes 2 --pages 65 --seed 0", "trial 2 65 0 []"),
     ("trial --seed 7 --pages 2 --motes 16", "trial 16 2 7 []"),
+    ("wrap", "wrap []"),
+    ("drip", "drip []"),
+    (
+        "check --image 3 --root 58E59bcd00000000000000000000000000000000000000000000000000000000 f",
+        "check 3 58E59bcd00000000000000000000000000000000000000000000000000000000 [\"f\"]",
+    ),
+    (
+        "receive --image 1 --ver 2 --name n --root 58E59bcd00000000000000000000000000000000000000000000000000000000 f",
+        "receive 1 2 n 58E59bcd00000000000000000000000000000000000000000000000000000000 [\"f\"]",
+    ),
+    (
+        "base --id 65535 --step 60000 --seed 7 f",
+        "base 65535 60000 7 [\"f\"]",
+    ),
+    ("base --id 0 --step 1 --seed 0 f", "base 0 1 0 [\"f\"]"),
 ];
 
-static OTHERS: [(&str, &str); 36] = [
+static OTHERS: [(&str, &str); 44] = [
     ("", "usage"),
     ("fly", "usage"),
     ("Replay", "usage"),
@@ -86,6 +101,26 @@ static OTHERS: [(&str, &str); 36] = [
     ("trial --motes 17 --pages 2 --seed 0", "usage"),
     ("trial --motes 2 --pages 66 --seed 0", "usage"),
     ("trial --motes 2 --pages 2 --seed 0 f", "usage"),
+    ("wrap f", "usage"),
+    ("drip f", "usage"),
+    (
+        "check --image 4 --root 58E59bcd00000000000000000000000000000000000000000000000000000000 f",
+        "usage",
+    ),
+    (
+        "check --image 1 --root 58E59bcd000000000000000000000000000000000000000000000000000000000 f",
+        "usage",
+    ),
+    (
+        "check --image 1 --root 58E59bcd0000000000000000000000000000000000000000000000000000000g f",
+        "usage",
+    ),
+    (
+        "receive --image 0 --ver 2 --name n --root 58E59bcd00000000000000000000000000000000000000000000000000000000 f",
+        "usage",
+    ),
+    ("base --id 65536 --step 1 --seed 7 f", "usage"),
+    ("base --id 0 --step 60001 --seed 7 f", "usage"),
     ("format --bogus --help", "usage"),
     ("boot --version", "usage"),
     ("--help", "help"),
@@ -130,6 +165,17 @@ fn values(rt: &HostRuntime, command: &Command) -> Result<String, Fail> {
         Command::Trial { motes, pages, seed } => {
             Ok(format!(in alloc; "trial {motes} {pages} {seed}")?)
         }
+        Command::Wrap => Ok(String::from_str(alloc, "wrap")?),
+        Command::Check { image, root, .. } => Ok(format!(in alloc; "check {image} {root}")?),
+        Command::Receive {
+            image,
+            version,
+            name,
+            root,
+            ..
+        } => Ok(format!(in alloc; "receive {image} {version} {name} {root}")?),
+        Command::Drip => Ok(String::from_str(alloc, "drip")?),
+        Command::Base { id, step, seed, .. } => Ok(format!(in alloc; "base {id} {step} {seed}")?),
     }
 }
 
@@ -177,6 +223,11 @@ fn help_names_the_verbs_and_the_options(rt: HostRuntime) -> Result<(), Fail> {
     let order = asked(rt.alloc(), &words(&rt, "order --help")?)?;
     match &order {
         Asked::Help(text) => assert!(rt; text.as_str().contains("Usage: deluge order")),
+        _ => assert!(rt; false),
+    }
+    let version = asked(rt.alloc(), &words(&rt, "--version")?)?;
+    match &version {
+        Asked::Help(text) => assert_eq!(rt; text.as_str(), "deluge 0.9\n"),
         _ => assert!(rt; false),
     }
     println!(rt; "{top:?} {order:?}")?;

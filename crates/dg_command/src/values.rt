@@ -13,6 +13,13 @@ pub fn number(matches: &ArgMatches<'_>, name: &str) -> u32
     matches.get_one::<u32>(name).unwrap_or(0)
 }
 
+/// The short number under a name.
+pub fn short_number(matches: &ArgMatches<'_>, name: &str) -> u16
+    ensures { result ≡ number_at 16 name.now (rows_of (found_of matches.now)) }
+{
+    matches.get_one::<u16>(name).unwrap_or(0)
+}
+
 /// The small number under a name.
 pub fn small_number(matches: &ArgMatches<'_>, name: &str) -> u8
     ensures { result ≡ number_at 8 name.now (rows_of (found_of matches.now)) }

@@ -14,6 +14,11 @@ pub enum Verb {
     Ping,
     Dump,
     Trial,
+    Wrap,
+    Check,
+    Receive,
+    Drip,
+    Base,
 }
 
 impl Verb {
@@ -31,6 +36,11 @@ impl Verb {
             "ping" => Some(Verb::Ping),
             "dump" => Some(Verb::Dump),
             "trial" => Some(Verb::Trial),
+            "wrap" => Some(Verb::Wrap),
+            "check" => Some(Verb::Check),
+            "receive" => Some(Verb::Receive),
+            "drip" => Some(Verb::Drip),
+            "base" => Some(Verb::Base),
             _ => None,
         }
     }
@@ -59,6 +69,11 @@ impl Verb {
             Verb::Ping => "ping",
             Verb::Dump => "dump",
             Verb::Trial => "trial",
+            Verb::Wrap => "wrap",
+            Verb::Check => "check",
+            Verb::Receive => "receive",
+            Verb::Drip => "drip",
+            Verb::Base => "base",
         }
     }
 }

@@ -33,3 +33,23 @@ returns-clause-too_low c = refl
 pub returns-clause-name : goal.returns-clause-name
 unfolding clap_on_literals app_of_verb top_app asked_of line number_at text_at texts_at
 returns-clause-name c = refl
+
+pub returns-clause-short_root : goal.returns-clause-short_root
+unfolding clap_on_literals app_of_verb top_app asked_of line number_at text_at texts_at
+returns-clause-short_root c = refl
+
+pub returns-clause-no_root : goal.returns-clause-no_root
+unfolding clap_on_literals app_of_verb top_app asked_of line number_at text_at texts_at
+returns-clause-no_root c = refl
+
+pub returns-clause-golden_received : goal.returns-clause-golden_received
+unfolding clap_on_literals app_of_verb top_app asked_of line number_at text_at texts_at
+returns-clause-golden_received c = refl
+
+pub returns-clause-long_step : goal.returns-clause-long_step
+unfolding clap_on_literals app_of_verb top_app asked_of line number_at text_at texts_at
+returns-clause-long_step c = refl
+
+pub returns-clause-file_of_a_script : goal.returns-clause-file_of_a_script
+unfolding clap_on_literals app_of_verb top_app asked_of line number_at text_at texts_at
+returns-clause-file_of_a_script c = refl
