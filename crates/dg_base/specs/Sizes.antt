@@ -25,3 +25,7 @@ greatest_port = 65500
 -- the bytes of a content that a script or a file gives for an image, at most
 abbrev pub most_content : ℕ
 most_content = 1048576
+
+-- the bytes of an input that are used, at most: of a script, or of the text of an image
+abbrev pub most_input : ℕ
+most_input = 16777216

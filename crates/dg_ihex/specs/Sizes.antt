@@ -1,6 +1,6 @@
 -- The numbers of HEX files. Those of records are of the Intel Hexadecimal Object File Format Specification, revision A; the limits are of this profile.
 use Rattle.std.specs.Prelude.{ℕ}
-use Rattle.dg_base.specs.Sizes.{most_content}
+use Rattle.dg_base.specs.Sizes.{most_content, most_input}
 
 -- the bytes of an image, at most, from its lowest address to its highest
 abbrev pub most_image : ℕ
@@ -8,7 +8,7 @@ most_image = most_content
 
 -- the bytes of a text that is read, at most
 abbrev pub most_text : ℕ
-most_text = 16777216
+most_text = most_input
 
 -- the bytes that a unit of a base of type 02 counts, and those that a unit of a base of type 04 does
 abbrev pub paragraph : ℕ

@@ -8,11 +8,11 @@ ghost use Rattle.dg_ihex.specs.Sizes.{most_text, highest_base};
 use crate::faults::{HexCause, HexFileFault};
 use crate::record::{Record, SEGMENT, read_record};
 use crate::window::{MOST_IMAGE, Window};
-use dg_base::next_line;
+use dg_base::{MOST_INPUT, next_line};
 use std::alloc::Global;
 
 /// The most bytes of a HEX file that is read.
-pub const MOST_TEXT: usize = 16_777_216;
+pub const MOST_TEXT: usize = MOST_INPUT;
 
 /// The bytes of a unit of an extended segment address.
 pub(crate) const PARAGRAPH: usize = 16;

@@ -1,6 +1,7 @@
 -- The ranges of the numbers in a script. They are this project's own profile, and each number stands here alone, but for
 -- those of the crates below.
 use Rattle.std.specs.Prelude.{ℕ, ◌+◌}
+use Rattle.dg_base.specs.Sizes.{most_input}
 use Rattle.dg_control.specs.Sizes.{most_room}
 pub use Rattle.dg_base.specs.Sizes.{most_motes, network_images, most_content}
 
@@ -30,4 +31,4 @@ most_kept = most_line + 2
 
 -- the bytes of an input that are used
 abbrev pub most_used_bytes : ℕ
-most_used_bytes = 16777216
+most_used_bytes = most_input

@@ -2,6 +2,8 @@
 ghost use Rattle.std.specs.Prelude.{◌≡◌};
 ghost use Rattle.dg_script.specs.Sizes.{most_sweeps, most_line, most_kept, most_used_bytes};
 
+use dg_base::MOST_INPUT;
+
 /// The most sweeps of one line.
 pub const MOST_SWEEPS: u32 = 1_000;
 
@@ -12,7 +14,7 @@ pub const LONGEST: usize = 300_000;
 pub const KEPT: usize = LONGEST + 2;
 
 /// The most bytes of an input that are used.
-pub const USED: usize = 16_777_216;
+pub const USED: usize = MOST_INPUT;
 
 /// The bounds are those of this profile: 1,000 sweeps in a line, lines of 300,000 bytes, and inputs of 16,777,216.
 pub fn a_script_has_these_bounds()

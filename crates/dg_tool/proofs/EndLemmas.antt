@@ -1,6 +1,7 @@
 -- The end of a verb.
 use Rattle.std.proofs.Common.{◌≡◌, ◌≢◌, ◌<◌, ℕ, zero, suc, List, [], length, take, Option, Result, Ok, Err, refl, sym, ap, subst, inr, ⊎_elim, ◌⊎◌}
 use Rattle.dg_words.specs.Counts.{Rose}
+use Rattle.dg_base.specs.Sizes.{most_input}
 use Rattle.dg_base.specs.Outside.{Puts, PutsFront, AtEnd}
 use Rattle.dg_base.specs.declared.answers.Status.{Status}
 use Rattle.dg_base.specs.declared.answers.Status.TheVariants as statuses
@@ -73,7 +74,7 @@ faulted_line statuses.TooMany r w b text line = absurd line
 faulted_line statuses.NoBoard r w b text line = tt
 faulted_line statuses.NoImage r w b text line = tt
 
-enough_line : (st : Status) (input : List ℕ) (at_end : Type 0) → HasLine st → ReadEnough st input at_end → at_end ⊎ (16777216 < length input)
+enough_line : (st : Status) (input : List ℕ) (at_end : Type 0) → HasLine st → ReadEnough st input at_end → at_end ⊎ (most_input < length input)
 enough_line statuses.Done input at_end line h = h
 enough_line statuses.Memory input at_end line h = absurd line
 enough_line statuses.Usage input at_end line h = h

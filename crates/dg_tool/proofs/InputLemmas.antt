@@ -1,8 +1,9 @@
 -- What an input comes to.
-use Rattle.std.proofs.Common.{◌≡◌, ◌≢◌, ◌≤◌, ◌<◌, ℕ, zero, suc, Bool, true, false, List, [], length, Option, Some, None, Result, Ok, Err, refl, sym, ap, subst, ◌∙◌, inl, arith, cond, ◌⊎◌}
+use Rattle.std.proofs.Common.{◌≡◌, ◌≢◌, ◌+◌, ◌≤◌, ◌<◌, ℕ, zero, suc, Bool, true, false, List, [], length, Option, Some, None, Result, Ok, Err, refl, sym, ap, subst, ◌∙◌, inl, arith, cond, ◌⊎◌}
 use Rattle.std.specs.Prelude.{nat_lt}
 use Rattle.std.proofs.lemmas.Bool.Decides.{nat_tests}
 use Rattle.dg_words.specs.Counts.{Rose}
+use Rattle.dg_base.specs.Sizes.{most_input}
 use Rattle.dg_base.specs.Outside.{Takes, AtEnd}
 use Rattle.dg_base.specs.declared.answers.Status.{Status}
 use Rattle.dg_base.specs.declared.answers.Status.TheVariants as statuses
@@ -33,14 +34,14 @@ by_over most input next h = ap (λ (b : Bool). cond b Over (by_file (hex_file in
 by_lines : (most : ℕ) (input : List ℕ) (next : List ℕ → Ending) → length input ≤ most → cond (nat_lt most (length input)) Over (by_file (hex_file input) next) ≡ by_file (hex_file input) next
 by_lines most input next h = ap (λ (b : Bool). cond b Over (by_file (hex_file input) next)) (lt_false most (length input) h)
 
-pub input_image : (input image : List ℕ) (next : List ℕ → Ending) → length input ≤ 16777216 → hex_file input ≡ Ok image → by_input input next ≡ next image
-input_image input image next few e = by_lines 16777216 input next few ∙ ap (λ (r : Result (List ℕ) HexFileFault). by_file r next) e
+pub input_image : (input image : List ℕ) (next : List ℕ → Ending) → length input ≤ most_input → hex_file input ≡ Ok image → by_input input next ≡ next image
+input_image input image next few e = by_lines most_input input next few ∙ ap (λ (r : Result (List ℕ) HexFileFault). by_file r next) e
 
 pub input_content : (input image : List ℕ) → hex_file input ≡ Ok image → content_in input ≡ image
 input_content input image e = ap content_by e
 
-input_fault : (input : List ℕ) (fault : HexFileFault) (next : List ℕ → Ending) → length input ≤ 16777216 → hex_file input ≡ Err fault → by_input input next ≡ FaultAt fault
-input_fault input fault next few e = by_lines 16777216 input next few ∙ ap (λ (r : Result (List ℕ) HexFileFault). by_file r next) e
+input_fault : (input : List ℕ) (fault : HexFileFault) (next : List ℕ → Ending) → length input ≤ most_input → hex_file input ≡ Err fault → by_input input next ≡ FaultAt fault
+input_fault input fault next few e = by_lines most_input input next few ∙ ap (λ (r : Result (List ℕ) HexFileFault). by_file r next) e
 
 -- ---- an ending behind the input is not for want of a board
 
@@ -68,14 +69,14 @@ module _ (chips : Option Store → Type 0) (input : List ℕ) (next : Option Sto
   memory = on_same statuses.Memory chips ends acted may [] ds (λ chip _. tt) (λ chip _. refl) (λ chip d _. inl (Looked-none d)) tt tt
 
   read_fault : Stays statuses.ReadFault []
-  read_fault = on_same statuses.ReadFault chips ends acted may [] ds (λ chip _. subst NeedsInput (sym (found_board chip)) (by_needs (nat_lt 16777216 (length input)) (hex_file input) (next chip) (needs chip))) (λ chip _. refl) (λ chip d _. Looked-none d) tt tt
+  read_fault = on_same statuses.ReadFault chips ends acted may [] ds (λ chip _. subst NeedsInput (sym (found_board chip)) (by_needs (nat_lt most_input (length input)) (hex_file input) (next chip) (needs chip))) (λ chip _. refl) (λ chip d _. Looked-none d) tt tt
 
-  too_long : 16777216 < length input → Stays statuses.TooLong (stop_text stops.TooLong)
+  too_long : most_input < length input → Stays statuses.TooLong (stop_text stops.TooLong)
   too_long over =
-      let e : (chip : Option Store) → ends chip ≡ Over = λ chip. found_board chip ∙ by_over 16777216 input (next chip) over in
+      let e : (chip : Option Store) → ends chip ≡ Over = λ chip. found_board chip ∙ by_over most_input input (next chip) over in
       on_same statuses.TooLong chips ends acted may (stop_text stops.TooLong) ds (λ chip _. ap status_of (sym (e chip))) (λ chip _. ap text_of (sym (e chip))) (λ chip d _. subst (λ (x : Ending). LeftBy x (acted chip) d d) (sym (e chip)) refl) tt tt
 
-  bad_input : (fault : HexFileFault) → length input ≤ 16777216 → hex_file input ≡ Err fault → Stays statuses.BadInput (stop_text (stops.BadInput fault))
+  bad_input : (fault : HexFileFault) → length input ≤ most_input → hex_file input ≡ Err fault → Stays statuses.BadInput (stop_text (stops.BadInput fault))
   bad_input fault few is =
       let e : (chip : Option Store) → ends chip ≡ FaultAt fault = λ chip. found_board chip ∙ input_fault input fault (next chip) few is in
       on_same statuses.BadInput chips ends acted may (stop_text (stops.BadInput fault)) ds (λ chip _. ap status_of (sym (e chip))) (λ chip _. ap text_of (sym (e chip))) (λ chip d _. subst (λ (x : Ending). LeftBy x (acted chip) d d) (sym (e chip)) refl) tt tt
@@ -122,12 +123,12 @@ by_count : (n : ℕ) (status : Status) (input : List ℕ) (at_end : Type 0) → 
 by_count zero status input at_end some h = absurd (omega (arith, some))
 by_count (suc n) status input at_end some h = h
 
-pub input_read : (status : Status) (n : ℕ) (input : List ℕ) (before after : Option (List ℕ)) (reads_before reads_after : ℕ) → 0 < n → Takes before after input → length input ≤ 16777217 → ReadEnough status input (AtEnd after) → (status ≢ statuses.ReadFault → reads_after ≡ reads_before) → InputRead status n input before after reads_before reads_after
+pub input_read : (status : Status) (n : ℕ) (input : List ℕ) (before after : Option (List ℕ)) (reads_before reads_after : ℕ) → 0 < n → Takes before after input → length input ≤ most_input + 1 → ReadEnough status input (AtEnd after) → (status ≢ statuses.ReadFault → reads_after ≡ reads_before) → InputRead status n input before after reads_before reads_after
 input_read status n input before after reads_before reads_after some taken few enough calm = record { taken = taken; few_bytes = few; enough = by_count n status input (AtEnd after) some enough; read_faults = calm }
 
 -- ---- a file that is read
 
-spells_by : (cause : HexCause) (fault : HexFileFault) (text : List ℕ) → length text ≤ 16777216 → (cause ≢ causes.Memory → hex_file text ≡ Err fault) → SpellsNone (stop_by cause fault) text
+spells_by : (cause : HexCause) (fault : HexFileFault) (text : List ℕ) → length text ≤ most_input → (cause ≢ causes.Memory → hex_file text ≡ Err fault) → SpellsNone (stop_by cause fault) text
 spells_by causes.Memory fault text few h = tt
 spells_by causes.Start fault text few h = (few, h (λ e. let f : causes.Start ≡ causes.Memory = e in cc))
 spells_by causes.Hex fault text few h = (few, h (λ e. let f : causes.Hex ≡ causes.Memory = e in cc))
@@ -139,7 +140,7 @@ spells_by causes.Overlap fault text few h = (few, h (λ e. let f : causes.Overla
 spells_by causes.Span fault text few h = (few, h (λ e. let f : causes.Span ≡ causes.Memory = e in cc))
 spells_by causes.End fault text few h = (few, h (λ e. let f : causes.End ≡ causes.Memory = e in cc))
 
-pub spells_fault : (fault : HexFileFault) (stop : Stop) (text : List ℕ) → length text ≤ 16777216 → (fault.cause ≢ causes.Memory → hex_file text ≡ Err fault) → stop ≡ stop_of fault → SpellsNone stop text
+pub spells_fault : (fault : HexFileFault) (stop : Stop) (text : List ℕ) → length text ≤ most_input → (fault.cause ≢ causes.Memory → hex_file text ≡ Err fault) → stop ≡ stop_of fault → SpellsNone stop text
 spells_fault fault stop text few h e = subst (λ (x : Stop). SpellsNone x text) (sym e) (spells_by fault.cause fault text few h)
 
 pub bad_stop : (cause : HexCause) (fault : HexFileFault) → cause ≢ causes.Memory → stops.BadInput fault ≡ stop_by cause fault
@@ -154,7 +155,7 @@ bad_stop causes.Overlap fault other = refl
 bad_stop causes.Span fault other = refl
 bad_stop causes.End fault other = refl
 
-none_spelled : (stop : Stop) (input : List ℕ) (at_end failed : Type 0) → SpellsNone stop input → (at_end ⊎ (16777216 < length input)) → ReadsNone stop input at_end failed
+none_spelled : (stop : Stop) (input : List ℕ) (at_end failed : Type 0) → SpellsNone stop input → (at_end ⊎ (most_input < length input)) → ReadsNone stop input at_end failed
 none_spelled stops.Memory input at_end failed h e = tt
 none_spelled stops.TooLong input at_end failed h e = (h, e)
 none_spelled (stops.BadInput fault) input at_end failed h e = (h, e)
@@ -165,18 +166,18 @@ none_spelled stops.NotAVolume input at_end failed h e = absurd h
 none_spelled (stops.Refused cause) input at_end failed h e = absurd h
 none_spelled stops.NoImage input at_end failed h e = absurd h
 
-pub reads_spelled : {T : Type 0} (view : T → List ℕ) (r : Result T Stop) (input : List ℕ) (at_end failed : Type 0) → Spells view r input → (at_end ⊎ (16777216 < length input)) → Reads view r input at_end failed
+pub reads_spelled : {T : Type 0} (view : T → List ℕ) (r : Result T Stop) (input : List ℕ) (at_end failed : Type 0) → Spells view r input → (at_end ⊎ (most_input < length input)) → Reads view r input at_end failed
 reads_spelled view (Ok x) input at_end failed h e = (h, e)
 reads_spelled view (Err stop) input at_end failed h e = none_spelled stop input at_end failed h e
 
 -- the same of a text that was read as it stands in memory
-pub image_read : {T : Type 0} (view : T → List ℕ) (r : Result T Stop) (shown text input : List ℕ) (before after : Option (List ℕ)) (reads_before reads_after : ℕ) → shown ≡ text → text ≡ input → Takes before after input → length input ≤ 16777217 → (AtEnd after ⊎ (16777216 < length text)) → Spells view r shown → reads_after ≡ reads_before
+pub image_read : {T : Type 0} (view : T → List ℕ) (r : Result T Stop) (shown text input : List ℕ) (before after : Option (List ℕ)) (reads_before reads_after : ℕ) → shown ≡ text → text ≡ input → Takes before after input → length input ≤ most_input + 1 → (AtEnd after ⊎ (most_input < length text)) → Spells view r shown → reads_after ≡ reads_before
     → ImageRead view r before after reads_before reads_after
 image_read view r shown text input before after reads_before reads_after alike same taken few enough spells calm = record {
   input = input;
   taken = taken;
   few_bytes = few;
-  reads = reads_spelled view r input (AtEnd after) (Rose reads_before reads_after) (subst (λ (x : List ℕ). Spells view r x) (alike ∙ same) spells) (subst (λ (x : List ℕ). AtEnd after ⊎ (16777216 < length x)) same enough);
+  reads = reads_spelled view r input (AtEnd after) (Rose reads_before reads_after) (subst (λ (x : List ℕ). Spells view r x) (alike ∙ same) spells) (subst (λ (x : List ℕ). AtEnd after ⊎ (most_input < length x)) same enough);
   read_faults = λ _. calm;
 }
 
@@ -191,7 +192,7 @@ failing T e = Err e
 err_inner : {T : Type 0} (e f : Stop) → failing T e ≡ failing T f → e ≡ f
 err_inner e f p = cc
 
-enough_any : (status : Status) (input : List ℕ) (at_end : Type 0) → (at_end ⊎ (16777216 < length input)) → ReadEnough status input at_end
+enough_any : (status : Status) (input : List ℕ) (at_end : Type 0) → (at_end ⊎ (most_input < length input)) → ReadEnough status input at_end
 enough_any statuses.Done input at_end h = h
 enough_any statuses.Memory input at_end h = tt
 enough_any statuses.Usage input at_end h = h
@@ -243,7 +244,7 @@ pub none_read : (n : ℕ) (left : Option (List ℕ)) (reads : ℕ) → n ≡ 0 �
 none_read n left reads e = record { taken = takes_none left; few_bytes = omega arith; enough = none_by n (AtEnd left) e; read_faults = λ _. refl }
 
 -- what is done with the image is done with the content of the input
-pub spelled : (status : Status) (chips : Option Store → Type 0) (next : Option Store → List ℕ → Ending) (acted may : List ℕ → Option Store → Device → Device → Type 0) (text : List ℕ) (a b : Device) (input image : List ℕ) → length input ≤ 16777216 → hex_file input ≡ Ok image
+pub spelled : (status : Status) (chips : Option Store → Type 0) (next : Option Store → List ℕ → Ending) (acted may : List ℕ → Option Store → Device → Device → Type 0) (text : List ℕ) (a b : Device) (input image : List ℕ) → length input ≤ most_input → hex_file input ≡ Ok image
     → OnBoard status chips (λ chip. next chip image) (acted image) (may image) text a b → OnBoard status chips (λ chip. by_input input (next chip)) (acted (content_in input)) (may (content_in input)) text a b
 spelled status chips next acted may text a b input image few is h =
     subst (λ (x : List ℕ). OnBoard status chips (λ chip. by_input input (next chip)) (acted x) (may x) text a b) (sym (input_content input image is))

@@ -1,6 +1,7 @@
 -- What a verb over the first board did.
-use Rattle.std.specs.Prelude.{◌≡◌, ◌≢◌, ◌⊎◌, ℕ, zero, suc, ◌<◌, ◌≤◌, true, List, [], length, drop, take, slice_get, Option, Some, None, IfSome}
+use Rattle.std.specs.Prelude.{◌≡◌, ◌≢◌, ◌⊎◌, ℕ, zero, suc, ◌+◌, ◌<◌, ◌≤◌, true, List, [], length, drop, take, slice_get, Option, Some, None, IfSome}
 use Rattle.dg_words.specs.Counts.{Rose}
+use Rattle.dg_base.specs.Sizes.{most_input}
 use Rattle.dg_base.specs.Outside.{Takes, Puts, AtEnd}
 use Rattle.dg_base.specs.declared.answers.Status.{Status}
 use Rattle.dg_base.specs.declared.answers.Status.TheVariants.{Done, Memory, Usage, BadInput, ReadFault, WriteFault, FlashFault, NotAVolume, Refused, LinkFault, TooLong, TooMany, NoBoard, NoImage}
@@ -172,7 +173,7 @@ pub record ToolDone (status : Status) (chips : Option Store → Type 0) (ending 
 abbrev pub ReadEnough : Status → (input : List ℕ) → (at_end : Type 0) → Type 0
 ReadEnough Memory input at_end = Unit {0}
 ReadEnough ReadFault input at_end = Unit {0}
-ReadEnough status input at_end = at_end ⊎ (16777216 < length input)
+ReadEnough status input at_end = at_end ⊎ (most_input < length input)
 
 -- a verb without a board reads nothing
 abbrev pub ReadBy : (boards : ℕ) → Status → (input : List ℕ) → (at_end : Type 0) → Type 0
@@ -182,7 +183,7 @@ ReadBy (suc n) status input at_end = ReadEnough status input at_end
 -- what was taken of the input
 pub record InputRead (status : Status) (boards : ℕ) (input : List ℕ) (left_before left_after : Option (List ℕ)) (reads_before reads_after : ℕ) : Type 0 where
   pub taken : Takes left_before left_after input
-  pub few_bytes : length input ≤ 16777217
+  pub few_bytes : length input ≤ most_input + 1
   pub enough : ReadBy boards status input (AtEnd left_after)
   -- a read that fails is always told
   pub read_faults : status ≢ ReadFault → reads_after ≡ reads_before

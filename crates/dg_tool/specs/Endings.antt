@@ -1,5 +1,6 @@
 -- How a verb over the first board ends by the rules, and what it writes then.
 use Rattle.std.specs.Prelude.{ℕ, nat_lt, if◌then◌else◌, List, [], ◌∷◌, ◌++◌, length, codes, Option, Some, None, Result, Ok, Err}
+use Rattle.dg_base.specs.Sizes.{most_input}
 use Rattle.dg_base.specs.declared.answers.Status.{Status}
 use Rattle.dg_base.specs.declared.answers.Status.TheVariants.{Done, BadInput, NotAVolume, Refused, TooLong, NoBoard, NoImage}
 use Rattle.dg_base.specs.Hexadecimal.{hex_text}
@@ -91,7 +92,7 @@ by_file (Err fault) next = FaultAt fault
 
 -- Of an input at most 16,777,216 bytes are used. A longer one ends a verb whatever its lines are.
 abbrev pub by_input : List ℕ → (List ℕ → Ending) → Ending
-by_input input next = if nat_lt 16777216 (length input) then Over else by_file (hex_file input) next
+by_input input next = if nat_lt most_input (length input) then Over else by_file (hex_file input) next
 
 abbrev pub by_store : Option Store → (Store → Ending) → Ending
 by_store None next = NoVolume

@@ -1,6 +1,7 @@
 -- What reading the image of an input comes to.
-use Rattle.std.specs.Prelude.{◌≡◌, ◌≢◌, ◌⊎◌, ℕ, ◌<◌, ◌≤◌, List, length, Option, Result, Ok, Err}
+use Rattle.std.specs.Prelude.{◌≡◌, ◌≢◌, ◌⊎◌, ℕ, ◌+◌, ◌<◌, ◌≤◌, List, length, Option, Result, Ok, Err}
 use Rattle.dg_words.specs.Counts.{Rose}
+use Rattle.dg_base.specs.Sizes.{most_input}
 use Rattle.dg_base.specs.Outside.{Takes, AtEnd}
 use Rattle.dg_ihex.specs.Files.{hex_file}
 use Rattle.dg_ihex.specs.declared.faults.HexFileFault.{HexFileFault}
@@ -20,18 +21,18 @@ stop_of fault = stop_by fault.cause fault
 -- what the text of a HEX file that gives no image comes to
 abbrev pub SpellsNone : Stop → List ℕ → Type 0
 SpellsNone stops.Memory text = Unit {0}
-SpellsNone stops.TooLong text = 16777216 < length text
-SpellsNone (stops.BadInput fault) text = (length text ≤ 16777216) × (hex_file text ≡ Err fault)
+SpellsNone stops.TooLong text = most_input < length text
+SpellsNone (stops.BadInput fault) text = (length text ≤ most_input) × (hex_file text ≡ Err fault)
 SpellsNone stop text = ⊥
 
 -- what the text of a HEX file comes to
 abbrev pub Spells : {T : Type 0} → (T → List ℕ) → Result T Stop → List ℕ → Type 0
-Spells view (Ok image) text = (length text ≤ 16777216) × (hex_file text ≡ Ok (view image))
+Spells view (Ok image) text = (length text ≤ most_input) × (hex_file text ≡ Ok (view image))
 Spells view (Err stop) text = SpellsNone stop text
 
 -- so much of an input was taken
 abbrev pub IsEnough : List ℕ → (at_end : Type 0) → Type 0
-IsEnough input at_end = at_end ⊎ (16777216 < length input)
+IsEnough input at_end = at_end ⊎ (most_input < length input)
 
 -- what an input that gives no image comes to, of which these bytes were taken
 abbrev pub ReadsNone : Stop → List ℕ → (at_end failed : Type 0) → Type 0
@@ -48,6 +49,6 @@ Reads view (Err stop) input at_end failed = ReadsNone stop input at_end failed
 pub record ImageRead {T : Type 0} (view : T → List ℕ) (told : Result T Stop) (left_before left_after : Option (List ℕ)) (reads_before reads_after : ℕ) : Type 0 where
   pub input : List ℕ
   pub taken : Takes left_before left_after input
-  pub few_bytes : length input ≤ 16777217
+  pub few_bytes : length input ≤ most_input + 1
   pub reads : Reads view told input (AtEnd left_after) (Rose reads_before reads_after)
   pub read_faults : told ≢ Err stops.ReadFault → reads_after ≡ reads_before
