@@ -8,7 +8,7 @@ use crate::boards::mounted;
 use crate::slots::{IMAGE, NAME, VERSION, content, packet_of};
 use dg_boot::{BootFault, Kind, start};
 use dg_control::PLACE_SIZE;
-use dg_nor::{Board, Fused, Nor, SECTOR_SIZE, Stopped, erase_sector, program_in, read_in};
+use dg_nor::{Board, Fused, Nor, SECTOR_SIZE, SECTORS, Stopped, erase_sector, program_in, read_in};
 use dg_object::{PACKET_SIZE, PACKETS, PAGE_SIZE, page_of};
 use dg_volume::{InjectFault, Volume};
 use std::test::Fail;
@@ -77,8 +77,9 @@ fn commit<N: Nor>(nor: &mut N, place: u32, bytes: &[u8; PLACE_SIZE]) -> Result<(
     requires { place < 32 }
 {
     let (_, fields) = bytes.split_at(1);
-    program_in(nor, 1, 64 * place + 1, fields)?;
-    program_in(nor, 1, 64 * place, &[0x7F])
+    let at = PLACE_SIZE as u32 * place;
+    program_in(nor, 1, at + 1, fields)?;
+    program_in(nor, 1, at, &[0x7F])
 }
 
 /// A piece of a page.
@@ -155,7 +156,7 @@ fn sector(board: &mut Board, index: u32) -> Result<[u8; SECTOR_SIZE as usize], F
 /// Whether these sectors of two boards hold the same.
 fn are_same(one: &mut Board, other: &mut Board, indices: &[u32]) -> Result<bool, Fail> {
     for index in indices {
-        if *index >= 332 || sector(one, *index)? != sector(other, *index)? {
+        if *index >= SECTORS || sector(one, *index)? != sector(other, *index)? {
             return Ok(false);
         }
     }
