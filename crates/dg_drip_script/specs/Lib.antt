@@ -1,0 +1,5 @@
+pub mod Sizes
+pub mod Fields
+pub mod Lines
+pub mod Scripts
+pub mod Reports

@@ -1,0 +1,60 @@
+-- The lines of a report.
+use Rattle.std.specs.Prelude.{ℕ, ◌==◌, if◌then◌else◌, List, [], ◌∷◌, ◌++◌, codes, Option, Some, None}
+use Rattle.std.specs.List.{flat_map, range_with_len}
+use Rattle.std.specs.Fmt.{decimal}
+use Rattle.dg_drip.specs.declared.entry.Entry.{Entry}
+use Rattle.dg_drip.specs.Network.{Network, entry_at}
+use Rattle.dg_drip_replay.specs.declared.report.DripCause.{DripCause}
+use Rattle.dg_drip_replay.specs.declared.report.DripCause.TheVariants as cause
+use Rattle.dg_drip_replay.specs.declared.report.DripReport.{DripReport}
+use Rattle.dg_drip_replay.specs.declared.report.DripReport.TheVariants.{Refused, Sent, Got, End, Value}
+use Rattle.dg_drip_script.specs.Sizes.{key_count}
+use Rattle.dg_drip_script.specs.declared.line.DripFault.{DripFault}
+use Rattle.dg_drip_script.specs.declared.line.DripFault.TheVariants as fault
+
+-- numbers, each behind a space
+abbrev pub numbers_text : List ℕ → List ℕ
+numbers_text numbers = flat_map (λ n. 32 ∷ decimal n) numbers
+
+abbrev pub cause_word : DripCause → List ℕ
+cause_word cause.Last = codes "last"
+cause_word cause.Frame = codes "frame"
+cause_word cause.Link = codes "link"
+
+abbrev pub entry_line : (word : List ℕ) → (node key : ℕ) → Entry → List ℕ
+entry_line word node key e = word ++ numbers_text (node ∷ key ∷ e.number ∷ e.value ∷ []) ++ 10 ∷ []
+
+-- the text of a line of a report, with its end
+abbrev pub report_line : DripReport → List ℕ
+report_line (Refused node cause) = codes "no" ++ numbers_text (node ∷ []) ++ 32 ∷ cause_word cause ++ 10 ∷ []
+report_line (Sent node key e) = entry_line (codes "sent") node key e
+report_line (Got node key e) = entry_line (codes "got") node key e
+report_line (End events) = codes "end" ++ numbers_text (events ∷ []) ++ 10 ∷ []
+report_line (Value node key e) = entry_line (codes "value") node key e
+
+abbrev pub told_text : Option DripReport → List ℕ
+told_text None = []
+told_text (Some report) = report_line report
+
+-- ---- the last lines
+
+abbrev pub value_text : (node key : ℕ) → Entry → List ℕ
+value_text node key e = if e.number == 0 then [] else entry_line (codes "value") node key e
+
+-- what a node keeps, by key
+abbrev pub node_text : Network → ℕ → List ℕ
+node_text w node = flat_map (λ key. value_text node key (entry_at w node key)) (range_with_len 0 key_count)
+
+-- how many events there were, and each entry that is not none, by node and key
+abbrev pub final_text : Network → (nodes events : ℕ) → List ℕ
+final_text w nodes events = report_line (End events) ++ flat_map (node_text w) (range_with_len 0 nodes)
+
+abbrev pub fault_word : DripFault → List ℕ
+fault_word fault.Long = codes "long"
+fault_word fault.Verb = codes "verb"
+fault_word fault.Place = codes "place"
+fault_word fault.Number = codes "number"
+
+-- the last line where a line of the script has a fault
+abbrev pub bad_line : (line : ℕ) → DripFault → List ℕ
+bad_line line f = codes "line" ++ numbers_text (line ∷ []) ++ 32 ∷ fault_word f ++ 10 ∷ []

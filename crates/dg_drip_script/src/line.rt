@@ -1,0 +1,40 @@
+//! A line of a script of nodes.
+
+use dg_drip::DripEvent;
+
+/// What a line says.
+#[derive(Clone, Copy, Debug, PartialEq, Eq)]
+pub enum DripLine {
+    /// Nothing: the line is blank, or a comment.
+    Nothing,
+    /// There are so many nodes.
+    Nodes { count: u8 },
+    /// Two nodes are neighbours.
+    Link { a: u8, b: u8 },
+    /// An event happens.
+    Happens { event: DripEvent },
+    /// One node tells another one all that it keeps.
+    Round { a: u8, b: u8 },
+    /// So many sweeps: in each, a round both ways over every link.
+    Sweeps { count: u32 },
+}
+
+/// The first thing that is wrong with a line, in the order in which they are told.
+#[derive(Clone, Copy, Debug, PartialEq, Eq)]
+pub enum DripFault {
+    /// The line has more than 300,000 bytes.
+    Long,
+    /// The first word begins no line, or has another number of fields.
+    Verb,
+    /// The line may not stand there.
+    Place,
+    /// A field is no number, or not in its range.
+    Number,
+}
+
+/// Where a line stands: how many nodes there are, 0 before that is said, and whether the first event, round or sweep came.
+#[derive(Clone, Copy, Debug, PartialEq, Eq)]
+pub struct Standing {
+    pub nodes: u8,
+    pub begun: bool,
+}
