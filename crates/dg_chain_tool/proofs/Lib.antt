@@ -1,2 +1,5 @@
 pub mod WrapLemmas
 pub mod CheckLemmas
+pub mod FillLemmas
+pub mod NextLemmas
+pub mod ReceiveLemmas

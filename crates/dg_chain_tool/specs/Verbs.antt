@@ -2,10 +2,13 @@
 use Rattle.std.specs.Prelude.{ℕ, ◌==◌, nat_lt, if◌then◌else◌, List, [], ◌∷◌, ◌++◌, length, drop, codes, Option, Some, None}
 use Rattle.dg_base.specs.Hexadecimal.{hex_text}
 use Rattle.dg_ihex.specs.Written.{written_file}
+use Rattle.dg_object.specs.Object.{Row}
 use Rattle.dg_slot.specs.Kept.{Held}
 use Rattle.dg_volume.specs.Store.{Store, held}
+use Rattle.dg_volume.specs.Changes.{inject_refusal}
+use Rattle.dg_volume.specs.declared.volume.InjectFault.{InjectFault}
 use Rattle.dg_chain.specs.Chain.{root_of, image_of, most_payload}
-use Rattle.dg_chain.specs.Checking.{Answer, Fine, Broken, Misshapen, answer_of}
+use Rattle.dg_chain.specs.Checking.{Answer, Fine, Broken, Misshapen, Break, answer_of}
 use Rattle.dg_chain.specs.declared.checking.ChainFault.{ChainFault}
 use Rattle.dg_chain.specs.declared.checking.ChainFault.TheVariants as chain_fault
 use Rattle.dg_chain.specs.declared.wrapping.WrapFault.{WrapFault}
@@ -14,7 +17,9 @@ use Rattle.dg_tool.specs.declared.refusal.Refusal.TheVariants as refusals
 use Rattle.dg_tool.specs.declared.stop.Stop.{Stop}
 use Rattle.dg_tool.specs.declared.stop.Stop.TheVariants as stops
 use Rattle.dg_tool.specs.Texts.{numbers, line}
-use Rattle.dg_tool.specs.Endings.{Ending, Ends, Unfit, Refuses, by_boards, by_input, by_store}
+use Rattle.dg_tool.specs.Endings.{Ending, Ends, Unfit, Refuses, Breaks, by_boards, by_input, by_store}
+use Rattle.dg_tool.specs.Verbs.{inject_cause, have_told}
+use Rattle.dg_chain_tool.specs.Receiving.{foreign_in}
 
 -- ---- wrap
 
@@ -64,3 +69,20 @@ abbrev pub chain_stop : ChainFault → Stop
 chain_stop chain_fault.Stopped = stops.FlashFault
 chain_stop (chain_fault.Broken page kept found) = stops.Refused (refusals.Broken page kept found)
 chain_stop chain_fault.Shape = stops.Refused refusals.Shape
+
+-- ---- receive
+
+abbrev pub receive_by : Row → Option InjectFault → Option Break → Ending
+receive_by row (Some fault) found = Refuses (inject_cause row fault)
+receive_by row None None = Ends (have_told row)
+receive_by row None (Some at) = Breaks (refusals.Foreign at.page)
+
+abbrev pub receive_to : (root : List ℕ) → Row → Store → Ending
+receive_to root row s = receive_by row (inject_refusal s row) (foreign_in root s row)
+
+abbrev pub receive_into : (root : List ℕ) → Row → Option Store → Ending
+receive_into root row chip = by_store chip (receive_to root row)
+
+-- `row` is the image with its bytes
+abbrev pub receive_ending : (boards : ℕ) → (root : List ℕ) → (row : List ℕ → Row) → (input : List ℕ) → Option Store → Ending
+receive_ending boards root row input chip = by_boards boards (by_input input (λ bytes. receive_into root (row bytes) chip))

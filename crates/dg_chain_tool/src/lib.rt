@@ -5,22 +5,30 @@
 #![tactic(auto)]
 
 mod checking;
+mod filling;
+mod new_image;
+mod receiving;
+mod refusing;
 mod wrapping;
 
-ghost use Rattle.std.specs.Prelude.{◌≡◌, ◌⊎◌, ◌<◌, ◌≤◌, ℕ, List, Some, length, drop, map};
+ghost use Rattle.std.specs.Prelude.{◌≡◌, ◌⊎◌, ◌<◌, ◌≤◌, ℕ, List, Some, length, drop, map, IsTrue};
 ghost use Rattle.dg_words.specs.Counts.{Rose};
+ghost use Rattle.dg_base.specs.Texts.{spells_name};
 ghost use Rattle.dg_nor.specs.Reads.{Looked, ReadStopped};
+ghost use Rattle.dg_object.specs.Object.{row_of};
 ghost use Rattle.dg_slot.specs.Kept.{Held};
 ghost use Rattle.dg_volume.specs.Sizes.{images};
 ghost use Rattle.dg_volume.specs.Store.{Store, held};
 ghost use Rattle.dg_chain.specs.Chain.{IsPayload, chain, root_of};
 ghost use Rattle.dg_chain.specs.Checking.{Collision};
-ghost use Rattle.dg_tool.specs.Endings.{FirstAs};
-ghost use Rattle.dg_tool.specs.Done.{ToolDone, InputRead};
-ghost use Rattle.dg_chain_tool.specs.Verbs.{wrap_ending, check_ending};
+ghost use Rattle.dg_tool.specs.Endings.{FirstAs, content_in};
+ghost use Rattle.dg_tool.specs.Done.{ToolDone, InputRead, WentOn, StopsOn};
+ghost use Rattle.dg_chain_tool.specs.Receiving.{receive_trail};
+ghost use Rattle.dg_chain_tool.specs.Verbs.{wrap_ending, check_ending, receive_ending};
 ghost use Rattle.dg_chain_tool.specs.Done.{TextDone, TellsLength};
 
 use crate::checking::check_boards;
+use crate::receiving::receive_boards;
 use crate::wrapping::wrap_input;
 use dg_base::{Sink, Source, Status};
 use dg_chain::{DIGEST_SIZE, a_root_names_its_pages};
@@ -68,5 +76,34 @@ pub fn check<K: Sink, N: Nor>(
 {
     a_root_names_its_pages();
     let told = check_boards(alloc, image, root, boards);
+    end(alloc, out, told)
+}
+
+/// Keeps an image that `wrap` made whole on the first board, page by page: the image of the HEX file that `input` spells,
+/// with this name. Each data page that is filled is compared with the digest that is expected of it, the root for data
+/// page 1, and becomes complete only where it has that. Writes `have 0 I V N`, where N counts all pages, the descriptor
+/// too. At the first page that is another one it is refused, and the pages before it stay.
+pub fn receive<S: Source, K: Sink, N: Nor>(
+    alloc: Global,
+    image: u8,
+    version: u32,
+    name: &[u8],
+    root: &[u8; DIGEST_SIZE],
+    input: &mut S,
+    out: &mut K,
+    boards: &mut Vec<N>,
+) -> Status
+    requires image { image < images }
+    requires version { 1 ≤ version }
+    requires named { IsTrue (spells_name name.now) }
+    ensures done { (bytes : List ℕ) × InputRead result (length boards.old.items) bytes (S.left input.old) (S.left input.new) (S.faults input.old) (S.faults input.new)
+        × ToolDone result (FirstAs (map N.device boards.old.items)) (receive_ending (length boards.old.items) root.now (row_of image version name.now) bytes)
+        (WentOn (λ s. receive_trail root.now s (row_of image version name.now (content_in bytes)))) (StopsOn (λ s. receive_trail root.now s (row_of image version name.now (content_in bytes))))
+        (Rose (S.faults input.old) (S.faults input.new)) (K.written out.old) (K.written out.new) (K.faults out.old) (K.faults out.new)
+        (map N.device boards.old.items) (map N.device boards.new.items) }
+    ensures reads { S.faults input.old ≤ S.faults input.new }
+    ensures writes { K.faults out.old ≤ K.faults out.new }
+{
+    let told = receive_boards(alloc, image, version, name, root, input, boards);
     end(alloc, out, told)
 }

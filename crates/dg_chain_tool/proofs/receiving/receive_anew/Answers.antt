@@ -1,0 +1,91 @@
+use Rattle.std.proofs.Common.{◌≡◌, ℕ, None, Some, Err, refl, sym, ap, subst, ◌∙◌}
+use Rattle.dg_nor.specs.Trail.{last}
+use Rattle.dg_object.specs.Object.{Outline, object, profile}
+use Rattle.dg_object.specs.Records.{outline_of}
+use Rattle.dg_slot.specs.Kept.{held_begun}
+use Rattle.dg_volume.specs.Store.{Store, held}
+use Rattle.dg_volume.specs.Stands.{is_lent}
+use Rattle.dg_volume.specs.Changes.{FitAll, take_refusal, UnlessTakeRefused}
+use Rattle.dg_volume.specs.Trails.{take_trail}
+use Rattle.dg_volume.specs.Acts.{Stops}
+use Rattle.dg_volume.proofs.InjectLemmas.{older_told, begun_anew, anew_fits}
+use Rattle.dg_volume.proofs.StoreLemmas.{one_store}
+use Rattle.dg_tool.specs.Verbs.{have_told}
+use Rattle.dg_chain_tool.specs.Filling.{new_row, fill_to}
+use Rattle.dg_chain_tool.specs.Receiving.{first_foreign}
+use Rattle.dg_chain_tool.proofs.FillLemmas.{to_first}
+use Rattle.dg_chain_tool.proofs.ReceiveLemmas.{received_filled, take_fails, take_free, anew_done, anew_fill, ends_then}
+use Rattle.dg_chain_tool.proofs.receiving.receive_anew.Goals as goal
+
+pub take-requires-clause-names_it : goal.take-requires-clause-names_it
+take-requires-clause-names_it g c = ap (λ (p : Outline). p.image) c.profile.ensures
+
+pub put_back-requires : goal.put_back-requires
+put_back-requires g c = ap (is_lent c.take.new.self) (ap (λ (p : Outline). p.image) (c.in-Ok.ensures.open.0 ∙ c.profile.ensures)) ∙ c.in-Ok.ensures.open.2
+
+pub receive_rest-requires-clause-mounted : goal.receive_rest-requires-clause-mounted
+receive_rest-requires-clause-mounted g c =
+    let s = c.requires.mounted.0 in
+    let mounted = c.requires.mounted.1 in
+    let row = new_row c.args.new.now in
+    let is = c.args.new.now.is_row in
+    let opened = c.in-Ok.ensures.open in
+    let begun = begun_anew s row (outline_of c.profile.result) (g.N.Nor.device c.args.nor.now) (g.N.Nor.device c.take.new.nor) c.take.new.self c.put_back.new.self c.in-Ok.slot c.requires.known_image c.profile.ensures (c.in-Ok.ensures.acted s mounted) opened.0 opened.1 c.put_back.ensures.mounted in
+    (last (take_trail s (profile row)), begun.mounted)
+
+pub receive_rest-requires-clause-not_lent : goal.receive_rest-requires-clause-not_lent
+receive_rest-requires-clause-not_lent g c = ap (is_lent c.put_back.new.self) (sym (ap (λ (p : Outline). p.image) (c.in-Ok.ensures.open.0 ∙ c.profile.ensures))) ∙ c.put_back.ensures.back
+
+pub receive_rest-requires-clause-fit : goal.receive_rest-requires-clause-fit
+receive_rest-requires-clause-fit g c = λ t there.
+    let s = c.requires.mounted.0 in
+    let mounted = c.requires.mounted.1 in
+    let row = new_row c.args.new.now in
+    let is = c.args.new.now.is_row in
+    let opened = c.in-Ok.ensures.open in
+    let begun = begun_anew s row (outline_of c.profile.result) (g.N.Nor.device c.args.nor.now) (g.N.Nor.device c.take.new.nor) c.take.new.self c.put_back.new.self c.in-Ok.slot c.requires.known_image c.profile.ensures (c.in-Ok.ensures.acted s mounted) opened.0 opened.1 c.put_back.ensures.mounted in
+    let same = one_store _ t (last (take_trail s (profile row))) there.stands begun.mounted.stands in
+    subst (λ (x : Store). FitAll row.image (object row) x) (sym same) (anew_fits c.a_row_is_filled_page_by_page.ensures.next s row _ _ _ _ is c.requires.known_image begun)
+
+pub receive_rest-requires-clause-complete : goal.receive_rest-requires-clause-complete
+receive_rest-requires-clause-complete g c = λ t there.
+    let s = c.requires.mounted.0 in
+    let mounted = c.requires.mounted.1 in
+    let row = new_row c.args.new.now in
+    let is = c.args.new.now.is_row in
+    let opened = c.in-Ok.ensures.open in
+    let begun = begun_anew s row (outline_of c.profile.result) (g.N.Nor.device c.args.nor.now) (g.N.Nor.device c.take.new.nor) c.take.new.self c.put_back.new.self c.in-Ok.slot c.requires.known_image c.profile.ensures (c.in-Ok.ensures.acted s mounted) opened.0 opened.1 c.put_back.ensures.mounted in
+    let same = one_store _ t (last (take_trail s (profile row))) there.stands begun.mounted.stands in
+    (held_begun (profile row), ap (λ (x : Store). held x row.image) same ∙ begun.here, refl)
+
+pub returns-in-Ok : goal.returns-in-Ok
+returns-in-Ok g c = record {
+  ends = λ s mounted.
+      let row = new_row c.args.new.now in
+      let is = c.args.new.now.is_row in
+      let opened = c.in-Ok.ensures.open in
+      let begun = begun_anew s row (outline_of c.profile.result) (g.N.Nor.device c.args.nor.now) (g.N.Nor.device c.take.new.nor) c.take.new.self c.put_back.new.self c.in-Ok.slot c.requires.known_image c.profile.ensures (c.in-Ok.ensures.acted s mounted) opened.0 opened.1 c.put_back.ensures.mounted in
+      let older = older_told c.args.volume.now s row c.requires.known_image mounted.tells c.requires.older in
+      let root = c.args.root.now in
+      let found = first_foreign root (object row) 0 in
+      let t = take_trail s (profile row) in
+      let u = fill_to found 0 (last t) row.image (object row) in
+      let none = take_free s row is c.requires.not_golden older (subst (λ (p : Outline). take_refusal s p ≡ None) c.profile.ensures (c.in-Ok.ensures.allowed s mounted)) in
+      received_filled (λ u. have_told row) root s row _ _ c.receive_rest.result found _ c.receive_rest.new.volume (λ u. refl) none (ap (first_foreign root (object row)) (sym (anew_done s row older))) (anew_fill root s row none older)
+      (ends_then c.receive_rest.result found t u _ _ _ c.take.new.self c.receive_rest.new.volume (sym (to_first found 0 (last t) row.image (object row))) begun.acted (c.receive_rest.ensures.ends (last t) begun.mounted));
+}
+
+pub returns-in-Err : goal.returns-in-Err
+returns-in-Err g c = record {
+  ends = λ s mounted.
+      let row = new_row c.args.new.now in
+      let is = c.args.new.now.is_row in
+      let x = c.in-Err in
+      let older = older_told c.args.volume.now s row c.requires.known_image mounted.tells c.requires.older in
+      let same = c.profile.ensures in
+      take_fails (λ u. have_told row) c.args.root.now s row (g.N.Nor.device c.args.nor.now) (g.N.Nor.device c.take.new.nor) x.fault c.take_stop.result is c.requires.not_golden older c.take_stop.ensures
+      (subst (λ (p : Outline). UnlessTakeRefused {T = ℕ} (Err x.fault) (take_refusal s p)) same (x.ensures.allowed s mounted))
+      (λ other. subst (λ (p : Outline). take_refusal s p ≡ Some x.fault) same (x.ensures.refused x.fault refl other s mounted))
+      (λ other. (x.ensures.unchanged x.fault refl other).0)
+      (λ e. subst (λ (p : Outline). Stops (take_trail s p) (g.N.Nor.device c.args.nor.now) (g.N.Nor.device c.take.new.nor)) same (x.ensures.stopped (ap (λ f. Err f) e) s mounted));
+}

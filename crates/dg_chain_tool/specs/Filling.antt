@@ -1,0 +1,64 @@
+-- How the pages of an image that is received are filled.
+use Rattle.std.specs.Prelude.{◌≡◌, ℕ, ◌-◌, ◌≤◌, true, false, Bool, if◌then◌else◌, List, take, length, Option, Some, None, Result, Ok, Err}
+use Rattle.sha2.specs.Sha256.{sha256}
+use Rattle.dg_nor.specs.Device.{Device}
+use Rattle.dg_nor.specs.Trail.{Trail, resting, stepping}
+use Rattle.dg_object.specs.Object.{Row, row_of}
+use Rattle.dg_slot.specs.Layout.{page_operations}
+use Rattle.dg_volume.specs.Store.{Store}
+use Rattle.dg_volume.specs.Changes.{paged, FitsNext}
+use Rattle.dg_volume.specs.Trails.{fill_trail}
+use Rattle.dg_volume.specs.Acts.{Acted, Stops}
+use Rattle.dg_volume.specs.declared.volume.Volume.{Volume}
+use Rattle.dg_volume.specs.declared.volume.TakeFault.{TakeFault}
+use Rattle.dg_volume.specs.declared.volume.TakeFault.TheVariants as take_fault
+use Rattle.dg_chain.specs.Checking.{Break, is_same}
+use Rattle.dg_chain.specs.Receiving.{fill_operations}
+use Rattle.dg_tool.specs.declared.refusal.Refusal.TheVariants as refusals
+use Rattle.dg_tool.specs.declared.stop.Stop.{Stop}
+use Rattle.dg_tool.specs.declared.stop.Stop.TheVariants as stops
+use Rattle.dg_chain_tool.specs.Receiving.{with_foreign}
+use Rattle.dg_chain_tool.specs.declared.new_image.NewImage.{NewImage}
+
+-- what a slot that is not taken makes of a verb
+abbrev pub take_stop : TakeFault → Stop
+take_stop take_fault.Stopped = stops.FlashFault
+take_stop (take_fault.Stale kept) = stops.Refused (refusals.Stale kept)
+take_stop take_fault.Reserved = stops.Refused refusals.Reserved
+take_stop (take_fault.Worn room) = stops.Refused (refusals.Worn room)
+
+-- the row of an image that is received
+abbrev pub new_row : NewImage → Row
+new_row new = row_of new.image new.version new.name.now new.bytes.now
+
+-- the page is the expected one
+abbrev pub fits_root : (expected : List ℕ) → List ℕ → Bool
+fits_root expected page = is_same (sha256 page) expected
+
+-- it is filled, and then made complete where it is the expected one
+abbrev pub next_trail : Bool → Store → (image : ℕ) → List ℕ → Trail Store
+next_trail fits s image page = if fits then stepping s page_operations (paged image page s) else resting s fill_operations
+
+-- the next page of an image is a data page that fits
+pub record FitsData (image : ℕ) (page : List ℕ) (s : Store) : Type 0 where
+  pub next : FitsNext image page s
+  pub data_page : 1 ≤ length next.kept.complete
+
+-- how the filling of one page ends, which is page n
+abbrev pub NextEnds : {T : Type 0} → Result T Stop → (n : ℕ) → (fits : Bool) → Store → (image : ℕ) → List ℕ → Device → Device → Volume → Type 0
+NextEnds (Ok x) n fits s image page a b v = (fits ≡ true) × Acted (stepping s page_operations (paged image page s)) a b v
+NextEnds (Err (stops.Refused (refusals.Foreign k))) n fits s image page a b v = (k ≡ n) × (fits ≡ false) × Acted (resting s fill_operations) a b v
+NextEnds (Err stops.FlashFault) n fits s image page a b v = Stops (next_trail fits s image page) a b
+NextEnds (Err stop) n fits s image page a b v = ⊥
+
+-- pages from page n on are filled up to the first foreign one
+abbrev pub fill_to : Option Break → (n : ℕ) → Store → (image : ℕ) → List (List ℕ) → Trail Store
+fill_to None n s image pages = fill_trail s image pages
+fill_to (Some at) n s image pages = with_foreign (fill_trail s image (take (at.page - n) pages))
+
+-- how that ends
+abbrev pub FillEnds : {T : Type 0} → Result T Stop → Option Break → Trail Store → Device → Device → Volume → Type 0
+FillEnds (Ok x) found t a b v = (found ≡ None) × Acted t a b v
+FillEnds (Err (stops.Refused (refusals.Foreign k))) found t a b v = ((at : Break) × (found ≡ Some at) × (at.page ≡ k)) × Acted t a b v
+FillEnds (Err stops.FlashFault) found t a b v = Stops t a b
+FillEnds (Err stop) found t a b v = ⊥

@@ -1,0 +1,52 @@
+-- The stores that a chip goes through while an image is received whose data pages are compared with a root.
+use Rattle.std.specs.Prelude.{ℕ, ◌-◌, ◌==◌, if◌then◌else◌, List, [], drop, take, slice_index_or, Option, Some, None}
+use Rattle.dg_nor.specs.Trail.{Trail, last, joined, resting}
+use Rattle.dg_object.specs.Object.{Row, object, profile}
+use Rattle.dg_volume.specs.Store.{Store, held}
+use Rattle.dg_volume.specs.Changes.{is_version, inject_refusal}
+use Rattle.dg_volume.specs.Trails.{take_trail, fill_trail, inject_trail, done_of}
+use Rattle.dg_volume.specs.declared.volume.InjectFault.{InjectFault}
+use Rattle.dg_chain.specs.Checking.{Break, field_of, first_break}
+use Rattle.dg_chain.specs.Receiving.{fill_operations}
+
+-- the digest that data page n is expected to have: the root, or the one that the page before it carries
+abbrev pub expected : (root : List ℕ) → List (List ℕ) → ℕ → List ℕ
+expected root pages n = if n == 1 then root else field_of (slice_index_or pages (n - 1) [])
+
+-- the first foreign page from page n on
+abbrev pub foreign_from : (root : List ℕ) → List (List ℕ) → ℕ → Option Break
+foreign_from root pages n = first_break (expected root pages n) n (drop n pages)
+
+-- the first page that is compared where so many are complete: page 0 has no digest that is expected of it
+abbrev pub compared_from : ℕ → ℕ
+compared_from done = if done == 0 then 1 else done
+
+-- the first foreign one of the pages that are filled, where so many are complete
+abbrev pub first_foreign : (root : List ℕ) → List (List ℕ) → (done : ℕ) → Option Break
+first_foreign root pages done = foreign_from root pages (compared_from done)
+
+-- the pages that are complete of this version
+abbrev pub done_in : Store → Row → ℕ
+done_in s row = if is_version (held s row.image) row.version then done_of (held s row.image) else 0
+
+abbrev pub foreign_in : (root : List ℕ) → Store → Row → Option Break
+foreign_in root s row = first_foreign root (object row) (done_in s row)
+
+-- An image is kept with these pages: its slot is taken unless this version is kept, and then each of them that is missing is filled.
+abbrev pub keep_trail : Store → Row → List (List ℕ) → Trail Store
+keep_trail s row pages =
+    if is_version (held s row.image) row.version then fill_trail s row.image (drop (done_of (held s row.image)) pages)
+    else joined (take_trail s (profile row)) (fill_trail (last (take_trail s (profile row))) row.image pages)
+
+-- Behind these stores a page is filled that is not made complete, which no store tells.
+abbrev pub with_foreign : Trail Store → Trail Store
+with_foreign t = joined t (resting (last t) fill_operations)
+
+-- The pages in front of the first foreign one are kept, as an injection keeps them.
+abbrev pub trail_by : Option InjectFault → Option Break → Store → Row → Trail Store
+trail_by (Some fault) found s row = resting s 0
+trail_by None None s row = inject_trail s row
+trail_by None (Some at) s row = with_foreign (keep_trail s row (take at.page (object row)))
+
+unfoldable pub receive_trail : (root : List ℕ) → Store → Row → Trail Store
+receive_trail root s row = trail_by (inject_refusal s row) (foreign_in root s row) s row
