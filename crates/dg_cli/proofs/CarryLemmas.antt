@@ -14,7 +14,8 @@ use Rattle.dg_tool.specs.Done.{ToolDone, InputRead, IsFormatted, FormatStops, We
 use Rattle.dg_command.specs.Asking.{Said, Asking, Asks, Helps, Misuses, said_by, asking}
 use Rattle.dg_command.specs.declared.command.Asked.{Asked}
 use Rattle.dg_command.specs.declared.command.Command.{Command}
-use Rattle.dg_cli.specs.Commands.{Around, ReadsInput, SaidDone, FormatDone, InjectDone, OrderDone, BootDone}
+use Rattle.dg_cli.specs.Commands.{Around, ReadsInput, SaidDone, FormatDone, InjectDone, OrderDone, BootDone, CheckDone, ReceiveDone}
+use Rattle.dg_cli.specs.Chained.{root_in}
 
 pub said_done : (c d : Command) → c ≡ d → (s : Status) (a b : Around) → SaidDone (said_by d) s a b → SaidDone (said_by c) s a b
 said_done c d e s a b h = subst (λ (x : Command). SaidDone (said_by x) s a b) (sym e) h
@@ -75,3 +76,10 @@ asked_said asked said asking_for e h = ap asking (sym e) ∙ h
 
 pub reads_same : (a b : Asking) → a ≡ b → ReadsInput a → ReadsInput b
 reads_same a b e h = subst ReadsInput e h
+
+pub received_said : (s : Status) (image version : ℕ) (named name digits root : List ℕ) (a b : Around) → named ≡ name → digits ≡ root → ReceiveDone image version named (root_in digits) s a b → ReceiveDone image version name (root_in root) s a b
+received_said s image version named name digits root a b e f h =
+    subst (λ (t : List ℕ). ReceiveDone image version t (root_in root) s a b) e (subst (λ (r : List ℕ). ReceiveDone image version named (root_in r) s a b) f h)
+
+pub check_said : (s : Status) (image : ℕ) (digits root : List ℕ) (a b : Around) → digits ≡ root → CheckDone image (root_in digits) s a b → CheckDone image (root_in root) s a b
+check_said s image digits root a b e h = subst (λ (r : List ℕ). CheckDone image (root_in r) s a b) e h

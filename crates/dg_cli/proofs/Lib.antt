@@ -1,1 +1,2 @@
 mod CarryLemmas
+pub mod ChainLemmas

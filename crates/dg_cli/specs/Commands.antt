@@ -15,6 +15,7 @@ use Rattle.dg_tool.specs.Endings.{Ending, FirstAs, content_in}
 use Rattle.dg_tool.specs.Verbs.{format_ending, inject_ending, order_ending, power_boot, boot_ending, ping_ending, dump_ending}
 use Rattle.dg_tool.specs.Done.{ToolDone, InputRead, IsFormatted, FormatStops, WentOn, StopsOn, BootedOn}
 use Rattle.dg_cli.specs.Words.{UsageTold, HelpTold}
+use Rattle.dg_cli.specs.Chained.{root_in, Checked, WrappedDone, ReceivedDone}
 
 -- what stands around the program: what is left of the input and what was written, where that is told, how many reads and writes failed, and the boards
 pub record Around : Type 0 where
@@ -75,6 +76,19 @@ PingDone status a b = Unread a b × FirstDone ⊥ (ping_ending (length a.boards)
 abbrev pub DumpDone : (image : ℕ) → Status → Around → Around → Type 0
 DumpDone image status a b = Unread a b × FirstDone ⊥ (dump_ending (length a.boards) image) (λ chip. Looked) (λ chip. ReadStopped) status a b
 
+-- ---- hash-chained images
+
+-- no board is used
+abbrev pub WrapDone : Status → Around → Around → Type 0
+WrapDone status a b = WrappedDone status a.left b.left a.reads b.reads a.written b.written a.writes b.writes × (b.boards ≡ a.boards)
+
+-- it only reads
+abbrev pub CheckDone : (image : ℕ) → (root : List ℕ) → Status → Around → Around → Type 0
+CheckDone image root status a b = Unread a b × Checked status image root a.written b.written a.writes b.writes a.boards b.boards
+
+abbrev pub ReceiveDone : (image version : ℕ) → (name root : List ℕ) → Status → Around → Around → Type 0
+ReceiveDone image version name root status a b = ReceivedDone status image version name root a.left b.left a.reads b.reads a.written b.written a.writes b.writes a.boards b.boards
+
 -- ---- words
 
 -- words that are no command: nothing is read, no board is used, and one line is written
@@ -88,7 +102,7 @@ pub record HelpDone (status : Status) (a b : Around) : Type 0 where
   pub boards : b.boards ≡ a.boards
   pub told : HelpTold status a.written b.written a.writes b.writes
 
--- the commands `serve`, `trial`, `wrap`, `check`, `receive`, `drip` and `base` are still to come: their words are taken as none
+-- the commands `serve`, `trial`, `drip` and `base` are still to come: their words are taken as none
 abbrev pub SaidDone : Said → Status → Around → Around → Type 0
 SaidDone (Replay flashes) status a b = ReplayDone status a b
 SaidDone (Serve turns seed flashes) status a b = UsageDone status a b
@@ -99,9 +113,9 @@ SaidDone (Boot flash) status a b = BootDone status a b
 SaidDone (Ping flash) status a b = PingDone status a b
 SaidDone (Dump image flash) status a b = DumpDone image status a b
 SaidDone (Trial motes pages seed) status a b = UsageDone status a b
-SaidDone Wrap status a b = UsageDone status a b
-SaidDone (Check image root flash) status a b = UsageDone status a b
-SaidDone (Receive image version name root flash) status a b = UsageDone status a b
+SaidDone Wrap status a b = WrapDone status a b
+SaidDone (Check image root flash) status a b = CheckDone image (root_in root) status a b
+SaidDone (Receive image version name root flash) status a b = ReceiveDone image version name (root_in root) status a b
 SaidDone Drip status a b = UsageDone status a b
 SaidDone (Base id step seed flash) status a b = UsageDone status a b
 
@@ -119,4 +133,6 @@ abbrev pub ReadsInput : Asking → Type 0
 ReadsInput (Asks (Replay flashes)) = Unit {0}
 ReadsInput (Asks (Format name used flash)) = Unit {0}
 ReadsInput (Asks (Inject image version name flash)) = Unit {0}
+ReadsInput (Asks Wrap) = Unit {0}
+ReadsInput (Asks (Receive image version name root flash)) = Unit {0}
 ReadsInput _ = ⊥

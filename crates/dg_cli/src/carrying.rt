@@ -8,6 +8,7 @@ ghost use Rattle.dg_command.specs.Asking.{Replay, Asks, said_by, is_well_formed}
 ghost use Rattle.dg_command.specs.Bounds.{IsInRange};
 ghost use Rattle.dg_cli.specs.Commands.{Around, SaidDone, ReadsInput};
 
+use crate::chaining::{check, receive};
 use crate::telling::tell_usage;
 use dg_base::{Sink, Source, Status};
 use dg_command::Command;
@@ -80,19 +81,23 @@ pub(crate) fn carry_out<S: Source, K: Sink, N: Nor>(
             pages: _pages,
             seed: _seed,
         } => tell_usage(out),
-        Command::Wrap => tell_usage(out),
+        Command::Wrap => dg_chain_tool::wrap(alloc, input, out),
         Command::Check {
-            image: _image,
-            root: _root,
+            image,
+            root,
             flash: _flash,
-        } => tell_usage(out),
+        } => check(alloc, image, root.as_bytes(), out, boards),
         Command::Receive {
-            image: _image,
-            version: _version,
-            name: _name,
-            root: _root,
+            image,
+            version,
+            name,
+            root,
             flash: _flash,
-        } => tell_usage(out),
+        } => {
+            let named = name.as_bytes();
+            let digits = root.as_bytes();
+            receive(alloc, image, version, named, digits, input, out, boards)
+        }
         Command::Drip => tell_usage(out),
         Command::Base {
             id: _id,

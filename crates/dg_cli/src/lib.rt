@@ -2,6 +2,7 @@
 #![tactic(auto)]
 
 mod carrying;
+mod chaining;
 mod command;
 mod telling;
 

@@ -1,6 +1,6 @@
 use Rattle.std.proofs.Common.{sym, refl}
 use Rattle.std.proofs.lemmas.List.{length-map}
-use Rattle.dg_cli.proofs.CarryLemmas.{said_done, format_done, inject_done, order_done, boot_done, no_link}
+use Rattle.dg_cli.proofs.CarryLemmas.{said_done, format_done, inject_done, order_done, boot_done, received_said, check_said, no_link}
 use Rattle.dg_cli.proofs.carrying.carry_out.Goals as goal
 
 pub returns-in-Format-clause-done : goal.returns-in-Format-clause-done
@@ -36,3 +36,23 @@ returns-in-Ping-clause-link g c = no_link _ _ _ _ _ c.ping.ensures.done.faulted
 
 pub returns-in-Dump-clause-link : goal.returns-in-Dump-clause-link
 returns-in-Dump-clause-link g c = no_link _ _ _ _ _ c.dump.ensures.done.faulted
+
+pub returns-in-Wrap-clause-done : goal.returns-in-Wrap-clause-done
+returns-in-Wrap-clause-done g c = said_done c.args.command _ c.in-Wrap.is _ _ _ (c.wrap.ensures.done, refl)
+
+pub returns-in-Wrap-clause-link : goal.returns-in-Wrap-clause-link
+returns-in-Wrap-clause-link g c = no_link _ _ _ _ _ c.wrap.ensures.done.2.faulted
+
+pub returns-in-Check-clause-done : goal.returns-in-Check-clause-done
+returns-in-Check-clause-done g c =
+    said_done c.args.command _ c.in-Check.is _ _ _ (check_said _ c.in-Check.image _ _ _ _ c.as_bytes-in-Check.ensures.value ((refl, refl), c.check.ensures.done))
+
+pub returns-in-Check-clause-link : goal.returns-in-Check-clause-link
+returns-in-Check-clause-link g c = no_link _ _ _ _ _ c.check.ensures.done.done.faulted
+
+pub returns-in-Receive-clause-done : goal.returns-in-Receive-clause-done
+returns-in-Receive-clause-done g c =
+    said_done c.args.command _ c.in-Receive.is _ _ _ (received_said _ c.in-Receive.image c.in-Receive.version _ _ _ _ _ _ c.as_bytes-named.ensures.value c.as_bytes-digits.ensures.value c.receive.ensures.done)
+
+pub returns-in-Receive-clause-link : goal.returns-in-Receive-clause-link
+returns-in-Receive-clause-link g c = no_link _ _ _ _ _ c.receive.ensures.done.2.faulted

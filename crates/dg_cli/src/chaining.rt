@@ -1,0 +1,58 @@
+//! Commands that are given the root of a hash-chained image, as digits.
+ghost use Rattle.std.specs.Prelude.{◌≡◌, ◌≢◌, ◌≤◌, ◌<◌, true, map, IsTrue};
+ghost use Rattle.dg_base.specs.Texts.{spells_name};
+ghost use Rattle.dg_volume.specs.Sizes.{images};
+ghost use Rattle.dg_command.specs.Roots.{spells_root};
+ghost use Rattle.dg_cli.specs.Chained.{root_in, Checked, ReceivedDone};
+
+use dg_base::{Sink, Source, Status};
+use dg_command::root_bytes;
+use dg_nor::Nor;
+use std::alloc::{AllocError, Global};
+
+/// Compares an image of the first board with a root.
+pub(crate) fn check<K: Sink, N: Nor>(
+    alloc: Global,
+    image: u8,
+    root: &[u8],
+    out: &mut K,
+    boards: &mut Vec<N>,
+) -> Status
+    requires image { image < images }
+    requires root { spells_root root.now ≡ true }
+    ensures done { Checked result image (root_in root.now) (K.written out.old) (K.written out.new) (K.faults out.old) (K.faults out.new)
+        (map N.device boards.old.items) (map N.device boards.new.items) }
+    ensures writes { K.faults out.old ≤ K.faults out.new }
+{
+    match root_bytes(alloc, root) {
+        Ok(root) => dg_chain_tool::check(alloc, image, &root, out, boards),
+        Err(AllocError) => Status::Memory,
+    }
+}
+
+/// Receives an image on the first board, page by page against a root.
+pub(crate) fn receive<S: Source, K: Sink, N: Nor>(
+    alloc: Global,
+    image: u8,
+    version: u32,
+    name: &[u8],
+    root: &[u8],
+    input: &mut S,
+    out: &mut K,
+    boards: &mut Vec<N>,
+) -> Status
+    requires image { image < images }
+    requires version { 1 ≤ version }
+    requires named { IsTrue (spells_name name.now) }
+    requires root { spells_root root.now ≡ true }
+    ensures done { ReceivedDone result image version name.now (root_in root.now) (S.left input.old) (S.left input.new) (S.faults input.old) (S.faults input.new)
+        (K.written out.old) (K.written out.new) (K.faults out.old) (K.faults out.new)
+        (map N.device boards.old.items) (map N.device boards.new.items) }
+    ensures reads { S.faults input.old ≤ S.faults input.new }
+    ensures writes { K.faults out.old ≤ K.faults out.new }
+{
+    match root_bytes(alloc, root) {
+        Ok(root) => dg_chain_tool::receive(alloc, image, version, name, &root, input, out, boards),
+        Err(AllocError) => Status::Memory,
+    }
+}
