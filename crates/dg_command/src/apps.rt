@@ -22,7 +22,10 @@ const VERBS: &str = "Commands:
   order --number K --image I --ver V FLASH                keep an order in a chip
   boot FLASH                                              start a chip
   ping FLASH                                              tell what a chip keeps
-  dump --image I FLASH                                    write an image of a chip";
+  dump --image I FLASH                                    write an image of a chip
+  wrap                                                    make a hash-chained image
+  check --image I --root HEX FLASH                        test an image of a chip against its root
+  receive --image I --ver V --name NAME --root HEX FLASH  put a hash-chained image into a chip";
 
 /// An option that must be there, whose value is a number within bounds.
 fn number<'a>(alloc: Global, name: &'a str, help: &'a str, low: u32, high: u32) -> Arg<'a>
