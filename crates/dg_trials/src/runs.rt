@@ -1,6 +1,6 @@
 //! Runs of the program: scripts with the reports that they must have, and the ways in which a run fails.
 
-use dg_base::{MemSink, MemSource, Status};
+use dg_base::{MemSink, MemSource, Source, Status};
 use dg_cli::run;
 use dg_nor::Board;
 use std::alloc::{AllocError, Global};
@@ -142,6 +142,54 @@ fn a_read_fails_in_mid_stream(rt: HostRuntime) -> Result<(), Fail> {
     assert_eq!(rt; told.status, Status::ReadFault);
     // The three lines that were read whole are reported.
     assert_eq!(rt; told.written.as_slice(), b"start 0 0 1 1 58e5\n".as_slice());
+    Ok(())
+}
+
+/// How many bytes a source still gives, up to two million.
+fn left(input: &mut MemSource) -> usize {
+    let mut count: usize = 0;
+    let mut piece = [0; 4096];
+    for _ in 0..500 {
+        match input.read(&mut piece) {
+            Ok(0) => break,
+            Ok(more) => count = count.saturating_add(more),
+            Err(_) => break,
+        }
+    }
+    count
+}
+
+#[test]
+fn no_more_is_taken_than_is_needed(rt: HostRuntime) -> Result<(), Fail> {
+    let alloc = rt.alloc();
+    // The lines before a million LF, the write that fails, how the run ends and what it writes.
+    let rows: [(&[u8], Option<u32>, Status, &[u8]); 3] = [
+        (b"x\n", None, Status::BadInput, b"line 1 verb\n"),
+        (ONE_START, Some(1), Status::WriteFault, b""),
+        (
+            b"motes 3\n",
+            None,
+            Status::NoBoard,
+            b"noboard 3 1\n",
+        ),
+    ];
+    for (first, write, status, report) in rows {
+        let mut script = Vec::from_slice(alloc, first)?;
+        script.extend_from_slice(&vec![in alloc; b'\n'; 1_000_000]?)?;
+        let mut outside = calm(alloc);
+        if let Some(number) = write {
+            outside.writes.push(number)?;
+        }
+        let mut words = Vec::new(alloc);
+        words.push(String::from_str(alloc, "replay")?)?;
+        let mut boards = new_boards(alloc, 1)?;
+        let mut input = MemSource::new(script, outside.reads);
+        let mut out = MemSink::new(alloc, outside.room, outside.writes)?;
+        assert_eq!(rt; run(alloc, &words, &mut input, &mut out, &mut boards), status);
+        assert_eq!(rt; out.bytes(), report);
+        let rest = left(&mut input);
+        assert!(rt; rest >= 699_998, "{rest}");
+    }
     Ok(())
 }
 
