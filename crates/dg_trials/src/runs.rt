@@ -166,12 +166,7 @@ fn no_more_is_taken_than_is_needed(rt: HostRuntime) -> Result<(), Fail> {
     let rows: [(&[u8], Option<u32>, Status, &[u8]); 3] = [
         (b"x\n", None, Status::BadInput, b"line 1 verb\n"),
         (ONE_START, Some(1), Status::WriteFault, b""),
-        (
-            b"motes 3\n",
-            None,
-            Status::NoBoard,
-            b"noboard 3 1\n",
-        ),
+        (b"motes 3\n", None, Status::NoBoard, b"noboard 3 1\n"),
     ];
     for (first, write, status, report) in rows {
         let mut script = Vec::from_slice(alloc, first)?;
@@ -185,7 +180,10 @@ fn no_more_is_taken_than_is_needed(rt: HostRuntime) -> Result<(), Fail> {
         let mut boards = new_boards(alloc, 1)?;
         let mut input = MemSource::new(script, outside.reads);
         let mut out = MemSink::new(alloc, outside.room, outside.writes)?;
-        assert_eq!(rt; run(alloc, &words, &mut input, &mut out, &mut boards), status);
+        assert_eq!(rt;
+            run(alloc, &words, &mut input, &mut out, &mut boards),
+            status
+        );
         assert_eq!(rt; out.bytes(), report);
         let rest = left(&mut input);
         assert!(rt; rest >= 699_998, "{rest}");
