@@ -68,7 +68,7 @@ pub fn run<S: Source, K: Sink, N: Nor>(
         let after : Around = record { left = S.left input.new; reads = S.faults input.new; written = K.written out.new; writes = K.faults out.new; boards = map N.device boards.new.items } in
         (x : ReplayDone result before after) → Headline x.replayed.came }
     // The arrays of bytes that a mote and its calls name have 214 bytes, and those that are named together in one call no
-    // more than 256. A mote's value has at most 400 bytes of memory, and its outbox 64.
+    // more than 256. A mote's value has at most 400 bytes of memory, and its outbox 80.
     ensures buffers { (buffered_bytes ≡ 214) × BuffersFit × ValuesAreSmall }
     // A command that reads no input leaves it untouched.
     ensures untouched { (ReadsInput (asked_of (map string_bytes words.now.items)) → ⊥) → input.new ≡ input.old }
