@@ -26,7 +26,7 @@ use Rattle.dg_rules.specs.World.{World}
 use Rattle.dg_replay.specs.Boards.{WorldStands, BoardsStand, BoardStopped, StoppedIn}
 use Rattle.dg_replay.specs.Ending.{Ending, Ends, NoBoards, TooManyEvents, FaultAt, Over, events_in, InBounds, by_fault, by_events, by_boards, ending_from, ending_line, status_of, whole_lines, used, is_over, script_of, ending_of, InLimits}
 use Rattle.dg_replay.specs.Near.{behind_lines, IsNear}
-use Rattle.dg_replay.specs.Outcome.{Progress, item_played, played_text, EventNext, AtTooMany, ReachesEnding, closing, IsWholeReport, StopsAt, Wrote, BoardsLeft, IsCaused, RunsTo, IsSettled, NextIsWhole, DoneIsWhole, ReadEnough, ReadsNear}
+use Rattle.dg_replay.specs.Outcome.{Progress, item_played, played_text, EventNext, AtTooMany, ReachesEnding, closing, IsWholeReport, StopsAt, Wrote, BoardsLeft, IsCaused, RunsTo, IsSettled, NextIsWhole, DoneIsWhole, ReadEnough, EndsNear, ReadsNear}
 use Rattle.dg_replay.specs.Replaying.{StopEnds, Reached, HasFew, StopsAtText, StopsIn, ByRules, ReadyToEnd, EndsWith, FinishesWith, ScriptReplayed}
 use Rattle.dg_base.specs.declared.events.Step.{Step}
 use Rattle.dg_replay.specs.declared.player.Player.{Player}
@@ -66,6 +66,13 @@ enough_by TooManyEvents n input at_end c text settled = settled
 enough_by (FaultAt line f) n input at_end c text settled = settled
 enough_by Over n input at_end c text settled = settled
 
+ends_near : {script : Script} (e : Ending) (input : List ℕ) (c : Progress script) (text : List ℕ) → ReadsNear (status_of e) e input c text → EndsNear e input
+ends_near Ends input c text near = near
+ends_near (NoBoards m b) input c text near = near
+ends_near TooManyEvents input c text near = near
+ends_near (FaultAt line f) input c text near = near
+ends_near Over input c text near = near
+
 -- the end of the report was written, or a front of it, or memory ran out
 pub ended : (result : Status) (script : Script) (e : Ending) (piece input : List ℕ) (at_end : Type 0) (initial now : List Device) (before mid after : Option (List ℕ)) (failed reads worse : Type 0) → (failed → worse)
     → (r : ReadyToEnd script e piece initial now before mid) → at_end ⊎ IsSettled (length initial) input → at_end ⊎ DoneIsWhole input r.came.done r.came.rest r.came.begun → ((text : List ℕ) → ReadsNear (status_of e) e input r.came text)
@@ -99,7 +106,7 @@ ended result script e piece input at_end initial now before mid after failed rea
         });
       };
       enough = ⊎_elim (λ (x : at_end). inl x) (λ (x : IsSettled (length initial) input). inr (inl x)) settled;
-      near = inr (record { all = r.all; more = take k piece; told = refl });
+      near = inr (record { all = r.all; more = take k piece; told = refl; near = ends_near e input r.came [] (near []) });
       limits = r.limits;
       boards = inl r.boards;
       caused = spread cut.2;
@@ -248,7 +255,7 @@ stopped_ends WriteFault result script over input at_end number initial now befor
       written = subst (λ (o : Option (List ℕ)). Puts before o f.text) (sym told) f.told;
       report = record { more = f.more; front = inl f.whole };
       enough = ⊎_elim (λ (x : at_end). inl x) (λ (x : DoneIsWhole input f.came.done f.came.rest f.came.begun). inr (inr (x, record { more = f.more; front = f.whole }))) f.there.2;
-      near = inl (record { lines = before_it.lines; more = before_it.more; told = before_it.told; near = near_later number (before_it.lines + 1) input before_it.behind near });
+      near = inl (record { lines = before_it.lines; within = before_it.within; more = before_it.more; told = before_it.told; near = near_later number (before_it.lines + 1) input before_it.behind near });
       limits = f.limits;
       boards = f.there.0;
       caused = spread rose;

@@ -66,7 +66,7 @@ left_there b c initial now (inl stand) = inl stand
 left_there b c initial now (inr (some, stop)) = inr (some, stopped_on c.done c.rest b.rest c.begun c.left c.last initial now c.parts some stop)
 
 told_there : {first script : Script} (b : BeginsAs first script) (c : Progress first) (line : ℕ) (text : List ℕ) → ToldBefore line c text → ToldBefore line (lifted b c) text
-told_there b c line text t = record { lines = t.lines; behind = t.behind; more = t.more; told = t.told }
+told_there b c line text t = record { lines = t.lines; within = t.within; behind = t.behind; more = t.more; told = t.told }
 
 no_items : {A : Type 0} (xs ys : List Item) → EventNext ys → [] ≡ xs ++ ys → A
 no_items [] ys e none = absurd (let f : [] ≡ Happened e.step e.loud ∷ e.more = none ∙ e.is in cc)

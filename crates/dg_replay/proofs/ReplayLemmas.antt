@@ -406,12 +406,14 @@ told_line ends script texts text n p q initial old now before mid r t on told k 
     let all : played_text on.now ≡ played_text r.played = on.told ∙ ap (λ (xs : List ℕ). played_text r.played ++ xs) none ∙ append-nil (played_text r.played) in
     record {
       lines = length (r.done ++ t.line ∷ []);
+      within = omega arith;
       behind = omega (arith, r.numbered, length-append r.done (t.line ∷ []));
       more = take k told;
       told = ap (λ (xs : List ℕ). xs ++ take k told) (sym (told_all (r.done ++ t.line ∷ []) on.now on.items ∙ all));
     })
     (λ (went : (more : List Played) × (on.now ≡ r.played ++ more)). record {
       lines = length r.done;
+      within = omega (arith, length-append r.done (t.line ∷ []));
       behind = omega (arith, r.numbered);
       more = take k told;
       told = ap (λ (xs : List ℕ). xs ++ take k told)
@@ -440,6 +442,7 @@ told_begun : {P : Option World → List Item → List ℕ → Type 0} (ends : Bo
     → ToldBefore n (in_line ends script texts text n p initial old before mid line r spelled b o within) (played_text r.played ++ take k b.text)
 told_begun ends script texts text n p initial old before mid line r spelled b o within k = record {
   lines = length r.done;
+  within = omega arith;
   behind = omega (arith, r.numbered);
   more = take k b.text;
   told = ap (λ (xs : List ℕ). xs ++ take k b.text) (sym (told_front r.done r.done r.played o.now (take_all (length r.done) r.done (omega arith)) r.items));

@@ -178,20 +178,27 @@ told_of n c = played_text (take (length (items_of (take n c.done))) c.played)
 -- All that is told of some first lines was written, and what was taken of the input ends near the line behind them.
 pub record ToldAndNear {script : Script} (input : List ℕ) (c : Progress script) (text : List ℕ) : Type 0 where
   pub lines : ℕ
+  pub within : lines ≤ length c.done
   pub more : List ℕ
   pub told : text ≡ told_of lines c ++ more
   pub near : IsNear (lines + 1) input
 
+-- what was taken ends near the line whose fault is the ending
+abbrev pub EndsNear : Ending → (input : List ℕ) → Type 0
+EndsNear (FaultAt line fault) input = IsNear line input
+EndsNear ending input = Unit {0}
+
 -- All that is told before the end of the report was written, and the end was begun.
-pub record EndBegun {script : Script} (ending : Ending) (c : Progress script) (text : List ℕ) : Type 0 where
+pub record EndBegun {script : Script} (ending : Ending) (input : List ℕ) (c : Progress script) (text : List ℕ) : Type 0 where
   pub all : ReachesEnding ending c
   pub more : List ℕ
   pub told : text ≡ played_text c.played ++ more
+  pub near : EndsNear ending input
 
 -- Not much more was taken than the lines that were needed: no more than 300,002 bytes behind a line with a fault, and behind the first line whose report was not wholly written.
 abbrev pub ReadsNear : {script : Script} → Status → Ending → (input : List ℕ) → Progress script → (text : List ℕ) → Type 0
 ReadsNear BadInput (FaultAt line fault) input c text = IsNear line input
-ReadsNear WriteFault ending input c text = ToldAndNear input c text ⊎ EndBegun ending c text
+ReadsNear WriteFault ending input c text = ToldAndNear input c text ⊎ EndBegun ending input c text
 ReadsNear _ ending input c text = Unit {0}
 
 -- What a replay did. Some bytes were taken from the source: the bytes left before it and after it, where they are told, say which. What was written is told in the same way.

@@ -140,6 +140,7 @@ pub record HasFew (script : Script) (initial : List Device) : Type 0 where
 -- All that is told of the lines before this one was written.
 pub record ToldBefore {script : Script} (line : ℕ) (c : Progress script) (text : List ℕ) : Type 0 where
   pub lines : ℕ
+  pub within : lines ≤ length c.done
   pub behind : line ≤ lines + 1
   pub more : List ℕ
   pub told : text ≡ told_of lines c ++ more
