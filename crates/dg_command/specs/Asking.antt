@@ -130,7 +130,7 @@ flashes_said Wrap = []
 flashes_said (Check image root flash) = flash ∷ []
 flashes_said (Receive image version name root flash) = flash ∷ []
 flashes_said Drip = []
-flashes_said (Base id step seed flash) = flash ∷ []
+flashes_said (Base id step seed flash) = []
 
 abbrev pub flashes_of : Asking → List Text
 flashes_of (Asks said) = flashes_said said

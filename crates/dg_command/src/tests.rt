@@ -66,9 +66,9 @@ static COMMANDS: [(&str, &str); 27] = [
     ),
     (
         "base --id 65535 --step 60000 --seed 7 f",
-        "base 65535 60000 7 [\"f\"]",
+        "base 65535 60000 7 []",
     ),
-    ("base --id 0 --step 1 --seed 0 f", "base 0 1 0 [\"f\"]"),
+    ("base --id 0 --step 1 --seed 0 f", "base 0 1 0 []"),
 ];
 
 static OTHERS: [(&str, &str); 44] = [
