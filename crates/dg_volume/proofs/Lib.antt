@@ -2,6 +2,7 @@ pub mod ReadLemmas
 pub mod StoreLemmas
 pub mod CommitLemmas
 pub mod MountLemmas
+pub mod RemountLemmas
 pub mod OrderLemmas
 pub mod AdvanceLemmas
 pub mod ActLemmas

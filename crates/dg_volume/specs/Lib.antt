@@ -10,6 +10,7 @@ pub mod Table
 pub mod Agreement
 pub mod RowLaws
 pub mod Reading
+pub mod Remount
 pub mod Texts
 pub mod Filling
 pub mod Injecting

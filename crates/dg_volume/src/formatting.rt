@@ -9,7 +9,7 @@ ghost use Rattle.dg_slot.specs.Layout.{most_bytes, page_operations, header_secto
 ghost use Rattle.dg_slot.specs.Kept.{Held, KeepsImage};
 ghost use Rattle.dg_slot.specs.Jobs.{IsOpen, outline_told};
 ghost use Rattle.dg_control.specs.Places.{place_in};
-ghost use Rattle.dg_control.specs.Store.{current};
+ghost use Rattle.dg_control.specs.Store.{current, IsOrderlyChip};
 ghost use Rattle.dg_volume.specs.Sizes.{control_sectors, places, most_room};
 ghost use Rattle.dg_volume.specs.Store.{fresh, golden_row, held_to, held_whole};
 ghost use Rattle.dg_volume.specs.Stands.{Stands};
@@ -40,6 +40,7 @@ impl Volume {
         // the places before the snapshot are told as spent
         ensures spent { OnOk result ((i : ℕ) → i < used % places
             → slice_index (place_in (sector (N.device nor.new).image (current (used / places))) i) 0 ≡ 0) }
+        ensures orderly { OnOk result (IsOrderlyChip (N.device nor.new).image) }
         ensures ran { OnOk result (Ran (format_operations (length golden.now) used) (N.device nor.old) (N.device nor.new)) }
         ensures awake { OnOk result ((N.device nor.old).stopped ≡ false) }
         ensures same_reference { (N.device nor.new).references ≡ (N.device nor.old).references }

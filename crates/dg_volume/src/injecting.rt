@@ -2,9 +2,10 @@
 ghost use Rattle.std.specs.Prelude.{◌≡◌, ◌≢◌, ◌⊎◌, ℕ, ◌<◌, ◌≤◌, true, false, List, Some, Ok, Err, OnOk, OnErr, IfOk, IsErrOf, IsNone, IsSomeAnd, IsTrue, length};
 ghost use Rattle.dg_base.specs.Texts.{spells_name};
 ghost use Rattle.dg_nor.specs.Chip.{Touches};
+ghost use Rattle.dg_nor.specs.Device.{Took};
 ghost use Rattle.dg_nor.specs.Reads.{Looked, ReadEnds};
 ghost use Rattle.dg_object.specs.Object.{row_of, pages_for};
-ghost use Rattle.dg_slot.specs.Layout.{most_bytes, header_sector, slot_end};
+ghost use Rattle.dg_slot.specs.Layout.{page_size, most_bytes, header_sector, slot_end};
 ghost use Rattle.dg_slot.specs.Kept.{Held, KeepsImage};
 ghost use Rattle.dg_volume.specs.Sizes.{images};
 ghost use Rattle.dg_volume.specs.Store.{Store, held};
@@ -66,6 +67,7 @@ impl Volume {
             → (N.device nor.new ≡ N.device nor.old) × (self.new ≡ self.old) }
         // page 0 may have been read
         ensures taken { result ≡ Err InjectFault.Taken → Looked (N.device nor.old) (N.device nor.new) × (self.new ≡ self.old) }
+        ensures took { result ≡ Err InjectFault.Taken → Took page_size (N.device nor.old) (N.device nor.new) }
         // where another profile is kept of this version, no page is read, and nothing stops
         ensures unread { IsErrOf result InjectFault.Stopped → (s : Store) → Mounted (N.device nor.old).image self.old s
             → SameProfile (held s image) (row_of image version name.now bytes.now) }
@@ -103,6 +105,7 @@ impl Volume {
         ensures unchanged { (e : InjectFault) → result ≡ Err e → e ≢ inject_faults.Stopped → e ≢ inject_faults.Taken
             → (N.device nor.new ≡ N.device nor.old) × (self.new ≡ self.old) }
         ensures taken { result ≡ Err inject_faults.Taken → Looked (N.device nor.old) (N.device nor.new) × (self.new ≡ self.old) }
+        ensures took { result ≡ Err inject_faults.Taken → Took page_size (N.device nor.old) (N.device nor.new) }
         ensures touches { TouchesBut (header_sector new.now.image) (slot_end new.now.image) (N.device nor.old).image (N.device nor.new).image }
     {
         match self.kept(new.image) {
@@ -131,6 +134,7 @@ impl Volume {
         ensures awake { OnOk result ((N.device nor.old).stopped ≡ false) }
         ensures only { (e : InjectFault) → result ≡ Err e → (e ≡ inject_faults.Stopped) ⊎ (e ≡ inject_faults.Taken) }
         ensures taken { result ≡ Err inject_faults.Taken → Looked (N.device nor.old) (N.device nor.new) × (self.new ≡ self.old) }
+        ensures took { result ≡ Err inject_faults.Taken → Took page_size (N.device nor.old) (N.device nor.new) }
         ensures touches { Touches (header_sector new.now.image) (slot_end new.now.image) (N.device nor.old).image (N.device nor.new).image }
     {
         if is_other(nor, new, kept)? {
@@ -206,6 +210,7 @@ fn is_other<N: Nor>(nor: &mut N, new: &NewImage<'_>, kept: &Kept) -> Result<bool
     ensures unread { OnErr result ((h : Held) → told_held h ≡ kept.now → other_profile h (new_row new.now) ≡ false) }
     ensures awake { result ≡ Ok false → 1 ≤ kept.now.done → (N.device nor.old).stopped ≡ false }
     ensures ends { ReadEnds result (N.device nor.old) (N.device nor.new) }
+    ensures took { Took page_size (N.device nor.old) (N.device nor.new) }
 {
     let mut first = [0; PAGE_SIZE];
     new.page(0, &mut first);

@@ -12,7 +12,7 @@ ghost use Rattle.dg_slot.specs.Fits.{may_seal};
 ghost use Rattle.dg_slot.specs.Jobs.{seal_trail, SlotStops};
 ghost use Rattle.dg_volume.specs.Sizes.{images, golden_version, short_starts, control_sectors, most_take_commits};
 ghost use Rattle.dg_volume.specs.Store.{App, Store, IsNear, held, held_to, held_whole, golden_row, fresh};
-ghost use Rattle.dg_volume.specs.Stands.{Stands, Tells, MountedBut, Mounted, IsMounted};
+ghost use Rattle.dg_volume.specs.Stands.{Stands, Tells, MountedBut, Mounted, IsMounted, control_of, kept_at};
 ghost use Rattle.dg_volume.specs.Shaped.{IsShaped};
 ghost use Rattle.dg_volume.specs.Changes.{spent, keeping, paged, ordered, gesture_cleared, advanced, inject_refusal, FitAll};
 ghost use Rattle.dg_volume.specs.Trails.{BeginsAt, order_trail, clear_trail, advance_trail, take_trail, fill_trail, inject_trail, sealing_trail};
@@ -40,6 +40,13 @@ pub fn a_volume_has_these_sizes()
 pub fn a_chip_stands_for_one_store()
     ensures one { (c : List ℕ) (s t : Store) → Stands c s → Stands c t → s ≡ t }
     ensures told { (c : List ℕ) (v : Volume) (s : Store) → IsMounted c v → Stands c s → Tells v s }
+{}
+
+/// A chip is mounted in one way: each mount of it gives the same control, and tells the same of each slot, by halving
+/// or not.
+pub fn a_volume_is_mounted_in_one_way()
+    ensures control { (c : List ℕ) (v w : Volume) → IsMounted c v → IsMounted c w → control_of v ≡ control_of w }
+    ensures kept { (c : List ℕ) (v w : Volume) → IsMounted c v → IsMounted c w → (i : ℕ) → i < images → kept_at v i ≡ kept_at w i }
 {}
 
 /// What a chip stands for has a place for each image, and an order in its ranges.

@@ -1,11 +1,14 @@
 //! Orders: which image is to be started.
-ghost use Rattle.std.specs.Prelude.{◌≡◌, ◌≢◌, ℕ, ◌<◌, ◌≤◌, false, Some, None, Err, OnOk, IsErrOf};
+ghost use Rattle.std.specs.Prelude.{◌≡◌, ◌≢◌, ℕ, ◌+◌, ◌<◌, ◌≤◌, false, Some, None, Err, OnOk, IsErrOf};
 ghost use Rattle.dg_nor.specs.Chip.{Touches};
+ghost use Rattle.dg_control.specs.Sizes.{place_size};
+ghost use Rattle.dg_control.specs.Store.{IsOrderlyChip};
 ghost use Rattle.dg_volume.specs.Sizes.{images, control_sectors};
 ghost use Rattle.dg_volume.specs.Store.{Store};
 ghost use Rattle.dg_volume.specs.Stands.{Mounted, IsMounted, is_lent};
 ghost use Rattle.dg_volume.specs.Changes.{order_refusal, UnlessOrderRefused};
 ghost use Rattle.dg_volume.specs.Trails.{order_trail};
+ghost use Rattle.dg_volume.specs.Remount.{RemountBytes};
 ghost use Rattle.dg_volume.specs.Acts.{Acted, Stops};
 
 use crate::volume::{OrderFault, Volume};
@@ -40,6 +43,10 @@ impl Volume {
         ensures unchanged { (e : OrderFault) → result ≡ Err e → e ≢ OrderFault.Stopped
             → (N.device nor.new ≡ N.device nor.old) × (self.new ≡ self.old) }
         ensures touches { Touches 0 control_sectors (N.device nor.old).image (N.device nor.new).image }
+        // nothing is read, and a chip that may be mounted again by halving stays one: that reads at most one place more
+        ensures same_taken { (N.device nor.new).taken ≡ (N.device nor.old).taken }
+        ensures orderly { IsOrderlyChip (N.device nor.old).image → IsOrderlyChip (N.device nor.new).image }
+        ensures bytes { (m n : ℕ) → RemountBytes (N.device nor.old).image m → RemountBytes (N.device nor.new).image n → n ≤ m + place_size }
         ensures stopped { IsErrOf result OrderFault.Stopped → (s : Store) → Mounted (N.device nor.old).image self.old s
             → Stops (order_trail s (record { number = number; image = image; version = version })) (N.device nor.old) (N.device nor.new) }
     {

@@ -1,8 +1,10 @@
 use Rattle.std.proofs.Common.{Err, ap, ◌∙◌, arith}
+use Rattle.dg_control.specs.Mounted.{control_snapshot, control_room}
 use Rattle.dg_control.specs.declared.snapshot.Order.{Order}
 use Rattle.dg_volume.specs.Changes.{ordered}
-use Rattle.dg_volume.proofs.CommitLemmas.{commit_acted, commit_stops}
+use Rattle.dg_volume.proofs.CommitLemmas.{commit_acted, commit_stops, controls_of}
 use Rattle.dg_volume.proofs.OrderLemmas.{order_commits, order_old, order_worn, order_allowed}
+use Rattle.dg_volume.proofs.RemountLemmas.{more_bytes, same_bytes, stays_orderly, stopped_slots}
 use Rattle.dg_volume.proofs.volume.Volume.order.Goals as goal
 
 pub returns-then-number-kept-clause-refused : goal.returns-then-number-kept-clause-refused
@@ -46,3 +48,33 @@ returns-in-Err-Stopped-clause-stopped g c _ s mounted =
     let commits = order_commits (g.N.Nor.device c.args.nor.now).image c.args.self.now s c.with_order-next.result o mounted.stands mounted.tells
     (record { order = says.order; waived = says.waived; slots = says.slots ∙ ap (λ p. p.slots) now; program = says.program ∙ ap (λ p. p.program) now; gesture = says.gesture ∙ ap (λ p. p.gesture) now }) in
     commit_stops c.args.self.now.control c.with_order-next.result s (ordered s o) _ _ commits c.in-Err-Stopped.ensures.touches (c.in-Err-Stopped.ensures.stopped (ap Err c.in-Err-Stopped.field-0-is))
+
+-- ---- the chip is mounted again
+
+pub returns-then-number-kept-clause-bytes : goal.returns-then-number-kept-clause-bytes
+returns-then-number-kept-clause-bytes g c = same_bytes (g.N.Nor.device c.args.nor.now).image
+
+pub returns-then-room-lt-COMMITS-clause-bytes : goal.returns-then-room-lt-COMMITS-clause-bytes
+returns-then-room-lt-COMMITS-clause-bytes g c = same_bytes (g.N.Nor.device c.args.nor.now).image
+
+pub returns-in-Ok-clause-orderly : goal.returns-in-Ok-clause-orderly
+returns-in-Ok-clause-orderly g c = stays_orderly _ _ c.in-Ok.ensures.orderly
+
+pub returns-in-Err-Stopped-clause-orderly : goal.returns-in-Err-Stopped-clause-orderly
+returns-in-Err-Stopped-clause-orderly g c = stays_orderly _ _ c.in-Err-Stopped.ensures.orderly
+
+pub returns-in-Ok-clause-bytes : goal.returns-in-Ok-clause-bytes
+returns-in-Ok-clause-bytes g c m n was is =
+    let v = c.args.self.now.control in
+    let control = c.requires.mounted.1.control in
+    let slots = ap (λ p. p.slots) c.in-Ok.ensures.now ∙ c.with_order-next.ensures.slots ∙ ap (λ p. p.slots) c.now-snapshot.ensures in
+    more_bytes _ _ (control_snapshot v) _ (control_room v) _ m n (controls_of _ v control) (controls_of _ _ c.in-Ok.ensures.ok) slots c.in-Ok.ensures.orderly was is
+
+pub returns-in-Err-Stopped-clause-bytes : goal.returns-in-Err-Stopped-clause-bytes
+returns-in-Err-Stopped-clause-bytes g c m n was is =
+    let v = c.args.self.now.control in
+    let control = c.requires.mounted.1.control in
+    let same = c.with_order-next.ensures.slots ∙ ap (λ p. p.slots) c.now-snapshot.ensures in
+    let halted = c.in-Err-Stopped.ensures.stopped (ap Err c.in-Err-Stopped.field-0-is) in
+    let left = stopped_slots v c.with_order-next.result halted.done _ same halted.leaves in
+    more_bytes _ _ (control_snapshot v) left.snapshot (control_room v) left.room m n (controls_of _ v control) left.controls left.same c.in-Err-Stopped.ensures.orderly was is
