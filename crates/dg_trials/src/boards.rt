@@ -5,7 +5,7 @@ ghost use Rattle.dg_volume.specs.Sizes.{most_room};
 ghost use Rattle.dg_volume.specs.Stands.{IsMounted, NothingLent};
 
 use dg_control::PLACE_SIZE;
-use dg_nor::Board;
+use dg_nor::{Board, Counted};
 use dg_volume::{Injected, Volume};
 use std::test::Fail;
 
@@ -68,4 +68,37 @@ pub(crate) fn inject(board: &mut Board) -> Result<(), Fail> {
         Ok(Injected { pages: 2 }) => Ok(()),
         _ => Err("the image is not injected".into()),
     }
+}
+
+/// An orderly volume, mounted in full and then again, and how many bytes that read.
+fn mounted_twice(board: &mut Board) -> Result<(Volume, Volume, u64), Fail> {
+    let volume = mounted(board)?;
+    if !volume.orderly() {
+        return Err("the board is not orderly".into());
+    }
+    let mut counted = Counted::new(board);
+    let again = Volume::remount(&mut counted)?;
+    Ok((volume, again, counted.taken()))
+}
+
+/// How many bytes a mount in full reads of a board.
+fn read_in_full(board: &mut Board) -> Result<u64, Fail> {
+    let mut counted = Counted::new(board);
+    match Volume::mount(&mut counted) {
+        Ok(_) => Ok(counted.taken()),
+        Err(_) => Err("the board is no volume".into()),
+    }
+}
+
+/// Of a volume that keeps golden alone, 11 bytes of the ledger are read again, 7 places, and the header of golden.
+#[test]
+fn a_volume_is_mounted_again(rt: HostRuntime) -> Result<(), Fail> {
+    let mut board = formatted(&rt, 0)?;
+    let (volume, again, taken) = mounted_twice(&mut board)?;
+    assert!(rt; taken <= 484);
+    assert!(rt; again.orderly());
+    assert_eq!(rt; again.kept(0), volume.kept(0));
+    assert_eq!(rt; again.room(), volume.room());
+    assert!(rt; read_in_full(&mut board)? > 484);
+    Ok(())
 }
