@@ -48,8 +48,8 @@ fn fill(seed: u32, into: &mut [u8])
     }
 }
 
-// So many bytes that a seed makes.
-fn generate(alloc: Global, length: u32, seed: u32) -> Result<Bytes, LineFault>
+/// So many bytes that a seed makes. The only fault is [`LineFault::Memory`].
+pub fn generate(alloc: Global, length: u32, seed: u32) -> Result<Bytes, LineFault>
     requires { length ≤ most_content }
     ensures { Reads result (Ok (generated length seed)) }
 {
