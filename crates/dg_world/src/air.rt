@@ -1,5 +1,5 @@
 //! The frames that were sent.
-ghost use Rattle.std.specs.Prelude.{◌≡◌, ◌+◌, ◌<◌, ◌≤◌, ◌++◌, List, [], Some, None, vec_len, OnOk, option_map};
+ghost use Rattle.std.specs.Prelude.{◌≡◌, ◌+◌, ◌<◌, ◌≤◌, ◌++◌, List, [], Some, None, length, vec_len, OnOk, option_map};
 ghost use Rattle.std.specs.Vec.{vec_capacity};
 ghost use Rattle.dg_mote.specs.Motes.{sent_in};
 ghost use Rattle.dg_rules.specs.Sizes.{most_motes};
@@ -60,6 +60,13 @@ impl Air {
     {
         self.frames.push_reserved(SentFrame { by, frame });
         self.last[usize::from(by)] = self.frames.len();
+    }
+
+    /// How many frames were sent.
+    pub(crate) fn count(&self) -> usize
+        ensures { (sent : List Sent) → Carries self.now sent → result ≡ length sent }
+    {
+        self.frames.len()
     }
 
     /// The frame with this number.

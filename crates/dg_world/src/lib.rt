@@ -13,6 +13,7 @@ mod happening;
 mod images;
 mod links;
 mod mount;
+mod sending;
 mod sent;
 mod shared;
 mod shown;
