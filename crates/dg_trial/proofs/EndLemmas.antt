@@ -1,0 +1,64 @@
+-- How a trial ends.
+use Rattle.std.proofs.Common.{◌≡◌, ◌≢◌, ◌⊎◌, inl, inr, ⊎_elim, ℕ, ◌<◌, ◌≤◌, List, [], ◌∷◌, ◌++◌, codes, length, refl, ap, sym, subst, ◌∙◌, append_assoc}
+use Rattle.std.specs.Prelude.{Option, Ok}
+use Rattle.std.specs.Fmt.{decimal}
+use Rattle.dg_words.specs.Counts.{Rose}
+use Rattle.dg_base.specs.Outside.{Puts, PutsFront}
+use Rattle.dg_base.specs.declared.answers.Status.{Status}
+use Rattle.dg_base.specs.declared.answers.Status.TheVariants as status
+use Rattle.dg_nor.specs.Device.{Device}
+use Rattle.dg_trial.specs.Schedule.{sweeps_of}
+use Rattle.dg_trial.specs.Trials.{summary_line, no_board_line, told_of, LineEnds, TrialEnds, RunEnds, TrialPlayed, Tells, Unplayed}
+use Rattle.dg_trial.proofs.TrialLemmas.{read_unread}
+use Rattle.dg_trial.specs.declared.summary.Summary.{Summary}
+
+pub line_ended : (r s : Status) (written line : List ℕ) (before after : Option (List ℕ)) (fb fa : ℕ) → written ≡ line
+    → ((r ≡ s) × Puts before after written × (fa ≡ fb)) ⊎ ((r ≡ status.WriteFault) × PutsFront before after written × Rose fb fa) → LineEnds r s line before after fb fa
+line_ended r s written line before after fb fa e h =
+    subst (λ (t : List ℕ). LineEnds r s t before after fb fa) e (⊎_elim (λ a. inl a) (λ b. inr (inl b)) h)
+
+pub line_cause : (r s : Status) (line : List ℕ) (before after : Option (List ℕ)) (fb fa : ℕ) → s ≢ status.WriteFault → LineEnds r s line before after fb fa → r ≡ status.WriteFault → Rose fb fa
+line_cause r s line before after fb fa other h is =
+    ⊎_elim (λ a. absurd (other (sym a.0 ∙ is))) (λ x. ⊎_elim (λ b. b.2) (λ c. absurd (differ (sym c.0 ∙ is))) x) h
+  where
+    differ : status.Memory ≡ status.WriteFault → ⊥
+    differ e = cc
+
+pub line_unfailed : (r s : Status) (line : List ℕ) (before after : Option (List ℕ)) (fb fa : ℕ) → LineEnds r s line before after fb fa → r ≢ status.WriteFault → fa ≡ fb
+line_unfailed r s line before after fb fa h other = ⊎_elim (λ a. a.2) (λ x. ⊎_elim (λ b. absurd (other b.0)) (λ c. c.2) x) h
+
+pub boards_missing : (r : Status) (motes pages seed : ℕ) (before after : Option (List ℕ)) (fb fa n : ℕ) (old : List Device) → n ≡ length old → n < motes → LineEnds r status.NoBoard (no_board_line motes n) before after fb fa → TrialEnds r motes pages seed before after old old
+boards_missing r motes pages seed before after fb fa n old count few h =
+    let low : length old < motes = subst (λ (k : ℕ). k < motes) count few in
+    let E : Status → Type 0 = λ s. TrialEnds s motes pages seed before after old old in
+    let at = subst (λ (k : ℕ). LineEnds r status.NoBoard (no_board_line motes k) before after fb fa) count h in
+    ⊎_elim (λ a. subst E (sym a.0) (record { missing = low; same = refl }, a.1))
+    (λ x. ⊎_elim (λ b. subst E (sym b.0) (inr (record { missing = low; same = refl }, b.1))) (λ c. subst E (sym c.0) (inl refl, c.1)) x) at
+
+told_is : (motes pages seed : ℕ) (old new : List Device) (s : Summary) (t : TrialPlayed motes pages seed old new) → Tells motes pages seed t.last s → summary_line s.motes s.pages s.sweeps s.events s.whole ≡ told_of motes pages seed t.last
+told_is motes pages seed old new s t h =
+    ap (λ (n : ℕ). summary_line n s.pages s.sweeps s.events s.whole) h.motes_told ∙ ap (λ (n : ℕ). summary_line motes n s.sweeps s.events s.whole) h.pages_told ∙ ap (λ (n : ℕ). summary_line motes pages n s.events s.whole) h.sweeps_told
+    ∙ ap (λ (n : ℕ). summary_line motes pages (sweeps_of motes pages) n s.whole) h.events_told ∙ ap (λ (n : ℕ). summary_line motes pages (sweeps_of motes pages) t.last.events n) h.whole_told
+
+unread : (motes pages seed : ℕ) (old new : List Device) → TrialPlayed motes pages seed old new → Unplayed motes pages seed old new
+unread motes pages seed old new t = read_unread motes pages seed t.last old new t.run t.boards
+
+pub trial_told : (r : Status) (motes pages seed : ℕ) (before after : Option (List ℕ)) (fb fa : ℕ) (old new : List Device) (s : Summary) → motes ≤ length old → RunEnds (Ok s) motes pages seed old new
+    → LineEnds r status.Done (summary_line s.motes s.pages s.sweeps s.events s.whole) before after fb fa → TrialEnds r motes pages seed before after old new
+trial_told r motes pages seed before after fb fa old new s enough run h =
+    let E : Status → Type 0 = λ x. TrialEnds x motes pages seed before after old new in
+    let at = subst (λ (t : List ℕ). LineEnds r status.Done t before after fb fa) (told_is motes pages seed old new s run.0 run.1) h in
+    ⊎_elim (λ a. subst E (sym a.0) (record { enough = enough; played = run.0; told = a.1 }))
+    (λ x. ⊎_elim (λ b. subst E (sym b.0) (inl (record { enough = enough; played = run.0; told = b.1 })))
+    (λ c. subst E (sym c.0) (unread motes pages seed old new run.0, c.1)) x) at
+
+pub summary_text : (t0 t1 t2 t3 t4 t5 t6 : List ℕ) (a b c d e m p s v w : ℕ) → t1 ≡ t0 ++ (codes "trial motes " ++ decimal a) → t2 ≡ t1 ++ (codes " pages " ++ decimal b) → t3 ≡ t2 ++ (codes " sweeps " ++ decimal c) → t4 ≡ t3 ++ (codes " events " ++ decimal d)
+    → t5 ≡ t4 ++ (codes " whole " ++ decimal e) → t6 ≡ t5 ++ 10 ∷ [] → a ≡ m → b ≡ p → c ≡ s → d ≡ v → e ≡ w → t6 ≡ t0 ++ summary_line m p s v w
+summary_text t0 t1 t2 t3 t4 t5 t6 a b c d e m p s v w h1 h2 h3 h4 h5 h6 am bp cs dv ew =
+    h6 ∙ ap (λ (t : List ℕ). t ++ 10 ∷ []) (h5 ∙ ap (λ (t : List ℕ). t ++ (codes " whole " ++ decimal e)) (h4 ∙ ap (λ (t : List ℕ). t ++ (codes " events " ++ decimal d)) (h3 ∙ ap (λ (t : List ℕ). t ++ (codes " sweeps " ++ decimal c))
+    (h2 ∙ ap (λ (t : List ℕ). t ++ (codes " pages " ++ decimal b)) h1))))
+    ∙ joined (codes "trial motes ") (decimal a) (codes " pages ") (decimal b) (codes " sweeps ") (decimal c) (codes " events ") (decimal d) (codes " whole ") (decimal e)
+    ∙ ap (λ (n : ℕ). t0 ++ summary_line n b c d e) am ∙ ap (λ (n : ℕ). t0 ++ summary_line m n c d e) bp ∙ ap (λ (n : ℕ). t0 ++ summary_line m p n d e) cs ∙ ap (λ (n : ℕ). t0 ++ summary_line m p s n e) dv ∙ ap (λ (n : ℕ). t0 ++ summary_line m p s v n) ew
+  where
+    joined : (w1 d1 w2 d2 w3 d3 w4 d4 w5 d5 : List ℕ) → ((((((t0 ++ (w1 ++ d1)) ++ (w2 ++ d2)) ++ (w3 ++ d3)) ++ (w4 ++ d4)) ++ (w5 ++ d5)) ++ 10 ∷ []) ≡ t0 ++ (w1 ++ d1 ++ w2 ++ d2 ++ w3 ++ d3 ++ w4 ++ d4 ++ w5 ++ d5 ++ 10 ∷ [])
+    joined w1 d1 w2 d2 w3 d3 w4 d4 w5 d5 = simp append_assoc

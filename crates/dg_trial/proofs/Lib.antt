@@ -1,0 +1,11 @@
+pub mod CutLemmas
+pub mod RunLemmas
+pub mod BoardLemmas
+pub mod PartLemmas
+pub mod ScheduleLemmas
+pub mod LoopLemmas
+pub mod FitLemmas
+pub mod BeginLemmas
+pub mod SummaryLemmas
+pub mod TrialLemmas
+pub mod EndLemmas

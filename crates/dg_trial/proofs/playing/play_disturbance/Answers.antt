@@ -1,0 +1,41 @@
+use Rattle.std.proofs.Common.{List, ◌∷◌, [], map, refl, sym, ap, subst, ◌∙◌, arith}
+use Rattle.dg_trial.specs.Schedule.{Part, disturbance}
+use Rattle.dg_trial.specs.Playing.{MayPlayOver, Plays}
+use Rattle.dg_trial.proofs.ScheduleLemmas.{one_disturbance}
+use Rattle.dg_trial.proofs.PartLemmas.{nothing_played, may_only}
+use Rattle.dg_trial.proofs.playing.play_disturbance.Goals as goal
+
+pub disturbance-requires-clause-few : goal.disturbance-requires-clause-few
+disturbance-requires-clause-few g c =
+    let m = c.requires.may in
+    let e = c.frames_sent-sent.ensures _ m.world m.is in
+    let sent = m.may.sent in
+    let few = m.may.few in
+    omega (arith, e, sent, few)
+
+pub play_step-requires : goal.play_step-requires
+play_step-requires g c =
+    let motes = c.args.motes in
+    let part : Part = disturbance motes c.next-first.result c.next-second.result c.next-third.result in
+    let one = one_disturbance motes c.args.words.now.generator _ _ _ c.next-first.result c.next-second.result c.next-third.result c.next-first.ensures c.next-second.ensures c.next-third.ensures in
+    let may : MayPlayOver motes c.args.world.now (map g.N.Nor.device c.args.boards.now.items) (part ∷ []) = subst (λ (ps : List Part). MayPlayOver motes c.args.world.now (map g.N.Nor.device c.args.boards.now.items) ps) one.0 c.requires.may in
+    (motes, may_only motes _ _ c.in-Ok.step part may (sym (c.in-Ok.ensures ∙ ap part (c.frames_sent-sent.ensures _ may.world may.is))))
+
+pub returns-in-Ok-clause-played : goal.returns-in-Ok-clause-played
+returns-in-Ok-clause-played g c =
+    let motes = c.args.motes in
+    let part : Part = disturbance motes c.next-first.result c.next-second.result c.next-third.result in
+    let one = one_disturbance motes c.args.words.now.generator _ _ _ c.next-first.result c.next-second.result c.next-third.result c.next-first.ensures c.next-second.ensures c.next-third.ensures in
+    subst (λ (ps : List Part). Plays c.play_step.result ps c.args.world.now c.play_step.new.world (map g.N.Nor.device c.args.boards.now.items) (map g.N.Nor.device c.play_step.new.boards.items)) (sym one.0)
+    (c.play_step.ensures part (λ w is. sym (c.in-Ok.ensures ∙ ap part (c.frames_sent-sent.ensures _ w is))))
+
+pub returns-in-Ok-clause-drawn : goal.returns-in-Ok-clause-drawn
+returns-in-Ok-clause-drawn g c =
+    sym (one_disturbance c.args.motes c.args.words.now.generator _ _ _ c.next-first.result c.next-second.result c.next-third.result c.next-first.ensures c.next-second.ensures c.next-third.ensures).1
+
+pub returns-in-Err-clause-played : goal.returns-in-Err-clause-played
+returns-in-Err-clause-played g c = λ w initial is stands. nothing_played w _ initial _ _ refl stands
+
+pub returns-in-Err-clause-drawn : goal.returns-in-Err-clause-drawn
+returns-in-Err-clause-drawn g c =
+    sym (one_disturbance c.args.motes c.args.words.now.generator _ _ _ c.next-first.result c.next-second.result c.next-third.result c.next-first.ensures c.next-second.ensures c.next-third.ensures).1

@@ -1,0 +1,4 @@
+pub mod Schedule
+pub mod Playing
+pub mod Lines
+pub mod Trials

@@ -1,0 +1,9 @@
+-- Which last lines of a world tell of an image that is kept whole.
+use Rattle.std.specs.Prelude.{ℕ, nat_le, ◌==◌, ◌&&◌, Bool, false}
+use Rattle.dg_script.specs.declared.report.Report.{Report}
+use Rattle.dg_script.specs.declared.report.Report.TheVariants.{Kept}
+
+-- a mote keeps so many pages of image 1, version 1, or more
+abbrev pub tells_whole : ℕ → Report → Bool
+tells_whole pages (Kept mote image version kept) = (image == 1) && ((version == 1) && nat_le pages kept)
+tells_whole pages _ = false

@@ -1,0 +1,140 @@
+-- Playing a schedule: runs of its parts, and the boards meanwhile.
+use Rattle.std.specs.Prelude.{◌≡◌, ◌≢◌, ◌⊎◌, ℕ, ◌+◌, ◌-◌, ◌<◌, ◌≤◌, true, false, List, [], ◌∷◌, ◌++◌, length, replicate, slice_get, codes, Some, IfSome, Result, Ok, Err}
+use Rattle.std.specs.List.{AllByRecursion}
+use Rattle.dg_words.specs.Counts.{Rose}
+use Rattle.dg_nor.specs.Device.{Device, Endures}
+use Rattle.dg_nor.specs.Fuse.{beneath_of}
+use Rattle.dg_nor.specs.Trail.{operations, MayLeave}
+use Rattle.dg_object.specs.Object.{Row}
+use Rattle.dg_volume.specs.Store.{Store, IsNear, golden_row, fresh}
+use Rattle.dg_volume.specs.Stands.{Stands}
+use Rattle.dg_base.specs.declared.events.Step.{Step}
+use Rattle.dg_script.specs.declared.report.Report.{Report}
+use Rattle.dg_rules.specs.Sizes.{most_events}
+use Rattle.dg_rules.specs.World.{World, store_at, first_world}
+use Rattle.dg_rules.specs.Events.{does, mote_of, trail_of}
+use Rattle.dg_rules.specs.Steps.{WorldStep}
+use Rattle.dg_rules.specs.Ranges.{StepFits}
+use Rattle.dg_rules.specs.Golden.{WorldKeepsGolden}
+use Rattle.dg_world.specs.Counts.{NoneRose}
+use Rattle.dg_world.specs.Worlds.{IsWorld}
+use Rattle.dg_world.specs.declared.world.World.{World as KeptWorld}
+use Rattle.dg_trial.specs.Schedule.{Part, line}
+use Rattle.dg_trial.specs.declared.playing.Stop.{Stop}
+use Rattle.dg_trial.specs.declared.playing.Stop.TheVariants.{Memory, Flash}
+
+-- ---- runs
+
+-- from world w, so many parts may lead to world v
+unfoldable pub LeadsTo : World → List Part → World → Type 0
+LeadsTo w [] v = w ≡ v
+LeadsTo w (p ∷ ps) v = (u : World) × (reports : List Report) × WorldStep w (p (length w.sent)) u reports × LeadsTo u ps v
+
+-- golden of a trial, and the chip that was formatted with it
+abbrev pub golden : Row
+golden = golden_row (codes "base") (codes "A")
+
+abbrev pub chip : Store
+chip = fresh (codes "base") (codes "A") 0
+
+-- the world in which a trial begins: motes in a line, whose chips were formatted with golden, and an image that is declared
+abbrev pub first : (motes : ℕ) → Row → World
+first motes row = record (first_world (golden ∷ []) (line motes) (replicate motes chip)) { declared = row ∷ [] }
+
+-- ---- the boards
+
+-- No count of a board fell, and a board is stopped only where it was, or where its count rose.
+pub record BoardsEndure (old new : List Device) : Type 0 where
+  pub count : length new ≡ length old
+  pub endures : (m : ℕ) (a b : Device) → slice_get old m ≡ Some a → slice_get new m ≡ Some b → Endures (beneath_of a) (beneath_of b)
+
+-- The boards of a world's motes stand for its stores, and did not come stopped. All others are as before, and no board's count rose.
+pub record WorldStands (w : World) (old new : List Device) : Type 0 where
+  pub all : BoardsEndure old new
+  pub calm : NoneRose old new
+  pub stands : (m : ℕ) (d : Device) → m < length w.sites → slice_get new m ≡ Some d → Stands d.image (store_at w m)
+  pub came : (m : ℕ) (d : Device) → m < length w.sites → slice_get old m ≡ Some d → d.stopped ≡ false
+  pub others : (m : ℕ) → length w.sites ≤ m → slice_get new m ≡ slice_get old m
+
+-- The board of one of so many motes is stopped: its count rose, or it came stopped.
+pub record BoardStopped (motes : ℕ) (old new : List Device) : Type 0 where
+  pub board : ℕ
+  pub known : board < motes
+  pub before : Device
+  pub after : Device
+  pub was : slice_get old board ≡ Some before
+  pub is : slice_get new board ≡ Some after
+  pub stopped : after.stopped ≡ true
+  pub cause : (before.stopped ≡ true) ⊎ Rose before.faults after.faults
+
+-- A board stopped in a step: it stands for a store that the event's trail leaves where so many operations were done, and a cut did
+-- not come before. All other boards are as they were before the step.
+pub record StopsInStep (w : World) (x : Step) (old new : List Device) : Type 0 where
+  pub stopped : BoardStopped (length w.sites) old new
+  pub at : stopped.board ≡ mote_of x.event
+  pub made : ℕ
+  pub within : made ≤ operations (trail_of (does w x.event) (store_at w (mote_of x.event)))
+  pub uncut : IfSome x.cut (λ cut. made ≤ cut.after - 1)
+  pub leaves : MayLeave Stands IsNear (trail_of (does w x.event) (store_at w (mote_of x.event))) made stopped.after.image
+  pub stands : (m : ℕ) (d : Device) → m < length w.sites → m ≢ stopped.board → slice_get new m ≡ Some d → Stands d.image (store_at w m)
+  pub others : (m : ℕ) → length w.sites ≤ m → slice_get new m ≡ slice_get old m
+
+-- ---- what playing answers
+
+-- Parts were played, and the boards, which were `initial` when the trial began, stand for the world then.
+pub record PartsPlayed (w : World) (parts : List Part) (kept : KeptWorld) (initial now : List Device) : Type 0 where
+  pub world : World
+  pub run : LeadsTo w parts world
+  pub kept_now : IsWorld kept now world
+  pub boards : WorldStands world initial now
+
+-- Of these parts the first were played, and P holds of the world then, and of the parts that are left.
+pub record PartsBegun (w : World) (parts : List Part) (P : World → (left : List Part) → Type 0) : Type 0 where
+  pub begun : List Part
+  pub left : List Part
+  pub split : parts ≡ begun ++ left
+  pub world : World
+  pub run : LeadsTo w begun world
+  pub there : P world left
+
+-- a board stopped in the first of the parts that are left
+pub record StopsInPart (w : World) (left : List Part) (initial now : List Device) : Type 0 where
+  pub part : Part
+  pub more : List Part
+  pub next : left ≡ part ∷ more
+  pub stops : StopsInStep w (part (length w.sent)) initial now
+
+abbrev pub PartsPlayedAs : Result (Unit {0}) Stop → World → List Part → KeptWorld → (initial now : List Device) → Type 0
+PartsPlayedAs (Ok u) w parts kept initial now = PartsPlayed w parts kept initial now
+PartsPlayedAs (Err Memory) w parts kept initial now = PartsBegun w parts (λ v left. WorldStands v initial now)
+PartsPlayedAs (Err Flash) w parts kept initial now = PartsBegun w parts (λ v left. StopsInPart v left initial now)
+
+-- playing parts answers this, from a kept world and boards to these, whatever world they stood for
+abbrev pub Plays : Result (Unit {0}) Stop → List Part → (first kept : KeptWorld) → (old now : List Device) → Type 0
+Plays result parts first kept old now = (w : World) (initial : List Device) → IsWorld first old w → WorldStands w initial old → PartsPlayedAs result w parts kept initial now
+
+-- ---- what may be played
+
+-- the numbers of a part are in their ranges, for so many motes
+abbrev pub PartFits : ℕ → Part → Type 0
+PartFits motes p = (sent : ℕ) → StepFits motes (p sent)
+
+-- These parts may be played from world w, which has so many motes: golden is found, and the events are few enough.
+pub record MayPlay (motes : ℕ) (w : World) (parts : List Part) : Type 0 where
+  pub keeps : WorldKeepsGolden w
+  pub count : length w.sites ≡ motes
+  pub few : w.events + length parts ≤ most_events
+  pub sent : length w.sent ≤ w.events
+  pub fits : AllByRecursion (PartFits motes) parts
+
+-- So it is with the world that is kept, over boards that stand for it.
+pub record MayPlayOver (motes : ℕ) (kept : KeptWorld) (boards : List Device) (parts : List Part) : Type 0 where
+  pub world : World
+  pub initial : List Device
+  pub is : IsWorld kept boards world
+  pub stands : WorldStands world initial boards
+  pub may : MayPlay motes world parts
+
+-- Behind parts that were played those that follow may be played.
+abbrev pub GoesOnLaw : Type 0
+GoesOnLaw = (motes : ℕ) (w v : World) (xs ys : List Part) → MayPlay motes w (xs ++ ys) → LeadsTo w xs v → MayPlay motes v ys

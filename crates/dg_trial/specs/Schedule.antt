@@ -1,0 +1,122 @@
+-- The schedule of a trial: its steps in their order, made from a seed. A disturbance may look at how many frames were sent before it.
+use Rattle.std.specs.Prelude.{ℕ, zero, suc, ◌+◌, ◌-◌, ◌*◌, ◌/◌, ◌%◌, ◌==◌, nat_lt, if◌then◌else◌, List, [], ◌∷◌, ◌++◌, map, codes, Some, None}
+use Rattle.std.proofs.Common.{lit≤}
+use Rattle.std.proofs.Math.Nat.{le-add_right}
+use Rattle.rand_core.specs.Pcg32Seed.{pcg32_seed}
+use Rattle.rand_pcg.specs.Lcg.{Lcg}
+use Rattle.rand_pcg.specs.Pcg.{pcg32, pcg32_of_seed}
+use Rattle.dg_base.specs.declared.events.Cut.{Cut}
+use Rattle.dg_base.specs.declared.events.Event.{Event}
+use Rattle.dg_base.specs.declared.events.Event.TheVariants.{Tick, Hear, Last, Reset, Inject}
+use Rattle.dg_base.specs.declared.events.Step.{Step}
+use Rattle.dg_object.specs.Object.{Row, row_of}
+use Rattle.dg_object.specs.Sizes.{page_size}
+use Rattle.dg_rounds.specs.Rounds.{times, sweep}
+use Rattle.dg_script.specs.Contents.{generated}
+
+-- a step, where so many frames were sent before it
+abbrev pub Part : Type 0
+Part = ℕ → Step
+
+-- an event whose power is not cut
+abbrev pub uncut : Event → Step
+uncut event = record { event = event; cut = None }
+
+-- it is the same however many frames were sent
+abbrev pub always : Event → Part
+always event = λ sent. uncut event
+
+-- a schedule of one such step
+abbrev pub only : Step → List Part
+only step = (λ sent. step) ∷ []
+
+-- ---- what is fixed
+
+-- the links of motes in a line, the last one first
+unfoldable pub line : ℕ → List (ℕ × ℕ)
+line zero = []
+line (suc zero) = []
+line (suc (suc n)) = (n, n + 1) ∷ line (suc n)
+
+-- one reset of each mote, in their order
+unfoldable pub resets : ℕ → List Event
+resets zero = []
+resets (suc n) = resets n ++ Reset n 0 0 ∷ []
+
+-- one for each page, and one for each link but the first
+abbrev pub sweeps_of : (motes pages : ℕ) → ℕ
+sweeps_of motes pages = pages + motes - 2
+
+-- ---- what the words of the seed choose
+
+-- how many bytes the image has: some word makes the last page shorter
+abbrev pub size_by : (pages word : ℕ) → ℕ
+size_by pages word = (pages - 1) * page_size - word % page_size
+
+-- the image
+abbrev pub row_by : (pages seed word : ℕ) → Row
+row_by pages seed word = row_of 1 1 (codes "trial") (generated (size_by pages word) seed)
+
+-- the next mote on the line, or the one before the last
+abbrev pub beside : (motes a : ℕ) → ℕ
+beside motes a = if a + 1 == motes then a - 1 else a + 1
+
+-- the cut in the operation that one word chooses, with the mask that the other one chooses
+abbrev pub cut_by : (w2 w3 : ℕ) → Cut
+cut_by w2 w3 =
+    record { after = 1 + w2 % 64; mask = (w3 % 256) ∷ []; numbered = le-add_right 1 (w2 % 64); some = lit≤ tt; within = lit≤ tt }
+
+-- A mote is reset, and its power is cut.
+abbrev pub cut_reset : (mote w2 w3 : ℕ) → Step
+cut_reset mote w2 w3 = record { event = Reset mote 0 w3; cut = Some (cut_by w2 w3) }
+
+-- Of eight disturbances at a mote four are ticks. In two it hears the last frame of the next mote, in one any frame that
+-- was sent, or one more, and in one it is reset and its power is cut.
+abbrev pub disturbed_at : (motes mote kind w2 w3 sent : ℕ) → Step
+disturbed_at motes mote kind w2 w3 sent =
+    if nat_lt kind 4 then uncut (Tick mote (w2 % 1024) w3)
+    else if nat_lt kind 6 then uncut (Last (beside motes mote) mote (w2 % 1024) w3)
+    else if kind == 6 then uncut (Hear mote 1 w3 (1 + w2 % (sent + 1)))
+    else cut_reset mote w2 w3
+
+-- the disturbance that three words choose: the mote, the kind, and what else there is to choose
+abbrev pub disturbance : (motes w1 w2 w3 : ℕ) → Part
+disturbance motes w1 w2 w3 = λ sent. disturbed_at motes (w1 % motes) (w1 / 65536 % 8) w2 w3 sent
+
+-- so many disturbances, each by the next three words of a generator
+unfoldable pub disturbances : (motes n : ℕ) → Lcg → List Part
+disturbances motes zero g = []
+disturbances motes (suc n) g =
+    let a = pcg32 g in
+    let b = pcg32 a.1 in
+    let c = pcg32 b.1 in
+    disturbance motes a.0 b.0 c.0 ∷ disturbances motes n c.1
+
+-- the generator behind the words of so many disturbances
+unfoldable pub drawn : ℕ → Lcg → Lcg
+drawn zero g = g
+drawn (suc n) g = drawn n (pcg32 (pcg32 (pcg32 g).1).1).1
+
+-- ---- the whole schedule
+
+-- the generator of a seed
+abbrev pub seeded : ℕ → Lcg
+seeded seed = pcg32_of_seed (pcg32_seed 16 seed)
+
+-- the image that the first word of the seed chooses
+abbrev pub row_of_seed : (pages seed : ℕ) → Row
+row_of_seed pages seed = row_by pages seed (pcg32 (seeded seed)).0
+
+-- each mote is started, and the image is injected into the first
+abbrev pub opening : (motes : ℕ) → List Part
+opening motes = map always (resets motes) ++ always (Inject 0 1 1 0 0) ∷ []
+
+abbrev pub shaking : (motes seed : ℕ) → List Part
+shaking motes seed = disturbances motes (100 * motes) (pcg32 (seeded seed)).1
+
+-- each mote is started again, and sweeps follow
+abbrev pub resting : (motes pages : ℕ) → List Event
+resting motes pages = resets motes ++ times (sweeps_of motes pages) (sweep (line motes))
+
+abbrev pub schedule : (motes pages seed : ℕ) → List Part
+schedule motes pages seed = opening motes ++ (shaking motes seed ++ map always (resting motes pages))

@@ -1,0 +1,160 @@
+-- What a trial did, and what it tells.
+use Rattle.std.specs.Prelude.{◌≡◌, ◌⊎◌, ℕ, ◌<◌, ◌≤◌, nat_le, Bool, false, List, [], ◌∷◌, ◌++◌, length, codes, slice_get, count_by, Option, Some, Result, Ok, Err}
+use Rattle.std.specs.Fmt.{decimal}
+use Rattle.dg_words.specs.Counts.{Rose}
+use Rattle.dg_base.specs.Outside.{Puts, PutsFront}
+use Rattle.dg_base.specs.declared.answers.Status.{Status}
+use Rattle.dg_base.specs.declared.answers.Status.TheVariants.{Done, Memory, WriteFault, FlashFault, NoBoard}
+use Rattle.dg_nor.specs.Device.{Device}
+use Rattle.dg_object.specs.Object.{Row}
+use Rattle.dg_volume.specs.Stands.{Stands}
+use Rattle.dg_rules.specs.World.{World, Site, store_at}
+use Rattle.dg_completion.specs.Completion.{page_count, pages_of}
+use Rattle.dg_world.specs.Counts.{NoneRose}
+use Rattle.dg_world.specs.Formatted.{FirstBoards, FormatStops}
+use Rattle.dg_world.specs.Worlds.{IsWorld}
+use Rattle.dg_world.specs.declared.world.World.{World as KeptWorld}
+use Rattle.dg_trial.specs.Schedule.{Part, row_of_seed, schedule, sweeps_of}
+use Rattle.dg_trial.specs.Playing.{LeadsTo, first, chip, WorldStands, BoardStopped, PartsBegun, StopsInPart}
+use Rattle.dg_trial.specs.declared.playing.Stop.{Stop}
+use Rattle.dg_trial.specs.declared.playing.Stop.TheVariants as stop
+use Rattle.dg_trial.specs.declared.summary.Summary.{Summary}
+
+-- ---- runs
+
+-- the world in which the trial of a seed begins
+abbrev pub begins : (motes pages seed : ℕ) → World
+begins motes pages seed = first motes (row_of_seed pages seed)
+
+-- a whole trial leads to world v
+abbrev pub TrialRun : (motes pages seed : ℕ) → World → Type 0
+TrialRun motes pages seed v = LeadsTo (begins motes pages seed) (schedule motes pages seed) v
+
+-- a site keeps all pages of a row
+abbrev pub keeps_all : Row → Site → Bool
+keeps_all row x = nat_le (page_count row) (pages_of x.store row)
+
+-- how many motes keep all pages of a row
+abbrev pub wholes : Row → World → ℕ
+wholes row w = count_by (keeps_all row) w.sites
+
+-- ---- what is told
+
+abbrev pub summary_line : (motes pages sweeps events whole : ℕ) → List ℕ
+summary_line motes pages sweeps events whole =
+    codes "trial motes " ++ decimal motes ++ codes " pages " ++ decimal pages ++ codes " sweeps " ++ decimal sweeps
+    ++ codes " events " ++ decimal events ++ codes " whole " ++ decimal whole ++ 10 ∷ []
+
+-- of a trial that leads to world v
+abbrev pub told_of : (motes pages seed : ℕ) → World → List ℕ
+told_of motes pages seed v = summary_line motes pages (sweeps_of motes pages) v.events (wholes (row_of_seed pages seed) v)
+
+-- there are fewer boards than motes
+abbrev pub no_board_line : (motes boards : ℕ) → List ℕ
+no_board_line motes boards = codes "noboard " ++ decimal motes ++ codes " " ++ decimal boards ++ 10 ∷ []
+
+-- ---- what is done
+
+-- The boards of the motes were formatted, and did not come stopped. All others are as before, and no count rose.
+pub record Formatted (motes : ℕ) (old new : List Device) : Type 0 where
+  pub stands : (m : ℕ) (d : Device) → m < motes → slice_get new m ≡ Some d → Stands d.image chip
+  pub awake : (m : ℕ) (d : Device) → m < motes → slice_get old m ≡ Some d → d.stopped ≡ false
+  pub calm : NoneRose old new
+  pub boards : FirstBoards motes old new
+
+-- formatting stopped at a board
+abbrev pub StopsFormatting : (motes : ℕ) → (old new : List Device) → Type 0
+StopsFormatting motes old new = (board : ℕ) × FormatStops board motes chip old new
+
+abbrev pub FormatEnds : Result (Unit {0}) Stop → (motes : ℕ) → (old new : List Device) → Type 0
+FormatEnds (Ok u) motes old new = Formatted motes old new
+FormatEnds (Err stop.Flash) motes old new = StopsFormatting motes old new
+FormatEnds (Err stop.Memory) motes old new = ⊥
+
+-- a front of the schedule was played, and P holds of the world then, and of the parts that are left
+abbrev pub Front : (motes pages seed : ℕ) → (World → List Part → Type 0) → Type 0
+Front motes pages seed P = PartsBegun (begins motes pages seed) (schedule motes pages seed) P
+
+-- the whole schedule was played, and the boards, which were `old` before it, stand for the world at its end
+pub record SchedulePlayed (motes pages seed : ℕ) (kept : KeptWorld) (old new : List Device) : Type 0 where
+  pub world : World
+  pub run : TrialRun motes pages seed world
+  pub kept_now : IsWorld kept new world
+  pub boards : WorldStands world old new
+  pub count : length world.sites ≡ motes
+
+abbrev pub ScheduleEnds : Result KeptWorld Stop → (motes pages seed : ℕ) → (old new : List Device) → Type 0
+ScheduleEnds (Ok kept) motes pages seed old new = SchedulePlayed motes pages seed kept old new
+ScheduleEnds (Err stop.Memory) motes pages seed old new = (new ≡ old) ⊎ Front motes pages seed (λ w left. WorldStands w old new)
+ScheduleEnds (Err stop.Flash) motes pages seed old new = StopsFormatting motes old new ⊎ Front motes pages seed (λ w left. StopsInPart w left old new)
+
+-- The boards' stores are those at the end of a run of the schedule. No board of another mote was used, and no count rose.
+pub record TrialPlayed (motes pages seed : ℕ) (old new : List Device) : Type 0 where
+  pub last : World
+  pub run : TrialRun motes pages seed last
+  pub count : length last.sites ≡ motes
+  pub boards : WorldStands last old new
+
+-- a board stopped as the boards were read at the end
+pub record StopsReading (motes pages seed : ℕ) (old new : List Device) : Type 0 where
+  pub last : World
+  pub run : TrialRun motes pages seed last
+  pub stopped : BoardStopped motes old new
+  pub stands : (m : ℕ) (d : Device) → m < motes → slice_get new m ≡ Some d → Stands d.image (store_at last m)
+  pub others : (m : ℕ) → motes ≤ m → slice_get new m ≡ slice_get old m
+
+-- what the numbers of a trial tell that was played
+pub record Tells (motes pages seed : ℕ) (last : World) (s : Summary) : Type 0 where
+  pub motes_told : s.motes ≡ motes
+  pub pages_told : s.pages ≡ pages
+  pub sweeps_told : s.sweeps ≡ sweeps_of motes pages
+  pub events_told : s.events ≡ last.events
+  pub whole_told : s.whole ≡ wholes (row_of_seed pages seed) last
+
+-- where a trial stands that was stopped: a front of its schedule was played, or none of it
+abbrev pub Unplayed : (motes pages seed : ℕ) → (old new : List Device) → Type 0
+Unplayed motes pages seed old new = (new ≡ old) ⊎ Front motes pages seed (λ w left. WorldStands w old new)
+
+-- a board stopped: in formatting, in a step, or in the reading at the end
+abbrev pub BoardStops : (motes pages seed : ℕ) → (old new : List Device) → Type 0
+BoardStops motes pages seed old new =
+    StopsFormatting motes old new ⊎ (Front motes pages seed (λ w left. StopsInPart w left old new) ⊎ StopsReading motes pages seed old new)
+
+abbrev pub RunEnds : Result Summary Stop → (motes pages seed : ℕ) → (old new : List Device) → Type 0
+RunEnds (Ok s) motes pages seed old new = (t : TrialPlayed motes pages seed old new) × Tells motes pages seed t.last s
+RunEnds (Err stop.Memory) motes pages seed old new = Unplayed motes pages seed old new
+RunEnds (Err stop.Flash) motes pages seed old new = BoardStops motes pages seed old new
+
+-- ---- how a trial ends
+
+-- there are fewer boards than motes, and none was used
+pub record LacksBoards (motes : ℕ) (old new : List Device) : Type 0 where
+  pub missing : length old < motes
+  pub same : new ≡ old
+
+-- The trial was played and told.
+pub record TrialDone (motes pages seed : ℕ) (before after : Option (List ℕ)) (old new : List Device) : Type 0 where
+  pub enough : motes ≤ length old
+  pub played : TrialPlayed motes pages seed old new
+  pub told : Puts before after (told_of motes pages seed played.last)
+
+-- It was played, and its line was written in part.
+pub record TrialCut (motes pages seed : ℕ) (before after : Option (List ℕ)) (old new : List Device) : Type 0 where
+  pub enough : motes ≤ length old
+  pub played : TrialPlayed motes pages seed old new
+  pub told : PutsFront before after (told_of motes pages seed played.last)
+
+-- How a trial ends, by its status. Only a write that failed raises the count of such.
+abbrev pub TrialEnds : Status → (motes pages seed : ℕ) → (before after : Option (List ℕ)) → (old new : List Device) → Type 0
+TrialEnds Done motes pages seed before after old new = TrialDone motes pages seed before after old new
+TrialEnds NoBoard motes pages seed before after old new = LacksBoards motes old new × Puts before after (no_board_line motes (length old))
+TrialEnds WriteFault motes pages seed before after old new =
+    TrialCut motes pages seed before after old new ⊎ (LacksBoards motes old new × PutsFront before after (no_board_line motes (length old)))
+TrialEnds FlashFault motes pages seed before after old new = (motes ≤ length old) × BoardStops motes pages seed old new × (after ≡ before)
+TrialEnds Memory motes pages seed before after old new = Unplayed motes pages seed old new × (after ≡ before)
+TrialEnds status motes pages seed before after old new = ⊥
+
+-- How the writing of a last line ends: it was written, or a front of it, since a write failed, or there was no memory for it.
+abbrev pub LineEnds : (r status : Status) → (text : List ℕ) → (before after : Option (List ℕ)) → (faults_before faults_after : ℕ) → Type 0
+LineEnds r status text before after fb fa =
+    ((r ≡ status) × Puts before after text × (fa ≡ fb)) ⊎ (((r ≡ WriteFault) × PutsFront before after text × Rose fb fa) ⊎ ((r ≡ Memory) × (after ≡ before) × (fa ≡ fb)))

@@ -1,0 +1,187 @@
+//! The call that plays a trial.
+ghost use Rattle.std.specs.Prelude.{◌≡◌, ◌≢◌, ◌⊎◌, ◌+◌, ◌-◌, ◌<◌, ◌≤◌, ◌∷◌, ◌++◌, ℕ, List, [], map, length, slice_get, count_by, Some, Err, IfOk, OnOk, OnErr};
+ghost use Rattle.dg_words.specs.Counts.{Rose};
+ghost use Rattle.dg_base.specs.Outside.{Puts, PutsFront};
+ghost use Rattle.dg_nor.specs.Device.{Device};
+ghost use Rattle.dg_rules.specs.Sizes.{most_motes};
+ghost use Rattle.dg_rules.specs.World.{World as RuleWorld};
+ghost use Rattle.dg_world.specs.Worlds.{IsWorld};
+ghost use Rattle.dg_trial.specs.Schedule.{sweeps_of};
+ghost use Rattle.dg_trial.specs.Playing.{WorldStands};
+ghost use Rattle.dg_trial.specs.Trials.{ScheduleEnds, TrialRun, RunEnds, TrialEnds, LineEnds, summary_line, no_board_line};
+
+use crate::beginning::{declare, format, line, linked};
+use crate::playing::{Stop, play};
+use crate::summary::{Summary, count_events, count_whole, push_no_board, push_summary};
+use crate::words::Words;
+use dg_base::{Sink, Status, WriteFailed};
+use dg_nor::Nor;
+use dg_world::{World, WorldFault};
+use std::alloc::{AllocError, Global};
+
+/// How many sweeps end a trial: one for each page, and one for each link but the first.
+fn sweeps_of(motes: u8, pages: u8) -> u32
+    requires { 2 ≤ motes + pages }
+    ensures { result ≡ sweeps_of motes pages }
+{
+    u32::from(pages) + u32::from(motes) - 2
+}
+
+/// Plays a schedule from its beginning.
+fn play_schedule<N: Nor>(
+    alloc: Global,
+    motes: u8,
+    pages: u8,
+    seed: u32,
+    boards: &mut Vec<N>,
+) -> Result<World, Stop>
+    requires some { 2 ≤ motes }
+    requires few { motes ≤ most_motes }
+    requires some_pages { 2 ≤ pages }
+    requires few_pages { pages ≤ 65 }
+    requires boards { motes ≤ length boards.old.items }
+    ensures { ScheduleEnds result motes pages seed (map N.device boards.old.items) (map N.device boards.new.items) }
+{
+    let mut words = Words::of_seed(seed);
+    let word = words.next();
+    let Ok(links) = line(alloc, motes) else {
+        return Err(Stop::Memory);
+    };
+    let Ok(mut world) = linked(alloc, motes, &links) else {
+        return Err(Stop::Memory);
+    };
+    format(boards, motes)?;
+    let Ok(()) = declare(alloc, &mut world, pages, seed, word) else {
+        return Err(Stop::Memory);
+    };
+    play(
+        alloc,
+        &mut world,
+        motes,
+        &links,
+        sweeps_of(motes, pages),
+        &mut words,
+        boards,
+    )?;
+    Ok(world)
+}
+
+/// Reads the boards at the end of a schedule.
+fn summarize<N: Nor>(
+    alloc: Global,
+    world: &World,
+    motes: u8,
+    pages: u8,
+    boards: &mut Vec<N>,
+) -> Result<Summary, Stop>
+    requires some { 2 ≤ motes }
+    requires few { motes ≤ most_motes }
+    requires some_pages { 2 ≤ pages }
+    requires few_pages { pages ≤ 65 }
+    requires world { (w : RuleWorld) × IsWorld world.now (map N.device boards.old.items) w × (length w.sites ≡ motes) }
+    ensures { (seed : ℕ) (initial : List Device) (w : RuleWorld) → TrialRun motes pages seed w → length w.sites ≡ motes → IsWorld world.now (map N.device boards.old.items) w → WorldStands w initial (map N.device boards.old.items)
+        → RunEnds result motes pages seed initial (map N.device boards.new.items) }
+{
+    let mut reports = Vec::new(alloc);
+    match world.finish(boards, &mut reports) {
+        Ok(()) => Ok(Summary {
+            motes,
+            pages,
+            sweeps: sweeps_of(motes, pages),
+            events: count_events(&reports),
+            whole: count_whole(&reports, pages) as u32,
+        }),
+        Err(WorldFault::Memory) => Err(Stop::Memory),
+        Err(WorldFault::Flash { .. }) => Err(Stop::Flash),
+        Err(WorldFault::TooMany) => unreachable!(),
+        Err(WorldFault::NotAVolume) => unreachable!(),
+        Err(WorldFault::NoImage) => unreachable!(),
+    }
+}
+
+/// Plays a trial.
+fn run<N: Nor>(
+    alloc: Global,
+    motes: u8,
+    pages: u8,
+    seed: u32,
+    boards: &mut Vec<N>,
+) -> Result<Summary, Stop>
+    requires some { 2 ≤ motes }
+    requires few { motes ≤ most_motes }
+    requires some_pages { 2 ≤ pages }
+    requires few_pages { pages ≤ 65 }
+    requires boards { motes ≤ length boards.old.items }
+    ensures { RunEnds result motes pages seed (map N.device boards.old.items) (map N.device boards.new.items) }
+{
+    let world = play_schedule(alloc, motes, pages, seed, boards)?;
+    summarize(alloc, &world, motes, pages, boards)
+}
+
+/// Ends with this line.
+fn end_with<K: Sink>(out: &mut K, line: &[u8], status: Status) -> Status
+    ensures ends { ((result ≡ status) × Puts (K.written out.old) (K.written out.new) line.now × (K.faults out.new ≡ K.faults out.old))
+        ⊎ ((result ≡ Status.WriteFault) × PutsFront (K.written out.old) (K.written out.new) line.now × Rose (K.faults out.old) (K.faults out.new)) }
+    ensures counts { K.faults out.old ≤ K.faults out.new }
+{
+    match out.write(line) {
+        Ok(()) => status,
+        Err(WriteFailed) => Status::WriteFault,
+    }
+}
+
+/// Ends a trial that was played.
+fn end_played<K: Sink>(alloc: Global, out: &mut K, summary: &Summary) -> Status
+    ensures ends { LineEnds result Status.Done (summary_line summary.now.motes summary.now.pages summary.now.sweeps summary.now.events summary.now.whole) (K.written out.old) (K.written out.new) (K.faults out.old) (K.faults out.new) }
+    ensures counts { K.faults out.old ≤ K.faults out.new }
+{
+    let mut text = Vec::new(alloc);
+    match push_summary(&mut text, summary) {
+        Ok(()) => end_with(out, &text, Status::Done),
+        Err(AllocError) => Status::Memory,
+    }
+}
+
+/// Ends a trial for which boards are missing.
+fn end_without_boards<K: Sink>(alloc: Global, out: &mut K, motes: u8, boards: u32) -> Status
+    ensures ends { LineEnds result Status.NoBoard (no_board_line motes boards) (K.written out.old) (K.written out.new) (K.faults out.old) (K.faults out.new) }
+    ensures counts { K.faults out.old ≤ K.faults out.new }
+{
+    let mut text = Vec::new(alloc);
+    match push_no_board(&mut text, motes, boards) {
+        Ok(()) => end_with(out, &text, Status::NoBoard),
+        Err(AllocError) => Status::Memory,
+    }
+}
+
+/// Plays the schedule that a seed makes over the boards of so many motes, with an image of so many pages, and writes one
+/// line.
+pub fn trial<K: Sink, N: Nor>(
+    alloc: Global,
+    motes: u8,
+    pages: u8,
+    seed: u32,
+    out: &mut K,
+    boards: &mut Vec<N>,
+) -> Status
+    requires some { 2 ≤ motes }
+    requires few { motes ≤ most_motes }
+    requires some_pages { 2 ≤ pages }
+    requires few_pages { pages ≤ 65 }
+    // The boards' stores are those at the end of a run of the schedule, and the line counts that run. Each other status comes
+    // with its cause, and what it leaves.
+    ensures ends { TrialEnds result motes pages seed (K.written out.old) (K.written out.new) (map N.device boards.old.items) (map N.device boards.new.items) }
+    // only a write that failed raises the count of such
+    ensures cause { result ≡ Status.WriteFault → Rose (K.faults out.old) (K.faults out.new) }
+    ensures unfailed { result ≢ Status.WriteFault → K.faults out.new ≡ K.faults out.old }
+    ensures writes { K.faults out.old ≤ K.faults out.new }
+{
+    if boards.len() < usize::from(motes) {
+        return end_without_boards(alloc, out, motes, boards.len() as u32);
+    }
+    match run(alloc, motes, pages, seed, boards) {
+        Ok(summary) => end_played(alloc, out, &summary),
+        Err(Stop::Memory) => Status::Memory,
+        Err(Stop::Flash) => Status::FlashFault,
+    }
+}

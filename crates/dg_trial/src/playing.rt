@@ -1,0 +1,214 @@
+//! Plays the parts of a schedule.
+ghost use Rattle.std.specs.Prelude.{◌≡◌, ◌+◌, ◌*◌, ◌<◌, ◌≤◌, ◌∷◌, ◌++◌, [], ℕ, map, length};
+ghost use Rattle.rand_pcg.specs.Pcg.{pcg32};
+ghost use Rattle.dg_rounds.specs.Rounds.{times, sweep};
+ghost use Rattle.dg_trial.specs.Schedule.{Part, always, only, resets, opening, disturbances, drawn};
+ghost use Rattle.dg_trial.specs.Playing.{Plays, MayPlayOver};
+ghost use Rattle.dg_rules.specs.Sizes.{most_motes};
+ghost use Rattle.dg_rules.specs.World.{World as RuleWorld};
+ghost use Rattle.dg_world.specs.Worlds.{IsWorld};
+
+use crate::disturbing::disturbance;
+use crate::laws::what_is_left_may_be_played;
+use crate::words::Words;
+use dg_base::{Event, Step};
+use dg_nor::Nor;
+use dg_rounds::sweep;
+use dg_rules::{Report, golden_is_found};
+use dg_world::{World, WorldFault};
+use std::alloc::{AllocError, Global};
+
+/// Why a trial ends before its schedule does.
+#[derive(Clone, Copy, Debug, PartialEq, Eq)]
+pub enum Stop {
+    Memory,
+    /// A board stopped.
+    Flash,
+}
+
+/// The disturbances of each mote.
+const DISTURBANCES: u32 = 100;
+
+/// Plays a step. What it tells is dropped.
+fn play_step<N: Nor>(
+    world: &mut World,
+    step: &Step,
+    boards: &mut Vec<N>,
+    told: &mut Vec<Report>,
+) -> Result<(), Stop>
+    requires { (motes : ℕ) × MayPlayOver motes world.old (map N.device boards.old.items) (only step.now) }
+    // it may be the step of any part that is this one after so many frames
+    ensures { (part : Part) → ((w : RuleWorld) → IsWorld world.old (map N.device boards.old.items) w → part (length w.sent) ≡ step.now)
+        → Plays result (part ∷ []) world.old world.new (map N.device boards.old.items) (map N.device boards.new.items) }
+{
+    golden_is_found();
+    told.clear();
+    match world.apply(boards, step, false, told) {
+        Ok(()) => Ok(()),
+        Err(WorldFault::Memory) => Err(Stop::Memory),
+        Err(WorldFault::Flash { .. }) => Err(Stop::Flash),
+        Err(WorldFault::TooMany) => unreachable!(),
+        Err(WorldFault::NotAVolume) => unreachable!(),
+        Err(WorldFault::NoImage) => unreachable!(),
+    }
+}
+
+/// Plays an event whose power is not cut.
+fn play_event<N: Nor>(
+    world: &mut World,
+    event: Event,
+    boards: &mut Vec<N>,
+    told: &mut Vec<Report>,
+) -> Result<(), Stop>
+    requires { (motes : ℕ) × MayPlayOver motes world.old (map N.device boards.old.items) (always event ∷ []) }
+    ensures { Plays result (always event ∷ []) world.old world.new (map N.device boards.old.items) (map N.device boards.new.items) }
+{
+    play_step(world, &Step { event, cut: None }, boards, told)
+}
+
+/// Resets each mote, in their order.
+fn play_resets<N: Nor>(
+    world: &mut World,
+    motes: u8,
+    boards: &mut Vec<N>,
+    told: &mut Vec<Report>,
+) -> Result<(), Stop>
+    requires { MayPlayOver motes world.old (map N.device boards.old.items) (map always (resets motes)) }
+    ensures { Plays result (map always (resets motes)) world.old world.new (map N.device boards.old.items) (map N.device boards.new.items) }
+{
+    what_is_left_may_be_played();
+    for mote in 0..motes {
+        let event = Event::Reset {
+            mote,
+            dt: 0,
+            word: 0,
+        };
+        play_event(world, event, boards, told)?;
+    }
+    Ok(())
+}
+
+/// Injects the image into the first mote.
+fn play_injection<N: Nor>(
+    world: &mut World,
+    boards: &mut Vec<N>,
+    told: &mut Vec<Report>,
+) -> Result<(), Stop>
+    requires { (motes : ℕ) × MayPlayOver motes world.old (map N.device boards.old.items) (always (Event.Inject 0 1 1 0 0) ∷ []) }
+    ensures { Plays result (always (Event.Inject 0 1 1 0 0) ∷ []) world.old world.new (map N.device boards.old.items) (map N.device boards.new.items) }
+{
+    let event = Event::Inject {
+        mote: 0,
+        image: 1,
+        version: 1,
+        dt: 0,
+        word: 0,
+    };
+    play_event(world, event, boards, told)
+}
+
+/// Plays the disturbance that the next three words choose.
+fn play_disturbance<N: Nor>(
+    alloc: Global,
+    world: &mut World,
+    motes: u8,
+    words: &mut Words,
+    boards: &mut Vec<N>,
+    told: &mut Vec<Report>,
+) -> Result<(), Stop>
+    requires may { MayPlayOver motes world.old (map N.device boards.old.items) (disturbances motes 1 words.old.generator) }
+    requires some { 2 ≤ motes }
+    requires few { motes ≤ most_motes }
+    ensures played { Plays result (disturbances motes 1 words.old.generator) world.old world.new (map N.device boards.old.items) (map N.device boards.new.items) }
+    ensures drawn { words.new.generator ≡ drawn 1 words.old.generator }
+{
+    let first = words.next();
+    let second = words.next();
+    let third = words.next();
+    let sent = world.frames_sent();
+    match disturbance(alloc, motes, sent, first, second, third) {
+        Ok(step) => play_step(world, &step, boards, told),
+        Err(AllocError) => Err(Stop::Memory),
+    }
+}
+
+/// Plays the disturbances of a seed.
+fn play_disturbances<N: Nor>(
+    alloc: Global,
+    world: &mut World,
+    motes: u8,
+    words: &mut Words,
+    boards: &mut Vec<N>,
+    told: &mut Vec<Report>,
+) -> Result<(), Stop>
+    requires may { MayPlayOver motes world.old (map N.device boards.old.items) (disturbances motes (100 * motes) words.old.generator) }
+    requires some { 2 ≤ motes }
+    requires few { motes ≤ most_motes }
+    ensures { Plays result (disturbances motes (100 * motes) words.old.generator) world.old world.new (map N.device boards.old.items) (map N.device boards.new.items) }
+{
+    what_is_left_may_be_played();
+    for _ in 0..DISTURBANCES * u32::from(motes) {
+        play_disturbance(alloc, world, motes, words, boards, told)?;
+    }
+    Ok(())
+}
+
+/// Plays a sweep.
+fn play_sweep<N: Nor>(
+    world: &mut World,
+    links: &[(u8, u8)],
+    boards: &mut Vec<N>,
+    told: &mut Vec<Report>,
+) -> Result<(), Stop>
+    requires { (motes : ℕ) × MayPlayOver motes world.old (map N.device boards.old.items) (map always (sweep links.now)) }
+    ensures { Plays result (map always (sweep links.now)) world.old world.new (map N.device boards.old.items) (map N.device boards.new.items) }
+{
+    what_is_left_may_be_played();
+    for event in sweep(links) {
+        play_event(world, event, boards, told)?;
+    }
+    Ok(())
+}
+
+/// Plays so many sweeps.
+fn play_sweeps<N: Nor>(
+    world: &mut World,
+    links: &[(u8, u8)],
+    sweeps: u32,
+    boards: &mut Vec<N>,
+    told: &mut Vec<Report>,
+) -> Result<(), Stop>
+    requires { (motes : ℕ) × MayPlayOver motes world.old (map N.device boards.old.items) (map always (times sweeps (sweep links.now))) }
+    ensures { Plays result (map always (times sweeps (sweep links.now))) world.old world.new (map N.device boards.old.items) (map N.device boards.new.items) }
+{
+    what_is_left_may_be_played();
+    for _ in 0..sweeps {
+        play_sweep(world, links, boards, told)?;
+    }
+    Ok(())
+}
+
+/// Plays a schedule over a line of motes.
+pub fn play<N: Nor>(
+    alloc: Global,
+    world: &mut World,
+    motes: u8,
+    links: &[(u8, u8)],
+    sweeps: u32,
+    words: &mut Words,
+    boards: &mut Vec<N>,
+) -> Result<(), Stop>
+    requires may { MayPlayOver motes world.old (map N.device boards.old.items) (opening motes ++ (disturbances motes (100 * motes) words.old.generator ++ map always (resets motes ++ times sweeps (sweep links.now)))) }
+    requires some { 2 ≤ motes }
+    requires few { motes ≤ most_motes }
+    ensures { Plays result (opening motes ++ (disturbances motes (100 * motes) words.old.generator ++ map always (resets motes ++ times sweeps (sweep links.now)))) world.old world.new (map N.device boards.old.items) (map N.device boards.new.items) }
+{
+    what_is_left_may_be_played();
+    let mut told = Vec::new(alloc);
+    play_resets(world, motes, boards, &mut told)?;
+    play_injection(world, boards, &mut told)?;
+    play_disturbances(alloc, world, motes, words, boards, &mut told)?;
+    play_resets(world, motes, boards, &mut told)?;
+    play_sweeps(world, links, sweeps, boards, &mut told)?;
+    Ok(())
+}
