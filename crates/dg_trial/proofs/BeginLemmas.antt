@@ -32,7 +32,7 @@ pub length_first : (motes : ℕ) (row : Row) → length (first motes row).sites 
 length_first motes row = length-map (replicate motes chip) off_site ∙ length-replicate motes chip
 
 -- golden is kept whole
-golden_is : IsRow golden
+pub golden_is : IsRow golden
 golden_is =
     record {
       image = lit< tt;
@@ -48,7 +48,7 @@ golden_is =
     byte zero = lit< tt
     byte (suc k) = lit< tt
 
-site_first : (n m : ℕ) → m < n → slice_index_or (map off_site (replicate n chip)) m no_site ≡ off_site chip
+pub site_first : (n m : ℕ) → m < n → slice_index_or (map off_site (replicate n chip)) m no_site ≡ off_site chip
 site_first zero m h = absurd (omega arith)
 site_first (suc n) zero h = refl
 site_first (suc n) (suc m) h = site_first n m (omega arith)

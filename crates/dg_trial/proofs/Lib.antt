@@ -9,3 +9,10 @@ pub mod BeginLemmas
 pub mod SummaryLemmas
 pub mod TrialLemmas
 pub mod EndLemmas
+pub mod RoomLemmas
+pub mod RestartLemmas
+pub mod MoveLemmas
+pub mod LineLemmas
+pub mod InjectionLemmas
+pub mod RestLemmas
+pub mod WholeLemmas

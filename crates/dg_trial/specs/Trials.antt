@@ -8,6 +8,7 @@ use Rattle.dg_base.specs.declared.answers.Status.TheVariants.{Done, Memory, Writ
 use Rattle.dg_nor.specs.Device.{Device}
 use Rattle.dg_object.specs.Object.{Row}
 use Rattle.dg_volume.specs.Stands.{Stands}
+use Rattle.dg_rules.specs.Sizes.{most_motes}
 use Rattle.dg_rules.specs.World.{World, Site, store_at}
 use Rattle.dg_completion.specs.Completion.{page_count, pages_of}
 use Rattle.dg_world.specs.Counts.{NoneRose}
@@ -37,6 +38,10 @@ keeps_all row x = nat_le (page_count row) (pages_of x.store row)
 -- how many motes keep all pages of a row
 abbrev pub wholes : Row → World → ℕ
 wholes row w = count_by (keeps_all row) w.sites
+
+-- Where a trial leads, every mote keeps the image whole.
+abbrev pub WholeLaw : Type 0
+WholeLaw = (motes pages seed : ℕ) (v : World) → 2 ≤ motes → motes ≤ most_motes → 2 ≤ pages → pages ≤ 65 → TrialRun motes pages seed v → wholes (row_of_seed pages seed) v ≡ motes
 
 -- ---- what is told
 
@@ -143,6 +148,12 @@ pub record TrialCut (motes pages seed : ℕ) (before after : Option (List ℕ)) 
   pub enough : motes ≤ length old
   pub played : TrialPlayed motes pages seed old new
   pub told : PutsFront before after (told_of motes pages seed played.last)
+
+-- It was played and told, and every mote keeps the image whole, as the line tells.
+pub record EndsWhole (motes pages seed : ℕ) (before after : Option (List ℕ)) (old new : List Device) : Type 0 where
+  pub played : TrialPlayed motes pages seed old new
+  pub whole : wholes (row_of_seed pages seed) played.last ≡ motes
+  pub told : Puts before after (summary_line motes pages (sweeps_of motes pages) played.last.events motes)
 
 -- How a trial ends, by its status. Only a write that failed raises the count of such.
 abbrev pub TrialEnds : Status → (motes pages seed : ℕ) → (before after : Option (List ℕ)) → (old new : List Device) → Type 0

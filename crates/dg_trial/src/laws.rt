@@ -1,11 +1,32 @@
 //! What holds of schedules and their runs. These functions do nothing: their contracts are the laws.
 ghost use Rattle.dg_trial.specs.Playing.{GoesOnLaw};
+ghost use Rattle.dg_trial.specs.Trials.{WholeLaw};
 
-use dg_rules::golden_is_found;
+use dg_completion::{
+    a_free_event_happens, a_free_event_keeps_a_good_world, distances_are_ways,
+    enough_sweeps_complete, sweeps_are_a_rest,
+};
+use dg_rules::{agreement_is_kept, golden_is_found, scripts_with_golden};
+use dg_volume::{a_start_ends, acts_end};
 
 /// Where parts were played that may be played, those that follow them may be played.
 pub fn what_is_left_may_be_played()
     ensures { GoesOnLaw }
 {
     golden_is_found();
+}
+
+/// Where the schedule of a trial leads, every mote keeps the image whole: the sweeps at its end are enough.
+pub fn trials_end_whole()
+    ensures { WholeLaw }
+{
+    agreement_is_kept();
+    scripts_with_golden();
+    a_start_ends();
+    acts_end();
+    a_free_event_happens();
+    a_free_event_keeps_a_good_world();
+    sweeps_are_a_rest();
+    distances_are_ways();
+    enough_sweeps_complete();
 }
