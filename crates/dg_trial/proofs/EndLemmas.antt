@@ -8,7 +8,8 @@ use Rattle.dg_base.specs.declared.answers.Status.{Status}
 use Rattle.dg_base.specs.declared.answers.Status.TheVariants as status
 use Rattle.dg_nor.specs.Device.{Device}
 use Rattle.dg_trial.specs.Schedule.{sweeps_of}
-use Rattle.dg_trial.specs.Trials.{summary_line, no_board_line, told_of, LineEnds, TrialEnds, RunEnds, TrialPlayed, Tells, Unplayed}
+use Rattle.dg_rules.specs.Sizes.{most_motes}
+use Rattle.dg_trial.specs.Trials.{summary_line, no_board_line, told_of, WholeLaw, LineEnds, EndsWhole, TrialDone, TrialEnds, RunEnds, TrialPlayed, Tells, Unplayed}
 use Rattle.dg_trial.proofs.TrialLemmas.{read_unread}
 use Rattle.dg_trial.specs.declared.summary.Summary.{Summary}
 
@@ -51,6 +52,19 @@ trial_told r motes pages seed before after fb fa old new s enough run h =
     ⊎_elim (λ a. subst E (sym a.0) (record { enough = enough; played = run.0; told = a.1 }))
     (λ x. ⊎_elim (λ b. subst E (sym b.0) (inl (record { enough = enough; played = run.0; told = b.1 })))
     (λ c. subst E (sym c.0) (unread motes pages seed old new run.0, c.1)) x) at
+
+-- where it was played and told, every mote keeps the image whole
+pub ends_whole : WholeLaw → (r : Status) (motes pages seed : ℕ) (before after : Option (List ℕ)) (old new : List Device) → 2 ≤ motes → motes ≤ most_motes → 2 ≤ pages → pages ≤ 65
+    → TrialEnds r motes pages seed before after old new → r ≡ status.Done → EndsWhole motes pages seed before after old new
+ends_whole law r motes pages seed before after old new some few some_pages few_pages ends is =
+    let d : TrialDone motes pages seed before after old new = subst (λ (s : Status). TrialEnds s motes pages seed before after old new) is ends in
+    let w = d.played.last in
+    let whole = law motes pages seed w some few some_pages few_pages d.played.run in
+    record {
+      played = d.played;
+      whole = whole;
+      told = subst (λ (n : ℕ). Puts before after (summary_line motes pages (sweeps_of motes pages) w.events n)) whole d.told;
+    }
 
 pub summary_text : (t0 t1 t2 t3 t4 t5 t6 : List ℕ) (a b c d e m p s v w : ℕ) → t1 ≡ t0 ++ (codes "trial motes " ++ decimal a) → t2 ≡ t1 ++ (codes " pages " ++ decimal b) → t3 ≡ t2 ++ (codes " sweeps " ++ decimal c) → t4 ≡ t3 ++ (codes " events " ++ decimal d)
     → t5 ≡ t4 ++ (codes " whole " ++ decimal e) → t6 ≡ t5 ++ 10 ∷ [] → a ≡ m → b ≡ p → c ≡ s → d ≡ v → e ≡ w → t6 ≡ t0 ++ summary_line m p s v w

@@ -8,9 +8,10 @@ ghost use Rattle.dg_rules.specs.World.{World as RuleWorld};
 ghost use Rattle.dg_world.specs.Worlds.{IsWorld};
 ghost use Rattle.dg_trial.specs.Schedule.{sweeps_of};
 ghost use Rattle.dg_trial.specs.Playing.{WorldStands};
-ghost use Rattle.dg_trial.specs.Trials.{ScheduleEnds, TrialRun, RunEnds, TrialEnds, LineEnds, summary_line, no_board_line};
+ghost use Rattle.dg_trial.specs.Trials.{ScheduleEnds, TrialRun, RunEnds, TrialEnds, EndsWhole, LineEnds, summary_line, no_board_line};
 
 use crate::beginning::{declare, format, line, linked};
+use crate::laws::trials_end_whole;
 use crate::playing::{Stop, play};
 use crate::summary::{Summary, count_events, count_whole, push_no_board, push_summary};
 use crate::words::Words;
@@ -171,11 +172,14 @@ pub fn trial<K: Sink, N: Nor>(
     // The boards' stores are those at the end of a run of the schedule, and the line counts that run. Each other status comes
     // with its cause, and what it leaves.
     ensures ends { TrialEnds result motes pages seed (K.written out.old) (K.written out.new) (map N.device boards.old.items) (map N.device boards.new.items) }
+    // Where it is played and told, every mote keeps the image whole, and the line says so.
+    ensures whole { result ≡ Status.Done → EndsWhole motes pages seed (K.written out.old) (K.written out.new) (map N.device boards.old.items) (map N.device boards.new.items) }
     // only a write that failed raises the count of such
     ensures cause { result ≡ Status.WriteFault → Rose (K.faults out.old) (K.faults out.new) }
     ensures unfailed { result ≢ Status.WriteFault → K.faults out.new ≡ K.faults out.old }
     ensures writes { K.faults out.old ≤ K.faults out.new }
 {
+    trials_end_whole();
     if boards.len() < usize::from(motes) {
         return end_without_boards(alloc, out, motes, boards.len() as u32);
     }

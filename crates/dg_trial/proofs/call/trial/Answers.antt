@@ -1,7 +1,7 @@
 use Rattle.std.proofs.Common.{◌≡◌, refl, arith}
 use Rattle.std.proofs.lemmas.List.{length-map}
 use Rattle.dg_base.specs.declared.answers.Status.TheVariants as status
-use Rattle.dg_trial.proofs.EndLemmas.{line_cause, line_unfailed, boards_missing, trial_told}
+use Rattle.dg_trial.proofs.EndLemmas.{line_cause, line_unfailed, boards_missing, trial_told, ends_whole}
 use Rattle.dg_trial.proofs.call.trial.Goals as goal
 
 no_board_other : status.NoBoard ≡ status.WriteFault → ⊥
@@ -39,3 +39,13 @@ pub returns-in-Err-Flash-clause-ends : goal.returns-in-Err-Flash-clause-ends
 returns-in-Err-Flash-clause-ends g c =
     let e = length-map c.args.boards.now.items g.N.Nor.device in
     (omega (arith, e), rw c.in-Err-Flash.field-0-is at c.in-Err-Flash.ensures, refl)
+
+pub returns-then-len-from-clause-whole : goal.returns-then-len-from-clause-whole
+returns-then-len-from-clause-whole g c =
+    ends_whole c.trials_end_whole.ensures c.end_without_boards.result c.args.motes c.args.pages c.args.seed _ _ _ _ c.requires.some c.requires.few c.requires.some_pages c.requires.few_pages
+    (returns-then-len-from-clause-ends g c)
+
+pub returns-in-Ok-clause-whole : goal.returns-in-Ok-clause-whole
+returns-in-Ok-clause-whole g c =
+    ends_whole c.trials_end_whole.ensures c.end_played.result c.args.motes c.args.pages c.args.seed _ _ _ _ c.requires.some c.requires.few c.requires.some_pages c.requires.few_pages
+    (returns-in-Ok-clause-ends g c)
