@@ -11,6 +11,7 @@ use Rattle.dg_volume.specs.Trails.{inject_trail, order_trail}
 use Rattle.dg_tool.specs.Endings.{Ending, FirstAs, content_in}
 use Rattle.dg_tool.specs.Verbs.{format_ending, inject_ending, order_ending, power_boot, boot_ending}
 use Rattle.dg_tool.specs.Done.{ToolDone, InputRead, IsFormatted, FormatStops, WentOn, StopsOn, BootedOn, Faulted}
+use Rattle.dg_trial.specs.Trials.{TrialEnds}
 use Rattle.dg_command.specs.Asking.{Said, Asking, Asks, Helps, Misuses, said_by, asking}
 use Rattle.dg_command.specs.declared.command.Asked.{Asked}
 use Rattle.dg_command.specs.declared.command.Command.{Command}
@@ -59,6 +60,9 @@ boot_done n s a b e left reads h = ((left, reads), subst (λ (k : ℕ). BootTold
 
 pub no_link : (s : Status) (r w b : Type 0) (text : List ℕ) → Faulted s r w b text → s ≡ statuses.LinkFault → ⊥
 no_link s r w b text h e = subst (λ (x : Status). Faulted x r w b text) e h
+
+pub no_link_of_a_trial : (s : Status) (motes pages seed : ℕ) (before after : Option (List ℕ)) (old new : List Device) → TrialEnds s motes pages seed before after old new → s ≡ statuses.LinkFault → ⊥
+no_link_of_a_trial s motes pages seed before after old new h e = subst (λ (x : Status). TrialEnds x motes pages seed before after old new) e h
 
 -- ---- what was asked for
 

@@ -2,7 +2,7 @@
 use Rattle.std.specs.Prelude.{◌≡◌, ◌≢◌, ◌⊎◌, ℕ, List, length, Option, Some, None}
 use Rattle.dg_words.specs.Counts.{Rose}
 use Rattle.dg_base.specs.declared.answers.Status.{Status}
-use Rattle.dg_base.specs.declared.answers.Status.TheVariants.{Memory, NotAVolume, Refused, NoImage}
+use Rattle.dg_base.specs.declared.answers.Status.TheVariants.{Memory, WriteFault, NotAVolume, Refused, NoImage}
 use Rattle.dg_nor.specs.Device.{Device}
 use Rattle.dg_nor.specs.Reads.{Looked, ReadStopped}
 use Rattle.dg_object.specs.Object.{row_of}
@@ -10,6 +10,7 @@ use Rattle.dg_control.specs.declared.snapshot.Order.{Order}
 use Rattle.dg_volume.specs.Store.{Store}
 use Rattle.dg_volume.specs.Trails.{inject_trail, order_trail}
 use Rattle.dg_replay.specs.Outcome.{Replayed}
+use Rattle.dg_trial.specs.Trials.{TrialEnds}
 use Rattle.dg_command.specs.Asking.{Said, Replay, Serve, Format, Inject, Order as OrderSaid, Boot, Ping, Dump, Trial, Wrap, Check, Receive, Drip, Base, Asking, Asks, Helps, Misuses}
 use Rattle.dg_tool.specs.Endings.{Ending, FirstAs, content_in}
 use Rattle.dg_tool.specs.Verbs.{format_ending, inject_ending, order_ending, power_boot, boot_ending, ping_ending, dump_ending}
@@ -76,6 +77,14 @@ PingDone status a b = Unread a b × FirstDone ⊥ (ping_ending (length a.boards)
 abbrev pub DumpDone : (image : ℕ) → Status → Around → Around → Type 0
 DumpDone image status a b = Unread a b × FirstDone ⊥ (dump_ending (length a.boards) image) (λ chip. Looked) (λ chip. ReadStopped) status a b
 
+-- ---- the trial
+
+-- The schedule that the seed makes is played over the boards, and nothing is read. Only a write that failed raises the count of such.
+abbrev pub TrialDone : (motes pages seed : ℕ) → Status → Around → Around → Type 0
+TrialDone motes pages seed status a b =
+    Unread a b × TrialEnds status motes pages seed a.written b.written a.boards b.boards
+    × (status ≡ WriteFault → Rose a.writes b.writes) × (status ≢ WriteFault → b.writes ≡ a.writes)
+
 -- ---- hash-chained images
 
 -- no board is used
@@ -102,7 +111,7 @@ pub record HelpDone (status : Status) (a b : Around) : Type 0 where
   pub boards : b.boards ≡ a.boards
   pub told : HelpTold status a.written b.written a.writes b.writes
 
--- the commands `serve`, `trial`, `drip` and `base` are still to come: their words are taken as none
+-- the commands `serve`, `drip` and `base` are still to come: their words are taken as none
 abbrev pub SaidDone : Said → Status → Around → Around → Type 0
 SaidDone (Replay flashes) status a b = ReplayDone status a b
 SaidDone (Serve turns seed flashes) status a b = UsageDone status a b
@@ -112,7 +121,7 @@ SaidDone (OrderSaid number image version flash) status a b = OrderDone (record {
 SaidDone (Boot flash) status a b = BootDone status a b
 SaidDone (Ping flash) status a b = PingDone status a b
 SaidDone (Dump image flash) status a b = DumpDone image status a b
-SaidDone (Trial motes pages seed) status a b = UsageDone status a b
+SaidDone (Trial motes pages seed) status a b = TrialDone motes pages seed status a b
 SaidDone Wrap status a b = WrapDone status a b
 SaidDone (Check image root flash) status a b = CheckDone image (root_in root) status a b
 SaidDone (Receive image version name root flash) status a b = ReceiveDone image version name (root_in root) status a b

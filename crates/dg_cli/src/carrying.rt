@@ -14,6 +14,7 @@ use dg_base::{Sink, Source, Status};
 use dg_command::Command;
 use dg_nor::Nor;
 use dg_replay::replay;
+use dg_trial::trial;
 use dg_volume::Order;
 use std::alloc::Global;
 
@@ -76,11 +77,7 @@ pub(crate) fn carry_out<S: Source, K: Sink, N: Nor>(
             seed: _seed,
             flashes: _flashes,
         } => tell_usage(out),
-        Command::Trial {
-            motes: _motes,
-            pages: _pages,
-            seed: _seed,
-        } => tell_usage(out),
+        Command::Trial { motes, pages, seed } => trial(alloc, motes, pages, seed, out, boards),
         Command::Wrap => dg_chain_tool::wrap(alloc, input, out),
         Command::Check {
             image,

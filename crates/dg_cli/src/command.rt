@@ -48,9 +48,10 @@ fn answer<S: Source, K: Sink, N: Nor>(
 
 /// Does all that the program does with the words after its name, and answers how it ended.
 ///
-/// `replay` replays the script that `input` spells over the boards, and writes the report to `out`. `format`, `inject`,
-/// `order`, `boot`, `ping` and `dump` work on the first board. `--help` and `--version` write a text. All other words are
-/// [`Status::Usage`]. A status other than [`Status::Done`] writes its line last, where it has one.
+/// `replay` replays the script that `input` spells over the boards, and writes the report to `out`. `trial` plays the
+/// schedule that a seed makes over them. `format`, `inject`, `order`, `boot`, `ping` and `dump` work on the first board.
+/// `--help` and `--version` write a text. All other words are [`Status::Usage`]. A status other than [`Status::Done`]
+/// writes its line last, where it has one.
 pub fn run<S: Source, K: Sink, N: Nor>(
     alloc: Global,
     words: &Vec<String>,

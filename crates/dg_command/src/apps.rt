@@ -23,6 +23,7 @@ const VERBS: &str = "Commands:
   boot FLASH                                              start a chip
   ping FLASH                                              tell what a chip keeps
   dump --image I FLASH                                    write an image of a chip
+  trial --motes N --pages P --seed S                      play a schedule that a seed makes
   wrap                                                    make a hash-chained image
   check --image I --root HEX FLASH                        test an image of a chip against its root
   receive --image I --ver V --name NAME --root HEX FLASH  put a hash-chained image into a chip";
@@ -258,7 +259,7 @@ fn description<'a>(verb: Verb) -> (&'a str, &'a str) {
         Verb::Boot => ("deluge boot", "Starts a chip, as a power-on does"),
         Verb::Ping => ("deluge ping", "Tells what a chip keeps"),
         Verb::Dump => ("deluge dump", "Writes an image of a chip as Intel HEX"),
-        Verb::Trial => ("deluge trial", "Replays a schedule that a seed makes"),
+        Verb::Trial => ("deluge trial", "Plays a schedule that a seed makes"),
         Verb::Wrap => ("deluge wrap", "Makes a hash-chained image of a payload"),
         Verb::Check => ("deluge check", "Tests an image of a chip against its root"),
         Verb::Receive => (

@@ -1,6 +1,6 @@
 use Rattle.std.proofs.Common.{sym, refl}
 use Rattle.std.proofs.lemmas.List.{length-map}
-use Rattle.dg_cli.proofs.CarryLemmas.{said_done, format_done, inject_done, order_done, boot_done, received_said, check_said, no_link}
+use Rattle.dg_cli.proofs.CarryLemmas.{said_done, format_done, inject_done, order_done, boot_done, received_said, check_said, no_link, no_link_of_a_trial}
 use Rattle.dg_cli.proofs.carrying.carry_out.Goals as goal
 
 pub returns-in-Format-clause-done : goal.returns-in-Format-clause-done
@@ -36,6 +36,13 @@ returns-in-Ping-clause-link g c = no_link _ _ _ _ _ c.ping.ensures.done.faulted
 
 pub returns-in-Dump-clause-link : goal.returns-in-Dump-clause-link
 returns-in-Dump-clause-link g c = no_link _ _ _ _ _ c.dump.ensures.done.faulted
+
+pub returns-in-Trial-clause-done : goal.returns-in-Trial-clause-done
+returns-in-Trial-clause-done g c =
+    said_done c.args.command _ c.in-Trial.is _ _ _ ((refl, refl), c.trial.ensures.ends, c.trial.ensures.cause, c.trial.ensures.unfailed)
+
+pub returns-in-Trial-clause-link : goal.returns-in-Trial-clause-link
+returns-in-Trial-clause-link g c = no_link_of_a_trial _ c.in-Trial.motes c.in-Trial.pages c.in-Trial.seed _ _ _ _ c.trial.ensures.ends
 
 pub returns-in-Wrap-clause-done : goal.returns-in-Wrap-clause-done
 returns-in-Wrap-clause-done g c = said_done c.args.command _ c.in-Wrap.is _ _ _ (c.wrap.ensures.done, refl)
