@@ -1,0 +1,9 @@
+pub mod ScriptLemmas
+pub mod RanLemmas
+pub mod HappenLemmas
+pub mod RangeLemmas
+pub mod RoundLemmas
+pub mod LineLemmas
+pub mod FinishLemmas
+pub mod ToldLemmas
+pub mod ReadLemmas

@@ -1,0 +1,41 @@
+-- Scripts that go on, and their runs and reports.
+use Rattle.std.proofs.Common.{◌≡◌, ◌∙◌, ℕ, List, [], ◌∷◌, ◌++◌, refl, ap, sym, append_assoc, append-nil}
+use Rattle.dg_drip.specs.declared.events.DripEvent.{DripEvent}
+use Rattle.dg_drip.specs.declared.events.DripEvent.TheVariants.{Set, Tick, Hear, Last}
+use Rattle.dg_drip.specs.declared.frame.Said.{Said}
+use Rattle.dg_drip.specs.Network.{Network, run, happens, heard, from_neighbour, numbered, last_of}
+use Rattle.dg_drip_replay.specs.Reports.{told_of}
+use Rattle.dg_drip_script.specs.Reports.{told_text}
+use Rattle.dg_drip_script.specs.Scripts.{Item, events_of, told_of_run}
+use Rattle.std.specs.Prelude.{Option, Some, None}
+
+pub run_then : (w : Network) (es fs : List DripEvent) → run w (es ++ fs) ≡ run (run w es) fs
+run_then w [] fs = refl
+run_then w (e ∷ es) fs = run_then (happens w e) es fs
+
+pub run_more : (w : Network) (is : List Item) (i : Item) → run w (events_of (is ++ i ∷ [])) ≡ happens (run w (events_of is)) i.event
+run_more w [] i = refl
+run_more w (j ∷ is) i = run_more (happens w j.event) is i
+
+pub told_more : (w : Network) (is : List Item) (i : Item)
+    → told_of_run w (is ++ i ∷ []) ≡ told_of_run w is ++ told_text (told_of (run w (events_of is)) i.loud i.event)
+told_more w [] i = append-nil (told_text (told_of w i.loud i.event))
+told_more w (j ∷ is) i =
+    ap (λ t. told_text (told_of w j.loud j.event) ++ t) (told_more (happens w j.event) is i)
+    ∙ sym (append_assoc (told_text (told_of w j.loud j.event)) (told_of_run (happens w j.event) is) (told_text (told_of (run (happens w j.event) (events_of is)) i.loud i.event)))
+
+-- ---- links stay
+
+heard_links : (w : Network) (node now word : ℕ) (o : Option Said) → (heard w node now word o).links ≡ w.links
+heard_links w node now word None = refl
+heard_links w node now word (Some s) = refl
+
+happens_links : (w : Network) (e : DripEvent) → (happens w e).links ≡ w.links
+happens_links w (Set node key value dt word) = refl
+happens_links w (Tick node key dt word) = refl
+happens_links w (Hear node dt word frame) = heard_links w node _ word (from_neighbour w.links node (numbered w.sent frame))
+happens_links w (Last from to key) = heard_links w to w.moment 0 (last_of w.sent from key)
+
+pub run_links : (w : Network) (es : List DripEvent) → (run w es).links ≡ w.links
+run_links w [] = refl
+run_links w (e ∷ es) = run_links (happens w e) es ∙ happens_links w e

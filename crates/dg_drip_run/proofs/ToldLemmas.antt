@@ -1,0 +1,95 @@
+-- What is told of a line, and written.
+use Rattle.std.proofs.Common.{◌≡◌, ◌∙◌, ◌⊎◌, inl, inr, ⊎_elim, ℕ, suc, ◌<◌, ◌≤◌, ◌+◌, ◌*◌, ◌^◌, List, [], ◌∷◌, ◌++◌, length, take, refl, ap, sym, subst, append-nil, length-append, arith, Err}
+use Rattle.std.specs.Prelude.{Option, codes}
+use Rattle.std.proofs.lemmas.List.{take_all, take-append-le}
+use Rattle.dg_base.specs.Outside.{Puts, PutsFront}
+use Rattle.dg_base.proofs.OutsideLemmas.{Puts-join}
+use Rattle.dg_base.specs.declared.answers.Status.{Status}
+use Rattle.dg_base.specs.declared.answers.Status.TheVariants as statuses
+use Rattle.dg_drip_replay.specs.Standing.{Stands, AreKeyed}
+use Rattle.dg_drip_replay.specs.declared.network.DripNetwork.{DripNetwork}
+use Rattle.dg_drip_script.specs.Scripts.{Item, Script, with_line, network_of, report_of}
+use Rattle.dg_drip_script.specs.Sizes.{most_events}
+use Rattle.dg_drip_script.specs.declared.line.DripLine.{DripLine}
+use Rattle.dg_drip_run.specs.Playing.{Plays, IsPlaying, LinePlayed}
+use Rattle.dg_drip_run.specs.Outcome.{played, Closed, Tells, LineStops}
+use Rattle.dg_drip_run.specs.declared.player.Player.{Player}
+use Rattle.dg_drip_run.specs.declared.player.PlayStop.{PlayStop}
+use Rattle.dg_drip_run.specs.declared.player.PlayStop.TheVariants.{TooMany}
+
+-- ---- fronts
+
+take_behind : (x y : List ℕ) (n : ℕ) → take (length x + n) (x ++ y) ≡ x ++ take n y
+take_behind [] y n = let e : 0 + n ≡ n = omega arith in ap (λ (k : ℕ). take k y) e
+take_behind (c ∷ x) y n =
+    let e : length (c ∷ x) + n ≡ suc (length x + n) = omega arith in
+    ap (λ (k : ℕ). take k (c ∷ (x ++ y))) e ∙ ap (λ (t : List ℕ). c ∷ t) (take_behind x y n)
+
+pub front_behind : (a b c : Option (List ℕ)) (x y : List ℕ) → Puts a b x → PutsFront b c y → PutsFront a c (x ++ y)
+front_behind a b c x y p q = (
+  length x + q.0,
+  (let within = q.1 in omega (arith, within, length-append x y)),
+  subst (λ (t : List ℕ). Puts a c t) (sym (take_behind x y q.0)) (Puts-join a b c x (take q.0 y) p q.2),
+)
+
+pub front_more : (a b : Option (List ℕ)) (x y : List ℕ) → PutsFront a b x → PutsFront a b (x ++ y)
+front_more a b x y p = (
+  p.0,
+  (let within = p.1 in omega (arith, within, length-append x y)),
+  subst (λ (t : List ℕ). Puts a b t) (sym (take-append-le p.0 x y p.1)) p.2,
+)
+
+-- ---- the end behind events that are too many
+
+pub closed_behind : (r wanted : Status) (old mid new : Option (List ℕ)) (text piece : List ℕ) (rose failed : Type 0) → (rose → failed) → Puts old mid text
+    → ((r ≡ wanted) × Puts mid new piece) ⊎ ((r ≡ statuses.WriteFault) × rose × PutsFront mid new piece) → Closed r wanted text piece old new failed
+closed_behind r wanted old mid new text piece rose failed spread first next =
+    ⊎_elim
+    (λ h. inl (h.0, Puts-join old mid new text piece first h.1))
+    (λ h. inr (inl (h.0, spread h.1, front_behind old mid new text piece first h.2)))
+    next
+
+-- ---- a line
+
+pub played_all : (t : Script) → length t.items ≤ most_events → played t ≡ t
+played_all t few = ap (λ (is : List Item). record t { items = is }) (take_all most_events t.items few)
+
+-- a player that told all it kept
+pub cleared_plays : (p q : Player) (s : Script) (before : List ℕ) → Plays p s before → q.network ≡ p.network → q.standing ≡ p.standing → q.events ≡ p.events → q.text.items ≡ [] → Plays q s (report_of s)
+cleared_plays p q s before h network standing events text = record {
+  standing = standing ∙ h.standing;
+  stands = subst (λ (n : DripNetwork). Stands n (network_of s)) (sym network) h.stands;
+  nodes = ap (λ n. length n.nodes.items) network ∙ h.nodes;
+  events = events ∙ h.events;
+  few = h.few;
+  moment = subst (λ (n : DripNetwork). n.moment ≤ length s.items * 2 ^ 32) (sym network) h.moment;
+  keyed = subst (λ (n : DripNetwork). AreKeyed n.sent.items) (sym network) h.keyed;
+  told = ap (λ (t : List ℕ). report_of s ++ t) text ∙ append-nil (report_of s);
+  first = h.first;
+  early = h.early;
+  below = h.below;
+}
+
+pub cleared_playing : (p q : Player) → IsPlaying p → q.network ≡ p.network → q.standing ≡ p.standing → q.events ≡ p.events → q.text.items ≡ [] → IsPlaying q
+cleared_playing p q h network standing events text = (h.0, report_of h.0, cleared_plays p q h.0 h.1 h.2 network standing events text)
+
+-- what such a player tells of a line that it played
+pub tells : (q : Player) (s t : Script) (text : List ℕ) → Plays q t (report_of s) → text ≡ q.text.items → Tells s t text
+tells q s t text h is = ap (λ (u : List ℕ). report_of s ++ u) is ∙ (h.told ∙ ap report_of (sym (played_all t h.few)))
+
+pub line_ok : (q : Player) (s t : Script) (text : List ℕ) (old new : Option (List ℕ)) → Plays q t (report_of s) → text ≡ q.text.items → Puts old new text
+    → ((b : List ℕ) × Plays q t b) × ((more : List ℕ) × Tells s t more × Puts old new more)
+line_ok q s t text old new h is put = ((report_of s, h), (text, tells q s t text h is, put))
+
+pub line_cut : (q : Player) (s t : Script) (text : List ℕ) (old new : Option (List ℕ)) (failed : Type 0) → Plays q t (report_of s) → text ≡ q.text.items → failed → PutsFront old new text → LineStops statuses.WriteFault s t old new failed
+line_cut q s t text old new failed h is rose put = inr (text, tells q s t text h is, inl (refl, rose, put))
+
+full_of : (e : PlayStop) (p q : Player) (line : DripLine) (s : Script) (before : List ℕ) → e ≡ TooMany → LinePlayed (Err e) p q line → Plays p s before
+    → (most_events < length (with_line s line).items) × Plays q (played (with_line s line)) before
+full_of e p q line s before is ran h = let full : LinePlayed (Err TooMany) p q line = subst (λ (x : PlayStop). LinePlayed (Err x) p q line) is ran in full s before h
+
+pub line_full : (r : Status) (e : PlayStop) (p q : Player) (line : DripLine) (s : Script) (text : List ℕ) (old new : Option (List ℕ)) (failed : Type 0) → e ≡ TooMany → LinePlayed (Err e) p q line → Plays p s (report_of s)
+    → text ≡ q.text.items → Closed r statuses.TooMany text (codes "toomany" ++ 10 ∷ []) old new failed → LineStops r s (with_line s line) old new failed
+line_full r e p q line s text old new failed is ran h text_is closed =
+    let k = full_of e p q line s (report_of s) is ran h in
+    inr (text, ap (λ (u : List ℕ). report_of s ++ u) text_is ∙ k.1.told, inr (k.0, closed))

@@ -1,0 +1,30 @@
+use Rattle.std.proofs.Common.{◌∷◌, [], List, ℕ, refl, ap, true}
+use Rattle.dg_drip.specs.Spread.{round, sweeps}
+use Rattle.dg_drip_script.specs.Scripts.{quiet, rounds_items, with_items, begun}
+use Rattle.dg_drip_script.specs.declared.line.DripLine.TheVariants.{Happens, Round, Sweeps}
+use Rattle.dg_drip_run.proofs.HappenLemmas.{links_of_player}
+use Rattle.dg_drip_run.proofs.LineLemmas.{begun_playing, events_played}
+use Rattle.dg_drip_run.proofs.player.Player.play_line.Goals as goal
+
+pub happen-requires-clause-playing : goal.happen-requires-clause-playing
+happen-requires-clause-playing c = begun_playing c.args.self.now c.requires.playing
+
+pub play_round-requires-clause-playing : goal.play_round-requires-clause-playing
+play_round-requires-clause-playing c = begun_playing c.args.self.now c.requires.playing
+
+pub play_sweeps-requires-clause-playing : goal.play_sweeps-requires-clause-playing
+play_sweeps-requires-clause-playing c = begun_playing c.args.self.now c.requires.playing
+
+pub returns-in-Happens : goal.returns-in-Happens
+returns-in-Happens c =
+    rw c.in-Happens.is (events_played c.happen.result c.args.self.now c.happen.new.self (Happens c.in-Happens.event) (record { event = c.in-Happens.event; loud = true } ∷ []) (λ s before h. refl) c.happen.ensures.ran)
+
+pub returns-in-Round : goal.returns-in-Round
+returns-in-Round c =
+    rw c.in-Round.is (events_played c.play_round.result c.args.self.now c.play_round.new.self (Round c.in-Round.a c.in-Round.b) (quiet (round c.in-Round.a c.in-Round.b)) (λ s before h. refl) c.play_round.ensures.ran)
+
+pub returns-in-Sweeps : goal.returns-in-Sweeps
+returns-in-Sweeps c =
+    rw c.in-Sweeps.is
+    (events_played c.play_sweeps.result c.args.self.now c.play_sweeps.new.self (Sweeps c.in-Sweeps.count) (rounds_items (sweeps c.in-Sweeps.count c.args.self.now.network.links.items))
+    (λ s before h. ap (λ (links : List (ℕ × ℕ)). with_items (begun s) (rounds_items (sweeps c.in-Sweeps.count links))) (links_of_player c.args.self.now s before h)) c.play_sweeps.ensures)

@@ -1,0 +1,61 @@
+-- What a player of a script keeps, and what it does with events.
+use Rattle.std.specs.Prelude.{◌≡◌, ℕ, ◌*◌, ◌^◌, ◌<◌, ◌≤◌, false, List, [], ◌∷◌, ◌++◌, length, take, Result, Ok, Err}
+use Rattle.dg_drip_replay.specs.Standing.{Stands, AreKeyed}
+use Rattle.dg_drip_script.specs.Scripts.{Item, Script, standing_of, with_items, with_line, network_of, report_of}
+use Rattle.dg_drip_script.specs.Sizes.{most_events}
+use Rattle.dg_drip_script.specs.declared.line.DripLine.{DripLine}
+use Rattle.dg_drip_run.specs.declared.player.Player.{Player}
+use Rattle.dg_drip_run.specs.declared.player.PlayStop.{PlayStop}
+use Rattle.dg_drip_run.specs.declared.player.PlayStop.TheVariants.{TooMany, Memory}
+
+-- links are between nodes of which there are so many
+abbrev pub AreBelow : (nodes : ℕ) → List (ℕ × ℕ) → Type 0
+AreBelow nodes [] = Unit {0}
+AreBelow nodes (l ∷ links) = (l.0 < nodes) × (l.1 < nodes) × AreBelow nodes links
+
+-- A player stands behind a script, of whose report these bytes came before those that it keeps.
+pub record Plays (p : Player) (s : Script) (before : List ℕ) : Type 0 where
+  pub standing : p.standing ≡ standing_of s
+  pub stands : Stands p.network (network_of s)
+  pub nodes : length p.network.nodes.items ≡ s.nodes
+  pub events : p.events ≡ length s.items
+  pub few : length s.items ≤ most_events
+  -- the time of each event is below 2 ^ 32
+  pub moment : p.network.moment ≤ length s.items * 2 ^ 32
+  pub keyed : AreKeyed p.network.sent.items
+  pub told : before ++ p.text.items ≡ report_of s
+  pub first : s.nodes ≡ 0 → (s.links ≡ []) × (s.items ≡ [])
+  pub early : s.begun ≡ false → s.items ≡ []
+  pub below : AreBelow s.nodes s.links
+
+-- a player stands behind some script
+abbrev pub IsPlaying : Player → Type 0
+IsPlaying p = (s : Script) × (before : List ℕ) × Plays p s before
+
+-- it can play on: nodes and links are as before
+pub record GoesOn (old new : Player) : Type 0 where
+  pub playing : IsPlaying new
+  pub standing : new.standing ≡ old.standing
+  pub links : new.network.links.items ≡ old.network.links.items
+
+-- some of these events are left, and the others are all that a script may have
+pub record Filled (old new : Player) (items : List Item) (s : Script) (before : List ℕ) : Type 0 where
+  pub front : List Item
+  pub next : Item
+  pub back : List Item
+  pub parts : items ≡ front ++ next ∷ back
+  pub full : length (s.items ++ front) ≡ most_events
+  pub after : Plays new (with_items s front) before
+
+-- what playing events does
+abbrev pub Ran : Result (Unit {0}) PlayStop → (old new : Player) → List Item → Type 0
+Ran (Ok done) old new items = (s : Script) (before : List ℕ) → Plays old s before → Plays new (with_items s items) before
+Ran (Err TooMany) old new items = (s : Script) (before : List ℕ) → Plays old s before → Filled old new items s before
+Ran (Err Memory) old new items = Unit {0}
+
+-- What playing a line does. Where there are more events than a script may have, the first ones were played.
+abbrev pub LinePlayed : Result (Unit {0}) PlayStop → (old new : Player) → DripLine → Type 0
+LinePlayed (Ok done) old new line = (s : Script) (before : List ℕ) → Plays old s before → Plays new (with_line s line) before
+LinePlayed (Err TooMany) old new line = (s : Script) (before : List ℕ) → Plays old s before
+    → (most_events < length (with_line s line).items) × Plays new (record (with_line s line) { items = take most_events (with_line s line).items }) before
+LinePlayed (Err Memory) old new line = Unit {0}

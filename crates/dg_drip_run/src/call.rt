@@ -1,0 +1,90 @@
+//! The call that replays a script of nodes.
+ghost use Rattle.std.specs.Prelude.{◌≡◌, ℕ, ◌++◌, [], List, OnOk};
+ghost use Rattle.dg_words.specs.Counts.{Rose};
+ghost use Rattle.dg_base.specs.Outside.{Takes, AtEnd};
+ghost use Rattle.dg_drip_script.specs.Scripts.{Script, first_script};
+ghost use Rattle.dg_drip_run.specs.Outcome.{Dripped, NextPlays, LinesAnswer};
+ghost use Rattle.dg_drip_run.specs.Playing.{Plays, IsPlaying};
+
+use crate::finish::{end_at_line, end_script, end_with};
+use crate::lines::play_text;
+use crate::player::Player;
+use dg_base::{Sink, Source, Status};
+use dg_drip_script::DripFault;
+use dg_script::{LineReader, ReadStop};
+use std::alloc::Global;
+
+/// Reads the next line and plays it, and answers whether there was one. A status where the replay ends there.
+fn play_next<S: Source, K: Sink>(
+    alloc: Global,
+    reader: &mut LineReader,
+    input: &mut S,
+    player: &mut Player,
+    out: &mut K,
+) -> Result<bool, Status>
+    requires { IsPlaying player.old }
+    ensures answer { (more : List ℕ) × Takes (S.left input.old) (S.left input.new) more
+        × ((s : Script) (before : List ℕ) → Plays player.old s before → NextPlays result (reader.old.ahead ++ more) reader.old reader.new s player.old player.new (AtEnd (S.left input.new))
+        (Rose (S.faults input.old) (S.faults input.new)) (Rose (K.faults out.old) (K.faults out.new)) (K.written out.old) (K.written out.new)) }
+    ensures unread { OnOk result (S.faults input.new ≡ S.faults input.old) }
+    ensures still { OnOk result (K.faults out.new ≡ K.faults out.old) }
+{
+    match reader.next(input) {
+        Ok(Some(number)) => match play_text(alloc, player, reader.text(), number, out) {
+            Ok(()) => Ok(true),
+            Err(status) => Err(status),
+        },
+        Ok(None) => Ok(false),
+        Err(ReadStop::ReadFault) => Err(Status::ReadFault),
+        Err(ReadStop::Long { line }) => Err(end_at_line(alloc, out, line, DripFault::Long)),
+        Err(ReadStop::TooLong) => Err(end_with(out, b"toolong\n", Status::TooLong)),
+    }
+}
+
+/// Reads the lines of an input one after another and plays each before the next one is asked for. Answers the number of the
+/// line after the last.
+fn play_lines<S: Source, K: Sink>(
+    alloc: Global,
+    reader: &mut LineReader,
+    input: &mut S,
+    player: &mut Player,
+    out: &mut K,
+) -> Result<u32, Status>
+    requires none { reader.old.ahead ≡ [] }
+    requires unread { reader.old.passed ≡ 0 }
+    requires first { reader.old.number ≡ 0 }
+    requires playing { Plays player.old first_script [] }
+    ensures answer { LinesAnswer result (S.left input.old) (S.left input.new) reader.new player.new
+        (Rose (S.faults input.old) (S.faults input.new)) (Rose (K.faults out.old) (K.faults out.new)) (K.written out.old) (K.written out.new) }
+    ensures still { OnOk result (K.faults out.new ≡ K.faults out.old) }
+{
+    let mut number = 1;
+    while play_next(alloc, reader, input, player, out)? {
+        number += 1;
+        if reader.is_last() {
+            return Ok(number);
+        }
+    }
+    Ok(number)
+}
+
+/// Replays the script that `input` spells over nodes that keep nothing at first, and writes the report to `out`.
+///
+/// The input is read line by line, and what a line tells is written before the next one is asked for.
+pub fn drip<S: Source, K: Sink>(alloc: Global, input: &mut S, out: &mut K) -> Status
+    // The bytes written are the report of the run of the script's events from nodes that keep nothing, and each status comes
+    // where the rules say.
+    ensures { Dripped result (S.left input.old) (S.left input.new) (K.written out.old) (K.written out.new)
+        (Rose (S.faults input.old) (S.faults input.new)) (Rose (K.faults out.old) (K.faults out.new)) }
+{
+    let Ok(mut reader) = LineReader::new(alloc) else {
+        return Status::Memory;
+    };
+    let Ok(mut player) = Player::new(alloc) else {
+        return Status::Memory;
+    };
+    match play_lines(alloc, &mut reader, input, &mut player, out) {
+        Ok(number) => end_script(alloc, out, &player, number),
+        Err(status) => status,
+    }
+}

@@ -1,0 +1,9 @@
+//! The call that replays a script of nodes that spread small values.
+#![tactic(auto)]
+
+mod call;
+mod finish;
+mod lines;
+mod player;
+
+pub use call::drip;

@@ -1,0 +1,81 @@
+//! Plays a line of a script, and writes what is told of it.
+ghost use Rattle.std.specs.Prelude.{◌≡◌, ℕ, ◌++◌, ◌∷◌, [], List, codes, OnOk, OnErr};
+ghost use Rattle.dg_words.specs.Counts.{Rose};
+ghost use Rattle.dg_base.specs.Outside.{Puts, PutsFront};
+ghost use Rattle.dg_drip_script.specs.Lines.{FitsLine, StandsAt};
+ghost use Rattle.dg_drip_script.specs.Scripts.{Script, with_line};
+ghost use Rattle.dg_drip_run.specs.Outcome.{Closed, LineAnswer, TextAnswer};
+ghost use Rattle.dg_drip_run.specs.Playing.{Plays, IsPlaying};
+
+use crate::finish::{end_at_line, end_with};
+use crate::player::{PlayStop, Player};
+use dg_base::{Sink, Status, WriteFailed};
+use dg_drip_script::{DripLine, read_line};
+use std::alloc::Global;
+
+// Writes what is told of a line, where it is something.
+fn put_told<K: Sink>(out: &mut K, text: &[u8]) -> Result<(), WriteFailed>
+    ensures ok { OnOk result (Puts (K.written out.old) (K.written out.new) text.now) }
+    ensures err { OnErr result (PutsFront (K.written out.old) (K.written out.new) text.now) }
+    ensures failed { OnErr result (Rose (K.faults out.old) (K.faults out.new)) }
+    ensures unfailed { OnOk result (K.faults out.new ≡ K.faults out.old) }
+{
+    if text.is_empty() {
+        return Ok(());
+    }
+    out.write(text)
+}
+
+// What follows a line whose events were played as far as they may be.
+fn end_full<K: Sink>(out: &mut K, text: &[u8]) -> Status
+    ensures { Closed result Status.TooMany text.now (codes "toomany" ++ 10 ∷ []) (K.written out.old) (K.written out.new) (Rose (K.faults out.old) (K.faults out.new)) }
+{
+    match put_told(out, text) {
+        Ok(()) => end_with(out, b"toomany\n", Status::TooMany),
+        Err(WriteFailed) => Status::WriteFault,
+    }
+}
+
+// Plays a line, and writes what is told of it. A status where the replay ends there.
+fn play_read<K: Sink>(
+    alloc: Global,
+    player: &mut Player,
+    line: &DripLine,
+    out: &mut K,
+) -> Result<(), Status>
+    requires playing { IsPlaying player.old }
+    requires stands { StandsAt player.old.standing line.now }
+    requires fits { FitsLine player.old.standing.nodes line.now }
+    ensures answer { (s : Script) (before : List ℕ) → Plays player.old s before
+        → LineAnswer result s (with_line s line.now) player.new (K.written out.old) (K.written out.new) (Rose (K.faults out.old) (K.faults out.new)) }
+    ensures still { OnOk result (K.faults out.new ≡ K.faults out.old) }
+{
+    player.text.clear();
+    match player.play_line(alloc, line) {
+        Ok(()) => match put_told(out, &player.text) {
+            Ok(()) => Ok(()),
+            Err(WriteFailed) => Err(Status::WriteFault),
+        },
+        Err(PlayStop::TooMany) => Err(end_full(out, &player.text)),
+        Err(PlayStop::Memory) => Err(Status::Memory),
+    }
+}
+
+/// Reads the text of a line and plays it. A status where the replay ends there.
+pub fn play_text<K: Sink>(
+    alloc: Global,
+    player: &mut Player,
+    text: &[u8],
+    number: u32,
+    out: &mut K,
+) -> Result<(), Status>
+    requires { IsPlaying player.old }
+    ensures answer { (s : Script) (before : List ℕ) → Plays player.old s before
+        → TextAnswer result s text.now number player.new (K.written out.old) (K.written out.new) (Rose (K.faults out.old) (K.faults out.new)) }
+    ensures still { OnOk result (K.faults out.new ≡ K.faults out.old) }
+{
+    match read_line(player.standing, text) {
+        Ok(line) => play_read(alloc, player, &line, out),
+        Err(fault) => Err(end_at_line(alloc, out, number, fault)),
+    }
+}
