@@ -3,10 +3,12 @@ ghost use Rattle.std.specs.Prelude.{◌≡◌, ℕ, ◌++◌, [], List, OnOk};
 ghost use Rattle.dg_words.specs.Counts.{Rose};
 ghost use Rattle.dg_base.specs.Outside.{Takes, AtEnd};
 ghost use Rattle.dg_drip_script.specs.Scripts.{Script, first_script};
-ghost use Rattle.dg_drip_run.specs.Outcome.{Dripped, NextPlays, LinesAnswer};
+ghost use Rattle.dg_drip_run.specs.Outcome.{Dripped, NextPlays, LinesAnswer, played};
+ghost use Rattle.dg_drip_run.specs.Promised.{GreatestIsKept, NothingFalls, SetsMakeAll, RoundsRaise, SweepsBringTheGreatest};
 ghost use Rattle.dg_drip_run.specs.Playing.{Plays, IsPlaying};
 
 use crate::finish::{end_at_line, end_script, end_with};
+use crate::laws::values_spread;
 use crate::lines::play_text;
 use crate::player::Player;
 use dg_base::{Sink, Source, Status};
@@ -68,12 +70,8 @@ fn play_lines<S: Source, K: Sink>(
     Ok(number)
 }
 
-/// Replays the script that `input` spells over nodes that keep nothing at first, and writes the report to `out`.
-///
-/// The input is read line by line, and what a line tells is written before the next one is asked for.
-pub fn drip<S: Source, K: Sink>(alloc: Global, input: &mut S, out: &mut K) -> Status
-    // The bytes written are the report of the run of the script's events from nodes that keep nothing, and each status comes
-    // where the rules say.
+/// Reads the script that `input` spells line by line, and replays it.
+fn read_and_play<S: Source, K: Sink>(alloc: Global, input: &mut S, out: &mut K) -> Status
     ensures { Dripped result (S.left input.old) (S.left input.new) (K.written out.old) (K.written out.new)
         (Rose (S.faults input.old) (S.faults input.new)) (Rose (K.faults out.old) (K.faults out.new)) }
 {
@@ -87,4 +85,34 @@ pub fn drip<S: Source, K: Sink>(alloc: Global, input: &mut S, out: &mut K) -> St
         Ok(number) => end_script(alloc, out, &player, number),
         Err(status) => status,
     }
+}
+
+/// Replays the script that `input` spells over nodes that keep nothing at first, and writes the report to `out`. A status
+/// other than [`Status::Done`] writes its line last, where it has one.
+///
+/// The input is read line by line, and what a line tells is written before the next one is asked for. No more than a million
+/// events are played, and no more than 16,777,216 bytes of the input are used.
+pub fn drip<S: Source, K: Sink>(alloc: Global, input: &mut S, out: &mut K) -> Status
+    // The bytes written are the report of the run of the script's events from nodes that keep nothing, and each status comes
+    // where the rules say.
+    ensures replayed { Dripped result (S.left input.old) (S.left input.new) (K.written out.old) (K.written out.new)
+        (Rose (S.faults input.old) (S.faults input.new)) (Rose (K.faults out.old) (K.faults out.new)) }
+    // Each node keeps of a key the greatest among none, what was set there, and what it heard.
+    ensures greatest { (x : Dripped result (S.left input.old) (S.left input.new) (K.written out.old) (K.written out.new)
+        (Rose (S.faults input.old) (S.faults input.new)) (Rose (K.faults out.old) (K.faults out.new))) → GreatestIsKept (played x.script) }
+    // What it keeps never falls.
+    ensures rises { (x : Dripped result (S.left input.old) (S.left input.new) (K.written out.old) (K.written out.new)
+        (Rose (S.faults input.old) (S.faults input.new)) (Rose (K.faults out.old) (K.faults out.new))) → NothingFalls (played x.script) }
+    // It was set at some node of this run.
+    ensures made { (x : Dripped result (S.left input.old) (S.left input.new) (K.written out.old) (K.written out.new)
+        (Rose (S.faults input.old) (S.faults input.new)) (Rose (K.faults out.old) (K.faults out.new))) → SetsMakeAll (played x.script) }
+    // Behind a round the second node keeps no less than the first one kept.
+    ensures rounds { (x : Dripped result (S.left input.old) (S.left input.new) (K.written out.old) (K.written out.new)
+        (Rose (S.faults input.old) (S.faults input.new)) (Rose (K.faults out.old) (K.faults out.new))) → RoundsRaise (played x.script) }
+    // Where each two nodes are within h links, h sweeps at the end with no set between them bring all to the greatest entry.
+    ensures sweeps { (x : Dripped result (S.left input.old) (S.left input.new) (K.written out.old) (K.written out.new)
+        (Rose (S.faults input.old) (S.faults input.new)) (Rose (K.faults out.old) (K.faults out.new))) → SweepsBringTheGreatest (played x.script) }
+{
+    values_spread();
+    read_and_play(alloc, input, out)
 }

@@ -3,6 +3,7 @@
 
 mod call;
 mod finish;
+mod laws;
 mod lines;
 mod player;
 
