@@ -1,5 +1,5 @@
 -- What is known of a replay behind a line whose items were played.
-use Rattle.std.proofs.Common.{◌≡◌, ℕ, ◌<◌, true, List, [], ◌∷◌, ◌++◌, length, refl, ap, sym, ◌∙◌, subst}
+use Rattle.std.proofs.Common.{false, ◌≡◌, ℕ, ◌<◌, true, List, [], ◌∷◌, ◌++◌, length, refl, ap, sym, ◌∙◌, subst}
 use Rattle.std.specs.Prelude.{Option, Some, None, Result, Ok, Err, IfSome}
 use Rattle.std.specs.List.{AllByRecursion}
 use Rattle.dg_nor.specs.Device.{Device}
@@ -19,11 +19,11 @@ use Rattle.dg_rules.specs.World.{World}
 use Rattle.dg_world.specs.Worlds.{IsWorld}
 use Rattle.dg_world.specs.declared.world.World.{World as KeptWorld}
 use Rattle.dg_replay.specs.Boards.{WorldStands, StoppedIn, ItemStops, LineStops}
-use Rattle.dg_replay.specs.Items.{Beginning, begin_by, motes_in, lacking_by}
+use Rattle.dg_replay.specs.Items.{Ground, no_ground, Beginning, begin_by, motes_in, lacking_by, is_boards}
 use Rattle.dg_replay.specs.Playing.{Seated, InWorld, Stood, Ready, ItemsPlayedAs, StopsInItem, PlayedAs}
 use Rattle.dg_replay.specs.declared.player.Player.{Player}
 use Rattle.dg_replay.specs.declared.stop.Stop.{Stop}
-use Rattle.dg_replay.specs.declared.stop.Stop.TheVariants.{Memory, BadInput, WriteFault, FlashFault, TooMany, NoBoard, NoImage}
+use Rattle.dg_replay.specs.declared.stop.Stop.TheVariants.{Memory, BadInput, WriteFault, FlashFault, TooMany, NoBoard, NoImage, NotAVolume}
 use Rattle.dg_replay.proofs.ItemLemmas.{some_is, items_run_counts}
 use Rattle.dg_replay.proofs.PlayLemmas.{false_not, event_at, round_at, sweeps_at, seated_as}
 use Rattle.dg_replay.proofs.GoldenLemmas.{event_fits, cut_fits_too}
@@ -32,7 +32,9 @@ use Rattle.dg_replay.proofs.StandLemmas.{joined_next, stood_next, busy_runs, lin
 -- A line behind others has these items. It changes nothing of where the run begins, and needs no more boards.
 pub record HasItems (done : List Line) (line : Line) (items : List Item) : Type 0 where
   pub are : item_by (place_behind first_place done) (cut_behind None done) line ≡ items
-  pub begins : (b : Beginning) → (begin_by b line).world ≡ b.world
+  pub begins : (g : Ground) (b : Beginning) → (begin_by g b line).world ≡ b.world
+  pub plain : is_boards line ≡ false
+  pub counts : (b : Beginning) → (begin_by no_ground b line).motes ≡ b.motes
   pub motes : (place : Place) → (place_after place line).motes ≡ place.motes
   pub ready : (place : Place) → (place_after place line).ready ≡ place.ready
   pub enough : (boards : ℕ) → lacking_by boards line None ≡ None
@@ -59,7 +61,9 @@ pub image_has : (done : List Line) (image version : ℕ) (name content : List �
 image_has done image version name content =
     record {
       are = refl;
-      begins = λ b. refl;
+      begins = λ g b. refl;
+      plain = refl;
+      counts = λ b. refl;
       motes = λ place. refl;
       ready = λ place. refl;
       enough = λ boards. refl;
@@ -72,7 +76,9 @@ pub event_has : (done : List Line) (event : Event) (cut : Option CutOfPower) →
 event_has done event cut waits =
     record {
       are = ap (λ (o : Option CutOfPower). Happened (record { event = event; cut = o }) true ∷ []) (sym waits);
-      begins = λ b. refl;
+      begins = λ g b. refl;
+      plain = refl;
+      counts = λ b. refl;
       motes = λ place. refl;
       ready = λ place. refl;
       enough = λ boards. refl;
@@ -85,7 +91,9 @@ pub round_has : (done : List Line) (a b : ℕ) → HasItems done (Round a b) (qu
 round_has done a b =
     record {
       are = refl;
-      begins = λ b. refl;
+      begins = λ g b. refl;
+      plain = refl;
+      counts = λ b. refl;
       motes = λ place. refl;
       ready = λ place. refl;
       enough = λ boards. refl;
@@ -98,7 +106,9 @@ pub sweeps_has : (done : List Line) (n : ℕ) (links : List (ℕ × ℕ)) → li
 sweeps_has done n links known =
     record {
       are = ap (λ (ls : List (ℕ × ℕ)). quietly (times n (sweep ls))) (sym known);
-      begins = λ b. refl;
+      begins = λ g b. refl;
+      plain = refl;
+      counts = λ b. refl;
       motes = λ place. refl;
       ready = λ place. refl;
       enough = λ boards. refl;
@@ -126,10 +136,10 @@ stopped_in motes done line items left w initial now has count s =
       there = has.stops left w s.stopped.board s.stopped.after.image initial now s.there;
     }
 
-busy_as : (r : Result (Unit {0}) Stop) (p q : Player) (done : List Line) (w : World) (line : Line) (items : List Item) (kept : KeptWorld) (told_before told : List ℕ) (initial old now : List Device)
+busy_as : (table : List Row) (r : Result (Unit {0}) Stop) (p q : Player) (done : List Line) (w : World) (line : Line) (items : List Item) (kept : KeptWorld) (told_before told : List ℕ) (initial old now : List Device)
     → HasItems done line items → StandsAt p.place line → FitsLine p.place.motes line → q.place ≡ place_after p.place line → q.cut ≡ cut_by p.cut line → q.world ≡ Some kept
-    → Stood p done (Some w) initial old → ItemsPlayedAs r w items kept initial now told_before told → PlayedAs r q done (Some w) line told_before told initial old now
-busy_as (Ok u) p q done w line items kept told_before told initial old now has stands fits place cut world s x =
+    → Stood p done (Some w) initial old → ItemsPlayedAs r w items kept initial now told_before told → PlayedAs table r q done (Some w) line told_before told initial old now
+busy_as table (Ok u) p q done w line items kept told_before told initial old now has stands fits place cut world s x =
     let motes : q.place.motes ≡ p.place.motes = ap (λ (at : Place). at.motes) place ∙ has.motes p.place in
     let count : length now ≡ length old = x.boards.all.count ∙ sym s.boards.all.count in
     let sites : length x.world.sites ≡ p.place.motes = (items_run_counts w x.world items x.text x.runs).sites ∙ s.world.3 in
@@ -137,7 +147,7 @@ busy_as (Ok u) p q done w line items kept told_before told initial old now has s
       world = Some x.world;
       text = x.text;
       told_now = x.told_now;
-      runs = busy_runs done line w x.world items x.text has.are (has.begins _) x.runs;
+      runs = busy_runs done line w x.world items x.text has.are (λ g. has.begins g _) has.plain has.counts x.runs;
       stood = stood_next p q done line (Some w) (Some x.world) initial old now (joined_next p.place line stands fits s.links) s place
           (seated_as p.place q.place (length now) motes (subst (λ (n : ℕ). Seated p.place n) (sym count) s.seats))
           (cut ∙ ap (λ (o : Option CutOfPower). cut_by o line) s.cut)
@@ -146,26 +156,27 @@ busy_as (Ok u) p q done w line items kept told_before told initial old now has s
           x.boards;
       boards_enough = has.enough (length initial);
     }
-busy_as (Err Memory) p q done w line items kept told_before told initial old now has stands fits place cut world s x = line_begun done line w items has.are x (λ h. h)
-busy_as (Err TooMany) p q done w line items kept told_before told initial old now has stands fits place cut world s x = line_begun done line w items has.are x (λ h. h)
-busy_as (Err NoImage) p q done w line items kept told_before told initial old now has stands fits place cut world s x = line_begun done line w items has.are x (λ h. h)
-busy_as (Err FlashFault) p q done w line items kept told_before told initial old now has stands fits place cut world s x =
+busy_as table (Err Memory) p q done w line items kept told_before told initial old now has stands fits place cut world s x = line_begun done line w items has.are x (λ h. h)
+busy_as table (Err TooMany) p q done w line items kept told_before told initial old now has stands fits place cut world s x = line_begun done line w items has.are x (λ h. h)
+busy_as table (Err NoImage) p q done w line items kept told_before told initial old now has stands fits place cut world s x = line_begun done line w items has.are x (λ h. h)
+busy_as table (Err NotAVolume) p q done w line items kept told_before told initial old now has stands fits place cut world s x = absurd x
+busy_as table (Err FlashFault) p q done w line items kept told_before told initial old now has stands fits place cut world s x =
     let sites : length x.world.sites ≡ motes_in done = (items_run_counts w x.world x.begun x.text x.runs).sites ∙ s.world.3 ∙ s.motes in (
       has.uses x.begun x.left x.world initial now x.parts x.there.0,
       line_begun done line w items has.are x (λ h. (stopped_in (motes_in done) done line items x.left x.world initial now has sites h.0, h.1)),
     )
-busy_as (Err (NoBoard motes boards)) p q done w line items kept told_before told initial old now has stands fits place cut world s x = absurd x
-busy_as (Err (BadInput n fault)) p q done w line items kept told_before told initial old now has stands fits place cut world s x = absurd x
-busy_as (Err WriteFault) p q done w line items kept told_before told initial old now has stands fits place cut world s x = absurd x
+busy_as table (Err (NoBoard motes boards)) p q done w line items kept told_before told initial old now has stands fits place cut world s x = absurd x
+busy_as table (Err (BadInput n fault)) p q done w line items kept told_before told initial old now has stands fits place cut world s x = absurd x
+busy_as table (Err WriteFault) p q done w line items kept told_before told initial old now has stands fits place cut world s x = absurd x
 
 -- the same where some world is kept
-pub busy_in : (r : Result (Unit {0}) Stop) (p q : Player) (done : List Line) (w : Option World) (line : Line) (items : List Item) (v kept : KeptWorld) (told_before told : List ℕ) (initial old now : List Device)
+pub busy_in : (table : List Row) (r : Result (Unit {0}) Stop) (p q : Player) (done : List Line) (w : Option World) (line : Line) (items : List Item) (v kept : KeptWorld) (told_before told : List ℕ) (initial old now : List Device)
     → HasItems done line items → StandsAt p.place line → FitsLine p.place.motes line → p.place.ready ≡ true → p.world ≡ Some v → q.place ≡ place_after p.place line → q.cut ≡ cut_by p.cut line → q.world ≡ Some kept
-    → Stood p done w initial old → ((u : World) → IsWorld v old u → WorldStands u initial old → ItemsPlayedAs r u items kept initial now told_before told) → PlayedAs r q done w line told_before told initial old now
-busy_in r p q done None line items v kept told_before told initial old now has stands fits ready was place cut world s play = false_not p.place.ready ready s.world.1
-busy_in r p q done (Some w) line items v kept told_before told initial old now has stands fits ready was place cut world s play =
+    → Stood p done w initial old → ((u : World) → IsWorld v old u → WorldStands u initial old → ItemsPlayedAs r u items kept initial now told_before told) → PlayedAs table r q done w line told_before told initial old now
+busy_in table r p q done None line items v kept told_before told initial old now has stands fits ready was place cut world s play = false_not p.place.ready ready s.world.1
+busy_in table r p q done (Some w) line items v kept told_before told initial old now has stands fits ready was place cut world s play =
     let k = s.world in
-    busy_as r p q done w line items kept told_before told initial old now has stands fits place cut world s (play w (subst (λ (x : KeptWorld). IsWorld x old w) (some_is k.0 v (sym k.1 ∙ was)) k.2) s.boards)
+    busy_as table r p q done w line items kept told_before told initial old now has stands fits place cut world s (play w (subst (λ (x : KeptWorld). IsWorld x old w) (some_is k.0 v (sym k.1 ∙ was)) k.2) s.boards)
 
 -- ---- what they ask
 

@@ -14,12 +14,12 @@ use Rattle.dg_rules.specs.Premises.{ItemInRange}
 use Rattle.dg_rules.specs.Runs.{Played}
 use Rattle.dg_rules.specs.Golden.{PlaysGolden}
 use Rattle.dg_rules.specs.Consistency.{WorldConsistent, LeavesConsistent, StartsSound, StopsConsistent}
-use Rattle.dg_replay.specs.Items.{Beginning, beginning_of, next_items}
+use Rattle.dg_replay.specs.Items.{UsesBoards, Beginning, beginning_of}
 use Rattle.dg_replay.specs.Ending.{script_of}
 use Rattle.dg_replay.specs.Outcome.{Progress, RunsTo, item_played}
 use Rattle.dg_replay.specs.Promised.{StaysConsistent}
 use Rattle.dg_replay.proofs.ItemLemmas.{some_is, runs_from_none}
-use Rattle.dg_replay.proofs.GoldenLemmas.{LinesFit, GoldenRun, golden_run, front_fits, rest_fits, script_of_fits}
+use Rattle.dg_replay.proofs.GoldenLemmas.{GoldenRun, golden_at_end, nothing_or}
 
 -- what is known of all that plays golden
 pub record ConsistentLaws : Type 0 where
@@ -48,15 +48,11 @@ module _ (laws : ConsistentLaws) where
             subst (λ (u : World). StopsConsistent (golden_row g.name g.bytes) u step.event) (some_is v w is) (laws.halves g.name g.bytes g.used b.motes g.links played v step.event g.plays fits.0.event);
       }
 
-  played_consistent : (done rest : List Line) (begun left : List Item) (played : List Played) (last : Option World) (golden : Row) (w : World) → LinesFit first_place (done ++ rest) → next_items done rest ≡ begun ++ left
-      → map item_played played ≡ items_of done ++ begun → RunsTo (beginning_of done).world played last → (beginning_of done).world ≡ Some w → w.table ≡ golden ∷ [] → StaysConsistent golden played last left
-  played_consistent done rest begun left played None golden w fit parts items run is table =
-      subst (λ (ps : List Played). StaysConsistent golden ps None left) (sym (runs_from_none (beginning_of done).world played run).1) (nothing_played golden left)
-  played_consistent done rest begun left played (Some v) golden w fit parts items run is table =
-      let g = golden_run done rest begun left played v (front_fits first_place done rest fit) (rest_fits first_place done rest fit) parts items run in
+  pub progress_consistent : {table : List Row} (input : List ℕ) (c : Progress table (script_of input)) → (UsesBoards c.done → ⊥) → (golden : Row) (w : World) → (beginning_of c.ground c.done).world ≡ Some w → w.table ≡ golden ∷ []
+      → StaysConsistent golden c.played c.last c.left
+  progress_consistent input c alone golden w is table =
+      nothing_or input c (λ ps last. StaysConsistent golden ps last c.left) (nothing_played golden c.left)
+      (λ v last.
+      let g = golden_at_end input c alone v last in
       let same : golden_row g.name g.bytes ≡ golden = one_row (golden_row g.name g.bytes) golden (sym (ap (λ (u : World). u.table) (some_is w _ (sym is ∙ g.begins))) ∙ table) in
-      subst (λ (row : Row). StaysConsistent row played (Some v) left) same (golden_consistent (beginning_of done) left played v g)
-
-  pub progress_consistent : (input : List ℕ) (c : Progress (script_of input)) (golden : Row) (w : World) → (beginning_of c.done).world ≡ Some w → w.table ≡ golden ∷ [] → StaysConsistent golden c.played c.last c.left
-  progress_consistent input c golden w is table =
-      played_consistent c.done c.rest c.begun c.left c.played c.last golden w (subst (LinesFit first_place) (sym c.lines) (script_of_fits input)) c.parts c.items c.run is table
+      subst (λ (row : Row). StaysConsistent row c.played (Some v) c.left) same (golden_consistent (beginning_of c.ground c.done) c.left c.played v g))

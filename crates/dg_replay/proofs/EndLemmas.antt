@@ -5,16 +5,17 @@ use Rattle.std.specs.Str.Lines.{lines}
 use Rattle.std.proofs.lemmas.List.Sums.{sum_by-cons}
 use Rattle.std.proofs.lemmas.List.{take-append-drop}
 use Rattle.std.proofs.lemmas.Bool.Decides.{nat_tests}
-use Rattle.dg_base.specs.Outside.{Puts}
+use Rattle.dg_base.specs.Outside.{PutsFront, Puts}
 use Rattle.dg_base.proofs.OutsideLemmas.{Puts-join}
 use Rattle.dg_base.specs.declared.answers.Status.{Status}
 use Rattle.dg_base.specs.declared.answers.Status.TheVariants as status
 use Rattle.dg_nor.specs.Device.{Device}
+use Rattle.dg_object.specs.Object.{Row}
 use Rattle.dg_rules.specs.Sizes.{most_events}
 use Rattle.dg_rules.specs.Changes.{final_lines}
 use Rattle.dg_script.specs.Sizes.{most_used_bytes}
 use Rattle.dg_script.specs.Items.{Item, Happens as Happened, cut_by, cut_behind, place_behind, items_behind, items_of}
-use Rattle.dg_replay.specs.Items.{lacking, lacking_by, beginning_of, motes_in, next_items, is_event, events_among}
+use Rattle.dg_replay.specs.Items.{UsesBoards, lacking, lacking_by, beginning_of, motes_in, next_items, is_event, events_among}
 use Rattle.dg_world.specs.Worlds.{IsWorld}
 use Rattle.dg_world.specs.declared.world.World.{World as KeptWorld}
 use Rattle.dg_replay.specs.Playing.{InWorld}
@@ -23,50 +24,51 @@ use Rattle.dg_script.specs.Script.{Script, script_from, end_fault, numbered}
 use Rattle.dg_script.specs.declared.fault.LineFault.{LineFault}
 use Rattle.dg_script.specs.Report.{report_text}
 use Rattle.dg_rules.specs.World.{World}
-use Rattle.dg_replay.specs.Boards.{WorldStands, BoardsStand, BoardStopped, StoppedIn}
+use Rattle.dg_replay.specs.Boards.{EventNext, InSome, LacksImage, WorldStands, BoardsStand, BoardStopped, StoppedIn}
 use Rattle.dg_replay.specs.Ending.{Ending, Ends, NoBoards, TooManyEvents, FaultAt, Over, events_in, InBounds, by_fault, by_events, by_boards, ending_from, ending_line, status_of, whole_lines, used, is_over, script_of, ending_of, InLimits}
 use Rattle.dg_replay.specs.Near.{behind_lines, IsNear}
-use Rattle.dg_replay.specs.Outcome.{Progress, item_played, played_text, EventNext, AtTooMany, ReachesEnding, closing, IsWholeReport, StopsAt, Wrote, BoardsLeft, IsCaused, RunsTo, IsSettled, NextIsWhole, DoneIsWhole, ReadEnough, EndsNear, ReadsNear}
-use Rattle.dg_replay.specs.Replaying.{StopEnds, Reached, HasFew, StopsAtText, StopsIn, ByRules, ReadyToEnd, EndsWith, FinishesWith, ScriptReplayed}
+use Rattle.dg_replay.specs.Outcome.{Progress, item_played, played_text, AtTooMany, ReachesEnding, closing, IsWholeReport, StopsAt, Wrote, BoardsLeft, IsCaused, RunsTo, IsSettled, NextIsWhole, DoneIsWhole, ReadEnough, EndsNear, ReadsNear, BoardsEndIt, NoVolumeThere, NoImageThere, no_volume_line, no_image_line}
+use Rattle.dg_world.specs.Mounted.{StandFor}
+use Rattle.dg_replay.specs.Replaying.{ToldBefore, EndsWritten, StopEnds, Reached, HasFew, StopsAtText, StopsIn, ByRules, ReadyToEnd, EndsWith, FinishesWith, ScriptReplayed}
 use Rattle.dg_base.specs.declared.events.Step.{Step}
 use Rattle.dg_replay.specs.declared.player.Player.{Player}
 use Rattle.dg_script.specs.declared.line.Line.{Line}
 use Rattle.dg_script.specs.declared.line.Line.TheVariants.{Nothing, Motes, Golden, Boards as BoardsLine, Link, Image, Cut, Happens, Round, Sweeps}
 use Rattle.dg_replay.specs.declared.stop.Stop.{Stop}
-use Rattle.dg_replay.specs.declared.stop.Stop.TheVariants.{Memory, BadInput, WriteFault, FlashFault, TooMany, NoBoard, NoImage}
+use Rattle.dg_replay.specs.declared.stop.Stop.TheVariants.{Memory, BadInput, WriteFault, FlashFault, TooMany, NoBoard, NoImage, NotAVolume}
 use Rattle.dg_replay.proofs.NearLemmas.{near_later}
 use Rattle.dg_replay.proofs.ItemLemmas.{items_split, items_first, events_among-append}
 
-wrote_whole : {script : Script} (e : Ending) (c : Progress script) (text : List ℕ) → IsWholeReport e c text → Wrote (status_of e) e c text
+wrote_whole : {table : List Row} {script : Script} (e : Ending) (c : Progress table script) (text : List ℕ) → IsWholeReport e c text → Wrote (status_of e) e c text
 wrote_whole Ends c text whole = whole
 wrote_whole (NoBoards m b) c text whole = whole
 wrote_whole TooManyEvents c text whole = whole
 wrote_whole (FaultAt line f) c text whole = whole
 wrote_whole Over c text whole = whole
 
-boards_of : {script : Script} (e : Ending) (c : Progress script) (initial now : List Device) → BoardsStand c.last initial now → BoardsLeft (status_of e) c initial now
+boards_of : {table : List Row} {script : Script} (e : Ending) (c : Progress table script) (initial now : List Device) → BoardsStand c.last initial now → BoardsLeft (status_of e) c initial now
 boards_of Ends c initial now stand = stand
 boards_of (NoBoards m b) c initial now stand = stand
 boards_of TooManyEvents c initial now stand = stand
 boards_of (FaultAt line f) c initial now stand = stand
 boards_of Over c initial now stand = stand
 
-caused_by : (e : Ending) (r w b : Type 0) → IsCaused (status_of e) e r w b
-caused_by Ends r w b = refl
-caused_by (NoBoards m k) r w b = refl
-caused_by TooManyEvents r w b = refl
-caused_by (FaultAt line f) r w b = refl
-caused_by Over r w b = refl
+caused_by : (e : Ending) (r w b v i : Type 0) → IsCaused (status_of e) e r w b v i
+caused_by Ends r w b v i = refl
+caused_by (NoBoards m k) r w b v i = refl
+caused_by TooManyEvents r w b v i = refl
+caused_by (FaultAt line f) r w b v i = refl
+caused_by Over r w b v i = refl
 
 -- the bytes that were taken settle the ending
-enough_by : {script : Script} (e : Ending) (n : ℕ) (input : List ℕ) (at_end : Type 0) (c : Progress script) (text : List ℕ) → at_end ⊎ IsSettled n input → ReadEnough (status_of e) n input at_end c text
+enough_by : {table : List Row} {script : Script} (e : Ending) (n : ℕ) (input : List ℕ) (at_end : Type 0) (c : Progress table script) (text : List ℕ) → at_end ⊎ IsSettled n input → ReadEnough (status_of e) n input at_end c text
 enough_by Ends n input at_end c text settled = settled
 enough_by (NoBoards m b) n input at_end c text settled = settled
 enough_by TooManyEvents n input at_end c text settled = settled
 enough_by (FaultAt line f) n input at_end c text settled = settled
 enough_by Over n input at_end c text settled = settled
 
-ends_near : {script : Script} (e : Ending) (input : List ℕ) (c : Progress script) (text : List ℕ) → ReadsNear (status_of e) e input c text → EndsNear e input
+ends_near : {table : List Row} {script : Script} (e : Ending) (input : List ℕ) (c : Progress table script) (text : List ℕ) → ReadsNear (status_of e) e input c text → EndsNear e input
 ends_near Ends input c text near = near
 ends_near (NoBoards m b) input c text near = near
 ends_near TooManyEvents input c text near = near
@@ -74,57 +76,57 @@ ends_near (FaultAt line f) input c text near = near
 ends_near Over input c text near = near
 
 -- the end of the report was written, or a front of it, or memory ran out
-pub ended : (result : Status) (script : Script) (e : Ending) (piece input : List ℕ) (at_end : Type 0) (initial now : List Device) (before mid after : Option (List ℕ)) (failed reads worse : Type 0) → (failed → worse)
-    → (r : ReadyToEnd script e piece initial now before mid) → at_end ⊎ IsSettled (length initial) input → at_end ⊎ DoneIsWhole input r.came.done r.came.rest r.came.begun → ((text : List ℕ) → ReadsNear (status_of e) e input r.came text)
-    → EndsWith result (status_of e) piece mid after failed → ScriptReplayed result script e input at_end initial now before after reads worse
-ended result script e piece input at_end initial now before mid after failed reads worse spread r settled whole near (inl done) =
+pub ended : {table : List Row} (result : Status) (script : Script) (e : Ending) (piece input : List ℕ) (at_end : Type 0) (initial now : List Device) (before mid after : Option (List ℕ)) (failed reads worse : Type 0) → (failed → worse)
+    → (r : ReadyToEnd table script e piece initial now before mid) → at_end ⊎ IsSettled (length initial) input → at_end ⊎ DoneIsWhole input r.came.done r.came.rest r.came.begun → ((text : List ℕ) → ReadsNear (status_of e) e input r.came text)
+    → EndsWith result (status_of e) piece mid after failed → ScriptReplayed table result script e input at_end initial now before after reads worse
+ended {table} result script e piece input at_end initial now before mid after failed reads worse spread r settled whole near (inl done) =
     let text : List ℕ = played_text r.came.played ++ piece in
     let all : IsWholeReport e r.came text = record { all = r.all; told = ap (λ (xs : List ℕ). played_text r.came.played ++ xs) (sym r.line) } in
-    let made : ScriptReplayed (status_of e) script e input at_end initial now before after reads worse = record {
+    let made : ScriptReplayed table (status_of e) script e input at_end initial now before after reads worse = record {
       came = r.came;
       text = text;
       written = Puts-join before mid after _ _ r.told done.1;
       report = wrote_whole e r.came text all;
       enough = enough_by e (length initial) input at_end r.came text settled;
       near = near text;
-      limits = r.limits;
+      limits = r.limits; stood = r.stood;
       boards = boards_of e r.came initial now r.boards;
-      caused = caused_by e reads worse (BoardStopped (motes_in r.came.done) initial now);
+      caused = caused_by e reads worse (BoardStopped (motes_in r.came.done) initial now) (NoVolumeThere r.came initial now) ((UsesBoards r.came.done) × NoImageThere r.came initial now);
     } in
-    subst (λ (s : Status). ScriptReplayed s script e input at_end initial now before after reads worse) (sym done.0) made
-ended result script e piece input at_end initial now before mid after failed reads worse spread r settled whole near (inr (inl cut)) =
+    subst (λ (s : Status). ScriptReplayed table s script e input at_end initial now before after reads worse) (sym done.0) made
+ended {table} result script e piece input at_end initial now before mid after failed reads worse spread r settled whole near (inr (inl cut)) =
     let k = cut.1.0 in
-    let made : ScriptReplayed status.WriteFault script e input at_end initial now before after reads worse = record {
+    let made : ScriptReplayed table status.WriteFault script e input at_end initial now before after reads worse = record {
       came = r.came;
       text = played_text r.came.played ++ take k piece;
       written = Puts-join before mid after _ _ r.told cut.1.2;
       report = record {
         more = drop k piece;
-        front = inr (record {
+        front = inr (inl (record {
           all = r.all;
           told = append_assoc (played_text r.came.played) (take k piece) (drop k piece) ∙ ap (λ (xs : List ℕ). played_text r.came.played ++ xs) (take-append-drop k piece ∙ sym r.line);
-        });
+        }));
       };
       enough = ⊎_elim (λ (x : at_end). inl x) (λ (x : IsSettled (length initial) input). inr (inl x)) settled;
       near = inr (record { all = r.all; more = take k piece; told = refl; near = ends_near e input r.came [] (near []) });
-      limits = r.limits;
+      limits = r.limits; stood = r.stood;
       boards = inl r.boards;
       caused = spread cut.2;
     } in
-    subst (λ (s : Status). ScriptReplayed s script e input at_end initial now before after reads worse) (sym cut.0) made
-ended result script e piece input at_end initial now before mid after failed reads worse spread r settled whole near (inr (inr memory)) =
-    let made : ScriptReplayed status.Memory script e input at_end initial now before after reads worse = record {
+    subst (λ (s : Status). ScriptReplayed table s script e input at_end initial now before after reads worse) (sym cut.0) made
+ended {table} result script e piece input at_end initial now before mid after failed reads worse spread r settled whole near (inr (inr memory)) =
+    let made : ScriptReplayed table status.Memory script e input at_end initial now before after reads worse = record {
       came = r.came;
       text = played_text r.came.played;
       written = subst (λ (o : Option (List ℕ)). Puts before o (played_text r.came.played)) (sym memory.1) r.told;
       report = record { more = []; front = append-nil (played_text r.came.played) };
       enough = whole;
       near = tt;
-      limits = r.limits;
+      limits = r.limits; stood = r.stood;
       boards = r.boards;
       caused = tt;
     } in
-    subst (λ (s : Status). ScriptReplayed s script e input at_end initial now before after reads worse) (sym memory.0) made
+    subst (λ (s : Status). ScriptReplayed table s script e input at_end initial now before after reads worse) (sym memory.0) made
 
 -- ---- the ending of a script
 
@@ -196,7 +198,7 @@ items_come done (line ∷ rest) begun left next parts =
     )
 
 -- a million events, and one more behind them
-many_ending : (over : Bool) (script : Script) (initial : List Device) (c : Progress script) → lacking (length initial) script.lines ≡ None → AtTooMany c.left c.played → ending_from (length initial) over script ≡ TooManyEvents
+many_ending : {table : List Row} (over : Bool) (script : Script) (initial : List Device) (c : Progress table script) → lacking (length initial) script.lines ≡ None → AtTooMany c.left c.played → ending_from (length initial) over script ≡ TooManyEvents
 many_ending over script initial c enough at =
     let come = items_come c.done c.rest c.begun c.left at.next c.parts in
     let full : events_among (items_of c.done ++ c.begun) ≡ most_events = ap events_among (sym c.items) ∙ at.events in
@@ -211,8 +213,8 @@ EndsBy TooMany e = e ≡ TooManyEvents
 EndsBy (NoBoard motes boards) e = e ≡ NoBoards motes boards
 EndsBy stop e = Unit {0}
 
-pub stop_ending : (stop : Stop) (over : Bool) (script : Script) (W V : Progress script → Type 0) (number : ℕ) (initial now : List Device) (before after : Option (List ℕ)) (failed : Type 0)
-    → StopsAtText stop script W V number initial now before after failed → EndsBy stop (ending_from (length initial) over script)
+pub stop_ending : {table : List Row} (stop : Stop) (over : Bool) (script : Script) (W V : Progress table script → Type 0) (number : ℕ) (initial now : List Device) (before after : Option (List ℕ)) (failed : Type 0)
+    → StopsAtText table stop script W V number initial now before after failed → EndsBy stop (ending_from (length initial) over script)
 stop_ending Memory over script W V number initial now before after failed f = tt
 stop_ending (BadInput line fault) over script W V number initial now before after failed (same, f) = fault_ending over script initial line fault f.there.3 f.there.1
 stop_ending WriteFault over script W V number initial now before after failed f = tt
@@ -223,85 +225,145 @@ stop_ending (NoBoard motes boards) over script W V number initial now before aft
     let short : length initial < motes = subst (λ (n : ℕ). n < motes) same f.there.0.1 in
     board_ending over script initial motes f.came.done f.there.1.0 short f.there.3 (ap (λ (ls : List Line). f.came.done ++ ls) (sym f.there.1.1) ∙ f.came.lines) ∙ ap (λ (n : ℕ). NoBoards motes n) (sym same)
 stop_ending NoImage over script W V number initial now before after failed f = tt
+stop_ending NotAVolume over script W V number initial now before after failed f = tt
+
+-- boards end the replay, and the last line was not all written
+cut_at_end : {table : List Row} (result : Status) (script : Script) (over : Bool) (input : List ℕ) (at_end : Type 0) (number : ℕ) (initial now : List Device) (before mid after : Option (List ℕ)) (later reads worse : Type 0) → (later → worse) → IsNear number input
+    → (c : Progress table script) (line : List ℕ) → BoardsEndIt c line → Puts before mid (played_text c.played) → InBounds (length initial) c.done (map item_played c.played) → (UsesBoards c.done → StandFor (motes_in c.done) c.ground.stores initial) → BoardsLeft status.WriteFault c initial now
+    → ((more : List ℕ) → ToldBefore number c (played_text c.played ++ more)) → at_end ⊎ NextIsWhole input c.done c.rest → result ≡ status.WriteFault → PutsFront mid after line → later → ScriptReplayed table result script (ending_from (length initial) over script) input at_end initial now before after reads worse
+cut_at_end {table} result script over input at_end number initial now before mid after later reads worse widen near c line ends told limits stood boards tells whole same cut rose =
+    let k = cut.0 in
+    let front = tells (take k line) in
+    let made : ScriptReplayed table status.WriteFault script (ending_from (length initial) over script) input at_end initial now before after reads worse = record {
+      came = c;
+      text = played_text c.played ++ take k line;
+      written = Puts-join before mid after _ _ told cut.2;
+      report = record {
+        more = drop k line;
+        front = inr (inr (line, ends, append_assoc (played_text c.played) (take k line) (drop k line) ∙ ap (λ (xs : List ℕ). played_text c.played ++ xs) (take-append-drop k line)));
+      };
+      enough = ⊎_elim (λ (x : at_end). inl x) (λ (x : NextIsWhole input c.done c.rest). inr (inr (inr (line, ends, x)))) whole;
+      near = inl (record { lines = front.lines; within = front.within; more = front.more; told = front.told; near = near_later number (front.lines + 1) input front.behind near });
+      limits = limits;
+      stood = stood;
+      boards = boards;
+      caused = widen rose;
+    } in
+    subst (λ (s : Status). ScriptReplayed table s script (ending_from (length initial) over script) input at_end initial now before after reads worse) (sym same) made
+
+lacks_next : (v : Option World) (left : List Item) (old new : List Device) → InSome v (λ u. LacksImage u left old new) → EventNext left
+lacks_next None left old new lacks = absurd lacks
+lacks_next (Some u) left old new lacks = lacks.next
 
 -- the end of a replay that stopped
-pub stopped_ends : (stop : Stop) (result : Status) (script : Script) (over : Bool) (input : List ℕ) (at_end : Type 0) (number : ℕ) (initial now : List Device) (before mid after : Option (List ℕ)) (failed later reads worse : Type 0)
+pub stopped_ends : {table : List Row} (stop : Stop) (result : Status) (script : Script) (over : Bool) (input : List ℕ) (at_end : Type 0) (number : ℕ) (initial now : List Device) (before mid after : Option (List ℕ)) (failed later reads worse : Type 0)
     → (failed → worse) → (later → worse) → IsNear number input → ByRules stop (at_end ⊎ IsSettled (length initial) input)
-    → StopsIn stop script input at_end number initial now before mid failed → StopEnds stop result mid after later → ScriptReplayed result script (ending_from (length initial) over script) input at_end initial now before after reads worse
-stopped_ends Memory result script over input at_end number initial now before mid after failed later reads worse spread widen near settled f (same, told) =
-    let made : ScriptReplayed status.Memory script (ending_from (length initial) over script) input at_end initial now before after reads worse = record {
+    → StopsIn table stop script input at_end number initial now before mid failed → StopEnds stop result mid after later → ScriptReplayed table result script (ending_from (length initial) over script) input at_end initial now before after reads worse
+stopped_ends {table} Memory result script over input at_end number initial now before mid after failed later reads worse spread widen near settled f (same, told) =
+    let made : ScriptReplayed table status.Memory script (ending_from (length initial) over script) input at_end initial now before after reads worse = record {
       came = f.came;
       text = f.text;
       written = subst (λ (o : Option (List ℕ)). Puts before o f.text) (sym told) f.told;
       report = record { more = f.more; front = f.whole };
       enough = f.there.1;
       near = tt;
-      limits = f.limits;
+      limits = f.limits; stood = f.stood;
       boards = f.there.0;
       caused = tt;
     } in
-    subst (λ (s : Status). ScriptReplayed s script (ending_from (length initial) over script) input at_end initial now before after reads worse) (sym same) made
-stopped_ends (BadInput line fault) result script over input at_end number initial now before mid after failed later reads worse spread widen near settled (numbered, f) done =
+    subst (λ (s : Status). ScriptReplayed table s script (ending_from (length initial) over script) input at_end initial now before after reads worse) (sym same) made
+stopped_ends {table} (BadInput line fault) result script over input at_end number initial now before mid after failed later reads worse spread widen near settled (numbered, f) done =
     let e = fault_ending over script initial line fault f.there.3 f.there.1 in
-    let ready : ReadyToEnd script (FaultAt line fault) (ending_line (FaultAt line fault)) initial now before mid = record { came = f.came; told = f.told; boards = f.there.2; all = f.there.0; line = refl; limits = f.limits } in
+    let ready : ReadyToEnd table script (FaultAt line fault) (ending_line (FaultAt line fault)) initial now before mid = record { came = f.came; told = f.told; boards = f.there.2; all = f.there.0; line = refl; limits = f.limits; stood = f.stood } in
     let there : IsNear line input = subst (λ (n : ℕ). IsNear n input) (sym numbered) near in
-    subst (λ (x : Ending). ScriptReplayed result script x input at_end initial now before after reads worse) (sym e)
+    subst (λ (x : Ending). ScriptReplayed table result script x input at_end initial now before after reads worse) (sym e)
     (ended result script (FaultAt line fault) _ input at_end initial now before mid after later reads worse widen ready settled f.there.4 (λ text. there) done)
-stopped_ends WriteFault result script over input at_end number initial now before mid after failed later reads worse spread widen near settled (rose, f) (same, told) =
+stopped_ends {table} WriteFault result script over input at_end number initial now before mid after failed later reads worse spread widen near settled (rose, f) (same, told) =
     let before_it = f.there.1 in
-    let made : ScriptReplayed status.WriteFault script (ending_from (length initial) over script) input at_end initial now before after reads worse = record {
+    let made : ScriptReplayed table status.WriteFault script (ending_from (length initial) over script) input at_end initial now before after reads worse = record {
       came = f.came;
       text = f.text;
       written = subst (λ (o : Option (List ℕ)). Puts before o f.text) (sym told) f.told;
       report = record { more = f.more; front = inl f.whole };
-      enough = ⊎_elim (λ (x : at_end). inl x) (λ (x : DoneIsWhole input f.came.done f.came.rest f.came.begun). inr (inr (x, record { more = f.more; front = f.whole }))) f.there.2;
+      enough = ⊎_elim (λ (x : at_end). inl x) (λ (x : DoneIsWhole input f.came.done f.came.rest f.came.begun). inr (inr (inl (x, record { more = f.more; front = f.whole })))) f.there.2;
       near = inl (record { lines = before_it.lines; within = before_it.within; more = before_it.more; told = before_it.told; near = near_later number (before_it.lines + 1) input before_it.behind near });
-      limits = f.limits;
+      limits = f.limits; stood = f.stood;
       boards = f.there.0;
       caused = spread rose;
     } in
-    subst (λ (s : Status). ScriptReplayed s script (ending_from (length initial) over script) input at_end initial now before after reads worse) (sym same) made
-stopped_ends FlashFault result script over input at_end number initial now before mid after failed later reads worse spread widen near settled f (same, told) =
-    let made : ScriptReplayed status.FlashFault script (ending_from (length initial) over script) input at_end initial now before after reads worse = record {
+    subst (λ (s : Status). ScriptReplayed table s script (ending_from (length initial) over script) input at_end initial now before after reads worse) (sym same) made
+stopped_ends {table} FlashFault result script over input at_end number initial now before mid after failed later reads worse spread widen near settled f (same, told) =
+    let made : ScriptReplayed table status.FlashFault script (ending_from (length initial) over script) input at_end initial now before after reads worse = record {
       came = f.came;
       text = played_text f.came.played;
       written = subst (λ (o : Option (List ℕ)). Puts before o (played_text f.came.played)) (sym told) f.told;
       report = (refl, subst (λ (ls : List Line). StopsAt (ending_from (length initial) over script) ls) (sym f.there.0.2) f.there.0.3);
       enough = f.there.2;
       near = tt;
-      limits = f.limits;
+      limits = f.limits; stood = f.stood;
       boards = f.there.1;
       caused = f.there.1.stopped;
     } in
-    subst (λ (s : Status). ScriptReplayed s script (ending_from (length initial) over script) input at_end initial now before after reads worse) (sym same) made
-stopped_ends TooMany result script over input at_end number initial now before mid after failed later reads worse spread widen near settled f done =
+    subst (λ (s : Status). ScriptReplayed table s script (ending_from (length initial) over script) input at_end initial now before after reads worse) (sym same) made
+stopped_ends {table} TooMany result script over input at_end number initial now before mid after failed later reads worse spread widen near settled f done =
     let e = many_ending over script initial f.came f.there.2 f.there.0 in
-    let ready : ReadyToEnd script TooManyEvents (ending_line TooManyEvents) initial now before mid = record { came = f.came; told = f.told; boards = f.there.1; all = f.there.0; line = refl; limits = f.limits } in
-    subst (λ (x : Ending). ScriptReplayed result script x input at_end initial now before after reads worse) (sym e)
+    let ready : ReadyToEnd table script TooManyEvents (ending_line TooManyEvents) initial now before mid = record { came = f.came; told = f.told; boards = f.there.1; all = f.there.0; line = refl; limits = f.limits; stood = f.stood } in
+    subst (λ (x : Ending). ScriptReplayed table result script x input at_end initial now before after reads worse) (sym e)
     (ended result script TooManyEvents _ input at_end initial now before mid after later reads worse widen ready settled f.there.3 (λ text. tt) done)
-stopped_ends (NoBoard motes boards) result script over input at_end number initial now before mid after failed later reads worse spread widen near settled f done =
+stopped_ends {table} (NoBoard motes boards) result script over input at_end number initial now before mid after failed later reads worse spread widen near settled f done =
     let e = stop_ending (NoBoard motes boards) over script (λ c. at_end ⊎ DoneIsWhole input c.done c.rest c.begun) (λ c. at_end ⊎ NextIsWhole input c.done c.rest) number initial now before mid failed f in
-    let ready : ReadyToEnd script (NoBoards motes boards) (ending_line (NoBoards motes boards)) initial now before mid = record { came = f.came; told = f.told; boards = f.there.2; all = f.there.1; line = refl; limits = f.limits } in
-    subst (λ (x : Ending). ScriptReplayed result script x input at_end initial now before after reads worse) (sym e)
+    let ready : ReadyToEnd table script (NoBoards motes boards) (ending_line (NoBoards motes boards)) initial now before mid = record { came = f.came; told = f.told; boards = f.there.2; all = f.there.1; line = refl; limits = f.limits; stood = f.stood } in
+    subst (λ (x : Ending). ScriptReplayed table result script x input at_end initial now before after reads worse) (sym e)
     (ended result script (NoBoards motes boards) _ input at_end initial now before mid after later reads worse widen ready settled f.there.4 (λ text. tt) done)
-stopped_ends NoImage result script over input at_end number initial now before mid after failed later reads worse spread widen near settled f done = absurd f
+stopped_ends {table} NoImage result script over input at_end number initial now before mid after failed later reads worse spread widen near settled f (inl (same, put)) =
+    let made : ScriptReplayed table status.NoImage script (ending_from (length initial) over script) input at_end initial now before after reads worse = record {
+      came = f.came;
+      text = played_text f.came.played ++ no_image_line;
+      written = Puts-join before mid after _ _ f.told put;
+      report = refl;
+      enough = f.there.4;
+      near = tt;
+      limits = f.limits;
+      stood = f.stood;
+      boards = f.there.2;
+      caused = (f.there.1, f.there.2);
+    } in
+    subst (λ (s : Status). ScriptReplayed table s script (ending_from (length initial) over script) input at_end initial now before after reads worse) (sym same) made
+stopped_ends {table} NoImage result script over input at_end number initial now before mid after failed later reads worse spread widen near settled f (inr (same, cut, rose)) =
+    cut_at_end result script over input at_end number initial now before mid after later reads worse widen near f.came no_image_line (inr (f.there.1, lacks_next f.came.last f.came.left initial now f.there.2, refl)) f.told f.limits f.stood (inr (inr (inr (f.there.1, f.there.2)))) f.there.3 f.there.4 same cut rose
+stopped_ends {table} NotAVolume result script over input at_end number initial now before mid after failed later reads worse spread widen near settled f (inl (same, put)) =
+    let made : ScriptReplayed table status.NotAVolume script (ending_from (length initial) over script) input at_end initial now before after reads worse = record {
+      came = f.came;
+      text = played_text f.came.played ++ no_volume_line;
+      written = Puts-join before mid after _ _ f.told put;
+      report = refl;
+      enough = f.there.2;
+      near = tt;
+      limits = f.limits;
+      stood = f.stood;
+      boards = f.there.0;
+      caused = f.there.0;
+    } in
+    subst (λ (s : Status). ScriptReplayed table s script (ending_from (length initial) over script) input at_end initial now before after reads worse) (sym same) made
+stopped_ends {table} NotAVolume result script over input at_end number initial now before mid after failed later reads worse spread widen near settled f (inr (same, cut, rose)) =
+    cut_at_end result script over input at_end number initial now before mid after later reads worse widen near f.came no_volume_line (inl (f.there.0.more, f.there.0.next, refl)) f.told f.limits f.stood (inr (inr (inl f.there.0))) f.there.1 f.there.2 same cut rose
 
 -- a script all of whose lines were played
-lines_done : (ends : Bool) (script : Script) (n : ℕ) (p : Player) (initial now : List Device) (before mid : Option (List ℕ)) → (r : Reached ends script [] n p initial now before mid) → r.done ++ [] ≡ script.lines
+lines_done : {table : List Row} (ends : Bool) (script : Script) (n : ℕ) (p : Player) (initial now : List Device) (before mid : Option (List ℕ)) → (r : Reached table ends script [] n p initial now before mid) → r.done ++ [] ≡ script.lines
 unfolding script_from
 lines_done ends script n p initial now before mid r = r.lines
 
-fault_done : (ends : Bool) (script : Script) (n : ℕ) (p : Player) (initial now : List Device) (before mid : Option (List ℕ)) → (r : Reached ends script [] n p initial now before mid) → end_fault ends p.place n ≡ script.fault
+fault_done : {table : List Row} (ends : Bool) (script : Script) (n : ℕ) (p : Player) (initial now : List Device) (before mid : Option (List ℕ)) → (r : Reached table ends script [] n p initial now before mid) → end_fault ends p.place n ≡ script.fault
 unfolding script_from
 fault_done ends script n p initial now before mid r = r.fault
 
-few_done : (ends : Bool) (script : Script) (n : ℕ) (p : Player) (initial now : List Device) (before mid : Option (List ℕ)) → (r : Reached ends script [] n p initial now before mid) → HasFew script initial
+few_done : {table : List Row} (ends : Bool) (script : Script) (n : ℕ) (p : Player) (initial now : List Device) (before mid : Option (List ℕ)) → (r : Reached table ends script [] n p initial now before mid) → HasFew script initial
 few_done ends script n p initial now before mid r =
     let same : r.done ≡ script.lines = sym (append-nil r.done) ∙ lines_done ends script n p initial now before mid r in
     record { events = subst (λ (ls : List Line). events_in ls ≤ most_events) same r.few; boards_enough = subst (λ (ls : List Line). lacking (length initial) ls ≡ None) same r.boards_enough }
 
 -- as far as that
-abbrev came_to : (ends : Bool) (script : Script) (n : ℕ) (p : Player) (initial now : List Device) (before mid : Option (List ℕ)) (last : Option World) → (r : Reached ends script [] n p initial now before mid) → r.last ≡ last → Progress script
+abbrev came_to : {table : List Row} (ends : Bool) (script : Script) (n : ℕ) (p : Player) (initial now : List Device) (before mid : Option (List ℕ)) (last : Option World) → (r : Reached table ends script [] n p initial now before mid) → r.last ≡ last → Progress table script
 came_to ends script n p initial now before mid last r is =
     record {
       done = r.done;
@@ -314,65 +376,67 @@ came_to ends script n p initial now before mid last r is =
       parts = refl;
       within = λ e. refl;
       items = r.items ∙ sym (append-nil (items_of r.done));
-      run = subst (λ (o : Option World). RunsTo (beginning_of r.done).world r.played o) is r.run;
+      ground = r.ground;
+      grounded = λ uses. (r.grounded uses).0;
+      run = subst (λ (o : Option World). RunsTo (beginning_of r.ground r.done).world r.played o) is r.run;
     }
 
-pub bounds_done : (ends : Bool) (script : Script) (n : ℕ) (p : Player) (initial now : List Device) (before mid : Option (List ℕ)) → (r : Reached ends script [] n p initial now before mid) → InBounds (length initial) r.done (map item_played r.played)
+pub bounds_done : {table : List Row} (ends : Bool) (script : Script) (n : ℕ) (p : Player) (initial now : List Device) (before mid : Option (List ℕ)) → (r : Reached table ends script [] n p initial now before mid) → InBounds (length initial) r.done (map item_played r.played)
 bounds_done ends script n p initial now before mid r = record { boards_enough = r.boards_enough; few_events = subst (λ (xs : List Item). events_among xs ≤ most_events) (sym r.items) r.few }
 
 -- the last line of a report is to be written
-abbrev ready_done : (ends : Bool) (script : Script) (e : Ending) (n : ℕ) (p : Player) (initial now : List Device) (before mid : Option (List ℕ)) → (r : Reached ends script [] n p initial now before mid) → ((c : Progress script) → c.rest ≡ [] → ReachesEnding e c)
-    → ((w : Option World) → closing e w ≡ ending_line e) → ReadyToEnd script e (ending_line e) initial now before mid
+abbrev ready_done : {table : List Row} (ends : Bool) (script : Script) (e : Ending) (n : ℕ) (p : Player) (initial now : List Device) (before mid : Option (List ℕ)) → (r : Reached table ends script [] n p initial now before mid) → ((c : Progress table script) → c.rest ≡ [] → ReachesEnding e c)
+    → ((w : Option World) → closing e w ≡ ending_line e) → ReadyToEnd table script e (ending_line e) initial now before mid
 ready_done ends script e n p initial now before mid r all closes =
     let came = came_to ends script n p initial now before mid r.last r refl in
-    record { came = came; told = r.told; boards = r.stood.boards; all = all came refl; line = closes r.last; limits = bounds_done ends script n p initial now before mid r }
+    record { came = came; told = r.told; boards = r.stood.boards; all = all came refl; line = closes r.last; limits = bounds_done ends script n p initial now before mid r; stood = λ uses. (r.grounded uses).1 }
 
 -- nothing stands behind the last line
 nothing_near : (n : ℕ) (input : List ℕ) → behind_lines n input ≡ [] → IsNear n input
 nothing_near n input e = omega (arith, ap length e)
 
 -- an input that is too long
-pub over_ends : (result : Status) (script : Script) (input : List ℕ) (at_end : Type 0) (n : ℕ) (p : Player) (initial now : List Device) (before mid after : Option (List ℕ)) (failed reads worse : Type 0) → (failed → worse)
-    → IsSettled (length initial) input → ((c : Progress script) → DoneIsWhole input c.done c.rest c.begun)
-    → Reached false script [] n p initial now before mid → EndsWith result status.TooLong (ending_line Over) mid after failed → ScriptReplayed result script (ending_from (length initial) true script) input at_end initial now before after reads worse
-over_ends result script input at_end n p initial now before mid after failed reads worse spread settled whole r done =
+pub over_ends : {table : List Row} (result : Status) (script : Script) (input : List ℕ) (at_end : Type 0) (n : ℕ) (p : Player) (initial now : List Device) (before mid after : Option (List ℕ)) (failed reads worse : Type 0) → (failed → worse)
+    → IsSettled (length initial) input → ((c : Progress table script) → DoneIsWhole input c.done c.rest c.begun)
+    → Reached table false script [] n p initial now before mid → EndsWith result status.TooLong (ending_line Over) mid after failed → ScriptReplayed table result script (ending_from (length initial) true script) input at_end initial now before after reads worse
+over_ends {table} result script input at_end n p initial now before mid after failed reads worse spread settled whole r done =
     let e : ending_from (length initial) true script ≡ Over =
     few_ending true script initial (few_done false script n p initial now before mid r) ∙ ap (λ (f : Option (ℕ × LineFault)). by_fault true f) (sym (fault_done false script n p initial now before mid r)) in
     let ready = ready_done false script Over n p initial now before mid r (λ c none. none) (λ w. refl) in
-    subst (λ (x : Ending). ScriptReplayed result script x input at_end initial now before after reads worse) (sym e)
+    subst (λ (x : Ending). ScriptReplayed table result script x input at_end initial now before after reads worse) (sym e)
     (ended result script Over _ input at_end initial now before mid after failed reads worse spread ready (inr settled) (inr (whole ready.came)) (λ text. tt) done)
 
 -- a script that ends before its second line, or behind a cut
-pub short_ends : (result : Status) (script : Script) (input : List ℕ) (n : ℕ) (fault : LineFault) (p : Player) (initial now : List Device) (before mid after : Option (List ℕ)) (failed reads worse : Type 0) → (failed → worse) → fault_at_end p.place ≡ Some fault → behind_lines n input ≡ []
-    → Reached true script [] n p initial now before mid → EndsWith result status.BadInput (ending_line (FaultAt n fault)) mid after failed → ScriptReplayed result script (ending_from (length initial) false script) input ⊤ initial now before after reads worse
-short_ends result script input n fault p initial now before mid after failed reads worse spread early behind r done =
+pub short_ends : {table : List Row} (result : Status) (script : Script) (input : List ℕ) (n : ℕ) (fault : LineFault) (p : Player) (initial now : List Device) (before mid after : Option (List ℕ)) (failed reads worse : Type 0) → (failed → worse) → fault_at_end p.place ≡ Some fault → behind_lines n input ≡ []
+    → Reached table true script [] n p initial now before mid → EndsWith result status.BadInput (ending_line (FaultAt n fault)) mid after failed → ScriptReplayed table result script (ending_from (length initial) false script) input ⊤ initial now before after reads worse
+short_ends {table} result script input n fault p initial now before mid after failed reads worse spread early behind r done =
     let is : script.fault ≡ Some (n, fault) = sym (fault_done true script n p initial now before mid r) ∙ ap (λ (o : Option LineFault). numbered n o) early in
     let e = fault_ending false script initial n fault (few_done true script n p initial now before mid r) is in
     let ready = ready_done true script (FaultAt n fault) n p initial now before mid r (λ c none. none) (λ w. refl) in
-    subst (λ (x : Ending). ScriptReplayed result script x input ⊤ initial now before after reads worse) (sym e)
+    subst (λ (x : Ending). ScriptReplayed table result script x input ⊤ initial now before after reads worse) (sym e)
     (ended result script (FaultAt n fault) _ input ⊤ initial now before mid after failed reads worse spread ready (inl tt) (inl tt) (λ text. nothing_near n input behind) done)
 
 -- a player that is behind the second line has a world
-finish_as : (result : Status) (script : Script) (input : List ℕ) (w : World) (n : ℕ) (p : Player) (initial now new : List Device) (before mid after : Option (List ℕ)) (failed reads worse : Type 0) → (failed → worse)
-    → (r : Reached true script [] n p initial now before mid) → r.last ≡ Some w → motes_in r.done ≡ length w.sites → FinishesWith result w initial new mid after failed → ScriptReplayed result script Ends input ⊤ initial new before after reads worse
+finish_as : {table : List Row} (result : Status) (script : Script) (input : List ℕ) (w : World) (n : ℕ) (p : Player) (initial now new : List Device) (before mid after : Option (List ℕ)) (failed reads worse : Type 0) → (failed → worse)
+    → (r : Reached table true script [] n p initial now before mid) → r.last ≡ Some w → motes_in r.done ≡ length w.sites → FinishesWith result w initial new mid after failed → ScriptReplayed table result script Ends input ⊤ initial new before after reads worse
 finish_as result script input w n p initial now new before mid after failed reads worse spread r is count (inl (ends, boards)) =
     let came = came_to true script n p initial now before mid (Some w) r is in
     ended result script Ends (report_text (final_lines w)) input ⊤ initial new before mid after failed reads worse spread
-    (record { came = came; told = r.told; boards = boards; all = refl; line = refl; limits = bounds_done true script n p initial now before mid r }) (inl tt) (inl tt) (λ text. tt) ends
-finish_as result script input w n p initial now new before mid after failed reads worse spread r is count (inr (same, stopped, kept)) =
+    (record { came = came; told = r.told; boards = boards; all = refl; line = refl; limits = bounds_done true script n p initial now before mid r; stood = λ uses. (r.grounded uses).1 }) (inl tt) (inl tt) (λ text. tt) ends
+finish_as {table} result script input w n p initial now new before mid after failed reads worse spread r is count (inr (same, stopped, kept)) =
     let there : StoppedIn (motes_in r.done) [] [] (Some w) initial new = stopped (motes_in r.done) count in
-    let made : ScriptReplayed status.FlashFault script Ends input ⊤ initial new before after reads worse = record {
+    let made : ScriptReplayed table status.FlashFault script Ends input ⊤ initial new before after reads worse = record {
       came = came_to true script n p initial now before mid (Some w) r is;
       text = played_text r.played;
       written = subst (λ (o : Option (List ℕ)). Puts before o (played_text r.played)) (sym kept) r.told;
       report = (refl, refl);
       enough = inl tt;
       near = tt;
-      limits = bounds_done true script n p initial now before mid r;
+      limits = bounds_done true script n p initial now before mid r; stood = λ uses. (r.grounded uses).1;
       boards = there;
       caused = there.stopped;
     } in
-    subst (λ (s : Status). ScriptReplayed s script Ends input ⊤ initial new before after reads worse) (sym same) made
+    subst (λ (s : Status). ScriptReplayed table s script Ends input ⊤ initial new before after reads worse) (sym same) made
 
 kept_world : (p : Player) (v : KeptWorld) (last : Option World) (initial now : List Device) → p.world ≡ Some v → InWorld p last now → BoardsStand last initial now → (w : World) × (last ≡ Some w) × IsWorld v now w × WorldStands w initial now × (length w.sites ≡ p.place.motes)
 kept_world p v None initial now is kept stands = absurd (let e : Some v ≡ None = sym is ∙ kept.0 in cc)
@@ -382,16 +446,16 @@ kept_world p v (Some w) initial now is kept stands = (w, refl, subst (λ (x : Ke
     same_kept a b e = cc
 
 -- a script that ended
-pub script_ends : (result : Status) (script : Script) (input : List ℕ) (n : ℕ) (p : Player) (v : KeptWorld) (initial now new : List Device) (before mid after : Option (List ℕ)) (failed reads worse : Type 0) → (failed → worse) → fault_at_end p.place ≡ None → p.world ≡ Some v
-    → (r : Reached true script [] n p initial now before mid) → ((w : World) → IsWorld v now w → WorldStands w initial now → FinishesWith result w initial new mid after failed)
-    → ScriptReplayed result script (ending_from (length initial) false script) input ⊤ initial new before after reads worse
-script_ends result script input n p v initial now new before mid after failed reads worse spread none has r finishes =
+pub script_ends : {table : List Row} (result : Status) (script : Script) (input : List ℕ) (n : ℕ) (p : Player) (v : KeptWorld) (initial now new : List Device) (before mid after : Option (List ℕ)) (failed reads worse : Type 0) → (failed → worse) → fault_at_end p.place ≡ None → p.world ≡ Some v
+    → (r : Reached table true script [] n p initial now before mid) → ((w : World) → IsWorld v now w → WorldStands w initial now → FinishesWith result w initial new mid after failed)
+    → ScriptReplayed table result script (ending_from (length initial) false script) input ⊤ initial new before after reads worse
+script_ends {table} result script input n p v initial now new before mid after failed reads worse spread none has r finishes =
     let world = kept_world p v r.last initial now has r.stood.world r.stood.boards in
     let w = world.0 in
     let fault : script.fault ≡ None = sym (fault_done true script n p initial now before mid r) ∙ ap (λ (o : Option LineFault). numbered n o) none in
     let e : ending_from (length initial) false script ≡ Ends =
     few_ending false script initial (few_done true script n p initial now before mid r) ∙ ap (λ (f : Option (ℕ × LineFault)). by_fault false f) fault in
-    subst (λ (x : Ending). ScriptReplayed result script x input ⊤ initial new before after reads worse) (sym e)
+    subst (λ (x : Ending). ScriptReplayed table result script x input ⊤ initial new before after reads worse) (sym e)
     (finish_as result script input w n p initial now new before mid after failed reads worse spread r world.1 (sym r.stood.motes ∙ sym world.4) (finishes w world.2 world.3))
 
 -- ---- the bytes that are used

@@ -12,6 +12,7 @@ use Rattle.dg_script.specs.declared.line.Line.{Line}
 use Rattle.dg_script.specs.declared.line_reader.ReadStop.{ReadStop}
 use Rattle.dg_script.specs.declared.line_reader.ReadStop.TheVariants as read_stop
 use Rattle.dg_script.specs.declared.place.Place.{Place}
+use Rattle.dg_object.specs.Object.{Row}
 use Rattle.dg_replay.specs.Following.{GivenPlayed, HaltedAs, NextPlayed}
 use Rattle.dg_replay.specs.Playing.{Stood}
 use Rattle.dg_replay.specs.Replaying.{TextAnswer}
@@ -51,7 +52,7 @@ next_halted (read_stop.Long line) halt bytes old new A F N P is h none long =
 
 -- what is played of a text, from a player that stands behind lines
 abbrev pub TextPlays : Result (Unit {0}) Stop → (text : List ℕ) → (number : ℕ) → (p q : Player) → (old now : List Device) → (mid after : Option (List ℕ)) → (failed : Type 0) → Type 0
-TextPlays r text number p q old now mid after failed = (done : List Line) (w : Option World) (initial : List Device) → Stood p done w initial old → TextAnswer r text number p q done w initial old now mid after failed
+TextPlays r text number p q old now mid after failed = (done : List Line) (w : Option World) (initial : List Device) (table : List Row) → Stood p done w initial old → TextAnswer table r text number p q done w initial old now mid after failed
 
 -- a line that was given was played
 pub given_next : (r : Result Bool Halt) (o : Option ℕ) (n : ℕ) (text bytes : List ℕ) (old new : Reading) (A F N : Type 0) (P : Result (Unit {0}) Stop → List ℕ → ℕ → Type 0) → o ≡ Some n → text ≡ new.text
@@ -64,4 +65,4 @@ given_next r o n text bytes old new A F N P some same h played =
 
 -- nothing is played of a line that is too long
 pub long_plays : (p : Player) (n : ℕ) (old : List Device) (mid : Option (List ℕ)) (failed : Type 0) (text : List ℕ) → most_line < length text → TextPlays (Err (BadInput n line_fault.Long)) text n p p old old mid mid failed
-long_plays p n old mid failed text long = λ done w initial s. (refl, long_line p.place text long, record { boards = refl; told = refl })
+long_plays p n old mid failed text long = λ done w initial table s. (refl, long_line p.place text long, record { boards = refl; told = refl })

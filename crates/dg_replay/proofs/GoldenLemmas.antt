@@ -1,10 +1,10 @@
 -- A script with golden: where its run begins, and the ranges of what is played.
-use Rattle.std.proofs.Common.{◌≡◌, ℕ, ◌+◌, ◌<◌, ◌≤◌, Bool, true, false, List, [], ◌∷◌, ◌++◌, map, replicate, drop, refl, ap, sym, ◌∙◌, subst, arith, eqb-true}
+use Rattle.std.proofs.Common.{◌≡◌, ℕ, ◌+◌, ◌<◌, ◌≤◌, Bool, true, false, ◌⊎◌, inl, inr, List, [], ◌∷◌, ◌++◌, length, map, replicate, drop, refl, ap, sym, ◌∙◌, subst, arith, eqb-true}
 use Rattle.std.proofs.lemmas.List.{map-append}
 use Rattle.std.specs.Prelude.{Option, Some, None, option_map, IfSome, Result, Ok, Err}
 use Rattle.std.specs.List.{AllByRecursion}
 use Rattle.dg_object.specs.Object.{Row, IsRow}
-use Rattle.dg_volume.specs.Store.{golden_row, fresh}
+use Rattle.dg_volume.specs.Store.{Store, golden_row, fresh}
 use Rattle.dg_base.specs.declared.events.Event.{Event}
 use Rattle.dg_base.specs.declared.events.Event.TheVariants.{Tick, Hear, Last, Reset, Inject, Order, Frame}
 use Rattle.dg_base.specs.declared.events.Cut.{Cut as CutOfPower}
@@ -27,19 +27,21 @@ use Rattle.dg_rules.specs.Premises.{IsDeclared, ItemInRange, IsInRange, LinkFits
 use Rattle.dg_rules.specs.Runs.{Played, Plays}
 use Rattle.dg_rules.specs.Events.{Goes, does}
 use Rattle.dg_rules.specs.Golden.{PlaysGolden, FindsImage}
-use Rattle.dg_rules.specs.Begins.{PlaysFrom}
+use Rattle.dg_rules.specs.Begins.{PlaysFrom, StoresAgree, AreShaped, HoldsTo, HoldsToThen, PlaysBoards}
 use Rattle.dg_rules.specs.Promises.{StopsAgree}
 use Rattle.dg_script.specs.Items.{Item, Happens as Happened, quietly, item_by, cut_by, cut_behind, place_behind, items_behind, items_of}
-use Rattle.dg_replay.specs.Items.{BringsNone, IsNoFrame, Beginning, begin_by, begin_behind, beginning_of, with_link, lacking, no_beginning, next_items}
+use Rattle.dg_replay.specs.Items.{Ground, UsesBoards, BringsNone, IsNoFrame, Beginning, begin_by, begin_behind, beginning_of, with_link, lacking, no_beginning, next_items}
 use Rattle.dg_completion.specs.Completion.{IsEnough}
 use Rattle.dg_completion.specs.Ends.{EndsInRest, PagesCome, KeepsNewest, EndsLaw, EndsPipelineLaw}
 use Rattle.dg_completion.proofs.GrowLemmas.{all_append, all_replicate, all_times, all_map}
 use Rattle.dg_replay.specs.Ending.{script_of}
 use Rattle.dg_replay.specs.Outcome.{Progress, RunsTo, item_played}
-use Rattle.dg_replay.specs.Playing.{LacksImage, LineBegun, InSome, RunsFrom}
+use Rattle.dg_replay.specs.Promised.{FramesAreHonest}
+use Rattle.dg_replay.specs.Boards.{LacksImage, InSome}
+use Rattle.dg_replay.specs.Playing.{LineBegun, RunsFrom}
 use Rattle.dg_replay.specs.Replaying.{Reached, TextRead}
 use Rattle.dg_replay.specs.declared.player.Player.{Player}
-use Rattle.dg_replay.proofs.ItemLemmas.{some_is, runs_append, runs_from_none}
+use Rattle.dg_replay.proofs.ItemLemmas.{some_is, motes_same, runs_append, runs_from_none}
 use Rattle.dg_replay.proofs.PlayLemmas.{unplayed, false_not, later_at, second_at, link_at, event_at}
 use Rattle.dg_nor.specs.Device.{Device}
 
@@ -90,6 +92,9 @@ not_first place n some h = let none : place.motes ≡ 0 = eqb-true place.motes 0
 
 not_second : {A : Type 0} (place : Place) (name : List ℕ) (used : ℕ) (content : List ℕ) → place.ready ≡ true → StandsAt place (Golden name used content) → A
 not_second place name used content ready h = false_not place.ready ready (second_at place h.fits).0
+
+not_boards : {A : Type 0} (place : Place) → place.ready ≡ true → StandsAt place Boards → A
+not_boards place ready h = false_not place.ready ready (second_at place h.fits).0
 
 -- ---- items in their ranges
 
@@ -178,7 +183,7 @@ kept_next : (motes : ℕ) (place : Place) (cut : Option CutOfPower) (line : Line
 kept_next motes place cut Nothing k h = k
 kept_next motes place cut (Motes n) k h = not_first place n k.behind.some h.stands
 kept_next motes place cut (Golden name used content) k h = not_second place name used content k.behind.ready h.stands
-kept_next motes place cut Boards k h = unplayed h.played
+kept_next motes place cut Boards k h = not_boards place k.behind.ready h.stands
 kept_next motes place cut (Link a b) k h =
     record {
       behind = record { ready = k.behind.ready; some = k.behind.some };
@@ -227,36 +232,48 @@ record Formatted : Type 0 where
   used : ℕ
   content : List ℕ
 
--- so many motes begin with golden and these links
-abbrev linked_world : (motes : ℕ) → Formatted → List (ℕ × ℕ) → World
-linked_world motes golden links = first_world (golden_row golden.name golden.content ∷ []) links (replicate motes (fresh golden.name golden.content golden.used))
+-- the boards of so many motes are formatted with golden, or they are used as they are
+record ByGolden (motes : ℕ) (table : List Row) (stores : List Store) : Type 0 where
+  golden : Formatted
+  is_golden : IsGolden golden.name golden.used golden.content
+  table_is : table ≡ golden_row golden.name golden.content ∷ []
+  stores_are : stores ≡ replicate motes (fresh golden.name golden.content golden.used)
 
-record Carries (motes : ℕ) (golden : Formatted) (b : Beginning) : Type 0 where
+record ByBoards (g : Ground) (lines : List Line) (table : List Row) (stores : List Store) : Type 0 where
+  uses : UsesBoards lines
+  table_is : table ≡ g.table
+  stores_are : stores ≡ g.stores
+
+abbrev OpensBy : Ground → List Line → ℕ → List Row → List Store → Type 0
+OpensBy g lines motes table stores = ByGolden motes table stores ⊎ ByBoards g lines table stores
+
+record Carries (motes : ℕ) (table : List Row) (stores : List Store) (b : Beginning) : Type 0 where
   links : List (ℕ × ℕ)
   fit : AllByRecursion (LinkFits motes) links
-  world : b.world ≡ Some (linked_world motes golden links)
+  world : b.world ≡ Some (first_world table links stores)
   count : b.motes ≡ motes
 
--- behind golden the lines add links alone
-carries : (motes : ℕ) (golden : Formatted) (b : Beginning) (place : Place) (lines : List Line) → IsBehind place → place.motes ≡ motes → LinesFit place lines → Carries motes golden b → Carries motes golden (begin_behind b lines)
-unfolding LinesFit begin_behind
-carries motes golden b place [] behind count h k = k
-carries motes golden b place (Nothing ∷ lines) behind count h k = carries motes golden b place lines behind count h.3 k
-carries motes golden b place (Motes n ∷ lines) behind count h k = not_first place n behind.some h.0
-carries motes golden b place (Golden name used content ∷ lines) behind count h k = not_second place name used content behind.ready h.0
-carries motes golden b place (Boards ∷ lines) behind count h k = unplayed h.2
-carries motes golden b place (Link x y ∷ lines) behind count h k =
-    carries motes golden (begin_by b (Link x y)) (place_after place (Link x y)) lines (record { ready = behind.ready; some = behind.some }) count h.3 (record {
-      links = k.links ++ (x, y) ∷ [];
-      fit = one_more (LinkFits motes) k.links (x, y) k.fit (subst (λ (n : ℕ). LinkFits n (x, y)) count (link_fits place.motes x y h.1));
-      world = ap (option_map (with_link (x, y))) k.world;
-      count = k.count;
-    })
-carries motes golden b place (Image image version name content ∷ lines) behind count h k = carries motes golden b place lines behind count h.3 k
-carries motes golden b place (Cut c ∷ lines) behind count h k = carries motes golden b (place_after place (Cut c)) lines (record { ready = behind.ready; some = behind.some }) count h.3 k
-carries motes golden b place (Happens event ∷ lines) behind count h k = carries motes golden b (place_after place (Happens event)) lines (record { ready = behind.ready; some = behind.some }) count h.3 k
-carries motes golden b place (Round x y ∷ lines) behind count h k = carries motes golden b (place_after place (Round x y)) lines (record { ready = behind.ready; some = behind.some }) count h.3 k
-carries motes golden b place (Sweeps n ∷ lines) behind count h k = carries motes golden b (place_after place (Sweeps n)) lines (record { ready = behind.ready; some = behind.some }) count h.3 k
+-- behind `golden` or `boards` the lines add links alone
+module _ (motes : ℕ) (table : List Row) (stores : List Store) (g : Ground) where
+  carries : (b : Beginning) (place : Place) (lines : List Line) → IsBehind place → place.motes ≡ motes → LinesFit place lines → Carries motes table stores b → Carries motes table stores (begin_behind g b lines)
+  unfolding LinesFit begin_behind
+  carries b place [] behind count h k = k
+  carries b place (Nothing ∷ lines) behind count h k = carries b place lines behind count h.3 k
+  carries b place (Motes n ∷ lines) behind count h k = not_first place n behind.some h.0
+  carries b place (Golden name used content ∷ lines) behind count h k = not_second place name used content behind.ready h.0
+  carries b place (Boards ∷ lines) behind count h k = not_boards place behind.ready h.0
+  carries b place (Link x y ∷ lines) behind count h k =
+      carries (begin_by g b (Link x y)) (place_after place (Link x y)) lines (record { ready = behind.ready; some = behind.some }) count h.3 (record {
+        links = k.links ++ (x, y) ∷ [];
+        fit = one_more (LinkFits motes) k.links (x, y) k.fit (subst (λ (n : ℕ). LinkFits n (x, y)) count (link_fits place.motes x y h.1));
+        world = ap (option_map (with_link (x, y))) k.world;
+        count = k.count;
+      })
+  carries b place (Image image version name content ∷ lines) behind count h k = carries b place lines behind count h.3 k
+  carries b place (Cut c ∷ lines) behind count h k = carries b (place_after place (Cut c)) lines (record { ready = behind.ready; some = behind.some }) count h.3 k
+  carries b place (Happens event ∷ lines) behind count h k = carries b (place_after place (Happens event)) lines (record { ready = behind.ready; some = behind.some }) count h.3 k
+  carries b place (Round x y ∷ lines) behind count h k = carries b (place_after place (Round x y)) lines (record { ready = behind.ready; some = behind.some }) count h.3 k
+  carries b place (Sweeps n ∷ lines) behind count h k = carries b (place_after place (Sweeps n)) lines (record { ready = behind.ready; some = behind.some }) count h.3 k
 
 -- behind golden no line says how many motes there are
 pub lacking_none : (boards : ℕ) (place : Place) (lines : List Line) → IsBehind place → LinesFit place lines → lacking boards lines ≡ None
@@ -265,7 +282,7 @@ lacking_none boards place [] behind h = refl
 lacking_none boards place (Nothing ∷ lines) behind h = lacking_none boards place lines behind h.3
 lacking_none boards place (Motes n ∷ lines) behind h = not_first place n behind.some h.0
 lacking_none boards place (Golden name used content ∷ lines) behind h = not_second place name used content behind.ready h.0
-lacking_none boards place (Boards ∷ lines) behind h = unplayed h.2
+lacking_none boards place (Boards ∷ lines) behind h = not_boards place behind.ready h.0
 lacking_none boards place (Link x y ∷ lines) behind h = lacking_none boards (place_after place (Link x y)) lines (record { ready = behind.ready; some = behind.some }) h.3
 lacking_none boards place (Image image version name content ∷ lines) behind h = lacking_none boards place lines behind h.3
 lacking_none boards place (Cut c ∷ lines) behind h = lacking_none boards (place_after place (Cut c)) lines (record { ready = behind.ready; some = behind.some }) h.3
@@ -275,48 +292,60 @@ lacking_none boards place (Sweeps n ∷ lines) behind h = lacking_none boards (p
 
 -- ---- where a run begins
 
--- it begins with golden, all its items are in their ranges, and so are the place and the cut behind them
-record Begun (b : Beginning) (w : World) (items : List Item) (place : Place) (cut : Option CutOfPower) : Type 0 where
-  golden : Formatted
-  is_golden : IsGolden golden.name golden.used golden.content
+-- it begins with golden or on the boards as they are, all its items are in their ranges, and so are the place and the cut behind them
+record Begun (g : Ground) (lines : List Line) (b : Beginning) (w : World) (items : List Item) (place : Place) (cut : Option CutOfPower) : Type 0 where
+  table : List Row
+  stores : List Store
+  opens : OpensBy g lines b.motes table stores
   links : List (ℕ × ℕ)
   links_fit : AllByRecursion (LinkFits b.motes) links
-  world : w ≡ linked_world b.motes golden links
+  world : w ≡ first_world table links stores
   few : b.motes ≤ most_motes
   ranges : AllByRecursion (ItemInRange b.motes) items
   kept : IsKept b.motes place cut
 
--- before golden, where no more than the number of motes is known
-begins : (b : Beginning) (place : Place) (lines : List Line) (w : World) → b.motes ≡ place.motes → b.motes ≤ most_motes → b.world ≡ None → place.ready ≡ false → place.links ≡ [] → LinesFit place lines → (begin_behind b lines).world ≡ Some w
-    → Begun (begin_behind b lines) w (items_behind place None lines) (place_behind place lines) (cut_behind None lines)
-unfolding LinesFit begin_behind items_behind place_behind cut_behind
-begins b place [] w count few none before alone h is = absurd (let e : None ≡ Some w = sym none ∙ is in cc)
-begins b place (Nothing ∷ lines) w count few none before alone h is = begins b place lines w count few none before alone h.3 is
-begins b place (Motes n ∷ lines) w count few none before alone h is = begins (begin_by b (Motes n)) (place_after place (Motes n)) lines w refl h.1.1 none before alone h.3 is
-begins b place (Golden name used content ∷ lines) w count few none before alone h is =
-    let c : Beginning = begin_by b (Golden name used content) in
-    let there : Place = place_after place (Golden name used content) in
-    let golden : Formatted = record { name = name; used = used; content = content } in
-    let some : 0 < place.motes = (second_at place h.0.fits).1 in
-    let k : Carries b.motes golden (begin_behind c lines) = carries b.motes golden c there lines (record { ready = refl; some = some }) (sym count) h.3 (record { links = []; fit = tt; world = refl; count = refl }) in
-    let kept : IsKept b.motes there None = record { behind = record { ready = refl; some = some }; count = sym count; waits = tt; links = subst (AllByRecursion (LinkFits b.motes)) (sym alone) tt } in
+-- the line that opens the boards was read
+opened : (g : Ground) (all : List Line) (b : Beginning) (place : Place) (line : Line) (lines : List Line) (w : World) (table : List Row) (stores : List Store) → (begin_by g b line).motes ≡ b.motes → (begin_by g b line).world ≡ Some (first_world table [] stores)
+    → (place_after place line).motes ≡ place.motes → (place_after place line).ready ≡ true → (place_after place line).links ≡ place.links → b.motes ≡ place.motes → b.motes ≤ most_motes → place.links ≡ [] → 0 < place.motes → OpensBy g all b.motes table stores
+    → LinesFit (place_after place line) lines → (begin_behind g (begin_by g b line) lines).world ≡ Some w
+    → Begun g all (begin_behind g (begin_by g b line) lines) w (items_behind (place_after place line) None lines) (place_behind (place_after place line) lines) (cut_behind None lines)
+opened g all b place line lines w table stores same begins_so many ready alike count few alone some opens h is =
+    let c : Beginning = begin_by g b line in
+    let there : Place = place_after place line in
+    let at : there.motes ≡ b.motes = many ∙ sym count in
+    let behind : IsBehind there = record { ready = ready; some = subst (λ (n : ℕ). 0 < n) (sym many) some } in
+    let k : Carries b.motes table stores (begin_behind g c lines) = carries b.motes table stores g c there lines behind at h (record { links = []; fit = tt; world = begins_so; count = same }) in
+    let kept : IsKept b.motes there None = record { behind = behind; count = at; waits = tt; links = subst (AllByRecursion (LinkFits b.motes)) (sym (alike ∙ alone)) tt } in
     record {
-      golden = golden;
-      is_golden = h.1;
+      table = table;
+      stores = stores;
+      opens = subst (λ (n : ℕ). OpensBy g all n table stores) (sym k.count) opens;
       links = k.links;
       links_fit = subst (λ (n : ℕ). AllByRecursion (LinkFits n) k.links) (sym k.count) k.fit;
-      world = some_is w (linked_world b.motes golden k.links) (sym is ∙ k.world) ∙ ap (λ (n : ℕ). linked_world n golden k.links) (sym k.count);
+      world = some_is w (first_world table k.links stores) (sym is ∙ k.world);
       few = subst (λ (n : ℕ). n ≤ most_motes) (sym k.count) few;
-      ranges = subst (λ (n : ℕ). AllByRecursion (ItemInRange n) (items_behind there None lines)) (sym k.count) (in_range b.motes there None lines kept h.3);
-      kept = subst (λ (n : ℕ). IsKept n (place_behind there lines) (cut_behind None lines)) (sym k.count) (kept_behind b.motes there None lines kept h.3);
+      ranges = subst (λ (n : ℕ). AllByRecursion (ItemInRange n) (items_behind there None lines)) (sym k.count) (in_range b.motes there None lines kept h);
+      kept = subst (λ (n : ℕ). IsKept n (place_behind there lines) (cut_behind None lines)) (sym k.count) (kept_behind b.motes there None lines kept h);
     }
-begins b place (Boards ∷ lines) w count few none before alone h is = unplayed h.2
-begins b place (Link x y ∷ lines) w count few none before alone h is = false_not place.ready (link_at place x y h.0).0.0 before
-begins b place (Image image version name content ∷ lines) w count few none before alone h is = false_not place.ready (later_at place h.0.fits).0 before
-begins b place (Cut c ∷ lines) w count few none before alone h is = false_not place.ready (later_at place h.0.fits).0 before
-begins b place (Happens event ∷ lines) w count few none before alone h is = false_not place.ready (event_at place event h.0).0 before
-begins b place (Round x y ∷ lines) w count few none before alone h is = false_not place.ready (later_at place h.0.fits).0 before
-begins b place (Sweeps n ∷ lines) w count few none before alone h is = false_not place.ready (later_at place h.0.fits).0 before
+
+-- before that line, where no more than the number of motes is known
+begins : (g : Ground) (all : List Line) (b : Beginning) (place : Place) (lines : List Line) (w : World) → (UsesBoards lines → UsesBoards all) → b.motes ≡ place.motes → b.motes ≤ most_motes → b.world ≡ None → place.ready ≡ false → place.links ≡ [] → LinesFit place lines
+    → (begin_behind g b lines).world ≡ Some w → Begun g all (begin_behind g b lines) w (items_behind place None lines) (place_behind place lines) (cut_behind None lines)
+unfolding LinesFit begin_behind items_behind place_behind cut_behind
+begins g all b place [] w among count few none before alone h is = absurd (let e : None ≡ Some w = sym none ∙ is in cc)
+begins g all b place (Nothing ∷ lines) w among count few none before alone h is = begins g all b place lines w among count few none before alone h.3 is
+begins g all b place (Motes n ∷ lines) w among count few none before alone h is = begins g all (begin_by g b (Motes n)) (place_after place (Motes n)) lines w among refl h.1.1 none before alone h.3 is
+begins g all b place (Golden name used content ∷ lines) w among count few none before alone h is =
+    opened g all b place (Golden name used content) lines w (golden_row name content ∷ []) (replicate b.motes (fresh name content used)) refl refl refl refl refl count few alone (second_at place h.0.fits).1
+    (inl (record { golden = record { name = name; used = used; content = content }; is_golden = h.1; table_is = refl; stores_are = refl })) h.3 is
+begins g all b place (Boards ∷ lines) w among count few none before alone h is =
+    opened g all b place Boards lines w g.table g.stores refl refl refl refl refl count few alone (second_at place h.0.fits).1 (inr (record { uses = among refl; table_is = refl; stores_are = refl })) h.3 is
+begins g all b place (Link x y ∷ lines) w among count few none before alone h is = false_not place.ready (link_at place x y h.0).0.0 before
+begins g all b place (Image image version name content ∷ lines) w among count few none before alone h is = false_not place.ready (later_at place h.0.fits).0 before
+begins g all b place (Cut c ∷ lines) w among count few none before alone h is = false_not place.ready (later_at place h.0.fits).0 before
+begins g all b place (Happens event ∷ lines) w among count few none before alone h is = false_not place.ready (event_at place event h.0).0 before
+begins g all b place (Round x y ∷ lines) w among count few none before alone h is = false_not place.ready (later_at place h.0.fits).0 before
+begins g all b place (Sweeps n ∷ lines) w among count few none before alone h is = false_not place.ready (later_at place h.0.fits).0 before
 
 played_ranges : (motes : ℕ) (played : List Played) → AllByRecursion (ItemInRange motes) (map item_played played) → AllByRecursion (IsInRange motes) played
 played_ranges motes [] h = tt
@@ -330,7 +359,20 @@ all_rest : {A : Type 0} (P : A → Type 0) (xs ys : List A) → AllByRecursion P
 all_rest P [] ys h = h
 all_rest P (x ∷ xs) ys h = all_rest P xs ys h.1
 
--- what was played of a script plays golden, with which it begins, and what is left of the line that was begun is in its ranges
+-- What was played of a script begins with chips that are formatted or as they are, and what is left of the line that was begun is in its ranges.
+record ScriptRun (g : Ground) (lines : List Line) (b : Beginning) (left : List Item) (played : List Played) (v : World) : Type 0 where
+  table : List Row
+  stores : List Store
+  opens : OpensBy g lines b.motes table stores
+  links : List (ℕ × ℕ)
+  begins : b.world ≡ Some (first_world table links stores)
+  plays : Plays (first_world table links stores) played v
+  few : b.motes ≤ most_motes
+  links_fit : AllByRecursion (LinkFits b.motes) links
+  ranges : AllByRecursion (IsInRange b.motes) played
+  left_fits : AllByRecursion (ItemInRange b.motes) left
+
+-- one that plays golden
 pub record GoldenRun (b : Beginning) (left : List Item) (played : List Played) (v : World) : Type 0 where
   pub name : List ℕ
   pub bytes : List ℕ
@@ -340,6 +382,12 @@ pub record GoldenRun (b : Beginning) (left : List Item) (played : List Played) (
   pub plays : PlaysGolden name bytes used b.motes links played v
   pub left_fits : AllByRecursion (ItemInRange b.motes) left
 
+-- and one over the boards as they are
+record BoardsRun (g : Ground) (b : Beginning) (left : List Item) (played : List Played) (v : World) : Type 0 where
+  links : List (ℕ × ℕ)
+  plays : PlaysBoards g.table g.stores links played v
+  left_fits : AllByRecursion (ItemInRange b.motes) left
+
 golden_is_row : (golden : Formatted) → IsGolden golden.name golden.used golden.content → IsRow (golden_row golden.name golden.content)
 golden_is_row golden h =
     record { image = omega arith; version = omega arith; version_fits = omega arith; name = h.name; some = h.some; fits = omega (arith, h.fits); bytes = h.bytes }
@@ -348,109 +396,188 @@ next_in_range : (motes : ℕ) (done rest : List Line) → IsKept motes (place_be
 next_in_range motes done [] k h = tt
 next_in_range motes done (line ∷ rest) k h = line_in_range motes (place_behind first_place done) (cut_behind None done) line k (first_fits _ line rest h)
 
-abbrev BegunBehind : Beginning → World → List Line → Type 0
-BegunBehind b w done = Begun b w (items_of done) (place_behind first_place done) (cut_behind None done)
+abbrev BegunBehind : Ground → Beginning → World → List Line → Type 0
+BegunBehind g b w done = Begun g done b w (items_of done) (place_behind first_place done) (cut_behind None done)
 
-golden_by : (b : Beginning) (o : Option World) (done rest : List Line) (begun left : List Item) (played : List Played) (v : World) → b.world ≡ o → ((w : World) → b.world ≡ Some w → BegunBehind b w done) → LinesFit (place_behind first_place done) rest
-    → next_items done rest ≡ begun ++ left → map item_played played ≡ items_of done ++ begun → RunsTo o played (Some v) → GoldenRun b left played v
-golden_by b None done rest begun left played v is begins_so next parts items (none, last) = absurd (let e : Some v ≡ None = last in cc)
-golden_by b (Some w) done rest begun left played v is begins_so next parts items (u, last, plays) =
+run_by : (g : Ground) (b : Beginning) (o : Option World) (done rest : List Line) (begun left : List Item) (played : List Played) (v : World) → b.world ≡ o → ((w : World) → b.world ≡ Some w → BegunBehind g b w done) → LinesFit (place_behind first_place done) rest
+    → next_items done rest ≡ begun ++ left → map item_played played ≡ items_of done ++ begun → RunsTo o played (Some v) → ScriptRun g done b left played v
+run_by g b None done rest begun left played v is begins_so next parts items (none, last) = absurd (let e : Some v ≡ None = last in cc)
+run_by g b (Some w) done rest begun left played v is begins_so next parts items (u, last, plays) =
     let x = begins_so w is in
-    let here : Plays (linked_world b.motes x.golden x.links) played v = subst (λ (z : World). Plays (linked_world b.motes x.golden x.links) played z) (sym (some_is v u last)) (subst (λ (z : World). Plays z played u) x.world plays) in
+    let here : Plays (first_world x.table x.links x.stores) played v =
+    subst (λ (z : World). Plays (first_world x.table x.links x.stores) played z) (sym (some_is v u last)) (subst (λ (z : World). Plays z played u) x.world plays) in
     let line : AllByRecursion (ItemInRange b.motes) (begun ++ left) = subst (AllByRecursion (ItemInRange b.motes)) parts (next_in_range b.motes done rest x.kept next) in
     let all : AllByRecursion (ItemInRange b.motes) (items_of done ++ begun) = all_append (ItemInRange b.motes) (items_of done) begun x.ranges (all_front (ItemInRange b.motes) begun left line) in
     record {
-      name = x.golden.name;
-      bytes = x.golden.content;
-      used = x.golden.used;
+      table = x.table;
+      stores = x.stores;
+      opens = x.opens;
       links = x.links;
       begins = is ∙ ap Some x.world;
-      plays = record {
-        is_row = golden_is_row x.golden x.is_golden;
-        plays = here;
-        few = x.few;
-        links_fit = x.links_fit;
-        ranges = played_ranges b.motes played (subst (AllByRecursion (ItemInRange b.motes)) (sym items) all);
-      };
+      plays = here;
+      few = x.few;
+      links_fit = x.links_fit;
+      ranges = played_ranges b.motes played (subst (AllByRecursion (ItemInRange b.motes)) (sym items) all);
       left_fits = all_rest (ItemInRange b.motes) begun left line;
     }
 
 -- These lines were done, and the first items of the next one were played.
-pub golden_run : (done rest : List Line) (begun left : List Item) (played : List Played) (v : World) → LinesFit first_place done → LinesFit (place_behind first_place done) rest → next_items done rest ≡ begun ++ left
-    → map item_played played ≡ items_of done ++ begun → RunsTo (beginning_of done).world played (Some v) → GoldenRun (beginning_of done) left played v
-golden_run done rest begun left played v fit next parts items run =
-    golden_by (beginning_of done) (beginning_of done).world done rest begun left played v refl (λ w is. begins no_beginning first_place done w refl (omega arith) refl refl refl fit is) next parts items run
+script_run : (g : Ground) (done rest : List Line) (begun left : List Item) (played : List Played) (v : World) → LinesFit first_place done → LinesFit (place_behind first_place done) rest → next_items done rest ≡ begun ++ left
+    → map item_played played ≡ items_of done ++ begun → RunsTo (beginning_of g done).world played (Some v) → ScriptRun g done (beginning_of g done) left played v
+script_run g done rest begun left played v fit next parts items run =
+    run_by g (beginning_of g done) (beginning_of g done).world done rest begun left played v refl (λ w is. begins g done no_beginning first_place done w (λ h. h) refl (omega arith) refl refl refl fit is) next parts items run
 
--- ---- what holds of every run of a script with golden
+golden_of : (g : Ground) (lines : List Line) (b : Beginning) (left : List Item) (played : List Played) (v : World) (r : ScriptRun g lines b left played v) → ByGolden b.motes r.table r.stores → GoldenRun b left played v
+golden_of g lines b left played v r by =
+    let same : first_world r.table r.links r.stores ≡ first_world (golden_row by.golden.name by.golden.content ∷ []) r.links (replicate b.motes (fresh by.golden.name by.golden.content by.golden.used)) =
+    ap (λ (t : List Row). first_world t r.links r.stores) by.table_is ∙ ap (first_world (golden_row by.golden.name by.golden.content ∷ []) r.links) by.stores_are in
+    record {
+      name = by.golden.name;
+      bytes = by.golden.content;
+      used = by.golden.used;
+      links = r.links;
+      begins = r.begins ∙ ap Some same;
+      plays = record {
+        is_row = golden_is_row by.golden by.is_golden;
+        plays = subst (λ (z : World). Plays z played v) same r.plays;
+        few = r.few;
+        links_fit = r.links_fit;
+        ranges = r.ranges;
+      };
+      left_fits = r.left_fits;
+    }
+
+boards_of : (g : Ground) (lines : List Line) (b : Beginning) (left : List Item) (played : List Played) (v : World) (r : ScriptRun g lines b left played v) → ByBoards g lines r.table r.stores → length g.stores ≡ b.motes → AreShaped g.stores → BoardsRun g b left played v
+boards_of g lines b left played v r by count shaped =
+    let same : first_world r.table r.links r.stores ≡ first_world g.table r.links g.stores = ap (λ (t : List Row). first_world t r.links r.stores) by.table_is ∙ ap (first_world g.table r.links) by.stores_are in
+    record {
+      links = r.links;
+      plays = record {
+        shaped = shaped;
+        plays = subst (λ (z : World). Plays z played v) same r.plays;
+        few = subst (λ (n : ℕ). n ≤ most_motes) (sym count) r.few;
+        links_fit = subst (λ (n : ℕ). AllByRecursion (LinkFits n) r.links) (sym count) r.links_fit;
+        ranges = subst (λ (n : ℕ). AllByRecursion (IsInRange n) played) (sym count) r.ranges;
+      };
+      left_fits = r.left_fits;
+    }
+
+-- without a `boards` line it plays golden
+pub golden_run : (g : Ground) (done rest : List Line) (begun left : List Item) (played : List Played) (v : World) → (UsesBoards done → ⊥) → LinesFit first_place done → LinesFit (place_behind first_place done) rest → next_items done rest ≡ begun ++ left
+    → map item_played played ≡ items_of done ++ begun → RunsTo (beginning_of g done).world played (Some v) → GoldenRun (beginning_of g done) left played v
+golden_run g done rest begun left played v alone fit next parts items run =
+    let r = script_run g done rest begun left played v fit next parts items run in
+    elim r.opens [ inl by ↦ golden_of g done (beginning_of g done) left played v r by | inr by ↦ absurd (alone by.uses) ]
+
+-- ---- what holds of every run of a script
 
 pub script_of_fits : (input : List ℕ) → LinesFit first_place (script_of input).lines
 unfolding script_of
 script_of_fits input = script_fits _ first_place 1 _
-
--- a law of all that plays golden, which holds of nothing too, holds of what was played of a script
-promised : (P : List Played → Option World → Type 0) → P [] None → ((name bytes : List ℕ) (used motes : ℕ) (links : List (ℕ × ℕ)) (played : List Played) (v : World) → PlaysGolden name bytes used motes links played v → P played (Some v))
-    → (done rest : List Line) (begun left : List Item) (played : List Played) (last : Option World) → LinesFit first_place (done ++ rest) → next_items done rest ≡ begun ++ left → map item_played played ≡ items_of done ++ begun
-    → RunsTo (beginning_of done).world played last → P played last
-promised P none law done rest begun left played None fit parts items run = subst (λ (ps : List Played). P ps None) (sym (runs_from_none (beginning_of done).world played run).1) none
-promised P none law done rest begun left played (Some v) fit parts items run =
-    let g = golden_run done rest begun left played v (front_fits first_place done rest fit) (rest_fits first_place done rest fit) parts items run in
-    law g.name g.bytes g.used (beginning_of done).motes g.links played v g.plays
-
-pub holds_of_worlds : (P : List Played → Option World → Type 0) → P [] None → ((name bytes : List ℕ) (used motes : ℕ) (links : List (ℕ × ℕ)) (played : List Played) (v : World) → PlaysGolden name bytes used motes links played v → P played (Some v))
-    → (input : List ℕ) (c : Progress (script_of input)) → P c.played c.last
-holds_of_worlds P none law input c = promised P none law c.done c.rest c.begun c.left c.played c.last (subst (LinesFit first_place) (sym c.lines) (script_of_fits input)) c.parts c.items c.run
-
-pub holds_of_runs : (P : List Played → Type 0) → P [] → ((name bytes : List ℕ) (used motes : ℕ) (links : List (ℕ × ℕ)) (played : List Played) (v : World) → PlaysGolden name bytes used motes links played v → P played)
-    → (input : List ℕ) (c : Progress (script_of input)) → P c.played
-holds_of_runs P none law input c = holds_of_worlds (λ ps last. P ps) none law input c
 
 -- what is played over honest frames is played from a world that agrees with its table, with true events
 abbrev pub GoldenWay : Type 0
 GoldenWay = (name bytes : List ℕ) (used motes : ℕ) (links : List (ℕ × ℕ)) (played : List Played) (v : World) → PlaysGolden name bytes used motes links played v
     → AllByRecursion IsHonestThen played → PlaysFrom (first_world (golden_row name bytes ∷ []) links (replicate motes (fresh name bytes used))) played v
 
--- so what holds of all that is played from such a world holds of every run of a script
-pub honest_runs : GoldenWay → (P : List Played → Type 0) → P [] → ((u v : World) (played : List Played) → PlaysFrom u played v → P played) → (input : List ℕ) (c : Progress (script_of input)) → AllByRecursion IsHonestThen c.played → P c.played
-honest_runs way P none law =
-    holds_of_runs (λ ps. AllByRecursion IsHonestThen ps → P ps) (λ honest. none)
-    (λ name bytes used motes links played v plays honest.
-    law (first_world (golden_row name bytes ∷ []) links (replicate motes (fresh name bytes used))) v played (way name bytes used motes links played v plays honest))
+-- so is what holds to a table, over boards that agree with it
+abbrev pub BoardsWay : Type 0
+BoardsWay = (table : List Row) (stores : List Store) (links : List (ℕ × ℕ)) (played : List Played) (v : World) → PlaysBoards table stores links played v
+    → StoresAgree table stores → AllByRecursion (HoldsToThen table) played → PlaysFrom (first_world table links stores) played v
 
--- where it ends with a rest of enough sweeps
-pub ended_complete : GoldenWay → EndsLaw → (input : List ℕ) (c : Progress (script_of input)) (w v : World) (n k : ℕ) → AllByRecursion IsHonestThen c.played → c.last ≡ Some v → EndsInRest c.played w n v → IsEnough w k → k ≤ n → KeepsNewest v
-ended_complete way law input c w v n k honest is ends enough most =
-    let P : List Played → Option World → Type 0 = λ ps last. AllByRecursion IsHonestThen ps → last ≡ Some v → EndsInRest ps w n v → KeepsNewest v in
-    holds_of_worlds P (λ h e. absurd (let f : None ≡ Some v = e in cc)) (λ name bytes used motes links played u plays h e rests.
-    law (first_world (golden_row name bytes ∷ []) links (replicate motes (fresh name bytes used))) played w v n k
-    (way name bytes used motes links played v (subst (PlaysGolden name bytes used motes links played) (some_is u v e) plays) h) rests enough most) input c honest is ends
+pub record Ways : Type 0 where
+  pub golden : GoldenWay
+  pub boards : BoardsWay
 
--- where it ends with a rest of any number of sweeps
-pub ended_pipelined : GoldenWay → EndsPipelineLaw → (input : List ℕ) (c : Progress (script_of input)) (w v : World) (t : ℕ) → AllByRecursion IsHonestThen c.played → c.last ≡ Some v → EndsInRest c.played w t v → PagesCome w t v
-ended_pipelined way law input c w v t honest is ends =
-    let P : List Played → Option World → Type 0 = λ ps last. AllByRecursion IsHonestThen ps → last ≡ Some v → EndsInRest ps w t v → PagesCome w t v in
-    holds_of_worlds P (λ h e. absurd (let f : None ≡ Some v = e in cc)) (λ name bytes used motes links played u plays h e rests.
-    law (first_world (golden_row name bytes ∷ []) links (replicate motes (fresh name bytes used))) played w v t
-    (way name bytes used motes links played v (subst (PlaysGolden name bytes used motes links played) (some_is u v e) plays) h) rests) input c honest is ends
+-- it is played from some world
+record FromSome (played : List Played) (v : World) : Type 0 where
+  first : World
+  from : PlaysFrom first played v
+
+pub boards_ground : {table : List Row} (input : List ℕ) (c : Progress table (script_of input)) → UsesBoards c.done → (length c.ground.stores ≡ (beginning_of c.ground c.done).motes) × AreShaped c.ground.stores
+boards_ground {table} input c uses =
+    let there = c.grounded uses in
+    (there.count ∙ motes_same _ c.ground no_beginning no_beginning c.done refl, there.shaped)
+
+module _ {table : List Row} (input : List ℕ) (c : Progress table (script_of input)) where
+  fits_all : LinesFit first_place (c.done ++ c.rest)
+  fits_all = subst (LinesFit first_place) (sym c.lines) (script_of_fits input)
+
+  run_at : (v : World) → c.last ≡ Some v → ScriptRun c.ground c.done (beginning_of c.ground c.done) c.left c.played v
+  run_at v is =
+      script_run c.ground c.done c.rest c.begun c.left c.played v (front_fits first_place c.done c.rest fits_all) (rest_fits first_place c.done c.rest fits_all) c.parts c.items
+      (subst (λ (o : Option World). RunsTo (beginning_of c.ground c.done).world c.played o) is c.run)
+
+  boards_at : (v : World) (r : ScriptRun c.ground c.done (beginning_of c.ground c.done) c.left c.played v) → ByBoards c.ground c.done r.table r.stores → BoardsRun c.ground (beginning_of c.ground c.done) c.left c.played v
+  boards_at v r by =
+      let there = boards_ground input c by.uses in
+      boards_of c.ground c.done (beginning_of c.ground c.done) c.left c.played v r by there.0 there.1
+
+  pub golden_at_end : (UsesBoards c.done → ⊥) → (v : World) → c.last ≡ Some v → GoldenRun (beginning_of c.ground c.done) c.left c.played v
+  golden_at_end alone v is =
+      let r = run_at v is in elim r.opens [ inl by ↦ golden_of c.ground c.done (beginning_of c.ground c.done) c.left c.played v r by | inr by ↦ absurd (alone by.uses) ]
+
+  from_at : Ways → FramesAreHonest c → (v : World) → c.last ≡ Some v → FromSome c.played v
+  from_at ways honest v is =
+      let r = run_at v is in
+      elim r.opens [
+        | inl by ↦
+            let run = golden_of c.ground c.done (beginning_of c.ground c.done) c.left c.played v r by in
+            record { first = _; from = ways.golden run.name run.bytes run.used (beginning_of c.ground c.done).motes run.links c.played v run.plays honest.frames }
+        | inr by ↦
+            let run = boards_at v r by in
+            record { first = _; from = ways.boards c.ground.table c.ground.stores run.links c.played v run.plays (honest.agree by.uses) (honest.hold by.uses) }
+      ]
+
+  -- nothing was played, or it leads to a world
+  pub nothing_or : (P : List Played → Option World → Type 0) → P [] None → ((v : World) → c.last ≡ Some v → P c.played (Some v)) → P c.played c.last
+  nothing_or P none some = by_last c.last refl
+    where
+      by_last : (o : Option World) → c.last ≡ o → P c.played c.last
+      by_last None is =
+          let run : RunsTo (beginning_of c.ground c.done).world c.played None = subst (λ (o : Option World). RunsTo (beginning_of c.ground c.done).world c.played o) is c.run in
+          subst (λ (o : Option World). P c.played o) (sym is) (subst (λ (ps : List Played). P ps None) (sym (runs_from_none (beginning_of c.ground c.done).world c.played run).1) none)
+      by_last (Some v) is = subst (λ (o : Option World). P c.played o) (sym is) (some v is)
+
+  -- what holds of all that is played from a world that agrees, and of nothing, holds of what was played of a script over honest frames
+  pub honest_worlds : Ways → (P : List Played → Option World → Type 0) → P [] None → ((u v : World) (played : List Played) → PlaysFrom u played v → P played (Some v)) → FramesAreHonest c → P c.played c.last
+  honest_worlds ways P none law honest = nothing_or P none (λ v is. let x = from_at ways honest v is in law x.first v c.played x.from)
+
+  pub honest_runs : Ways → (P : List Played → Type 0) → P [] → ((u v : World) (played : List Played) → PlaysFrom u played v → P played) → FramesAreHonest c → P c.played
+  honest_runs ways P none law honest = honest_worlds ways (λ ps last. P ps) none law honest
+
+  -- where it ends with a rest of enough sweeps
+  pub ended_complete : Ways → EndsLaw → (w v : World) (n k : ℕ) → FramesAreHonest c → c.last ≡ Some v → EndsInRest c.played w n v → IsEnough w k → k ≤ n → KeepsNewest v
+  ended_complete ways law w v n k honest is ends enough most = let x = from_at ways honest v is in law x.first c.played w v n k x.from ends enough most
+
+  -- where it ends with a rest of any number of sweeps
+  pub ended_pipelined : Ways → EndsPipelineLaw → (w v : World) (t : ℕ) → FramesAreHonest c → c.last ≡ Some v → EndsInRest c.played w t v → PagesCome w t v
+  ended_pipelined ways law w v t honest is ends = let x = from_at ways honest v is in law x.first c.played w v t x.from ends
 
 -- ---- the next event, wherever it is stopped
 
-abbrev pub HalvesLaw : Type 0
-HalvesLaw = (name bytes : List ℕ) (used motes : ℕ) (links : List (ℕ × ℕ)) (played : List Played) (v : World) (e : Event) → PlaysGolden name bytes used motes links played v
-    → AllByRecursion IsHonestThen played → EventFits motes e → HonestEvent v.table e → StopsAgree v e
+pub record HalvesLaws : Type 0 where
+  pub golden : (name bytes : List ℕ) (used motes : ℕ) (links : List (ℕ × ℕ)) (played : List Played) (v : World) (e : Event) → PlaysGolden name bytes used motes links played v
+      → AllByRecursion IsHonestThen played → EventFits motes e → HonestEvent v.table e → StopsAgree v e
+  pub boards : (table : List Row) (stores : List Store) (links : List (ℕ × ℕ)) (played : List Played) (v : World) (e : Event) → PlaysBoards table stores links played v
+      → StoresAgree table stores → AllByRecursion (HoldsToThen table) played → EventFits (length stores) e → HoldsTo table v e → StopsAgree v e
 
-golden_halves : HalvesLaw → (b : Beginning) (left : List Item) (played : List Played) (w : World) (step : Step) (loud : Bool) (more : List Item) → GoldenRun b left played w → AllByRecursion IsHonestThen played → left ≡ Happened step loud ∷ more
-    → HonestEvent w.table step.event → StopsAgree w step.event
-golden_halves law b left played w step loud more g honest is here =
-    let fits : AllByRecursion (ItemInRange b.motes) (Happened step loud ∷ more) = subst (AllByRecursion (ItemInRange b.motes)) is g.left_fits in
-    law g.name g.bytes g.used b.motes g.links played w step.event g.plays honest fits.0.event here
-
-pub halves_agree : HalvesLaw → (input : List ℕ) (c : Progress (script_of input)) (w : World) (step : Step) (loud : Bool) (more : List Item) → AllByRecursion IsHonestThen c.played → c.last ≡ Some w → c.left ≡ Happened step loud ∷ more
-    → HonestEvent w.table step.event → StopsAgree w step.event
-halves_agree law input c w step loud more honest is next here =
-    let fit = subst (LinesFit first_place) (sym c.lines) (script_of_fits input) in
-    let run = subst (λ (o : Option World). RunsTo (beginning_of c.done).world c.played o) is c.run in
-    let g = golden_run c.done c.rest c.begun c.left c.played w (front_fits first_place c.done c.rest fit) (rest_fits first_place c.done c.rest fit) c.parts c.items run in
-    golden_halves law (beginning_of c.done) c.left c.played w step loud more g honest next here
+pub halves_agree : {table : List Row} → HalvesLaws → (input : List ℕ) (c : Progress table (script_of input)) (w : World) (step : Step) (loud : Bool) (more : List Item) → FramesAreHonest c → c.last ≡ Some w → c.left ≡ Happened step loud ∷ more
+    → HonestEvent w.table step.event → (UsesBoards c.done → HoldsTo c.ground.table w step.event) → StopsAgree w step.event
+halves_agree laws input c w step loud more honest is next here holds =
+    let b = beginning_of c.ground c.done in
+    let r = run_at input c w is in
+    elim r.opens [
+      | inl by ↦
+          let run = golden_of c.ground c.done b c.left c.played w r by in
+          let fits : AllByRecursion (ItemInRange b.motes) (Happened step loud ∷ more) = subst (AllByRecursion (ItemInRange b.motes)) next run.left_fits in
+          laws.golden run.name run.bytes run.used b.motes run.links c.played w step.event run.plays honest.frames fits.0.event here
+      | inr by ↦
+          let run = boards_at input c w r by in
+          let fits : AllByRecursion (ItemInRange b.motes) (Happened step loud ∷ more) = subst (AllByRecursion (ItemInRange b.motes)) next run.left_fits in
+          laws.boards c.ground.table c.ground.stores run.links c.played w step.event run.plays (honest.agree by.uses) (honest.hold by.uses)
+          (subst (λ (n : ℕ). EventFits n step.event) (sym (boards_ground input c by.uses).0) fits.0.event) (holds by.uses)
+    ]
 
 -- ---- lines that bring no frame from outside
 
@@ -518,34 +645,37 @@ played_honest : (played : List Played) → AllByRecursion HonestAlways (map item
 played_honest [] h = tt
 played_honest (p ∷ ps) h = (h.0 p.before, played_honest ps h.1)
 
-pub progress_honest : (spells : Script) (c : Progress spells) → AllByRecursion IsNoFrame c.done → AllByRecursion IsHonestThen c.played
-progress_honest spells c none =
+frames_honest : {table : List Row} (spells : Script) (c : Progress table spells) → AllByRecursion IsNoFrame c.done → AllByRecursion IsHonestThen c.played
+frames_honest spells c none =
     played_honest c.played (subst (AllByRecursion HonestAlways) (sym c.items) (all_append HonestAlways (items_of c.done) c.begun (items_honest first_place None c.done none) (begun_honest c.done c.rest c.begun c.left c.parts c.within)))
+
+pub progress_honest : {table : List Row} (spells : Script) (c : Progress table spells) → AllByRecursion IsNoFrame c.done → (UsesBoards c.done → ⊥) → FramesAreHonest c
+progress_honest spells c none alone = record { frames = frames_honest spells c none; agree = λ uses. absurd (alone uses); hold = λ uses. absurd (alone uses) }
 
 -- ---- no event lacks an image
 
 abbrev pub ImageIsFound : Type 0
 ImageIsFound = (name bytes : List ℕ) (used motes : ℕ) (links : List (ℕ × ℕ)) (played : List Played) (v : World) (e : Event) → PlaysGolden name bytes used motes links played v → EventFits motes e → FindsImage (does v e)
 
-golden_finds : ImageIsFound → (b : Beginning) (left : List Item) (played : List Played) (u : World) → GoldenRun b left played u → LacksImage u left → ⊥
-golden_finds law b left played u g lacks =
+golden_finds : ImageIsFound → (b : Beginning) (left : List Item) (played : List Played) (u : World) (old new : List Device) → GoldenRun b left played u → LacksImage u left old new → ⊥
+golden_finds law b left played u old new g lacks =
     let fits : AllByRecursion (ItemInRange b.motes) (Happened lacks.next.step lacks.next.loud ∷ lacks.next.more) = subst (AllByRecursion (ItemInRange b.motes)) lacks.next.is g.left_fits in
     let finds : FindsImage (does u lacks.next.step.event) = law g.name g.bytes g.used b.motes g.links played u lacks.next.step.event g.plays fits.0.event in
     let some : FindsImage (Goes lacks.ends.deed) = subst FindsImage lacks.ends.goes finds in
     some lacks.ends.none
 
-line_finds : ImageIsFound → (done : List Line) (line : Line) (played : List Played) (last world : Option World) (begun left : List Item) (text : List ℕ) → LinesFit first_place done → IsSpelled (place_behind first_place done) line → map item_played played ≡ items_of done
-    → RunsTo (beginning_of done).world played last → item_by (place_behind first_place done) (cut_behind None done) line ≡ begun ++ left → RunsFrom last begun world text → InSome world (λ u. LacksImage u left) → ⊥
-line_finds law done line played None world begun left text fit spelled items run parts runs lacks = subst (λ (o : Option World). InSome o (λ u. LacksImage u left)) runs.1 lacks
-line_finds law done line played (Some w) world begun left text fit spelled items run parts (u, is, now) lacks =
+line_finds : ImageIsFound → (g : Ground) (done : List Line) (line : Line) (played : List Played) (last world : Option World) (begun left : List Item) (text : List ℕ) (old new : List Device) → (UsesBoards done → ⊥) → LinesFit first_place done → IsSpelled (place_behind first_place done) line → map item_played played ≡ items_of done
+    → RunsTo (beginning_of g done).world played last → item_by (place_behind first_place done) (cut_behind None done) line ≡ begun ++ left → RunsFrom last begun world text → InSome world (λ u. LacksImage u left old new) → ⊥
+line_finds law ground done line played None world begun left text old new alone fit spelled items run parts runs lacks = subst (λ (o : Option World). InSome o (λ u. LacksImage u left old new)) runs.1 lacks
+line_finds law ground done line played (Some w) world begun left text old new alone fit spelled items run parts (u, is, now) lacks =
     let more : map item_played (played ++ now.played) ≡ items_of done ++ begun =
     map-append item_played played now.played ∙ ap (λ (xs : List Item). xs ++ map item_played now.played) items ∙ ap (λ (xs : List Item). items_of done ++ xs) now.are in
-    let g = golden_run done (line ∷ []) begun left (played ++ now.played) u fit (one_fits _ line spelled) parts more (runs_append (beginning_of done).world w u played now.played run now.run) in
-    golden_finds law (beginning_of done) left (played ++ now.played) u g (subst (λ (o : Option World). InSome o (λ z. LacksImage z left)) is lacks)
+    let g = golden_run ground done (line ∷ []) begun left (played ++ now.played) u alone fit (one_fits _ line spelled) parts more (runs_append (beginning_of ground done).world w u played now.played run now.run) in
+    golden_finds law (beginning_of ground done) left (played ++ now.played) u old new g (subst (λ (o : Option World). InSome o (λ z. LacksImage z left old new)) is lacks)
 
-pub image_found : ImageIsFound → (ends : Bool) (spells : Script) (texts : List (List ℕ)) (n : ℕ) (p : Player) (initial now : List Device) (before mid : Option (List ℕ)) → LinesFit first_place spells.lines → (r : Reached ends spells texts n p initial now before mid)
-    → (text : List ℕ) → TextRead text p (λ line. LineBegun r.done line r.last (λ v left t. InSome v (λ u. LacksImage u left))) → ⊥
-image_found law ends spells texts n p initial now before mid fit r text read =
+pub image_found : {table : List Row} → ImageIsFound → (ends : Bool) (spells : Script) (texts : List (List ℕ)) (n : ℕ) (p : Player) (initial now : List Device) (before mid : Option (List ℕ)) → LinesFit first_place spells.lines → (r : Reached table ends spells texts n p initial now before mid) → (UsesBoards r.done → ⊥)
+    → (text : List ℕ) (old new : List Device) → TextRead text p (λ line. LineBegun r.done line r.last (λ v left t. InSome v (λ u. LacksImage u left old new))) → ⊥
+image_found law ends spells texts n p initial now before mid fit r alone text old new read =
     let begun = read.there in
     let spelled = subst (λ (place : Place). IsSpelled place read.line) r.stood.place (is_spelled p.place text read.line read.spelled) in
-    line_finds law r.done read.line r.played r.last begun.world begun.begun begun.left begun.text (front_fits first_place r.done _ (subst (LinesFit first_place) (sym r.lines) fit)) spelled r.items r.run begun.parts begun.runs begun.there
+    line_finds law r.ground r.done read.line r.played r.last begun.world begun.begun begun.left begun.text old new alone (front_fits first_place r.done _ (subst (LinesFit first_place) (sym r.lines) fit)) spelled r.items r.run begun.parts begun.runs begun.there

@@ -7,6 +7,7 @@ use Rattle.dg_base.specs.Outside.{Takes}
 use Rattle.dg_base.proofs.LineLemmas.{lines-last}
 use Rattle.dg_base.proofs.OutsideLemmas.{Takes-nil, Takes-join}
 use Rattle.dg_nor.specs.Device.{Device}
+use Rattle.dg_object.specs.Object.{Row}
 use Rattle.dg_rules.specs.World.{World}
 use Rattle.dg_script.specs.LineReading.{Reading, HasNoEnd, IsLine, IsLastLine, Gives, IsAtEnd, IsTooLong}
 use Rattle.dg_script.specs.Places.{first_place}
@@ -26,7 +27,7 @@ use Rattle.dg_replay.specs.declared.halt.Halt.{Halt}
 use Rattle.dg_replay.specs.declared.halt.Halt.TheVariants.{ReadFault, TooLong, Stopped}
 use Rattle.dg_replay.specs.declared.player.Player.{Player}
 use Rattle.dg_replay.specs.declared.stop.Stop.{Stop}
-use Rattle.dg_replay.specs.declared.stop.Stop.TheVariants.{Memory, BadInput, WriteFault, FlashFault, TooMany, NoBoard, NoImage}
+use Rattle.dg_replay.specs.declared.stop.Stop.TheVariants.{Memory, BadInput, WriteFault, FlashFault, TooMany, NoBoard, NoImage, NotAVolume}
 use Rattle.dg_replay.proofs.EndLemmas.{script_all, script_over, stop_ending, bounds_done}
 use Rattle.dg_replay.proofs.FollowingLemmas.{TextPlays}
 use Rattle.dg_replay.proofs.FrontLemmas.{lines_front, used_begins, script_begins, front_begins}
@@ -66,7 +67,7 @@ lines_first left reader p initial before none unread first place cut world = rec
 
 -- what is played of a text, from a player that stands behind lines
 abbrev pub PlaysText : Result (Unit {0}) Stop → (text : List ℕ) → (number : ℕ) → (p q : Player) → (initial old now : List Device) → (mid after : Option (List ℕ)) → (failed : Type 0) → Type 0
-PlaysText r text number p q initial old now mid after failed = (done : List Line) (w : Option World) → Stood p done w initial old → TextAnswer r text number p q done w initial old now mid after failed
+PlaysText r text number p q initial old now mid after failed = (done : List Line) (w : Option World) (table : List Row) → Stood p done w initial old → TextAnswer table r text number p q done w initial old now mid after failed
 
 -- the bytes that came behind the lines
 joined : (a b c : Option (List ℕ)) (front ahead more : List ℕ) → Takes a b (front ++ ahead) → Takes b c more → Takes a c (front ++ (ahead ++ more))
@@ -96,7 +97,7 @@ next_line a b c old new more line number p q initial was now before mid after at
       numbered = ap (λ k. k + 1) i.numbered;
       counted = g.number ∙ ap (λ k. k + 1) i.counted;
       few = omega (arith, g.passed, long, i.few, some);
-      played = front_next i.front new.text line i.given p q initial was now before mid after i.played l (λ done w s. told done w s);
+      played = front_next i.front new.text line i.given p q initial was now before mid after i.played l (λ done w table s. told done w table s);
     }
 
 pub lines_next : (a b c : Option (List ℕ)) (old new : Reading) (more : List ℕ) (number : ℕ) (p q : Player) (initial was now : List Device) (before mid after : Option (List ℕ)) (at_end failed : Type 0)
@@ -141,10 +142,10 @@ then_none : (n : ℕ) (bytes : List ℕ) → behind_lines n bytes ≡ [] → beh
 then_none n bytes e = behind_next n bytes ∙ ap behind_line e ∙ none_behind
 
 abbrev Comes : (a c : Option (List ℕ)) → Result (Player × ℕ) Halt → (at_end read_failed : Type 0) → (initial now : List Device) → (before after : Option (List ℕ)) → (write_failed : Type 0) → Type 0
-Comes a c r at_end reads initial now before after failed = (bytes : List ℕ) × Takes a c bytes × InputAnswer r bytes at_end reads initial now before after failed
+Comes a c r at_end reads initial now before after failed = (bytes : List ℕ) × Takes a c bytes × ((table : List Row) → InputAnswer table r bytes at_end reads initial now before after failed)
 
-at_number : (script : Script) (n m : ℕ) (q : Player) (initial now : List Device) (before after : Option (List ℕ)) → n ≡ m → Reached true script [] m q initial now before after → Reached true script [] n q initial now before after
-at_number script n m q initial now before after e r = subst (λ k. Reached true script [] k q initial now before after) (sym e) r
+at_number : {table : List Row} (script : Script) (n m : ℕ) (q : Player) (initial now : List Device) (before after : Option (List ℕ)) → n ≡ m → Reached table true script [] m q initial now before after → Reached table true script [] n q initial now before after
+at_number {table} script n m q initial now before after e r = subst (λ k. Reached table true script [] k q initial now before after) (sym e) r
 
 -- the last line was read and played
 last_whole : (a c : Option (List ℕ)) (reads writes at_end : Type 0) (front line text : List ℕ) (given number : ℕ) (p q : Player) (initial was now : List Device) (before mid after : Option (List ℕ)) (failed : Type 0)
@@ -152,17 +153,17 @@ last_whole : (a c : Option (List ℕ)) (reads writes at_end : Type 0) (front lin
     → IsLine text line → PlaysText (Ok tt) text (given + 1) p q initial was now mid after failed → Comes a c (Ok (q, number + 1)) at_end reads initial now before after writes
 last_whole a c reads writes at_end front line text given number p q initial was now before mid after failed f numbered taken few ended l told =
     let input : List ℕ = front ++ line in
-    let next = front_next front text line given p q initial was now before mid after f l (λ done w s. told done w s) in
+    let next = front_next front text line given p q initial was now before mid after f l (λ done w table s. told done w table s) in
     let same : number + 1 ≡ given + 1 + 1 = ap (λ k. k + 1) numbered in
     let behind : behind_lines (given + 1) input ≡ [] = ap (behind_lines (given + 1)) (sym (append-nil input)) ∙ next.behind [] in
     let script : script_from true first_place 1 (lines input ++ []) ≡ script_of input = ap (λ (ls : List (List ℕ)). script_from true first_place 1 ls) (append-nil (lines input)) ∙ sym (script_all input few) in (
       input,
       taken,
-      (
+      λ table. (
         ended,
         few,
         ap (λ k. behind_lines k input) same ∙ then_none (given + 1) input behind,
-        at_number (script_of input) (number + 1) (given + 1 + 1) q initial now before after same (subst (λ (s : Script). Reached true s [] (given + 1 + 1) q initial now before after) script (next.reached true [])),
+        at_number (script_of input) (number + 1) (given + 1 + 1) q initial now before after same (subst (λ (s : Script). Reached table true s [] (given + 1 + 1) q initial now before after) script (next.reached table true [])),
       ),
     )
 
@@ -171,18 +172,18 @@ last_part : (a c : Option (List ℕ)) (reads writes at_end : Type 0) (front line
     → IsLastLine text line → PlaysText (Ok tt) text (given + 1) p q initial was now mid after failed → Comes a c (Ok (q, number + 1)) at_end reads initial now before after writes
 last_part a c reads writes at_end front line text given number p q initial was now before mid after failed f numbered taken few ended l told =
     let input : List ℕ = front ++ line in
-    let r = f.reached true (text ∷ []) in
     let script : Script = script_from true first_place 1 (lines front ++ text ∷ []) in
-    let next = reached_next true script [] text (given + 1) p q initial was now before mid after r (told r.done r.last r.stood) in
+    let next : (table : List Row) → Reached table true script [] (given + 1 + 1) q initial now before after =
+    λ table. let r = f.reached table true (text ∷ []) in reached_next true script [] text (given + 1) p q initial was now before mid after r (told r.done r.last table r.stood) in
     let same : number + 1 ≡ given + 1 + 1 = ap (λ k. k + 1) numbered in
     let spelled : script ≡ script_of input = ap (λ (ls : List (List ℕ)). script_from true first_place 1 ls) (sym (last_text front text line f.is l)) ∙ sym (script_all input few) in (
       input,
       taken,
-      (
+      λ table. (
         ended,
         few,
         ap (λ k. behind_lines k input) same ∙ then_none (given + 1) input (behind_last front text line given f.behind l),
-        at_number (script_of input) (number + 1) (given + 1 + 1) q initial now before after same (subst (λ (s : Script). Reached true s [] (given + 1 + 1) q initial now before after) spelled next),
+        at_number (script_of input) (number + 1) (given + 1 + 1) q initial now before after same (subst (λ (s : Script). Reached table true s [] (given + 1 + 1) q initial now before after) spelled (next table)),
       ),
     )
 
@@ -202,13 +203,13 @@ lines_last a b c reads writes old new more number p q initial was now before mid
     g.first.is
   where
     at_given : (text : List ℕ) (n given : ℕ) (p q : Player) (initial was now : List Device) (mid after : Option (List ℕ)) (failed : Type 0) → n ≡ given → PlaysText (Ok tt) text (n + 1) p q initial was now mid after failed → PlaysText (Ok tt) text (given + 1) p q initial was now mid after failed
-    at_given text n given p q initial was now mid after failed e told = λ done w s. told done w s
+    at_given text n given p q initial was now mid after failed e told = λ done w table s. told done w table s
 
 -- where nothing was played
-pub reached_same : (ends : Bool) (script : Script) (n : ℕ) (p q : Player) (initial was now : List Device) (before mid after : Option (List ℕ)) → AllAsBefore p q was now mid after → Reached ends script [] n p initial was before mid → Reached ends script [] n q initial now before after
-reached_same ends script n p q initial was now before mid after same r =
-    subst (λ (o : Option (List ℕ)). Reached ends script [] n q initial now before o) (sym same.told)
-    (subst (λ (ds : List Device). Reached ends script [] n q initial ds before mid) (sym same.boards) (subst (λ (x : Player). Reached ends script [] n x initial was before mid) (sym same.player) r))
+pub reached_same : {table : List Row} (ends : Bool) (script : Script) (n : ℕ) (p q : Player) (initial was now : List Device) (before mid after : Option (List ℕ)) → AllAsBefore p q was now mid after → Reached table ends script [] n p initial was before mid → Reached table ends script [] n q initial now before after
+reached_same {table} ends script n p q initial was now before mid after same r =
+    subst (λ (o : Option (List ℕ)). Reached table ends script [] n q initial now before o) (sym same.told)
+    (subst (λ (ds : List Device). Reached table ends script [] n q initial ds before mid) (sym same.boards) (subst (λ (x : Player). Reached table ends script [] n x initial was before mid) (sym same.player) r))
 
 -- no line was left
 pub lines_end : (a b c : Option (List ℕ)) (reads writes : Type 0) (old new : Reading) (more : List ℕ) (number : ℕ) (p q : Player) (initial was now : List Device) (before mid after : Option (List ℕ)) (at_end : Type 0)
@@ -221,31 +222,32 @@ lines_end a b c reads writes old new more number p q initial was now before mid 
     let few : length input ≤ most_used_bytes = omega (arith, i.passed, i.used) in
     let behind : behind_lines i.given input ≡ [] = ap (behind_lines i.given) (sym (append-nil input)) ∙ f.behind [] in
     let script : script_from true first_place 1 (lines input ++ []) ≡ script_of input = ap (λ (ls : List (List ℕ)). script_from true first_place 1 ls) (append-nil (lines input)) ∙ sym (script_all input few) in
-    let r : Reached true (script_of input) [] (i.given + 1) p initial was before mid = subst (λ (s : Script). Reached true s [] (i.given + 1) p initial was before mid) script (f.reached true []) in (
+    let r : (table : List Row) → Reached table true (script_of input) [] (i.given + 1) p initial was before mid =
+    λ table. subst (λ (s : Script). Reached table true s [] (i.given + 1) p initial was before mid) script (f.reached table true []) in (
       input,
       all,
-      (
+      λ table. (
         ended.ended,
         few,
         ap (λ k. behind_lines k input) i.numbered ∙ then_none i.given input behind,
-        at_number (script_of input) number (i.given + 1) q initial now before after i.numbered (reached_same true (script_of input) (i.given + 1) p q initial was now before mid after same r),
+        at_number (script_of input) number (i.given + 1) q initial now before after i.numbered (reached_same true (script_of input) (i.given + 1) p q initial was now before mid after same (r table)),
       ),
     )
 
 -- ---- reads that stop
 
 -- the script of the lines that were read so far
-front_reached : (front : List ℕ) (given : ℕ) (p : Player) (initial now : List Device) (before after : Option (List ℕ)) → FrontPlayed front given p initial now before after
-    → Reached false (script_from false first_place 1 (lines front)) [] (given + 1) p initial now before after
-front_reached front given p initial now before after f =
-    subst (λ (ls : List (List ℕ)). Reached false (script_from false first_place 1 ls) [] (given + 1) p initial now before after) (append-nil (lines front)) (f.reached false [])
+front_reached : {table : List Row} (front : List ℕ) (given : ℕ) (p : Player) (initial now : List Device) (before after : Option (List ℕ)) → FrontPlayed front given p initial now before after
+    → Reached table false (script_from false first_place 1 (lines front)) [] (given + 1) p initial now before after
+front_reached {table} front given p initial now before after f =
+    subst (λ (ls : List (List ℕ)). Reached table false (script_from false first_place 1 ls) [] (given + 1) p initial now before after) (append-nil (lines front)) (f.reached table false [])
 
 whole_read : (front bytes : List ℕ) (done : List Line) → IsFront front → HasNoEnd bytes → AllRead (lines front) done → AllWhole (front ++ bytes) done
 whole_read front bytes done is none all = subst (λ (xs : List ℕ). AllRead (lines xs) done) (sym (whole_of_taken front bytes is none)) all
 
-read_stopped : (front bytes : List ℕ) (given : ℕ) (p : Player) (initial now : List Device) (before after : Option (List ℕ)) → IsFront front → length front ≤ most_used_bytes → HasNoEnd bytes
-    → Reached false (script_from false first_place 1 (lines front)) [] (given + 1) p initial now before after
-    → PlayedUpTo (script_of (front ++ bytes)) initial before after (λ c. (c.begun ≡ []) × BoardsStand c.last initial now × AreWhole (front ++ bytes) c.done × AllWhole (front ++ bytes) c.done)
+read_stopped : {table : List Row} (front bytes : List ℕ) (given : ℕ) (p : Player) (initial now : List Device) (before after : Option (List ℕ)) → IsFront front → length front ≤ most_used_bytes → HasNoEnd bytes
+    → Reached table false (script_from false first_place 1 (lines front)) [] (given + 1) p initial now before after
+    → PlayedUpTo table (script_of (front ++ bytes)) initial before after (λ c. (c.begun ≡ []) × BoardsStand c.last initial now × AreWhole (front ++ bytes) c.done × AllWhole (front ++ bytes) c.done)
 read_stopped front bytes given p initial now before after is few none r =
     let first : Script = script_from false first_place 1 (lines front) in
     let c = at_line false first [] (given + 1) p initial now before after r in
@@ -253,6 +255,7 @@ read_stopped front bytes given p initial now before after is few none r =
       came = lifted (front_begins front bytes is few) c;
       told = r.told;
       limits = bounds_done false first (given + 1) p initial now before after r;
+      stood = λ uses. (r.grounded uses).1;
       there = (refl, r.stood.boards, progress_whole front bytes is few c, whole_read front bytes r.done is none (all_read (lines front) (given + 1) p initial now before after r));
     }
 
@@ -262,10 +265,11 @@ pub lines_failed : (a b c : Option (List ℕ)) (reads failed writes : Type 0) �
 lines_failed a b c reads failed writes spread old more number p q initial was now before mid after at_end i taken (rose, none, fits, same) =
     let bytes : List ℕ = old.ahead ++ more in
     let few : length (i.front ++ bytes) ≤ most_used_bytes = omega (arith, length-append i.front bytes, i.passed, fits) in
-    let r = reached_same false (script_from false first_place 1 (lines i.front)) (i.given + 1) p q initial was now before mid after same (front_reached i.front i.given p initial was before mid i.played) in (
+    let r : (table : List Row) → Reached table false (script_from false first_place 1 (lines i.front)) [] (i.given + 1) q initial now before after =
+    λ table. reached_same false (script_from false first_place 1 (lines i.front)) (i.given + 1) p q initial was now before mid after same (front_reached i.front i.given p initial was before mid i.played) in (
       i.front ++ bytes,
       joined a b c i.front old.ahead more i.taken taken,
-      (spread rose, few, read_stopped i.front bytes i.given q initial now before after i.played.is (omega (arith, length-append i.front bytes, few)) none r),
+      λ table. (spread rose, few, read_stopped i.front bytes i.given q initial now before after i.played.is (omega (arith, length-append i.front bytes, few)) none (r table)),
     )
 
 pub lines_over : (a b c : Option (List ℕ)) (reads writes : Type 0) (old : Reading) (more : List ℕ) (number : ℕ) (p q : Player) (initial was now : List Device) (before mid after : Option (List ℕ)) (at_end : Type 0)
@@ -279,24 +283,26 @@ lines_over a b c reads writes old more number p q initial was now before mid aft
     let none : HasNoEnd (take (most_used_bytes - length i.front) bytes) = subst (λ k. HasNoEnd (take (most_used_bytes - k) bytes)) i.passed over.none in
     let uses : used input ≡ i.front = over_used i.front bytes i.played.is few (omega (arith, long)) none in
     let script : script_from false first_place 1 (lines i.front) ≡ script_of input = sym (script_over input i.front (omega (arith, long)) uses) in
-    let r = reached_same false (script_from false first_place 1 (lines i.front)) (i.given + 1) p q initial was now before mid after same (front_reached i.front i.given p initial was before mid i.played) in (
+    let r : (table : List Row) → Reached table false (script_from false first_place 1 (lines i.front)) [] (i.given + 1) q initial now before after =
+    λ table. reached_same false (script_from false first_place 1 (lines i.front)) (i.given + 1) p q initial was now before mid after same (front_reached i.front i.given p initial was before mid i.played) in (
       input,
       joined a b c i.front old.ahead more i.taken taken,
-      (long, (i.given + 1, q, subst (λ (s : Script). Reached false s [] (i.given + 1) q initial now before after) script r)),
+      λ table. (long, (i.given + 1, q, subst (λ (s : Script). Reached table false s [] (i.given + 1) q initial now before after) script (r table))),
     )
 
 -- ---- a line at which a replay stops
 
 -- a stop is known by more of what was done
-stops_with : (stop : Stop) (script : Script) (W V : Progress script → Type 0) (number : ℕ) (initial now : List Device) (before after : Option (List ℕ)) (failed : Type 0) → ((c : Progress script) → W c) → ((c : Progress script) → V c)
-    → StopsThere stop script number initial now before after failed → StopsAtText stop script W V number initial now before after failed
-stops_with Memory script W V number initial now before after failed w v f = record { came = f.came; text = f.text; more = f.more; told = f.told; whole = f.whole; limits = f.limits; there = (f.there.0, w f.came) }
-stops_with (BadInput line fault) script W V number initial now before after failed w v (same, f) = (same, record { came = f.came; told = f.told; limits = f.limits; there = (f.there.0, f.there.1, f.there.2, f.there.3, w f.came) })
-stops_with WriteFault script W V number initial now before after failed w v (rose, f) = (rose, record { came = f.came; text = f.text; more = f.more; told = f.told; whole = f.whole; limits = f.limits; there = (f.there.0, f.there.1, w f.came) })
-stops_with FlashFault script W V number initial now before after failed w v f = record { came = f.came; told = f.told; limits = f.limits; there = (f.there.0, f.there.1, v f.came) }
-stops_with TooMany script W V number initial now before after failed w v f = record { came = f.came; told = f.told; limits = f.limits; there = (f.there.0, f.there.1, f.there.2, w f.came) }
-stops_with (NoBoard motes boards) script W V number initial now before after failed w v f = record { came = f.came; told = f.told; limits = f.limits; there = (f.there.0, f.there.1, f.there.2, f.there.3, w f.came) }
-stops_with NoImage script W V number initial now before after failed w v f = f
+stops_with : {table : List Row} (stop : Stop) (script : Script) (W V : Progress table script → Type 0) (number : ℕ) (initial now : List Device) (before after : Option (List ℕ)) (failed : Type 0) → ((c : Progress table script) → W c) → ((c : Progress table script) → V c)
+    → StopsThere table stop script number initial now before after failed → StopsAtText table stop script W V number initial now before after failed
+stops_with Memory script W V number initial now before after failed w v f = record { came = f.came; text = f.text; more = f.more; told = f.told; whole = f.whole; limits = f.limits; stood = f.stood; there = (f.there.0, w f.came) }
+stops_with (BadInput line fault) script W V number initial now before after failed w v (same, f) = (same, record { came = f.came; told = f.told; limits = f.limits; stood = f.stood; there = (f.there.0, f.there.1, f.there.2, f.there.3, w f.came) })
+stops_with WriteFault script W V number initial now before after failed w v (rose, f) = (rose, record { came = f.came; text = f.text; more = f.more; told = f.told; whole = f.whole; limits = f.limits; stood = f.stood; there = (f.there.0, f.there.1, w f.came) })
+stops_with FlashFault script W V number initial now before after failed w v f = record { came = f.came; told = f.told; limits = f.limits; stood = f.stood; there = (f.there.0, f.there.1, v f.came) }
+stops_with TooMany script W V number initial now before after failed w v f = record { came = f.came; told = f.told; limits = f.limits; stood = f.stood; there = (f.there.0, f.there.1, f.there.2, w f.came) }
+stops_with (NoBoard motes boards) script W V number initial now before after failed w v f = record { came = f.came; told = f.told; limits = f.limits; stood = f.stood; there = (f.there.0, f.there.1, f.there.2, f.there.3, w f.came) }
+stops_with NoImage script W V number initial now before after failed w v f = record { came = f.came; told = f.told; limits = f.limits; stood = f.stood; there = (f.there.0, f.there.1, f.there.2, f.there.3, v f.came) }
+stops_with NotAVolume script W V number initial now before after failed w v f = record { came = f.came; told = f.told; limits = f.limits; stood = f.stood; there = (f.there.0, f.there.1, v f.came) }
 
 by_rules : (stop : Stop) {S : Type 0} → S → ByRules stop S
 by_rules Memory s = tt
@@ -306,34 +312,37 @@ by_rules FlashFault s = tt
 by_rules TooMany s = s
 by_rules (NoBoard motes boards) s = s
 by_rules NoImage s = tt
+by_rules NotAVolume s = tt
 
-lacking_of : (stop : Stop) (script : Script) (number : ℕ) (initial now : List Device) (before after : Option (List ℕ)) (failed : Type 0) → StopsThere stop script number initial now before after failed → stop ≡ TooMany → lacking (length initial) script.lines ≡ None
-lacking_of TooMany script number initial now before after failed f e = f.there.2
-lacking_of Memory script number initial now before after failed f e = absurd cc
-lacking_of (BadInput line fault) script number initial now before after failed f e = absurd cc
-lacking_of WriteFault script number initial now before after failed f e = absurd cc
-lacking_of FlashFault script number initial now before after failed f e = absurd cc
-lacking_of (NoBoard motes boards) script number initial now before after failed f e = absurd cc
-lacking_of NoImage script number initial now before after failed f e = absurd f
+lacking_of : (table : List Row) (stop : Stop) (script : Script) (number : ℕ) (initial now : List Device) (before after : Option (List ℕ)) (failed : Type 0) → StopsThere table stop script number initial now before after failed → stop ≡ TooMany → lacking (length initial) script.lines ≡ None
+lacking_of table TooMany script number initial now before after failed f e = f.there.2
+lacking_of table Memory script number initial now before after failed f e = absurd cc
+lacking_of table (BadInput line fault) script number initial now before after failed f e = absurd cc
+lacking_of table WriteFault script number initial now before after failed f e = absurd cc
+lacking_of table FlashFault script number initial now before after failed f e = absurd cc
+lacking_of table (NoBoard motes boards) script number initial now before after failed f e = absurd cc
+lacking_of table NoImage script number initial now before after failed f e = absurd cc
+lacking_of table NotAVolume script number initial now before after failed f e = absurd cc
 
-abbrev same_ending : (stop : Stop) (input more : List ℕ) (number : ℕ) (initial now : List Device) (before after : Option (List ℕ)) (failed : Type 0) → Type 0
-same_ending stop input more number initial now before after failed =
-    StopsThere stop (script_of (input ++ more)) number initial now before after failed → StopsThere stop (script_of input) number initial now before after failed → ByRules stop (ending_of (length initial) (input ++ more) ≡ ending_of (length initial) input)
+abbrev same_ending : (table : List Row) (stop : Stop) (input more : List ℕ) (number : ℕ) (initial now : List Device) (before after : Option (List ℕ)) (failed : Type 0) → Type 0
+same_ending table stop input more number initial now before after failed =
+    StopsThere table stop (script_of (input ++ more)) number initial now before after failed → StopsThere table stop (script_of input) number initial now before after failed → ByRules stop (ending_of (length initial) (input ++ more) ≡ ending_of (length initial) input)
 
-ends_same : (stop : Stop) (input more : List ℕ) (number : ℕ) (initial now : List Device) (before after : Option (List ℕ)) (failed : Type 0) → same_ending stop input more number initial now before after failed
-ends_same Memory input more number initial now before after failed f g = tt
-ends_same (BadInput line fault) input more number initial now before after failed f g =
+ends_same : (table : List Row) (stop : Stop) (input more : List ℕ) (number : ℕ) (initial now : List Device) (before after : Option (List ℕ)) (failed : Type 0) → same_ending table stop input more number initial now before after failed
+ends_same table Memory input more number initial now before after failed f g = tt
+ends_same table (BadInput line fault) input more number initial now before after failed f g =
     stop_ending (BadInput line fault) (is_over (input ++ more)) (script_of (input ++ more)) (λ c. Unit {0}) (λ c. Unit {0}) number initial now before after failed f
     ∙ sym (stop_ending (BadInput line fault) (is_over input) (script_of input) (λ c. Unit {0}) (λ c. Unit {0}) number initial now before after failed g)
-ends_same WriteFault input more number initial now before after failed f g = tt
-ends_same FlashFault input more number initial now before after failed f g = tt
-ends_same TooMany input more number initial now before after failed f g =
+ends_same table WriteFault input more number initial now before after failed f g = tt
+ends_same table FlashFault input more number initial now before after failed f g = tt
+ends_same table TooMany input more number initial now before after failed f g =
     stop_ending TooMany (is_over (input ++ more)) (script_of (input ++ more)) (λ c. Unit {0}) (λ c. Unit {0}) number initial now before after failed f
     ∙ sym (stop_ending TooMany (is_over input) (script_of input) (λ c. Unit {0}) (λ c. Unit {0}) number initial now before after failed g)
-ends_same (NoBoard motes boards) input more number initial now before after failed f g =
+ends_same table (NoBoard motes boards) input more number initial now before after failed f g =
     stop_ending (NoBoard motes boards) (is_over (input ++ more)) (script_of (input ++ more)) (λ c. Unit {0}) (λ c. Unit {0}) number initial now before after failed f
     ∙ sym (stop_ending (NoBoard motes boards) (is_over input) (script_of input) (λ c. Unit {0}) (λ c. Unit {0}) number initial now before after failed g)
-ends_same NoImage input more number initial now before after failed f g = tt
+ends_same table NoImage input more number initial now before after failed f g = tt
+ends_same table NotAVolume input more number initial now before after failed f g = tt
 
 -- the rules end every input there that begins with these bytes
 settled_by : (stop : Stop) (input : List ℕ) (at_end : Type 0) (n : ℕ) → ((more : List ℕ) → ByRules stop (ending_of n (input ++ more) ≡ ending_of n input)) → ByRules stop (at_end ⊎ IsSettled n input)
@@ -344,26 +353,27 @@ settled_by FlashFault input at_end n same = tt
 settled_by TooMany input at_end n same = inr same
 settled_by (NoBoard motes boards) input at_end n same = inr same
 settled_by NoImage input at_end n same = tt
+settled_by NotAVolume input at_end n same = tt
 
 -- whatever follows whole lines
-module _ (stop : Stop) (front rest : List ℕ) (is : IsFront front) (few : length front ≤ most_used_bytes) (number : ℕ) (initial now : List Device) (before after : Option (List ℕ)) (failed : Type 0)
-    (all : (ends : Bool) (more : List (List ℕ)) → StopsThere stop (script_from ends first_place 1 (lines front ++ more)) number initial now before after failed) where
-  in_more : (more : List ℕ) → StopsThere stop (script_of (front ++ more)) number initial now before after failed
+module _ (table : List Row) (stop : Stop) (front rest : List ℕ) (is : IsFront front) (few : length front ≤ most_used_bytes) (number : ℕ) (initial now : List Device) (before after : Option (List ℕ)) (failed : Type 0)
+    (all : (ends : Bool) (more : List (List ℕ)) → StopsThere table stop (script_from ends first_place 1 (lines front ++ more)) number initial now before after failed) where
+  in_more : (more : List ℕ) → StopsThere table stop (script_of (front ++ more)) number initial now before after failed
   in_more more =
       let u = used_begins front more is few in
-      subst (λ (s : Script). StopsThere stop s number initial now before after failed) (sym (script_begins (front ++ more) (lines front) u.0 u.1)) (all (not (is_over (front ++ more))) u.0)
+      subst (λ (s : Script). StopsThere table stop s number initial now before after failed) (sym (script_begins (front ++ more) (lines front) u.0 u.1)) (all (not (is_over (front ++ more))) u.0)
 
-  in_front : StopsThere stop (script_from false first_place 1 (lines front)) number initial now before after failed
-  in_front = subst (λ (ls : List (List ℕ)). StopsThere stop (script_from false first_place 1 ls) number initial now before after failed) (append-nil (lines front)) (all false [])
+  in_front : StopsThere table stop (script_from false first_place 1 (lines front)) number initial now before after failed
+  in_front = subst (λ (ls : List (List ℕ)). StopsThere table stop (script_from false first_place 1 ls) number initial now before after failed) (append-nil (lines front)) (all false [])
 
-  behind_more_bytes : (more : List ℕ) → StopsThere stop (script_of ((front ++ rest) ++ more)) number initial now before after failed
-  behind_more_bytes more = subst (λ (xs : List ℕ). StopsThere stop (script_of xs) number initial now before after failed) (sym (append_assoc front rest more)) (in_more (rest ++ more))
+  behind_more_bytes : (more : List ℕ) → StopsThere table stop (script_of ((front ++ rest) ++ more)) number initial now before after failed
+  behind_more_bytes more = subst (λ (xs : List ℕ). StopsThere table stop (script_of xs) number initial now before after failed) (sym (append_assoc front rest more)) (in_more (rest ++ more))
 
   pub settles : (at_end : Type 0) → ByRules stop (at_end ⊎ IsSettled (length initial) (front ++ rest))
-  settles at_end = settled_by stop (front ++ rest) at_end (length initial) (λ more. ends_same stop (front ++ rest) more number initial now before after failed (behind_more_bytes more) (in_more rest))
+  settles at_end = settled_by stop (front ++ rest) at_end (length initial) (λ more. ends_same table stop (front ++ rest) more number initial now before after failed (behind_more_bytes more) (in_more rest))
 
-  pub stops_in : (at_end : Type 0) → StopsIn stop (script_of (front ++ rest)) (front ++ rest) at_end number initial now before after failed
-  stops_in at_end = stops_here front rest is few at_end number initial now before after failed stop in_front (lacking_of stop (script_of (front ++ rest)) number initial now before after failed (in_more rest))
+  pub stops_in : (at_end : Type 0) → StopsIn table stop (script_of (front ++ rest)) (front ++ rest) at_end number initial now before after failed
+  stops_in at_end = stops_here front rest is few at_end number initial now before after failed table stop in_front (lacking_of table stop (script_of (front ++ rest)) number initial now before after failed (in_more rest))
 
 -- it stops at a line that ends in LF
 stopped_whole : (law : ImageIsFound) (stop : Stop) (a c : Option (List ℕ)) (reads at_end : Type 0) (front line text rest : List ℕ) (given : ℕ) (p q : Player) (initial was now : List Device) (before mid after : Option (List ℕ)) (failed worse : Type 0) → (failed → worse)
@@ -373,14 +383,14 @@ stopped_whole law stop a c reads at_end front line text rest given p q initial w
     let whole : List ℕ = front ++ line in
     let few : length whole ≤ most_used_bytes = omega (arith, length-append whole rest, fits) in
     let is = front_more front text line l in
-    let all = front_stopped law stop front text line given p q initial was now before mid after failed worse spread f l (λ done w s. answer done w s) in
+    let all : (table : List Row) (ends : Bool) (more : List (List ℕ)) → StopsThere table stop (script_from ends first_place 1 (lines whole ++ more)) (given + 1) initial now before after worse = front_stopped law stop front text line given p q initial was now before mid after failed worse spread f l (λ done w table s. answer done w table s) in
     let behind : behind_lines (given + 1) (whole ++ rest) ≡ rest = behind_more front text line given f.behind l rest in (
       whole ++ rest,
       taken,
-      (
+      λ table. (
         fits,
-        settles stop whole rest is few (given + 1) initial now before after worse all at_end,
-        (given + 1, omega (arith, ap length behind, near), stops_in stop whole rest is few (given + 1) initial now before after worse all at_end),
+        settles table stop whole rest is few (given + 1) initial now before after worse (all table) at_end,
+        (given + 1, omega (arith, ap length behind, near), stops_in table stop whole rest is few (given + 1) initial now before after worse (all table) at_end),
       ),
     )
 
@@ -391,17 +401,18 @@ stopped_part : (law : ImageIsFound) (stop : Stop) (a c : Option (List ℕ)) (rea
 stopped_part law stop a c reads at_end front line text given p q initial was now before mid after failed worse spread f taken fits ended l answer =
     let input : List ℕ = front ++ line in
     let spelled : script_from true first_place 1 (lines front ++ text ∷ []) ≡ script_of input = ap (λ (ls : List (List ℕ)). script_from true first_place 1 ls) (sym (last_text front text line f.is l)) ∙ sym (script_all input fits) in
-    let there = subst (λ (s : Script). StopsThere stop s (given + 1) initial now before after worse) spelled
-    (text_stopped law stop front text given p q initial was now before mid after failed worse spread f (λ done w s. answer done w s) true []) in (
+    let there : (table : List Row) → StopsThere table stop (script_of input) (given + 1) initial now before after worse =
+    λ table. subst (λ (s : Script). StopsThere table stop s (given + 1) initial now before after worse) spelled
+    (text_stopped law stop front text given p q initial was now before mid after failed worse spread f (λ done w table s. answer done w table s) table true []) in (
       input,
       taken,
-      (
+      λ table. (
         fits,
         by_rules stop (inl ended),
         (
           given + 1,
           omega (arith, ap length (behind_last front text line given f.behind l)),
-          stops_with stop (script_of input) (λ c. at_end ⊎ DoneIsWhole input c.done c.rest c.begun) (λ c. at_end ⊎ NextIsWhole input c.done c.rest) (given + 1) initial now before after worse (λ c. inl ended) (λ c. inl ended) there,
+          stops_with stop (script_of input) (λ c. at_end ⊎ DoneIsWhole input c.done c.rest c.begun) (λ c. at_end ⊎ NextIsWhole input c.done c.rest) (given + 1) initial now before after worse (λ c. inl ended) (λ c. inl ended) (there table),
         ),
       ),
     )
@@ -426,7 +437,7 @@ lines_stopped law stop a b c reads old more number p q initial was now before mi
 
 -- what was played so far is ready for the next line
 pub lines_ready : (a b : Option (List ℕ)) (reader : Reading) (number : ℕ) (p : Player) (initial now : List Device) (before after : Option (List ℕ)) → LinesRead a b reader number p initial now before after → Ready p now
-lines_ready a b reader number p initial now before after i = let r = i.played.reached true [] in ready_of p r.done r.last initial now r.stood
+lines_ready a b reader number p initial now before after i = let r = i.played.reached [] true [] in ready_of p r.done r.last initial now r.stood
 
 -- ---- one turn of the loop
 
@@ -456,4 +467,4 @@ lines_halted law r halt a b c old new more number p q initial was now before mid
     by_halt : (x : Halt) → NextPlayed (Err x) (old.ahead ++ more) old new at_end rose (AllAsBefore p q was now mid after) (λ y t. TextPlays y t (old.number + 1) p q was now mid after failed) → Comes a c (Err x) at_end reads initial now before after writes
     by_halt ReadFault k = lines_failed a b c reads rose writes spread old more number p q initial was now before mid after at_end i taken k
     by_halt TooLong k = lines_over a b c reads writes old more number p q initial was now before mid after at_end i taken k
-    by_halt (Stopped stop) k = lines_stopped law stop a b c reads old more number p q initial was now before mid after at_end failed writes widen i taken k.0 k.1 k.2 (λ done w s. k.3 done w initial s)
+    by_halt (Stopped stop) k = lines_stopped law stop a b c reads old more number p q initial was now before mid after at_end failed writes widen i taken k.0 k.1 k.2 (λ done w table s. k.3 done w initial table s)

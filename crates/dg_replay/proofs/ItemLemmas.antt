@@ -24,7 +24,7 @@ use Rattle.dg_rules.specs.Steps.{WorldStep, DeclareStep, StepDoes, Ended, declar
 use Rattle.dg_rules.specs.Runs.{Played, Plays, ItemStep}
 use Rattle.dg_rules.proofs.SiteLemmas.{site_count}
 use Rattle.dg_script.specs.Items.{Item, Declares, Happens as Happened, cut_by, cut_behind, place_behind, item_by, items_behind, items_of}
-use Rattle.dg_replay.specs.Items.{Beginning, begin_by, begin_behind, beginning_of, no_beginning, with_link, is_event, events_among}
+use Rattle.dg_replay.specs.Items.{Ground, Beginning, begin_by, begin_behind, beginning_of, no_beginning, with_link, is_event, events_among}
 use Rattle.dg_replay.specs.Outcome.{RunsTo, item_played, played_text}
 use Rattle.dg_replay.specs.Playing.{ItemsRun}
 
@@ -63,10 +63,25 @@ unfolding place_behind
 place_next place [] line = refl
 place_next place (l ∷ done) line = place_next (place_after place l) done line
 
-pub begin_next : (b : Beginning) (done : List Line) (line : Line) → begin_behind b (done ++ line ∷ []) ≡ begin_by (begin_behind b done) line
+pub begin_next : (g : Ground) (b : Beginning) (done : List Line) (line : Line) → begin_behind g b (done ++ line ∷ []) ≡ begin_by g (begin_behind g b done) line
 unfolding begin_behind
-begin_next b [] line = refl
-begin_next b (l ∷ done) line = begin_next (begin_by b l) done line
+begin_next g b [] line = refl
+begin_next g b (l ∷ done) line = begin_next g (begin_by g b l) done line
+
+-- how many motes there are does not depend on the boards
+pub motes_same : (g h : Ground) (b c : Beginning) (lines : List Line) → b.motes ≡ c.motes → (begin_behind g b lines).motes ≡ (begin_behind h c lines).motes
+unfolding begin_behind
+motes_same g h b c [] e = e
+motes_same g h b c (Nothing ∷ lines) e = motes_same g h b c lines e
+motes_same g h b c (Motes n ∷ lines) e = motes_same g h (begin_by g b (Motes n)) (begin_by h c (Motes n)) lines refl
+motes_same g h b c (Golden name used content ∷ lines) e = motes_same g h (begin_by g b (Golden name used content)) (begin_by h c (Golden name used content)) lines e
+motes_same g h b c (Boards ∷ lines) e = motes_same g h (begin_by g b Boards) (begin_by h c Boards) lines e
+motes_same g h b c (Link x y ∷ lines) e = motes_same g h (begin_by g b (Link x y)) (begin_by h c (Link x y)) lines e
+motes_same g h b c (Image image version name content ∷ lines) e = motes_same g h b c lines e
+motes_same g h b c (Cut cut ∷ lines) e = motes_same g h b c lines e
+motes_same g h b c (Happens event ∷ lines) e = motes_same g h b c lines e
+motes_same g h b c (Round x y ∷ lines) e = motes_same g h b c lines e
+motes_same g h b c (Sweeps n ∷ lines) e = motes_same g h b c lines e
 
 -- ---- declarations
 
@@ -151,43 +166,43 @@ runs_from_none (Some w) played (v, is, plays) = absurd (let e : None ≡ Some v 
 
 -- ---- the world in which a script begins
 
+abbrev events_or : Option World → ℕ
+events_or None = 0
+events_or (Some w) = w.events
+
 NoEvents : Option World → Type 0
 NoEvents o = (w : World) → o ≡ Some w → w.events ≡ 0
 
-no_events_by : (b : Beginning) (line : Line) → NoEvents b.world → NoEvents (begin_by b line).world
+no_events_by : (g : Ground) (b : Beginning) (line : Line) → NoEvents b.world → NoEvents (begin_by g b line).world
 unfolding NoEvents
-no_events_by b Nothing h = h
-no_events_by b (Motes n) h = h
-no_events_by b (Golden name used content) h = λ w is. let e : 0 ≡ w.events = ap events_or (is) in sym e
-  where
-    events_or : Option World → ℕ
-    events_or None = 0
-    events_or (Some w) = w.events
-no_events_by b Boards h = h
-no_events_by b (Link x y) h = linked b.world h
+no_events_by g b Nothing h = h
+no_events_by g b (Motes n) h = h
+no_events_by g b (Golden name used content) h = λ w is. let e : 0 ≡ w.events = ap events_or (is) in sym e
+no_events_by g b Boards h = λ w is. let e : 0 ≡ w.events = ap events_or (is) in sym e
+no_events_by g b (Link x y) h = linked b.world h
   where
     linked : (o : Option World) → NoEvents o → NoEvents (option_map (with_link (x, y)) o)
     linked None h = λ w is. absurd (let e : None ≡ Some w = is in cc)
     linked (Some u) h = λ w is. ap (λ (z : World). z.events) (sym (some_is (with_link (x, y) u) w is)) ∙ h u refl
-no_events_by b (Image image version name content) h = h
-no_events_by b (Cut c) h = h
-no_events_by b (Happens event) h = h
-no_events_by b (Round x y) h = h
-no_events_by b (Sweeps n) h = h
+no_events_by g b (Image image version name content) h = h
+no_events_by g b (Cut c) h = h
+no_events_by g b (Happens event) h = h
+no_events_by g b (Round x y) h = h
+no_events_by g b (Sweeps n) h = h
 
-no_events_behind : (b : Beginning) (lines : List Line) → NoEvents b.world → NoEvents (begin_behind b lines).world
+no_events_behind : (g : Ground) (b : Beginning) (lines : List Line) → NoEvents b.world → NoEvents (begin_behind g b lines).world
 unfolding begin_behind
-no_events_behind b [] h = h
-no_events_behind b (line ∷ lines) h = no_events_behind (begin_by b line) lines (no_events_by b line h)
+no_events_behind g b [] h = h
+no_events_behind g b (line ∷ lines) h = no_events_behind g (begin_by g b line) lines (no_events_by g b line h)
 
 -- no event was applied in it
-begins_with_none : (lines : List Line) (w : World) → (beginning_of lines).world ≡ Some w → w.events ≡ 0
+begins_with_none : (g : Ground) (lines : List Line) (w : World) → (beginning_of g lines).world ≡ Some w → w.events ≡ 0
 unfolding NoEvents
-begins_with_none lines = no_events_behind no_beginning lines (λ w is. absurd (let e : None ≡ Some w = is in cc))
+begins_with_none g lines = no_events_behind g no_beginning lines (λ w is. absurd (let e : None ≡ Some w = is in cc))
 
 -- the events of a world to which a run leads from there are those that were played
-pub run_counts : (lines : List Line) (played : List Played) (v : World) → RunsTo (beginning_of lines).world played (Some v) → v.events ≡ events_among (map item_played played)
-run_counts lines played v run = by_beginning (beginning_of lines).world (begins_with_none lines) run
+pub run_counts : (g : Ground) (lines : List Line) (played : List Played) (v : World) → RunsTo (beginning_of g lines).world played (Some v) → v.events ≡ events_among (map item_played played)
+run_counts g lines played v run = by_beginning (beginning_of g lines).world (begins_with_none g lines) run
   where
     by_beginning : (o : Option World) → ((w : World) → o ≡ Some w → w.events ≡ 0) → RunsTo o played (Some v) → v.events ≡ events_among (map item_played played)
     by_beginning None none run = absurd (let e : Some v ≡ None = run.1 in cc)

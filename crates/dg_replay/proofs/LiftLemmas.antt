@@ -4,6 +4,7 @@ use Rattle.std.specs.Prelude.{Option, Some, None}
 use Rattle.std.specs.Str.Lines.{lines}
 use Rattle.dg_base.specs.declared.answers.Status.TheVariants as status
 use Rattle.dg_nor.specs.Device.{Device}
+use Rattle.dg_object.specs.Object.{Row}
 use Rattle.dg_rules.specs.World.{World}
 use Rattle.dg_script.specs.Sizes.{most_used_bytes}
 use Rattle.dg_rules.specs.Runs.{Played}
@@ -12,14 +13,15 @@ use Rattle.dg_script.specs.Places.{first_place}
 use Rattle.dg_script.specs.Script.{Script, script_from}
 use Rattle.dg_script.specs.declared.fault.LineFault.{LineFault}
 use Rattle.dg_script.specs.declared.line.Line.{Line}
-use Rattle.dg_replay.specs.Boards.{BoardsStand, StoppedIn}
+use Rattle.dg_script.specs.declared.line.Line.TheVariants.{Boards}
+use Rattle.dg_replay.specs.Boards.{EventNext, InSome, LacksImage, BoardsStand, StoppedIn}
 use Rattle.dg_replay.specs.Items.{motes_in, lacking, next_items}
 use Rattle.dg_replay.specs.Ending.{script_of}
 use Rattle.dg_replay.specs.Fronts.{IsFront, BeginsAs}
-use Rattle.dg_replay.specs.Outcome.{Progress, EventNext, AtTooMany, BoardsLeft, AreWhole, NextIsWhole, DoneIsWhole}
+use Rattle.dg_replay.specs.Outcome.{Progress, played_text, AtTooMany, BoardsLeft, AreWhole, NextIsWhole, DoneIsWhole}
 use Rattle.dg_replay.specs.Replaying.{PlayedUpTo, HasFew, ToldBefore, StopsThere, StopsIn}
 use Rattle.dg_replay.specs.declared.stop.Stop.{Stop}
-use Rattle.dg_replay.specs.declared.stop.Stop.TheVariants.{Memory, BadInput, WriteFault, FlashFault, TooMany, NoBoard, NoImage}
+use Rattle.dg_replay.specs.declared.stop.Stop.TheVariants.{Memory, BadInput, WriteFault, FlashFault, TooMany, NoBoard, NoImage, NotAVolume}
 use Rattle.dg_replay.proofs.FrontLemmas.{front_begins}
 
 -- ---- a run goes over to a longer script
@@ -41,7 +43,7 @@ pub within_of : (done rest more : List Line) (begun left : List Item) → next_i
 within_of done [] more begun left e within none = none_begun begun left e
 within_of done (line ∷ rest) more begun left e within none = within none
 
-abbrev pub lifted : {first script : Script} → BeginsAs first script → Progress first → Progress script
+abbrev pub lifted : {table : List Row} {first script : Script} → BeginsAs first script → Progress table first → Progress table script
 lifted b c = record {
   done = c.done;
   rest = c.rest ++ b.rest;
@@ -53,6 +55,8 @@ lifted b c = record {
   parts = parts_of c.done c.rest b.rest c.begun c.left c.parts;
   within = within_of c.done c.rest b.rest c.begun c.left c.parts c.within;
   items = c.items;
+  ground = c.ground;
+  grounded = c.grounded;
   run = c.run;
 }
 
@@ -61,16 +65,26 @@ stopped_on : (done rest more : List Line) (begun left : List Item) (last : Optio
 stopped_on done [] more begun left last old new e some s = absurd (some (none_begun begun left e))
 stopped_on done (line ∷ rest) more begun left last old new e some s = record { stopped = s.stopped; there = s.there }
 
-left_there : {first script : Script} (b : BeginsAs first script) (c : Progress first) (initial now : List Device) → BoardsLeft status.WriteFault c initial now → BoardsLeft status.WriteFault (lifted b c) initial now
-left_there b c initial now (inl stand) = inl stand
-left_there b c initial now (inr (some, stop)) = inr (some, stopped_on c.done c.rest b.rest c.begun c.left c.last initial now c.parts some stop)
-
-told_there : {first script : Script} (b : BeginsAs first script) (c : Progress first) (line : ℕ) (text : List ℕ) → ToldBefore line c text → ToldBefore line (lifted b c) text
-told_there b c line text t = record { lines = t.lines; within = t.within; behind = t.behind; more = t.more; told = t.told }
-
 no_items : {A : Type 0} (xs ys : List Item) → EventNext ys → [] ≡ xs ++ ys → A
 no_items [] ys e none = absurd (let f : [] ≡ Happened e.step e.loud ∷ e.more = none ∙ e.is in cc)
 no_items (x ∷ xs) ys e none = absurd (cc)
+
+lacks_rest : (done rest more : List Line) (begun left : List Item) (w : World) (old new : List Device) → next_items done rest ≡ begun ++ left → LacksImage w left old new → LacksImage w (left_of done rest more left) old new
+lacks_rest done [] more begun left w old new e h = no_items begun left h.next e
+lacks_rest done (line ∷ rest) more begun left w old new e h = h
+
+lacks_on : (last : Option World) (done rest more : List Line) (begun left : List Item) (old new : List Device) → next_items done rest ≡ begun ++ left → InSome last (λ w. LacksImage w left old new) → InSome last (λ w. LacksImage w (left_of done rest more left) old new)
+lacks_on None done rest more begun left old new e h = h
+lacks_on (Some w) done rest more begun left old new e h = lacks_rest done rest more begun left w old new e h
+
+left_there : {table : List Row} {first script : Script} (b : BeginsAs first script) (c : Progress table first) (initial now : List Device) → BoardsLeft status.WriteFault c initial now → BoardsLeft status.WriteFault (lifted b c) initial now
+left_there b c initial now (inl stand) = inl stand
+left_there b c initial now (inr (inr (inr (uses, lacks)))) = inr (inr (inr (uses, lacks_on c.last c.done c.rest b.rest c.begun c.left initial now c.parts lacks)))
+left_there b c initial now (inr (inr (inl lacking))) = inr (inr (inl (record { more = lacking.more ++ b.rest; next = ap (λ (ls : List Line). ls ++ b.rest) lacking.next; there = lacking.there })))
+left_there b c initial now (inr (inl (some, stop))) = inr (inl (some, stopped_on c.done c.rest b.rest c.begun c.left c.last initial now c.parts some stop))
+
+told_there : {table : List Row} {first script : Script} (b : BeginsAs first script) (c : Progress table first) (line : ℕ) (text : List ℕ) → ToldBefore line c text → ToldBefore line (lifted b c) text
+told_there b c line text t = record { lines = t.lines; within = t.within; behind = t.behind; more = t.more; told = t.told }
 
 many_on : (done rest more : List Line) (begun left : List Item) (played : List Played) → next_items done rest ≡ begun ++ left → AtTooMany left played → AtTooMany (left_of done rest more left) played
 many_on done [] more begun left played e at = no_items begun left at.next e
@@ -93,7 +107,7 @@ module _ (front ahead : List ℕ) (is : IsFront front) (few : length front ≤ m
       let b = begins more in
       (rest ++ b.rest, sym (append_assoc done rest b.rest) ∙ ap (λ (ls : List Line). ls ++ b.rest) are ∙ sym b.lines)
 
-  pub progress_whole : (c : Progress (script_from false first_place 1 (lines front))) → AreWhole (front ++ ahead) c.done
+  pub progress_whole : {table : List Row} (c : Progress table (script_from false first_place 1 (lines front))) → AreWhole (front ++ ahead) c.done
   progress_whole c = front_whole c.done c.rest c.lines
 
   next_of : (done rest more : List Line) (line : Line) (behind : List Line) → rest ≡ line ∷ behind → done ++ rest ≡ (script_from false first_place 1 (lines front)).lines → NextIsWhole (front ++ ahead) done (rest ++ more)
@@ -101,7 +115,7 @@ module _ (front ahead : List ℕ) (is : IsFront front) (few : length front ≤ m
   next_of done (l ∷ rest) more line behind e are = front_whole (done ++ l ∷ []) rest (append_assoc done (l ∷ []) rest ∙ are)
 
   -- so is the one at which a board stopped
-  pub next_whole : (c : Progress (script_from false first_place 1 (lines front))) (more : List Line) (line : Line) (behind : List Line) → c.rest ≡ line ∷ behind → NextIsWhole (front ++ ahead) c.done (c.rest ++ more)
+  pub next_whole : {table : List Row} (c : Progress table (script_from false first_place 1 (lines front))) (more : List Line) (line : Line) (behind : List Line) → c.rest ≡ line ∷ behind → NextIsWhole (front ++ ahead) c.done (c.rest ++ more)
   next_whole c more line behind e = next_of c.done c.rest more line behind e c.lines
 
   done_of : (done rest more : List Line) (begun left : List Item) → next_items done rest ≡ begun ++ left → done ++ rest ≡ (script_from false first_place 1 (lines front)).lines → DoneIsWhole (front ++ ahead) done (rest ++ more) begun
@@ -110,7 +124,7 @@ module _ (front ahead : List ℕ) (is : IsFront front) (few : length front ≤ m
   done_of done (line ∷ rest) more (x ∷ begun) left e are = front_whole (done ++ line ∷ []) rest (append_assoc done (line ∷ []) rest ∙ are)
 
   -- and one that was begun
-  pub done_whole : (c : Progress (script_from false first_place 1 (lines front))) (more : List Line) → DoneIsWhole (front ++ ahead) c.done (c.rest ++ more) c.begun
+  pub done_whole : {table : List Row} (c : Progress table (script_from false first_place 1 (lines front))) (more : List Line) → DoneIsWhole (front ++ ahead) c.done (c.rest ++ more) c.begun
   done_whole c more = done_of c.done c.rest more c.begun c.left c.parts c.lines
 
   -- the script of these bytes
@@ -119,25 +133,25 @@ module _ (front ahead : List ℕ) (is : IsFront front) (few : length front ≤ m
 
   -- A stop at the last line of whole lines is one in every script that begins with them, and the bytes are enough for it.
   module _ (at_end : Type 0) (number : ℕ) (initial now : List Device) (before after : Option (List ℕ)) (failed : Type 0) where
-    fault_here : (line : ℕ) (fault : LineFault) → StopsThere (BadInput line fault) (script_from false first_place 1 (lines front)) number initial now before after failed
-        → StopsIn (BadInput line fault) (script_of (front ++ ahead)) (front ++ ahead) at_end number initial now before after failed
-    fault_here line fault (same, f) =
+    fault_here : {table : List Row} (line : ℕ) (fault : LineFault) → StopsThere table (BadInput line fault) (script_from false first_place 1 (lines front)) number initial now before after failed
+        → StopsIn table (BadInput line fault) (script_of (front ++ ahead)) (front ++ ahead) at_end number initial now before after failed
+    fault_here {table} line fault (same, f) =
         let first : Script = script_from false first_place 1 (lines front) in
         let input : List ℕ = front ++ ahead in
-        let Q : (s : Script) → Progress s → Type 0 = λ s c. (c.rest ≡ []) × (s.fault ≡ Some (line, fault)) × BoardsStand c.last initial now × HasFew s initial × (at_end ⊎ DoneIsWhole input c.done c.rest c.begun) in
-        let P : Script → Type 0 = λ s. PlayedUpTo s initial before after (Q s) in
+        let Q : (s : Script) → Progress table s → Type 0 = λ s c. (c.rest ≡ []) × (s.fault ≡ Some (line, fault)) × BoardsStand c.last initial now × HasFew s initial × (at_end ⊎ DoneIsWhole input c.done c.rest c.begun) in
+        let P : Script → Type 0 = λ s. PlayedUpTo table s initial before after (Q s) in
         let c = f.came in
         let all : DoneIsWhole input c.done c.rest c.begun = subst (λ (r : List Line). DoneIsWhole input c.done r c.begun) (append-nil c.rest) (done_whole c []) in
-        let made : P first = record { came = c; told = f.told; limits = f.limits; there = (f.there.0, f.there.1, f.there.2, f.there.3, inr all) } in
+        let made : P first = record { came = c; told = f.told; limits = f.limits; stood = f.stood; there = (f.there.0, f.there.1, f.there.2, f.there.3, inr all) } in
         (same, subst P (sym (begins_here.fault (line, fault) f.there.1)) made)
 
-    pub stops_here : (stop : Stop) → StopsThere stop (script_from false first_place 1 (lines front)) number initial now before after failed
+    pub stops_here : (table : List Row) (stop : Stop) → StopsThere table stop (script_from false first_place 1 (lines front)) number initial now before after failed
         → (stop ≡ TooMany → lacking (length initial) (script_of (front ++ ahead)).lines ≡ None)
-        → StopsIn stop (script_of (front ++ ahead)) (front ++ ahead) at_end number initial now before after failed
-    stops_here Memory f enough =
-        record { came = lifted begins_here f.came; text = f.text; more = f.more; told = f.told; whole = f.whole; limits = f.limits; there = (f.there.0, inr (done_whole f.came begins_here.rest)) }
-    stops_here (BadInput line fault) f enough = fault_here line fault f
-    stops_here WriteFault (rose, f) enough = (
+        → StopsIn table stop (script_of (front ++ ahead)) (front ++ ahead) at_end number initial now before after failed
+    stops_here table Memory f enough =
+        record { came = lifted begins_here f.came; text = f.text; more = f.more; told = f.told; whole = f.whole; limits = f.limits; stood = f.stood; there = (f.there.0, inr (done_whole f.came begins_here.rest)) }
+    stops_here table (BadInput line fault) f enough = fault_here line fault f
+    stops_here table WriteFault (rose, f) enough = (
       rose,
       record {
         came = lifted begins_here f.came;
@@ -145,11 +159,43 @@ module _ (front ahead : List ℕ) (is : IsFront front) (few : length front ≤ m
         more = f.more;
         told = f.told;
         whole = f.whole;
-        limits = f.limits;
+        limits = f.limits; stood = f.stood;
         there = (left_there begins_here f.came initial now f.there.0, told_there begins_here f.came number f.text f.there.1, inr (done_whole f.came begins_here.rest));
       },
     )
-    stops_here FlashFault f enough =
+    stops_here table FlashFault f enough =
+        let c = f.came in
+        let b = begins_here in
+        let at = f.there.0 in
+        record {
+          came = lifted b c;
+          told = f.told;
+          limits = f.limits; stood = f.stood;
+          there = (
+            (at.0, at.1 ++ b.rest, ap (λ (ls : List Line). ls ++ b.rest) at.2, at.3),
+            stopped_line c.done c.rest b.rest c.left c.last initial now at.0 at.1 at.2 f.there.1,
+            inr (next_whole c b.rest at.0 at.1 at.2),
+          );
+        }
+    stops_here table TooMany f enough =
+        let c = f.came in
+        let b = begins_here in
+        record {
+          came = lifted b c;
+          told = f.told;
+          limits = f.limits; stood = f.stood;
+          there = (many_on c.done c.rest b.rest c.begun c.left c.played c.parts f.there.0, f.there.1, enough refl, inr (done_whole c b.rest));
+        }
+    stops_here table (NoBoard motes boards) f enough =
+        let c = f.came in
+        let b = begins_here in
+        record {
+          came = lifted b c;
+          told = f.told;
+          limits = f.limits; stood = f.stood;
+          there = (f.there.0, (f.there.1.0 ++ b.rest, ap (λ (ls : List Line). ls ++ b.rest) f.there.1.1), f.there.2, f.there.3, inr (done_whole c b.rest));
+        }
+    stops_here table NoImage f enough =
         let c = f.came in
         let b = begins_here in
         let at = f.there.0 in
@@ -157,28 +203,27 @@ module _ (front ahead : List ℕ) (is : IsFront front) (few : length front ≤ m
           came = lifted b c;
           told = f.told;
           limits = f.limits;
+          stood = f.stood;
           there = (
-            (at.0, at.1 ++ b.rest, ap (λ (ls : List Line). ls ++ b.rest) at.2, at.3),
-            stopped_line c.done c.rest b.rest c.left c.last initial now at.0 at.1 at.2 f.there.1,
+            (at.0, at.1 ++ b.rest, ap (λ (ls : List Line). ls ++ b.rest) at.2),
+            f.there.1,
+            lacks_on c.last c.done c.rest b.rest c.begun c.left initial now c.parts f.there.2,
+            λ more. told_there b c number (played_text c.played ++ more) (f.there.3 more),
             inr (next_whole c b.rest at.0 at.1 at.2),
           );
         }
-    stops_here TooMany f enough =
+    stops_here table NotAVolume f enough =
         let c = f.came in
         let b = begins_here in
+        let lacking = f.there.0 in
         record {
           came = lifted b c;
           told = f.told;
           limits = f.limits;
-          there = (many_on c.done c.rest b.rest c.begun c.left c.played c.parts f.there.0, f.there.1, enough refl, inr (done_whole c b.rest));
+          stood = f.stood;
+          there = (
+            record { more = lacking.more ++ b.rest; next = ap (λ (ls : List Line). ls ++ b.rest) lacking.next; there = lacking.there },
+            λ more. told_there b c number (played_text c.played ++ more) (f.there.1 more),
+            inr (next_whole c b.rest Boards lacking.more lacking.next),
+          );
         }
-    stops_here (NoBoard motes boards) f enough =
-        let c = f.came in
-        let b = begins_here in
-        record {
-          came = lifted b c;
-          told = f.told;
-          limits = f.limits;
-          there = (f.there.0, (f.there.1.0 ++ b.rest, ap (λ (ls : List Line). ls ++ b.rest) f.there.1.1), f.there.2, f.there.3, inr (done_whole c b.rest));
-        }
-    stops_here NoImage f enough = absurd f

@@ -6,6 +6,7 @@ use Rattle.std.proofs.lemmas.Bool.{ne_eqb}
 use Rattle.dg_base.proofs.LineLemmas.{lines-ended}
 use Rattle.dg_nor.specs.Device.{Device}
 use Rattle.dg_rules.specs.World.{World}
+use Rattle.dg_object.specs.Object.{Row}
 use Rattle.dg_script.specs.LineReading.{HasNoEnd, IsLine}
 use Rattle.dg_script.specs.Places.{first_place}
 use Rattle.dg_script.specs.Script.{Script, script_from}
@@ -25,11 +26,11 @@ use Rattle.dg_replay.proofs.ReplayLemmas.{reached_first, reached_next, stopped_a
 pub record FrontPlayed (front : List ℕ) (given : ℕ) (p : Player) (initial now : List Device) (before after : Option (List ℕ)) : Type 0 where
   pub is : IsFront front
   pub behind : (more : List ℕ) → behind_lines given (front ++ more) ≡ more
-  pub reached : (ends : Bool) (more : List (List ℕ)) → Reached ends (script_from ends first_place 1 (lines front ++ more)) more (given + 1) p initial now before after
+  pub reached : (table : List Row) (ends : Bool) (more : List (List ℕ)) → Reached table ends (script_from ends first_place 1 (lines front ++ more)) more (given + 1) p initial now before after
 
 -- nothing was read
 pub front_first : (p : Player) (initial : List Device) (before : Option (List ℕ)) → p.place ≡ first_place → p.cut ≡ None → p.world ≡ None → FrontPlayed [] 0 p initial initial before before
-front_first p initial before place cut world = record { is = inl refl; behind = λ more. behind_none more; reached = λ ends more. reached_first ends more p initial before place cut world }
+front_first p initial before place cut world = record { is = inl refl; behind = λ more. behind_none more; reached = λ table ends more. reached_first ends more p initial before place cut world }
 
 not_feed : (bytes : List ℕ) → HasNoEnd bytes → All (λ b. (b == 10) ≡ false) bytes
 not_feed bytes h k d within = ne_eqb (get_or bytes k d) 10 (h k d within)
@@ -52,33 +53,33 @@ behind_more front text line given behind l more =
 
 -- one more line was played, and what is told of it was written
 pub front_next : (front text line : List ℕ) (given : ℕ) (p q : Player) (initial old now : List Device) (before mid after : Option (List ℕ)) → FrontPlayed front given p initial old before mid → IsLine text line
-    → ((done : List Line) (w : Option World) → Stood p done w initial old → TextTold text p q done w initial now mid after) → FrontPlayed (front ++ line) (given + 1) q initial now before after
+    → ((done : List Line) (w : Option World) (table : List Row) → Stood p done w initial old → TextTold table text p q done w initial now mid after) → FrontPlayed (front ++ line) (given + 1) q initial now before after
 front_next front text line given p q initial old now before mid after f l told = record {
   is = front_more front text line l;
   behind = behind_more front text line given f.behind l;
-  reached = λ ends more.
-      let r = f.reached ends (text ∷ more) in
-      subst (λ (ts : List (List ℕ)). Reached ends (script_from ends first_place 1 ts) more (given + 1 + 1) q initial now before after) (sym (texts_next front text line more f.is l))
-      (reached_next ends (script_from ends first_place 1 (lines front ++ text ∷ more)) more text (given + 1) p q initial old now before mid after r (told r.done r.last r.stood));
+  reached = λ table ends more.
+      let r = f.reached table ends (text ∷ more) in
+      subst (λ (ts : List (List ℕ)). Reached table ends (script_from ends first_place 1 ts) more (given + 1 + 1) q initial now before after) (sym (texts_next front text line more f.is l))
+      (reached_next ends (script_from ends first_place 1 (lines front ++ text ∷ more)) more text (given + 1) p q initial old now before mid after r (told r.done r.last table r.stood));
 }
 
 -- the replay stopped at the text that follows, whatever texts follow that
 pub text_stopped : (law : ImageIsFound) (stop : Stop) (front text : List ℕ) (given : ℕ) (p q : Player) (initial old now : List Device) (before mid after : Option (List ℕ)) (failed worse : Type 0) → (failed → worse)
     → FrontPlayed front given p initial old before mid
-    → ((done : List Line) (w : Option World) → Stood p done w initial old → TextAnswer (Err stop) text (given + 1) p q done w initial old now mid after failed)
-    → (ends : Bool) (more : List (List ℕ)) → StopsThere stop (script_from ends first_place 1 (lines front ++ text ∷ more)) (given + 1) initial now before after worse
-text_stopped law stop front text given p q initial old now before mid after failed worse spread f answer ends more =
-    let r = f.reached ends (text ∷ more) in
+    → ((done : List Line) (w : Option World) (table : List Row) → Stood p done w initial old → TextAnswer table (Err stop) text (given + 1) p q done w initial old now mid after failed)
+    → (table : List Row) (ends : Bool) (more : List (List ℕ)) → StopsThere table stop (script_from ends first_place 1 (lines front ++ text ∷ more)) (given + 1) initial now before after worse
+text_stopped law stop front text given p q initial old now before mid after failed worse spread f answer table ends more =
+    let r = f.reached table ends (text ∷ more) in
     let script : Script = script_from ends first_place 1 (lines front ++ text ∷ more) in
     stopped_at stop ends script more text (given + 1) p q initial old now before mid after failed worse spread r
-    (image_found law ends script (text ∷ more) (given + 1) p initial old before mid (script_fits ends first_place 1 (lines front ++ text ∷ more)) r text)
-    (answer r.done r.last r.stood)
+    (λ alone. image_found law ends script (text ∷ more) (given + 1) p initial old before mid (script_fits ends first_place 1 (lines front ++ text ∷ more)) r alone text initial now)
+    (answer r.done r.last table r.stood)
 
 -- the same at one more line
 pub front_stopped : (law : ImageIsFound) (stop : Stop) (front text line : List ℕ) (given : ℕ) (p q : Player) (initial old now : List Device) (before mid after : Option (List ℕ)) (failed worse : Type 0) → (failed → worse)
     → FrontPlayed front given p initial old before mid → IsLine text line
-    → ((done : List Line) (w : Option World) → Stood p done w initial old → TextAnswer (Err stop) text (given + 1) p q done w initial old now mid after failed)
-    → (ends : Bool) (more : List (List ℕ)) → StopsThere stop (script_from ends first_place 1 (lines (front ++ line) ++ more)) (given + 1) initial now before after worse
-front_stopped law stop front text line given p q initial old now before mid after failed worse spread f l answer ends more =
-    subst (λ (ts : List (List ℕ)). StopsThere stop (script_from ends first_place 1 ts) (given + 1) initial now before after worse) (sym (texts_next front text line more f.is l))
-    (text_stopped law stop front text given p q initial old now before mid after failed worse spread f answer ends more)
+    → ((done : List Line) (w : Option World) (table : List Row) → Stood p done w initial old → TextAnswer table (Err stop) text (given + 1) p q done w initial old now mid after failed)
+    → (table : List Row) (ends : Bool) (more : List (List ℕ)) → StopsThere table stop (script_from ends first_place 1 (lines (front ++ line) ++ more)) (given + 1) initial now before after worse
+front_stopped law stop front text line given p q initial old now before mid after failed worse spread f l answer table ends more =
+    subst (λ (ts : List (List ℕ)). StopsThere table stop (script_from ends first_place 1 ts) (given + 1) initial now before after worse) (sym (texts_next front text line more f.is l))
+    (text_stopped law stop front text given p q initial old now before mid after failed worse spread f answer table ends more)

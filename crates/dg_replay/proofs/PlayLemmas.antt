@@ -8,7 +8,7 @@ use Rattle.dg_base.specs.declared.events.Event.TheVariants.{Tick, Hear, Last, Re
 use Rattle.dg_script.specs.Fitting.{StandsAt, verb_of_event}
 use Rattle.dg_script.specs.Verbs.{stands, is_later, is_second}
 use Rattle.dg_script.specs.declared.place.Place.{Place}
-use Rattle.dg_script.specs.declared.line.Line.TheVariants.{Golden, Link, Image, Happens, Round, Sweeps}
+use Rattle.dg_script.specs.declared.line.Line.TheVariants.{Golden, Boards, Link, Image, Happens, Round, Sweeps}
 use Rattle.dg_rules.specs.World.{World}
 use Rattle.dg_replay.specs.Playing.{Counted, Seated, InWorld}
 use Rattle.dg_replay.specs.declared.player.Player.{Player}
@@ -48,6 +48,9 @@ event_stands (Frame mote dt word bytes) place h = h
 
 pub golden_at : (place : Place) (name : List ℕ) (used : ℕ) (content : List ℕ) → StandsAt place (Golden name used content) → (place.ready ≡ false) × (0 < place.motes)
 golden_at place name used content h = second_at place h.fits
+
+pub boards_at : (place : Place) → StandsAt place Boards → (place.ready ≡ false) × (0 < place.motes)
+boards_at place h = second_at place h.fits
 
 pub link_at : (place : Place) (a b : ℕ) → StandsAt place (Link a b) → ((place.ready ≡ true) × (0 < place.motes)) × (place.events ≡ false)
 link_at place a b h = let x = both_true (is_later place) (not place.events) h.0.fits in (later_at place x.0, not_true place.events x.1)

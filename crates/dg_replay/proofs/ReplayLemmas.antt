@@ -5,6 +5,7 @@ use Rattle.std.proofs.lemmas.List.{take-append-drop, take_at, take_all, map-appe
 use Rattle.dg_base.proofs.OutsideLemmas.{Puts-join, Puts-nil, PutsFront-nil}
 use Rattle.dg_base.specs.Outside.{Puts, PutsFront}
 use Rattle.dg_nor.specs.Device.{Device}
+use Rattle.dg_object.specs.Object.{Row}
 use Rattle.dg_script.specs.Fitting.{FitsCut, UsesBoard}
 use Rattle.dg_script.specs.Lines.{line_of}
 use Rattle.dg_script.specs.Places.{first_place, place_after}
@@ -18,18 +19,20 @@ use Rattle.dg_rules.specs.Sizes.{most_events}
 use Rattle.dg_rules.specs.World.{World}
 use Rattle.dg_rules.specs.Runs.{Played, Plays}
 use Rattle.dg_script.specs.Items.{Item, item_by, cut_behind, place_behind, items_behind, items_of}
-use Rattle.dg_replay.specs.Items.{Beginning, begin_by, begin_behind, beginning_of, motes_in, lacking, lacking_by, next_items, events_among}
-use Rattle.dg_replay.specs.Boards.{BoardsStand, StoppedIn}
+use Rattle.dg_replay.specs.Items.{Ground, no_ground, UsesBoards, is_boards, Beginning, begin_by, begin_behind, beginning_of, motes_in, lacking, lacking_by, next_items, events_among}
+use Rattle.dg_replay.specs.Boards.{EventNext, InSome, LacksImage, BoardsStand, StoppedIn}
 use Rattle.dg_replay.specs.Ending.{events_in, InBounds}
 use Rattle.dg_base.specs.declared.answers.Status.TheVariants as status
-use Rattle.dg_replay.specs.Outcome.{Progress, AtTooMany, EventNext, BoardStoppedThere, BoardsLeft, RunsTo, item_played, played_text}
-use Rattle.dg_replay.specs.Playing.{InWorld, Stood, Ready, Joined, RunsOn, RunsFrom, LineBegun, InSome, IsOneTooMany, LacksImage}
-use Rattle.dg_replay.specs.Replaying.{TextPlayed, TextTold, TextCut, TextRead, NothingDone, TextAnswer, CutAtStop, CutAtTooMany, Reached, PlayedFront, PlayedUpTo, HasFew, ToldBefore, StopsThere}
+use Rattle.dg_replay.specs.Outcome.{Progress, AtTooMany, NoImageThere, BoardStoppedThere, BoardsLeft, RunsTo, item_played, played_text}
+use Rattle.dg_replay.specs.Playing.{InWorld, Stood, Ready, Joined, RunsOn, RunsFrom, LineBegun, IsOneTooMany}
+use Rattle.dg_replay.specs.Replaying.{TextPlayed, TextTold, TextCut, TextRead, NothingDone, TextAnswer, CutAtStop, CutAtTooMany, CutAtImage, Reached, PlayedFront, PlayedUpTo, HasFew, ToldBefore, StopsThere}
 use Rattle.dg_replay.specs.declared.player.Player.{Player}
 use Rattle.dg_replay.specs.declared.stop.Stop.{Stop}
-use Rattle.dg_replay.specs.declared.stop.Stop.TheVariants.{Memory, BadInput, WriteFault, FlashFault, TooMany, NoBoard, NoImage}
+use Rattle.dg_replay.specs.declared.stop.Stop.TheVariants.{Memory, BadInput, WriteFault, FlashFault, TooMany, NoBoard, NoImage, NotAVolume}
 use Rattle.dg_replay.proofs.ItemLemmas.{some_is, items_next, begin_next, plays_append, played_more, runs_from_none, run_counts}
-use Rattle.dg_replay.proofs.StandLemmas.{few_in}
+use Rattle.std.specs.List.{list_any}
+use Rattle.dg_world.specs.Mounted.{StandFor}
+use Rattle.dg_replay.proofs.StandLemmas.{few_in, grounded_next}
 use Rattle.dg_replay.proofs.GoldenLemmas.{IsBehind, script_fits, lacking_none}
 
 -- an answer that is another one
@@ -84,14 +87,14 @@ lacking_next boards done line none one = lacking_append boards done (line ∷ []
 -- ---- events are counted
 
 -- a run to a world that has no more than a million has no more
-few_played : (done : List Line) (v : Option World) (ps : List Played) → RunsTo (beginning_of done).world ps v → IfSome v (λ u. u.events ≤ most_events) → events_among (map item_played ps) ≤ most_events
-few_played done None ps run few = subst (λ (xs : List Played). events_among (map item_played xs) ≤ most_events) (sym (runs_from_none (beginning_of done).world ps run).1) (omega arith)
-few_played done (Some v) ps run few = subst (λ (k : ℕ). k ≤ most_events) (run_counts done ps v run) few
+few_played : (ground : Ground) (done : List Line) (v : Option World) (ps : List Played) → RunsTo (beginning_of ground done).world ps v → IfSome v (λ u. u.events ≤ most_events) → events_among (map item_played ps) ≤ most_events
+few_played ground done None ps run few = subst (λ (xs : List Played). events_among (map item_played xs) ≤ most_events) (sym (runs_from_none (beginning_of ground done).world ps run).1) (omega arith)
+few_played ground done (Some v) ps run few = subst (λ (k : ℕ). k ≤ most_events) (run_counts ground done ps v run) few
 
 -- a million were played, and the next item is an event
-too_many_played : (done : List Line) (v : Option World) (ps : List Played) (left : List Item) → RunsTo (beginning_of done).world ps v → InSome v (λ u. IsOneTooMany u left) → AtTooMany left ps
-too_many_played done None ps left run full = absurd full
-too_many_played done (Some v) ps left run full = record { events = sym (run_counts done ps v run) ∙ full.full; next = full.next }
+too_many_played : (ground : Ground) (done : List Line) (v : Option World) (ps : List Played) (left : List Item) → RunsTo (beginning_of ground done).world ps v → InSome v (λ u. IsOneTooMany u left) → AtTooMany left ps
+too_many_played ground done None ps left run full = absurd full
+too_many_played ground done (Some v) ps left run full = record { events = sym (run_counts ground done ps v run) ∙ full.full; next = full.next }
 
 -- ---- a run goes on
 
@@ -143,8 +146,8 @@ lines_behind ends script texts text n p q done line spelled behind lines =
     ∙ ap (λ (x : Place). done ++ line ∷ (script_from ends x (n + 1) texts).lines) behind
     ∙ next_lines ends script texts text n p.place done line spelled lines
 
-few_next : (done : List Line) (v : Option World) (ps : List Played) (q : Player) (now : List Device) → RunsTo (beginning_of done).world ps v → InWorld q v now → events_among (map item_played ps) ≤ most_events
-few_next done v ps q now run kept = few_played done v ps run (few_in v q now kept)
+few_next : (ground : Ground) (done : List Line) (v : Option World) (ps : List Played) (q : Player) (now : List Device) → RunsTo (beginning_of ground done).world ps v → InWorld q v now → events_among (map item_played ps) ≤ most_events
+few_next ground done v ps q now run kept = few_played ground done v ps run (few_in v q now kept)
 
 few_lines : (done : List Line) (ps : List Played) → map item_played ps ≡ items_of done → events_among (map item_played ps) ≤ most_events → events_in done ≤ most_events
 few_lines done ps items few = subst (λ (xs : List Item). events_among xs ≤ most_events) items few
@@ -153,12 +156,12 @@ few_items : (done : List Line) (ps : List Played) → map item_played ps ≡ ite
 few_items done ps items few = subst (λ (xs : List Item). events_among xs ≤ most_events) (sym items) few
 
 -- the next line was played, and what is told of it was written
-pub reached_next : (ends : Bool) (script : Script) (texts : List (List ℕ)) (text : List ℕ) (n : ℕ) (p q : Player) (initial old now : List Device) (before mid after : Option (List ℕ))
-    → (r : Reached ends script (text ∷ texts) n p initial old before mid) → TextTold text p q r.done r.last initial now mid after → Reached ends script texts (n + 1) q initial now before after
+pub reached_next : {table : List Row} (ends : Bool) (script : Script) (texts : List (List ℕ)) (text : List ℕ) (n : ℕ) (p q : Player) (initial old now : List Device) (before mid after : Option (List ℕ))
+    → (r : Reached table ends script (text ∷ texts) n p initial old before mid) → TextTold table text p q r.done r.last initial now mid after → Reached table ends script texts (n + 1) q initial now before after
 reached_next ends script texts text n p q initial old now before mid after r t =
     let line = t.played.line in
     let to = t.played.to in
-    let on = to.runs r.played r.items r.run in
+    let on = to.runs r.ground r.played r.grounded r.items r.run in
     record {
       done = r.done ++ line ∷ [];
       played = on.now;
@@ -167,19 +170,21 @@ reached_next ends script texts text n p q initial old now before mid after r t =
       lines = lines_behind ends script texts text n p q r.done line t.played.spelled t.played.behind r.lines;
       fault = ap (λ (x : Place). (script_from ends x (n + 1) texts).fault) t.played.behind ∙ ap (λ (x : Script). x.fault) (sym (script_line ends p.place n text texts line t.played.spelled)) ∙ r.fault;
       items = on.items;
+      ground = on.ground;
+      grounded = on.grounded;
       run = on.run;
       told = subst (λ (xs : List ℕ). Puts before after xs) (ap (λ (xs : List ℕ). played_text r.played ++ xs) to.told_now ∙ sym on.told) (Puts-join before mid after _ _ r.told t.written);
       stood = to.stood;
-      few = few_lines (r.done ++ line ∷ []) on.now on.items (few_next (r.done ++ line ∷ []) to.world on.now q now on.run to.stood.world);
+      few = few_lines (r.done ++ line ∷ []) on.now on.items (few_next on.ground (r.done ++ line ∷ []) to.world on.now q now on.run to.stood.world);
       boards_enough = lacking_next (length initial) r.done line r.boards_enough to.boards_enough;
     }
 
 -- ---- what was written
 
 -- more was told, and a front of it was written
-front_put : (script : Script) {P : Progress script → List ℕ → Type 0} (initial : List Device) (before mid after : Option (List ℕ)) (ps : List Played) (t : List ℕ) (came : Progress script) → Puts before mid (played_text ps) → played_text came.played ≡ played_text ps ++ t
-    → PutsFront mid after t → InBounds (length initial) came.done (map item_played came.played) → ((k : ℕ) → P came (played_text ps ++ take k t)) → PlayedFront script initial before after P
-front_put script initial before mid after ps t came told tells put limits there =
+front_put : {table : List Row} (script : Script) {P : Progress table script → List ℕ → Type 0} (initial : List Device) (before mid after : Option (List ℕ)) (ps : List Played) (t : List ℕ) (came : Progress table script) → Puts before mid (played_text ps) → played_text came.played ≡ played_text ps ++ t
+    → PutsFront mid after t → InBounds (length initial) came.done (map item_played came.played) → (UsesBoards came.done → StandFor (motes_in came.done) came.ground.stores initial) → ((k : ℕ) → P came (played_text ps ++ take k t)) → PlayedFront table script initial before after P
+front_put script initial before mid after ps t came told tells put limits stood there =
     let k = put.0 in
     record {
       came = came;
@@ -188,6 +193,7 @@ front_put script initial before mid after ps t came told tells put limits there 
       told = Puts-join before mid after _ _ told put.2;
       whole = append_assoc (played_text ps) (take k t) (drop k t) ∙ ap (λ (xs : List ℕ). played_text ps ++ xs) (take-append-drop k t) ∙ sym tells;
       limits = limits;
+      stood = stood;
       there = there k;
     }
 
@@ -202,7 +208,7 @@ all_put before mid after ps qs t told tells put = subst (λ (xs : List ℕ). Put
 -- ---- how far a replay came
 
 -- It began no line behind those that were done.
-abbrev pub at_line : (ends : Bool) (script : Script) (texts : List (List ℕ)) (n : ℕ) (p : Player) (initial now : List Device) (before mid : Option (List ℕ)) → Reached ends script texts n p initial now before mid → Progress script
+abbrev pub at_line : {table : List Row} (ends : Bool) (script : Script) (texts : List (List ℕ)) (n : ℕ) (p : Player) (initial now : List Device) (before mid : Option (List ℕ)) → Reached table ends script texts n p initial now before mid → Progress table script
 at_line ends script texts n p initial now before mid r =
     record {
       done = r.done;
@@ -215,12 +221,14 @@ at_line ends script texts n p initial now before mid r =
       parts = refl;
       within = λ e. refl;
       items = r.items ∙ sym (append-nil (items_of r.done));
+      ground = r.ground;
+      grounded = λ uses. (r.grounded uses).0;
       run = r.run;
     }
 
 -- It played one more line.
-abbrev behind_line : (ends : Bool) (script : Script) (texts : List (List ℕ)) (text : List ℕ) (n : ℕ) (p q : Player) (initial old now : List Device) (before mid : Option (List ℕ))
-    → (r : Reached ends script (text ∷ texts) n p initial old before mid) → (t : TextPlayed text p q r.done r.last initial now) → RunsOn r.done t.line t.to.world t.to.text r.played → Progress script
+abbrev behind_line : {table : List Row} (ends : Bool) (script : Script) (texts : List (List ℕ)) (text : List ℕ) (n : ℕ) (p q : Player) (initial old now : List Device) (before mid : Option (List ℕ))
+    → (r : Reached table ends script (text ∷ texts) n p initial old before mid) → (t : TextPlayed table text p q r.done r.last initial now) → RunsOn table initial r.done t.line t.to.world t.to.text r.played → Progress table script
 behind_line ends script texts text n p q initial old now before mid r t on =
     record {
       done = r.done ++ t.line ∷ [];
@@ -233,6 +241,8 @@ behind_line ends script texts text n p q initial old now before mid r t on =
       parts = refl;
       within = λ e. refl;
       items = on.items ∙ sym (append-nil (items_of (r.done ++ t.line ∷ [])));
+      ground = on.ground;
+      grounded = λ uses. (on.grounded uses).0;
       run = on.run;
     }
 
@@ -240,8 +250,8 @@ items_over : (done : List Line) (ps now : List Played) (items : List Item) → m
 items_over done ps now items first next = map-append item_played ps now ∙ ap (λ (xs : List Item). xs ++ map item_played now) first ∙ ap (λ (xs : List Item). items_of done ++ xs) next
 
 -- It began the next line.
-abbrev in_line : {P : Option World → List Item → List ℕ → Type 0} (ends : Bool) (script : Script) (texts : List (List ℕ)) (text : List ℕ) (n : ℕ) (p : Player) (initial old : List Device) (before mid : Option (List ℕ)) (line : Line)
-    → (r : Reached ends script (text ∷ texts) n p initial old before mid) → line_of p.place text ≡ Ok line → (b : LineBegun r.done line r.last P) → Over (beginning_of r.done).world r.played b.begun b.world b.text → (b.left ≡ [] → b.begun ≡ []) → Progress script
+abbrev in_line : {table : List Row} {P : Option World → List Item → List ℕ → Type 0} (ends : Bool) (script : Script) (texts : List (List ℕ)) (text : List ℕ) (n : ℕ) (p : Player) (initial old : List Device) (before mid : Option (List ℕ)) (line : Line)
+    → (r : Reached table ends script (text ∷ texts) n p initial old before mid) → line_of p.place text ≡ Ok line → (b : LineBegun r.done line r.last P) → Over (beginning_of r.ground r.done).world r.played b.begun b.world b.text → (b.left ≡ [] → b.begun ≡ []) → Progress table script
 in_line ends script texts text n p initial old before mid line r spelled b o within =
     record {
       done = r.done;
@@ -254,19 +264,21 @@ in_line ends script texts text n p initial old before mid line r spelled b o wit
       parts = b.parts;
       within = within;
       items = items_over r.done r.played o.now b.begun r.items o.are;
+      ground = r.ground;
+      grounded = λ uses. (r.grounded uses).0;
       run = o.run;
     }
 
-run_of : {P : Option World → List Item → List ℕ → Type 0} (ends : Bool) (script : Script) (texts : List (List ℕ)) (text : List ℕ) (n : ℕ) (p : Player) (initial old : List Device) (before mid : Option (List ℕ)) (line : Line)
-    → (r : Reached ends script (text ∷ texts) n p initial old before mid) → (b : LineBegun r.done line r.last P) → Over (beginning_of r.done).world r.played b.begun b.world b.text
-run_of ends script texts text n p initial old before mid line r b = over (beginning_of r.done).world r.last r.played b.begun b.world b.text r.run b.runs
+run_of : {table : List Row} {P : Option World → List Item → List ℕ → Type 0} (ends : Bool) (script : Script) (texts : List (List ℕ)) (text : List ℕ) (n : ℕ) (p : Player) (initial old : List Device) (before mid : Option (List ℕ)) (line : Line)
+    → (r : Reached table ends script (text ∷ texts) n p initial old before mid) → (b : LineBegun r.done line r.last P) → Over (beginning_of r.ground r.done).world r.played b.begun b.world b.text
+run_of ends script texts text n p initial old before mid line r b = over (beginning_of r.ground r.done).world r.last r.played b.begun b.world b.text r.run b.runs
 
 over_tells : (o v : Option World) (ps : List Played) (items : List Item) (t : List ℕ) → (x : Over o ps items v t) → played_text (ps ++ x.now) ≡ played_text ps ++ t
 over_tells o v ps items t x = played_more ps x.now ∙ ap (λ (xs : List ℕ). played_text ps ++ xs) (sym x.told)
 
-over_bounds : (boards : ℕ) (done : List Line) (v : Option World) (ps : List Played) (items : List Item) (t : List ℕ) → lacking boards done ≡ None → (x : Over (beginning_of done).world ps items v t) → InBounds boards done (map item_played (ps ++ x.now))
-over_bounds boards done v ps items t none x =
-    record { boards_enough = none; few_events = few_played done v (ps ++ x.now) x.run x.few }
+over_bounds : (boards : ℕ) (ground : Ground) (done : List Line) (v : Option World) (ps : List Played) (items : List Item) (t : List ℕ) → lacking boards done ≡ None → (x : Over (beginning_of ground done).world ps items v t) → InBounds boards done (map item_played (ps ++ x.now))
+over_bounds boards ground done v ps items t none x =
+    record { boards_enough = none; few_events = few_played ground done v (ps ++ x.now) x.run x.few }
 
 -- ---- a line of which all items were played
 
@@ -280,7 +292,9 @@ choose (x ∷ xs) (y ∷ ys) = inl (λ e. cc)
 
 -- a line that has items changes nothing of where the run begins, and needs no boards
 record IsBusy (line : Line) : Type 0 where
-  begins : (b : Beginning) → (begin_by b line).world ≡ b.world
+  begins : (g : Ground) (b : Beginning) → (begin_by g b line).world ≡ b.world
+  plain : is_boards line ≡ false
+  counts : (b : Beginning) → (begin_by no_ground b line).motes ≡ b.motes
   enough : (boards : ℕ) → lacking_by boards line None ≡ None
 
 no_items : {A : Type 0} (item : Item) (items : List Item) → [] ≡ item ∷ items → A
@@ -292,22 +306,22 @@ busy place cut (Motes n) item items e = no_items item items e
 busy place cut (Golden name used content) item items e = no_items item items e
 busy place cut Boards item items e = no_items item items e
 busy place cut (Link a b) item items e = no_items item items e
-busy place cut (Image image version name content) item items e = record { begins = λ b. refl; enough = λ boards. refl }
+busy place cut (Image image version name content) item items e = record { begins = λ g b. refl; plain = refl; counts = λ b. refl; enough = λ boards. refl }
 busy place cut (Cut c) item items e = no_items item items e
-busy place cut (Happens event) item items e = record { begins = λ b. refl; enough = λ boards. refl }
-busy place cut (Round a b) item items e = record { begins = λ b. refl; enough = λ boards. refl }
-busy place cut (Sweeps n) item items e = record { begins = λ b. refl; enough = λ boards. refl }
+busy place cut (Happens event) item items e = record { begins = λ g b. refl; plain = refl; counts = λ b. refl; enough = λ boards. refl }
+busy place cut (Round a b) item items e = record { begins = λ g b. refl; plain = refl; counts = λ b. refl; enough = λ boards. refl }
+busy place cut (Sweeps n) item items e = record { begins = λ g b. refl; plain = refl; counts = λ b. refl; enough = λ boards. refl }
 
 -- the items of one more line
 items_with : (done : List Line) (line : Line) (begun : List Item) → item_by (place_behind first_place done) (cut_behind None done) line ≡ begun → items_of (done ++ line ∷ []) ≡ items_of done ++ begun
 items_with done line begun parts = items_next done line ∙ ap (λ (xs : List Item). items_of done ++ xs) parts
 
-run_with : (done : List Line) (line : Line) (ps : List Played) (v : Option World) → IsBusy line → RunsTo (beginning_of done).world ps v → RunsTo (beginning_of (done ++ line ∷ [])).world ps v
-run_with done line ps v busy run =
-    subst (λ (o : Option World). RunsTo o ps v) (sym (ap (λ (b : Beginning). b.world) (begin_next _ done line) ∙ busy.begins (beginning_of done))) run
+run_with : (ground : Ground) (done : List Line) (line : Line) (ps : List Played) (v : Option World) → IsBusy line → RunsTo (beginning_of ground done).world ps v → RunsTo (beginning_of ground (done ++ line ∷ [])).world ps v
+run_with ground done line ps v busy run =
+    subst (λ (o : Option World). RunsTo o ps v) (sym (ap (λ (b : Beginning). b.world) (begin_next ground _ done line) ∙ busy.begins ground (beginning_of ground done))) run
 
-abbrev all_of_line : (ends : Bool) (script : Script) (texts : List (List ℕ)) (text : List ℕ) (n : ℕ) (p : Player) (initial old : List Device) (before mid : Option (List ℕ)) (line : Line) (begun : List Item) (v : Option World) (t : List ℕ)
-    → (r : Reached ends script (text ∷ texts) n p initial old before mid) → line_of p.place text ≡ Ok line → item_by (place_behind first_place r.done) (cut_behind None r.done) line ≡ begun → IsBusy line → Over (beginning_of r.done).world r.played begun v t → Progress script
+abbrev all_of_line : {table : List Row} (ends : Bool) (script : Script) (texts : List (List ℕ)) (text : List ℕ) (n : ℕ) (p : Player) (initial old : List Device) (before mid : Option (List ℕ)) (line : Line) (begun : List Item) (v : Option World) (t : List ℕ)
+    → (r : Reached table ends script (text ∷ texts) n p initial old before mid) → line_of p.place text ≡ Ok line → item_by (place_behind first_place r.done) (cut_behind None r.done) line ≡ begun → IsBusy line → Over (beginning_of r.ground r.done).world r.played begun v t → Progress table script
 all_of_line ends script texts text n p initial old before mid line begun v t r spelled parts busy o =
     record {
       done = r.done ++ line ∷ [];
@@ -320,7 +334,9 @@ all_of_line ends script texts text n p initial old before mid line begun v t r s
       parts = refl;
       within = λ e. refl;
       items = items_over r.done r.played o.now begun r.items o.are ∙ sym (items_with r.done line begun parts) ∙ sym (append-nil (items_of (r.done ++ line ∷ [])));
-      run = run_with r.done line (r.played ++ o.now) v busy o.run;
+      ground = r.ground;
+      grounded = λ uses. (grounded_next r.ground r.done line busy.plain busy.counts r.grounded uses).0;
+      run = run_with r.ground r.done line (r.played ++ o.now) v busy o.run;
     }
 
 -- ---- stops
@@ -335,6 +351,19 @@ next_in (Some u) left full = full.next
 
 some_left : (v : Option World) (left : List Item) → InSome v (λ u. IsOneTooMany u left) → left ≡ [] → ⊥
 some_left v left full none = let next = next_in v left full in cons_not left next.more _ next.is none
+
+-- an event that found no image is left
+lacks_next : (v : Option World) (left : List Item) (old new : List Device) → InSome v (λ u. LacksImage u left old new) → EventNext left
+lacks_next None left old new lacks = absurd lacks
+lacks_next (Some u) left old new lacks = lacks.next
+
+lacks_left : (v : Option World) (left : List Item) (old new : List Device) → InSome v (λ u. LacksImage u left old new) → left ≡ [] → ⊥
+lacks_left v left old new lacks none = let next = lacks_next v left old new lacks in cons_not left next.more _ next.is none
+
+-- the boards are used as they are, or not
+uses_or : (b : Bool) → (b ≡ true) ⊎ (b ≡ true → ⊥)
+uses_or true = inl refl
+uses_or false = inr (λ e. cc)
 
 -- its boards are formatted
 begun_world : (P : World → Type 0) (p : Player) (w v : Option World) (items : List Item) (t : List ℕ) (now : List Device) → InSome v P → RunsFrom w items v t → InWorld p w now → IsBehind p.place
@@ -351,7 +380,8 @@ stop_within place cut (Golden name used content) motes begun left v initial now 
 stop_within place cut line motes begun (x ∷ left) v initial now parts s none = cc
 stop_within place cut Nothing motes begun [] v initial now parts s none = absurd s.there
 stop_within place cut (Motes n) motes begun [] v initial now parts s none = absurd s.there
-stop_within place cut Boards motes begun [] v initial now parts s none = absurd s.there
+stop_within place cut Boards motes begun [] None initial now parts s none = front_none begun [] parts
+stop_within place cut Boards motes begun [] (Some v) initial now parts s none = absurd s.there
 stop_within place cut (Link a b) motes begun [] v initial now parts s none = absurd s.there
 stop_within place cut (Image image version name content) motes begun [] v initial now parts s none = absurd s.there
 stop_within place cut (Cut c) motes begun [] v initial now parts s none = absurd s.there
@@ -367,23 +397,23 @@ begun_some : (o v : Option World) (ps : List Played) (begun : List Item) (t : Li
 begun_some o v ps begun t x some none = some (x.told ∙ none_told x.now (x.are ∙ none))
 
 -- memory ran out in a line
-memory_begun : (ends : Bool) (script : Script) (texts : List (List ℕ)) (text : List ℕ) (n : ℕ) (p : Player) (initial old now : List Device) (before mid after : Option (List ℕ)) (line : Line) (r : Reached ends script (text ∷ texts) n p initial old before mid)
-    → line_of p.place text ≡ Ok line → (b : LineBegun r.done line r.last (λ v left t. BoardsStand v initial now)) → Choice b.begun b.left → after ≡ mid → PlayedFront script initial before after (λ c text. BoardsStand c.last initial now × Unit {0})
+memory_begun : {table : List Row} (ends : Bool) (script : Script) (texts : List (List ℕ)) (text : List ℕ) (n : ℕ) (p : Player) (initial old now : List Device) (before mid after : Option (List ℕ)) (line : Line) (r : Reached table ends script (text ∷ texts) n p initial old before mid)
+    → line_of p.place text ≡ Ok line → (b : LineBegun r.done line r.last (λ v left t. BoardsStand v initial now)) → Choice b.begun b.left → after ≡ mid → PlayedFront table script initial before after (λ c text. BoardsStand c.last initial now × Unit {0})
 memory_begun ends script texts text n p initial old now before mid after line r spelled b (inl within) none =
     let o = run_of ends script texts text n p initial old before mid line r b in
     front_put script initial before mid after r.played b.text (in_line ends script texts text n p initial old before mid line r spelled b o within) r.told
-    (over_tells (beginning_of r.done).world b.world r.played b.begun b.text o) (front_kept mid after b.text none)
-    (over_bounds (length initial) r.done b.world r.played b.begun b.text r.boards_enough o) (λ k. (b.there, tt))
+    (over_tells (beginning_of r.ground r.done).world b.world r.played b.begun b.text o) (front_kept mid after b.text none)
+    (over_bounds (length initial) r.ground r.done b.world r.played b.begun b.text r.boards_enough o) (λ uses. (r.grounded uses).1) (λ k. (b.there, tt))
 memory_begun ends script texts text n p initial old now before mid after line r spelled b (inr (left, (item, items, begun))) none =
     let o = run_of ends script texts text n p initial old before mid line r b in
     let parts = b.parts ∙ ap (λ (xs : List Item). b.begun ++ xs) left ∙ append-nil b.begun in
     let does : IsBusy line = busy (place_behind first_place r.done) (cut_behind None r.done) line item items (parts ∙ begun) in
     front_put script initial before mid after r.played b.text (all_of_line ends script texts text n p initial old before mid line b.begun b.world b.text r spelled parts does o) r.told
-    (over_tells (beginning_of r.done).world b.world r.played b.begun b.text o) (front_kept mid after b.text none)
+    (over_tells (beginning_of r.ground r.done).world b.world r.played b.begun b.text o) (front_kept mid after b.text none)
     (record {
       boards_enough = lacking_next (length initial) r.done line r.boards_enough (does.enough (length initial));
-      few_events = (over_bounds (length initial) r.done b.world r.played b.begun b.text r.boards_enough o).few_events;
-    }) (λ k. (b.there, tt))
+      few_events = (over_bounds (length initial) r.ground r.done b.world r.played b.begun b.text r.boards_enough o).few_events;
+    }) (λ uses. (grounded_next r.ground r.done line does.plain does.counts r.grounded uses).1) (λ k. (b.there, tt))
 
 -- what is told of the lines that were done before is what was told then
 told_front : (done all : List Line) (ps behind : List Played) → take (length done) all ≡ done → map item_played ps ≡ items_of done → played_text (take (length (items_of (take (length done) all))) (ps ++ behind)) ≡ played_text ps
@@ -397,8 +427,8 @@ told_all done ps items =
     ap (λ (ls : List Line). played_text (take (length (items_of ls)) ps)) (take_all (length done) done (omega arith)) ∙ ap played_text (take_all (length (items_of done)) ps (omega (arith, count)))
 
 -- all that was told before a line that was played was written
-told_line : (ends : Bool) (script : Script) (texts : List (List ℕ)) (text : List ℕ) (n : ℕ) (p q : Player) (initial old now : List Device) (before mid : Option (List ℕ))
-    → (r : Reached ends script (text ∷ texts) n p initial old before mid) → (t : TextPlayed text p q r.done r.last initial now) → (on : RunsOn r.done t.line t.to.world t.to.text r.played) → (told : List ℕ) (k : ℕ) → told ≡ t.to.text
+told_line : {table : List Row} (ends : Bool) (script : Script) (texts : List (List ℕ)) (text : List ℕ) (n : ℕ) (p q : Player) (initial old now : List Device) (before mid : Option (List ℕ))
+    → (r : Reached table ends script (text ∷ texts) n p initial old before mid) → (t : TextPlayed table text p q r.done r.last initial now) → (on : RunsOn table initial r.done t.line t.to.world t.to.text r.played) → (told : List ℕ) (k : ℕ) → told ≡ t.to.text
     → ToldBefore n (behind_line ends script texts text n p q initial old now before mid r t on) (played_text r.played ++ take k told)
 told_line ends script texts text n p q initial old now before mid r t on told k same =
     ⊎_elim
@@ -423,22 +453,22 @@ told_line ends script texts text n p q initial old now before mid r t on told k 
     on.on
 
 -- a line was played, and what is told of it was not all written
-cut_told : (ends : Bool) (script : Script) (texts : List (List ℕ)) (text : List ℕ) (n : ℕ) (p q : Player) (initial old now : List Device) (before mid after : Option (List ℕ))
-    → (r : Reached ends script (text ∷ texts) n p initial old before mid) → TextCut text p q r.done r.last initial now mid after → PlayedFront script initial before after (λ c text. BoardsLeft status.WriteFault c initial now × ToldBefore n c text × Unit {0})
+cut_told : {table : List Row} (ends : Bool) (script : Script) (texts : List (List ℕ)) (text : List ℕ) (n : ℕ) (p q : Player) (initial old now : List Device) (before mid after : Option (List ℕ))
+    → (r : Reached table ends script (text ∷ texts) n p initial old before mid) → TextCut table text p q r.done r.last initial now mid after → PlayedFront table script initial before after (λ c text. BoardsLeft status.WriteFault c initial now × ToldBefore n c text × Unit {0})
 cut_told ends script texts text n p q initial old now before mid after r t =
     let to = t.played.to in
     let line = t.played.line in
-    let on = to.runs r.played r.items r.run in
+    let on = to.runs r.ground r.played r.grounded r.items r.run in
     front_put script initial before mid after r.played t.played.told (behind_line ends script texts text n p q initial old now before mid r t.played on) r.told
     (on.told ∙ ap (λ (xs : List ℕ). played_text r.played ++ xs) (sym to.told_now)) t.written
     (record {
       boards_enough = lacking_next (length initial) r.done line r.boards_enough to.boards_enough;
-      few_events = few_next (r.done ++ line ∷ []) to.world on.now q now on.run to.stood.world;
-    }) (λ k. (inl to.stood.boards, told_line ends script texts text n p q initial old now before mid r t.played on t.played.told k to.told_now, tt))
+      few_events = few_next on.ground (r.done ++ line ∷ []) to.world on.now q now on.run to.stood.world;
+    }) (λ uses. (on.grounded uses).1) (λ k. (inl to.stood.boards, told_line ends script texts text n p q initial old now before mid r t.played on t.played.told k to.told_now, tt))
 
 -- all that was told before a line that was begun was written
-told_begun : {P : Option World → List Item → List ℕ → Type 0} (ends : Bool) (script : Script) (texts : List (List ℕ)) (text : List ℕ) (n : ℕ) (p : Player) (initial old : List Device) (before mid : Option (List ℕ)) (line : Line)
-    → (r : Reached ends script (text ∷ texts) n p initial old before mid) → (spelled : line_of p.place text ≡ Ok line) → (b : LineBegun r.done line r.last P) → (o : Over (beginning_of r.done).world r.played b.begun b.world b.text) → (within : b.left ≡ [] → b.begun ≡ []) → (k : ℕ)
+told_begun : {table : List Row} {P : Option World → List Item → List ℕ → Type 0} (ends : Bool) (script : Script) (texts : List (List ℕ)) (text : List ℕ) (n : ℕ) (p : Player) (initial old : List Device) (before mid : Option (List ℕ)) (line : Line)
+    → (r : Reached table ends script (text ∷ texts) n p initial old before mid) → (spelled : line_of p.place text ≡ Ok line) → (b : LineBegun r.done line r.last P) → (o : Over (beginning_of r.ground r.done).world r.played b.begun b.world b.text) → (within : b.left ≡ [] → b.begun ≡ []) → (k : ℕ)
     → ToldBefore n (in_line ends script texts text n p initial old before mid line r spelled b o within) (played_text r.played ++ take k b.text)
 told_begun ends script texts text n p initial old before mid line r spelled b o within k = record {
   lines = length r.done;
@@ -449,54 +479,96 @@ told_begun ends script texts text n p initial old before mid line r spelled b o 
 }
 
 -- a line was begun, and so
-cut_begun : (ends : Bool) (script : Script) (texts : List (List ℕ)) (text : List ℕ) (n : ℕ) (p : Player) (initial old now : List Device) (before mid after : Option (List ℕ)) (line : Line) (r : Reached ends script (text ∷ texts) n p initial old before mid)
-    → line_of p.place text ≡ Ok line → (b : LineBegun r.done line r.last (λ v left t. CutAtStop r.done line v left t initial now mid after ⊎ CutAtTooMany v left t initial now mid after))
-    → CutAtStop r.done line b.world b.left b.text initial now mid after ⊎ CutAtTooMany b.world b.left b.text initial now mid after → PlayedFront script initial before after (λ c text. BoardsLeft status.WriteFault c initial now × ToldBefore n c text × Unit {0})
-cut_begun ends script texts text n p initial old now before mid after line r spelled b (inl (some, stop, cut)) =
+cut_begun : {table : List Row} (ends : Bool) (script : Script) (texts : List (List ℕ)) (text : List ℕ) (n : ℕ) (p : Player) (initial old now : List Device) (before mid after : Option (List ℕ)) (line : Line) (r : Reached table ends script (text ∷ texts) n p initial old before mid)
+    → line_of p.place text ≡ Ok line → (b : LineBegun r.done line r.last (λ v left t. CutAtStop r.done line v left t initial now mid after ⊎ (CutAtTooMany v left t initial now mid after ⊎ CutAtImage v left t initial now mid after)))
+    → CutAtStop r.done line b.world b.left b.text initial now mid after ⊎ (CutAtTooMany b.world b.left b.text initial now mid after ⊎ CutAtImage b.world b.left b.text initial now mid after)
+    → (InSome b.world (λ u. LacksImage u b.left initial now) → UsesBoards r.done) → PlayedFront table script initial before after (λ c text. BoardsLeft status.WriteFault c initial now × ToldBefore n c text × Unit {0})
+cut_begun ends script texts text n p initial old now before mid after line r spelled b (inl (some, stop, cut)) uses =
     let o = run_of ends script texts text n p initial old before mid line r b in
     let within = stop_within (place_behind first_place r.done) (cut_behind None r.done) line (motes_in r.done) b.begun b.left b.world initial now b.parts stop in
     front_put script initial before mid after r.played b.text (in_line ends script texts text n p initial old before mid line r spelled b o within) r.told
-    (over_tells (beginning_of r.done).world b.world r.played b.begun b.text o) cut
-    (over_bounds (length initial) r.done b.world r.played b.begun b.text r.boards_enough o)
+    (over_tells (beginning_of r.ground r.done).world b.world r.played b.begun b.text o) cut
+    (over_bounds (length initial) r.ground r.done b.world r.played b.begun b.text r.boards_enough o) (λ uses. (r.grounded uses).1)
     (λ k. (
-      inr (begun_some (beginning_of r.done).world b.world r.played b.begun b.text o some, stopped_more (motes_in r.done) line _ b.left b.world initial now stop),
+      inr (inl (begun_some (beginning_of r.ground r.done).world b.world r.played b.begun b.text o some, stopped_more (motes_in r.done) line _ b.left b.world initial now stop)),
       told_begun ends script texts text n p initial old before mid line r spelled b o within k,
       tt,
     ))
-cut_begun ends script texts text n p initial old now before mid after line r spelled b (inr (full, boards, cut)) =
+cut_begun ends script texts text n p initial old now before mid after line r spelled b (inr (inl (full, boards, cut))) uses =
     let o = run_of ends script texts text n p initial old before mid line r b in
     front_put script initial before mid after r.played b.text (in_line ends script texts text n p initial old before mid line r spelled b o (λ none. absurd (some_left b.world b.left full none))) r.told
-    (over_tells (beginning_of r.done).world b.world r.played b.begun b.text o) cut
-    (over_bounds (length initial) r.done b.world r.played b.begun b.text r.boards_enough o)
+    (over_tells (beginning_of r.ground r.done).world b.world r.played b.begun b.text o) cut
+    (over_bounds (length initial) r.ground r.done b.world r.played b.begun b.text r.boards_enough o) (λ uses. (r.grounded uses).1)
     (λ k. (inl boards, told_begun ends script texts text n p initial old before mid line r spelled b o (λ none. absurd (some_left b.world b.left full none)) k, tt))
 
+cut_begun ends script texts text n p initial old now before mid after line r spelled b (inr (inr (some, lacks, cut))) uses =
+    let o = run_of ends script texts text n p initial old before mid line r b in
+    let within : b.left ≡ [] → b.begun ≡ [] = λ none. absurd (lacks_left b.world b.left initial now lacks none) in
+    front_put script initial before mid after r.played b.text (in_line ends script texts text n p initial old before mid line r spelled b o within) r.told
+    (over_tells (beginning_of r.ground r.done).world b.world r.played b.begun b.text o) cut
+    (over_bounds (length initial) r.ground r.done b.world r.played b.begun b.text r.boards_enough o) (λ uses. (r.grounded uses).1)
+    (λ k. (
+      inr (inr (inr (uses lacks, lacks))),
+      told_begun ends script texts text n p initial old before mid line r spelled b o within k,
+      tt,
+    ))
+
+-- all that was told before a line that was begun was told, whatever follows all that is told of that
+image_told : {table : List Row} {P : Option World → List Item → List ℕ → Type 0} (ends : Bool) (script : Script) (texts : List (List ℕ)) (text : List ℕ) (n : ℕ) (p : Player) (initial old : List Device) (before mid : Option (List ℕ)) (line : Line)
+    → (r : Reached table ends script (text ∷ texts) n p initial old before mid) → (spelled : line_of p.place text ≡ Ok line) → (b : LineBegun r.done line r.last P) → (o : Over (beginning_of r.ground r.done).world r.played b.begun b.world b.text) → (within : b.left ≡ [] → b.begun ≡ []) → (more : List ℕ)
+    → ToldBefore n (in_line ends script texts text n p initial old before mid line r spelled b o within) (played_text (r.played ++ o.now) ++ more)
+image_told ends script texts text n p initial old before mid line r spelled b o within more = record {
+  lines = length r.done;
+  within = omega arith;
+  behind = omega (arith, r.numbered);
+  more = b.text ++ more;
+  told = ap (λ (xs : List ℕ). xs ++ more) (over_tells (beginning_of r.ground r.done).world b.world r.played b.begun b.text o) ∙ append_assoc (played_text r.played) b.text more
+      ∙ ap (λ (xs : List ℕ). xs ++ (b.text ++ more)) (sym (told_front r.done r.done r.played o.now (take_all (length r.done) r.done (omega arith)) r.items));
+}
+
+-- an event of a line found no image to start
+image_begun : {table : List Row} (ends : Bool) (script : Script) (texts : List (List ℕ)) (text : List ℕ) (n : ℕ) (p : Player) (initial old now : List Device) (before mid after : Option (List ℕ)) (line : Line) (r : Reached table ends script (text ∷ texts) n p initial old before mid)
+    → line_of p.place text ≡ Ok line → UsesBoards r.done → LineBegun r.done line r.last (λ v left t. InSome v (λ u. LacksImage u left initial now) × Puts mid after t)
+    → PlayedUpTo table script initial before after (λ c. ((line : Line) × (more : List Line) × (c.rest ≡ line ∷ more)) × UsesBoards c.done × NoImageThere c initial now × ((more : List ℕ) → ToldBefore n c (played_text c.played ++ more)) × Unit {0})
+image_begun ends script texts text n p initial old now before mid after line r spelled uses b =
+    let o = run_of ends script texts text n p initial old before mid line r b in
+    record {
+      came = in_line ends script texts text n p initial old before mid line r spelled b o (λ none. absurd (lacks_left b.world b.left initial now b.there.0 none));
+      told = all_put before mid after r.played (r.played ++ o.now) b.text r.told (over_tells (beginning_of r.ground r.done).world b.world r.played b.begun b.text o) b.there.1;
+      limits = over_bounds (length initial) r.ground r.done b.world r.played b.begun b.text r.boards_enough o;
+      stood = λ uses. (r.grounded uses).1;
+      there = ((line, _, refl), uses, b.there.0, λ more. image_told ends script texts text n p initial old before mid line r spelled b o (λ none. absurd (lacks_left b.world b.left initial now b.there.0 none)) more, tt);
+    }
+
 -- a board stopped in a line
-stop_begun : (ends : Bool) (script : Script) (texts : List (List ℕ)) (text : List ℕ) (n : ℕ) (p : Player) (initial old now : List Device) (before mid after : Option (List ℕ)) (line : Line) (r : Reached ends script (text ∷ texts) n p initial old before mid)
+stop_begun : {table : List Row} (ends : Bool) (script : Script) (texts : List (List ℕ)) (text : List ℕ) (n : ℕ) (p : Player) (initial old now : List Device) (before mid after : Option (List ℕ)) (line : Line) (r : Reached table ends script (text ∷ texts) n p initial old before mid)
     → line_of p.place text ≡ Ok line → UsesBoard line → LineBegun r.done line r.last (λ v left t. StoppedIn (motes_in r.done) (line ∷ []) left v initial now × Puts mid after t)
-    → PlayedUpTo script initial before after (λ c. ((line : Line) × (more : List Line) × (c.rest ≡ line ∷ more) × UsesBoard line) × BoardStoppedThere c initial now × Unit {0})
+    → PlayedUpTo table script initial before after (λ c. ((line : Line) × (more : List Line) × (c.rest ≡ line ∷ more) × UsesBoard line) × BoardStoppedThere c initial now × Unit {0})
 stop_begun ends script texts text n p initial old now before mid after line r spelled uses b =
     let o = run_of ends script texts text n p initial old before mid line r b in
     let stop = b.there.0 in
     record {
       came = in_line ends script texts text n p initial old before mid line r spelled b o
           (stop_within (place_behind first_place r.done) (cut_behind None r.done) line (motes_in r.done) b.begun b.left b.world initial now b.parts stop);
-      told = all_put before mid after r.played (r.played ++ o.now) b.text r.told (over_tells (beginning_of r.done).world b.world r.played b.begun b.text o) b.there.1;
-      limits = over_bounds (length initial) r.done b.world r.played b.begun b.text r.boards_enough o;
+      told = all_put before mid after r.played (r.played ++ o.now) b.text r.told (over_tells (beginning_of r.ground r.done).world b.world r.played b.begun b.text o) b.there.1;
+      limits = over_bounds (length initial) r.ground r.done b.world r.played b.begun b.text r.boards_enough o;
+      stood = λ uses. (r.grounded uses).1;
       there = ((line, _, refl, uses), stopped_more (motes_in r.done) line _ b.left b.world initial now stop, tt);
     }
 
 -- there were too many events in it
-many_begun : (ends : Bool) (script : Script) (texts : List (List ℕ)) (text : List ℕ) (n : ℕ) (p : Player) (initial old now : List Device) (before mid after : Option (List ℕ)) (line : Line) (r : Reached ends script (text ∷ texts) n p initial old before mid)
+many_begun : {table : List Row} (ends : Bool) (script : Script) (texts : List (List ℕ)) (text : List ℕ) (n : ℕ) (p : Player) (initial old now : List Device) (before mid after : Option (List ℕ)) (line : Line) (r : Reached table ends script (text ∷ texts) n p initial old before mid)
     → line_of p.place text ≡ Ok line → LineBegun r.done line r.last (λ v left t. InSome v (λ u. IsOneTooMany u left) × BoardsStand v initial now × Puts mid after t)
-    → PlayedUpTo script initial before after (λ c. AtTooMany c.left c.played × BoardsStand c.last initial now × (lacking (length initial) script.lines ≡ None) × Unit {0})
+    → PlayedUpTo table script initial before after (λ c. AtTooMany c.left c.played × BoardsStand c.last initial now × (lacking (length initial) script.lines ≡ None) × Unit {0})
 many_begun ends script texts text n p initial old now before mid after line r spelled b =
     let o = run_of ends script texts text n p initial old before mid line r b in
     record {
       came = in_line ends script texts text n p initial old before mid line r spelled b o (λ none. absurd (some_left b.world b.left b.there.0 none));
-      told = all_put before mid after r.played (r.played ++ o.now) b.text r.told (over_tells (beginning_of r.done).world b.world r.played b.begun b.text o) b.there.2;
-      limits = over_bounds (length initial) r.done b.world r.played b.begun b.text r.boards_enough o;
+      told = all_put before mid after r.played (r.played ++ o.now) b.text r.told (over_tells (beginning_of r.ground r.done).world b.world r.played b.begun b.text o) b.there.2;
+      limits = over_bounds (length initial) r.ground r.done b.world r.played b.begun b.text r.boards_enough o;
+      stood = λ uses. (r.grounded uses).1;
       there = (
-        too_many_played r.done b.world (r.played ++ o.now) b.left o.run b.there.0,
+        too_many_played r.ground r.done b.world (r.played ++ o.now) b.left o.run b.there.0,
         b.there.1,
         subst (λ (ls : List Line). lacking (length initial) ls ≡ None) r.lines
             (lacking_append (length initial) r.done (script_from ends p.place n (text ∷ texts)).lines r.boards_enough
@@ -506,26 +578,27 @@ many_begun ends script texts text n p initial old now before mid after line r sp
     }
 
 -- nothing was done behind the lines that were done
-nothing_more : (ends : Bool) (script : Script) (texts : List (List ℕ)) (n : ℕ) (p : Player) (initial old now : List Device) (before mid after : Option (List ℕ))
-    → Reached ends script texts n p initial old before mid → NothingDone old now mid after → PlayedFront script initial before after (λ c text. BoardsStand c.last initial now × Unit {0})
+nothing_more : {table : List Row} (ends : Bool) (script : Script) (texts : List (List ℕ)) (n : ℕ) (p : Player) (initial old now : List Device) (before mid after : Option (List ℕ))
+    → Reached table ends script texts n p initial old before mid → NothingDone old now mid after → PlayedFront table script initial before after (λ c text. BoardsStand c.last initial now × Unit {0})
 nothing_more ends script texts n p initial old now before mid after r none =
     front_put script initial before mid after r.played [] (at_line ends script texts n p initial old before mid r) r.told (sym (append-nil (played_text r.played))) (front_kept mid after [] none.told)
     (record { boards_enough = r.boards_enough; few_events = few_items r.done r.played r.items r.few })
-    (λ k. (subst (λ (ds : List Device). BoardsStand r.last initial ds) (sym none.boards) r.stood.boards, tt))
+    (λ uses. (r.grounded uses).1) (λ k. (subst (λ (ds : List Device). BoardsStand r.last initial ds) (sym none.boards) r.stood.boards, tt))
 
 -- where a line was read and not begun
-at_line_put : (ends : Bool) (script : Script) (texts : List (List ℕ)) (n : ℕ) (p : Player) (initial old : List Device) (before mid after : Option (List ℕ)) {P : Progress script → Type 0} → (r : Reached ends script texts n p initial old before mid) → after ≡ mid
-    → P (at_line ends script texts n p initial old before mid r) → PlayedUpTo script initial before after P
+at_line_put : {table : List Row} (ends : Bool) (script : Script) (texts : List (List ℕ)) (n : ℕ) (p : Player) (initial old : List Device) (before mid after : Option (List ℕ)) {P : Progress table script → Type 0} → (r : Reached table ends script texts n p initial old before mid) → after ≡ mid
+    → P (at_line ends script texts n p initial old before mid r) → PlayedUpTo table script initial before after P
 at_line_put ends script texts n p initial old before mid after r none there =
     record {
       came = at_line ends script texts n p initial old before mid r;
       told = subst (λ (o : Option (List ℕ)). Puts before o (played_text r.played)) (sym none) r.told;
       limits = record { boards_enough = r.boards_enough; few_events = few_items r.done r.played r.items r.few };
+      stood = λ uses. (r.grounded uses).1;
       there = there;
     }
 
 -- a script all of whose lines were done
-pub all_done : (ends : Bool) (script : Script) (texts : List (List ℕ)) (n : ℕ) (p : Player) (initial now : List Device) (before mid : Option (List ℕ)) → (r : Reached ends script texts n p initial now before mid)
+pub all_done : {table : List Row} (ends : Bool) (script : Script) (texts : List (List ℕ)) (n : ℕ) (p : Player) (initial now : List Device) (before mid : Option (List ℕ)) → (r : Reached table ends script texts n p initial now before mid)
     → (script_from ends p.place n texts).lines ≡ [] → HasFew script initial
 all_done ends script texts n p initial now before mid r none =
     let all : r.done ≡ script.lines = sym (append-nil r.done) ∙ ap (λ (ls : List Line). r.done ++ ls) (sym none) ∙ r.lines in
@@ -534,10 +607,18 @@ all_done ends script texts n p initial now before mid r none =
       boards_enough = subst (λ (ls : List Line). lacking (length initial) ls ≡ None) all r.boards_enough;
     }
 
+-- no script with golden lacks an image
+image_uses : {table : List Row} {ends : Bool} {script : Script} {texts : List (List ℕ)} {text : List ℕ} {n : ℕ} {p : Player} {initial old now : List Device} {before mid : Option (List ℕ)} (r : Reached table ends script (text ∷ texts) n p initial old before mid)
+    → ((UsesBoards r.done → ⊥) → TextRead text p (λ line. LineBegun r.done line r.last (λ v left t. InSome v (λ u. LacksImage u left initial now))) → ⊥)
+    → (line : Line) → line_of p.place text ≡ Ok line → (begun left : List Item) → item_by (place_behind first_place r.done) (cut_behind None r.done) line ≡ begun ++ left → (world : Option World) (told : List ℕ) → RunsFrom r.last begun world told
+    → InSome world (λ u. LacksImage u left initial now) → UsesBoards r.done
+image_uses r found line spelled begun left parts world told runs lacks =
+    ⊎_elim (λ uses. uses) (λ alone. absurd (found alone (record { line = line; spelled = spelled; there = record { begun = begun; left = left; parts = parts; world = world; text = told; runs = runs; there = lacks } }))) (uses_or (list_any is_boards r.done))
+
 -- a stop at a line, behind the lines that were done
-pub stopped_at : (stop : Stop) (ends : Bool) (script : Script) (texts : List (List ℕ)) (text : List ℕ) (n : ℕ) (p q : Player) (initial old now : List Device) (before mid after : Option (List ℕ)) (failed worse : Type 0) → (failed → worse)
-    → (r : Reached ends script (text ∷ texts) n p initial old before mid) → (TextRead text p (λ line. LineBegun r.done line r.last (λ v left t. InSome v (λ u. LacksImage u left))) → ⊥)
-    → TextAnswer (Err stop) text n p q r.done r.last initial old now mid after failed → StopsThere stop script n initial now before after worse
+pub stopped_at : {table : List Row} (stop : Stop) (ends : Bool) (script : Script) (texts : List (List ℕ)) (text : List ℕ) (n : ℕ) (p q : Player) (initial old now : List Device) (before mid after : Option (List ℕ)) (failed worse : Type 0) → (failed → worse)
+    → (r : Reached table ends script (text ∷ texts) n p initial old before mid) → ((UsesBoards r.done → ⊥) → TextRead text p (λ line. LineBegun r.done line r.last (λ v left t. InSome v (λ u. LacksImage u left initial now))) → ⊥)
+    → TextAnswer table (Err stop) text n p q r.done r.last initial old now mid after failed → StopsThere table stop script n initial now before after worse
 stopped_at Memory ends script texts text n p q initial old now before mid after failed worse spread r found (inl none) = nothing_more ends script (text ∷ texts) n p initial old now before mid after r none
 stopped_at Memory ends script texts text n p q initial old now before mid after failed worse spread r found (inr (t, none)) =
     memory_begun ends script texts text n p initial old now before mid after t.line r t.spelled t.there (choose t.there.begun t.there.left) none
@@ -556,7 +637,7 @@ stopped_at (BadInput line fault) ends script texts text n p q initial old now be
 stopped_at WriteFault ends script texts text n p q initial old now before mid after failed worse spread r found (rose, inl cut) =
     (spread rose, cut_told ends script texts text n p q initial old now before mid after r cut)
 stopped_at WriteFault ends script texts text n p q initial old now before mid after failed worse spread r found (rose, inr t) =
-    (spread rose, cut_begun ends script texts text n p initial old now before mid after t.line r t.spelled t.there t.there.there)
+    (spread rose, cut_begun ends script texts text n p initial old now before mid after t.line r t.spelled t.there t.there.there (λ lacks. image_uses r found t.line t.spelled t.there.begun t.there.left t.there.parts t.there.world t.there.text t.there.runs lacks))
 stopped_at FlashFault ends script texts text n p q initial old now before mid after failed worse spread r found t =
     stop_begun ends script texts text n p initial old now before mid after t.line r t.spelled t.there.0 t.there.1
 stopped_at TooMany ends script texts text n p q initial old now before mid after failed worse spread r found t =
@@ -571,13 +652,28 @@ stopped_at (NoBoard motes boards) ends script texts text n p q initial old now b
       r.boards_enough,
       tt,
     )
-stopped_at NoImage ends script texts text n p q initial old now before mid after failed worse spread r found t = absurd (found t)
+stopped_at NoImage ends script texts text n p q initial old now before mid after failed worse spread r found t =
+    let b = t.there in
+    image_begun ends script texts text n p initial old now before mid after t.line r t.spelled (image_uses r found t.line t.spelled b.begun b.left b.parts b.world b.text b.runs b.there.0) b
+stopped_at NotAVolume ends script texts text n p q initial old now before mid after failed worse spread r found (t, told) =
+    let spelled = t.spelled ∙ ap (λ (l : Line). Ok l) t.there.0 in
+    at_line_put ends script (text ∷ texts) n p initial old before mid after r told (
+      record { more = _; next = ap (λ (s : Script). s.lines) (script_line ends p.place n text texts Boards spelled); there = t.there.1 },
+      λ more. record {
+        lines = length r.done;
+        within = omega arith;
+        behind = omega (arith, r.numbered);
+        more = more;
+        told = ap (λ (xs : List ℕ). xs ++ more) (sym (told_all r.done r.played r.items));
+      },
+      tt,
+    )
 
 -- the first line of the script is reached at once
-pub reached_first : (ends : Bool) (texts : List (List ℕ)) (p : Player) (initial : List Device) (before : Option (List ℕ)) → p.place ≡ first_place → p.cut ≡ None → p.world ≡ None
-    → Reached ends (script_from ends first_place 1 texts) texts 1 p initial initial before before
+pub reached_first : {table : List Row} (ends : Bool) (texts : List (List ℕ)) (p : Player) (initial : List Device) (before : Option (List ℕ)) → p.place ≡ first_place → p.cut ≡ None → p.world ≡ None
+    → Reached table ends (script_from ends first_place 1 texts) texts 1 p initial initial before before
 unfolding cut_behind place_behind items_behind begin_behind lacking
-reached_first ends texts p initial before place cut world =
+reached_first {table} ends texts p initial before place cut world =
     record {
       done = [];
       played = [];
@@ -586,6 +682,8 @@ reached_first ends texts p initial before place cut world =
       fault = ap (λ (at : Place). (script_from ends at 1 texts).fault) place;
       numbered = refl;
       items = refl;
+      ground = record { stores = []; table = table };
+      grounded = λ uses. absurd (cc);
       run = (refl, refl);
       told = Puts-nil before;
       stood = record {
@@ -604,9 +702,9 @@ reached_first ends texts p initial before place cut world =
     }
 
 -- the texts that are left, where the next line was found
-pub reached_texts : (ends : Bool) (script : Script) (texts others : List (List ℕ)) (n : ℕ) (p : Player) (initial now : List Device) (before mid : Option (List ℕ)) → texts ≡ others
-    → Reached ends script texts n p initial now before mid → Reached ends script others n p initial now before mid
-reached_texts ends script texts others n p initial now before mid e r = subst (λ (ts : List (List ℕ)). Reached ends script ts n p initial now before mid) e r
+pub reached_texts : {table : List Row} (ends : Bool) (script : Script) (texts others : List (List ℕ)) (n : ℕ) (p : Player) (initial now : List Device) (before mid : Option (List ℕ)) → texts ≡ others
+    → Reached table ends script texts n p initial now before mid → Reached table ends script others n p initial now before mid
+reached_texts {table} ends script texts others n p initial now before mid e r = subst (λ (ts : List (List ℕ)). Reached table ends script ts n p initial now before mid) e r
 
 -- what stands for a world is ready
 pub ready_of : (p : Player) (done : List Line) (w : Option World) (initial now : List Device) → Stood p done w initial now → Ready p now

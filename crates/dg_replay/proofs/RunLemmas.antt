@@ -1,5 +1,5 @@
 -- What the top call did.
-use Rattle.std.proofs.Common.{◌≡◌, ◌≢◌, ◌⊎◌, inl, inr, ℕ, ◌+◌, ◌≤◌, Bool, true, false, List, [], ◌∷◌, ◌++◌, length, append_assoc, refl, ap, sym, ◌∙◌, subst, arith}
+use Rattle.std.proofs.Common.{◌≡◌, ◌≢◌, ◌⊎◌, inl, inr, ℕ, ◌+◌, ◌<◌, ◌≤◌, Bool, true, false, ◌||◌, List, [], ◌∷◌, ◌++◌, length, append_assoc, refl, ap, sym, ◌∙◌, subst, arith}
 use Rattle.std.specs.Prelude.{⊤, Option, Some, None, Err}
 use Rattle.dg_base.specs.Outside.{Takes, AtEnd}
 use Rattle.dg_base.proofs.OutsideLemmas.{Puts-nil, Takes-told, Takes-all}
@@ -7,24 +7,26 @@ use Rattle.dg_base.specs.declared.answers.Status.{Status}
 use Rattle.dg_base.specs.declared.answers.Status.TheVariants.{Done, Memory, Usage, BadInput, ReadFault, WriteFault, FlashFault, NotAVolume, Refused, LinkFault, TooLong, TooMany, NoBoard, NoImage}
 use Rattle.dg_words.specs.Counts.{Rose}
 use Rattle.dg_nor.specs.Device.{Device}
+use Rattle.dg_object.specs.Object.{Row}
 use Rattle.dg_script.specs.Sizes.{most_used_bytes}
 use Rattle.dg_script.specs.Items.{items_behind, items_of}
 use Rattle.dg_script.specs.Script.{Script}
 use Rattle.dg_script.specs.declared.line.Line.{Line}
+use Rattle.dg_script.specs.declared.line.Line.TheVariants.{Boards}
 use Rattle.dg_replay.specs.Boards.{BoardsStand, BoardStopped}
-use Rattle.dg_replay.specs.Items.{begin_behind, beginning_of, motes_in, lacking, next_items}
+use Rattle.dg_replay.specs.Items.{Ground, UsesBoards, is_boards, begin_behind, beginning_of, motes_in, lacking, next_items}
 use Rattle.dg_replay.specs.Ending.{Ending, Ends, Over, ending_from, ending_of, ending_line, status_of, script_of, is_over, InBounds, InLimits}
-use Rattle.dg_replay.specs.Outcome.{Progress, RunsTo, played_text, Wrote, IsSettled, AreWhole, AllWhole, NextIsWhole, ReadEnough, IsCaused, Replayed}
+use Rattle.dg_replay.specs.Outcome.{Progress, RunsTo, played_text, Wrote, BoardsLeft, NoVolumeThere, NoImageThere, IsComplete, AreVolumes, IsSettled, AreWhole, AllWhole, NextIsWhole, ReadEnough, IsCaused, Replayed}
 use Rattle.dg_replay.specs.Replaying.{Reached, PlayedUpTo, InputAnswer, StopEnds, EndsWith, ScriptReplayed}
 use Rattle.dg_replay.specs.declared.halt.Halt.{Halt}
 use Rattle.dg_replay.specs.declared.halt.Halt.TheVariants as halts
 use Rattle.dg_replay.specs.declared.stop.Stop.{Stop}
 use Rattle.dg_replay.specs.declared.player.Player.{Player}
 use Rattle.dg_replay.proofs.EndLemmas.{over_not, is_over-true, over_ends, stopped_ends, in_limits}
-use Rattle.dg_replay.proofs.TakenLemmas.{over_settled, over_done, none_whole, stopped_of_script}
+use Rattle.dg_replay.proofs.TakenLemmas.{over_settled, over_done, none_whole, stopped_of_script, known_in_script}
 
 -- where an input is at its end, the bytes are enough
-at_end_for : {script : Script} (s : Status) (n : ℕ) (input : List ℕ) (at_end : Type 0) (c : Progress script) (text : List ℕ) → at_end → ReadEnough s n input ⊤ c text → ReadEnough s n input at_end c text
+at_end_for : {table : List Row} {script : Script} (s : Status) (n : ℕ) (input : List ℕ) (at_end : Type 0) (c : Progress table script) (text : List ℕ) → at_end → ReadEnough s n input ⊤ c text → ReadEnough s n input at_end c text
 at_end_for ReadFault n input at_end c text e enough = enough
 at_end_for Memory n input at_end c text e enough = inl e
 at_end_for WriteFault n input at_end c text e enough = inl e
@@ -40,77 +42,77 @@ at_end_for TooMany n input at_end c text e enough = inl e
 at_end_for NoBoard n input at_end c text e enough = inl e
 at_end_for NoImage n input at_end c text e enough = inl e
 
-caused_too : (s : Status) (e : Ending) (r w b : Type 0) → IsCaused s e ⊥ w b → IsCaused s e r w b
-caused_too ReadFault e r w b h = absurd h
-caused_too Memory e r w b h = h
-caused_too WriteFault e r w b h = h
-caused_too FlashFault e r w b h = h
-caused_too _ e r w b h = h
+caused_too : (s : Status) (e : Ending) (r w b v i : Type 0) → IsCaused s e ⊥ w b v i → IsCaused s e r w b v i
+caused_too ReadFault e r w b v i h = absurd h
+caused_too Memory e r w b v i h = h
+caused_too WriteFault e r w b v i h = h
+caused_too FlashFault e r w b v i h = h
+caused_too _ e r w b v i h = h
 
 -- a script whose input was read to its end
-pub end_replayed : (s : Status) (input : List ℕ) (at_end : Type 0) (old new : List Device) (before after : Option (List ℕ)) (reads writes : Type 0) → at_end → length input ≤ most_used_bytes
-    → ScriptReplayed s (script_of input) (ending_from (length old) false (script_of input)) input ⊤ old new before after ⊥ writes
-    → ScriptReplayed s (script_of input) (ending_of (length old) input) input at_end old new before after reads writes
-end_replayed s input at_end old new before after reads writes ended few r =
-    let made : ScriptReplayed s (script_of input) (ending_from (length old) false (script_of input)) input at_end old new before after reads writes = record {
+pub end_replayed : {table : List Row} (s : Status) (input : List ℕ) (at_end : Type 0) (old new : List Device) (before after : Option (List ℕ)) (reads writes : Type 0) → at_end → length input ≤ most_used_bytes
+    → ScriptReplayed table s (script_of input) (ending_from (length old) false (script_of input)) input ⊤ old new before after ⊥ writes
+    → ScriptReplayed table s (script_of input) (ending_of (length old) input) input at_end old new before after reads writes
+end_replayed {table} s input at_end old new before after reads writes ended few r =
+    let made : ScriptReplayed table s (script_of input) (ending_from (length old) false (script_of input)) input at_end old new before after reads writes = record {
       came = r.came;
       text = r.text;
       written = r.written;
       report = r.report;
       enough = at_end_for s (length old) input at_end r.came r.text ended r.enough;
       near = r.near;
-      limits = r.limits;
+      limits = r.limits; stood = r.stood;
       boards = r.boards;
-      caused = caused_too s (ending_from (length old) false (script_of input)) reads writes (BoardStopped (motes_in r.came.done) old new) r.caused;
+      caused = caused_too s (ending_from (length old) false (script_of input)) reads writes (BoardStopped (motes_in r.came.done) old new) (NoVolumeThere r.came old new) ((UsesBoards r.came.done) × NoImageThere r.came old new) r.caused;
     } in
-    subst (λ (b : Bool). ScriptReplayed s (script_of input) (ending_from (length old) b (script_of input)) input at_end old new before after reads writes) (sym (over_not input few)) made
+    subst (λ (b : Bool). ScriptReplayed table s (script_of input) (ending_from (length old) b (script_of input)) input at_end old new before after reads writes) (sym (over_not input few)) made
 
 -- an input that is too long
-pub over_replayed : (s : Status) (input : List ℕ) (at_end : Type 0) (n : ℕ) (p : Player) (old new : List Device) (before mid after : Option (List ℕ)) (failed reads writes : Type 0) → (failed → writes) → length input ≡ most_used_bytes + 1
-    → Reached false (script_of input) [] n p old new before mid → EndsWith s TooLong (ending_line Over) mid after failed
-    → ScriptReplayed s (script_of input) (ending_of (length old) input) input at_end old new before after reads writes
-over_replayed s input at_end n p old new before mid after failed reads writes spread long r done =
+pub over_replayed : {table : List Row} (s : Status) (input : List ℕ) (at_end : Type 0) (n : ℕ) (p : Player) (old new : List Device) (before mid after : Option (List ℕ)) (failed reads writes : Type 0) → (failed → writes) → length input ≡ most_used_bytes + 1
+    → Reached table false (script_of input) [] n p old new before mid → EndsWith s TooLong (ending_line Over) mid after failed
+    → ScriptReplayed table s (script_of input) (ending_of (length old) input) input at_end old new before after reads writes
+over_replayed {table} s input at_end n p old new before mid after failed reads writes spread long r done =
     let over : is_over input ≡ true = is_over-true input (omega (arith, long)) in
-    subst (λ (b : Bool). ScriptReplayed s (script_of input) (ending_from (length old) b (script_of input)) input at_end old new before after reads writes) (sym over)
+    subst (λ (b : Bool). ScriptReplayed table s (script_of input) (ending_from (length old) b (script_of input)) input at_end old new before after reads writes) (sym over)
     (over_ends s (script_of input) input at_end n p old new before mid after failed reads writes spread (over_settled (length old) input over)
     (λ c. over_done input c.done c.rest c.begun c.left over c.lines c.parts) r done)
 
 -- a read failed
-pub failed_replayed : (input : List ℕ) (at_end : Type 0) (ending : Ending) (old new : List Device) (before after : Option (List ℕ)) (reads writes : Type 0) → reads
-    → PlayedUpTo (script_of input) old before after (λ c. (c.begun ≡ []) × BoardsStand c.last old new × AreWhole input c.done × AllWhole input c.done)
-    → ScriptReplayed ReadFault (script_of input) ending input at_end old new before after reads writes
+pub failed_replayed : {table : List Row} (input : List ℕ) (at_end : Type 0) (ending : Ending) (old new : List Device) (before after : Option (List ℕ)) (reads writes : Type 0) → reads
+    → PlayedUpTo table (script_of input) old before after (λ c. (c.begun ≡ []) × BoardsStand c.last old new × AreWhole input c.done × AllWhole input c.done)
+    → ScriptReplayed table ReadFault (script_of input) ending input at_end old new before after reads writes
 failed_replayed input at_end ending old new before after reads writes rose f =
-    record { came = f.came; text = played_text f.came.played; written = f.told; report = (refl, f.there.0); enough = (f.there.2, f.there.3); near = tt; limits = f.limits; boards = f.there.1; caused = rose }
+    record { came = f.came; text = played_text f.came.played; written = f.told; report = (refl, f.there.0); enough = (f.there.2, f.there.3); near = tt; limits = f.limits; stood = f.stood; boards = f.there.1; caused = rose }
 
 -- ---- how the lines that were played end
 
 -- a read failed
-pub halt_failed : (halt : Halt) (input : List ℕ) (at_end reads : Type 0) (old new : List Device) (before after : Option (List ℕ)) (writes worse : Type 0) → halt ≡ halts.ReadFault → InputAnswer (Err halt) input at_end reads old new before after writes
-    → (length input ≤ most_used_bytes + 1) × ScriptReplayed ReadFault (script_of input) (ending_of (length old) input) input at_end old new before after reads worse
-halt_failed halt input at_end reads old new before after writes worse is answer =
-    let h : InputAnswer (Err halts.ReadFault) input at_end reads old new before after writes = subst (λ (x : Halt). InputAnswer (Err x) input at_end reads old new before after writes) is answer in
+pub halt_failed : {table : List Row} (halt : Halt) (input : List ℕ) (at_end reads : Type 0) (old new : List Device) (before after : Option (List ℕ)) (writes worse : Type 0) → halt ≡ halts.ReadFault → InputAnswer table (Err halt) input at_end reads old new before after writes
+    → (length input ≤ most_used_bytes + 1) × ScriptReplayed table ReadFault (script_of input) (ending_of (length old) input) input at_end old new before after reads worse
+halt_failed {table} halt input at_end reads old new before after writes worse is answer =
+    let h : InputAnswer table (Err halts.ReadFault) input at_end reads old new before after writes = subst (λ (x : Halt). InputAnswer table (Err x) input at_end reads old new before after writes) is answer in
     (omega (arith, h.1), failed_replayed input at_end (ending_of (length old) input) old new before after reads worse h.0 h.2)
 
 -- the input is too long
-pub halt_over : (halt : Halt) (s : Status) (input : List ℕ) (at_end reads : Type 0) (old new : List Device) (before mid after : Option (List ℕ)) (failed later worse : Type 0) → halt ≡ halts.TooLong → (later → worse) → InputAnswer (Err halt) input at_end reads old new before mid failed
-    → EndsWith s TooLong (ending_line Over) mid after later → (length input ≤ most_used_bytes + 1) × ScriptReplayed s (script_of input) (ending_of (length old) input) input at_end old new before after reads worse
-halt_over halt s input at_end reads old new before mid after failed later worse is widen answer done =
-    let h : InputAnswer (Err halts.TooLong) input at_end reads old new before mid failed = subst (λ (x : Halt). InputAnswer (Err x) input at_end reads old new before mid failed) is answer in
+pub halt_over : {table : List Row} (halt : Halt) (s : Status) (input : List ℕ) (at_end reads : Type 0) (old new : List Device) (before mid after : Option (List ℕ)) (failed later worse : Type 0) → halt ≡ halts.TooLong → (later → worse) → InputAnswer table (Err halt) input at_end reads old new before mid failed
+    → EndsWith s TooLong (ending_line Over) mid after later → (length input ≤ most_used_bytes + 1) × ScriptReplayed table s (script_of input) (ending_of (length old) input) input at_end old new before after reads worse
+halt_over {table} halt s input at_end reads old new before mid after failed later worse is widen answer done =
+    let h : InputAnswer table (Err halts.TooLong) input at_end reads old new before mid failed = subst (λ (x : Halt). InputAnswer table (Err x) input at_end reads old new before mid failed) is answer in
     (omega (arith, h.0), over_replayed s input at_end h.1.0 h.1.1 old new before mid after later reads worse widen h.0 h.1.2 done)
 
 -- the replay stopped at a line
-pub halt_stopped : (halt : Halt) (stop : Stop) (s : Status) (input : List ℕ) (at_end reads : Type 0) (old new : List Device) (before mid after : Option (List ℕ)) (failed later worse : Type 0) → halt ≡ halts.Stopped stop → (failed → worse) → (later → worse)
-    → InputAnswer (Err halt) input at_end reads old new before mid failed → StopEnds stop s mid after later
-    → (length input ≤ most_used_bytes + 1) × ScriptReplayed s (script_of input) (ending_of (length old) input) input at_end old new before after reads worse
-halt_stopped halt stop s input at_end reads old new before mid after failed later worse is spread widen answer done =
-    let h : InputAnswer (Err (halts.Stopped stop)) input at_end reads old new before mid failed = subst (λ (x : Halt). InputAnswer (Err x) input at_end reads old new before mid failed) is answer in
+pub halt_stopped : {table : List Row} (halt : Halt) (stop : Stop) (s : Status) (input : List ℕ) (at_end reads : Type 0) (old new : List Device) (before mid after : Option (List ℕ)) (failed later worse : Type 0) → halt ≡ halts.Stopped stop → (failed → worse) → (later → worse)
+    → InputAnswer table (Err halt) input at_end reads old new before mid failed → StopEnds stop s mid after later
+    → (length input ≤ most_used_bytes + 1) × ScriptReplayed table s (script_of input) (ending_of (length old) input) input at_end old new before after reads worse
+halt_stopped {table} halt stop s input at_end reads old new before mid after failed later worse is spread widen answer done =
+    let h : InputAnswer table (Err (halts.Stopped stop)) input at_end reads old new before mid failed = subst (λ (x : Halt). InputAnswer table (Err x) input at_end reads old new before mid failed) is answer in
     (omega (arith, h.0), stopped_ends stop s (script_of input) (is_over input) input at_end h.2.0 old new before mid after failed later reads worse spread widen h.2.1 h.1 h.2.2 done)
 
 -- what a replay did, where these bytes were taken
-pub replayed_of : (s : Status) (bytes : List ℕ) (lb la wb wa : Option (List ℕ)) (rb ra kb ka : ℕ) (old new : List Device) → Takes lb la bytes → length bytes ≤ most_used_bytes + 1
-    → ScriptReplayed s (script_of bytes) (ending_of (length old) bytes) bytes (AtEnd la) old new wb wa (Rose rb ra) (Rose kb ka) → (s ≢ ReadFault → ra ≡ rb) → (s ≢ WriteFault → ka ≡ kb) → Replayed s lb la wb wa rb ra kb ka old new
+pub replayed_of : {table : List Row} (s : Status) (bytes : List ℕ) (lb la wb wa : Option (List ℕ)) (rb ra kb ka : ℕ) (old new : List Device) → Takes lb la bytes → length bytes ≤ most_used_bytes + 1
+    → ScriptReplayed table s (script_of bytes) (ending_of (length old) bytes) bytes (AtEnd la) old new wb wa (Rose rb ra) (Rose kb ka) → (s ≢ ReadFault → ra ≡ rb) → (s ≢ WriteFault → ka ≡ kb) → Replayed table s lb la wb wa rb ra kb ka old new
 replayed_of s bytes lb la wb wa rb ra kb ka old new taken few r reads writes =
-    record { input = bytes; taken = taken; few_bytes = few; came = r.came; text = r.text; written = r.written; report = r.report; enough = r.enough; near = r.near; limits = r.limits; boards = r.boards; caused = r.caused; read_faults = reads; write_faults = writes }
+    record { input = bytes; taken = taken; few_bytes = few; came = r.came; text = r.text; written = r.written; report = r.report; enough = r.enough; near = r.near; limits = r.limits; stood = r.stood; boards = r.boards; caused = r.caused; read_faults = reads; write_faults = writes }
 
 -- before the first line nothing is done
 none_bound : (boards : ℕ) → InBounds boards [] []
@@ -121,12 +123,12 @@ no_items : [] ≡ items_of [] ++ []
 unfolding items_behind
 no_items = refl
 
-no_run : RunsTo (beginning_of []).world [] None
+no_run : (g : Ground) → RunsTo (beginning_of g []).world [] None
 unfolding begin_behind
-no_run = (refl, refl)
+no_run g = (refl, refl)
 
-abbrev none_played : (script : Script) → Progress script
-none_played script = record {
+abbrev none_played : {table : List Row} (script : Script) → Progress table script
+none_played {table} script = record {
   done = [];
   rest = script.lines;
   begun = [];
@@ -137,31 +139,33 @@ none_played script = record {
   parts = refl;
   within = λ e. refl;
   items = no_items;
-  run = no_run;
+  ground = record { stores = []; table = table };
+  grounded = λ uses. absurd (cc);
+  run = no_run (record { stores = []; table = table });
 }
 
 -- memory ran out before anything was read
-pub memory_unread : (bytes : List ℕ) (lb la wb : Option (List ℕ)) (rb ra k : ℕ) (old : List Device) → Takes lb la bytes → length bytes ≤ (most_used_bytes + 1) → ra ≡ rb → Replayed Memory lb la wb wb rb ra k k old old
+pub memory_unread : {table : List Row} (bytes : List ℕ) (lb la wb : Option (List ℕ)) (rb ra k : ℕ) (old : List Device) → Takes lb la bytes → length bytes ≤ (most_used_bytes + 1) → ra ≡ rb → Replayed table Memory lb la wb wb rb ra k k old old
 memory_unread bytes lb la wb rb ra k old taken few reads =
-    record { input = bytes; taken = taken; few_bytes = few; came = none_played (script_of bytes); text = []; written = Puts-nil wb; report = record { more = []; front = refl }; enough = inr (none_whole bytes); near = tt; limits = none_bound (length old); boards = refl; caused = tt; read_faults = λ other. reads; write_faults = λ other. refl }
+    record { input = bytes; taken = taken; few_bytes = few; came = none_played (script_of bytes); text = []; written = Puts-nil wb; report = record { more = []; front = refl }; enough = inr (none_whole bytes); near = tt; limits = none_bound (length old); stood = λ uses. absurd (cc); boards = refl; caused = tt; read_faults = λ other. reads; write_faults = λ other. refl }
 
 -- the status of an ending that is the script's
-by_status : (s : Status) (input : List ℕ) (at_end : Type 0) (c : Progress (script_of input)) (text : List ℕ) (r w b : Type 0) (n : ℕ) → ReadEnough s n input at_end c text → IsCaused s (ending_of n input) r w b → (r → ⊥) → (w → ⊥)
-    → (b → at_end ⊎ NextIsWhole input c.done c.rest → ⊥) → (at_end ⊎ IsSettled n input → ending_of n input ≡ Ends) → (s ≡ Done) ⊎ (s ≡ Memory)
-by_status Memory input at_end c text r w b n enough caused reads writes stops ends = inr refl
-by_status ReadFault input at_end c text r w b n enough caused reads writes stops ends = absurd (reads caused)
-by_status WriteFault input at_end c text r w b n enough caused reads writes stops ends = absurd (writes caused)
-by_status FlashFault input at_end c text r w b n enough caused reads writes stops ends = absurd (stops caused enough)
-by_status Done input at_end c text r w b n enough caused reads writes stops ends = inl refl
-by_status Usage input at_end c text r w b n enough caused reads writes stops ends = inl (caused ∙ ap status_of (ends enough))
-by_status BadInput input at_end c text r w b n enough caused reads writes stops ends = inl (caused ∙ ap status_of (ends enough))
-by_status NotAVolume input at_end c text r w b n enough caused reads writes stops ends = inl (caused ∙ ap status_of (ends enough))
-by_status Refused input at_end c text r w b n enough caused reads writes stops ends = inl (caused ∙ ap status_of (ends enough))
-by_status LinkFault input at_end c text r w b n enough caused reads writes stops ends = inl (caused ∙ ap status_of (ends enough))
-by_status TooLong input at_end c text r w b n enough caused reads writes stops ends = inl (caused ∙ ap status_of (ends enough))
-by_status TooMany input at_end c text r w b n enough caused reads writes stops ends = inl (caused ∙ ap status_of (ends enough))
-by_status NoBoard input at_end c text r w b n enough caused reads writes stops ends = inl (caused ∙ ap status_of (ends enough))
-by_status NoImage input at_end c text r w b n enough caused reads writes stops ends = inl (caused ∙ ap status_of (ends enough))
+by_status : {table : List Row} (s : Status) (input : List ℕ) (at_end : Type 0) (c : Progress table (script_of input)) (text : List ℕ) (r w b v i uses : Type 0) (n : ℕ) → ReadEnough s n input at_end c text → IsCaused s (ending_of n input) r w b v i → (r → ⊥) → (w → ⊥)
+    → (b → at_end ⊎ NextIsWhole input c.done c.rest → ⊥) → (v → at_end ⊎ NextIsWhole input c.done c.rest → ⊥) → (i → at_end ⊎ NextIsWhole input c.done c.rest → uses) → (at_end ⊎ IsSettled n input → ending_of n input ≡ Ends) → IsComplete uses s
+by_status Memory input at_end c text r w b v i uses n enough caused reads writes stops none lacks ends = inr (inl refl)
+by_status ReadFault input at_end c text r w b v i uses n enough caused reads writes stops none lacks ends = absurd (reads caused)
+by_status WriteFault input at_end c text r w b v i uses n enough caused reads writes stops none lacks ends = absurd (writes caused)
+by_status FlashFault input at_end c text r w b v i uses n enough caused reads writes stops none lacks ends = absurd (stops caused enough)
+by_status NotAVolume input at_end c text r w b v i uses n enough caused reads writes stops none lacks ends = absurd (none caused enough)
+by_status NoImage input at_end c text r w b v i uses n enough caused reads writes stops none lacks ends = inr (inr (refl, lacks caused enough))
+by_status Done input at_end c text r w b v i uses n enough caused reads writes stops none lacks ends = inl refl
+by_status Usage input at_end c text r w b v i uses n enough caused reads writes stops none lacks ends = inl (caused ∙ ap status_of (ends enough))
+by_status BadInput input at_end c text r w b v i uses n enough caused reads writes stops none lacks ends = inl (caused ∙ ap status_of (ends enough))
+by_status Refused input at_end c text r w b v i uses n enough caused reads writes stops none lacks ends = inl (caused ∙ ap status_of (ends enough))
+by_status LinkFault input at_end c text r w b v i uses n enough caused reads writes stops none lacks ends = inl (caused ∙ ap status_of (ends enough))
+by_status TooLong input at_end c text r w b v i uses n enough caused reads writes stops none lacks ends = inl (caused ∙ ap status_of (ends enough))
+by_status TooMany input at_end c text r w b v i uses n enough caused reads writes stops none lacks ends = inl (caused ∙ ap status_of (ends enough))
+by_status NoBoard input at_end c text r w b v i uses n enough caused reads writes stops none lacks ends = inl (caused ∙ ap status_of (ends enough))
 
 -- A script in its limits, whose bytes are told, was replayed to its end, unless memory ran out or the outside failed.
 told_end : (bytes input : List ℕ) (la : Option (List ℕ)) (n : ℕ) → Takes (Some bytes) la input → InLimits n bytes → AtEnd la ⊎ IsSettled n input → ending_of n input ≡ Ends
@@ -182,19 +186,91 @@ told_stop bytes input la done (line ∷ rest) old new taken front s (inr whole) 
     subst (λ (xs : List ℕ). BoardStopped (motes_in (script_of xs).lines) old new) (sym told.1)
     (stopped_of_script (input ++ told.0) done (line ∷ more.0) old new (sym (append_assoc done (line ∷ []) more.0) ∙ more.1) s)
 
-pub completed : (s : Status) (bytes : List ℕ) (lb la wb wa : Option (List ℕ)) (rb ra kb ka : ℕ) (old new : List Device) (n : ℕ) → n ≡ length old → lb ≡ Some bytes → InLimits n bytes → (Rose rb ra → ⊥) → (Rose kb ka → ⊥) → (BoardStopped (motes_in (script_of bytes).lines) old new → ⊥)
-    → Replayed s lb la wb wa rb ra kb ka old new → (s ≡ Done) ⊎ (s ≡ Memory)
-completed s bytes lb la wb wa rb ra kb ka old new n count told limits reads writes stops x =
+-- The first lines of the script that was read are those of the input, with the next one where it is read.
+uses_front : (xs ys : List Line) → UsesBoards xs → UsesBoards (xs ++ ys)
+uses_front [] ys uses = absurd (cc)
+uses_front (x ∷ xs) ys uses = by_first (is_boards x) uses (uses_front xs ys)
+  where
+    by_first : (b : Bool) {y z : Bool} → (b || y) ≡ true → (y ≡ true → z ≡ true) → (b || z) ≡ true
+    by_first true e f = refl
+    by_first false e f = f e
+
+uses_next : (xs ys : List Line) → UsesBoards (xs ++ Boards ∷ ys)
+uses_next [] ys = refl
+uses_next (x ∷ xs) ys = by_first (is_boards x) (uses_next xs ys)
+  where
+    by_first : (b : Bool) {z : Bool} → z ≡ true → (b || z) ≡ true
+    by_first true e = refl
+    by_first false e = e
+
+told_uses : (bytes input : List ℕ) (la : Option (List ℕ)) (done rest : List Line) → Takes (Some bytes) la input → done ++ rest ≡ (script_of input).lines → UsesBoards done → AtEnd la ⊎ NextIsWhole input done rest → UsesBoards (script_of bytes).lines
+told_uses bytes input la done rest taken front uses (inl at_end) =
+    subst (λ (xs : List ℕ). UsesBoards (script_of xs).lines) (sym (Takes-all bytes input la taken at_end)) (subst UsesBoards front (uses_front done rest uses))
+told_uses bytes input la done [] taken front uses (inr whole) = absurd whole
+told_uses bytes input la done (line ∷ rest) taken front uses (inr whole) =
+    let told = Takes-told bytes input la taken in
+    let more = whole told.0 in
+    subst (λ (xs : List ℕ). UsesBoards (script_of xs).lines) (sym told.1) (subst UsesBoards more.1 (uses_front (done ++ line ∷ []) more.0 (uses_front done (line ∷ []) uses)))
+
+told_boards : (bytes input : List ℕ) (la : Option (List ℕ)) (done rest more : List Line) → Takes (Some bytes) la input → done ++ rest ≡ (script_of input).lines → rest ≡ Boards ∷ more → AtEnd la ⊎ NextIsWhole input done rest → UsesBoards (script_of bytes).lines
+told_boards bytes input la done rest more taken front next (inl at_end) =
+    subst (λ (xs : List ℕ). UsesBoards (script_of xs).lines) (sym (Takes-all bytes input la taken at_end)) (subst UsesBoards (ap (λ (ls : List Line). done ++ ls) (sym next) ∙ front) (uses_next done more))
+told_boards bytes input la done [] more taken front next (inr whole) = absurd whole
+told_boards bytes input la done (line ∷ rest) more taken front next (inr whole) =
+    let told = Takes-told bytes input la taken in
+    let behind = whole told.0 in
+    let is : line ≡ Boards = first_is line Boards rest more next in
+    let uses : UsesBoards ((done ++ line ∷ []) ++ behind.0) = uses_front (done ++ line ∷ []) behind.0 (subst (λ (l : Line). UsesBoards (done ++ l ∷ [])) (sym is) (uses_next done [])) in
+    subst (λ (xs : List ℕ). UsesBoards (script_of xs).lines) (sym told.1) (subst UsesBoards behind.1 uses)
+  where
+    first_is : (x y : Line) (xs ys : List Line) → x ∷ xs ≡ y ∷ ys → x ≡ y
+    first_is x y xs ys e = cc
+
+-- the board that is no volume is one of the script's
+told_known : (bytes input : List ℕ) (la : Option (List ℕ)) (done rest : List Line) (board : ℕ) → Takes (Some bytes) la input → done ++ rest ≡ (script_of input).lines → board < motes_in done → AtEnd la ⊎ NextIsWhole input done rest → board < motes_in (script_of bytes).lines
+told_known bytes input la done rest board taken front known (inl at_end) =
+    subst (λ (xs : List ℕ). board < motes_in (script_of xs).lines) (sym (Takes-all bytes input la taken at_end)) (known_in_script input done rest board front known)
+told_known bytes input la done [] board taken front known (inr whole) = absurd whole
+told_known bytes input la done (line ∷ rest) board taken front known (inr whole) =
+    let told = Takes-told bytes input la taken in
+    let more = whole told.0 in
+    subst (λ (xs : List ℕ). board < motes_in (script_of xs).lines) (sym told.1)
+    (known_in_script (input ++ told.0) done (line ∷ more.0) board (sym (append_assoc done (line ∷ []) more.0) ∙ more.1) known)
+
+-- The boards of a script's motes are volumes, where it uses them as they are.
+pub completed : {table : List Row} (s : Status) (bytes : List ℕ) (lb la wb wa : Option (List ℕ)) (rb ra kb ka : ℕ) (old new : List Device) (n : ℕ) → n ≡ length old → lb ≡ Some bytes → InLimits n bytes → (Rose rb ra → ⊥) → (Rose kb ka → ⊥) → (BoardStopped (motes_in (script_of bytes).lines) old new → ⊥)
+    → (UsesBoards (script_of bytes).lines → AreVolumes (motes_in (script_of bytes).lines) old) → Replayed table s lb la wb wa rb ra kb ka old new → IsComplete (UsesBoards (script_of bytes).lines) s
+completed s bytes lb la wb wa rb ra kb ka old new n count told limits reads writes stops volumes x =
     let taken : Takes (Some bytes) la x.input = subst (λ (o : Option (List ℕ)). Takes o la x.input) told x.taken in
     let wanted : InLimits (length old) bytes = subst (λ (k : ℕ). InLimits k bytes) count limits in
-    by_status s x.input (AtEnd la) x.came x.text (Rose rb ra) (Rose kb ka) (BoardStopped (motes_in x.came.done) old new) (length old) x.enough x.caused reads writes
-    (λ b enough. stops (told_stop bytes x.input la x.came.done x.came.rest old new taken x.came.lines b enough)) (λ enough. told_end bytes x.input la (length old) taken wanted enough)
+    by_status s x.input (AtEnd la) x.came x.text (Rose rb ra) (Rose kb ka) (BoardStopped (motes_in x.came.done) old new) (NoVolumeThere x.came old new) ((UsesBoards x.came.done) × NoImageThere x.came old new) (UsesBoards (script_of bytes).lines) (length old) x.enough x.caused reads writes
+    (λ b enough. stops (told_stop bytes x.input la x.came.done x.came.rest old new taken x.came.lines b enough))
+    (λ v enough.
+    let at = v.there.at in
+    let volume = volumes (told_boards bytes x.input la x.came.done x.came.rest v.more taken x.came.lines v.next enough) v.there.board at.before (told_known bytes x.input la x.came.done x.came.rest v.there.board taken x.came.lines at.known enough) at.was in at.no_volume volume.0 volume.1)
+    (λ i enough. told_uses bytes x.input la x.came.done x.came.rest taken x.came.lines i.0 enough)
+    (λ enough. told_end bytes x.input la (length old) taken wanted enough)
+
+-- without boards as they are no start lacks an image
+pub completed_golden : (uses : Type 0) (s : Status) → (uses → ⊥) → IsComplete uses s → (s ≡ Done) ⊎ (s ≡ Memory)
+completed_golden uses s alone (inl done) = inl done
+completed_golden uses s alone (inr (inl memory)) = inr memory
+completed_golden uses s alone (inr (inr lacks)) = absurd (alone lacks.1)
 
 -- what a replay comes to
 abbrev pub IsNever : Status → Type 0
-IsNever s = (s ≢ Usage) × (s ≢ NotAVolume) × (s ≢ Refused) × (s ≢ LinkFault) × (s ≢ NoImage)
+IsNever s = (s ≢ Usage) × (s ≢ Refused) × (s ≢ LinkFault)
 
-pub replayed_never : (s : Status) (lb la wb wa : Option (List ℕ)) (rb ra kb ka : ℕ) (old new : List Device) → Replayed s lb la wb wa rb ra kb ka old new → IsNever s
+pub replayed_never : {table : List Row} (s : Status) (lb la wb wa : Option (List ℕ)) (rb ra kb ka : ℕ) (old new : List Device) → Replayed table s lb la wb wa rb ra kb ka old new → IsNever s
 replayed_never s lb la wb wa rb ra kb ka old new x =
     let P : Status → Type 0 = λ t. Wrote t (ending_of (length old) x.input) x.came x.text in
-    (λ is. subst P is x.report, λ is. subst P is x.report, λ is. subst P is x.report, λ is. subst P is x.report, λ is. subst P is x.report)
+    (λ is. subst P is x.report, λ is. subst P is x.report, λ is. subst P is x.report)
+
+-- a script with golden has volumes, and golden starts where nothing else does
+pub golden_never : {table : List Row} (s : Status) (lb la wb wa : Option (List ℕ)) (rb ra kb ka : ℕ) (old new : List Device) → (x : Replayed table s lb la wb wa rb ra kb ka old new) → (UsesBoards (script_of x.input).lines → ⊥) → (s ≢ NotAVolume) × (s ≢ NoImage)
+golden_never s lb la wb wa rb ra kb ka old new x alone =
+    let P : Status → Type 0 = λ t. BoardsLeft t x.came old new in
+    let Q : Status → Type 0 = λ t. IsCaused t (ending_of (length old) x.input) (Rose rb ra) (Rose kb ka) (BoardStopped (motes_in x.came.done) old new) (NoVolumeThere x.came old new) ((UsesBoards x.came.done) × NoImageThere x.came old new) in (
+      λ is. let lacking = subst P is x.boards in alone (subst UsesBoards (ap (λ (ls : List Line). x.came.done ++ ls) (sym lacking.next) ∙ x.came.lines) (uses_next x.came.done lacking.more)),
+      λ is. let lacks = subst Q is x.caused in alone (subst UsesBoards x.came.lines (uses_front x.came.done x.came.rest lacks.0)),
+    )

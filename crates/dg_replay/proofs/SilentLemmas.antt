@@ -1,6 +1,7 @@
 -- What is known of a replay behind the lines that have no item.
-use Rattle.std.proofs.Common.{◌≡◌, ℕ, ◌<◌, ◌≤◌, Bool, true, false, if◌then◌else◌, List, [], ◌∷◌, length, replicate, refl, append-nil, ap, sym, ◌∙◌, subst, arith, eqb-true}
+use Rattle.std.proofs.Common.{⊎_elim, ◌≡◌, ℕ, ◌<◌, ◌≤◌, Bool, true, false, if◌then◌else◌, List, [], ◌∷◌, length, replicate, refl, append-nil, ap, sym, ◌∙◌, subst, arith, eqb-true}
 use Rattle.std.specs.Prelude.{Option, Some, None, Result, Ok, Err, OnOk, IfSome, nat_lt, slice_get, slice_index_or}
+use Rattle.std.proofs.lemmas.Option.{slice_get_cases}
 use Rattle.std.proofs.lemmas.Bool.Decides.{nat_tests}
 use Rattle.std.proofs.lemmas.List.{length-map, length-replicate, get_or-replicate}
 use Rattle.dg_nor.specs.Device.{Device, Endures}
@@ -8,36 +9,43 @@ use Rattle.dg_nor.specs.Fuse.{beneath_of}
 use Rattle.dg_object.specs.Object.{Row}
 use Rattle.dg_volume.specs.Store.{Store, fresh, golden_row}
 use Rattle.dg_volume.specs.Stands.{Stands}
+use Rattle.dg_volume.specs.Shaped.{IsShaped}
 use Rattle.dg_base.specs.declared.events.Cut.{Cut as CutOfPower}
 use Rattle.dg_script.specs.Fitting.{FitsCut, FitsLine, StandsAt}
 use Rattle.dg_script.specs.Places.{place_after}
 use Rattle.dg_script.specs.declared.place.Place.{Place}
 use Rattle.dg_script.specs.declared.line.Line.{Line}
-use Rattle.dg_script.specs.declared.line.Line.TheVariants.{Nothing, Motes, Golden, Link, Cut}
+use Rattle.dg_script.specs.declared.line.Line.TheVariants.{Nothing, Motes, Golden, Boards, Link, Cut}
 use Rattle.dg_rules.specs.Sizes.{most_motes}
 use Rattle.dg_rules.specs.World.{World, first_world, off_site, no_site}
+use Rattle.dg_rules.specs.Begins.{store_of}
 use Rattle.dg_world.specs.Worlds.{IsWorld}
+use Rattle.dg_world.specs.Applied.{SameBoards}
+use Rattle.dg_world.specs.declared.mount.MountStopped.{MountStopped}
+use Rattle.dg_world.specs.declared.mount.MountStopped.TheVariants.{Flash, NotAVolume as NoVolume}
+use Rattle.dg_world.specs.Mounted.{StandFor, MountedTo, MountStops, NoVolumeAt}
 use Rattle.dg_world.specs.Counts.{NoneRose}
 use Rattle.dg_world.specs.Formatted.{FirstBoards, FormatStops}
 use Rattle.dg_world.specs.declared.world.World.{World as KeptWorld}
 use Rattle.dg_world.specs.declared.format.FormatStopped.{FormatStopped}
 use Rattle.dg_replay.specs.Items.{motes_in, golden_world, with_link}
 use Rattle.dg_replay.specs.Boards.{BoardsEndure, StoppedIn}
-use Rattle.dg_replay.specs.Playing.{Counted, InWorld, Passed, Stood, PlayedLine, LacksBoards, LinkedAs, PlayedAs}
+use Rattle.dg_replay.specs.Playing.{Counted, InWorld, Passed, Stood, PlayedLine, LacksBoards, LinkedAs, PlayedAs, mount_stop}
 use Rattle.dg_replay.specs.declared.player.Player.{Player}
 use Rattle.dg_replay.specs.declared.stop.Stop.{Stop}
-use Rattle.dg_replay.specs.declared.stop.Stop.TheVariants.{Memory, FlashFault, NoBoard}
+use Rattle.dg_replay.specs.declared.stop.Stop.TheVariants.{Memory, FlashFault, NoBoard, NotAVolume}
 use Rattle.dg_replay.proofs.ItemLemmas.{some_is}
+use Rattle.dg_replay.proofs.BoardLemmas.{there}
 use Rattle.dg_replay.proofs.PlayLemmas.{false_not, no_world, in_world_as, seated_as}
-use Rattle.dg_replay.proofs.StandLemmas.{joined_next, stood_next, silent_runs, golden_runs, link_runs, none_begun}
+use Rattle.dg_replay.proofs.StandLemmas.{joined_next, stood_next, grounded_next, grounded_motes, silent_runs, golden_runs, boards_runs, link_runs, none_begun}
 
 -- memory ran out before anything of a line was done
-pub memory_line : (p q : Player) (done : List Line) (w : Option World) (line : Line) (told_before told : List ℕ) (initial now : List Device) → Stood p done w initial now → PlayedAs (Err Memory) q done w line told_before told initial now now
-memory_line p q done w line told_before told initial now s = none_begun p done line w now s.world s.boards
+pub memory_line : (table : List Row) (p q : Player) (done : List Line) (w : Option World) (line : Line) (told_before told : List ℕ) (initial now : List Device) → Stood p done w initial now → PlayedAs table (Err Memory) q done w line told_before told initial now now
+memory_line table p q done w line told_before told initial now s = none_begun p done line w now s.world s.boards
 
 -- ---- lines that say nothing to the motes
 
-pub nothing_played : (p q : Player) (done : List Line) (w : Option World) (told : List ℕ) (initial now : List Device) → Passed p q Nothing → Stood p done w initial now → PlayedLine q done w Nothing told told initial now
+pub nothing_played : {table : List Row} (p q : Player) (done : List Line) (w : Option World) (told : List ℕ) (initial now : List Device) → Passed p q Nothing → Stood p done w initial now → PlayedLine table q done w Nothing told told initial now
 nothing_played p q done w told initial now at s =
     let motes = ap (λ (x : Place). x.motes) at.place in
     let ready = ap (λ (x : Place). x.ready) at.place in
@@ -45,7 +53,7 @@ nothing_played p q done w told initial now at s =
       world = w;
       text = [];
       told_now = sym (append-nil told);
-      runs = silent_runs done Nothing w refl refl;
+      runs = silent_runs done Nothing w refl (λ g. refl) (λ g played r before. grounded_next g done Nothing refl (λ b. refl) before);
       stood = stood_next p q done Nothing w w initial now now s.links s at.place (seated_as p.place q.place (length now) motes s.seats) (at.cut ∙ s.cut)
           (subst (λ (o : Option CutOfPower). IfSome o FitsCut) (sym at.cut) s.cut_fits) (in_world_as p q w now at.world motes ready s.world) s.boards;
       boards_enough = refl;
@@ -58,44 +66,44 @@ no_motes : (p : Player) (w : Option World) (now : List Device) → p.place.motes
 no_motes p None now none k = k.1
 no_motes p (Some w) now none k = absurd (omega (arith, none, k.5))
 
-pub motes_played : (p q : Player) (done : List Line) (w : Option World) (motes : ℕ) (told : List ℕ) (initial now : List Device) → StandsAt p.place (Motes motes) → Passed p q (Motes motes) → Counted motes (length now) → Stood p done w initial now
-    → PlayedLine q done w (Motes motes) told told initial now
-motes_played p q done w motes told initial now stands at counted s =
+pub motes_played : {table : List Row} (p q : Player) (done : List Line) (w : Option World) (motes : ℕ) (told : List ℕ) (initial now : List Device) → StandsAt p.place (Motes motes) → Passed p q (Motes motes) → Counted motes (length now) → Stood p done w initial now
+    → PlayedLine table q done w (Motes motes) told told initial now
+motes_played {table} p q done w motes told initial now stands at counted s =
     let unready = no_motes p w now (eqb-true p.place.motes 0 stands.fits) s.world in
     let kept = no_world p w now unready s.world in
     motes_first p q done motes told initial now stands at counted unready (subst (λ (o : Option World). Stood p done o initial now) kept.0 s) (sym kept.0)
   where
     motes_first : (p q : Player) (done : List Line) (motes : ℕ) (told : List ℕ) (initial now : List Device) → StandsAt p.place (Motes motes) → Passed p q (Motes motes) → Counted motes (length now) → p.place.ready ≡ false → Stood p done None initial now
-        → {w : Option World} → None ≡ w → PlayedLine q done w (Motes motes) told told initial now
+        → {w : Option World} → None ≡ w → PlayedLine table q done w (Motes motes) told told initial now
     motes_first p q done motes told initial now stands at counted unready s {w} e =
         let many : q.place.motes ≡ motes = ap (λ (x : Place). x.motes) at.place in
         let ready : q.place.ready ≡ p.place.ready = ap (λ (x : Place). x.ready) at.place in
-        let made : PlayedLine q done None (Motes motes) told told initial now = record {
+        let made : PlayedLine table q done None (Motes motes) told told initial now = record {
           world = None;
           text = [];
           told_now = sym (append-nil told);
-          runs = silent_runs done (Motes motes) None refl refl;
+          runs = silent_runs done (Motes motes) None refl (λ g. refl) (λ g played r before. grounded_motes g done motes played r);
           stood = stood_next p q done (Motes motes) None None initial now now (joined_next p.place (Motes motes) stands (counted.0, counted.1) s.links) s at.place (λ some. subst (λ (n : ℕ). Counted n (length now)) (sym many) counted) (at.cut ∙ s.cut)
               (subst (λ (o : Option CutOfPower). IfSome o FitsCut) (sym at.cut) s.cut_fits) (at.world ∙ s.world.0, ready ∙ unready) s.boards;
           boards_enough = ap (λ (b : Bool). if b then Some motes else None) (not_below (length initial) motes (subst (λ (ds : List Device). motes ≤ length ds) s.boards counted.2));
         } in
-        subst (λ (o : Option World). PlayedLine q done o (Motes motes) told told initial now) e made
+        subst (λ (o : Option World). PlayedLine table q done o (Motes motes) told told initial now) e made
 
 lacking_boards : (p : Player) (done : List Line) (w : Option World) (motes boards : ℕ) (initial now : List Device) → p.place.motes ≡ 0 → boards ≡ length now → boards < motes → Stood p done w initial now → LacksBoards (Motes motes) motes boards initial now now
 lacking_boards p done None motes boards initial now none count short s = record { is_motes = refl; have = count ∙ ap (λ (ds : List Device). length ds) s.boards; missing = short; same = refl }
 lacking_boards p done (Some w) motes boards initial now none count short s = absurd (omega (arith, none, s.world.5))
 
-pub motes_as : (r : Result (Unit {0}) Stop) (p q : Player) (done : List Line) (w : Option World) (motes boards : ℕ) (told : List ℕ) (initial now : List Device) → StandsAt p.place (Motes motes) → Passed p q (Motes motes) → (1 ≤ motes) × (motes ≤ most_motes) → boards ≡ length now
-    → OnOk r (motes ≤ boards) → ((stop : Stop) → r ≡ Err stop → (stop ≡ NoBoard motes boards) × (boards < motes)) → Stood p done w initial now → PlayedAs r q done w (Motes motes) told told initial now now
-motes_as (Ok u) p q done w motes boards told initial now stands at fits count enough missing s =
+pub motes_as : (table : List Row) (r : Result (Unit {0}) Stop) (p q : Player) (done : List Line) (w : Option World) (motes boards : ℕ) (told : List ℕ) (initial now : List Device) → StandsAt p.place (Motes motes) → Passed p q (Motes motes) → (1 ≤ motes) × (motes ≤ most_motes) → boards ≡ length now
+    → OnOk r (motes ≤ boards) → ((stop : Stop) → r ≡ Err stop → (stop ≡ NoBoard motes boards) × (boards < motes)) → Stood p done w initial now → PlayedAs table r q done w (Motes motes) told told initial now now
+motes_as table (Ok u) p q done w motes boards told initial now stands at fits count enough missing s =
     motes_played p q done w motes told initial now stands at (fits.0, fits.1, subst (λ (n : ℕ). motes ≤ n) count enough) s
-motes_as (Err stop) p q done w motes boards told initial now stands at fits count enough missing s =
+motes_as table (Err stop) p q done w motes boards told initial now stands at fits count enough missing s =
     let m = missing stop refl in
-    let P : Stop → Type 0 = λ x. PlayedAs (Err x) q done w (Motes motes) told told initial now now in
+    let P : Stop → Type 0 = λ x. PlayedAs table (Err x) q done w (Motes motes) told told initial now now in
     subst P (sym m.0) (lacking_boards p done w motes boards initial now (eqb-true p.place.motes 0 stands.fits) count m.1 s)
 
-pub cut_played : (p q : Player) (done : List Line) (w : Option World) (cut : CutOfPower) (told : List ℕ) (initial now : List Device) → FitsCut cut → q.place ≡ place_after p.place (Cut cut) → q.cut ≡ Some cut → q.world ≡ p.world → Stood p done w initial now
-    → PlayedLine q done w (Cut cut) told told initial now
+pub cut_played : {table : List Row} (p q : Player) (done : List Line) (w : Option World) (cut : CutOfPower) (told : List ℕ) (initial now : List Device) → FitsCut cut → q.place ≡ place_after p.place (Cut cut) → q.cut ≡ Some cut → q.world ≡ p.world → Stood p done w initial now
+    → PlayedLine table q done w (Cut cut) told told initial now
 cut_played p q done w cut told initial now fits place has world s =
     let motes = ap (λ (x : Place). x.motes) place in
     let ready = ap (λ (x : Place). x.ready) place in
@@ -103,7 +111,7 @@ cut_played p q done w cut told initial now fits place has world s =
       world = w;
       text = [];
       told_now = sym (append-nil told);
-      runs = silent_runs done (Cut cut) w refl refl;
+      runs = silent_runs done (Cut cut) w refl (λ g. refl) (λ g played r before. grounded_next g done (Cut cut) refl (λ b. refl) before);
       stood = stood_next p q done (Cut cut) w w initial now now s.links s place (seated_as p.place q.place (length now) motes s.seats) has (subst (λ (o : Option CutOfPower). IfSome o FitsCut) (sym has) fits)
           (in_world_as p q w now world motes ready s.world) s.boards;
       boards_enough = refl;
@@ -118,13 +126,27 @@ endured motes initial old new first others =
       endures = subst (λ (ds : List Device). (m : ℕ) (a b : Device) → slice_get ds m ≡ Some a → slice_get new m ≡ Some b → Endures (beneath_of a) (beneath_of b)) first others.endures;
     }
 
-pub golden_played : (p q : Player) (done : List Line) (w : Option World) (name : List ℕ) (used : ℕ) (content : List ℕ) (motes : ℕ) (v : KeptWorld) (told : List ℕ) (initial old new : List Device)
+-- boards that were only read stood for what they stand for
+stood_before : (motes : ℕ) (stores : List Store) (old new : List Device) → StandFor motes stores new → SameBoards old new → StandFor motes stores old
+stood_before motes stores old new stand same = record {
+  count = stand.count;
+  each = λ m d within is. let is_new : slice_get new m ≡ Some (slice_index_or new m d) = there old new m d same.count is in subst (λ (c : List ℕ). Stands c (store_of stores m)) (same.images m d (slice_index_or new m d) is is_new) (stand.each m (slice_index_or new m d) within is_new);
+}
+
+endured_same : (initial old new : List Device) → old ≡ initial → SameBoards old new → BoardsEndure initial new
+endured_same initial old new first same =
+    record {
+      count = same.count ∙ ap (λ (ds : List Device). length ds) first;
+      endures = subst (λ (ds : List Device). (m : ℕ) (a b : Device) → slice_get ds m ≡ Some a → slice_get new m ≡ Some b → Endures (beneath_of a) (beneath_of b)) first same.endures;
+    }
+
+pub golden_played : {table : List Row} (p q : Player) (done : List Line) (w : Option World) (name : List ℕ) (used : ℕ) (content : List ℕ) (motes : ℕ) (v : KeptWorld) (told : List ℕ) (initial old new : List Device)
     → p.place.ready ≡ false → motes ≡ p.place.motes → Counted motes (length old) → q.place ≡ place_after p.place (Golden name used content) → q.cut ≡ p.cut → q.world ≡ Some v
     → ((m : ℕ) (d : Device) → m < motes → slice_get new m ≡ Some d → Stands d.image (fresh name content used))
     → ((m : ℕ) (d : Device) → m < motes → slice_get old m ≡ Some d → d.stopped ≡ false) → NoneRose old new → FirstBoards motes old new
     → ((boards : List Device) (stores : List Store) (table : List Row) → length stores ≡ motes → motes ≤ length boards
     → ((m : ℕ) (d : Device) → m < motes → slice_get boards m ≡ Some d → Stands d.image (slice_index_or stores m no_site.store)) → IsWorld v boards (first_world table [] stores))
-    → Stood p done w initial old → PlayedLine q done w (Golden name used content) told told initial new
+    → Stood p done w initial old → PlayedLine table q done w (Golden name used content) told told initial new
 golden_played p q done (Some w) name used content motes v told initial old new unready count counted place cut world formatted awake calm others begins s = false_not p.place.ready s.world.4 unready
 golden_played p q done None name used content motes v told initial old new unready count counted place cut world formatted awake calm others begins s =
     let first : old ≡ initial = s.boards in
@@ -158,10 +180,10 @@ golden_played p q done None name used content motes v told initial old new unrea
     }
 
 -- formatting stopped
-pub golden_stopped : (p q : Player) (done : List Line) (w : Option World) (name : List ℕ) (used : ℕ) (content : List ℕ) (motes : ℕ) (e : FormatStopped) (told : List ℕ) (initial old new : List Device) → p.place.ready ≡ false → motes ≡ p.place.motes
-    → FirstBoards motes old new → FormatStops e.board motes (fresh name content used) old new → Stood p done w initial old → PlayedAs (Err FlashFault) q done w (Golden name used content) told told initial old new
-golden_stopped p q done (Some w) name used content motes e told initial old new unready count others stops s = false_not p.place.ready s.world.4 unready
-golden_stopped p q done None name used content motes e told initial old new unready count others stops s =
+pub golden_stopped : (table : List Row) (p q : Player) (done : List Line) (w : Option World) (name : List ℕ) (used : ℕ) (content : List ℕ) (motes : ℕ) (e : FormatStopped) (told : List ℕ) (initial old new : List Device) → p.place.ready ≡ false → motes ≡ p.place.motes
+    → FirstBoards motes old new → FormatStops e.board motes (fresh name content used) old new → Stood p done w initial old → PlayedAs table (Err FlashFault) q done w (Golden name used content) told told initial old new
+golden_stopped table p q done (Some w) name used content motes e told initial old new unready count others stops s = false_not p.place.ready s.world.4 unready
+golden_stopped table p q done None name used content motes e told initial old new unready count others stops s =
     let first : old ≡ initial = s.boards in
     let here : motes ≡ motes_in done = count ∙ s.motes in
     let stop : StoppedIn (motes_in done) (Golden name used content ∷ []) [] None initial new = record {
@@ -184,13 +206,111 @@ golden_stopped p q done None name used content motes e told initial old new unre
     } in
     (tt, none_begun p done (Golden name used content) None old s.world (stop, sym (append-nil told)))
 
+-- ---- boards as they are
+
+-- the stores that boards stand for have their shape
+pub shaped_stores : ((c : List ℕ) (s : Store) → Stands c s → IsShaped s) → (r : Result (Unit {0}) MountStopped) (motes : ℕ) (new : List Device) → motes ≤ length new → OnOk r ((stores : List Store) × StandFor motes stores new)
+    → OnOk r ((stores : List Store) × StandFor motes stores new × ((m : ℕ) → m < motes → IsShaped (store_of stores m)))
+shaped_stores law (Err e) motes new enough none = tt
+shaped_stores law (Ok u) motes new enough (stores, stand) = (
+  stores,
+  stand,
+  λ m within. ⊎_elim (λ x. law x.0.image (store_of stores m) (stand.each m x.0 within x.2)) (λ past. absurd (omega (arith, within, enough, past.0))) (slice_get_cases new m).1,
+)
+
+-- they were mounted
+pub boards_played : (table : List Row) (p q : Player) (done : List Line) (w : Option World) (motes : ℕ) (v : KeptWorld) (told : List ℕ) (initial old new : List Device)
+    → p.place.ready ≡ false → motes ≡ p.place.motes → Counted motes (length old) → q.place ≡ place_after p.place Boards → q.cut ≡ p.cut → q.world ≡ Some v
+    → ((stores : List Store) × StandFor motes stores new × ((m : ℕ) → m < motes → IsShaped (store_of stores m)))
+    → ((m : ℕ) (d : Device) → m < motes → slice_get old m ≡ Some d → d.stopped ≡ false) → NoneRose old new → SameBoards old new → ((m : ℕ) → motes ≤ m → slice_get new m ≡ slice_get old m)
+    → ((boards : List Device) (stores : List Store) (table : List Row) → length stores ≡ motes → motes ≤ length boards
+    → ((m : ℕ) (d : Device) → m < motes → slice_get boards m ≡ Some d → Stands d.image (slice_index_or stores m no_site.store)) → IsWorld v boards (first_world table [] stores))
+    → Stood p done w initial old → PlayedLine table q done w Boards told told initial new
+boards_played table p q done (Some w) motes v told initial old new unready count counted place cut world stand awake calm same others begins s = false_not p.place.ready s.world.4 unready
+boards_played table p q done None motes v told initial old new unready count counted place cut world (stores, stand, shaped) awake calm same others begins s =
+    let first : old ≡ initial = s.boards in
+    let z : World = first_world table [] stores in
+    let enough : motes ≤ length new = omega (arith, counted.2, same.count) in
+    let is_world : IsWorld v new z = begins new stores table stand.count enough stand.each in
+    let many : length z.sites ≡ motes = length-map stores off_site ∙ stand.count in
+    let here : q.place.motes ≡ motes = ap (λ (x : Place). x.motes) place ∙ sym count in
+    let known : motes ≡ motes_in done = count ∙ s.motes in
+    record {
+      world = Some z;
+      text = [];
+      told_now = sym (append-nil told);
+      runs = boards_runs done table stores (subst (λ (n : ℕ). StandFor n stores initial) known (subst (λ (ds : List Device). StandFor motes stores ds) first (stood_before motes stores old new stand same))) (λ m within. shaped m (omega (arith, within, stand.count)));
+      stood = stood_next p q done Boards None (Some z) initial old new s.links s place
+          (λ some. subst (λ (n : ℕ). Counted n (length new)) (sym here) (counted.0, counted.1, enough))
+          (cut ∙ s.cut)
+          (subst (λ (o : Option CutOfPower). IfSome o FitsCut) (sym cut) s.cut_fits)
+          (v, world, is_world, many ∙ sym here, ap (λ (x : Place). x.ready) place, subst (λ (n : ℕ). 0 < n) (sym here) counted.0)
+          (record {
+            all = endured_same initial old new first same;
+            calm = subst (λ (ds : List Device). NoneRose ds new) first calm;
+            stands = λ m d within is. (is_world.sites m d within is).stands;
+            came = λ m d within is. awake m d (omega (arith, many, within)) (ap (λ (ds : List Device). slice_get ds m) first ∙ is);
+            others = λ m past. others m (omega (arith, many, past)) ∙ ap (λ (ds : List Device). slice_get ds m) first;
+          });
+      boards_enough = refl;
+    }
+
+-- a board stopped while it was mounted
+pub boards_stopped : (table : List Row) (p q : Player) (done : List Line) (w : Option World) (motes board : ℕ) (told : List ℕ) (initial old new : List Device) → p.place.ready ≡ false → motes ≡ p.place.motes
+    → SameBoards old new → MountStops board motes old new → Stood p done w initial old → PlayedAs table (Err FlashFault) q done w Boards told told initial old new
+boards_stopped table p q done (Some w) motes board told initial old new unready count same stops s = false_not p.place.ready s.world.4 unready
+boards_stopped table p q done None motes board told initial old new unready count same stops s =
+    let first : old ≡ initial = s.boards in
+    let here : motes ≡ motes_in done = count ∙ s.motes in
+    let stop : StoppedIn (motes_in done) (Boards ∷ []) [] None initial new = record {
+      stopped = record {
+        board = board;
+        known = subst (λ (n : ℕ). board < n) here stops.known;
+        before = stops.before;
+        after = stops.after;
+        was = ap (λ (ds : List Device). slice_get ds board) (sym first) ∙ stops.was;
+        is = stops.is;
+        stopped = stops.stopped;
+        cause = stops.cause;
+      };
+      there = record {
+        mounted = subst (λ (ds : List Device). MountedTo board ds new) first stops.mounted;
+        read = subst (λ (ds : List Device). SameBoards ds new) first same;
+      };
+    } in
+    (tt, none_begun p done Boards None old s.world (stop, sym (append-nil told)))
+
+-- a board is no volume
+pub boards_refused : (table : List Row) (p q : Player) (done : List Line) (w : Option World) (motes board : ℕ) (told : List ℕ) (initial old new : List Device) → p.place.ready ≡ false → motes ≡ p.place.motes
+    → SameBoards old new → NoVolumeAt board motes old new → NoneRose old new → Stood p done w initial old → PlayedAs table (Err NotAVolume) q done w Boards told told initial old new
+boards_refused table p q done (Some w) motes board told initial old new unready count same lacking calm s = false_not p.place.ready s.world.4 unready
+boards_refused table p q done None motes board told initial old new unready count same lacking calm s =
+    let first : old ≡ initial = s.boards in
+    let here : motes ≡ motes_in done = count ∙ s.motes in (
+      refl,
+      record {
+        board = board;
+        at = subst (λ (n : ℕ). NoVolumeAt board n initial new) here (subst (λ (ds : List Device). NoVolumeAt board motes ds new) first lacking);
+        read = subst (λ (ds : List Device). SameBoards ds new) first same;
+        calm = subst (λ (ds : List Device). NoneRose ds new) first calm;
+      },
+    )
+
+pub boards_ended : (table : List Row) (p q : Player) (done : List Line) (w : Option World) (motes : ℕ) (e : MountStopped) (stop : Stop) (told : List ℕ) (initial old new : List Device) → stop ≡ mount_stop e → p.place.ready ≡ false → motes ≡ p.place.motes
+    → SameBoards old new → ((board : ℕ) → e ≡ Flash board → MountStops board motes old new) → ((board : ℕ) → e ≡ NoVolume board → NoVolumeAt board motes old new × NoneRose old new) → Stood p done w initial old → PlayedAs table (Err stop) q done w Boards told told initial old new
+boards_ended table p q done w motes (Flash board) stop told initial old new is unready count same stops refuses s =
+    subst (λ (x : Stop). PlayedAs table (Err x) q done w Boards told told initial old new) (sym is) (boards_stopped table p q done w motes board told initial old new unready count same (stops board refl) s)
+boards_ended table p q done w motes (NoVolume board) stop told initial old new is unready count same stops refuses s =
+    let lacking = refuses board refl in
+    subst (λ (x : Stop). PlayedAs table (Err x) q done w Boards told told initial old new) (sym is) (boards_refused table p q done w motes board told initial old new unready count same lacking.0 lacking.1 s)
+
 -- ---- links
 
-pub link_played : (r : Result (Unit {0}) Stop) (p q : Player) (done : List Line) (w : Option World) (a b : ℕ) (v v2 : KeptWorld) (told : List ℕ) (initial now : List Device)
+pub link_played : (table : List Row) (r : Result (Unit {0}) Stop) (p q : Player) (done : List Line) (w : Option World) (a b : ℕ) (v v2 : KeptWorld) (told : List ℕ) (initial now : List Device)
     → StandsAt p.place (Link a b) → FitsLine p.place.motes (Link a b) → p.place.ready ≡ true → p.place.events ≡ false → p.world ≡ Some v → q.place ≡ place_after p.place (Link a b) → q.cut ≡ p.cut → q.world ≡ Some v2
-    → LinkedAs r v v2 (a, b) → Stood p done w initial now → PlayedAs r q done w (Link a b) told told initial now now
-link_played r p q done None a b v v2 told initial now stands fits later early has place cut world linked s = false_not p.place.ready later s.world.1
-link_played (Ok u) p q done (Some w) a b v v2 told initial now stands fits later early has place cut world linked s =
+    → LinkedAs r v v2 (a, b) → Stood p done w initial now → PlayedAs table r q done w (Link a b) told told initial now now
+link_played table r p q done None a b v v2 told initial now stands fits later early has place cut world linked s = false_not p.place.ready later s.world.1
+link_played table (Ok u) p q done (Some w) a b v v2 told initial now stands fits later early has place cut world linked s =
     let k = s.world in
     let kept : IsWorld v now w = subst (λ (x : KeptWorld). IsWorld x now w) (some_is k.0 v (sym k.1 ∙ has)) k.2 in
     let motes : q.place.motes ≡ p.place.motes = ap (λ (x : Place). x.motes) place in
@@ -208,9 +328,9 @@ link_played (Ok u) p q done (Some w) a b v v2 told initial now stands fits later
           (record { all = b2.all; calm = b2.calm; stands = b2.stands; came = b2.came; others = b2.others });
       boards_enough = refl;
     }
-link_played (Err stop) p q done (Some w) a b v v2 told initial now stands fits later early has place cut world linked s =
+link_played table (Err stop) p q done (Some w) a b v v2 told initial now stands fits later early has place cut world linked s =
     let is : stop ≡ Memory = err_is stop Memory linked.memory in
-    subst (λ (x : Stop). PlayedAs (Err x) q done (Some w) (Link a b) told told initial now now) (sym is) (memory_line p q done (Some w) (Link a b) told told initial now s)
+    subst (λ (x : Stop). PlayedAs table (Err x) q done (Some w) (Link a b) told told initial now now) (sym is) (memory_line table p q done (Some w) (Link a b) told told initial now s)
   where
     err_is : (x y : Stop) → ◌≡◌ {A = Result (Unit {0}) Stop} (Err x) (Err y) → x ≡ y
     err_is x y e = cc

@@ -1,5 +1,5 @@
 -- What one more line makes of where a replay stands, and of its run.
-use Rattle.std.proofs.Common.{◌≡◌, ℕ, ◌≤◌, true, false, List, [], ◌∷◌, ◌++◌, length, map, refl, append-nil, ap, sym, ◌∙◌, subst, arith, eqb-true, inl, inr}
+use Rattle.std.proofs.Common.{◌≡◌, ℕ, ◌≤◌, Bool, true, false, ◌||◌, List, [], ◌∷◌, ◌++◌, length, map, refl, append-nil, ap, sym, ◌∙◌, subst, arith, eqb-true, inl, inr}
 use Rattle.std.specs.Prelude.{Option, Some, None, option_map, IfSome}
 use Rattle.std.specs.List.{AllByRecursion}
 use Rattle.std.proofs.lemmas.List.{map-append}
@@ -19,28 +19,31 @@ use Rattle.dg_rules.specs.Sizes.{most_events}
 use Rattle.dg_rules.specs.Premises.{LinkFits}
 use Rattle.dg_rules.specs.Runs.{Played, Plays, ItemStep}
 use Rattle.dg_rules.specs.Steps.{declared_as}
-use Rattle.dg_rules.specs.World.{World}
+use Rattle.dg_volume.specs.Store.{Store}
+use Rattle.dg_rules.specs.World.{World, first_world}
+use Rattle.dg_rules.specs.Begins.{AreShaped}
+use Rattle.dg_world.specs.Mounted.{StandFor}
 use Rattle.dg_replay.specs.Boards.{BoardsStand}
-use Rattle.dg_replay.specs.Items.{Beginning, begin_by, beginning_of, no_beginning, golden_world, with_link}
-use Rattle.dg_replay.specs.Outcome.{RunsTo, item_played, played_text}
-use Rattle.dg_replay.specs.Playing.{IsDeclaration, Seated, InWorld, Joined, Stood, ItemsRun, ItemsBegun, LineRuns, LineBegun}
+use Rattle.dg_replay.specs.Items.{Ground, no_ground, Beginning, begin_by, beginning_of, motes_in, no_beginning, golden_world, with_link, is_boards, UsesBoards, begin_behind}
+use Rattle.dg_replay.specs.Outcome.{IsGround, RunsTo, item_played, played_text}
+use Rattle.dg_replay.specs.Playing.{IsDeclaration, Seated, InWorld, Joined, Stood, ItemsRun, ItemsBegun, LineRuns, LineBegun, Grounded}
 use Rattle.dg_replay.specs.declared.player.Player.{Player}
-use Rattle.dg_replay.proofs.ItemLemmas.{some_is, items_next, cut_next, place_next, begin_next, runs_append, runs_from_none, plays_none, played_more, items_run_none}
+use Rattle.dg_replay.proofs.ItemLemmas.{some_is, items_next, cut_next, place_next, begin_next, motes_same, runs_append, runs_from_none, plays_none, played_more, items_run_none}
 
 -- ---- where a replay stands
 
 -- how many motes there are behind a line
-motes_next : (place : Place) (b : Beginning) (line : Line) → place.motes ≡ b.motes → (place_after place line).motes ≡ (begin_by b line).motes
-motes_next place b Nothing e = e
-motes_next place b (Motes n) e = refl
-motes_next place b (Golden name used content) e = e
-motes_next place b Boards e = e
-motes_next place b (Link x y) e = e
-motes_next place b (Image image version name content) e = e
-motes_next place b (Cut cut) e = e
-motes_next place b (Happens event) e = e
-motes_next place b (Round x y) e = e
-motes_next place b (Sweeps n) e = e
+motes_next : (g : Ground) (place : Place) (b : Beginning) (line : Line) → place.motes ≡ b.motes → (place_after place line).motes ≡ (begin_by g b line).motes
+motes_next g place b Nothing e = e
+motes_next g place b (Motes n) e = refl
+motes_next g place b (Golden name used content) e = e
+motes_next g place b Boards e = e
+motes_next g place b (Link x y) e = e
+motes_next g place b (Image image version name content) e = e
+motes_next g place b (Cut cut) e = e
+motes_next g place b (Happens event) e = e
+motes_next g place b (Round x y) e = e
+motes_next g place b (Sweeps n) e = e
 
 all_more : {A : Type 0} (P : A → Type 0) (xs ys : List A) → AllByRecursion P xs → AllByRecursion P ys → AllByRecursion P (xs ++ ys)
 all_more P [] ys h k = k
@@ -92,7 +95,7 @@ stood_next p q done line w v initial old now links s place seats cut cut_fits wo
       links = subst (λ (at : Place). Joined at) (sym place) links;
       cut = cut ∙ sym (cut_next None done line);
       cut_fits = cut_fits;
-      motes = ap (λ (at : Place). at.motes) place ∙ motes_next p.place (beginning_of done) line s.motes ∙ ap (λ (b : Beginning). b.motes) (sym (begin_next no_beginning done line));
+      motes = ap (λ (at : Place). at.motes) place ∙ motes_next no_ground p.place (beginning_of no_ground done) line s.motes ∙ ap (λ (b : Beginning). b.motes) (sym (begin_next no_ground no_beginning done line));
       early = λ e. early_next p.place done line s.early (sym (ap (λ (at : Place). at.events) place) ∙ e);
       world = world;
       boards = boards;
@@ -101,46 +104,129 @@ stood_next p q done line w v initial old now links s place seats cut cut_fits wo
 -- ---- runs
 
 -- the run from where the lines begin with one more line, which changes nothing of it
-same_run : (done : List Line) (line : Line) (played : List Played) (v : Option World) → (begin_by (beginning_of done) line).world ≡ (beginning_of done).world → RunsTo (beginning_of done).world played v → RunsTo (beginning_of (done ++ line ∷ [])).world played v
-same_run done line played v same r =
-    subst (λ (b : Beginning). RunsTo b.world played v) (sym (begin_next no_beginning done line)) (subst (λ (o : Option World). RunsTo o played v) (sym same) r)
+same_run : (g : Ground) (done : List Line) (line : Line) (played : List Played) (v : Option World) → (begin_by g (beginning_of g done) line).world ≡ (beginning_of g done).world → RunsTo (beginning_of g done).world played v → RunsTo (beginning_of g (done ++ line ∷ [])).world played v
+same_run g done line played v same r =
+    subst (λ (b : Beginning). RunsTo b.world played v) (sym (begin_next g no_beginning done line)) (subst (λ (o : Option World). RunsTo o played v) (sym same) r)
 
 -- the items with a line that has none
 same_items : (done : List Line) (line : Line) → item_by (place_behind first_place done) (cut_behind None done) line ≡ [] → items_of done ≡ items_of (done ++ line ∷ [])
 same_items done line none = sym (items_next done line ∙ ap (λ (xs : List Item). items_of done ++ xs) none ∙ append-nil (items_of done))
 
-pub silent_runs : (done : List Line) (line : Line) (w : Option World) → item_by (place_behind first_place done) (cut_behind None done) line ≡ [] → (begin_by (beginning_of done) line).world ≡ (beginning_of done).world → LineRuns done line w w []
-silent_runs done line w none same = λ played items r. record {
+-- where boards are used as they are, they were before
+uses_next : (done : List Line) (line : Line) → is_boards line ≡ false → UsesBoards (done ++ line ∷ []) → UsesBoards done
+uses_next [] line plain uses = absurd (let e : true ≡ false = sym uses ∙ ap (λ (b : Bool). b || false) plain in cc)
+uses_next (l ∷ done) line plain uses = by_first (is_boards l) uses (uses_next done line plain)
+  where
+    by_first : (b : Bool) {x y : Bool} → (b || x) ≡ true → (x ≡ true → y ≡ true) → (b || y) ≡ true
+    by_first true e f = refl
+    by_first false e f = f e
+
+-- the ground behind a line that neither says how many motes there are nor uses boards as they are
+pub grounded_next : {table : List Row} {initial : List Device} (g : Ground) (done : List Line) (line : Line) → is_boards line ≡ false → ((b : Beginning) → (begin_by no_ground b line).motes ≡ b.motes) → Grounded table initial g done → Grounded table initial g (done ++ line ∷ [])
+grounded_next {table} {initial} g done line plain same h = λ uses.
+    let e : motes_in (done ++ line ∷ []) ≡ motes_in done = ap (λ (b : Beginning). b.motes) (begin_next no_ground no_beginning done line) ∙ same (beginning_of no_ground done) in
+    subst (λ (n : ℕ). IsGround g table n × StandFor n g.stores initial) (sym e) (h (uses_next done line plain uses))
+
+stays_by : (g : Ground) (b : Beginning) (line : Line) (w : World) → b.world ≡ Some w → (u : World) × ((begin_by g b line).world ≡ Some u)
+stays_by g b Nothing w e = (w, e)
+stays_by g b (Motes n) w e = (w, e)
+stays_by g b (Golden name used content) w e = (_, refl)
+stays_by g b Boards w e = (_, refl)
+stays_by g b (Link x y) w e = (with_link (x, y) w, ap (λ (o : Option World). option_map (with_link (x, y)) o) e)
+stays_by g b (Image image version name content) w e = (w, e)
+stays_by g b (Cut c) w e = (w, e)
+stays_by g b (Happens event) w e = (w, e)
+stays_by g b (Round x y) w e = (w, e)
+stays_by g b (Sweeps n) w e = (w, e)
+
+stays : (g : Ground) (b : Beginning) (lines : List Line) (w : World) → b.world ≡ Some w → (u : World) × ((begin_behind g b lines).world ≡ Some u)
+unfolding begin_behind
+stays g b [] w e = (w, e)
+stays g b (line ∷ lines) w e = let s = stays_by g b line w e in stays g (begin_by g b line) lines s.0 s.1
+
+uses_some : (g : Ground) (b : Beginning) (lines : List Line) → UsesBoards lines → (u : World) × ((begin_behind g b lines).world ≡ Some u)
+unfolding begin_behind
+uses_some g b [] uses = absurd (cc)
+uses_some g b (Nothing ∷ lines) uses = uses_some g b lines uses
+uses_some g b (Motes n ∷ lines) uses = uses_some g (begin_by g b (Motes n)) lines uses
+uses_some g b (Golden name used content ∷ lines) uses = uses_some g (begin_by g b (Golden name used content)) lines uses
+uses_some g b (Boards ∷ lines) uses = stays g (begin_by g b Boards) lines (first_world g.table [] g.stores) refl
+uses_some g b (Link x y ∷ lines) uses = uses_some g (begin_by g b (Link x y)) lines uses
+uses_some g b (Image image version name content ∷ lines) uses = uses_some g b lines uses
+uses_some g b (Cut c ∷ lines) uses = uses_some g b lines uses
+uses_some g b (Happens event ∷ lines) uses = uses_some g b lines uses
+uses_some g b (Round x y ∷ lines) uses = uses_some g b lines uses
+uses_some g b (Sweeps n ∷ lines) uses = uses_some g b lines uses
+
+run_none : (o : Option World) (played : List Played) (u : World) → o ≡ Some u → RunsTo o played None → ⊥
+run_none None played u e r = cc
+run_none (Some w) played u e r = let f : None ≡ Some r.0 = r.1 in cc
+
+-- where no world is there yet, no boards are used as they are
+pub grounded_motes : {table : List Row} {initial : List Device} (g : Ground) (done : List Line) (n : ℕ) (played : List Played) → RunsTo (beginning_of g done).world played None → Grounded table initial g (done ++ Motes n ∷ [])
+grounded_motes g done n played r = λ uses.
+    let some = uses_some g no_beginning done (uses_next done (Motes n) refl uses) in absurd (run_none (beginning_of g done).world played some.0 some.1 r)
+
+-- a line without items
+pub silent_runs : {table : List Row} {initial : List Device} (done : List Line) (line : Line) (w : Option World) → item_by (place_behind first_place done) (cut_behind None done) line ≡ [] → ((g : Ground) → (begin_by g (beginning_of g done) line).world ≡ (beginning_of g done).world)
+    → ((g : Ground) (played : List Played) → RunsTo (beginning_of g done).world played w → Grounded table initial g done → Grounded table initial g (done ++ line ∷ [])) → LineRuns table initial done line w w []
+silent_runs done line w none same ground = λ g played before items r. record {
+  ground = g;
+  grounded = ground g played r before;
   now = played;
   items = items ∙ same_items done line none;
-  run = same_run done line played w same r;
+  run = same_run g done line played w (same g) r;
   told = sym (append-nil (played_text played));
   on = inl refl;
 }
 
 -- a line with items
-pub busy_runs : (done : List Line) (line : Line) (u z : World) (items : List Item) (text : List ℕ) → item_by (place_behind first_place done) (cut_behind None done) line ≡ items → (begin_by (beginning_of done) line).world ≡ (beginning_of done).world
-    → ItemsRun u items z text → LineRuns done line (Some u) (Some z) text
-busy_runs done line u z items text are same x = λ played before r. record {
+pub busy_runs : {table : List Row} {initial : List Device} (done : List Line) (line : Line) (u z : World) (items : List Item) (text : List ℕ) → item_by (place_behind first_place done) (cut_behind None done) line ≡ items → ((g : Ground) → (begin_by g (beginning_of g done) line).world ≡ (beginning_of g done).world)
+    → is_boards line ≡ false → ((b : Beginning) → (begin_by no_ground b line).motes ≡ b.motes) → ItemsRun u items z text → LineRuns table initial done line (Some u) (Some z) text
+busy_runs done line u z items text are same plain counts x = λ g played first before r. record {
+  ground = g;
+  grounded = grounded_next g done line plain counts first;
   now = played ++ x.played;
   items = map-append item_played played x.played ∙ ap (λ (xs : List Item). xs ++ map item_played x.played) before ∙ ap (λ (xs : List Item). items_of done ++ xs) (x.are ∙ sym are) ∙ sym (items_next done line);
-  run = same_run done line (played ++ x.played) (Some z) same (runs_append (beginning_of done).world u z played x.played r x.run);
+  run = same_run g done line (played ++ x.played) (Some z) (same g) (runs_append (beginning_of g done).world u z played x.played r x.run);
   told = played_more played x.played ∙ ap (λ (xs : List ℕ). played_text played ++ xs) (sym x.told);
   on = inr (x.played, refl);
 }
 
-pub golden_runs : (done : List Line) (name : List ℕ) (used : ℕ) (content : List ℕ) (motes : ℕ) → motes ≡ (beginning_of done).motes → LineRuns done (Golden name used content) None (Some (golden_world motes name used content)) []
-golden_runs done name used content motes is = λ played items r. record {
+pub golden_runs : {table : List Row} {initial : List Device} (done : List Line) (name : List ℕ) (used : ℕ) (content : List ℕ) (motes : ℕ) → motes ≡ motes_in done → LineRuns table initial done (Golden name used content) None (Some (golden_world motes name used content)) []
+golden_runs done name used content motes is = λ g played before items r. record {
+  ground = g;
+  grounded = grounded_next g done (Golden name used content) refl (λ b. refl) before;
   now = played;
   items = items ∙ same_items done (Golden name used content) refl;
-  run = subst (λ (b : Beginning). RunsTo b.world played (Some (golden_world motes name used content))) (sym (begin_next no_beginning done (Golden name used content))) (
+  run = subst (λ (b : Beginning). RunsTo b.world played (Some (golden_world motes name used content))) (sym (begin_next g no_beginning done (Golden name used content))) (
     golden_world motes name used content,
     refl,
-    plays_none (golden_world (beginning_of done).motes name used content) (golden_world motes name used content) played (runs_from_none (beginning_of done).world played r).1 (ap (λ (n : ℕ). golden_world n name used content) (sym is)),
+    plays_none (golden_world (beginning_of g done).motes name used content) (golden_world motes name used content) played (runs_from_none (beginning_of g done).world played r).1
+        (ap (λ (n : ℕ). golden_world n name used content) (motes_same g no_ground no_beginning no_beginning done refl ∙ sym is)),
   );
   told = sym (append-nil (played_text played));
   on = inl refl;
 }
+
+-- the boards are used as they are, and held against any table
+pub boards_runs : {initial : List Device} (done : List Line) (table : List Row) (stores : List Store) → StandFor (motes_in done) stores initial → AreShaped stores → LineRuns table initial done Boards None (Some (first_world table [] stores)) []
+boards_runs {initial} done table stores stand shaped = λ g played before items r.
+    let ground : Ground = record { stores = stores; table = table } in
+    let count : motes_in (done ++ Boards ∷ []) ≡ motes_in done = ap (λ (b : Beginning). b.motes) (begin_next no_ground no_beginning done Boards) in
+    record {
+      ground = ground;
+      grounded = λ uses. subst (λ (n : ℕ). IsGround ground table n × StandFor n stores initial) (sym count) (record { held = refl; count = stand.count; shaped = shaped }, stand);
+      now = played;
+      items = items ∙ same_items done Boards refl;
+      run = subst (λ (b : Beginning). RunsTo b.world played (Some (first_world table [] stores))) (sym (begin_next ground no_beginning done Boards)) (
+        first_world table [] stores,
+        refl,
+        plays_none (first_world table [] stores) (first_world table [] stores) played (runs_from_none (beginning_of g done).world played r).1 refl,
+      );
+      told = sym (append-nil (played_text played));
+      on = inl refl;
+    }
 
 -- ---- links
 
@@ -176,12 +262,14 @@ run_linked link None ps w all (none, is) = absurd (let e : Some w ≡ None = is 
 run_linked link (Some u) ps w all (v, is, plays) = (with_link link w, refl, subst (λ (z : World). Plays (with_link link u) (map (with_links link) ps) (with_link link z)) (sym (some_is w v is)) (plays_linked link u v ps all plays))
 
 -- behind a link, the same was played from a world that has it
-pub link_runs : (done : List Line) (a b : ℕ) (w : World) → AllByRecursion IsDeclaration (items_of done) → LineRuns done (Link a b) (Some w) (Some (with_link (a, b) w)) []
-link_runs done a b w all = λ played items r. record {
+pub link_runs : {table : List Row} {initial : List Device} (done : List Line) (a b : ℕ) (w : World) → AllByRecursion IsDeclaration (items_of done) → LineRuns table initial done (Link a b) (Some w) (Some (with_link (a, b) w)) []
+link_runs done a b w all = λ g played before items r. record {
+  ground = g;
+  grounded = grounded_next g done (Link a b) refl (λ x. refl) before;
   now = map (with_links (a, b)) played;
   items = items_linked (a, b) played ∙ items ∙ same_items done (Link a b) refl;
-  run = subst (λ (x : Beginning). RunsTo x.world (map (with_links (a, b)) played) (Some (with_link (a, b) w))) (sym (begin_next no_beginning done (Link a b)))
-      (run_linked (a, b) (beginning_of done).world played w (subst (λ (xs : List Item). AllByRecursion IsDeclaration xs) (sym items) all) r);
+  run = subst (λ (x : Beginning). RunsTo x.world (map (with_links (a, b)) played) (Some (with_link (a, b) w))) (sym (begin_next g no_beginning done (Link a b)))
+      (run_linked (a, b) (beginning_of g done).world played w (subst (λ (xs : List Item). AllByRecursion IsDeclaration xs) (sym items) all) r);
   told = text_linked (a, b) played ∙ sym (append-nil (played_text played));
   on = inl refl;
 }

@@ -1,6 +1,6 @@
 -- What playing one item, and one after the other, answers.
 use Rattle.std.proofs.Common.{◌≡◌, ℕ, zero, suc, ◌+◌, ◌-◌, ◌<◌, ◌≤◌, ◌≢◌, ◌⊎◌, inl, inr, ⊎_elim, Bool, false, if◌then◌else◌, List, [], ◌∷◌, ◌++◌, length, replicate, get_or, take, drop, refl, append-nil, append_assoc, ap, sym, ◌∙◌, subst, arith}
-use Rattle.std.proofs.lemmas.List.{map-append}
+use Rattle.std.proofs.lemmas.List.{length-set, map-append}
 use Rattle.std.specs.List.{filter, AllByRecursion}
 use Rattle.std.specs.Prelude.{Option, Some, None, Result, Ok, Err, OnOk, OnErr, slice_get}
 use Rattle.dg_base.specs.declared.events.Event.{Event}
@@ -30,12 +30,11 @@ use Rattle.dg_world.proofs.CountLemmas.{NoneRose_then}
 use Rattle.dg_world.specs.Applied.{Applied, OneBoard, FlashAt, Ended}
 use Rattle.dg_world.specs.declared.world.World.{World as KeptWorld}
 use Rattle.dg_completion.proofs.GrowLemmas.{all_append, all_replicate, all_times}
-use Rattle.dg_replay.specs.Boards.{WorldStands, ItemStops}
-use Rattle.dg_replay.specs.Outcome.{EventNext}
+use Rattle.dg_replay.specs.Boards.{WorldStands, ItemStops, LacksImage, EventNext}
 use Rattle.dg_replay.specs.Steps.{IsOfRound}
-use Rattle.dg_replay.specs.Playing.{GoesOn, ItemsRun, ItemsPlayed, ItemsBegun, ItemsPlayedAs, IsOneTooMany, StopsInItem, LacksImage}
+use Rattle.dg_replay.specs.Playing.{GoesOn, ItemsRun, ItemsPlayed, ItemsBegun, ItemsPlayedAs, IsOneTooMany, StopsInItem}
 use Rattle.dg_replay.specs.declared.stop.Stop.{Stop}
-use Rattle.dg_replay.specs.declared.stop.Stop.TheVariants.{Memory, BadInput, WriteFault, FlashFault, TooMany, NoBoard, NoImage}
+use Rattle.dg_replay.specs.declared.stop.Stop.TheVariants.{Memory, BadInput, WriteFault, FlashFault, TooMany, NoBoard, NoImage, NotAVolume}
 use Rattle.dg_replay.proofs.ItemLemmas.{items_run_none, items_run_one, items_run_join, declared_same, step_counts}
 use Rattle.dg_replay.proofs.BoardLemmas.{boards_through, caused_through, there}
 
@@ -182,9 +181,25 @@ stopped_in w x loud v board initial old new told_before told may is few f untold
     (flash_next w x loud [] board initial old new few (step_within v old w x is may) f stands, untold ∙ sym (append-nil told_before))
 
 -- it found no image to start
-pub ended_in : (w : World) (x : Step) (loud : Bool) (v : KeptWorld) (old new : List Device) → IsWorld v old w → Ended w x old new → ItemsBegun w (Happened x loud ∷ []) (λ u left text. LacksImage u left)
-ended_in w x loud v old new is e =
-    begun_none w (Happened x loud ∷ []) (λ u left text. LacksImage u left) is.few_events (record { next = record { step = x; loud = loud; more = []; is = refl }; after = e.world; ends = e.ends })
+ended_stands : (w : World) (x : Step) (v : KeptWorld) (initial old new : List Device) → MayStep v old x → IsWorld v old w → (e : Ended w x old new) → WorldStands w initial old → WorldStands e.world initial new
+ended_stands w x v initial old new may is e b =
+    let within : mote_of x.event < length w.sites = step_within v old w x is may in
+    let count : length e.world.sites ≡ length w.sites = ap (λ (u : World). length u.sites) e.ends.world ∙ length-set w.sites (mote_of x.event) _ in
+    record {
+      all = boards_through initial old new b.all e.boards.count e.boards.endures;
+      calm = NoneRose_then initial old new b.all.count b.calm e.calm;
+      stands = e.stood;
+      came = λ m d inside is_there. b.came m d (omega (arith, inside, count)) is_there;
+      others = λ m past.
+          let far : length w.sites ≤ m = omega (arith, past, count) in
+          e.boards.others m (other_than m (mote_of x.event) (length w.sites) within far) ∙ b.others m far;
+    }
+
+pub ended_in : (w : World) (x : Step) (loud : Bool) (v : KeptWorld) (initial old new : List Device) (told : List ℕ) → MayStep v old x → IsWorld v old w → Ended w x old new → WorldStands w initial old
+    → ItemsBegun w (Happened x loud ∷ []) (λ u left text. LacksImage u left initial new × (told ≡ told ++ text))
+ended_in w x loud v initial old new told may is e stands =
+    begun_none w (Happened x loud ∷ []) (λ u left text. LacksImage u left initial new × (told ≡ told ++ text)) is.few_events
+    (record { next = record { step = x; loud = loud; more = []; is = refl }; after = e.world; ends = e.ends; boards = ended_stands w x v initial old new may is e stands }, sym (append-nil told))
 
 -- it was applied, and this came of telling it
 pub told_as : (r : Result (Unit {0}) Stop) (w : World) (x : Step) (loud : Bool) (v v2 : KeptWorld) (initial old new : List Device) (before reports : List Report) (told_before told : List ℕ) → before ≡ [] → MayStep v old x → Applied w x loud v2 old new before reports
@@ -253,6 +268,10 @@ declared_step o w row e free =
 next_more : (left more : List Item) → EventNext left → EventNext (left ++ more)
 next_more left more n = record { step = n.step; loud = n.loud; more = n.more ++ more; is = ap (λ (xs : List Item). xs ++ more) n.is }
 
+lacks_more : (left more : List Item) (w : World) (initial now : List Device) → LacksImage w left initial now → LacksImage w (left ++ more) initial now
+unfolding next_more
+lacks_more left more w initial now h = record { next = next_more left more h.next; after = h.after; ends = h.ends; boards = h.boards }
+
 stops_more : (left more : List Item) (w : World) (board : ℕ) (image : List ℕ) (old new : List Device) → ItemStops left (Some w) board image old new → ItemStops (left ++ more) (Some w) board image old new
 stops_more [] more w board image old new h = absurd h
 stops_more (Declares row ∷ left) more w board image old new h = absurd h
@@ -296,8 +315,9 @@ stopped_later FlashFault w xs ys more whole k k2 initial mid now t0 t1 t2 a b is
     begun_later w a.world xs ys more whole a.text (λ v left text. StopsInItem v left initial now × (t2 ≡ t1 ++ text)) (λ v left text. StopsInItem v left initial now × (t2 ≡ t0 ++ text)) a.runs b is
     (λ v left text h. (record { stopped = h.0.stopped; there = stops_more left more v h.0.stopped.board h.0.stopped.after.image initial now h.0.there }, h.1 ∙ ap (λ (t : List ℕ). t ++ text) a.told_now ∙ append_assoc t0 a.text text))
 stopped_later NoImage w xs ys more whole k k2 initial mid now t0 t1 t2 a b is =
-    begun_later w a.world xs ys more whole a.text (λ v left text. LacksImage v left) (λ v left text. LacksImage v left) a.runs b is
-    (λ v left text h. record { next = next_more left more h.next; after = h.after; ends = h.ends })
+    begun_later w a.world xs ys more whole a.text (λ v left text. LacksImage v left initial now × (t2 ≡ t1 ++ text)) (λ v left text. LacksImage v left initial now × (t2 ≡ t0 ++ text)) a.runs b is
+    (λ v left text h. (lacks_more left more v initial now h.0, h.1 ∙ ap (λ (t : List ℕ). t ++ text) a.told_now ∙ append_assoc t0 a.text text))
+stopped_later NotAVolume w xs ys more whole k k2 initial mid now t0 t1 t2 a b is = absurd b
 stopped_later (NoBoard motes boards) w xs ys more whole k k2 initial mid now t0 t1 t2 a b is = absurd b
 stopped_later (BadInput n fault) w xs ys more whole k k2 initial mid now t0 t1 t2 a b is = absurd b
 stopped_later WriteFault w xs ys more whole k k2 initial mid now t0 t1 t2 a b is = absurd b

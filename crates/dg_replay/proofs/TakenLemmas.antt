@@ -11,7 +11,7 @@ use Rattle.dg_script.specs.declared.place.Place.{Place}
 use Rattle.dg_script.specs.declared.line.Line.{Line}
 use Rattle.dg_script.specs.declared.line.Line.TheVariants.{Nothing, Motes, Golden, Boards, Link, Image, Cut, Happens, Round, Sweeps}
 use Rattle.dg_script.specs.Items.{Item}
-use Rattle.dg_replay.specs.Items.{Beginning, begin_by, begin_behind, motes_in, next_items}
+use Rattle.dg_replay.specs.Items.{Ground, no_ground, Beginning, begin_by, begin_behind, motes_in, next_items}
 use Rattle.dg_replay.specs.Boards.{BoardStopped}
 use Rattle.dg_replay.specs.Ending.{whole_lines, used, is_over, script_of, ending_from}
 use Rattle.dg_replay.specs.Outcome.{IsSettled, AreWhole, DoneIsWhole}
@@ -62,19 +62,19 @@ none_whole input = λ more. ((script_of (input ++ more)).lines, refl)
 
 -- ---- how many motes there are
 
-counted_stays : (b : Beginning) (place : Place) (lines : List Line) → 0 < place.motes → LinesFit place lines → (begin_behind b lines).motes ≡ b.motes
+counted_stays : (g : Ground) (b : Beginning) (place : Place) (lines : List Line) → 0 < place.motes → LinesFit place lines → (begin_behind g b lines).motes ≡ b.motes
 unfolding LinesFit begin_behind
-counted_stays b place [] some h = refl
-counted_stays b place (Nothing ∷ lines) some h = counted_stays b place lines some h.3
-counted_stays b place (Motes n ∷ lines) some h = not_first place n some h.0
-counted_stays b place (Golden name used content ∷ lines) some h = counted_stays (begin_by b (Golden name used content)) (place_after place (Golden name used content)) lines some h.3
-counted_stays b place (Boards ∷ lines) some h = unplayed h.2
-counted_stays b place (Link x y ∷ lines) some h = counted_stays (begin_by b (Link x y)) (place_after place (Link x y)) lines some h.3
-counted_stays b place (Image image version name content ∷ lines) some h = counted_stays b place lines some h.3
-counted_stays b place (Cut c ∷ lines) some h = counted_stays b (place_after place (Cut c)) lines some h.3
-counted_stays b place (Happens event ∷ lines) some h = counted_stays b (place_after place (Happens event)) lines some h.3
-counted_stays b place (Round x y ∷ lines) some h = counted_stays b (place_after place (Round x y)) lines some h.3
-counted_stays b place (Sweeps n ∷ lines) some h = counted_stays b (place_after place (Sweeps n)) lines some h.3
+counted_stays g b place [] some h = refl
+counted_stays g b place (Nothing ∷ lines) some h = counted_stays g b place lines some h.3
+counted_stays g b place (Motes n ∷ lines) some h = not_first place n some h.0
+counted_stays g b place (Golden name used content ∷ lines) some h = counted_stays g (begin_by g b (Golden name used content)) (place_after place (Golden name used content)) lines some h.3
+counted_stays g b place (Boards ∷ lines) some h = counted_stays g (begin_by g b Boards) (place_after place Boards) lines some h.3
+counted_stays g b place (Link x y ∷ lines) some h = counted_stays g (begin_by g b (Link x y)) (place_after place (Link x y)) lines some h.3
+counted_stays g b place (Image image version name content ∷ lines) some h = counted_stays g b place lines some h.3
+counted_stays g b place (Cut c ∷ lines) some h = counted_stays g b (place_after place (Cut c)) lines some h.3
+counted_stays g b place (Happens event ∷ lines) some h = counted_stays g b (place_after place (Happens event)) lines some h.3
+counted_stays g b place (Round x y ∷ lines) some h = counted_stays g b (place_after place (Round x y)) lines some h.3
+counted_stays g b place (Sweeps n ∷ lines) some h = counted_stays g b (place_after place (Sweeps n)) lines some h.3
 
 none_yet : {A : Type 0} → 0 < first_place.motes → A
 none_yet some = absurd (omega (arith, some))
@@ -86,16 +86,23 @@ counted_once [] rest h some = absurd (omega (arith, some))
 counted_once (Nothing ∷ done) rest h some = counted_once done rest h.3 some
 counted_once (Motes n ∷ done) rest h some =
     let there : Place = place_after first_place (Motes n) in
-    counted_stays (record { motes = n; world = None }) there (done ++ rest) (omega (arith, h.1)) h.3
-    ∙ sym (counted_stays (record { motes = n; world = None }) there done (omega (arith, h.1)) (front_fits there done rest h.3))
+    counted_stays no_ground (record { motes = n; world = None }) there (done ++ rest) (omega (arith, h.1)) h.3
+    ∙ sym (counted_stays no_ground (record { motes = n; world = None }) there done (omega (arith, h.1)) (front_fits there done rest h.3))
 counted_once (Golden name used content ∷ done) rest h some = none_yet (second_at first_place h.0.fits).1
-counted_once (Boards ∷ done) rest h some = unplayed h.2
+counted_once (Boards ∷ done) rest h some = none_yet (second_at first_place h.0.fits).1
 counted_once (Link x y ∷ done) rest h some = none_yet (link_at first_place x y h.0).0.1
 counted_once (Image image version name content ∷ done) rest h some = none_yet (later_at first_place h.0.fits).1
 counted_once (Cut c ∷ done) rest h some = none_yet (later_at first_place h.0.fits).1
 counted_once (Happens event ∷ done) rest h some = none_yet (event_at first_place event h.0).1
 counted_once (Round x y ∷ done) rest h some = none_yet (later_at first_place h.0.fits).1
 counted_once (Sweeps n ∷ done) rest h some = none_yet (later_at first_place h.0.fits).1
+
+-- a board behind the first lines of a script is one that the script uses
+pub known_in_script : (input : List ℕ) (done rest : List Line) (board : ℕ) → done ++ rest ≡ (script_of input).lines → board < motes_in done → board < motes_in (script_of input).lines
+known_in_script input done rest board lines known =
+    let some : 0 < motes_in done = omega (arith, known) in
+    let same : motes_in (done ++ rest) ≡ motes_in done = counted_once done rest (subst (LinesFit first_place) (sym lines) (script_of_fits input)) some in
+    subst (λ (n : ℕ). board < n) (sym same ∙ ap motes_in lines) known
 
 -- a board that stopped behind the first lines of a script is one that the script uses
 pub stopped_of_script : (input : List ℕ) (done rest : List Line) (old new : List Device) → done ++ rest ≡ (script_of input).lines → BoardStopped (motes_in done) old new → BoardStopped (motes_in (script_of input).lines) old new

@@ -3,6 +3,7 @@ use Rattle.std.proofs.Common.{◌≡◌, ◌≢◌, ◌⊎◌, inl, inr, ℕ, Li
 use Rattle.std.specs.Prelude.{Option, Result, Ok, Err, OnOk, OnErr}
 use Rattle.dg_base.specs.Outside.{Puts, PutsFront}
 use Rattle.dg_nor.specs.Device.{Device}
+use Rattle.dg_object.specs.Object.{Row}
 use Rattle.dg_script.specs.Lines.{line_of}
 use Rattle.dg_script.specs.Places.{place_after}
 use Rattle.dg_script.specs.Items.{Item}
@@ -14,7 +15,7 @@ use Rattle.dg_replay.specs.Playing.{PlayedLine, PlayedAs, LineBegun}
 use Rattle.dg_replay.specs.Replaying.{StopsAtLine, TextPlayed, TextAnswer, BegunWritten}
 use Rattle.dg_replay.specs.declared.player.Player.{Player}
 use Rattle.dg_replay.specs.declared.stop.Stop.{Stop}
-use Rattle.dg_replay.specs.declared.stop.Stop.TheVariants.{Memory, BadInput, WriteFault, FlashFault, TooMany, NoBoard, NoImage}
+use Rattle.dg_replay.specs.declared.stop.Stop.TheVariants.{Memory, BadInput, WriteFault, FlashFault, TooMany, NoBoard, NoImage, NotAVolume}
 
 same_stop : (s t : Stop) → ◌≡◌ {A = Result (Unit {0}) Stop} (Err s) (Err t) → s ≡ t
 same_stop s t e = cc
@@ -24,39 +25,56 @@ begun_then : {done : List Line} {line : Line} {w : Option World} {P Q : Option W
 begun_then f b = record { begun = b.begun; left = b.left; parts = b.parts; world = b.world; text = b.text; runs = b.runs; there = f b.world b.left b.text b.there }
 
 -- a line was played, and what is told of it was written, or a front of it
-pub told_as : (r : Result (Unit {0}) Stop) (text : List ℕ) (number : ℕ) (p q : Player) (done : List Line) (w : Option World) (initial old new : List Device) (before after : Option (List ℕ)) (failed : Type 0) (line : Line) (told : List ℕ)
-    → line_of p.place text ≡ Ok line → PlayedLine q done w line [] told initial new → q.place ≡ place_after p.place line
+pub told_as : (table : List Row) (r : Result (Unit {0}) Stop) (text : List ℕ) (number : ℕ) (p q : Player) (done : List Line) (w : Option World) (initial old new : List Device) (before after : Option (List ℕ)) (failed : Type 0) (line : Line) (told : List ℕ)
+    → line_of p.place text ≡ Ok line → PlayedLine table q done w line [] told initial new → q.place ≡ place_after p.place line
     → OnOk r (Puts before after told) → OnErr r (PutsFront before after told × (told ≢ [])) → OnErr r ((r ≡ Err WriteFault) × failed)
-    → TextAnswer r text number p q done w initial old new before after failed
-told_as (Ok u) text number p q done w initial old new before after failed line told spelled to behind ok cut cause =
+    → TextAnswer table r text number p q done w initial old new before after failed
+told_as table (Ok u) text number p q done w initial old new before after failed line told spelled to behind ok cut cause =
     record { played = record { line = line; spelled = spelled; told = told; to = to; behind = behind }; written = ok }
-told_as (Err s) text number p q done w initial old new before after failed line told spelled to behind ok cut cause =
-    let P : Stop → Type 0 = λ x. TextAnswer (Err x) text number p q done w initial old new before after failed in
-    let played : TextPlayed text p q done w initial new = record { line = line; spelled = spelled; told = told; to = to; behind = behind } in
+told_as table (Err s) text number p q done w initial old new before after failed line told spelled to behind ok cut cause =
+    let P : Stop → Type 0 = λ x. TextAnswer table (Err x) text number p q done w initial old new before after failed in
+    let played : TextPlayed table text p q done w initial new = record { line = line; spelled = spelled; told = told; to = to; behind = behind } in
     subst P (sym (same_stop s WriteFault cause.0)) (cause.1, inl (record { played = played; written = cut.0 }))
 
 -- a line was not played, or begun, and what is told of that was written, or a front of it
-pub begun_as : (stop result : Stop) (text : List ℕ) (number : ℕ) (p q : Player) (done : List Line) (w : Option World) (initial old new : List Device) (before after : Option (List ℕ)) (failed : Type 0) (line : Line) (told : List ℕ)
-    → line_of p.place text ≡ Ok line → PlayedAs (Err stop) q done w line [] told initial old new → BegunWritten stop result told before after failed
-    → TextAnswer (Err result) text number p q done w initial old new before after failed
-begun_as Memory result text number p q done w initial old new before after failed line told spelled played (is, none) =
-    let P : Stop → Type 0 = λ x. TextAnswer (Err x) text number p q done w initial old new before after failed in
+pub begun_as : (table : List Row) (stop result : Stop) (text : List ℕ) (number : ℕ) (p q : Player) (done : List Line) (w : Option World) (initial old new : List Device) (before after : Option (List ℕ)) (failed : Type 0) (line : Line) (told : List ℕ)
+    → line_of p.place text ≡ Ok line → PlayedAs table (Err stop) q done w line [] told initial old new → BegunWritten stop result told before after failed
+    → TextAnswer table (Err result) text number p q done w initial old new before after failed
+begun_as table Memory result text number p q done w initial old new before after failed line told spelled played (is, none) =
+    let P : Stop → Type 0 = λ x. TextAnswer table (Err x) text number p q done w initial old new before after failed in
     subst P (sym is) (inr (record { line = line; spelled = spelled; there = played }, none))
-begun_as (NoBoard m b) result text number p q done w initial old new before after failed line told spelled played (is, none) =
-    let P : Stop → Type 0 = λ x. TextAnswer (Err x) text number p q done w initial old new before after failed in
+begun_as table (NoBoard m b) result text number p q done w initial old new before after failed line told spelled played (is, none) =
+    let P : Stop → Type 0 = λ x. TextAnswer table (Err x) text number p q done w initial old new before after failed in
     subst P (sym is) (record { line = line; spelled = spelled; there = played }, none)
-begun_as NoImage result text number p q done w initial old new before after failed line told spelled played (is, none) =
-    let P : Stop → Type 0 = λ x. TextAnswer (Err x) text number p q done w initial old new before after failed in
-    subst P (sym is) (record { line = line; spelled = spelled; there = played })
-begun_as FlashFault result text number p q done w initial old new before after failed line told spelled played (inl (is, put)) =
-    let P : Stop → Type 0 = λ x. TextAnswer (Err x) text number p q done w initial old new before after failed in
+begun_as table NotAVolume result text number p q done w initial old new before after failed line told spelled played (is, none) =
+    let P : Stop → Type 0 = λ x. TextAnswer table (Err x) text number p q done w initial old new before after failed in
+    subst P (sym is) (record { line = line; spelled = spelled; there = played }, none)
+begun_as table NoImage result text number p q done w initial old new before after failed line told spelled played (inl (is, put)) =
+    let P : Stop → Type 0 = λ x. TextAnswer table (Err x) text number p q done w initial old new before after failed in
+    subst P (sym is) (record {
+      line = line;
+      spelled = spelled;
+      there = begun_then (λ v left t h. (h.0, subst (λ (xs : List ℕ). Puts before after xs) h.1 put)) played;
+    })
+begun_as table NoImage result text number p q done w initial old new before after failed line told spelled played (inr (is, rose, some, cut)) =
+    let P : Stop → Type 0 = λ x. TextAnswer table (Err x) text number p q done w initial old new before after failed in
+    subst P (sym is) (
+      rose,
+      inr (record {
+        line = line;
+        spelled = spelled;
+        there = begun_then (λ v left t h. inr (inr (subst (λ (xs : List ℕ). xs ≢ []) h.1 some, h.0, subst (λ (xs : List ℕ). PutsFront before after xs) h.1 cut))) played;
+      }),
+    )
+begun_as table FlashFault result text number p q done w initial old new before after failed line told spelled played (inl (is, put)) =
+    let P : Stop → Type 0 = λ x. TextAnswer table (Err x) text number p q done w initial old new before after failed in
     subst P (sym is) (record {
       line = line;
       spelled = spelled;
       there = (played.0, begun_then (λ v left t h. (h.0, subst (λ (xs : List ℕ). Puts before after xs) h.1 put)) played.1);
     })
-begun_as FlashFault result text number p q done w initial old new before after failed line told spelled played (inr (is, rose, some, cut)) =
-    let P : Stop → Type 0 = λ x. TextAnswer (Err x) text number p q done w initial old new before after failed in
+begun_as table FlashFault result text number p q done w initial old new before after failed line told spelled played (inr (is, rose, some, cut)) =
+    let P : Stop → Type 0 = λ x. TextAnswer table (Err x) text number p q done w initial old new before after failed in
     subst P (sym is) (
       rose,
       inr (record {
@@ -65,34 +83,34 @@ begun_as FlashFault result text number p q done w initial old new before after f
         there = begun_then (λ v left t h. inl (subst (λ (xs : List ℕ). xs ≢ []) h.1 some, h.0, subst (λ (xs : List ℕ). PutsFront before after xs) h.1 cut)) played.1;
       }),
     )
-begun_as TooMany result text number p q done w initial old new before after failed line told spelled played (inl (is, put)) =
-    let P : Stop → Type 0 = λ x. TextAnswer (Err x) text number p q done w initial old new before after failed in
+begun_as table TooMany result text number p q done w initial old new before after failed line told spelled played (inl (is, put)) =
+    let P : Stop → Type 0 = λ x. TextAnswer table (Err x) text number p q done w initial old new before after failed in
     subst P (sym is) (record {
       line = line;
       spelled = spelled;
       there = begun_then (λ v left t h. (h.0, h.1, subst (λ (xs : List ℕ). Puts before after xs) h.2 put)) played;
     })
-begun_as TooMany result text number p q done w initial old new before after failed line told spelled played (inr (is, rose, some, cut)) =
-    let P : Stop → Type 0 = λ x. TextAnswer (Err x) text number p q done w initial old new before after failed in
+begun_as table TooMany result text number p q done w initial old new before after failed line told spelled played (inr (is, rose, some, cut)) =
+    let P : Stop → Type 0 = λ x. TextAnswer table (Err x) text number p q done w initial old new before after failed in
     subst P (sym is) (
       rose,
       inr (record {
         line = line;
         spelled = spelled;
-        there = begun_then (λ v left t h. inr (h.0, h.1, subst (λ (xs : List ℕ). PutsFront before after xs) h.2 cut)) played;
+        there = begun_then (λ v left t h. inr (inl (h.0, h.1, subst (λ (xs : List ℕ). PutsFront before after xs) h.2 cut))) played;
       }),
     )
-begun_as (BadInput n f) result text number p q done w initial old new before after failed line told spelled played written = absurd played
-begun_as WriteFault result text number p q done w initial old new before after failed line told spelled played written = absurd played
+begun_as table (BadInput n f) result text number p q done w initial old new before after failed line told spelled played written = absurd played
+begun_as table WriteFault result text number p q done w initial old new before after failed line told spelled played written = absurd played
 
 -- a line was not read
-pub not_read_as : (stop : Stop) (text : List ℕ) (number : ℕ) (fault : LineFault) (p q : Player) (done : List Line) (w : Option World) (initial now : List Device) (before : Option (List ℕ)) (failed : Type 0)
-    → (known : (fault ≡ line_fault.Memory) ⊎ (fault ≢ line_fault.Memory)) → StopsAtLine stop number fault → (fault ≢ line_fault.Memory → line_of p.place text ≡ Err fault) → TextAnswer (Err stop) text number p q done w initial now now before before failed
-not_read_as stop text number fault p q done w initial now before failed (inl memory) at read =
-    let P : Stop → Type 0 = λ x. TextAnswer (Err x) text number p q done w initial now now before before failed in
+pub not_read_as : (table : List Row) (stop : Stop) (text : List ℕ) (number : ℕ) (fault : LineFault) (p q : Player) (done : List Line) (w : Option World) (initial now : List Device) (before : Option (List ℕ)) (failed : Type 0)
+    → (known : (fault ≡ line_fault.Memory) ⊎ (fault ≢ line_fault.Memory)) → StopsAtLine stop number fault → (fault ≢ line_fault.Memory → line_of p.place text ≡ Err fault) → TextAnswer table (Err stop) text number p q done w initial now now before before failed
+not_read_as table stop text number fault p q done w initial now before failed (inl memory) at read =
+    let P : Stop → Type 0 = λ x. TextAnswer table (Err x) text number p q done w initial now now before before failed in
     subst P (sym (at.memory memory)) (inl (record { boards = refl; told = refl }))
-not_read_as stop text number fault p q done w initial now before failed (inr other) at read =
-    let P : Stop → Type 0 = λ x. TextAnswer (Err x) text number p q done w initial now now before before failed in
+not_read_as table stop text number fault p q done w initial now before failed (inr other) at read =
+    let P : Stop → Type 0 = λ x. TextAnswer table (Err x) text number p q done w initial now now before before failed in
     subst P (sym (at.other other)) (refl, read other, record { boards = refl; told = refl })
 
 pub memory_or : (fault : LineFault) → (fault ≡ line_fault.Memory) ⊎ (fault ≢ line_fault.Memory)
@@ -112,8 +130,8 @@ memory_or line_fault.Cut = inr (λ e. cc)
 memory_or line_fault.Long = inr (λ e. cc)
 
 -- memory ran out before a line was played
-pub memory_as : (stop : Stop) (text : List ℕ) (number : ℕ) (p q : Player) (done : List Line) (w : Option World) (initial now : List Device) (before : Option (List ℕ)) (failed : Type 0)
-    → ◌≡◌ {A = Result (Unit {0}) Stop} (Err stop) (Err Memory) → TextAnswer (Err stop) text number p q done w initial now now before before failed
-memory_as stop text number p q done w initial now before failed is =
-    let P : Stop → Type 0 = λ x. TextAnswer (Err x) text number p q done w initial now now before before failed in
+pub memory_as : (table : List Row) (stop : Stop) (text : List ℕ) (number : ℕ) (p q : Player) (done : List Line) (w : Option World) (initial now : List Device) (before : Option (List ℕ)) (failed : Type 0)
+    → ◌≡◌ {A = Result (Unit {0}) Stop} (Err stop) (Err Memory) → TextAnswer table (Err stop) text number p q done w initial now now before before failed
+memory_as table stop text number p q done w initial now before failed is =
+    let P : Stop → Type 0 = λ x. TextAnswer table (Err x) text number p q done w initial now now before before failed in
     subst P (sym (same_stop stop Memory is)) (inl (record { boards = refl; told = refl }))

@@ -5,6 +5,7 @@ use Rattle.std.proofs.Math.Seq.{take-append-add}
 use Rattle.std.proofs.lemmas.Bool.{ne_eqb}
 use Rattle.std.proofs.lemmas.List.Elements.{All-head, All-tail}
 use Rattle.dg_nor.specs.Device.{Device}
+use Rattle.dg_object.specs.Object.{Row}
 use Rattle.dg_script.specs.Sizes.{most_used_bytes}
 use Rattle.dg_script.specs.LineReading.{HasNoEnd}
 use Rattle.dg_script.specs.Places.{first_place}
@@ -45,6 +46,6 @@ over_used front ahead is few over none =
 -- ---- what was played
 
 -- all lines of these texts were played
-pub all_read : (texts : List (List ℕ)) (n : ℕ) (p : Player) (initial now : List Device) (before after : Option (List ℕ)) → (r : Reached false (script_from false first_place 1 texts) [] n p initial now before after) → AllRead texts r.done
+pub all_read : {table : List Row} (texts : List (List ℕ)) (n : ℕ) (p : Player) (initial now : List Device) (before after : Option (List ℕ)) → (r : Reached table false (script_from false first_place 1 texts) [] n p initial now before after) → AllRead texts r.done
 unfolding script_from
 all_read texts n p initial now before after r = record { lines = sym (append-nil r.done) ∙ r.lines; fault = sym r.fault }

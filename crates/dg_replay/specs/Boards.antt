@@ -1,5 +1,5 @@
 -- What a replay leaves of the boards.
-use Rattle.std.specs.Prelude.{◌≡◌, ◌≢◌, ◌⊎◌, ℕ, ◌-◌, ◌<◌, ◌≤◌, true, false, List, [], ◌∷◌, length, slice_get, Option, Some, None, IfSome}
+use Rattle.std.specs.Prelude.{◌≡◌, ◌≢◌, ◌⊎◌, ℕ, ◌-◌, ◌<◌, ◌≤◌, Bool, true, false, List, [], ◌∷◌, length, slice_get, Option, Some, None, IfSome}
 use Rattle.dg_words.specs.Counts.{Rose}
 use Rattle.dg_nor.specs.Device.{Device, Endures}
 use Rattle.dg_nor.specs.Fuse.{beneath_of}
@@ -9,11 +9,14 @@ use Rattle.dg_volume.specs.Stands.{Stands}
 use Rattle.dg_base.specs.declared.events.Cut.{Cut as CutOfPower}
 use Rattle.dg_base.specs.declared.events.Step.{Step}
 use Rattle.dg_script.specs.declared.line.Line.{Line}
-use Rattle.dg_script.specs.declared.line.Line.TheVariants.{Golden}
+use Rattle.dg_script.specs.declared.line.Line.TheVariants.{Golden, Boards}
 use Rattle.dg_rules.specs.Sizes.{most_events}
 use Rattle.dg_rules.specs.World.{World, store_at}
 use Rattle.dg_rules.specs.Events.{does, mote_of, trail_of}
+use Rattle.dg_rules.specs.Steps.{EndsRun}
 use Rattle.dg_world.specs.Counts.{NoneRose}
+use Rattle.dg_world.specs.Applied.{SameBoards}
+use Rattle.dg_world.specs.Mounted.{NoVolumeAt, MountedTo}
 use Rattle.dg_script.specs.Items.{Item, Happens}
 
 -- No count of a board fell, and a board is stopped only where it was, or where its count rose.
@@ -68,6 +71,11 @@ pub record StopsOn (trail : Trail Store) (cut : Option CutOfPower) (image : List
   pub uncut : IfSome cut (λ c. made ≤ c.after - 1)
   pub leaves : MayLeave Stands IsNear trail made image
 
+-- The boards were only read up to this one, which stopped. Those before it are volumes, and did not come stopped. Those behind it are as before.
+pub record OthersMounted (board : ℕ) (old new : List Device) : Type 0 where
+  pub mounted : MountedTo board old new
+  pub read : SameBoards old new
+
 -- In an event it is the board of the event's mote. There were no million events before it.
 pub record EventStops (w : World) (step : Step) (board : ℕ) (image : List ℕ) (old new : List Device) : Type 0 where
   pub few : w.events < most_events
@@ -80,9 +88,10 @@ abbrev pub ItemStops : List Item → Option World → (board : ℕ) → List ℕ
 ItemStops (Happens step loud ∷ left) (Some w) board image old new = EventStops w step board image old new
 ItemStops left last board image old new = ⊥
 
--- Where a board stopped in a line, of which these items are left: in formatting, or in an event. No other line uses a board.
+-- Where a board stopped in a line, of which these items are left: in formatting, in mounting, or in an event. No other line uses a board.
 abbrev pub LineStops : Line → List Item → Option World → (board : ℕ) → List ℕ → (old new : List Device) → Type 0
 LineStops (Golden name used content) left None board image old new = OthersFormatted (fresh name content used) board old new
+LineStops Boards left None board image old new = OthersMounted board old new
 LineStops line left last board image old new = ItemStops left last board image old new
 
 -- The same in the reading at the end, which changes no store.
@@ -95,3 +104,31 @@ BoardStops (line ∷ rest) left last board image old new = LineStops line left l
 pub record StoppedIn (motes : ℕ) (rest : List Line) (left : List Item) (last : Option World) (old new : List Device) : Type 0 where
   pub stopped : BoardStopped motes old new
   pub there : BoardStops rest left last stopped.board stopped.after.image old new
+
+-- ---- a script that ends before its end
+
+-- One of the boards of so many motes, which are used as they are, is no volume. Those before it are volumes, and did not come stopped. All were only read, those behind it are as before, and no board's count rose.
+pub record NoVolumeIn (motes : ℕ) (old new : List Device) : Type 0 where
+  pub board : ℕ
+  pub at : NoVolumeAt board motes old new
+  pub read : SameBoards old new
+  pub calm : NoneRose old new
+
+-- the first of these items is an event
+pub record EventNext (items : List Item) : Type 0 where
+  pub step : Step
+  pub loud : Bool
+  pub more : List Item
+  pub is : items ≡ Happens step loud ∷ more
+
+-- a world is there, and P holds of it
+abbrev pub InSome : Option World → (World → Type 0) → Type 0
+InSome None P = ⊥
+InSome (Some w) P = P w
+
+-- The next item is an event, which finds no image to start. The boards stand for the world in which the run ends then, and no board's count rose.
+pub record LacksImage (w : World) (left : List Item) (old new : List Device) : Type 0 where
+  pub next : EventNext left
+  pub after : World
+  pub ends : EndsRun w next.step after
+  pub boards : WorldStands after old new

@@ -1,7 +1,8 @@
 -- What the lines of a script say of its run: where it begins, and what may come of it.
-use Rattle.std.specs.Prelude.{ℕ, nat_lt, Bool, true, false, if◌then◌else◌, List, [], ◌∷◌, ◌++◌, replicate, Option, Some, None, option_map}
-use Rattle.std.specs.List.{count_by}
-use Rattle.dg_volume.specs.Store.{fresh, golden_row}
+use Rattle.std.specs.Prelude.{◌≡◌, ℕ, nat_lt, Bool, true, false, if◌then◌else◌, List, [], ◌∷◌, ◌++◌, replicate, Option, Some, None, option_map}
+use Rattle.std.specs.List.{count_by, list_any}
+use Rattle.dg_object.specs.Object.{Row}
+use Rattle.dg_volume.specs.Store.{Store, fresh, golden_row}
 use Rattle.dg_base.specs.declared.events.Event.{Event}
 use Rattle.dg_base.specs.declared.events.Event.TheVariants.{Tick, Hear, Last, Reset, Inject, Order, Frame}
 use Rattle.dg_script.specs.Items.{Item, Declares, Happens as Happened, item_by, cut_behind, place_behind}
@@ -9,6 +10,12 @@ use Rattle.dg_script.specs.Places.{first_place}
 use Rattle.dg_script.specs.declared.line.Line.{Line}
 use Rattle.dg_script.specs.declared.line.Line.TheVariants.{Nothing, Motes, Golden, Boards, Link, Image, Cut, Happens, Round, Sweeps}
 use Rattle.dg_rules.specs.World.{World, first_world}
+
+-- What a script does not say itself: what the boards of its motes stand for where they are used as they are, and the table
+-- of images that all is held against then. A script with golden looks at neither.
+pub record Ground : Type 0 where
+  pub stores : List Store
+  pub table : List Row
 
 -- How many motes there are, and the world in which their run begins, None before they are formatted. It has all links of these lines, though an image may be declared before a link: declarations look at no link
 pub record Beginning : Type 0 where
@@ -23,31 +30,52 @@ golden_world motes name used content = first_world (golden_row name content ∷ 
 abbrev pub with_link : (ℕ × ℕ) → World → World
 with_link link w = record w { links = w.links ++ link ∷ [] }
 
-abbrev pub begin_by : Beginning → Line → Beginning
-begin_by b Nothing = b
-begin_by b (Motes n) = record b { motes = n }
-begin_by b (Golden name used content) = record b { world = Some (golden_world b.motes name used content) }
-begin_by b Boards = b
-begin_by b (Link x y) = record b { world = option_map (with_link (x, y)) b.world }
-begin_by b (Image image version name content) = b
-begin_by b (Cut c) = b
-begin_by b (Happens event) = b
-begin_by b (Round x y) = b
-begin_by b (Sweeps n) = b
+abbrev pub begin_by : Ground → Beginning → Line → Beginning
+begin_by g b Nothing = b
+begin_by g b (Motes n) = record b { motes = n }
+begin_by g b (Golden name used content) = record b { world = Some (golden_world b.motes name used content) }
+begin_by g b Boards = record b { world = Some (first_world g.table [] g.stores) }
+begin_by g b (Link x y) = record b { world = option_map (with_link (x, y)) b.world }
+begin_by g b (Image image version name content) = b
+begin_by g b (Cut c) = b
+begin_by g b (Happens event) = b
+begin_by g b (Round x y) = b
+begin_by g b (Sweeps n) = b
 
-unfoldable pub begin_behind : Beginning → List Line → Beginning
-begin_behind b [] = b
-begin_behind b (line ∷ lines) = begin_behind (begin_by b line) lines
+unfoldable pub begin_behind : Ground → Beginning → List Line → Beginning
+begin_behind g b [] = b
+begin_behind g b (line ∷ lines) = begin_behind g (begin_by g b line) lines
 
 abbrev pub no_beginning : Beginning
 no_beginning = record { motes = 0; world = None }
 
-abbrev pub beginning_of : List Line → Beginning
-beginning_of lines = begin_behind no_beginning lines
+abbrev pub beginning_of : Ground → List Line → Beginning
+beginning_of g lines = begin_behind g no_beginning lines
+
+-- where nothing is known of the boards
+abbrev pub no_ground : Ground
+no_ground = record { stores = []; table = [] }
 
 -- how many motes there are by these lines
 abbrev pub motes_in : List Line → ℕ
-motes_in lines = (beginning_of lines).motes
+motes_in lines = (beginning_of no_ground lines).motes
+
+-- the boards are used as they are
+abbrev pub is_boards : Line → Bool
+is_boards Nothing = false
+is_boards (Motes n) = false
+is_boards (Golden name used content) = false
+is_boards Boards = true
+is_boards (Link x y) = false
+is_boards (Image image version name content) = false
+is_boards (Cut c) = false
+is_boards (Happens event) = false
+is_boards (Round x y) = false
+is_boards (Sweeps n) = false
+
+-- one of these lines is `boards`
+abbrev pub UsesBoards : List Line → Type 0
+UsesBoards lines = list_any is_boards lines ≡ true
 
 -- the motes of a line for which boards are missing
 abbrev pub lacking_by : ℕ → Line → Option ℕ → Option ℕ

@@ -1,11 +1,11 @@
 -- What a replay did: the items that it played, what it wrote, and how it left the boards.
-use Rattle.std.specs.Prelude.{◌≡◌, ◌≢◌, ◌⊎◌, ℕ, ◌+◌, ◌≤◌, Bool, false, List, [], ◌∷◌, ◌++◌, length, map, take, Option, Some, None}
+use Rattle.std.specs.Prelude.{◌≡◌, ◌≢◌, ◌⊎◌, ℕ, ◌+◌, ◌<◌, ◌≤◌, Bool, false, List, [], ◌∷◌, ◌++◌, length, map, take, codes, slice_get, Option, Some, None}
 use Rattle.std.specs.Str.Lines.{lines}
 use Rattle.std.specs.List.{flat_map}
 use Rattle.dg_words.specs.Counts.{Rose}
 use Rattle.dg_base.specs.Outside.{Takes, Puts, AtEnd}
 use Rattle.dg_base.specs.declared.answers.Status.{Status}
-use Rattle.dg_base.specs.declared.answers.Status.TheVariants.{Done, Memory, BadInput, ReadFault, WriteFault, FlashFault, TooLong, TooMany, NoBoard}
+use Rattle.dg_base.specs.declared.answers.Status.TheVariants.{Done, Memory, BadInput, ReadFault, WriteFault, FlashFault, NotAVolume, TooLong, TooMany, NoBoard, NoImage}
 use Rattle.dg_base.specs.declared.events.Step.{Step}
 use Rattle.dg_nor.specs.Device.{Device}
 use Rattle.dg_script.specs.Report.{report_text}
@@ -14,15 +14,19 @@ use Rattle.dg_script.specs.Sizes.{most_used_bytes}
 use Rattle.dg_script.specs.Places.{first_place}
 use Rattle.dg_script.specs.Script.{Script, script_from}
 use Rattle.dg_script.specs.declared.line.Line.{Line}
-use Rattle.dg_script.specs.declared.line.Line.TheVariants.{Motes}
+use Rattle.dg_script.specs.declared.line.Line.TheVariants.{Motes, Boards}
+use Rattle.dg_object.specs.Object.{Row}
 use Rattle.dg_rules.specs.Sizes.{most_events}
 use Rattle.dg_rules.specs.World.{World}
 use Rattle.dg_rules.specs.Changes.{final_lines}
 use Rattle.dg_rules.specs.Runs.{Played, Plays}
+use Rattle.dg_rules.specs.Begins.{AreShaped}
 use Rattle.dg_script.specs.Items.{Item, Happens, items_of}
 use Rattle.dg_replay.specs.Near.{IsNear}
-use Rattle.dg_replay.specs.Boards.{BoardsStand, BoardStopped, StoppedIn}
-use Rattle.dg_replay.specs.Items.{beginning_of, motes_in, next_items, events_among}
+use Rattle.dg_volume.specs.Stands.{IsVolume}
+use Rattle.dg_world.specs.Mounted.{StandFor}
+use Rattle.dg_replay.specs.Boards.{BoardsStand, BoardStopped, StoppedIn, EventNext, InSome, NoVolumeIn, LacksImage}
+use Rattle.dg_replay.specs.Items.{Ground, UsesBoards, beginning_of, motes_in, next_items, events_among}
 use Rattle.dg_replay.specs.Ending.{Ending, Ends, NoBoards, TooManyEvents, FaultAt, Over, InBounds, whole_lines, ending_of, ending_line, status_of, script_of}
 
 abbrev pub item_played : Played → Item
@@ -37,8 +41,16 @@ abbrev pub RunsTo : Option World → List Played → Option World → Type 0
 RunsTo None played last = (played ≡ []) × (last ≡ None)
 RunsTo (Some w) played last = (v : World) × (last ≡ Some v) × Plays w played v
 
--- How far a replay came in a script.
-pub record Progress (script : Script) : Type 0 where
+-- what the boards of so many motes stand for where they are used as they are, held against this table: a store for each, in its shape
+pub record IsGround (g : Ground) (table : List Row) (motes : ℕ) : Type 0 where
+  pub held : g.table ≡ table
+  pub count : length g.stores ≡ motes
+  pub shaped : AreShaped g.stores
+
+-- How far a replay came in a script, all of which is held against a table where it uses the boards as they are.
+pub record Progress (table : List Row) (script : Script) : Type 0 where
+  -- what the script does not say, which counts where the boards are used as they are
+  pub ground : Ground
   -- the lines that were done, and those behind them
   pub done : List Line
   pub rest : List Line
@@ -53,7 +65,8 @@ pub record Progress (script : Script) : Type 0 where
   -- nothing is begun of a line of which nothing is left
   pub within : left ≡ [] → begun ≡ []
   pub items : map item_played played ≡ items_of done ++ begun
-  pub run : RunsTo (beginning_of done).world played last
+  pub run : RunsTo (beginning_of ground done).world played last
+  pub grounded : UsesBoards done → IsGround ground table (motes_in done)
 
 -- the end of a report
 abbrev pub closing : Ending → Option World → List ℕ
@@ -64,20 +77,13 @@ closing TooManyEvents w = ending_line TooManyEvents
 closing (FaultAt line fault) w = ending_line (FaultAt line fault)
 closing Over w = ending_line Over
 
--- the first of these items is an event
-pub record EventNext (items : List Item) : Type 0 where
-  pub step : Step
-  pub loud : Bool
-  pub more : List Item
-  pub is : items ≡ Happens step loud ∷ more
-
 -- a million events were played, and the next item is an event
 pub record AtTooMany (left : List Item) (played : List Played) : Type 0 where
   pub events : events_among (map item_played played) ≡ most_events
   pub next : EventNext left
 
 -- What comes before the ending was played: everything, up to the `motes` line where boards are missing, and a million events where there are more.
-abbrev pub ReachesEnding : {script : Script} → Ending → Progress script → Type 0
+abbrev pub ReachesEnding : {table : List Row} {script : Script} → Ending → Progress table script → Type 0
 ReachesEnding (NoBoards motes boards) c = (more : List Line) × (c.rest ≡ Motes motes ∷ more)
 ReachesEnding TooManyEvents c = AtTooMany c.left c.played
 ReachesEnding Ends c = c.rest ≡ []
@@ -85,7 +91,7 @@ ReachesEnding (FaultAt line fault) c = c.rest ≡ []
 ReachesEnding Over c = c.rest ≡ []
 
 -- the report of the script, up to its end
-pub record IsWholeReport {script : Script} (ending : Ending) (c : Progress script) (text : List ℕ) : Type 0 where
+pub record IsWholeReport {table : List Row} {script : Script} (ending : Ending) (c : Progress table script) (text : List ℕ) : Type 0 where
   pub all : ReachesEnding ending c
   pub told : text ≡ played_text c.played ++ closing ending c.last
 
@@ -94,10 +100,21 @@ pub record IsFrontOfLines (played : List Played) (text : List ℕ) : Type 0 wher
   pub more : List ℕ
   pub front : text ++ more ≡ played_text played
 
+-- the last lines that no ending has: the boards end the replay
+abbrev pub no_volume_line : List ℕ
+no_volume_line = codes "notavolume" ++ 10 ∷ []
+
+abbrev pub no_image_line : List ℕ
+no_image_line = codes "noimage" ++ 10 ∷ []
+
+-- Boards that are used as they are end the replay there with this line: the next line uses them, or the next item is an event behind such a line.
+abbrev pub BoardsEndIt : {table : List Row} {script : Script} → Progress table script → List ℕ → Type 0
+BoardsEndIt c line = ((more : List Line) × (c.rest ≡ Boards ∷ more) × (line ≡ no_volume_line)) ⊎ (UsesBoards c.done × EventNext c.left × (line ≡ no_image_line))
+
 -- a front of the report, whose end may have begun
-pub record IsFrontOfReport {script : Script} (ending : Ending) (c : Progress script) (text : List ℕ) : Type 0 where
+pub record IsFrontOfReport {table : List Row} {script : Script} (ending : Ending) (c : Progress table script) (text : List ℕ) : Type 0 where
   pub more : List ℕ
-  pub front : ((text ++ more) ≡ played_text c.played) ⊎ IsWholeReport ending c (text ++ more)
+  pub front : ((text ++ more) ≡ played_text c.played) ⊎ (IsWholeReport ending c (text ++ more) ⊎ ((line : List ℕ) × BoardsEndIt c line × ((text ++ more) ≡ played_text c.played ++ line)))
 
 -- A board is used by the next line, or in reading what the end of the report tells.
 abbrev pub StopsAt : Ending → List Line → Type 0
@@ -105,7 +122,7 @@ StopsAt ending [] = ending ≡ Ends
 StopsAt ending (line ∷ rest) = UsesBoard line
 
 -- what was written, by the status
-abbrev pub Wrote : {script : Script} → Status → Ending → Progress script → List ℕ → Type 0
+abbrev pub Wrote : {table : List Row} {script : Script} → Status → Ending → Progress table script → List ℕ → Type 0
 Wrote Done ending c text = IsWholeReport ending c text
 Wrote BadInput ending c text = IsWholeReport ending c text
 Wrote TooLong ending c text = IsWholeReport ending c text
@@ -115,25 +132,49 @@ Wrote Memory ending c text = IsFrontOfLines c.played text
 Wrote WriteFault ending c text = IsFrontOfReport ending c text
 Wrote FlashFault ending c text = (text ≡ played_text c.played) × StopsAt ending c.rest
 Wrote ReadFault ending c text = (text ≡ played_text c.played) × (c.begun ≡ [])
+Wrote NotAVolume ending c text = text ≡ played_text c.played ++ no_volume_line
+Wrote NoImage ending c text = text ≡ played_text c.played ++ no_image_line
 Wrote _ ending c text = ⊥
 
 -- a board is stopped where the replay came to
-abbrev pub BoardStoppedThere : {script : Script} → Progress script → (old new : List Device) → Type 0
+abbrev pub BoardStoppedThere : {table : List Row} {script : Script} → Progress table script → (old new : List Device) → Type 0
 BoardStoppedThere c old new = StoppedIn (motes_in c.done) c.rest c.left c.last old new
 
--- How the boards are left. Where a board stops within a round or sweeps, what is told of the events before it may fail to be written.
-abbrev pub BoardsLeft : {script : Script} → Status → Progress script → (old new : List Device) → Type 0
+-- The next line uses the boards as they are, and one of them is no volume.
+pub record NoVolumeThere {table : List Row} {script : Script} (c : Progress table script) (old new : List Device) : Type 0 where
+  pub more : List Line
+  pub next : c.rest ≡ Boards ∷ more
+  pub there : NoVolumeIn (motes_in c.done) old new
+
+-- The next item is an event, which finds no image to start.
+abbrev pub NoImageThere : {table : List Row} {script : Script} → Progress table script → (old new : List Device) → Type 0
+NoImageThere c old new = InSome c.last (λ w. LacksImage w c.left old new)
+
+-- How the boards are left. Where a board stops within a round or sweeps, what is told of the events before it may fail to be written, and so may the last line where boards that are used as they are end the replay.
+abbrev pub BoardsLeft : {table : List Row} {script : Script} → Status → Progress table script → (old new : List Device) → Type 0
 BoardsLeft FlashFault c old new = BoardStoppedThere c old new
-BoardsLeft WriteFault c old new = BoardsStand c.last old new ⊎ ((c.begun ≢ []) × BoardStoppedThere c old new)
+BoardsLeft WriteFault c old new = BoardsStand c.last old new ⊎ (((c.begun ≢ []) × BoardStoppedThere c old new) ⊎ (NoVolumeThere c old new ⊎ (UsesBoards c.done × NoImageThere c old new)))
+BoardsLeft NotAVolume c old new = NoVolumeThere c old new
+BoardsLeft NoImage c old new = NoImageThere c old new
 BoardsLeft _ c old new = BoardsStand c.last old new
 
 -- The status is the one that the rules give to the input. Memory alone is free, and a fault of the outside has risen its count.
-abbrev pub IsCaused : Status → Ending → (reads_failed writes_failed board_stopped : Type 0) → Type 0
-IsCaused Memory ending r w b = Unit {0}
-IsCaused ReadFault ending r w b = r
-IsCaused WriteFault ending r w b = w
-IsCaused FlashFault ending r w b = b
-IsCaused status ending r w b = status ≡ status_of ending
+abbrev pub IsCaused : Status → Ending → (reads_failed writes_failed board_stopped no_volume no_image : Type 0) → Type 0
+IsCaused Memory ending r w b n i = Unit {0}
+IsCaused ReadFault ending r w b n i = r
+IsCaused WriteFault ending r w b n i = w
+IsCaused FlashFault ending r w b n i = b
+IsCaused NotAVolume ending r w b n i = n
+IsCaused NoImage ending r w b n i = i
+IsCaused status ending r w b n i = status ≡ status_of ending
+
+-- what a replay of a script in its limits answers, whose boards do not stop: it is done, or memory ran out, or boards that are used as they are lack an image
+abbrev pub IsComplete : (uses : Type 0) → Status → Type 0
+IsComplete uses status = (status ≡ Done) ⊎ ((status ≡ Memory) ⊎ ((status ≡ NoImage) × uses))
+
+-- the boards of so many motes are volumes
+abbrev pub AreVolumes : ℕ → List Device → Type 0
+AreVolumes motes boards = (m : ℕ) (d : Device) → m < motes → slice_get boards m ≡ Some d → IsVolume d.image
 
 -- The ending of these bytes is that of every input that begins with them.
 abbrev pub IsSettled : ℕ → List ℕ → Type 0
@@ -164,19 +205,21 @@ AllWhole input done = AllRead (lines (whole_lines input)) done
 
 -- What was taken of the input is enough for what was done. A status of the rules is that of every input that begins with these bytes, or the input is at its end.
 -- A read that failed leaves all whole lines done. Another fault and want of memory leave only whole lines done and begun, or the input is at its end; the line in which a board stopped is whole too.
-abbrev pub ReadEnough : {script : Script} → Status → (boards : ℕ) → (input : List ℕ) → (at_end : Type 0) → Progress script → (text : List ℕ) → Type 0
+abbrev pub ReadEnough : {table : List Row} {script : Script} → Status → (boards : ℕ) → (input : List ℕ) → (at_end : Type 0) → Progress table script → (text : List ℕ) → Type 0
 ReadEnough Memory boards input at_end c text = at_end ⊎ DoneIsWhole input c.done c.rest c.begun
 ReadEnough ReadFault boards input at_end c text = AreWhole input c.done × AllWhole input c.done
-ReadEnough WriteFault boards input at_end c text = at_end ⊎ (IsSettled boards input ⊎ (DoneIsWhole input c.done c.rest c.begun × IsFrontOfLines c.played text))
+ReadEnough WriteFault boards input at_end c text = at_end ⊎ (IsSettled boards input ⊎ ((DoneIsWhole input c.done c.rest c.begun × IsFrontOfLines c.played text) ⊎ ((line : List ℕ) × BoardsEndIt c line × NextIsWhole input c.done c.rest)))
 ReadEnough FlashFault boards input at_end c text = at_end ⊎ NextIsWhole input c.done c.rest
+ReadEnough NotAVolume boards input at_end c text = at_end ⊎ NextIsWhole input c.done c.rest
+ReadEnough NoImage boards input at_end c text = at_end ⊎ NextIsWhole input c.done c.rest
 ReadEnough status boards input at_end c text = at_end ⊎ IsSettled boards input
 
 -- what is told of so many lines, the first of those that were done
-abbrev pub told_of : {script : Script} → ℕ → Progress script → List ℕ
+abbrev pub told_of : {table : List Row} {script : Script} → ℕ → Progress table script → List ℕ
 told_of n c = played_text (take (length (items_of (take n c.done))) c.played)
 
 -- All that is told of some first lines was written, and what was taken of the input ends near the line behind them.
-pub record ToldAndNear {script : Script} (input : List ℕ) (c : Progress script) (text : List ℕ) : Type 0 where
+pub record ToldAndNear {table : List Row} {script : Script} (input : List ℕ) (c : Progress table script) (text : List ℕ) : Type 0 where
   pub lines : ℕ
   pub within : lines ≤ length c.done
   pub more : List ℕ
@@ -189,26 +232,26 @@ EndsNear (FaultAt line fault) input = IsNear line input
 EndsNear ending input = Unit {0}
 
 -- All that is told before the end of the report was written, and the end was begun.
-pub record EndBegun {script : Script} (ending : Ending) (input : List ℕ) (c : Progress script) (text : List ℕ) : Type 0 where
+pub record EndBegun {table : List Row} {script : Script} (ending : Ending) (input : List ℕ) (c : Progress table script) (text : List ℕ) : Type 0 where
   pub all : ReachesEnding ending c
   pub more : List ℕ
   pub told : text ≡ played_text c.played ++ more
   pub near : EndsNear ending input
 
 -- Not much more was taken than the lines that were needed: no more than 300,002 bytes behind a line with a fault, and behind the first line whose report was not wholly written.
-abbrev pub ReadsNear : {script : Script} → Status → Ending → (input : List ℕ) → Progress script → (text : List ℕ) → Type 0
+abbrev pub ReadsNear : {table : List Row} {script : Script} → Status → Ending → (input : List ℕ) → Progress table script → (text : List ℕ) → Type 0
 ReadsNear BadInput (FaultAt line fault) input c text = IsNear line input
 ReadsNear WriteFault ending input c text = ToldAndNear input c text ⊎ EndBegun ending input c text
 ReadsNear _ ending input c text = Unit {0}
 
 -- What a replay did. Some bytes were taken from the source: the bytes left before it and after it, where they are told, say which. What was written is told in the same way.
-pub record Replayed (status : Status) (left_before left_after written_before written_after : Option (List ℕ)) (reads_before reads_after writes_before writes_after : ℕ) (old new : List Device) : Type 0 where
+pub record Replayed (table : List Row) (status : Status) (left_before left_after written_before written_after : Option (List ℕ)) (reads_before reads_after writes_before writes_after : ℕ) (old new : List Device) : Type 0 where
   -- what was taken of the input, whatever comes of it: no more than one byte past those that are used
   pub input : List ℕ
   pub taken : Takes left_before left_after input
   pub few_bytes : length input ≤ most_used_bytes + 1
   -- how far its script was played
-  pub came : Progress (script_of input)
+  pub came : Progress table (script_of input)
   -- what was written is the report of that run, or a front of it
   pub text : List ℕ
   pub written : Puts written_before written_after text
@@ -217,10 +260,12 @@ pub record Replayed (status : Status) (left_before left_after written_before wri
   pub near : ReadsNear status (ending_of (length old) input) input came text
   -- nothing behind the ending was done
   pub limits : InBounds (length old) came.done (map item_played came.played)
+  -- where the boards were used as they are, they stood for the stores from which the run begins
+  pub stood : UsesBoards came.done → StandFor (motes_in came.done) came.ground.stores old
   -- the boards of the motes stand for that world's stores, but for one that is stopped, and the others are as before
   pub boards : BoardsLeft status came old new
   -- the status is the one that the rules give to the input, but for want of memory and faults of the outside
-  pub caused : IsCaused status (ending_of (length old) input) (Rose reads_before reads_after) (Rose writes_before writes_after) (BoardStopped (motes_in came.done) old new)
+  pub caused : IsCaused status (ending_of (length old) input) (Rose reads_before reads_after) (Rose writes_before writes_after) (BoardStopped (motes_in came.done) old new) (NoVolumeThere came old new) ((UsesBoards came.done) × NoImageThere came old new)
   -- a read or a write that fails is always told: its count rises with its own answer alone
   pub read_faults : status ≢ ReadFault → reads_after ≡ reads_before
   pub write_faults : status ≢ WriteFault → writes_after ≡ writes_before

@@ -6,26 +6,32 @@ use Rattle.dg_script.specs.Fitting.{FitsCut, FitsLine, StandsAt, IsPlayed, UsesB
 use Rattle.dg_script.specs.Places.{first_place, place_after}
 use Rattle.dg_script.specs.declared.place.Place.{Place}
 use Rattle.dg_script.specs.declared.line.Line.{Line}
-use Rattle.dg_script.specs.declared.line.Line.TheVariants.{Motes}
+use Rattle.dg_script.specs.declared.line.Line.TheVariants.{Motes, Boards}
+use Rattle.dg_object.specs.Object.{Row}
 use Rattle.dg_rules.specs.Sizes.{most_motes, most_events}
 use Rattle.dg_rules.specs.World.{World}
 use Rattle.dg_rules.specs.Premises.{LinkFits}
-use Rattle.dg_rules.specs.Steps.{EndsRun}
 use Rattle.dg_rules.specs.Runs.{Played, Plays}
 use Rattle.dg_volume.specs.Store.{Store}
 use Rattle.dg_volume.specs.Stands.{Stands}
+use Rattle.dg_volume.specs.Shaped.{IsShaped}
+use Rattle.dg_rules.specs.Begins.{store_of}
+use Rattle.dg_world.specs.Applied.{SameBoards}
+use Rattle.dg_world.specs.Mounted.{StandFor, MountStops, NoVolumeAt}
+use Rattle.dg_world.specs.declared.mount.MountStopped.{MountStopped}
+use Rattle.dg_world.specs.declared.mount.MountStopped.TheVariants.{Flash, NotAVolume as NoVolume}
 use Rattle.dg_world.specs.Counts.{NoneRose}
 use Rattle.dg_world.specs.Formatted.{FirstBoards, FormatStops}
 use Rattle.dg_world.specs.declared.format.FormatStopped.{FormatStopped}
 use Rattle.dg_world.specs.Worlds.{IsWorld}
 use Rattle.dg_world.specs.declared.world.World.{World as KeptWorld}
-use Rattle.dg_replay.specs.Boards.{WorldStands, BoardsStand, BoardStopped, ItemStops, StoppedIn}
+use Rattle.dg_replay.specs.Boards.{WorldStands, BoardsStand, BoardStopped, ItemStops, StoppedIn, EventNext, InSome, NoVolumeIn, LacksImage}
 use Rattle.dg_script.specs.Items.{Item, Declares, Happens as Happened, item_by, items_of, cut_behind, place_behind}
-use Rattle.dg_replay.specs.Items.{beginning_of, motes_in, lacking_by, with_link}
-use Rattle.dg_replay.specs.Outcome.{EventNext, item_played, played_text, RunsTo}
+use Rattle.dg_replay.specs.Items.{Ground, UsesBoards, beginning_of, motes_in, lacking_by, with_link}
+use Rattle.dg_replay.specs.Outcome.{IsGround, item_played, played_text, RunsTo}
 use Rattle.dg_replay.specs.declared.player.Player.{Player}
 use Rattle.dg_replay.specs.declared.stop.Stop.{Stop}
-use Rattle.dg_replay.specs.declared.stop.Stop.TheVariants.{Memory, BadInput, WriteFault, FlashFault, TooMany, NoBoard, NoImage}
+use Rattle.dg_replay.specs.declared.stop.Stop.TheVariants.{Memory, BadInput, WriteFault, FlashFault, TooMany, NoBoard, NoImage, NotAVolume}
 
 -- ---- items
 
@@ -66,19 +72,14 @@ pub record StopsInItem (w : World) (left : List Item) (initial now : List Device
   pub stopped : BoardStopped (length w.sites) initial now
   pub there : ItemStops left (Some w) stopped.board stopped.after.image initial now
 
--- an event found no image to start
-pub record LacksImage (w : World) (left : List Item) : Type 0 where
-  pub next : EventNext left
-  pub after : World
-  pub ends : EndsRun w next.step after
-
 -- what playing items answers
 abbrev pub ItemsPlayedAs : Result (Unit {0}) Stop → World → List Item → KeptWorld → (initial now : List Device) → (told_before told : List ℕ) → Type 0
 ItemsPlayedAs (Ok u) w items kept initial now told_before told = ItemsPlayed w items kept initial now told_before told
 ItemsPlayedAs (Err Memory) w items kept initial now told_before told = ItemsBegun w items (λ v left text. WorldStands v initial now)
 ItemsPlayedAs (Err TooMany) w items kept initial now told_before told = ItemsBegun w items (λ v left text. IsOneTooMany v left × WorldStands v initial now × (told ≡ told_before ++ text))
 ItemsPlayedAs (Err FlashFault) w items kept initial now told_before told = ItemsBegun w items (λ v left text. StopsInItem v left initial now × (told ≡ told_before ++ text))
-ItemsPlayedAs (Err NoImage) w items kept initial now told_before told = ItemsBegun w items (λ v left text. LacksImage v left)
+ItemsPlayedAs (Err NoImage) w items kept initial now told_before told = ItemsBegun w items (λ v left text. LacksImage v left initial now × (told ≡ told_before ++ text))
+ItemsPlayedAs (Err NotAVolume) w items kept initial now told_before told = ⊥
 ItemsPlayedAs (Err (NoBoard motes boards)) w items kept initial now told_before told = ⊥
 ItemsPlayedAs (Err (BadInput n fault)) w items kept initial now told_before told = ⊥
 ItemsPlayedAs (Err WriteFault) w items kept initial now told_before told = ⊥
@@ -149,25 +150,31 @@ pub record MayPlay (line : Line) (q : Player) (boards : List Device) : Type 0 wh
 
 -- ---- a line
 
+-- Where the boards are used as they are by these lines, they stood for the ground's stores, which are held against this table.
+abbrev pub Grounded : (table : List Row) → (initial : List Device) → Ground → List Line → Type 0
+Grounded table initial g done = UsesBoards done → IsGround g table (motes_in done) × StandFor (motes_in done) g.stores initial
+
 -- The run behind a line: its items are those of the lines up to this one, and it tells this text behind what was told before.
-pub record RunsOn (done : List Line) (line : Line) (v : Option World) (text : List ℕ) (played : List Played) : Type 0 where
+pub record RunsOn (table : List Row) (initial : List Device) (done : List Line) (line : Line) (v : Option World) (text : List ℕ) (played : List Played) : Type 0 where
   pub now : List Played
   pub items : map item_played now ≡ items_of (done ++ line ∷ [])
-  pub run : RunsTo (beginning_of (done ++ line ∷ [])).world now v
+  pub ground : Ground
+  pub grounded : Grounded table initial ground (done ++ line ∷ [])
+  pub run : RunsTo (beginning_of ground (done ++ line ∷ [])).world now v
   pub told : played_text now ≡ played_text played ++ text
   -- where something is told, it goes on behind what was played before
   pub on : (text ≡ []) ⊎ ((more : List Played) × (now ≡ played ++ more))
 
 -- What a line behind others makes of a run that leads to a world. Behind a link it is the run of the same items from a world that has the link.
-abbrev pub LineRuns : (done : List Line) → (line : Line) → (w v : Option World) → (text : List ℕ) → Type 0
-LineRuns done line w v text = (played : List Played) → map item_played played ≡ items_of done → RunsTo (beginning_of done).world played w → RunsOn done line v text played
+abbrev pub LineRuns : (table : List Row) → (initial : List Device) → (done : List Line) → (line : Line) → (w v : Option World) → (text : List ℕ) → Type 0
+LineRuns table initial done line w v text = (g : Ground) (played : List Played) → Grounded table initial g done → map item_played played ≡ items_of done → RunsTo (beginning_of g done).world played w → RunsOn table initial done line v text played
 
 -- A line was played, and this is told of it.
-pub record PlayedLine (q : Player) (done : List Line) (w : Option World) (line : Line) (told_before told : List ℕ) (initial now : List Device) : Type 0 where
+pub record PlayedLine (table : List Row) (q : Player) (done : List Line) (w : Option World) (line : Line) (told_before told : List ℕ) (initial now : List Device) : Type 0 where
   pub world : Option World
   pub text : List ℕ
   pub told_now : told ≡ told_before ++ text
-  pub runs : LineRuns done line w world text
+  pub runs : LineRuns table initial done line w world text
   pub stood : Stood q (done ++ line ∷ []) world initial now
   pub boards_enough : lacking_by (length initial) line None ≡ None
 
@@ -193,21 +200,17 @@ pub record LacksBoards (line : Line) (motes boards : ℕ) (initial old new : Lis
   pub missing : boards < motes
   pub same : new ≡ old
 
--- a world is there, and P holds of it
-abbrev pub InSome : Option World → (World → Type 0) → Type 0
-InSome None P = ⊥
-InSome (Some w) P = P w
-
 -- what playing a line answers, from a player and boards that stand for world w behind these lines
-abbrev pub PlayedAs : Result (Unit {0}) Stop → Player → List Line → Option World → Line → (told_before told : List ℕ) → (initial old new : List Device) → Type 0
-PlayedAs (Ok u) q done w line told_before told initial old new = PlayedLine q done w line told_before told initial new
-PlayedAs (Err Memory) q done w line told_before told initial old new = LineBegun done line w (λ v left text. BoardsStand v initial new)
-PlayedAs (Err (NoBoard motes boards)) q done w line told_before told initial old new = LacksBoards line motes boards initial old new
-PlayedAs (Err FlashFault) q done w line told_before told initial old new = UsesBoard line × LineBegun done line w (λ v left text. StoppedIn (motes_in done) (line ∷ []) left v initial new × (told ≡ told_before ++ text))
-PlayedAs (Err TooMany) q done w line told_before told initial old new = LineBegun done line w (λ v left text. InSome v (λ u. IsOneTooMany u left) × BoardsStand v initial new × (told ≡ told_before ++ text))
-PlayedAs (Err NoImage) q done w line told_before told initial old new = LineBegun done line w (λ v left text. InSome v (λ u. LacksImage u left))
-PlayedAs (Err (BadInput n fault)) q done w line told_before told initial old new = ⊥
-PlayedAs (Err WriteFault) q done w line told_before told initial old new = ⊥
+abbrev pub PlayedAs : (table : List Row) → Result (Unit {0}) Stop → Player → List Line → Option World → Line → (told_before told : List ℕ) → (initial old new : List Device) → Type 0
+PlayedAs table (Ok u) q done w line told_before told initial old new = PlayedLine table q done w line told_before told initial new
+PlayedAs table (Err Memory) q done w line told_before told initial old new = LineBegun done line w (λ v left text. BoardsStand v initial new)
+PlayedAs table (Err (NoBoard motes boards)) q done w line told_before told initial old new = LacksBoards line motes boards initial old new
+PlayedAs table (Err FlashFault) q done w line told_before told initial old new = UsesBoard line × LineBegun done line w (λ v left text. StoppedIn (motes_in done) (line ∷ []) left v initial new × (told ≡ told_before ++ text))
+PlayedAs table (Err TooMany) q done w line told_before told initial old new = LineBegun done line w (λ v left text. InSome v (λ u. IsOneTooMany u left) × BoardsStand v initial new × (told ≡ told_before ++ text))
+PlayedAs table (Err NoImage) q done w line told_before told initial old new = LineBegun done line w (λ v left text. InSome v (λ u. LacksImage u left initial new) × (told ≡ told_before ++ text))
+PlayedAs table (Err NotAVolume) q done w line told_before told initial old new = (line ≡ Boards) × NoVolumeIn (motes_in done) initial new
+PlayedAs table (Err (BadInput n fault)) q done w line told_before told initial old new = ⊥
+PlayedAs table (Err WriteFault) q done w line told_before told initial old new = ⊥
 
 -- ---- the parts of a line
 
@@ -218,6 +221,21 @@ pub record FormattedAs (result : Result (Unit {0}) FormatStopped) (motes : ℕ) 
   pub awake : OnOk result ((m : ℕ) (d : Device) → m < motes → slice_get old m ≡ Some d → d.stopped ≡ false)
   pub others : FirstBoards motes old new
   pub stopped : (e : FormatStopped) → result ≡ Err e → FormatStops e.board motes chip old new
+
+-- why a replay stops whose boards cannot be used as they are
+abbrev pub mount_stop : MountStopped → Stop
+mount_stop (Flash board) = FlashFault
+mount_stop (NoVolume board) = NotAVolume
+
+-- what mounting the boards of so many motes answers
+pub record MountedAs (result : Result (Unit {0}) MountStopped) (motes : ℕ) (old new : List Device) : Type 0 where
+  pub stands : OnOk result ((stores : List Store) × StandFor motes stores new × ((m : ℕ) → m < motes → IsShaped (store_of stores m)))
+  pub calm : OnOk result (NoneRose old new)
+  pub awake : OnOk result ((m : ℕ) (d : Device) → m < motes → slice_get old m ≡ Some d → d.stopped ≡ false)
+  pub read : SameBoards old new
+  pub others : (m : ℕ) → motes ≤ m → slice_get new m ≡ slice_get old m
+  pub stopped : (board : ℕ) → result ≡ Err (Flash board) → MountStops board motes old new
+  pub no_volume : (board : ℕ) → result ≡ Err (NoVolume board) → NoVolumeAt board motes old new × NoneRose old new
 
 -- what a link answers
 pub record LinkedAs (result : Result (Unit {0}) Stop) (v v2 : KeptWorld) (link : ℕ × ℕ) : Type 0 where

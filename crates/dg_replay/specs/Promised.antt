@@ -13,49 +13,53 @@ use Rattle.dg_rules.specs.Consistency.{WorldConsistent, LeavesConsistent, Starts
 use Rattle.dg_completion.specs.Completion.{IsEnough}
 use Rattle.dg_completion.specs.Ends.{EndsInRest, PagesCome, KeepsNewest}
 use Rattle.dg_completion.specs.Played.{RoundsBring}
-use Rattle.dg_replay.specs.Items.{IsNoFrame, beginning_of}
+use Rattle.dg_rules.specs.Begins.{StoresAgree, HoldsTo, HoldsToThen}
+use Rattle.dg_replay.specs.Items.{IsNoFrame, UsesBoards, beginning_of}
 use Rattle.dg_replay.specs.Outcome.{Progress}
 
--- each frame from outside is honest by the table of its moment
-abbrev pub FramesAreHonest : {script : Script} → Progress script → Type 0
-FramesAreHonest c = AllByRecursion IsHonestThen c.played
+-- Each frame from outside is honest by the table of its moment. Where the boards are used as they are, what they stood for
+-- agrees with the table, and no key of that table is injected with another content. A script with golden meets that.
+pub record FramesAreHonest {table : List Row} {script : Script} (c : Progress table script) : Type 0 where
+  pub frames : AllByRecursion IsHonestThen c.played
+  pub agree : UsesBoards c.done → StoresAgree c.ground.table c.ground.stores
+  pub hold : UsesBoards c.done → AllByRecursion (HoldsToThen c.ground.table) c.played
 
 -- lines that bring no frame from outside meet that
-abbrev pub HonestWithoutFrames : {script : Script} → Progress script → Type 0
-HonestWithoutFrames c = AllByRecursion IsNoFrame c.done → FramesAreHonest c
+abbrev pub HonestWithoutFrames : {table : List Row} {script : Script} → Progress table script → Type 0
+HonestWithoutFrames c = AllByRecursion IsNoFrame c.done → (UsesBoards c.done → ⊥) → FramesAreHonest c
 
 -- where it is honest, each step is legal after those before it
-abbrev pub StepsAreLegal : {script : Script} → Progress script → Type 0
+abbrev pub StepsAreLegal : {table : List Row} {script : Script} → Progress table script → Type 0
 StepsAreLegal c = FramesAreHonest c → EachAfter IsLegal [] c.played
 
 -- where it is honest, no version falls, and a complete page stays unless a newer version of its image replaces it, which a cut may have left half done
-abbrev pub PagesStay : {script : Script} → Progress script → Type 0
+abbrev pub PagesStay : {table : List Row} {script : Script} → Progress table script → Type 0
 PagesStay c = FramesAreHonest c → AllByRecursion KeepsAll c.played
 
 -- where it is honest, what starts is a row of the table
-abbrev pub RowsStart : {script : Script} → Progress script → Type 0
+abbrev pub RowsStart : {table : List Row} {script : Script} → Progress table script → Type 0
 RowsStart c = FramesAreHonest c → AllByRecursion StartsRow c.played
 
 -- where it is honest, the world behind each item agrees with its table, and so does the last world
-abbrev pub AllAgrees : {script : Script} → Progress script → Type 0
+abbrev pub AllAgrees : {table : List Row} {script : Script} → Progress table script → Type 0
 AllAgrees c = FramesAreHonest c → AllByRecursion LeavesAgreement c.played × IfSome c.last WorldAgrees
 
 -- Where it is honest, and so is the next event, each store that the chip may stand for, wherever a stop comes in that event, agrees with the table behind it.
-abbrev pub HalvesAgree : {script : Script} → Progress script → Type 0
+abbrev pub HalvesAgree : {table : List Row} {script : Script} → Progress table script → Type 0
 HalvesAgree c = (w : World) (step : Step) (loud : Bool) (more : List Item) → FramesAreHonest c → c.last ≡ Some w → c.left ≡ Happens step loud ∷ more
-    → HonestEvent w.table step.event → StopsAgree w step.event
+    → HonestEvent w.table step.event → (UsesBoards c.done → HoldsTo c.ground.table w step.event) → StopsAgree w step.event
 
 -- Where it is honest, each round that was played between two neighbours, both on and with room for three commits at its end, brought the second one a page of the least image in which the first was ahead;
 -- and the 50 ticks with which one begins brought their mote to rest.
-abbrev pub RoundsBringPages : {script : Script} → Progress script → Type 0
+abbrev pub RoundsBringPages : {table : List Row} {script : Script} → Progress table script → Type 0
 RoundsBringPages c = FramesAreHonest c → RoundsBring c.played
 
 -- where it is honest and ends with a rest, pages came along the links as in a pipeline, by so many sweeps as the rest has
-abbrev pub RestsFillThePipeline : {script : Script} → Progress script → Type 0
+abbrev pub RestsFillThePipeline : {table : List Row} {script : Script} → Progress table script → Type 0
 RestsFillThePipeline c = (w v : World) (t : ℕ) → FramesAreHonest c → c.last ≡ Some v → EndsInRest c.played w t v → PagesCome w t v
 
 -- where it is honest and ends with a rest of enough sweeps, every mote keeps the newest version of each image whole
-abbrev pub RestsComplete : {script : Script} → Progress script → Type 0
+abbrev pub RestsComplete : {table : List Row} {script : Script} → Progress table script → Type 0
 RestsComplete c = (w v : World) (n k : ℕ) → FramesAreHonest c → c.last ≡ Some v → EndsInRest c.played w n v → IsEnough w k → k ≤ n → KeepsNewest v
 
 -- Behind each item, and in the last world, every store is consistent. What starts is golden, or an object that fits its
@@ -67,5 +71,5 @@ pub record StaysConsistent (golden : Row) (played : List Played) (last : Option 
   pub halves : (w : World) (step : Step) (loud : Bool) (more : List Item) → last ≡ Some w → left ≡ Happens step loud ∷ more → StopsConsistent golden w step.event
 
 -- Whatever bytes its frames carry: golden is the one row of the table with which the run begins
-abbrev pub StoresStayConsistent : {script : Script} → Progress script → Type 0
-StoresStayConsistent c = (golden : Row) (w : World) → (beginning_of c.done).world ≡ Some w → w.table ≡ golden ∷ [] → StaysConsistent golden c.played c.last c.left
+abbrev pub StoresStayConsistent : {table : List Row} {script : Script} → Progress table script → Type 0
+StoresStayConsistent c = (UsesBoards c.done → ⊥) → (golden : Row) (w : World) → (beginning_of c.ground c.done).world ≡ Some w → w.table ≡ golden ∷ [] → StaysConsistent golden c.played c.last c.left

@@ -3,6 +3,7 @@ ghost use Rattle.std.specs.Prelude.{⊤, ◌≡◌, ◌≢◌, ◌⊎◌, ◌+�
 ghost use Rattle.dg_words.specs.Counts.{Rose};
 ghost use Rattle.dg_base.specs.Outside.{Takes, AtEnd};
 ghost use Rattle.dg_nor.specs.Device.{Device};
+ghost use Rattle.dg_object.specs.Object.{Row};
 ghost use Rattle.dg_script.specs.Script.{Script};
 ghost use Rattle.dg_script.specs.Sizes.{most_used_bytes};
 ghost use Rattle.dg_replay.specs.Ending.{ending_from, ending_of, script_of};
@@ -34,7 +35,8 @@ fn end_at_stop<K: Sink>(alloc: Global, out: &mut K, stop: Stop) -> Status
         Stop::FlashFault => Status::FlashFault,
         Stop::TooMany => end_with(out, b"toomany\n", Status::TooMany),
         Stop::NoBoard { motes, boards } => end_without_boards(alloc, out, motes, boards),
-        Stop::NoImage => Status::NoImage,
+        Stop::NoImage => end_with(out, b"noimage\n", Status::NoImage),
+        Stop::NotAVolume => end_with(out, b"notavolume\n", Status::NotAVolume),
     }
 }
 
@@ -47,9 +49,9 @@ fn end_script<K: Sink, N: Nor>(
     out: &mut K,
 ) -> Status
     requires { Ready player.now (map N.device boards.old.items) }
-    ensures ends { (script : Script) (input : List ℕ) (initial : List Device) (before : Option (List ℕ)) (faults : ℕ) → faults ≤ K.faults out.old → behind_lines number input ≡ []
-        → Reached true script [] number player.now initial (map N.device boards.old.items) before (K.written out.old)
-        → ScriptReplayed result script (ending_from (length initial) false script) input ⊤ initial (map N.device boards.new.items) before (K.written out.new) ⊥ (Rose faults (K.faults out.new)) }
+    ensures ends { (table : List Row) (script : Script) (input : List ℕ) (initial : List Device) (before : Option (List ℕ)) (faults : ℕ) → faults ≤ K.faults out.old → behind_lines number input ≡ []
+        → Reached table true script [] number player.now initial (map N.device boards.old.items) before (K.written out.old)
+        → ScriptReplayed table result script (ending_from (length initial) false script) input ⊤ initial (map N.device boards.new.items) before (K.written out.new) ⊥ (Rose faults (K.faults out.new)) }
     ensures counts { K.faults out.old ≤ K.faults out.new }
     ensures unfailed { result ≢ Status.WriteFault → K.faults out.new ≡ K.faults out.old }
 {
@@ -74,8 +76,8 @@ pub fn replay_lines<S: Source, K: Sink, N: Nor>(
     requires unread { reader.old.passed ≡ 0 }
     requires first { reader.old.number ≡ 0 }
     ensures replayed { (bytes : List ℕ) × Takes (S.left input.old) (S.left input.new) bytes × (length bytes ≤ most_used_bytes + 1)
-        × ScriptReplayed result (script_of bytes) (ending_of (length (map N.device boards.old.items)) bytes) bytes (AtEnd (S.left input.new)) (map N.device boards.old.items) (map N.device boards.new.items)
-        (K.written out.old) (K.written out.new) (Rose (S.faults input.old) (S.faults input.new)) (Rose (K.faults out.old) (K.faults out.new)) }
+        × ((table : List Row) → ScriptReplayed table result (script_of bytes) (ending_of (length (map N.device boards.old.items)) bytes) bytes (AtEnd (S.left input.new)) (map N.device boards.old.items) (map N.device boards.new.items)
+        (K.written out.old) (K.written out.new) (Rose (S.faults input.old) (S.faults input.new)) (Rose (K.faults out.old) (K.faults out.new))) }
     ensures reads { S.faults input.old ≤ S.faults input.new }
     ensures unread { result ≢ Status.ReadFault → S.faults input.new ≡ S.faults input.old }
     ensures counts { K.faults out.old ≤ K.faults out.new }

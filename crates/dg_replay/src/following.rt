@@ -4,6 +4,7 @@ ghost use Rattle.dg_words.specs.Counts.{Rose};
 ghost use Rattle.dg_base.specs.Outside.{Takes, AtEnd};
 ghost use Rattle.dg_nor.specs.Device.{Device};
 ghost use Rattle.dg_rules.specs.World.{World};
+ghost use Rattle.dg_object.specs.Object.{Row};
 ghost use Rattle.dg_script.specs.declared.line.Line.{Line};
 ghost use Rattle.dg_replay.specs.Following.{GivenPlayed, HaltedAs, NextPlayed, AllAsBefore};
 ghost use Rattle.dg_replay.specs.Playing.{Stood, Ready};
@@ -45,8 +46,8 @@ fn play_given<K: Sink, N: Nor>(
     told: &mut Told,
 ) -> Result<bool, Halt>
     requires { Ready player.old (map N.device boards.old.items) }
-    ensures played { GivenPlayed result (λ r. (done : List Line) (w : Option World) (initial : List Device) → Stood player.old done w initial (map N.device boards.old.items)
-        → TextAnswer r text.now number player.old player.new done w initial (map N.device boards.old.items) (map N.device boards.new.items)
+    ensures played { GivenPlayed result (λ r. (done : List Line) (w : Option World) (initial : List Device) (table : List Row) → Stood player.old done w initial (map N.device boards.old.items)
+        → TextAnswer table r text.now number player.old player.new done w initial (map N.device boards.old.items) (map N.device boards.new.items)
         (K.written out.old) (K.written out.new) (Rose (K.faults out.old) (K.faults out.new))) }
     ensures counts { K.faults out.old ≤ K.faults out.new }
     ensures unfailed { result ≢ Err (Halt.Stopped Stop.WriteFault) → K.faults out.new ≡ K.faults out.old }
@@ -71,8 +72,8 @@ fn play_next<S: Source, K: Sink, N: Nor>(
     ensures answer { (more : List ℕ) × Takes (S.left input.old) (S.left input.new) more
         × NextPlayed result (reader.old.ahead ++ more) reader.old reader.new (AtEnd (S.left input.new)) (Rose (S.faults input.old) (S.faults input.new))
         (AllAsBefore player.old player.new (map N.device boards.old.items) (map N.device boards.new.items) (K.written out.old) (K.written out.new))
-        (λ r text. (done : List Line) (w : Option World) (initial : List Device) → Stood player.old done w initial (map N.device boards.old.items)
-        → TextAnswer r text (reader.old.number + 1) player.old player.new done w initial (map N.device boards.old.items) (map N.device boards.new.items)
+        (λ r text. (done : List Line) (w : Option World) (initial : List Device) (table : List Row) → Stood player.old done w initial (map N.device boards.old.items)
+        → TextAnswer table r text (reader.old.number + 1) player.old player.new done w initial (map N.device boards.old.items) (map N.device boards.new.items)
         (K.written out.old) (K.written out.new) (Rose (K.faults out.old) (K.faults out.new))) }
     ensures reads { S.faults input.old ≤ S.faults input.new }
     ensures unread { result ≢ Err Halt.ReadFault → S.faults input.new ≡ S.faults input.old }
@@ -99,8 +100,8 @@ pub fn play_lines<S: Source, K: Sink, N: Nor>(
     requires unread { reader.old.passed ≡ 0 }
     requires first { reader.old.number ≡ 0 }
     ensures answer { (bytes : List ℕ) × Takes (S.left input.old) (S.left input.new) bytes
-        × InputAnswer result bytes (AtEnd (S.left input.new)) (Rose (S.faults input.old) (S.faults input.new)) (map N.device boards.old.items) (map N.device boards.new.items)
-        (K.written out.old) (K.written out.new) (Rose (K.faults out.old) (K.faults out.new)) }
+        × ((table : List Row) → InputAnswer table result bytes (AtEnd (S.left input.new)) (Rose (S.faults input.old) (S.faults input.new)) (map N.device boards.old.items) (map N.device boards.new.items)
+        (K.written out.old) (K.written out.new) (Rose (K.faults out.old) (K.faults out.new))) }
     ensures reads { S.faults input.old ≤ S.faults input.new }
     ensures unread { result ≢ Err Halt.ReadFault → S.faults input.new ≡ S.faults input.old }
     ensures counts { K.faults out.old ≤ K.faults out.new }

@@ -1,6 +1,7 @@
 //! What holds of the definitions alone. These functions do nothing: their contracts are the laws.
 ghost use Rattle.std.specs.Prelude.{◌≡◌, ◌≤◌, ℕ, List, ◌++◌, false, length};
 ghost use Rattle.std.specs.Str.Lines.{lines};
+ghost use Rattle.dg_object.specs.Object.{Row};
 ghost use Rattle.dg_script.specs.Places.{first_place};
 ghost use Rattle.dg_script.specs.Script.{script_from};
 ghost use Rattle.dg_script.specs.Sizes.{most_used_bytes};
@@ -11,7 +12,10 @@ ghost use Rattle.dg_replay.specs.Promised.{StepsAreLegal, PagesStay, RowsStart, 
 ghost use Rattle.dg_replay.specs.WholeLines.{AreWholeLines};
 
 use dg_completion::{rounds_of_scripts_bring_pages, scripts_end_complete};
-use dg_rules::{any_frames_leave_stores_consistent, scripts_with_golden};
+use dg_rules::{
+    any_frames_leave_stores_consistent, every_step_is_legal, scripts_with_boards,
+    scripts_with_golden,
+};
 
 /// The whole lines of bytes are their longest front that is empty or ends in LF.
 pub fn whole_lines_are_longest()
@@ -25,25 +29,28 @@ pub fn first_lines_are_read_the_same()
         → BeginsAs (script_from false first_place 1 (lines front)) (script_of (front ++ more)) }
 {}
 
-/// However far a script was played: where each frame from outside is honest by the table of its moment, each step is
+/// However far a script was played: where each frame from outside is honest by the table of its moment, and boards that
+/// are used as they are agree with a table no key of which is injected with another content, each step is
 /// legal, no version falls, what starts is a row of the table, and the chips, the motes that are on and the frames that
 /// were sent agree with the table, and so does the store of each half-done chip, wherever a stop comes in the next event.
 /// Lines that bring no frame meet that. Each round brought a page to a mote that was behind. Where what was played ends with an undisturbed rest, pages come along the links as
 /// in a pipeline, and after enough sweeps every mote keeps the newest version of every image whole. Whatever
 /// bytes frames carry, every store stays consistent, and what starts is golden, or fits its own descriptor.
 pub fn replays_keep_the_rules()
-    ensures legal { (input : List ℕ) (c : Progress (script_of input)) → StepsAreLegal c }
-    ensures keeps { (input : List ℕ) (c : Progress (script_of input)) → PagesStay c }
-    ensures starts { (input : List ℕ) (c : Progress (script_of input)) → RowsStart c }
-    ensures agrees { (input : List ℕ) (c : Progress (script_of input)) → AllAgrees c }
-    ensures halves { (input : List ℕ) (c : Progress (script_of input)) → HalvesAgree c }
-    ensures honest { (input : List ℕ) (c : Progress (script_of input)) → HonestWithoutFrames c }
-    ensures rounds { (input : List ℕ) (c : Progress (script_of input)) → RoundsBringPages c }
-    ensures pipeline { (input : List ℕ) (c : Progress (script_of input)) → RestsFillThePipeline c }
-    ensures completes { (input : List ℕ) (c : Progress (script_of input)) → RestsComplete c }
-    ensures consistent { (input : List ℕ) (c : Progress (script_of input)) → StoresStayConsistent c }
+    ensures legal { (table : List Row) (input : List ℕ) (c : Progress table (script_of input)) → StepsAreLegal c }
+    ensures keeps { (table : List Row) (input : List ℕ) (c : Progress table (script_of input)) → PagesStay c }
+    ensures starts { (table : List Row) (input : List ℕ) (c : Progress table (script_of input)) → RowsStart c }
+    ensures agrees { (table : List Row) (input : List ℕ) (c : Progress table (script_of input)) → AllAgrees c }
+    ensures halves { (table : List Row) (input : List ℕ) (c : Progress table (script_of input)) → HalvesAgree c }
+    ensures honest { (table : List Row) (input : List ℕ) (c : Progress table (script_of input)) → HonestWithoutFrames c }
+    ensures rounds { (table : List Row) (input : List ℕ) (c : Progress table (script_of input)) → RoundsBringPages c }
+    ensures pipeline { (table : List Row) (input : List ℕ) (c : Progress table (script_of input)) → RestsFillThePipeline c }
+    ensures completes { (table : List Row) (input : List ℕ) (c : Progress table (script_of input)) → RestsComplete c }
+    ensures consistent { (table : List Row) (input : List ℕ) (c : Progress table (script_of input)) → StoresStayConsistent c }
 {
+    every_step_is_legal();
     scripts_with_golden();
+    scripts_with_boards();
     any_frames_leave_stores_consistent();
     rounds_of_scripts_bring_pages();
     scripts_end_complete();

@@ -3,6 +3,7 @@ ghost use Rattle.std.specs.Prelude.{◌≡◌, ◌≢◌, ◌⊎◌, ◌+◌, �
 ghost use Rattle.dg_words.specs.Counts.{Rose};
 ghost use Rattle.dg_base.specs.Outside.{Puts, PutsFront};
 ghost use Rattle.dg_nor.specs.Device.{Device};
+ghost use Rattle.dg_object.specs.Object.{Row};
 ghost use Rattle.dg_script.specs.Fitting.{StandsAt, FitsLine, IsPlayed};
 ghost use Rattle.dg_script.specs.Lines.{line_of};
 ghost use Rattle.dg_rules.specs.World.{World};
@@ -53,11 +54,11 @@ fn write_begun<K: Sink>(out: &mut K, text: &[u8], stop: Stop) -> Stop
     ensures unfailed { result ≢ Stop.WriteFault → K.faults out.new ≡ K.faults out.old }
 {
     match stop {
-        Stop::TooMany | Stop::FlashFault => match write_told(out, text) {
+        Stop::TooMany | Stop::FlashFault | Stop::NoImage => match write_told(out, text) {
             Ok(()) => stop,
             Err(fault) => fault,
         },
-        Stop::Memory | Stop::NoBoard { .. } | Stop::NoImage => stop,
+        Stop::Memory | Stop::NoBoard { .. } | Stop::NotAVolume => stop,
         Stop::BadInput { .. } | Stop::WriteFault => stop,
     }
 }
@@ -83,9 +84,9 @@ fn play_passed<K: Sink, N: Nor>(
     told: &mut Told,
 ) -> Result<(), Stop>
     requires may { MayPlay line player.old (map N.device boards.old.items) }
-    ensures played { (p : Player) (done : List Line) (w : Option World) (initial : List Device) (text : List ℕ) (number : ℕ) → line_of p.place text ≡ Ok line
+    ensures played { (p : Player) (done : List Line) (w : Option World) (initial : List Device) (table : List Row) (text : List ℕ) (number : ℕ) → line_of p.place text ≡ Ok line
         → Passed p player.old line → StandsAt p.place line → FitsLine p.place.motes line → Stood p done w initial (map N.device boards.old.items)
-        → TextAnswer result text number p player.new done w initial (map N.device boards.old.items) (map N.device boards.new.items)
+        → TextAnswer table result text number p player.new done w initial (map N.device boards.old.items) (map N.device boards.new.items)
         (K.written out.old) (K.written out.new) (Rose (K.faults out.old) (K.faults out.new)) }
     ensures counts { K.faults out.old ≤ K.faults out.new }
     ensures unfailed { result ≢ Err Stop.WriteFault → K.faults out.new ≡ K.faults out.old }
@@ -110,9 +111,9 @@ fn play_read<K: Sink, N: Nor>(
     requires stands { StandsAt player.old.place line }
     requires fits { FitsLine player.old.place.motes line }
     requires may { IsPlayed line }
-    ensures played { (done : List Line) (w : Option World) (initial : List Device) (text : List ℕ) (number : ℕ) → line_of player.old.place text ≡ Ok line
+    ensures played { (done : List Line) (w : Option World) (initial : List Device) (table : List Row) (text : List ℕ) (number : ℕ) → line_of player.old.place text ≡ Ok line
         → Stood player.old done w initial (map N.device boards.old.items)
-        → TextAnswer result text number player.old player.new done w initial (map N.device boards.old.items) (map N.device boards.new.items)
+        → TextAnswer table result text number player.old player.new done w initial (map N.device boards.old.items) (map N.device boards.new.items)
         (K.written out.old) (K.written out.new) (Rose (K.faults out.old) (K.faults out.new)) }
     ensures counts { K.faults out.old ≤ K.faults out.new }
     ensures unfailed { result ≢ Err Stop.WriteFault → K.faults out.new ≡ K.faults out.old }
@@ -144,8 +145,8 @@ pub fn play_text<K: Sink, N: Nor>(
     told: &mut Told,
 ) -> Result<(), Stop>
     requires { Ready player.old (map N.device boards.old.items) }
-    ensures played { (done : List Line) (w : Option World) (initial : List Device) → Stood player.old done w initial (map N.device boards.old.items)
-        → TextAnswer result text.now number player.old player.new done w initial (map N.device boards.old.items) (map N.device boards.new.items)
+    ensures played { (done : List Line) (w : Option World) (initial : List Device) (table : List Row) → Stood player.old done w initial (map N.device boards.old.items)
+        → TextAnswer table result text.now number player.old player.new done w initial (map N.device boards.old.items) (map N.device boards.new.items)
         (K.written out.old) (K.written out.new) (Rose (K.faults out.old) (K.faults out.new)) }
     ensures counts { K.faults out.old ≤ K.faults out.new }
     ensures unfailed { result ≢ Err Stop.WriteFault → K.faults out.new ≡ K.faults out.old }

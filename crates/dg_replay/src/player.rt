@@ -4,14 +4,16 @@ ghost use Rattle.dg_nor.specs.Device.{Device};
 ghost use Rattle.dg_volume.specs.Store.{fresh};
 ghost use Rattle.dg_script.specs.Fitting.{StandsAt, FitsLine, IsGolden};
 ghost use Rattle.dg_rules.specs.World.{World as RuleWorld};
-ghost use Rattle.dg_replay.specs.Playing.{Stood, Passed, MayPlay, Counted, PlayedAs, FormattedAs, LinkedAs};
+ghost use Rattle.dg_object.specs.Object.{Row};
+ghost use Rattle.dg_replay.specs.Playing.{Stood, Passed, MayPlay, Counted, PlayedAs, FormattedAs, MountedAs, LinkedAs, mount_stop};
 
 use crate::items::{Told, play_image, play_round, play_step, play_sweeps};
 use crate::stop::Stop;
 use dg_base::{Bytes, Cut, Key, Step};
 use dg_nor::Nor;
 use dg_script::{Line, Place};
-use dg_world::{FormatStopped, World, format_boards};
+use dg_volume::a_chip_stands_for_a_shaped_store;
+use dg_world::{FormatStopped, MountStopped, World, format_boards, mount_boards};
 use std::alloc::{AllocError, Global};
 
 /// Where a replay stands.
@@ -82,9 +84,9 @@ fn play_golden<N: Nor>(
 ) -> Result<(), Stop>
     requires fits { IsGolden name.now used content.now }
     requires counted { Counted player.old.place.motes (length boards.old.items) }
-    ensures played { (p : Player) (done : List Line) (w : Option RuleWorld) (initial : List Device) (told : List ℕ) → Passed p player.old (Line.Golden name.now used content.now)
+    ensures played { (p : Player) (done : List Line) (w : Option RuleWorld) (initial : List Device) (table : List Row) (told : List ℕ) → Passed p player.old (Line.Golden name.now used content.now)
         → p.place.ready ≡ false → Stood p done w initial (map N.device boards.old.items)
-        → PlayedAs result player.new done w (Line.Golden name.now used content.now) told told initial (map N.device boards.old.items) (map N.device boards.new.items) }
+        → PlayedAs table result player.new done w (Line.Golden name.now used content.now) told told initial (map N.device boards.old.items) (map N.device boards.new.items) }
     ensures place { player.new.place ≡ player.old.place }
 {
     let motes = player.place.motes;
@@ -98,6 +100,59 @@ fn play_golden<N: Nor>(
             Ok(())
         }
         Err(FormatStopped { .. }) => Err(Stop::FlashFault),
+    }
+}
+
+/// Mounts the boards of the motes as they are.
+fn mount_first<N: Nor>(boards: &mut [N], motes: u8) -> Result<(), MountStopped>
+    requires counted { Counted motes (length boards.old) }
+    ensures { MountedAs result motes (map N.device boards.old) (map N.device boards.new) }
+{
+    a_chip_stands_for_a_shaped_store();
+    mount_boards(boards, motes)
+}
+
+/// The same over a vector of boards.
+fn mount<N: Nor>(boards: &mut Vec<N>, motes: u8) -> Result<(), MountStopped>
+    requires counted { Counted motes (length boards.old.items) }
+    ensures { MountedAs result motes (map N.device boards.old.items) (map N.device boards.new.items) }
+{
+    mount_first(boards.as_mut_slice(), motes)
+}
+
+/// Why a replay stops whose boards cannot be used as they are.
+fn mount_stop(stopped: MountStopped) -> Stop
+    ensures { result ≡ mount_stop stopped }
+{
+    match stopped {
+        MountStopped::Flash { .. } => Stop::FlashFault,
+        MountStopped::NotAVolume { .. } => Stop::NotAVolume,
+    }
+}
+
+/// The boards of the motes are used as they are.
+fn play_boards<N: Nor>(
+    alloc: Global,
+    player: &mut Player,
+    boards: &mut Vec<N>,
+) -> Result<(), Stop>
+    requires counted { Counted player.old.place.motes (length boards.old.items) }
+    ensures played { (p : Player) (done : List Line) (w : Option RuleWorld) (initial : List Device) (table : List Row) (told : List ℕ) → Passed p player.old Line.Boards
+        → p.place.ready ≡ false → Stood p done w initial (map N.device boards.old.items)
+        → PlayedAs table result player.new done w Line.Boards told told initial (map N.device boards.old.items) (map N.device boards.new.items) }
+    ensures place { player.new.place ≡ player.old.place }
+{
+    let motes = player.place.motes;
+    let world = match World::new(alloc, motes) {
+        Ok(world) => world,
+        Err(AllocError) => return Err(Stop::Memory),
+    };
+    match mount(boards, motes) {
+        Ok(()) => {
+            player.world = Some(world);
+            Ok(())
+        }
+        Err(stopped) => Err(mount_stop(stopped)),
     }
 }
 
@@ -120,8 +175,8 @@ pub fn play_line<N: Nor>(
     told: &mut Told,
 ) -> Result<(), Stop>
     requires may { MayPlay line player.old (map N.device boards.old.items) }
-    ensures played { (p : Player) (done : List Line) (w : Option RuleWorld) (initial : List Device) → Passed p player.old line → StandsAt p.place line → FitsLine p.place.motes line → Stood p done w initial (map N.device boards.old.items)
-        → PlayedAs result player.new done w line told.old.text.items told.new.text.items initial (map N.device boards.old.items) (map N.device boards.new.items) }
+    ensures played { (p : Player) (done : List Line) (w : Option RuleWorld) (initial : List Device) (table : List Row) → Passed p player.old line → StandsAt p.place line → FitsLine p.place.motes line → Stood p done w initial (map N.device boards.old.items)
+        → PlayedAs table result player.new done w line told.old.text.items told.new.text.items initial (map N.device boards.old.items) (map N.device boards.new.items) }
     ensures place { player.new.place ≡ player.old.place }
 {
     match line {
@@ -156,7 +211,7 @@ pub fn play_line<N: Nor>(
             Some(world) => play_link(world, a, b),
             None => unreachable!(),
         },
-        Line::Boards => unreachable!(),
+        Line::Boards => play_boards(alloc, player, boards),
         Line::Round(a, b) => match &mut player.world {
             Some(world) => play_round(world, a, b, boards, told),
             None => unreachable!(),

@@ -13,5 +13,8 @@ pub enum Stop {
     TooMany,
     /// There are fewer boards than motes.
     NoBoard { motes: u8, boards: u32 },
+    /// A start found no image.
     NoImage,
+    /// A board that is used as it is is no volume.
+    NotAVolume,
 }

@@ -4,9 +4,9 @@ use Rattle.dg_replay.proofs.BoardLemmas.{rose_later}
 use Rattle.dg_replay.proofs.ends.end_script.Goals as goal
 
 pub returns-in-Some-clause-ends : goal.returns-in-Some-clause-ends
-returns-in-Some-clause-ends g c = λ script input initial before faults below behind r.
+returns-in-Some-clause-ends g c = λ table script input initial before faults below behind r.
     short_ends c.end_at_line.result script input _ c.in-Some.fault _ initial _ before _ _ _ ⊥ _ (rose_later faults _ _ below) (sym c.end_fault.ensures ∙ c.in-Some.is) behind r c.end_at_line.ensures.ends
 
 pub returns-in-Some-world-clause-ends : goal.returns-in-Some-world-clause-ends
-returns-in-Some-world-clause-ends g c = λ script input initial before faults below behind r.
+returns-in-Some-world-clause-ends g c = λ table script input initial before faults below behind r.
     script_ends c.finish.result script input _ _ c.in-Some-world.world initial _ _ before _ _ _ ⊥ _ (rose_later faults _ _ below) (sym c.end_fault.ensures ∙ c.in-None.is) c.in-Some-world.is r (λ w is stands. c.finish.ensures.finishes w initial is stands)

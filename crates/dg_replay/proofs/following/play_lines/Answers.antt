@@ -52,7 +52,7 @@ returns-then-is_last-clause-answer g c =
     c.if-branch.true a.2 in
     let last : new.last ≡ true = sym c.is_last.ensures ∙ c.if-is_last.true in
     lines_last (left c.args.input.now) (left c.loop-told.input) (left c.play_next.new.input) (Rose (faults c.args.input.now) (faults c.play_next.new.input)) (Rose (cuts c.args.out.now) (cuts c.play_next.new.out)) old new a.0 c.loop-told.number p q initial was now
-    (put c.args.out.now) mid after at_end failed i.0 a.1 given.0 last (λ done w s. given.1 done w initial s)
+    (put c.args.out.now) mid after at_end failed i.0 a.1 given.0 last (λ done w table s. given.1 done w initial table s)
 
 pub loop-told-smaller : goal.loop-told-smaller
 loop-told-smaller g c =
@@ -97,7 +97,7 @@ loop-told-preserved g c =
     let given = given_of c.in_ok-play_next.field-0 (old.ahead ++ a.0) old new at_end (Rose (faults c.loop-told.input) (faults c.play_next.new.input)) (AllAsBefore p q was now mid after) (λ x t. TextPlays x t (old.number + 1) p q was now mid after failed)
     c.if-branch.true a.2 in
     let more_lines : new.last ≡ false = sym c.is_last.ensures ∙ c.if-is_last.false in (
-      lines_next (left c.args.input.now) (left c.loop-told.input) (left c.play_next.new.input) old new a.0 c.loop-told.number p q initial was now (put c.args.out.now) mid after at_end failed i.0 a.1 given.0 more_lines (λ done w s. given.1 done w initial s),
+      lines_next (left c.args.input.now) (left c.loop-told.input) (left c.play_next.new.input) old new a.0 c.loop-told.number p q initial was now (put c.args.out.now) mid after at_end failed i.0 a.1 given.0 more_lines (λ done w table s. given.1 done w initial table s),
       c.in_ok-play_next.ensures.unread (λ e. cc) ∙ i.1,
       c.in_ok-play_next.ensures.unfailed (λ e. cc) ∙ i.2,
     )
