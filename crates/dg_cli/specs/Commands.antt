@@ -5,10 +5,12 @@ use Rattle.dg_base.specs.declared.answers.Status.{Status}
 use Rattle.dg_base.specs.declared.answers.Status.TheVariants.{Memory, WriteFault, NotAVolume, Refused, NoImage}
 use Rattle.dg_nor.specs.Device.{Device}
 use Rattle.dg_nor.specs.Reads.{Looked, ReadStopped}
-use Rattle.dg_object.specs.Object.{row_of}
+use Rattle.dg_object.specs.Object.{Row, row_of}
 use Rattle.dg_control.specs.declared.snapshot.Order.{Order}
 use Rattle.dg_volume.specs.Store.{Store}
 use Rattle.dg_volume.specs.Trails.{inject_trail, order_trail}
+use Rattle.dg_replay.specs.Items.{UsesBoards}
+use Rattle.dg_replay.specs.Ending.{script_of}
 use Rattle.dg_replay.specs.Outcome.{Replayed}
 use Rattle.dg_trial.specs.Trials.{TrialEnds}
 use Rattle.dg_command.specs.Asking.{Said, Replay, Serve, Format, Inject, Order as OrderSaid, Boot, Ping, Dump, Trial, Wrap, Check, Receive, Drip, Base, Asking, Asks, Helps, Misuses}
@@ -32,10 +34,11 @@ Nothing status a b = (status ≡ Memory) × (b ≡ a)
 
 -- ---- replay
 
--- a replay formats its boards itself, so that they are volumes, and golden starts where nothing else does
+-- What a replay did, whichever table its boards are held against where it uses them as they are. Else it formats them itself, so that they are volumes, and golden starts where nothing else does.
 pub record ReplayDone (status : Status) (a b : Around) : Type 0 where
-  pub replayed : Replayed status a.left b.left a.written b.written a.reads b.reads a.writes b.writes a.boards b.boards
-  pub never : (status ≢ NotAVolume) × (status ≢ Refused) × (status ≢ NoImage)
+  pub replayed : (table : List Row) → Replayed table status a.left b.left a.written b.written a.reads b.reads a.writes b.writes a.boards b.boards
+  pub golden : (table : List Row) → (UsesBoards (script_of (replayed table).input).lines → ⊥) → (status ≢ NotAVolume) × (status ≢ NoImage)
+  pub never : status ≢ Refused
 
 -- ---- the verbs over the first board
 

@@ -1,9 +1,11 @@
 -- What is promised of a script that was played so far: the parts of the headline, each with its premises.
+use Rattle.std.specs.Prelude.{List}
+use Rattle.dg_object.specs.Object.{Row}
 use Rattle.dg_script.specs.Script.{Script}
 use Rattle.dg_replay.specs.Outcome.{Progress}
 use Rattle.dg_replay.specs.Promised.{StepsAreLegal, PagesStay, RowsStart, AllAgrees, HalvesAgree, HonestWithoutFrames, RoundsBringPages, RestsFillThePipeline, RestsComplete, StoresStayConsistent}
 
-pub record Headline {script : Script} (c : Progress script) : Type 0 where
+pub record Headline {table : List Row} {script : Script} (c : Progress table script) : Type 0 where
   -- Where each frame from outside is honest by the table of its moment, each step is legal after those before it.
   pub legal : StepsAreLegal c
   -- There no version falls and no complete page is lost, but to a newer version of its image, which a cut may have left half done.

@@ -2,7 +2,8 @@
 ghost use Rattle.std.specs.Prelude.{◌≡◌, ◌≢◌, ◌⊎◌, ◌≤◌, ℕ, true, List, length, map, Some};
 ghost use Rattle.dg_words.specs.Counts.{Rose};
 ghost use Rattle.dg_replay.specs.Ending.{InLimits, script_of};
-ghost use Rattle.dg_replay.specs.Items.{motes_in};
+ghost use Rattle.dg_replay.specs.Items.{UsesBoards, motes_in};
+ghost use Rattle.dg_replay.specs.Outcome.{IsComplete, AreVolumes};
 ghost use Rattle.dg_replay.specs.Boards.{BoardStopped};
 ghost use Rattle.dg_command.specs.Asking.{Replay, Asks, said_by, is_well_formed};
 ghost use Rattle.dg_command.specs.Bounds.{IsInRange};
@@ -35,7 +36,11 @@ pub(crate) fn carry_out<S: Source, K: Sink, N: Nor>(
     ensures complete { (flashes : List (List ℕ)) (bytes : List ℕ) → said_by command ≡ Replay flashes → S.left input.old ≡ Some bytes → InLimits (length boards.old.items) bytes
         → (Rose (S.faults input.old) (S.faults input.new) → ⊥) → (Rose (K.faults out.old) (K.faults out.new) → ⊥)
         → (BoardStopped (motes_in (script_of bytes).lines) (map N.device boards.old.items) (map N.device boards.new.items) → ⊥)
-        → (result ≡ Status.Done) ⊎ (result ≡ Status.Memory) }
+        → (UsesBoards (script_of bytes).lines → ⊥) → (result ≡ Status.Done) ⊎ (result ≡ Status.Memory) }
+    ensures complete_boards { (flashes : List (List ℕ)) (bytes : List ℕ) → said_by command ≡ Replay flashes → S.left input.old ≡ Some bytes → InLimits (length boards.old.items) bytes
+        → (Rose (S.faults input.old) (S.faults input.new) → ⊥) → (Rose (K.faults out.old) (K.faults out.new) → ⊥)
+        → (BoardStopped (motes_in (script_of bytes).lines) (map N.device boards.old.items) (map N.device boards.new.items) → ⊥)
+        → AreVolumes (motes_in (script_of bytes).lines) (map N.device boards.old.items) → IsComplete (UsesBoards (script_of bytes).lines) result }
     ensures link { result ≢ Status.LinkFault }
     ensures reads { S.faults input.old ≤ S.faults input.new }
     ensures writes { K.faults out.old ≤ K.faults out.new }

@@ -3,6 +3,17 @@ use Rattle.std.proofs.lemmas.List.{length-map}
 use Rattle.dg_cli.proofs.CarryLemmas.{said_done, format_done, inject_done, order_done, boot_done, received_said, check_said, no_link, no_link_of_a_trial}
 use Rattle.dg_cli.proofs.carrying.carry_out.Goals as goal
 
+pub returns-in-Replay-clause-done : goal.returns-in-Replay-clause-done
+returns-in-Replay-clause-done g c =
+    let e = c.replay.ensures in
+    said_done c.args.command _ c.in-Replay.is _ _ _ (record { replayed = e.replayed; golden = λ table alone. e.golden table (e.replayed table) alone; never = e.never.1 })
+
+pub returns-in-Replay-clause-complete : goal.returns-in-Replay-clause-complete
+returns-in-Replay-clause-complete g c = λ flashes bytes is told limits reads writes stops alone. c.replay.ensures.complete bytes told limits reads writes stops alone
+
+pub returns-in-Replay-clause-complete_boards : goal.returns-in-Replay-clause-complete_boards
+returns-in-Replay-clause-complete_boards g c = λ flashes bytes is told limits reads writes stops volumes. c.replay.ensures.complete_boards bytes told limits reads writes stops volumes
+
 pub returns-in-Format-clause-done : goal.returns-in-Format-clause-done
 returns-in-Format-clause-done g c =
     said_done c.args.command _ c.in-Format.is _ _ _ (format_done _ _ _ c.in-Format.used _ _ _ (sym (length-map c.args.boards.now.items g.N.Nor.device)) c.as_bytes.ensures.value c.format.ensures.done)
