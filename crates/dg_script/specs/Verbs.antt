@@ -7,7 +7,6 @@ use Rattle.dg_script.specs.declared.fault.LineFault.TheVariants as fault
 use Rattle.dg_script.specs.declared.place.Place.{Place}
 use Rattle.dg_script.specs.declared.verbs.Verb.{Verb}
 use Rattle.dg_script.specs.declared.verbs.Verb.TheVariants.{Motes, Golden, Boards, Link, Image, Tick, Hear, Last, Reset, Inject, Order, Frame, Cut, Round, Sweeps}
-use Rattle.dg_script.specs.declared.verbs.TheConstants.{PLAYS_BOARDS}
 
 abbrev pub word_of : Verb → List ℕ
 word_of Motes = codes "motes"
@@ -26,11 +25,11 @@ word_of Cut = codes "cut"
 word_of Round = codes "round"
 word_of Sweeps = codes "sweeps"
 
--- Whether lines of a verb are played: all are but `boards`, as long as they are not. A line that is not played is told as one of an unknown verb.
+-- Whether lines of a verb are played: all are. A line that is not played would be told as one of an unknown verb.
 abbrev pub is_played : Verb → Bool
 is_played Motes = true
 is_played Golden = true
-is_played Boards = PLAYS_BOARDS
+is_played Boards = true
 is_played Link = true
 is_played Image = true
 is_played Tick = true

@@ -26,9 +26,6 @@ pub enum Verb {
     Sweeps,
 }
 
-// Whether `boards` lines are played. As long as they are not, one is told as a line of an unknown verb.
-pub const PLAYS_BOARDS: bool = false;
-
 fn is_same(word: &[u8], other: &[u8]) -> bool
     ensures { result ≡ same word.now other.now }
 {
@@ -111,8 +108,8 @@ impl Verb {
         ensures { result ≡ is_played self }
     {
         match self {
-            Verb::Boards => PLAYS_BOARDS,
-            Verb::Motes | Verb::Golden | Verb::Link | Verb::Image => true,
+            Verb::Motes | Verb::Golden | Verb::Boards | Verb::Link => true,
+            Verb::Image => true,
             Verb::Tick | Verb::Hear | Verb::Last | Verb::Reset => true,
             Verb::Inject | Verb::Order | Verb::Frame => true,
             Verb::Cut | Verb::Round | Verb::Sweeps => true,

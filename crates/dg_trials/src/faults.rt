@@ -283,7 +283,7 @@ const ROUND_LINES: [(&str, &str); 17] = [
     ("sweeps 0", "number"),
     ("sweeps 1001", "number"),
     ("sweeps 01", "number"),
-    ("boards", "verb"),
+    ("boards", "place"),
 ];
 
 /// Lines behind a round or a sweep.
