@@ -1,0 +1,41 @@
+-- What is done for each number in turn: one more, and the rest.
+use Rattle.std.proofs.Common.{◌≡◌, ℕ, zero, suc, ◌+◌, ◌*◌, ◌<◌, ◌≤◌, ◌⊎◌, List, [], ◌++◌, length, append-nil, append_assoc, refl, ap, sym, ◌∙◌, subst, ⊎_elim, inl, inr, arith, add-one, length-append}
+use Rattle.dg_serve.specs.Each.{each}
+
+-- one number more
+pub each_more : {A : Type 0} (n : ℕ) (f : ℕ → List A) → each (suc n) f ≡ each n f ++ f n
+unfolding each
+each_more n f = refl
+
+pub each_next : {A : Type 0} (n : ℕ) (f : ℕ → List A) → each (n + 1) f ≡ each n f ++ f n
+each_next n f = ap (λ k. each k f) (add-one n) ∙ each_more n f
+
+pub each_none : {A : Type 0} (f : ℕ → List A) → each 0 f ≡ []
+unfolding each
+each_none f = refl
+
+last_or : (n k : ℕ) → n < suc k → (n ≡ k) ⊎ (n < k)
+last_or n k h = omega_or n k h
+  where
+    omega_or : (a b : ℕ) → a < suc b → (a ≡ b) ⊎ (a < b)
+    omega_or zero zero h = inl refl
+    omega_or zero (suc b) h = inr (omega arith)
+    omega_or (suc a) zero h = absurd (omega arith)
+    omega_or (suc a) (suc b) h = ⊎_elim (λ e. inl (ap suc e)) (λ l. inr (omega arith)) (omega_or a b (omega arith))
+
+-- what comes behind the part of a number
+pub each_split : {A : Type 0} (n k : ℕ) (f : ℕ → List A) → n < k → (rest : List A) × ((each n f ++ f n) ++ rest ≡ each k f)
+each_split n zero f h = absurd (omega arith)
+each_split n (suc k) f h =
+    ⊎_elim
+    (λ same. ([], append-nil (each n f ++ f n) ∙ ap (λ j. each j f ++ f j) same ∙ sym (each_more k f)))
+    (λ less.
+    let r = each_split n k f less in
+    (r.0 ++ f k, sym (append_assoc (each n f ++ f n) r.0 (f k)) ∙ ap (λ l. l ++ f k) r.1 ∙ sym (each_more k f)))
+    (last_or n k h)
+
+-- how many there are at most
+pub each_few : {A : Type 0} (n c : ℕ) (f : ℕ → List A) → ((k : ℕ) → length (f k) ≤ c) → length (each n f) ≤ n * c
+unfolding each
+each_few zero c f h = omega arith
+each_few (suc n) c f h = let before = each_few n c f h in grind (arith, length-append (each n f) (f n), h n)

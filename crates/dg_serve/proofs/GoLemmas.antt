@@ -1,0 +1,182 @@
+-- Parts that are done one after the other.
+use Rattle.std.proofs.Common.{◌≡◌, ◌≢◌, ◌⊎◌, ℕ, ◌+◌, ◌-◌, ◌*◌, ◌^◌, ◌<◌, ◌≤◌, List, [], ◌∷◌, ◌++◌, length, take, map, append-nil, append_assoc, refl, ap, sym, ◌∙◌, subst, ⊎_elim, inl, inr, arith, length-append}
+use Rattle.std.specs.Prelude.{slice_get, Option, Some, None, Result, Ok, Err}
+use Rattle.std.specs.List.{flat_map}
+use Rattle.std.proofs.lemmas.List.{map-append}
+use Rattle.std.proofs.lemmas.Bool.{cases_lt}
+use Rattle.std.proofs.lemmas.Grind.{flat_map-append}
+use Rattle.std.proofs.Math.Seq.{take-append-add}
+use Rattle.dg_words.specs.Counts.{Rose}
+use Rattle.dg_base.specs.Outside.{Puts}
+use Rattle.dg_base.proofs.OutsideLemmas.{Puts-join}
+use Rattle.dg_base.specs.declared.events.Event.{Event}
+use Rattle.dg_nor.specs.Device.{Device}
+use Rattle.dg_volume.specs.Stands.{IsVolume}
+use Rattle.dg_script.specs.Spelling.{line_text}
+use Rattle.dg_script.specs.declared.line.Line.TheVariants.{Happens}
+use Rattle.dg_serve.specs.Services.{Part, Moment, PartDone, Serves}
+use Rattle.dg_serve.specs.Traces.{event_lines}
+use Rattle.dg_serve.specs.Endings.{EndsInNext, BoardsLeft}
+use Rattle.dg_serve.specs.Standings.{Standing, StandsFor, Ready, BoardsAreUsed, BoardsAreCalm, Went, Leaves, CountsBy, Halted, GoesOn}
+use Rattle.dg_serve.specs.declared.stop.Stop.{Stop}
+use Rattle.dg_serve.specs.declared.stop.Stop.TheVariants as stop
+use Rattle.dg_serve.proofs.BoardLemmas.{used_same, used_then, used_more, all_calm, calm_all_then}
+
+-- ---- services
+
+pub serves_then : (motes : ℕ) (s t u : Moment) (ps qs : List Part) (es fs : List Event) → Serves motes s ps es t → Serves motes t qs fs u → Serves motes s (ps ++ qs) (es ++ fs) u
+unfolding Serves
+serves_then motes s t u [] qs es fs first second =
+    let P : Moment → List Event → Type 0 = λ m l. Serves motes m qs (l ++ fs) u in
+    subst (λ l. P s l) (sym first.0) (subst (λ m. P m []) first.1 second)
+serves_then motes s t u (p ∷ ps) qs es fs first second = (
+  first.0,
+  first.1,
+  first.2 ++ fs,
+  first.3,
+  ap (λ l. l ++ fs) first.4 ∙ append_assoc first.1 first.2 fs,
+  serves_then motes first.0 t u ps qs first.2 fs first.5 second,
+)
+
+pub one_part : (motes : ℕ) (s t : Moment) (part : Part) (es : List Event) → PartDone motes part s es t → Serves motes s (part ∷ []) es t
+unfolding Serves
+one_part motes s t part es done = (t, es, [], done, sym (append-nil es), (refl, refl))
+
+pub no_part : (motes : ℕ) (s : Moment) → Serves motes s [] [] s
+unfolding Serves
+no_part motes s = (refl, refl)
+
+pub lines_then : (es fs : List Event) → event_lines (es ++ fs) ≡ event_lines es ++ event_lines fs
+lines_then es fs = ap (λ ls. flat_map (λ l. line_text l ++ 10 ∷ []) ls) (map-append Happens es fs) ∙ flat_map-append (λ l. line_text l ++ 10 ∷ []) (map Happens es) (map Happens fs)
+
+-- ---- parts that were done
+
+pub went_none : (motes begun : ℕ) (links : List (ℕ × ℕ)) (p : Standing) → Ready motes begun p → Went motes begun begun links [] p p
+went_none motes begun links p ready = record {
+  events = [];
+  put = puts_none p.written;
+  run = λ first s stands. (s, no_part motes s, stands);
+  ready = ready;
+  volumes = λ m a low high was. absurd (omega arith);
+  boards = used_same begun p.boards;
+  calm = all_calm p.boards;
+  moved = omega arith;
+  failures = refl;
+  faults = refl;
+  reached = omega arith;
+}
+  where
+    puts_none : (o : Option (List ℕ)) → Puts o o []
+    puts_none None = refl
+    puts_none (Some w) = ap Some (sym (append-nil w))
+
+-- a volume is one as it was before
+volumes_then : (begun mid on : ℕ) (xs ys : List Device) → ((m : ℕ) → mid ≤ m → slice_get ys m ≡ slice_get xs m) → ((m : ℕ) (a : Device) → begun ≤ m → m < mid → slice_get xs m ≡ Some a → IsVolume a.image)
+    → ((m : ℕ) (a : Device) → mid ≤ m → m < on → slice_get ys m ≡ Some a → IsVolume a.image) → (m : ℕ) (a : Device) → begun ≤ m → m < on → slice_get xs m ≡ Some a → IsVolume a.image
+volumes_then begun mid on xs ys same first second m a low high was =
+    ⊎_elim (λ less. first m a low less was) (λ more. second m a more high (same m more ∙ was)) (cases_lt m mid)
+
+pub went_then : (motes begun mid on : ℕ) (links : List (ℕ × ℕ)) (ps qs : List Part) (p q r : Standing) → mid ≤ on → Went motes begun mid links ps p q → Went motes mid on links qs q r → Went motes begun on links (ps ++ qs) p r
+went_then motes begun mid on links ps qs p q r order a b = record {
+  events = a.events ++ b.events;
+  put = subst (λ l. Puts p.written r.written l) (sym (lines_then a.events b.events)) (Puts-join p.written q.written r.written (event_lines a.events) (event_lines b.events) a.put b.put);
+  run = λ first s stands.
+      let x = a.run first s stands in
+      let y = b.run first x.0 x.2 in
+      (y.0, serves_then motes s x.0 y.0 ps qs a.events b.events x.1 y.1, y.2);
+  ready = b.ready;
+  volumes = volumes_then begun mid on p.boards q.boards a.boards.others a.volumes b.volumes;
+  boards = used_then on p.boards q.boards r.boards (used_more mid on p.boards q.boards order a.boards) b.boards;
+  calm = calm_all_then p.boards q.boards r.boards a.calm b.calm;
+  moved = let n = length-append ps qs in let first = a.moved in let second = b.moved in omega (arith, n, first, second);
+  failures = b.failures ∙ a.failures;
+  faults = b.faults ∙ a.faults;
+  reached = omega (arith, a.reached, b.reached);
+}
+
+pub went_as : (motes begun on : ℕ) (links : List (ℕ × ℕ)) (ps qs : List Part) (p q : Standing) → ps ≡ qs → Went motes begun on links ps p q → Went motes begun on links qs p q
+went_as motes begun on links ps qs p q e a = subst (λ l. Went motes begun on links l p q) e a
+
+-- ---- parts of which some were done
+
+next_more : (why : Stop) (s : Moment) (left more : List Part) (old new : List Device) → EndsInNext why s left old new → EndsInNext why s (left ++ more) old new
+next_more why s left more old new n = record {
+  part = n.part;
+  rest = n.rest ++ more;
+  is = ap (λ l. l ++ more) n.is;
+  bytes = n.bytes;
+  dt = n.dt;
+  word = n.word;
+  after = n.after;
+  reads = n.reads;
+  ends = n.ends;
+}
+
+left_more : (why : Stop) (s : Moment) (left more : List Part) (old new : List Device) → BoardsLeft why s left old new → BoardsLeft why s (left ++ more) old new
+left_more stop.Memory s left more old new h = h
+left_more stop.Write s left more old new h = h
+left_more stop.Link s left more old new h = h
+left_more stop.Flash s left more old new h = next_more stop.Flash s left more old new h
+left_more stop.NotAVolume s left more old new h = next_more stop.NotAVolume s left more old new h
+left_more stop.NoImage s left more old new h = next_more stop.NoImage s left more old new h
+
+-- further parts are left
+pub halts_more : (why : Stop) (motes begun : ℕ) (links : List (ℕ × ℕ)) (ps more : List Part) (p q : Standing) → Halted why motes begun links ps p q → Halted why motes begun links (ps ++ more) p q
+halts_more why motes begun links ps more p q h = record {
+  events = h.events;
+  done = h.done;
+  left = h.left ++ more;
+  all = sym (append_assoc h.done h.left more) ∙ ap (λ l. l ++ more) h.all;
+  text = h.text;
+  put = h.put;
+  front = h.front;
+  whole = h.whole;
+  run = λ first s stands.
+      let x = h.run first s stands in
+      (x.0, x.1, record { boards = left_more why x.0 h.left more first q.boards x.2.boards; link = x.2.link; clock = x.2.clock });
+  boards = h.boards;
+  calm = h.calm;
+  counts = h.counts;
+}
+
+pub halts_as : (why : Stop) (motes begun : ℕ) (links : List (ℕ × ℕ)) (ps qs : List Part) (p q : Standing) → ps ≡ qs → Halted why motes begun links ps p q → Halted why motes begun links qs p q
+halts_as why motes begun links ps qs p q e h = subst (λ l. Halted why motes begun links l p q) e h
+
+counts_then : (why : Stop) (p q r : Standing) → q.faults ≡ p.faults → q.failures ≡ p.failures → p.reached ≤ q.reached → CountsBy why q r → CountsBy why p r
+counts_then why p q r faults failures reached c = record {
+  wrote = λ is. subst (λ n. Rose n r.faults) faults (c.wrote is);
+  faults = λ is. c.faults is ∙ faults;
+  faults_rise = omega (arith, faults, c.faults_rise);
+  sent = λ is. subst (λ n. Rose n r.failures) failures (c.sent is);
+  failures = λ is. c.failures is ∙ failures;
+  failures_rise = omega (arith, failures, c.failures_rise);
+  reached = omega (arith, reached, c.reached);
+}
+
+-- some parts were done, and then a stop came in others
+pub went_halts : (why : Stop) (motes begun mid : ℕ) (links : List (ℕ × ℕ)) (ps qs : List Part) (p q r : Standing) → mid ≤ motes → Went motes begun mid links ps p q → Halted why motes mid links qs q r → Halted why motes begun links (ps ++ qs) p r
+went_halts why motes begun mid links ps qs p q r order a h = record {
+  events = a.events ++ h.events;
+  done = ps ++ h.done;
+  left = h.left;
+  all = append_assoc ps h.done h.left ∙ ap (λ l. ps ++ l) h.all;
+  text = event_lines a.events ++ h.text;
+  put = Puts-join p.written q.written r.written (event_lines a.events) h.text a.put h.put;
+  front = (
+    length (event_lines a.events) + h.front.0,
+    ap (λ l. event_lines a.events ++ l) h.front.1 ∙ sym (take-append-add (event_lines a.events) (event_lines h.events) h.front.0) ∙ ap (take (length (event_lines a.events) + h.front.0)) (sym (lines_then a.events h.events)),
+  );
+  whole = λ is. ap (λ l. event_lines a.events ++ l) (h.whole is) ∙ sym (lines_then a.events h.events);
+  run = λ first s stands.
+      let x = a.run first s stands in
+      let y = h.run first x.0 x.2 in
+      (y.0, serves_then motes s x.0 y.0 ps h.done a.events h.events x.1 y.1, y.2);
+  boards = used_then motes p.boards q.boards r.boards (used_more mid motes p.boards q.boards order a.boards) h.boards;
+  calm = λ is. calm_all_then p.boards q.boards r.boards a.calm (h.calm is);
+  counts = counts_then why p q r a.faults a.failures a.reached h.counts;
+}
+
+-- parts, and then others, each done or stopped in
+pub goes_then : (x : Result (Unit {0}) Stop) (motes begun mid on : ℕ) (links : List (ℕ × ℕ)) (ps qs : List Part) (p q r : Standing) → mid ≤ on → mid ≤ motes → Went motes begun mid links ps p q → GoesOn x motes mid on links qs q r → GoesOn x motes begun on links (ps ++ qs) p r
+goes_then (Ok u) motes begun mid on links ps qs p q r order within a b = went_then motes begun mid on links ps qs p q r order a b
+goes_then (Err why) motes begun mid on links ps qs p q r order within a b = went_halts why motes begun mid links ps qs p q r within a b

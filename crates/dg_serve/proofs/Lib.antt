@@ -1,0 +1,15 @@
+pub mod EachLemmas
+pub mod BoardLemmas
+pub mod GoLemmas
+pub mod EventLemmas
+pub mod PlayLemmas
+pub mod PartLemmas
+pub mod PlayedLemmas
+pub mod HandLemmas
+pub mod HappenLemmas
+pub mod TurnLemmas
+pub mod HeadLemmas
+pub mod LoopLemmas
+pub mod StartLemmas
+pub mod ServeLemmas
+pub mod OpenLemmas

@@ -1,0 +1,63 @@
+-- A service that is opened.
+use Rattle.std.proofs.Common.{◌≡◌, ℕ, zero, suc, ◌+◌, ◌<◌, ◌≤◌, List, [], ◌∷◌, ◌++◌, length, take, add-one, refl, ap, sym, ◌∙◌, subst, inl, inr, arith}
+use Rattle.std.specs.Prelude.{slice_index_or, replicate, Option, Some, None, option_map, Result, Ok, Err, IsErrAnd}
+use Rattle.std.proofs.lemmas.List.{take_all}
+use Rattle.dg_words.specs.Counts.{Rose}
+use Rattle.dg_base.specs.Outside.{Puts, PutsFront}
+use Rattle.dg_link.specs.Inboxes.{Inboxes, emptied}
+use Rattle.dg_netcfg.specs.declared.profile.NetProfile.{NetProfile}
+use Rattle.dg_world.specs.declared.world.RunningMote.{RunningMote}
+use Rattle.dg_serve.specs.Traces.{written, head_lines}
+use Rattle.dg_serve.specs.Served.{Outside, Hindered}
+use Rattle.dg_serve.specs.Ran.{status_of, Opens, OpensLink}
+use Rattle.dg_serve.specs.declared.service.Service.{Service}
+use Rattle.dg_serve.specs.declared.stop.Stop.{Stop}
+use Rattle.dg_serve.specs.declared.stop.Stop.TheVariants as stop
+use Rattle.dg_serve.proofs.TurnLemmas.{puts_none}
+
+-- ---- motes that are off
+
+one_next : {X : Type 0} (x : X) (n : ℕ) → replicate n x ++ x ∷ [] ≡ replicate (suc n) x
+one_next x zero = refl
+one_next x (suc n) = ap (λ xs. x ∷ xs) (one_next x n)
+
+pub one_more : {X : Type 0} (x : X) (n : ℕ) → replicate n x ++ x ∷ [] ≡ replicate (n + 1) x
+one_more x n = one_next x n ∙ ap (λ k. replicate k x) (sym (add-one n))
+
+one_in : {X : Type 0} (x : X) (n m : ℕ) → slice_index_or (replicate n x) m x ≡ x
+one_in x zero m = refl
+one_in x (suc n) zero = refl
+one_in x (suc n) (suc m) = one_in x n m
+
+many_in : {X : Type 0} (x : X) (n : ℕ) → length (replicate n x) ≡ n
+many_in x zero = refl
+many_in x (suc n) = ap suc (many_in x n)
+
+pub none_at : (xs : List (Option RunningMote)) (n m : ℕ) → xs ≡ replicate n None → slice_index_or xs m None ≡ None
+none_at xs n m same = ap (λ (l : List (Option RunningMote)). slice_index_or l m None) same ∙ one_in None n m
+
+pub none_many : (xs : List (Option RunningMote)) (n : ℕ) → xs ≡ replicate n None → length xs ≡ n
+none_many xs n same = ap length same ∙ many_in None n
+
+-- ---- where it was not opened
+
+pub opens_err : (r : Result Service Stop) (why : Stop) (profile : NetProfile) (seed : ℕ) (before : Outside) (addressees reached : ℕ) (after : Outside) → IsErrAnd r (λ e. e ≡ why) → Hindered (status_of why) profile before after → after.clock ≡ before.clock → Opens r profile seed before addressees reached after
+opens_err (Ok v) why profile seed before addressees reached after is hindered clock = absurd is
+opens_err (Err e) why profile seed before addressees reached after is hindered clock = subst (λ (w : Stop). Opens (Err w) profile seed before addressees reached after) (sym is) (hindered, clock)
+
+pub open_hindered : (why : Stop) (profile : NetProfile) (before after : Outside) (f g addressees : ℕ) → OpensLink (Err why) profile.motes before.inboxes after.inboxes before.failures after.failures addressees → Puts before.written after.written (written (head_lines profile)) → after.faults ≡ before.faults → Hindered (status_of why) profile before after
+open_hindered stop.Memory profile before after f g addressees opens put faults =
+    ((length (written (head_lines profile)), subst (λ l. Puts before.written after.written l) (sym (take_all (length (written (head_lines profile))) (written (head_lines profile)) (omega arith))) put), faults, opens)
+open_hindered stop.Link profile before after f g addressees opens put faults = (put, faults, opens.1, opens.0)
+open_hindered stop.Write profile before after f g addressees opens put faults = absurd opens
+open_hindered stop.Flash profile before after f g addressees opens put faults = absurd opens
+open_hindered stop.NotAVolume profile before after f g addressees opens put faults = absurd opens
+open_hindered stop.NoImage profile before after f g addressees opens put faults = absurd opens
+
+-- nothing was written
+pub nothing_put : (o : Option (List ℕ)) (xs : List ℕ) → (n : ℕ) × Puts o o (take n xs)
+nothing_put o xs = (0, puts_none o o refl)
+
+-- the head of the trace is what is written
+pub head_is : (x t old head : List ℕ) → x ≡ t → t ≡ old ++ head → old ≡ [] → x ≡ head
+head_is x t old head same is none = same ∙ is ∙ ap (λ l. l ++ head) none

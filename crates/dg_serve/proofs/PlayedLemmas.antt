@@ -1,0 +1,37 @@
+-- An event at the board at an index.
+use Rattle.std.proofs.Common.{◌≡◌, ℕ, ◌+◌, ◌<◌, List, length, get_or, set, map, refl, ap, sym, ◌∙◌, subst}
+use Rattle.std.specs.Prelude.{slice_get, slice_index_or, Option, Some, None, Result}
+use Rattle.std.proofs.lemmas.List.{map-set, get_or-set_same, get_or_read}
+use Rattle.dg_base.specs.declared.events.Event.{Event}
+use Rattle.dg_mote.specs.declared.outbox.Outbox.{Outbox}
+use Rattle.dg_nor.specs.Device.{Device}
+use Rattle.dg_rules.specs.World.{World, site}
+use Rattle.dg_rules.specs.Events.{mote_of, dt_of}
+use Rattle.dg_world.specs.Worlds.{SiteStands}
+use Rattle.dg_world.specs.Alone.{IsReset, PlaysAlone, Powers}
+use Rattle.dg_world.specs.declared.telling.Fault.{Fault}
+use Rattle.dg_world.specs.declared.world.RunningMote.{RunningMote}
+use Rattle.dg_world.proofs.PlaceLemmas.{got_or}
+use Rattle.dg_serve.specs.Standings.{PlayedAt}
+
+module _ {N : Type 0} (device : N → Device) (r : Result Outbox Fault) (event : Event) (now i : ℕ) (motes : List (Option RunningMote)) (boards : List N) (v u : Option RunningMote) (a b : N) (many : i < length motes) (wide : i < length boards) (ran : v ≡ get_or motes i v) (stood : a ≡ get_or boards i a) (at : mote_of event ≡ i) (plays : (w : World) → SiteStands (device a) v (site w (mote_of event)) → mote_of event < length w.sites → now ≡ w.moment + dt_of event → PlaysAlone r w event u (device a) (device b)) (powers : IsReset event → Powers r (device a) (device b)) where
+  ran_is : slice_index_or motes i None ≡ v
+  ran_is = sym (get_or_read motes i v many ran None)
+
+  runs_is : slice_index_or (set motes i u) i None ≡ u
+  runs_is = get_or-set_same motes i u None many
+
+  played_here : PlayedAt r event i now v u (map device boards) (map device (set boards i b))
+  played_here = record {
+    before = device a;
+    after = device b;
+    was = got_or device boards i a wide ∙ ap (λ x. Some (device x)) (sym stood);
+    put = map-set device boards i b;
+    plays = λ w stands known moment. plays w (subst (λ m. SiteStands (device a) v (site w m)) (sym at) stands) (subst (λ m. m < length w.sites) (sym at) known) moment;
+    powers = powers;
+  }
+
+  pub played_at : (mote : ℕ) → i ≡ mote → PlayedAt r event mote now (slice_index_or motes mote None) (slice_index_or (set motes i u) mote None) (map device boards) (map device (set boards i b))
+  played_at mote same =
+      let P : ℕ → Option RunningMote → Option RunningMote → Type 0 = λ m x y. PlayedAt r event m now x y (map device boards) (map device (set boards i b)) in
+      subst (λ m. P m (slice_index_or motes m None) (slice_index_or (set motes i u) m None)) same (subst (λ x. P i x (slice_index_or (set motes i u) i None)) (sym ran_is) (subst (λ y. P i v y) (sym runs_is) played_here))

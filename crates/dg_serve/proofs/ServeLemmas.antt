@@ -1,0 +1,310 @@
+-- A service from its first line to its last.
+use Rattle.std.proofs.Common.{◌≡◌, ◌≢◌, ◌⊎◌, ℕ, ◌+◌, ◌-◌, ◌*◌, ◌^◌, ◌<◌, ◌≤◌, List, [], ◌∷◌, ◌++◌, length, take, append-nil, append_assoc, refl, ap, sym, ◌∙◌, subst, ⊎_elim, inl, inr, arith}
+use Rattle.std.specs.Prelude.{slice_get, slice_index_or, Option, Some, None, option_map, Result, Ok, Err, IsErrAnd}
+use Rattle.std.proofs.Math.Seq.{take-append-add}
+use Rattle.std.proofs.lemmas.Option.{same_Some}
+use Rattle.dg_words.specs.Counts.{Rose}
+use Rattle.dg_base.specs.Clock.{Answers}
+use Rattle.dg_base.specs.Outside.{Puts}
+use Rattle.dg_base.proofs.OutsideLemmas.{Puts-join}
+use Rattle.dg_base.specs.declared.answers.Status.{Status}
+use Rattle.dg_base.specs.declared.answers.Status.TheVariants as status
+use Rattle.dg_base.specs.declared.events.Event.{Event}
+use Rattle.dg_link.specs.Inboxes.{Inboxes, emptied}
+use Rattle.dg_netcfg.specs.declared.profile.NetProfile.{NetProfile}
+use Rattle.dg_nor.specs.Device.{Device, Endures}
+use Rattle.dg_nor.specs.Fuse.{beneath_of}
+use Rattle.dg_object.specs.Object.{Row}
+use Rattle.dg_volume.specs.Store.{Store}
+use Rattle.dg_serve.specs.Services.{Part, Moment, plan, words_of_seed}
+use Rattle.dg_serve.specs.Endings.{StoresOf, begins, BoardsStand}
+use Rattle.dg_serve.specs.Traces.{trace, written, head_lines, event_lines, last_line}
+use Rattle.dg_serve.specs.Standings.{Standing, StandsFor, Ready, BoardEndures, BoardIsCalm, BoardsAreUsed, BoardsAreCalm, Went, Halted, GoesOn}
+use Rattle.dg_serve.specs.Served.{Outside, LeftBy, Came, Wrote, WroteLast, BoardsEndure, Causes, Began, Hindered, DidNotBegin, Served, TooFewBoards}
+use Rattle.dg_serve.specs.Ran.{status_of, IsOpened, Opens, WroteBy, CountedBy, Ran, WasHindered, RanTo, Tells, TellsStop, TellsTooFew}
+use Rattle.dg_serve.specs.declared.stop.Stop.{Stop}
+use Rattle.dg_serve.specs.declared.stop.Stop.TheVariants as stop
+use Rattle.dg_serve.proofs.EventLemmas.{stands_boards}
+use Rattle.dg_serve.proofs.StartLemmas.{stands_first}
+
+-- what is outside of where the code stands
+abbrev pub outside_of : Standing → Outside
+outside_of p = record { written = p.written; faults = p.faults; clock = p.clock; inboxes = p.inboxes; failures = p.failures; boards = p.boards }
+
+-- ---- boards
+
+endures_at : (o n : Option Device) (a b : Device) → o ≡ Some a → n ≡ Some b → BoardEndures o n → Endures (beneath_of a) (beneath_of b)
+endures_at o n a b was now e =
+    let P : Option Device → Option Device → Type 0 = λ x y. BoardEndures x y in
+    subst (λ y. P (Some a) y) now (subst (λ x. P x n) was e)
+
+calm_at : (o n : Option Device) (a b : Device) → o ≡ Some a → n ≡ Some b → BoardIsCalm o n → b.faults ≡ a.faults
+calm_at o n a b was now e =
+    let P : Option Device → Option Device → Type 0 = λ x y. BoardIsCalm x y in
+    subst (λ y. P (Some a) y) now (subst (λ x. P x n) was e)
+
+boards_endure : (motes : ℕ) (old new : List Device) → BoardsAreUsed motes old new → BoardsEndure motes old new
+boards_endure motes old new u = record { count = u.count; others = u.others; endures = λ m a b was now. endures_at (slice_get old m) (slice_get new m) a b was now (u.endures m) }
+
+-- ---- from the opening to where it ended
+
+wrote_by : (why : Stop) (head lines text : List ℕ) → (n : ℕ) × (text ≡ take n lines) → (why ≢ stop.Write → text ≡ lines) → WroteBy (Some why) (head ++ lines) (head ++ text)
+wrote_by stop.Memory head lines text front whole = ap (λ l. head ++ l) (whole (λ x. absurd cc))
+wrote_by stop.Write head lines text front whole = (length head + front.0, ap (λ l. head ++ l) front.1 ∙ sym (take-append-add head lines front.0))
+wrote_by stop.Link head lines text front whole = ap (λ l. head ++ l) (whole (λ x. absurd cc))
+wrote_by stop.Flash head lines text front whole = ap (λ l. head ++ l) (whole (λ x. absurd cc))
+wrote_by stop.NotAVolume head lines text front whole = ap (λ l. head ++ l) (whole (λ x. absurd cc))
+wrote_by stop.NoImage head lines text front whole = ap (λ l. head ++ l) (whole (λ x. absurd cc))
+
+module _ (profile : NetProfile) (seed turns : ℕ) (b : Outside) (p q : Standing) (o : IsOpened profile seed (record b { boards = p.boards }) p.service p.addressees p.reached (outside_of p)) where
+  stands_opened : (table : List Row) (stores : List Store) → StoresOf profile.motes p.boards stores → StandsFor profile.motes 0 profile.links 0 p.boards (begins table profile.links stores p.service.timeline.reading p.clock seed (option_map (emptied profile.motes) b.inboxes)) p
+  stands_opened table stores of = stands_first profile.motes profile.links table stores p.service.timeline.reading p.clock (words_of_seed seed) (option_map (emptied profile.motes) b.inboxes) p of o.moment refl o.words refl o.inboxes
+
+  ran_all : Went profile.motes 0 profile.motes profile.links (plan profile.motes turns) p q → Ran None profile seed turns (record b { boards = p.boards }) (outside_of q)
+  ran_all w = record {
+    origin = p.service.timeline.reading;
+    clock = p.clock;
+    first = o.told;
+    events = w.events;
+    done = plan profile.motes turns;
+    left = [];
+    parts = append-nil (plan profile.motes turns);
+    all = λ is. refl;
+    came = λ table stores of.
+        let x = w.run p.boards (begins table profile.links stores p.service.timeline.reading p.clock seed (option_map (emptied profile.motes) b.inboxes)) (stands_opened table stores of) in
+        record { last = x.0; serves = x.1; ends = (stands_boards profile.motes profile.motes 0 profile.links p.boards x.0 q x.2, x.2.inboxes, x.2.clock) };
+    text = written (head_lines profile) ++ event_lines w.events;
+    put = Puts-join b.written p.written q.written (written (head_lines profile)) (event_lines w.events) o.put w.put;
+    wrote = refl;
+    boards = boards_endure profile.motes p.boards q.boards w.boards;
+    counts = record {
+      wrote = λ is. absurd cc;
+      faults = λ other. w.faults ∙ o.faults;
+      faults_rise = let e = w.faults ∙ o.faults in omega (arith, e);
+      sent = λ is. absurd cc;
+      failures = λ other. w.failures ∙ o.failures;
+      failures_rise = let e = w.failures ∙ o.failures in omega (arith, e);
+      calm = λ other m x y was now. calm_at (slice_get p.boards m) (slice_get q.boards m) x y was now (w.calm m);
+    };
+  }
+
+  ran_some : (why : Stop) → Halted why profile.motes 0 profile.links (plan profile.motes turns) p q → Ran (Some why) profile seed turns (record b { boards = p.boards }) (outside_of q)
+  ran_some why h = record {
+    origin = p.service.timeline.reading;
+    clock = p.clock;
+    first = o.told;
+    events = h.events;
+    done = h.done;
+    left = h.left;
+    parts = h.all;
+    all = λ is. absurd cc;
+    came = λ table stores of.
+        let x = h.run p.boards (begins table profile.links stores p.service.timeline.reading p.clock seed (option_map (emptied profile.motes) b.inboxes)) (stands_opened table stores of) in
+        record { last = x.0; serves = x.1; ends = (x.2.boards, x.2.link, x.2.clock) };
+    text = written (head_lines profile) ++ h.text;
+    put = Puts-join b.written p.written q.written (written (head_lines profile)) h.text o.put h.put;
+    wrote = wrote_by why (written (head_lines profile)) (event_lines h.events) h.text h.front h.whole;
+    boards = boards_endure profile.motes p.boards q.boards h.boards;
+    counts = record {
+      wrote = λ is. subst (λ n. Rose n q.faults) o.faults (h.counts.wrote (same_Some why stop.Write is));
+      faults = λ other. h.counts.faults (λ e. other (ap Some e)) ∙ o.faults;
+      faults_rise = omega (arith, o.faults, h.counts.faults_rise);
+      sent = λ is. subst (λ n. Rose n q.failures) o.failures (h.counts.sent (same_Some why stop.Link is));
+      failures = λ other. h.counts.failures (λ e. other (ap Some e)) ∙ o.failures;
+      failures_rise = omega (arith, o.failures, h.counts.failures_rise);
+      calm = λ other m x y was now. calm_at (slice_get p.boards m) (slice_get q.boards m) x y was now (h.calm (λ e. other (ap Some e)) m);
+    };
+  }
+
+  pub ran_to : (r : Result (Unit {0}) Stop) → GoesOn r profile.motes 0 profile.motes profile.links (plan profile.motes turns) p q → RanTo r profile seed turns (record b { boards = p.boards }) (outside_of q)
+  ran_to (Ok u) w = ran_all w
+  ran_to (Err why) h = inr (ran_some why h)
+
+-- what was opened is ready to begin
+pub ready_opened : (profile : NetProfile) (seed : ℕ) (b mid : Outside) (p : Standing) → IsOpened profile seed b p.service p.addressees p.reached mid → profile.motes ≤ length p.boards → Ready profile.motes 0 p
+ready_opened profile seed b mid p o wide = record { motes_are = o.motes; boards = wide; addressees = o.addressees_are; reading = o.known; off = λ m low. o.off m }
+
+pub hindered_to : (x : Result (Unit {0}) Stop) (why : Stop) (profile : NetProfile) (seed turns : ℕ) (before after : Outside) → IsErrAnd x (λ e. e ≡ why) → after.boards ≡ before.boards → Hindered (status_of why) profile before after × (after.clock ≡ before.clock) → RanTo x profile seed turns before after
+hindered_to (Ok u) why profile seed turns before after is boards h = absurd is
+hindered_to (Err e) why profile seed turns before after is boards h =
+    subst (λ (w : Stop). RanTo (Err w) profile seed turns before after) (sym is) (inl (record { hindered = h.0; boards = boards; clock = h.1 }))
+
+-- ---- the last line
+
+-- the same, with other bytes written
+abbrev told_after : Outside → Option (List ℕ) → ℕ → Outside
+told_after mid v g = record mid { written = v; faults = g }
+
+left_same : (why : Option Stop) (motes : ℕ) (s : Moment) (left : List Part) (first : List Device) (mid : Outside) (v : Option (List ℕ)) (g : ℕ) → LeftBy why motes s left first mid → LeftBy why motes s left first (told_after mid v g)
+left_same None motes s left first mid v g l = l
+left_same (Some why) motes s left first mid v g l = l
+
+began : (why : Option Stop) (answer : Status) (profile : NetProfile) (seed turns : ℕ) (before mid : Outside) (v : Option (List ℕ)) (g : ℕ) (text : List ℕ) (r : Ran why profile seed turns before mid) → Puts before.written v text → Wrote why answer profile.motes (length before.boards) (trace profile r.events) text → Causes answer before (told_after mid v g)
+    → Began answer profile seed turns before (told_after mid v g)
+began why answer profile seed turns before mid v g text r put wrote causes = record {
+  origin = r.origin;
+  clock = r.clock;
+  first = r.first;
+  why = why;
+  events = r.events;
+  done = r.done;
+  left = r.left;
+  parts = r.parts;
+  all = r.all;
+  came = λ table stores of.
+      let x = r.came table stores of in
+      record { last = x.last; serves = x.serves; ends = left_same why profile.motes x.last r.left before.boards mid v g x.ends };
+  text = text;
+  put = put;
+  wrote = wrote;
+  boards = r.boards;
+  causes = causes;
+}
+
+-- all turns were played
+pub served_done : (profile : NetProfile) (seed turns : ℕ) (before mid : Outside) → Ran None profile seed turns before mid → Served status.Done profile seed turns before mid
+served_done profile seed turns before mid r = inr (began None status.Done profile seed turns before mid mid.written mid.faults r.text r r.put (refl, r.wrote) (record {
+  write_fault = λ is. absurd cc;
+  writes = λ other. r.counts.faults (λ x. absurd cc);
+  link_fault = λ is. absurd cc;
+  sends = λ is. r.counts.failures (λ x. absurd cc);
+  calm = λ other. r.counts.calm (λ x. absurd cc);
+  writes_rise = r.counts.faults_rise;
+  sends_rise = r.counts.failures_rise;
+}))
+
+-- nothing more was written
+module _ (profile : NetProfile) (seed turns : ℕ) (before mid : Outside) where
+  ends_memory : RanTo (Err stop.Memory) profile seed turns before mid → Served status.Memory profile seed turns before mid
+  ends_memory (inl h) = inl (record { hindered = h.hindered; boards = h.boards; clock = h.clock })
+  ends_memory (inr r) = inr (began (Some stop.Memory) status.Memory profile seed turns before mid mid.written mid.faults r.text r r.put (refl, r.wrote) (record {
+    write_fault = λ is. absurd cc;
+    writes = λ other. r.counts.faults (λ x. absurd cc);
+    link_fault = λ is. absurd cc;
+    sends = λ is. absurd cc;
+    calm = λ other. r.counts.calm (λ x. absurd cc);
+    writes_rise = r.counts.faults_rise;
+    sends_rise = r.counts.failures_rise;
+  }))
+
+  ends_write : RanTo (Err stop.Write) profile seed turns before mid → Served status.WriteFault profile seed turns before mid
+  ends_write (inl h) = inl (record { hindered = h.hindered; boards = h.boards; clock = h.clock })
+  ends_write (inr r) = inr (began (Some stop.Write) status.WriteFault profile seed turns before mid mid.written mid.faults r.text r r.put (refl, r.wrote) (record {
+    write_fault = λ is. r.counts.wrote refl;
+    writes = λ other. absurd (other refl);
+    link_fault = λ is. absurd cc;
+    sends = λ is. absurd cc;
+    calm = λ other. r.counts.calm (λ x. absurd cc);
+    writes_rise = r.counts.faults_rise;
+    sends_rise = r.counts.failures_rise;
+  }))
+
+  ends_link : RanTo (Err stop.Link) profile seed turns before mid → Served status.LinkFault profile seed turns before mid
+  ends_link (inl h) = inl (record { hindered = h.hindered; boards = h.boards; clock = h.clock })
+  ends_link (inr r) = inr (began (Some stop.Link) status.LinkFault profile seed turns before mid mid.written mid.faults r.text r r.put (refl, r.wrote) (record {
+    write_fault = λ is. absurd cc;
+    writes = λ other. r.counts.faults (λ x. absurd cc);
+    link_fault = λ is. r.counts.sent refl;
+    sends = λ is. absurd cc;
+    calm = λ other. r.counts.calm (λ x. absurd cc);
+    writes_rise = r.counts.faults_rise;
+    sends_rise = r.counts.failures_rise;
+  }))
+
+  ends_flash : RanTo (Err stop.Flash) profile seed turns before mid → Served status.FlashFault profile seed turns before mid
+  ends_flash (inl h) = absurd h.hindered
+  ends_flash (inr r) = inr (began (Some stop.Flash) status.FlashFault profile seed turns before mid mid.written mid.faults r.text r r.put (refl, r.wrote) (record {
+    write_fault = λ is. absurd cc;
+    writes = λ other. r.counts.faults (λ x. absurd cc);
+    link_fault = λ is. absurd cc;
+    sends = λ is. absurd cc;
+    calm = λ other. absurd (other refl);
+    writes_rise = r.counts.faults_rise;
+    sends_rise = r.counts.failures_rise;
+  }))
+
+  -- the last line was written, or was not
+  last_written : (line whole text : List ℕ) → text ≡ whole → text ++ line ≡ whole ++ line
+  last_written line whole text e = ap (λ l. l ++ line) e
+
+  last_partly : (line whole text : List ℕ) (n : ℕ) → text ≡ whole → text ++ take n line ≡ take (length whole + n) (whole ++ line)
+  last_partly line whole text n e = ap (λ l. l ++ take n line) e ∙ sym (take-append-add whole line n)
+
+  calm_told : (why : Stop) (answer : Status) (v : Option (List ℕ)) (g : ℕ) → Ran (Some why) profile seed turns before mid → why ≢ stop.Write → why ≢ stop.Link → why ≢ stop.Flash → answer ≢ status.WriteFault → answer ≢ status.LinkFault → answer ≢ status.Done → g ≡ mid.faults → Causes answer before (told_after mid v g)
+  calm_told why answer v g r writes sends stops a b c same = record {
+    write_fault = λ is. absurd (a is);
+    writes = λ other. same ∙ r.counts.faults (λ x. writes (same_Some why stop.Write x));
+    link_fault = λ is. absurd (b is);
+    sends = λ is. absurd (c is);
+    calm = λ other. r.counts.calm (λ x. stops (same_Some why stop.Flash x));
+    writes_rise = omega (arith, same, r.counts.faults_rise);
+    sends_rise = r.counts.failures_rise;
+  }
+
+  failed_told : (why : Stop) (v : Option (List ℕ)) (g : ℕ) → Ran (Some why) profile seed turns before mid → why ≢ stop.Write → why ≢ stop.Flash → Rose mid.faults g → mid.faults ≤ g → Causes status.WriteFault before (told_after mid v g)
+  failed_told why v g r writes stops rose rise = record {
+    write_fault = λ is. subst (λ n. Rose n g) (r.counts.faults (λ x. writes (same_Some why stop.Write x))) rose;
+    writes = λ other. absurd (other refl);
+    link_fault = λ is. absurd cc;
+    sends = λ is. absurd cc;
+    calm = λ other. r.counts.calm (λ x. stops (same_Some why stop.Flash x));
+    writes_rise = omega (arith, rise, r.counts.faults_rise);
+    sends_rise = r.counts.failures_rise;
+  }
+
+  ends_no_volume : (answer : Status) (v : Option (List ℕ)) (g : ℕ) → Ran (Some stop.NotAVolume) profile seed turns before mid → Tells answer status.NotAVolume (last_line status.NotAVolume 0 0) mid.written v mid.faults g → Began answer profile seed turns before (told_after mid v g)
+  ends_no_volume answer v g r (inl t) =
+      subst (λ (a : Status). Began a profile seed turns before (told_after mid v g)) (sym t.0)
+      (began (Some stop.NotAVolume) status.NotAVolume profile seed turns before mid v g (r.text ++ last_line status.NotAVolume 0 0) r (Puts-join before.written mid.written v r.text (last_line status.NotAVolume 0 0) r.put t.1)
+      (inl (refl, last_written (last_line status.NotAVolume 0 0) (trace profile r.events) r.text r.wrote))
+      (calm_told stop.NotAVolume status.NotAVolume v g r (λ x. absurd cc) (λ x. absurd cc) (λ x. absurd cc) (λ x. absurd cc) (λ x. absurd cc) (λ x. absurd cc) t.2))
+  ends_no_volume answer v g r (inr t) =
+      subst (λ (a : Status). Began a profile seed turns before (told_after mid v g)) (sym t.0)
+      (began (Some stop.NotAVolume) status.WriteFault profile seed turns before mid v g (r.text ++ take t.1.0 (last_line status.NotAVolume 0 0)) r (Puts-join before.written mid.written v r.text (take t.1.0 (last_line status.NotAVolume 0 0)) r.put t.1.1)
+      (inr (refl, (length (trace profile r.events) + t.1.0, last_partly (last_line status.NotAVolume 0 0) (trace profile r.events) r.text t.1.0 r.wrote)))
+      (failed_told stop.NotAVolume v g r (λ x. absurd cc) (λ x. absurd cc) t.2 t.3))
+
+  ends_no_image : (answer : Status) (v : Option (List ℕ)) (g : ℕ) → Ran (Some stop.NoImage) profile seed turns before mid → Tells answer status.NoImage (last_line status.NoImage 0 0) mid.written v mid.faults g → Began answer profile seed turns before (told_after mid v g)
+  ends_no_image answer v g r (inl t) =
+      subst (λ (a : Status). Began a profile seed turns before (told_after mid v g)) (sym t.0)
+      (began (Some stop.NoImage) status.NoImage profile seed turns before mid v g (r.text ++ last_line status.NoImage 0 0) r (Puts-join before.written mid.written v r.text (last_line status.NoImage 0 0) r.put t.1)
+      (inl (refl, last_written (last_line status.NoImage 0 0) (trace profile r.events) r.text r.wrote))
+      (calm_told stop.NoImage status.NoImage v g r (λ x. absurd cc) (λ x. absurd cc) (λ x. absurd cc) (λ x. absurd cc) (λ x. absurd cc) (λ x. absurd cc) t.2))
+  ends_no_image answer v g r (inr t) =
+      subst (λ (a : Status). Began a profile seed turns before (told_after mid v g)) (sym t.0)
+      (began (Some stop.NoImage) status.WriteFault profile seed turns before mid v g (r.text ++ take t.1.0 (last_line status.NoImage 0 0)) r (Puts-join before.written mid.written v r.text (take t.1.0 (last_line status.NoImage 0 0)) r.put t.1.1)
+      (inr (refl, (length (trace profile r.events) + t.1.0, last_partly (last_line status.NoImage 0 0) (trace profile r.events) r.text t.1.0 r.wrote)))
+      (failed_told stop.NoImage v g r (λ x. absurd cc) (λ x. absurd cc) t.2 t.3))
+
+  nothing_more : (answer of : Status) (v : Option (List ℕ)) (g : ℕ) → answer ≡ of → v ≡ mid.written → g ≡ mid.faults → Served of profile seed turns before mid → Served answer profile seed turns before (told_after mid v g)
+  nothing_more answer of v g is same count s =
+      let P : Status → Option (List ℕ) → ℕ → Type 0 = λ a w f. Served a profile seed turns before (told_after mid w f) in
+      subst (λ a. P a v g) (sym is) (subst (λ w. P of w g) (sym same) (subst (λ f. P of mid.written f) (sym count) s))
+
+  pub served_stop : (why : Stop) (answer : Status) (v : Option (List ℕ)) (g : ℕ) → RanTo (Err why) profile seed turns before mid → TellsStop why answer mid.written v mid.faults g → Served answer profile seed turns before (told_after mid v g)
+  served_stop stop.Memory answer v g r t = nothing_more answer status.Memory v g t.0 t.1 t.2 (ends_memory r)
+  served_stop stop.Write answer v g r t = nothing_more answer status.WriteFault v g t.0 t.1 t.2 (ends_write r)
+  served_stop stop.Link answer v g r t = nothing_more answer status.LinkFault v g t.0 t.1 t.2 (ends_link r)
+  served_stop stop.Flash answer v g r t = nothing_more answer status.FlashFault v g t.0 t.1 t.2 (ends_flash r)
+  served_stop stop.NotAVolume answer v g (inl h) t = absurd h.hindered
+  served_stop stop.NotAVolume answer v g (inr r) t = inr (ends_no_volume answer v g r t)
+  served_stop stop.NoImage answer v g (inl h) t = absurd h.hindered
+  served_stop stop.NoImage answer v g (inr r) t = inr (ends_no_image answer v g r t)
+
+pub count_of : (r : Result (Unit {0}) Stop) (profile : NetProfile) (seed turns : ℕ) (before mid : Outside) → RanTo r profile seed turns before mid → length mid.boards ≡ length before.boards
+count_of (Ok u) profile seed turns before mid ran = ran.boards.count
+count_of (Err why) profile seed turns before mid (inl h) = ap length h.boards
+count_of (Err why) profile seed turns before mid (inr ran) = ran.boards.count
+
+-- ---- too few boards
+
+pub too_few_told : (answer : Status) (profile : NetProfile) (before : Outside) (v : Option (List ℕ)) (g n : ℕ) → n ≡ length before.boards → TellsTooFew answer (last_line status.NoBoard profile.motes n) before.written v before.faults g → TooFewBoards answer profile before (told_after before v g)
+too_few_told answer profile before v g n same t = record { boards = refl; clock = refl; link = refl; failures = refl; told = told (subst (λ k. TellsTooFew answer (last_line status.NoBoard profile.motes k) before.written v before.faults g) same t) }
+  where
+    told : TellsTooFew answer (last_line status.NoBoard profile.motes (length before.boards)) before.written v before.faults g
+        → ((answer ≡ status.NoBoard) × Puts before.written v (last_line status.NoBoard profile.motes (length before.boards)) × (g ≡ before.faults))
+        ⊎ (((k : ℕ) × (answer ≡ status.WriteFault) × Puts before.written v (take k (last_line status.NoBoard profile.motes (length before.boards))) × Rose before.faults g)
+        ⊎ ((answer ≡ status.Memory) × (v ≡ before.written) × (g ≡ before.faults)))
+    told (inl (inl x)) = inl x
+    told (inl (inr x)) = inr (inl (x.1.0, x.0, x.1.1, x.2))
+    told (inr x) = inr (inr x)

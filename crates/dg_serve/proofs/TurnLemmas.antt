@@ -1,0 +1,406 @@
+-- How a part of a service ends, from the draw before its event, and from how that ended.
+use Rattle.std.proofs.Common.{◌≡◌, ◌≢◌, ◌⊎◌, ℕ, ◌+◌, ◌-◌, ◌*◌, ◌^◌, ◌<◌, ◌≤◌, List, [], ◌∷◌, ◌++◌, length, take, append-nil, refl, ap, sym, ◌∙◌, subst, ⊎_elim, inl, inr, arith}
+use Rattle.std.specs.Prelude.{slice_get, slice_index_or, Option, Some, None, Result, Ok, Err, IfSome, IsErrAnd}
+use Rattle.dg_words.specs.Counts.{Rose}
+use Rattle.dg_base.specs.Clock.{Answers, Answered}
+use Rattle.dg_base.specs.Outside.{Puts}
+use Rattle.dg_base.specs.declared.events.Event.{Event}
+use Rattle.dg_base.specs.declared.events.Event.TheVariants.{Tick, Reset, Frame}
+use Rattle.dg_link.specs.Inboxes.{Inboxes, Takes, IsEmptyAt}
+use Rattle.dg_script.specs.Fitting.{IsFrame}
+use Rattle.dg_nor.specs.Device.{Device}
+use Rattle.dg_volume.specs.Stands.{IsVolume}
+use Rattle.dg_rules.specs.World.{World, Running, site, store_at}
+use Rattle.dg_rules.specs.Events.{Deed, Does, Refuses, Goes, does, hear_by, mote_of, dt_of}
+use Rattle.dg_mote.specs.Effects.{frame_effect}
+use Rattle.dg_volume.specs.Store.{Store}
+use Rattle.dg_mote.specs.Timely.{Timely}
+use Rattle.dg_mote.proofs.TimelyLemmas.{timely_later}
+use Rattle.dg_world.specs.Alone.{IsReset}
+use Rattle.dg_world.specs.Worlds.{MayRun, MoteStands}
+use Rattle.dg_world.specs.declared.world.RunningMote.{RunningMote}
+use Rattle.dg_serve.specs.Services.{Part, Begins, Looks, Ticks, Moment, Reads, Steps, Happened, PartDone}
+use Rattle.dg_serve.specs.Traces.{event_lines}
+use Rattle.dg_serve.specs.Endings.{BoardsStand, FindsNoImage, FindsNoVolume, EventEnds, EndsInNext, BoardsLeft, LinkLeft, ClockLeft, OneTaken, event_of}
+use Rattle.dg_serve.specs.Standings.{Standing, StandsFor, StandsForSome, Ready, BoardsAreUsed, BoardsAreCalm, Went, Leaves, Halted, CountsBy, GoesOn, HappensAt, DoesNotHappen, HappensPartly, HappenEnds, ReceivedAt, FailuresBy, begun_before, begun_behind}
+use Rattle.dg_serve.specs.declared.stop.Stop.{Stop}
+use Rattle.dg_serve.specs.declared.stop.Stop.TheVariants as stop
+use Rattle.dg_serve.proofs.BoardLemmas.{used_same, all_calm, got_within}
+use Rattle.dg_serve.proofs.EventLemmas.{got_some, stands_boards}
+use Rattle.dg_serve.proofs.GoLemmas.{one_part, no_part}
+use Rattle.dg_serve.proofs.PartLemmas.{Draws, drawn, reads_of, stands_drawn, happened_of}
+
+pub puts_none : (o p : Option (List ℕ)) → p ≡ o → Puts o p []
+puts_none None p e = e
+puts_none (Some w) p e = e ∙ ap Some (sym (append-nil w))
+
+-- ---- a part
+
+-- A draw stands between what was before a part, and what is before its event. The link may have given a frame before it.
+pub record DrawnTo (p m : Standing) (dt word : ℕ) : Type 0 where
+  pub draws : Draws p.service.timeline m.service.timeline dt word p.clock m.clock
+  pub boards : m.boards ≡ p.boards
+  pub motes : m.service.motes.items ≡ p.service.motes.items
+  pub written : m.written ≡ p.written
+  pub failures : m.failures ≡ p.failures
+  pub faults : m.faults ≡ p.faults
+  pub addressees : m.addressees ≡ p.addressees
+  pub reached : p.reached ≤ m.reached
+  pub known : m.service.timeline.reading ≤ m.reached
+  pub short : dt < 2 ^ 32
+
+-- the moment between the looking at the link and the draw
+abbrev pub looked : Moment → Option Inboxes → Moment
+looked s boxes = record s { inboxes = boxes }
+
+-- how an event follows from a part
+pub record IsPart (motes begun on : ℕ) (part : Part) (event : (dt word : ℕ) → Event) (bytes : List ℕ) (before taken : Option Inboxes) : Type 0 where
+  pub dt_is : (dt word : ℕ) → dt_of (event dt word) ≡ dt
+  pub before_is : (dt word : ℕ) → begun_before motes (event dt word) ≡ begun
+  pub behind_is : (dt word : ℕ) → begun_behind motes (event dt word) ≡ on
+  pub event_is : (dt word : ℕ) → event dt word ≡ event_of part dt word bytes
+  pub within : on ≤ motes
+  pub rises : begun ≤ on
+  pub done : (s t : Moment) (es : List Event) → s.inboxes ≡ before → Happened motes (looked s taken) event es t → PartDone motes part s es t
+  pub link : (taken ≡ before) ⊎ ((mote : ℕ) × Takes mote bytes before taken)
+  -- where a frame was taken, its mote had begun, and starts nothing
+  pub untaken : (dt word : ℕ) (w : World) (old new : List Device) → FindsNoVolume w (event dt word) old new ⊎ FindsNoImage w (event dt word) old new → ((m : ℕ) (a : Device) → mote_of (event dt word) ≡ m → m < begun → slice_get old m ≡ Some a → IsVolume a.image) → taken ≡ before
+  pub new_volumes : (dt word : ℕ) (boards : List Device) → ((a : Device) → IsReset (event dt word) → slice_get boards (mote_of (event dt word)) ≡ Some a → IsVolume a.image) → (m : ℕ) (a : Device) → begun ≤ m → m < on → slice_get boards m ≡ Some a → IsVolume a.image
+
+-- the link gave a frame, and nothing else changed
+stands_looked : (motes begun : ℕ) (links : List (ℕ × ℕ)) (boxes : Option Inboxes) (p : Standing) (first : List Device) (s : Moment) → StandsFor motes begun links 0 first s p → StandsFor motes begun links 0 first (looked s boxes) (record p { inboxes = boxes })
+stands_looked motes begun links boxes p first s st = record {
+  moment = st.moment;
+  reading = st.reading;
+  words = st.words;
+  clock = st.clock;
+  inboxes = refl;
+  linked = st.linked;
+  sites = st.sites;
+  count = st.count;
+  timely = st.timely;
+  on = st.on;
+  off = st.off;
+}
+
+-- the event that comes is ahead of some moment
+pub some_drawn : (motes begun : ℕ) (links : List (ℕ × ℕ)) (p m : Standing) (dt word : ℕ) → DrawnTo p m dt word → StandsForSome motes begun links p → (first : List Device) × (s : Moment) × StandsFor motes begun links dt first s m
+some_drawn motes begun links p m dt word d y =
+    let st = stands_looked motes begun links m.inboxes p y.0 y.1 y.2 in
+    (y.0, drawn (looked y.1 m.inboxes) m.service.timeline m.clock, stands_drawn motes begun links y.0 (looked y.1 m.inboxes) (record p { inboxes = m.inboxes }) m dt word st d.draws d.boards d.motes refl)
+
+-- its mote may run
+may_run : (c : List ℕ) (v : Option RunningMote) (s : Store) (o : Option Running) (moment now : ℕ) → moment ≤ now → MoteStands c v s o → IfSome o (λ r. Timely r.mote moment) → MayRun c now v
+may_run c None s o moment now later stands timely = tt
+may_run c (Some x) s None moment now later stands timely = absurd stands
+may_run c (Some x) s (Some r) moment now later stands timely = (r.mote, s, stands.1, timely_later r.mote moment now later timely)
+
+pub may_at : (motes ahead mote : ℕ) (links : List (ℕ × ℕ)) (m : Standing) → mote < motes → (first : List Device) × (s : Moment) × StandsFor motes motes links ahead first s m → (a : Device) → slice_get m.boards mote ≡ Some a → MayRun a.image m.service.timeline.moment (slice_index_or m.service.motes.items mote None)
+may_at motes ahead mote links m known y a was =
+    let st = y.2 in
+    let f = got_some y.0 mote (let n = st.count in let k = got_within m.boards mote a was in omega (arith, n, k)) in
+    let x = (st.on mote f.0 a known f.1 was).1 in
+    may_run a.image (slice_index_or m.service.motes.items mote None) (site y.1.world mote).store (site y.1.world mote).runs y.1.world.moment m.service.timeline.moment (let n = st.moment in omega (arith, n)) x.mote (st.timely mote (omega (arith, known, st.sites)))
+
+-- a mote that is off may begin
+pub may_begin : (v : Option RunningMote) (c : List ℕ) (now : ℕ) → v ≡ None → MayRun c now v
+may_begin v c now off = subst (λ o. MayRun c now o) (sym off) tt
+
+module _ (motes begun on : ℕ) (links : List (ℕ × ℕ)) (part : Part) (event : (dt word : ℕ) → Event) (bytes : List ℕ) (dt word : ℕ) (p m q : Standing) (d : DrawnTo p m dt word) (h : IsPart motes begun on part event bytes p.inboxes m.inboxes) where
+  looked_at : (first : List Device) (s : Moment) → StandsFor motes begun links 0 first s p → StandsFor motes begun links 0 first (looked s m.inboxes) (record p { inboxes = m.inboxes })
+  looked_at first s st = stands_looked motes begun links m.inboxes p first s st
+
+  stands_before : (first : List Device) (s : Moment) → StandsFor motes begun links 0 first s p → StandsFor motes (begun_before motes (event dt word)) links (dt_of (event dt word)) first (drawn (looked s m.inboxes) m.service.timeline m.clock) m
+  stands_before first s st =
+      let x = stands_drawn motes begun links first (looked s m.inboxes) (record p { inboxes = m.inboxes }) m dt word (looked_at first s st) d.draws d.boards d.motes refl in
+      let P : ℕ → ℕ → Type 0 = λ b k. StandsFor motes b links k first (drawn (looked s m.inboxes) m.service.timeline m.clock) m in
+      subst (λ b. P b (dt_of (event dt word))) (sym (h.before_is dt word)) (subst (λ k. P begun k) (sym (h.dt_is dt word)) x)
+
+  happened_at : (first : List Device) (s t : Moment) → StandsFor motes begun links 0 first s p → Steps motes (drawn (looked s m.inboxes) m.service.timeline m.clock) (event dt word) t → PartDone motes part s (event dt word ∷ []) t
+  happened_at first s t st steps =
+      h.done s t (event dt word ∷ []) (sym st.inboxes)
+      (happened_of motes (looked s m.inboxes) t m.service.timeline m.clock event dt word (reads_of (looked s m.inboxes) p.service.timeline m.service.timeline dt word p.clock m.clock st.reading st.words st.clock d.draws) steps)
+
+  ready_before : Ready motes begun p → Ready motes begun m
+  ready_before ready = record {
+    motes_are = ap length d.motes ∙ ready.motes_are;
+    boards = let n = ap length d.boards in omega (arith, n, ready.boards);
+    addressees = d.addressees ∙ ready.addressees;
+    reading = d.known;
+    off = λ k out. subst (λ xs. slice_index_or xs k None ≡ None) (sym d.motes) (ready.off k out);
+  }
+
+  -- it was done
+  pub part_went : Ready motes begun p → HappensAt motes links (event dt word) m q → q.reached ≡ m.reached → Went motes begun on links (part ∷ []) p q
+  part_went ready e reached = record {
+    events = event dt word ∷ [];
+    put = subst (λ (o : Option (List ℕ)). Puts o q.written (event_lines (event dt word ∷ []))) d.written e.put;
+    run = λ first s st.
+        let x = e.run first (drawn (looked s m.inboxes) m.service.timeline m.clock) (stands_before first s st) in
+        (x.0, one_part motes s x.0 part (event dt word ∷ []) (happened_at first s x.0 st x.1), subst (λ n. StandsFor motes n links 0 first x.0 q) (h.behind_is dt word) x.2);
+    ready = subst (λ n. Ready motes n q) (h.behind_is dt word) (e.ready (subst (λ n. Ready motes n m) (sym (h.before_is dt word)) (ready_before ready)));
+    volumes = subst (λ bs. (k : ℕ) (a : Device) → begun ≤ k → k < on → slice_get bs k ≡ Some a → IsVolume a.image) d.boards (h.new_volumes dt word m.boards e.volumes);
+    boards = subst (λ bs. BoardsAreUsed on bs q.boards) d.boards (subst (λ n. BoardsAreUsed n m.boards q.boards) (h.behind_is dt word) e.boards);
+    calm = subst (λ bs. BoardsAreCalm bs q.boards) d.boards e.calm;
+    moved = let n = ap (λ t. t.moment) e.timeline in omega (arith, n, d.draws.moment, d.short);
+    failures = e.failures ∙ d.failures;
+    faults = e.faults ∙ d.faults;
+    reached = omega (arith, reached, d.reached);
+  }
+
+  -- the event did not happen
+  next_ends : (why : Stop) (first : List Device) (s : Moment) → StandsFor motes begun links 0 first s p → EventEnds why s.world (event dt word) first q.boards → EndsInNext why s (part ∷ []) first q.boards
+  next_ends why first s st ends = record {
+    part = part;
+    rest = [];
+    is = refl;
+    bytes = bytes;
+    dt = dt;
+    word = word;
+    after = drawn s m.service.timeline m.clock;
+    reads = reads_of s p.service.timeline m.service.timeline dt word p.clock m.clock st.reading st.words st.clock d.draws;
+    ends = subst (λ x. EventEnds why s.world x first q.boards) (h.event_is dt word) ends;
+  }
+
+  clock_read : (first : List Device) (s : Moment) → StandsFor motes begun links 0 first s p → q.clock ≡ m.clock → ClockLeft s.clock q.clock
+  clock_read first s st same = inr (m.service.timeline.reading, subst (λ (o : Option Answers). Answered o q.clock m.service.timeline.reading) st.clock (subst (λ (o : Option Answers). Answered p.clock o m.service.timeline.reading) (sym same) d.draws.answered))
+
+  taken_left : (first : List Device) (s : Moment) → StandsFor motes begun links 0 first s p → q.inboxes ≡ m.inboxes → (q.inboxes ≡ s.inboxes) ⊎ OneTaken s q.inboxes
+  taken_left first s st same =
+      ⊎_elim
+      (λ none. inl (same ∙ none ∙ st.inboxes))
+      (λ one. inr (one.0, bytes, subst (λ (o : Option Inboxes). Takes one.0 bytes o q.inboxes) st.inboxes (subst (λ (o : Option Inboxes). Takes one.0 bytes p.inboxes o) (sym same) one.1)))
+      h.link
+
+  volumes_before : (first : List Device) (s : Moment) → StandsFor motes begun links 0 first s p → Ready motes begun p → (k : ℕ) (a : Device) → mote_of (event dt word) ≡ k → k < begun → slice_get first k ≡ Some a → IsVolume a.image
+  volumes_before first s st ready k a is within was =
+      let wide : k < length p.boards = let n = ready.boards in let o = h.within in let r = h.rises in omega (arith, within, n, o, r) in
+      let b = got_some p.boards k wide in
+      (st.on k a b.0 within was b.1).0
+
+  untold_halts : (why : Stop) → Ready motes begun p → DoesNotHappen why motes links (event dt word) m q → (why ≢ stop.Write) → (why ≢ stop.Link) → q.reached ≡ m.reached → q.clock ≡ m.clock
+      → ((first : List Device) (s : Moment) → StandsFor motes begun links 0 first s p → BoardsLeft why s (part ∷ []) first q.boards × LinkLeft why motes s q.inboxes) → Halted why motes begun links (part ∷ []) p q
+  untold_halts why ready e writes sends reached clock left = record {
+    events = [];
+    done = [];
+    left = part ∷ [];
+    all = refl;
+    text = [];
+    put = puts_none p.written q.written (e.untold ∙ d.written);
+    front = (0, refl);
+    whole = λ other. refl;
+    run = λ first s st. (s, no_part motes s, record { boards = (left first s st).0; link = (left first s st).1; clock = clock_read first s st clock });
+    boards = subst (λ bs. BoardsAreUsed motes bs q.boards) d.boards e.boards;
+    calm = λ other. subst (λ bs. BoardsAreCalm bs q.boards) d.boards (e.calm other);
+    counts = record {
+      wrote = λ is. absurd (writes is);
+      faults = λ other. e.faults ∙ d.faults;
+      faults_rise = let x = e.faults ∙ d.faults in omega (arith, x);
+      sent = λ is. absurd (sends is);
+      failures = λ other. e.failures ∙ d.failures;
+      failures_rise = let x = e.failures ∙ d.failures in omega (arith, x);
+      reached = omega (arith, reached, d.reached);
+    };
+  }
+
+  -- the event happened, and its line was not written, or what it sent not handed to all
+  partly_halts : (why : Stop) → HappensPartly why motes links (event dt word) m q → q.clock ≡ m.clock → ((s : Moment) (first : List Device) → BoardsStand s.world first q.boards → BoardsLeft why s [] first q.boards) → Halted why motes begun links (part ∷ []) p q
+  partly_halts why e clock boards_left = record {
+    events = event dt word ∷ [];
+    done = part ∷ [];
+    left = [];
+    all = refl;
+    text = e.text;
+    put = subst (λ (o : Option (List ℕ)). Puts o q.written e.text) d.written e.put;
+    front = e.front;
+    whole = e.whole;
+    run = λ first s st.
+        let x = e.run first (drawn (looked s m.inboxes) m.service.timeline m.clock) (stands_before first s st) in
+        (x.0, one_part motes s x.0 part (event dt word ∷ []) (happened_at first s x.0 st x.1), record { boards = boards_left x.0 first x.2; link = x.3; clock = inl (clock ∙ sym x.1.same_clock) });
+    boards = subst (λ bs. BoardsAreUsed motes bs q.boards) d.boards e.boards;
+    calm = λ other. subst (λ bs. BoardsAreCalm bs q.boards) d.boards e.calm;
+    counts = record {
+      wrote = λ is. subst (λ n. Rose n q.faults) d.faults (e.counts.wrote is);
+      faults = λ other. e.counts.faults other ∙ d.faults;
+      faults_rise = omega (arith, d.faults, e.counts.faults_rise);
+      sent = λ is. subst (λ n. Rose n q.failures) d.failures (e.counts.sent is);
+      failures = λ other. e.counts.failures other ∙ d.failures;
+      failures_rise = omega (arith, d.failures, e.counts.failures_rise);
+      reached = omega (arith, d.reached, e.counts.reached);
+    };
+  }
+
+  -- ---- however the event ended
+
+  pub part_ends : (r : Result (Unit {0}) Stop) → Ready motes begun p → HappenEnds r motes links (event dt word) m q → q.reached ≡ m.reached → q.clock ≡ m.clock → GoesOn r motes begun on links (part ∷ []) p q
+  part_ends (Ok u) ready e reached clock = part_went ready e reached
+  part_ends (Err stop.Memory) ready e reached clock =
+      untold_halts stop.Memory ready e (λ x. absurd cc) (λ x. absurd cc) reached clock
+      (λ first s st. (e.run first (drawn (looked s m.inboxes) m.service.timeline m.clock) (stands_before first s st), taken_left first s st e.link))
+  part_ends (Err stop.Write) ready e reached clock = partly_halts stop.Write e clock (λ s first x. x)
+  part_ends (Err stop.Link) ready e reached clock = partly_halts stop.Link e clock (λ s first x. x)
+  part_ends (Err stop.Flash) ready e reached clock =
+      untold_halts stop.Flash ready e (λ x. absurd cc) (λ x. absurd cc) reached clock
+      (λ first s st. (next_ends stop.Flash first s st (e.run first (drawn (looked s m.inboxes) m.service.timeline m.clock) (stands_before first s st)), taken_left first s st e.link))
+  part_ends (Err stop.NotAVolume) ready e reached clock =
+      untold_halts stop.NotAVolume ready e (λ x. absurd cc) (λ x. absurd cc) reached clock
+      (λ first s st.
+      let x = e.run first (drawn (looked s m.inboxes) m.service.timeline m.clock) (stands_before first s st) in
+      (next_ends stop.NotAVolume first s st x, e.link ∙ h.untaken dt word s.world first q.boards (inl x) (volumes_before first s st ready) ∙ st.inboxes))
+  part_ends (Err stop.NoImage) ready e reached clock =
+      untold_halts stop.NoImage ready e (λ x. absurd cc) (λ x. absurd cc) reached clock
+      (λ first s st.
+      let x = e.run first (drawn (looked s m.inboxes) m.service.timeline m.clock) (stands_before first s st) in
+      (next_ends stop.NoImage first s st x, e.link ∙ h.untaken dt word s.world first q.boards (inr x) (volumes_before first s st ready) ∙ st.inboxes))
+
+-- ---- the parts
+
+pub begins_part : (motes mote : ℕ) (boxes : Option Inboxes) → mote < motes → IsPart motes mote (mote + 1) (Begins mote) (λ dt word. Reset mote dt word) [] boxes boxes
+begins_part motes mote boxes known = record {
+  dt_is = λ dt word. refl;
+  before_is = λ dt word. refl;
+  behind_is = λ dt word. refl;
+  event_is = λ dt word. refl;
+  within = omega arith;
+  rises = omega arith;
+  done = λ s t es same x. subst (λ (o : Option Inboxes). Happened motes (looked s o) (λ dt word. Reset mote dt word) es t) (sym same) x;
+  link = inl refl;
+  untaken = λ dt word w old new ends volumes. refl;
+  new_volumes = λ dt word boards told m a low high was.
+      let same : m ≡ mote = omega arith in
+      told a tt (ap (slice_get boards) (sym same) ∙ was);
+}
+
+pub ticks_part : (motes mote : ℕ) (boxes : Option Inboxes) → IsPart motes motes motes (Ticks mote) (λ dt word. Tick mote dt word) [] boxes boxes
+ticks_part motes mote boxes = record {
+  dt_is = λ dt word. refl;
+  before_is = λ dt word. refl;
+  behind_is = λ dt word. refl;
+  event_is = λ dt word. refl;
+  within = omega arith;
+  rises = omega arith;
+  done = λ s t es same x. subst (λ (o : Option Inboxes). Happened motes (looked s o) (λ dt word. Tick mote dt word) es t) (sym same) x;
+  link = inl refl;
+  untaken = λ dt word w old new ends volumes. refl;
+  new_volumes = λ dt word boards told m a low high was. absurd (omega (arith, low, high));
+}
+
+-- a frame that is heard leaves its mote on
+runs_in : Does → Option (Option Running)
+runs_in (Refuses why) = Some None
+runs_in (Goes deed) = deed.runs
+
+some_left : (o : Option (Option Running)) (x : Option Running) → Some x ≡ o → o ≡ None → ⊥
+some_left o x is none = absurd cc
+
+heard_runs : (w : World) (m dt word : ℕ) (bytes : List ℕ) (deed : Deed) (o : Option Running) → hear_by w (store_at w m) o (w.moment + dt) word bytes ≡ Goes deed → deed.runs ≡ None → ⊥
+unfolding frame_effect runs_in
+heard_runs w m dt word bytes deed None e none = absurd cc
+heard_runs w m dt word bytes deed (Some r) e none = some_left deed.runs _ (ap runs_in e) none
+
+frame_runs : (w : World) (m dt word : ℕ) (bytes : List ℕ) (deed : Deed) → does w (Frame m dt word bytes) ≡ Goes deed → deed.runs ≡ None → ⊥
+unfolding does
+frame_runs w m dt word bytes deed e none = heard_runs w m dt word bytes deed (site w m).runs e none
+
+pub looks_part : (motes mote : ℕ) (bytes : List ℕ) (before taken : Option Inboxes) → mote < motes → Takes mote bytes before taken → IsPart motes motes motes (Looks mote) (λ dt word. Frame mote dt word bytes) bytes before taken
+looks_part motes mote bytes before taken known takes = record {
+  dt_is = λ dt word. refl;
+  before_is = λ dt word. refl;
+  behind_is = λ dt word. refl;
+  event_is = λ dt word. refl;
+  within = omega arith;
+  rises = omega arith;
+  done = λ s t es same x. inr (record { bytes = bytes; taken = taken; takes = subst (λ (o : Option Inboxes). Takes mote bytes o taken) (sym same) takes; heard = x });
+  link = inr (mote, takes);
+  untaken = λ dt word w old new ends volumes.
+      ⊎_elim
+      (λ no_volume. let v = volumes mote no_volume.board refl known no_volume.was in absurd (no_volume.no_volume v.0 v.1))
+      (λ no_image. absurd (frame_runs w mote dt word bytes no_image.ends.deed no_image.ends.goes no_image.ends.none))
+      ends;
+  new_volumes = λ dt word boards told m a low high was. absurd (omega (arith, low, high));
+}
+
+-- ---- a look that found none
+
+none_came_at : (motes mote : ℕ) (links : List (ℕ × ℕ)) (p q : Standing) → Ready motes motes p → IsEmptyAt mote p.inboxes → q ≡ p → Went motes motes motes links (Looks mote ∷ []) p q
+none_came_at motes mote links p q ready none same = subst (λ x. Went motes motes motes links (Looks mote ∷ []) p x) (sym same) (record {
+  events = [];
+  put = puts_none p.written p.written refl;
+  run = λ first s st. (
+    s,
+    one_part motes s s (Looks mote) [] (inl (record { none = subst (IsEmptyAt mote) st.inboxes none; nothing = refl; same = refl })),
+    st,
+  );
+  ready = ready;
+  volumes = λ m a low high was. absurd (omega (arith, low, high));
+  boards = used_same motes p.boards;
+  calm = all_calm p.boards;
+  moved = omega arith;
+  failures = refl;
+  faults = refl;
+  reached = omega arith;
+})
+
+same_standing : (p : Standing) (i : Option Inboxes) (a n : ℕ) → i ≡ p.inboxes → a ≡ p.addressees → n ≡ p.failures → record p { inboxes = i; addressees = a; failures = n } ≡ p
+same_standing p i a n e f h =
+    ap (λ (x : Option Inboxes). record p { inboxes = x; addressees = a; failures = n }) e ∙ ap (λ (x : ℕ). record p { addressees = x; failures = n }) f ∙ ap (λ (x : ℕ). record p { failures = x }) h
+
+pub none_came : (motes mote : ℕ) (links : List (ℕ × ℕ)) (p : Standing) (i : Option Inboxes) (a n : ℕ) → i ≡ p.inboxes → a ≡ p.addressees → n ≡ p.failures → Ready motes motes p → IsEmptyAt mote p.inboxes → Went motes motes motes links (Looks mote ∷ []) p (record p { inboxes = i; addressees = a; failures = n })
+none_came motes mote links p i a n e f h ready none = none_came_at motes mote links p (record p { inboxes = i; addressees = a; failures = n }) ready none (same_standing p i a n e f h)
+
+-- ---- a look that failed
+
+module _ (motes mote : ℕ) (links : List (ℕ × ℕ)) (p q : Standing) (boards : q.boards ≡ p.boards) (written : q.written ≡ p.written) (faults : q.faults ≡ p.faults) (clock : q.clock ≡ p.clock) (reached : q.reached ≡ p.reached) where
+  unlooked : (why : Stop) → why ≢ stop.Write → ((first : List Device) (s : Moment) → BoardsStand s.world first q.boards → BoardsLeft why s (Looks mote ∷ []) first q.boards) → ((s : Moment) → p.inboxes ≡ s.inboxes → LinkLeft why motes s q.inboxes)
+      → (why ≡ stop.Link → Rose p.failures q.failures) → (why ≢ stop.Link → q.failures ≡ p.failures) → p.failures ≤ q.failures → Halted why motes motes links (Looks mote ∷ []) p q
+  unlooked why writes boards_left link_left sent failures rise = record {
+    events = [];
+    done = [];
+    left = Looks mote ∷ [];
+    all = refl;
+    text = [];
+    put = puts_none p.written q.written written;
+    front = (0, refl);
+    whole = λ other. refl;
+    run = λ first s st. (
+      s,
+      no_part motes s,
+      record {
+        boards = boards_left first s (subst (λ bs. BoardsStand s.world first bs) (sym boards) (stands_boards motes motes 0 links first s p st));
+        link = link_left s st.inboxes;
+        clock = inl (clock ∙ st.clock);
+      },
+    );
+    boards = subst (λ bs. BoardsAreUsed motes p.boards bs) (sym boards) (used_same motes p.boards);
+    calm = λ other. subst (λ bs. BoardsAreCalm p.boards bs) (sym boards) (all_calm p.boards);
+    counts = record {
+      wrote = λ is. absurd (writes is);
+      faults = λ other. faults;
+      faults_rise = omega (arith, faults);
+      sent = sent;
+      failures = failures;
+      failures_rise = rise;
+      reached = omega (arith, reached);
+    };
+  }
+
+  pub look_fails : (why : Stop) → ReceivedAt (Err why) mote p.inboxes q.inboxes → FailuresBy {T = Option (List ℕ)} (Err why) p.failures q.failures → Halted why motes motes links (Looks mote ∷ []) p q
+  look_fails stop.Memory received counts =
+      unlooked stop.Memory (λ x. absurd cc) (λ first s x. x) (λ s same. inr (mote, received.0, subst (λ (o : Option Inboxes). Takes mote received.0 o q.inboxes) same received.1)) (λ x. absurd cc) (λ other. counts) (omega (arith, counts))
+  look_fails stop.Link received counts =
+      unlooked stop.Link (λ x. absurd cc) (λ first s x. x) (λ s same. inl (received ∙ same)) (λ x. counts.0) (λ other. absurd (other refl)) counts.1
+  look_fails stop.Write received counts = absurd counts
+  look_fails stop.Flash received counts = absurd counts
+  look_fails stop.NotAVolume received counts = absurd counts
+  look_fails stop.NoImage received counts = absurd counts
+
+pub look_exit : (motes mote : ℕ) (links : List (ℕ × ℕ)) (p q : Standing) (r : Result (Unit {0}) Stop) (why : Stop) → IsErrAnd r (λ e. e ≡ why) → Halted why motes motes links (Looks mote ∷ []) p q → GoesOn r motes motes motes links (Looks mote ∷ []) p q
+look_exit motes mote links p q (Ok u) why is h = absurd is
+look_exit motes mote links p q (Err e) why is h = subst (λ (w : Stop). Halted w motes motes links (Looks mote ∷ []) p q) (sym is) h
+
+-- what came, if anything did
+pub came_is : (o : Option (List ℕ)) (bytes : List ℕ) (mote : ℕ) (before after : Option Inboxes) → o ≡ Some bytes → ReceivedAt (Ok o) mote before after → Takes mote bytes before after × IsFrame bytes
+came_is o bytes mote before after is came = subst (λ (x : Option (List ℕ)). ReceivedAt (Ok x) mote before after) is came
+
+pub none_is : (o : Option (List ℕ)) (mote : ℕ) (before after : Option Inboxes) → o ≡ None → ReceivedAt (Ok o) mote before after → IsEmptyAt mote before × (after ≡ before)
+none_is o mote before after is came = subst (λ (x : Option (List ℕ)). ReceivedAt (Ok x) mote before after) is came

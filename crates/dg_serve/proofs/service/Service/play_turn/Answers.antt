@@ -1,0 +1,39 @@
+use Rattle.std.proofs.Common.{◌≡◌, ◌∷◌, [], ◌+◌, length, map, refl, sym, ap, subst, ◌∙◌, arith}
+use Rattle.dg_serve.specs.Each.{each}
+use Rattle.dg_serve.specs.Services.{Begins, Looks, Ticks, beginning, turn_of_all}
+use Rattle.dg_serve.specs.Standings.{Standing, Went}
+use Rattle.dg_serve.proofs.GoLemmas.{went_then, went_halts, halts_more}
+use Rattle.dg_serve.proofs.LoopLemmas.{halts_exit, went_some, loop_begins, loop_next, loop_halts, loop_moved, few_in_turn, loop_ends, loop_begun}
+use Rattle.dg_serve.proofs.service.Service.play_turn.Goals as goal
+
+pub loop-mote-init : goal.loop-mote-init
+loop-mote-init g c = loop_begins c.args.profile.now.motes c.args.profile.now.motes c.args.profile.now.links (λ mote. Looks mote ∷ Ticks mote ∷ []) _ c.requires.ready
+
+pub take_part-requires-clause-allowed : goal.take_part-requires-clause-allowed
+take_part-requires-clause-allowed g c = c.requires.allowed
+
+pub take_part-requires-clause-known : goal.take_part-requires-clause-known
+take_part-requires-clause-known g c = omega arith
+
+pub take_part-requires-clause-ready : goal.take_part-requires-clause-ready
+take_part-requires-clause-ready g c = c.loop-mote.invariant.ready
+
+pub take_part-requires-clause-early : goal.take_part-requires-clause-early
+take_part-requires-clause-early g c =
+    let moved = loop_moved c.args.profile.now.motes c.args.profile.now.motes c.args.profile.now.motes c.args.profile.now.links c.loop-mote.mote 2 (λ mote. Looks mote ∷ Ticks mote ∷ []) _ _ (λ k. omega arith) c.loop-mote.invariant in
+    let most = c.requires.allowed.motes.1 in
+    omega (arith, moved, most, c.requires.early)
+
+pub take_part-requires-clause-some : goal.take_part-requires-clause-some
+take_part-requires-clause-some g c = went_some c.args.profile.now.motes c.args.profile.now.links (each c.loop-mote.mote (λ mote. Looks mote ∷ Ticks mote ∷ [])) _ _ c.loop-mote.invariant c.requires.some
+
+pub returns-in_err-take_part : goal.returns-in_err-take_part
+returns-in_err-take_part g c = record {
+  goes = loop_halts c.from_residual.result c.in_err-take_part.field-0.0 c.args.profile.now.motes c.args.profile.now.motes c.args.profile.now.motes c.args.profile.now.motes c.args.profile.now.links c.loop-mote.mote c.args.profile.now.motes (λ mote. Looks mote ∷ Ticks mote ∷ []) _ _ _ (omega arith) (omega arith) c.from_residual.ensures.1 c.loop-mote.invariant c.in_err-take_part.ensures.goes;
+}
+
+pub loop-mote-preserved : goal.loop-mote-preserved
+loop-mote-preserved g c = loop_next c.args.profile.now.motes c.args.profile.now.motes c.args.profile.now.motes c.args.profile.now.motes c.args.profile.now.links c.loop-mote.mote (λ mote. Looks mote ∷ Ticks mote ∷ []) _ _ _ (omega arith) c.loop-mote.invariant c.in_ok-take_part.ensures.goes
+
+pub returns : goal.returns
+returns g c = record { goes = loop_ends c.args.profile.now.motes c.args.profile.now.motes c.args.profile.now.motes c.args.profile.now.links c.loop-mote.mote c.args.profile.now.motes (λ mote. Looks mote ∷ Ticks mote ∷ []) _ _ (omega arith) c.loop-mote.invariant }

@@ -1,0 +1,142 @@
+-- How a service leaves its boards, its link and its clock, where it ends.
+use Rattle.std.specs.Prelude.{◌≡◌, ◌⊎◌, ℕ, ◌<◌, ◌≤◌, true, List, [], ◌∷◌, length, take, slice_get, slice_index_or, Option, Some, None, option_map}
+use Rattle.dg_words.specs.Counts.{Rose}
+use Rattle.dg_base.specs.Clock.{Answers, Answered}
+use Rattle.dg_base.specs.declared.events.Event.{Event}
+use Rattle.dg_base.specs.declared.events.Event.TheVariants.{Tick, Reset, Frame}
+use Rattle.dg_link.specs.Inboxes.{Inboxes, Takes}
+use Rattle.dg_nor.specs.Device.{Device, Endures}
+use Rattle.dg_nor.specs.Fuse.{beneath_of}
+use Rattle.dg_nor.specs.Trail.{operations, MayLeave}
+use Rattle.dg_object.specs.Object.{Row}
+use Rattle.dg_volume.specs.Store.{Store, IsNear}
+use Rattle.dg_volume.specs.Stands.{Stands, IsVolume, IsNoVolume}
+use Rattle.dg_rules.specs.World.{World, Sent, first_world, store_at, no_site}
+use Rattle.dg_rules.specs.Events.{does, mote_of, trail_of}
+use Rattle.dg_rules.specs.Steps.{EndsRun}
+use Rattle.dg_world.specs.Alone.{uncut}
+use Rattle.dg_serve.specs.Services.{Part, Begins, Looks, Ticks, Moment, Reads, handed, handed_to, neighbours, words_of_seed}
+use Rattle.dg_serve.specs.declared.stop.Stop.{Stop}
+use Rattle.dg_serve.specs.declared.stop.Stop.TheVariants.{Memory, Write, Link, Flash, NotAVolume, NoImage}
+
+-- ---- where a service begins
+
+-- What the boards stand for, one for each mote. A board that is no volume stands for any store.
+pub record StoresOf (motes : ℕ) (boards : List Device) (stores : List Store) : Type 0 where
+  pub count : length stores ≡ motes
+  pub stands : (m : ℕ) (d : Device) → m < motes → slice_get boards m ≡ Some d → Stands d.image (slice_index_or stores m no_site.store) ⊎ IsNoVolume d.image
+
+-- from these stores, at this first answer of the clock
+abbrev pub begins : List Row → List (ℕ × ℕ) → List Store → (origin : ℕ) → Option Answers → (seed : ℕ) → Option Inboxes → Moment
+begins table links stores origin clock seed inboxes = record {
+  world = first_world table links stores;
+  reading = origin;
+  clock = clock;
+  words = words_of_seed seed;
+  inboxes = inboxes;
+}
+
+-- ---- boards
+
+-- A board stands for its store in the world. One that was no volume has its bytes as before.
+abbrev pub BoardStands : World → ℕ → (old new : Device) → Type 0
+BoardStands w m a b = (IsVolume a.image → Stands b.image (store_at w m)) × (IsNoVolume a.image → b.image ≡ a.image)
+
+-- So does each but perhaps one.
+abbrev pub BoardsStandBut : (ℕ → Type 0) → World → (old new : List Device) → Type 0
+BoardsStandBut P w old new = (m : ℕ) (a b : Device) → m < length w.sites → (P m → ⊥) → slice_get old m ≡ Some a → slice_get new m ≡ Some b → BoardStands w m a b
+
+-- So do all.
+abbrev pub BoardsStand : World → (old new : List Device) → Type 0
+BoardsStand w old new = BoardsStandBut (λ m. ⊥) w old new
+
+-- A board stopped in an event, and stands for a store that its trail leaves where so many operations were done. One that is no
+-- volume has its bytes as before.
+pub record StopsIn (w : World) (event : Event) (old new : List Device) : Type 0 where
+  pub before : Device
+  pub after : Device
+  pub was : slice_get old (mote_of event) ≡ Some before
+  pub is : slice_get new (mote_of event) ≡ Some after
+  pub stopped : after.stopped ≡ true
+  pub leaves : IsVolume before.image → (made : ℕ) × (made ≤ operations (trail_of (does w event) (store_at w (mote_of event))))
+      × MayLeave Stands IsNear (trail_of (does w event) (store_at w (mote_of event))) made after.image
+  pub same : IsNoVolume before.image → after.image ≡ before.image
+  pub others : BoardsStandBut (λ m. m ≡ mote_of event) w old new
+
+-- A mote was to begin whose board is no volume.
+pub record FindsNoVolume (w : World) (event : Event) (old new : List Device) : Type 0 where
+  pub board : Device
+  pub was : slice_get old (mote_of event) ≡ Some board
+  pub no_volume : IsNoVolume board.image
+  pub boards : BoardsStand w old new
+
+-- A start found no image: the board has the last store of the start's trail.
+pub record FindsNoImage (w : World) (event : Event) (old new : List Device) : Type 0 where
+  pub world : World
+  pub ends : EndsRun w (uncut event) world
+  pub boards : BoardsStand world old new
+
+-- how an event leaves the boards that did not happen
+abbrev pub EventEnds : Stop → World → Event → (old new : List Device) → Type 0
+EventEnds Memory w event old new = BoardsStand w old new
+EventEnds Write w event old new = ⊥
+EventEnds Link w event old new = ⊥
+EventEnds Flash w event old new = StopsIn w event old new
+EventEnds NotAVolume w event old new = FindsNoVolume w event old new
+EventEnds NoImage w event old new = FindsNoImage w event old new
+
+-- the event of a part at these numbers, where a frame of these bytes came
+abbrev pub event_of : Part → (dt word : ℕ) → List ℕ → Event
+event_of (Begins m) dt word bytes = Reset m dt word
+event_of (Looks m) dt word bytes = Frame m dt word bytes
+event_of (Ticks m) dt word bytes = Tick m dt word
+
+-- The event in which the service ended did not happen. It is that of the next part, the clock was read and a word was drawn for it.
+pub record EndsInNext (stop : Stop) (s : Moment) (left : List Part) (old new : List Device) : Type 0 where
+  pub part : Part
+  pub rest : List Part
+  pub is : left ≡ part ∷ rest
+  pub bytes : List ℕ
+  pub dt : ℕ
+  pub word : ℕ
+  pub after : Moment
+  pub reads : Reads s dt word after
+  pub ends : EventEnds stop s.world (event_of part dt word bytes) old new
+
+-- how the boards are left
+abbrev pub BoardsLeft : Stop → Moment → List Part → (old new : List Device) → Type 0
+BoardsLeft Memory s left old new = BoardsStand s.world old new
+BoardsLeft Write s left old new = BoardsStand s.world old new
+BoardsLeft Link s left old new = BoardsStand s.world old new
+BoardsLeft Flash s left old new = EndsInNext Flash s left old new
+BoardsLeft NotAVolume s left old new = EndsInNext NotAVolume s left old new
+BoardsLeft NoImage s left old new = EndsInNext NoImage s left old new
+
+-- ---- the link
+
+-- The last event's frame was handed to the first k neighbours alone.
+pub record PartlyHanded (motes : ℕ) (s : Moment) (after : Option Inboxes) : Type 0 where
+  pub before : Option Inboxes
+  pub frame : Sent
+  pub k : ℕ
+  pub all : s.inboxes ≡ option_map (handed s.world motes (frame ∷ [])) before
+  pub some : after ≡ option_map (handed_to (take k (neighbours s.world motes frame.by)) frame.bytes) before
+
+-- A frame was taken for an event that did not happen.
+abbrev pub OneTaken : Moment → Option Inboxes → Type 0
+OneTaken s after = (mote : ℕ) × (bytes : List ℕ) × Takes mote bytes s.inboxes after
+
+-- how the link is left
+abbrev pub LinkLeft : Stop → (motes : ℕ) → Moment → Option Inboxes → Type 0
+LinkLeft Memory motes s after = (after ≡ s.inboxes) ⊎ OneTaken s after
+LinkLeft Write motes s after = (after ≡ s.inboxes) ⊎ PartlyHanded motes s after
+LinkLeft Link motes s after = (after ≡ s.inboxes) ⊎ PartlyHanded motes s after
+LinkLeft Flash motes s after = (after ≡ s.inboxes) ⊎ OneTaken s after
+LinkLeft NotAVolume motes s after = after ≡ s.inboxes
+LinkLeft NoImage motes s after = after ≡ s.inboxes
+
+-- ---- the clock
+
+-- It was read for the events that happened, and perhaps for one that did not.
+abbrev pub ClockLeft : Option Answers → Option Answers → Type 0
+ClockLeft told after = (after ≡ told) ⊎ ((answer : ℕ) × Answered told after answer)

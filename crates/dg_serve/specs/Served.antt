@@ -1,0 +1,118 @@
+-- What a service did: the events that happened, what it wrote, and how it left the boards, the link and the clock.
+use Rattle.std.specs.Prelude.{◌≡◌, ◌≢◌, ◌⊎◌, ℕ, ◌<◌, ◌≤◌, List, [], ◌++◌, length, take, slice_get, Option, Some, None, option_map}
+use Rattle.dg_words.specs.Counts.{Rose}
+use Rattle.dg_base.specs.Clock.{Answers, Answered}
+use Rattle.dg_base.specs.Outside.{Puts}
+use Rattle.dg_base.specs.declared.answers.Status.{Status}
+use Rattle.dg_base.specs.declared.answers.Status.TheVariants as status
+use Rattle.dg_base.specs.declared.events.Event.{Event}
+use Rattle.dg_link.specs.Inboxes.{Inboxes, emptied}
+use Rattle.dg_netcfg.specs.declared.profile.NetProfile.{NetProfile}
+use Rattle.dg_nor.specs.Device.{Device, Endures}
+use Rattle.dg_nor.specs.Fuse.{beneath_of}
+use Rattle.dg_object.specs.Object.{Row}
+use Rattle.dg_volume.specs.Store.{Store}
+use Rattle.dg_serve.specs.Services.{Part, Moment, Serves, plan}
+use Rattle.dg_serve.specs.Endings.{StoresOf, begins, BoardsStand, BoardsLeft, LinkLeft, ClockLeft}
+use Rattle.dg_serve.specs.Traces.{trace, written, head_lines, last_line}
+use Rattle.dg_serve.specs.declared.stop.Stop.{Stop}
+use Rattle.dg_serve.specs.declared.stop.Stop.TheVariants as stop
+
+-- What is outside of a service, before it or behind it: the bytes that were written and the count of the sink, the answers of
+-- the clock, the inboxes and the count of the link, and the boards.
+pub record Outside : Type 0 where
+  pub written : Option (List ℕ)
+  pub faults : ℕ
+  pub clock : Option Answers
+  pub inboxes : Option Inboxes
+  pub failures : ℕ
+  pub boards : List Device
+
+-- how the boards, the link and the clock are left, by why the service ended before its turns were over, if it did
+abbrev pub LeftBy : Option Stop → (motes : ℕ) → Moment → List Part → List Device → Outside → Type 0
+LeftBy None motes s left first after = BoardsStand s.world first after.boards × (after.inboxes ≡ s.inboxes) × (after.clock ≡ s.clock)
+LeftBy (Some why) motes s left first after = BoardsLeft why s left first after.boards × LinkLeft why motes s after.inboxes × ClockLeft s.clock after.clock
+
+-- From this moment on the service came as far as this.
+pub record Came (why : Option Stop) (motes : ℕ) (s : Moment) (done : List Part) (events : List Event) (left : List Part) (first : List Device) (after : Outside) : Type 0 where
+  pub last : Moment
+  pub serves : Serves motes s done events last
+  pub ends : LeftBy why motes last left first after
+
+-- the bytes are the trace and the last line of the status. Only where they could not be written they are some front of these.
+abbrev pub WroteLast : Status → Status → (whole line text : List ℕ) → Type 0
+WroteLast answer of whole line text = ((answer ≡ of) × (text ≡ whole ++ line)) ⊎ ((answer ≡ status.WriteFault) × ((n : ℕ) × (text ≡ take n (whole ++ line))))
+
+abbrev pub Wrote : Option Stop → Status → (motes boards : ℕ) → (whole text : List ℕ) → Type 0
+Wrote None answer motes boards whole text = (answer ≡ status.Done) × (text ≡ whole)
+Wrote (Some stop.Memory) answer motes boards whole text = (answer ≡ status.Memory) × (text ≡ whole)
+Wrote (Some stop.Write) answer motes boards whole text = (answer ≡ status.WriteFault) × ((n : ℕ) × (text ≡ take n whole))
+Wrote (Some stop.Link) answer motes boards whole text = (answer ≡ status.LinkFault) × (text ≡ whole)
+Wrote (Some stop.Flash) answer motes boards whole text = (answer ≡ status.FlashFault) × (text ≡ whole)
+Wrote (Some stop.NotAVolume) answer motes boards whole text = WroteLast answer status.NotAVolume whole (last_line status.NotAVolume motes boards) text
+Wrote (Some stop.NoImage) answer motes boards whole text = WroteLast answer status.NoImage whole (last_line status.NoImage motes boards) text
+
+-- No board but those of the motes was used. No count fell, and a board is stopped only where it was, or where its count rose.
+pub record BoardsEndure (motes : ℕ) (old new : List Device) : Type 0 where
+  pub count : length new ≡ length old
+  pub others : (m : ℕ) → motes ≤ m → slice_get new m ≡ slice_get old m
+  pub endures : (m : ℕ) (a b : Device) → slice_get old m ≡ Some a → slice_get new m ≡ Some b → Endures (beneath_of a) (beneath_of b)
+
+-- A fault of the outside is told, and with its own answer alone.
+pub record Causes (answer : Status) (before after : Outside) : Type 0 where
+  pub write_fault : answer ≡ status.WriteFault → Rose before.faults after.faults
+  pub writes : answer ≢ status.WriteFault → after.faults ≡ before.faults
+  pub link_fault : answer ≡ status.LinkFault → Rose before.failures after.failures
+  pub sends : answer ≡ status.Done → after.failures ≡ before.failures
+  pub calm : answer ≢ status.FlashFault → (m : ℕ) (a b : Device) → slice_get before.boards m ≡ Some a → slice_get after.boards m ≡ Some b → b.faults ≡ a.faults
+  pub writes_rise : before.faults ≤ after.faults
+  pub sends_rise : before.failures ≤ after.failures
+
+-- The service began: its link was opened, and its clock read.
+pub record Began (answer : Status) (profile : NetProfile) (seed turns : ℕ) (before after : Outside) : Type 0 where
+  pub origin : ℕ
+  pub clock : Option Answers
+  pub first : Answered before.clock clock origin
+  pub why : Option Stop
+  -- the events that happened, the parts that gave them, and those that are left
+  pub events : List Event
+  pub done : List Part
+  pub left : List Part
+  pub parts : done ++ left ≡ plan profile.motes turns
+  pub all : why ≡ None → left ≡ []
+  -- from whatever the boards stand for, and whatever the table of images is: the rules of a service look at none
+  pub came : (table : List Row) (stores : List Store) → StoresOf profile.motes before.boards stores
+      → Came why profile.motes (begins table profile.links stores origin clock seed (option_map (emptied profile.motes) before.inboxes)) done events left before.boards after
+  pub text : List ℕ
+  pub put : Puts before.written after.written text
+  pub wrote : Wrote why answer profile.motes (length before.boards) (trace profile events) text
+  pub boards : BoardsEndure profile.motes before.boards after.boards
+  pub causes : Causes answer before after
+
+-- why a service did not begin, where the head of its trace could not be written, or the link could not be opened
+abbrev pub Hindered : Status → NetProfile → (before after : Outside) → Type 0
+Hindered status.Memory profile before after = ((n : ℕ) × Puts before.written after.written (take n (written (head_lines profile)))) × (after.faults ≡ before.faults) × (after.failures ≡ before.failures)
+Hindered status.WriteFault profile before after = ((n : ℕ) × Puts before.written after.written (take n (written (head_lines profile)))) × Rose before.faults after.faults × (after.failures ≡ before.failures)
+    × (after.inboxes ≡ before.inboxes)
+Hindered status.LinkFault profile before after = Puts before.written after.written (written (head_lines profile)) × (after.faults ≡ before.faults) × Rose before.failures after.failures
+    × (after.inboxes ≡ option_map (emptied 0) before.inboxes)
+Hindered answer profile before after = ⊥
+
+-- The service did not begin. No board was used, and the clock was not read.
+pub record DidNotBegin (answer : Status) (profile : NetProfile) (before after : Outside) : Type 0 where
+  pub hindered : Hindered answer profile before after
+  pub boards : after.boards ≡ before.boards
+  pub clock : after.clock ≡ before.clock
+
+abbrev pub Served : Status → NetProfile → (seed turns : ℕ) → (before after : Outside) → Type 0
+Served answer profile seed turns before after = DidNotBegin answer profile before after ⊎ Began answer profile seed turns before after
+
+-- There are too few boards: nothing is done, and one line is written.
+pub record TooFewBoards (answer : Status) (profile : NetProfile) (before after : Outside) : Type 0 where
+  pub boards : after.boards ≡ before.boards
+  pub clock : after.clock ≡ before.clock
+  pub link : after.inboxes ≡ before.inboxes
+  pub failures : after.failures ≡ before.failures
+  pub told : ((answer ≡ status.NoBoard) × Puts before.written after.written (last_line status.NoBoard profile.motes (length before.boards)) × (after.faults ≡ before.faults))
+      ⊎ (((n : ℕ) × (answer ≡ status.WriteFault) × Puts before.written after.written (take n (last_line status.NoBoard profile.motes (length before.boards))) × Rose before.faults after.faults)
+      ⊎ ((answer ≡ status.Memory) × (after.written ≡ before.written) × (after.faults ≡ before.faults)))

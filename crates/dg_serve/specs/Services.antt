@@ -1,0 +1,135 @@
+-- A service by the rules: motes over a link, by a clock, with the words of a seed.
+use Rattle.std.specs.Prelude.{◌≡◌, ◌⊎◌, ℕ, ◌-◌, ◌^◌, ◌≤◌, min, if◌then◌else◌, List, [], ◌∷◌, ◌++◌, length, drop, Option, option_map}
+use Rattle.rand_core.specs.Pcg32Seed.{pcg32_seed}
+use Rattle.rand_pcg.specs.Lcg.{Lcg}
+use Rattle.rand_pcg.specs.Pcg.{pcg32, pcg32_of_seed}
+use Rattle.dg_base.specs.Clock.{Answers, Answered}
+use Rattle.dg_base.specs.declared.events.Event.{Event}
+use Rattle.dg_base.specs.declared.events.Event.TheVariants.{Tick, Reset, Frame}
+use Rattle.dg_link.specs.Inboxes.{Inboxes, Takes, IsEmptyAt, delivered}
+use Rattle.dg_rules.specs.World.{World, Sent}
+use Rattle.dg_rules.specs.Steps.{WorldStep}
+use Rattle.dg_script.specs.Places.{is_linked}
+use Rattle.dg_script.specs.declared.report.Report.{Report}
+use Rattle.dg_world.specs.Alone.{uncut}
+use Rattle.dg_serve.specs.Each.{each}
+
+-- ---- what is to be done
+
+-- its power comes to a mote; a mote looks whether a frame came; it ticks
+pub data Part : Type 0 where
+  Begins : (mote : ℕ) → Part
+  Looks : (mote : ℕ) → Part
+  Ticks : (mote : ℕ) → Part
+
+-- the power of each mote comes
+abbrev pub beginning : ℕ → List Part
+beginning motes = each motes (λ mote. Begins mote ∷ [])
+
+-- each mote looks, and ticks
+abbrev pub turn_of_all : ℕ → List Part
+turn_of_all motes = each motes (λ mote. Looks mote ∷ Ticks mote ∷ [])
+
+-- each mote begins, and then each has its part in each turn, in rising number
+abbrev pub plan : (motes turns : ℕ) → List Part
+plan motes turns = beginning motes ++ each turns (λ turn. turn_of_all motes)
+
+-- ---- where a service is
+
+pub record Moment : Type 0 where
+  pub world : World
+  -- what the clock told last, and what it will tell, where that is known
+  pub reading : ℕ
+  pub clock : Option Answers
+  -- the words to come
+  pub words : Lcg
+  -- the frames that wait, where the link tells them
+  pub inboxes : Option Inboxes
+
+-- the words of a seed
+abbrev pub words_of_seed : ℕ → Lcg
+words_of_seed seed = pcg32_of_seed (pcg32_seed 16 seed)
+
+-- how much later an answer of the clock is, as far as an event can say it
+abbrev pub later : (before after : ℕ) → ℕ
+later before after = min (after - before) (2 ^ 32 - 1)
+
+-- the clock told this, which is not below what it told before
+abbrev pub at_reading : Moment → ℕ → Option Answers → Lcg → Moment
+at_reading s answer clock words = record s { reading = answer; clock = clock; words = words }
+
+-- Before an event the clock is read and a word is drawn. Nothing else changes.
+pub record Reads (s : Moment) (dt word : ℕ) (t : Moment) : Type 0 where
+  pub answer : ℕ
+  pub rises : s.reading ≤ answer
+  pub told : Answered s.clock t.clock answer
+  pub dt_is : dt ≡ later s.reading answer
+  pub word_is : (word, t.words) ≡ pcg32 s.words
+  pub same : t ≡ at_reading s answer t.clock t.words
+
+-- ---- frames over the link
+
+-- the neighbours of a mote, in rising number
+abbrev pub neighbours_by : List (ℕ × ℕ) → (motes mote : ℕ) → List ℕ
+neighbours_by links motes mote = each motes (λ other. if is_linked links mote other then other ∷ [] else [])
+
+abbrev pub neighbours : World → (motes mote : ℕ) → List ℕ
+neighbours w motes mote = neighbours_by w.links motes mote
+
+-- a frame is handed to these motes, one after the other
+abbrev pub handed_to : List ℕ → List ℕ → Inboxes → Inboxes
+handed_to [] bytes boxes = boxes
+handed_to (m ∷ ms) bytes boxes = handed_to ms bytes (delivered m bytes boxes)
+
+-- the frames that a step added, of which there is one at most
+abbrev pub new_frames : (before after : World) → List Sent
+new_frames before after = drop (length before.sent) after.sent
+
+-- to whom they are handed: each to all neighbours of its mote, in rising number
+abbrev pub handed : World → ℕ → List Sent → Inboxes → Inboxes
+handed w motes [] boxes = boxes
+handed w motes (f ∷ fs) boxes = handed w motes fs (handed_to (neighbours w motes f.by) f.bytes boxes)
+
+-- ---- one event
+
+-- The event happened at this moment, and what it sent was handed on. Neither the clock was read nor a word drawn.
+pub record Steps (motes : ℕ) (s : Moment) (event : Event) (t : Moment) : Type 0 where
+  pub reports : List Report
+  pub step : WorldStep s.world (uncut event) t.world reports
+  pub same_reading : t.reading ≡ s.reading
+  pub same_clock : t.clock ≡ s.clock
+  pub same_words : t.words ≡ s.words
+  pub inboxes : t.inboxes ≡ option_map (handed t.world motes (new_frames s.world t.world)) s.inboxes
+
+-- The event of this time and word happened.
+pub record Happened (motes : ℕ) (s : Moment) (event : (dt word : ℕ) → Event) (done : List Event) (t : Moment) : Type 0 where
+  pub dt : ℕ
+  pub word : ℕ
+  pub between : Moment
+  pub reads : Reads s dt word between
+  pub one : done ≡ event dt word ∷ []
+  pub steps : Steps motes between (event dt word) t
+
+-- no frame had come: nothing happens, and neither the clock is read nor a word drawn
+pub record NoneCame (mote : ℕ) (s : Moment) (done : List Event) (t : Moment) : Type 0 where
+  pub none : IsEmptyAt mote s.inboxes
+  pub nothing : done ≡ []
+  pub same : t ≡ s
+
+-- a frame had come, the oldest that waits where that is known, and is heard
+pub record OneCame (motes mote : ℕ) (s : Moment) (done : List Event) (t : Moment) : Type 0 where
+  pub bytes : List ℕ
+  pub taken : Option Inboxes
+  pub takes : Takes mote bytes s.inboxes taken
+  pub heard : Happened motes (record s { inboxes = taken }) (λ dt word. Frame mote dt word bytes) done t
+
+abbrev pub PartDone : (motes : ℕ) → Part → Moment → List Event → Moment → Type 0
+PartDone motes (Begins m) s done t = Happened motes s (λ dt word. Reset m dt word) done t
+PartDone motes (Looks m) s done t = NoneCame m s done t ⊎ OneCame motes m s done t
+PartDone motes (Ticks m) s done t = Happened motes s (λ dt word. Tick m dt word) done t
+
+-- these parts were done, one after the other, and gave these events
+unfoldable pub Serves : (motes : ℕ) → Moment → List Part → List Event → Moment → Type 0
+Serves motes s [] events t = (events ≡ []) × (t ≡ s)
+Serves motes s (part ∷ parts) events t =
+    (between : Moment) × (first : List Event) × (rest : List Event) × PartDone motes part s first between × (events ≡ first ++ rest) × Serves motes between parts rest t

@@ -1,0 +1,267 @@
+-- Where the code of a service stands, and how its calls go on from there.
+use Rattle.std.specs.Prelude.{◌≡◌, ◌≢◌, ◌⊎◌, ℕ, ◌+◌, ◌-◌, ◌*◌, ◌^◌, ◌<◌, ◌≤◌, List, [], ◌∷◌, ◌++◌, length, take, slice_get, slice_index_or, slice_set, option_map, Option, Some, None, Result, Ok, Err}
+use Rattle.dg_words.specs.Counts.{Rose}
+use Rattle.dg_base.specs.Clock.{Answers}
+use Rattle.dg_base.specs.Outside.{Puts}
+use Rattle.dg_base.specs.declared.events.Event.{Event}
+use Rattle.dg_base.specs.declared.events.Event.TheVariants.{Tick, Hear, Last, Reset, Inject, Order, Frame}
+use Rattle.dg_link.specs.Inboxes.{Inboxes, Takes, IsEmptyAt}
+use Rattle.dg_nor.specs.Device.{Device, Endures}
+use Rattle.dg_nor.specs.Fuse.{beneath_of}
+use Rattle.dg_volume.specs.Stands.{Stands, IsVolume, IsNoVolume}
+use Rattle.dg_mote.specs.declared.outbox.Outbox.{Outbox}
+use Rattle.dg_script.specs.Fitting.{IsFrame}
+use Rattle.dg_rules.specs.World.{World, site, store_at}
+use Rattle.dg_rules.specs.Events.{mote_of, dt_of}
+use Rattle.dg_rules.specs.Premises.{WorldTimely}
+use Rattle.dg_world.specs.Worlds.{SiteStands}
+use Rattle.dg_world.specs.Alone.{IsReset, PlaysAlone, Powers}
+use Rattle.dg_world.specs.declared.telling.Fault.{Fault}
+use Rattle.dg_world.specs.declared.telling.Fault.TheVariants as fault
+use Rattle.dg_world.specs.declared.world.RunningMote.{RunningMote}
+use Rattle.dg_serve.specs.Services.{Part, Moment, Serves, Steps, handed_to, neighbours_by}
+use Rattle.dg_serve.specs.Traces.{event_lines}
+use Rattle.dg_serve.specs.Endings.{BoardsStand, EventEnds, BoardsLeft, LinkLeft, ClockLeft}
+use Rattle.dg_serve.specs.declared.service.Service.{Service}
+use Rattle.dg_serve.specs.declared.stop.Stop.{Stop}
+use Rattle.dg_serve.specs.declared.stop.Stop.TheVariants as stop
+
+-- the service, and all that stands outside of it
+pub record Standing : Type 0 where
+  pub service : Service
+  pub boards : List Device
+  pub inboxes : Option Inboxes
+  pub addressees : ℕ
+  pub failures : ℕ
+  pub clock : Option Answers
+  pub reached : ℕ
+  pub written : Option (List ℕ)
+  pub faults : ℕ
+
+-- The code stands for a moment of a service whose boards were these when it began. The power of the first motes came, and
+-- its time is ahead of the rules' by so much.
+pub record StandsFor (motes begun : ℕ) (links : List (ℕ × ℕ)) (ahead : ℕ) (first : List Device) (s : Moment) (p : Standing) : Type 0 where
+  pub moment : p.service.timeline.moment ≡ s.world.moment + ahead
+  pub reading : p.service.timeline.reading ≡ s.reading
+  pub words : p.service.timeline.words ≡ s.words
+  pub clock : p.clock ≡ s.clock
+  pub inboxes : p.inboxes ≡ s.inboxes
+  pub linked : s.world.links ≡ links
+  pub sites : length s.world.sites ≡ motes
+  pub count : length p.boards ≡ length first
+  pub timely : WorldTimely s.world
+  pub on : (m : ℕ) (a b : Device) → m < begun → slice_get first m ≡ Some a → slice_get p.boards m ≡ Some b
+      → IsVolume a.image × SiteStands b (slice_index_or p.service.motes.items m None) (site s.world m)
+  pub off : (m : ℕ) (a b : Device) → begun ≤ m → m < motes → slice_get first m ≡ Some a → slice_get p.boards m ≡ Some b
+      → (b.image ≡ a.image) × ((site s.world m).runs ≡ None) × (Stands a.image (store_at s.world m) ⊎ IsNoVolume a.image)
+
+-- What holds of it whatever it stands for.
+pub record Ready (motes begun : ℕ) (p : Standing) : Type 0 where
+  pub motes_are : length p.service.motes.items ≡ motes
+  pub boards : motes ≤ length p.boards
+  pub addressees : p.addressees ≡ motes
+  pub reading : p.service.timeline.reading ≤ p.reached
+  pub off : (m : ℕ) → begun ≤ m → slice_index_or p.service.motes.items m None ≡ None
+
+-- ---- boards
+
+-- a board's count did not fall, and it is stopped only where it was, or where its count rose
+abbrev pub BoardEndures : Option Device → Option Device → Type 0
+BoardEndures None new = new ≡ None
+BoardEndures (Some a) None = ⊥
+BoardEndures (Some a) (Some b) = Endures (beneath_of a) (beneath_of b)
+
+-- its count stays
+abbrev pub BoardIsCalm : Option Device → Option Device → Type 0
+BoardIsCalm None new = new ≡ None
+BoardIsCalm (Some a) None = ⊥
+BoardIsCalm (Some a) (Some b) = b.faults ≡ a.faults
+
+-- the boards were used, and none but those of the motes
+pub record BoardsAreUsed (motes : ℕ) (old new : List Device) : Type 0 where
+  pub count : length new ≡ length old
+  pub others : (m : ℕ) → motes ≤ m → slice_get new m ≡ slice_get old m
+  pub endures : (m : ℕ) → BoardEndures (slice_get old m) (slice_get new m)
+
+abbrev pub BoardsAreCalm : List Device → List Device → Type 0
+BoardsAreCalm old new = (m : ℕ) → BoardIsCalm (slice_get old m) (slice_get new m)
+
+-- ---- parts
+
+-- from this moment on these parts give these events
+abbrev pub Gives : (motes begun : ℕ) → List (ℕ × ℕ) → List Device → Moment → List Part → List Event → Standing → Type 0
+Gives motes begun links first s parts events q = (t : Moment) × Serves motes s parts events t × StandsFor motes begun links 0 first t q
+
+-- These parts were done. Then the power of the first `on` motes came.
+pub record Went (motes begun on : ℕ) (links : List (ℕ × ℕ)) (parts : List Part) (p q : Standing) : Type 0 where
+  pub events : List Event
+  pub put : Puts p.written q.written (event_lines events)
+  pub run : (first : List Device) (s : Moment) → StandsFor motes begun links 0 first s p → Gives motes on links first s parts events q
+  pub ready : Ready motes on q
+  pub volumes : (m : ℕ) (a : Device) → begun ≤ m → m < on → slice_get p.boards m ≡ Some a → IsVolume a.image
+  pub boards : BoardsAreUsed on p.boards q.boards
+  pub calm : BoardsAreCalm p.boards q.boards
+  pub moved : q.service.timeline.moment ≤ p.service.timeline.moment + length parts * (2 ^ 32 - 1)
+  pub failures : q.failures ≡ p.failures
+  pub faults : q.faults ≡ p.faults
+  pub reached : p.reached ≤ q.reached
+
+-- how a stop leaves what is outside
+pub record Leaves (why : Stop) (motes : ℕ) (s : Moment) (left : List Part) (first : List Device) (q : Standing) : Type 0 where
+  pub boards : BoardsLeft why s left first q.boards
+  pub link : LinkLeft why motes s q.inboxes
+  pub clock : ClockLeft s.clock q.clock
+
+abbrev pub GivesThen : Stop → (motes : ℕ) → List Device → Moment → (done : List Part) → List Event → (left : List Part) → Standing → Type 0
+GivesThen why motes first s done events left q = (t : Moment) × Serves motes s done events t × Leaves why motes t left first q
+
+-- the counts of the sink and of the link, by why a service stopped
+pub record CountsBy (why : Stop) (p q : Standing) : Type 0 where
+  pub wrote : why ≡ stop.Write → Rose p.faults q.faults
+  pub faults : why ≢ stop.Write → q.faults ≡ p.faults
+  pub faults_rise : p.faults ≤ q.faults
+  pub sent : why ≡ stop.Link → Rose p.failures q.failures
+  pub failures : why ≢ stop.Link → q.failures ≡ p.failures
+  pub failures_rise : p.failures ≤ q.failures
+  pub reached : p.reached ≤ q.reached
+
+-- Some of these parts were done, and then the service stopped.
+pub record Halted (why : Stop) (motes begun : ℕ) (links : List (ℕ × ℕ)) (parts : List Part) (p q : Standing) : Type 0 where
+  pub events : List Event
+  pub done : List Part
+  pub left : List Part
+  pub all : done ++ left ≡ parts
+  pub text : List ℕ
+  pub put : Puts p.written q.written text
+  pub front : (n : ℕ) × (text ≡ take n (event_lines events))
+  pub whole : why ≢ stop.Write → text ≡ event_lines events
+  pub run : (first : List Device) (s : Moment) → StandsFor motes begun links 0 first s p → GivesThen why motes first s done events left q
+  pub boards : BoardsAreUsed motes p.boards q.boards
+  pub calm : why ≢ stop.Flash → BoardsAreCalm p.boards q.boards
+  pub counts : CountsBy why p q
+
+-- how a call ends that does these parts
+abbrev pub GoesOn : Result (Unit {0}) Stop → (motes begun on : ℕ) → List (ℕ × ℕ) → List Part → Standing → Standing → Type 0
+GoesOn (Ok u) motes begun on links parts p q = Went motes begun on links parts p q
+GoesOn (Err why) motes begun on links parts p q = Halted why motes begun links parts p q
+
+-- it stands for some moment
+abbrev pub StandsForSome : (motes begun : ℕ) → List (ℕ × ℕ) → Standing → Type 0
+StandsForSome motes begun links p = (first : List Device) × (s : Moment) × StandsFor motes begun links 0 first s p
+
+-- ---- one event
+
+-- how many motes' power came before an event and behind it, where it is a reset; else all motes' power came
+abbrev pub begun_before : ℕ → Event → ℕ
+begun_before motes (Tick mote dt word) = motes
+begun_before motes (Hear mote dt word frame) = motes
+begun_before motes (Last from to dt word) = motes
+begun_before motes (Reset mote dt word) = mote
+begun_before motes (Inject mote image version dt word) = motes
+begun_before motes (Order mote number image version dt word) = motes
+begun_before motes (Frame mote dt word bytes) = motes
+
+abbrev pub begun_behind : ℕ → Event → ℕ
+begun_behind motes (Tick mote dt word) = motes
+begun_behind motes (Hear mote dt word frame) = motes
+begun_behind motes (Last from to dt word) = motes
+begun_behind motes (Reset mote dt word) = mote + 1
+begun_behind motes (Inject mote image version dt word) = motes
+begun_behind motes (Order mote number image version dt word) = motes
+begun_behind motes (Frame mote dt word bytes) = motes
+
+-- An event at the board of a mote, which ran this before and behind it.
+pub record PlayedAt (r : Result Outbox Fault) (event : Event) (mote now : ℕ) (v u : Option RunningMote) (old new : List Device) : Type 0 where
+  pub before : Device
+  pub after : Device
+  pub was : slice_get old mote ≡ Some before
+  pub put : new ≡ slice_set old mote after
+  pub plays : (w : World) → SiteStands before v (site w mote) → mote < length w.sites → now ≡ w.moment + dt_of event → PlaysAlone r w event u before after
+  pub powers : IsReset event → Powers r before after
+
+-- The event happened, was told and what it sent was handed on.
+pub record HappensAt (motes : ℕ) (links : List (ℕ × ℕ)) (event : Event) (p q : Standing) : Type 0 where
+  pub put : Puts p.written q.written (event_lines (event ∷ []))
+  pub run : (first : List Device) (s : Moment) → StandsFor motes (begun_before motes event) links (dt_of event) first s p
+      → (t : Moment) × Steps motes s event t × StandsFor motes (begun_behind motes event) links 0 first t q
+  pub ready : Ready motes (begun_before motes event) p → Ready motes (begun_behind motes event) q
+  pub volumes : (a : Device) → IsReset event → slice_get p.boards (mote_of event) ≡ Some a → IsVolume a.image
+  pub boards : BoardsAreUsed (begun_behind motes event) p.boards q.boards
+  pub calm : BoardsAreCalm p.boards q.boards
+  pub timeline : q.service.timeline ≡ p.service.timeline
+  pub failures : q.failures ≡ p.failures
+  pub faults : q.faults ≡ p.faults
+
+-- The event did not happen.
+pub record DoesNotHappen (why : Stop) (motes : ℕ) (links : List (ℕ × ℕ)) (event : Event) (p q : Standing) : Type 0 where
+  pub untold : q.written ≡ p.written
+  pub link : q.inboxes ≡ p.inboxes
+  pub run : (first : List Device) (s : Moment) → StandsFor motes (begun_before motes event) links (dt_of event) first s p → EventEnds why s.world event first q.boards
+  pub boards : BoardsAreUsed motes p.boards q.boards
+  pub calm : why ≢ stop.Flash → BoardsAreCalm p.boards q.boards
+  pub failures : q.failures ≡ p.failures
+  pub faults : q.faults ≡ p.faults
+
+-- The event happened, but its line was not written, or what it sent not handed to all.
+pub record HappensPartly (why : Stop) (motes : ℕ) (links : List (ℕ × ℕ)) (event : Event) (p q : Standing) : Type 0 where
+  pub text : List ℕ
+  pub put : Puts p.written q.written text
+  pub front : (n : ℕ) × (text ≡ take n (event_lines (event ∷ [])))
+  pub whole : why ≢ stop.Write → text ≡ event_lines (event ∷ [])
+  pub run : (first : List Device) (s : Moment) → StandsFor motes (begun_before motes event) links (dt_of event) first s p
+      → (t : Moment) × Steps motes s event t × BoardsStand t.world first q.boards × LinkLeft why motes t q.inboxes
+  pub boards : BoardsAreUsed motes p.boards q.boards
+  pub calm : BoardsAreCalm p.boards q.boards
+  pub counts : CountsBy why p q
+
+abbrev pub HappenEnds : Result (Unit {0}) Stop → (motes : ℕ) → List (ℕ × ℕ) → Event → Standing → Standing → Type 0
+HappenEnds (Ok u) motes links event p q = HappensAt motes links event p q
+HappenEnds (Err stop.Memory) motes links event p q = DoesNotHappen stop.Memory motes links event p q
+HappenEnds (Err stop.Write) motes links event p q = HappensPartly stop.Write motes links event p q
+HappenEnds (Err stop.Link) motes links event p q = HappensPartly stop.Link motes links event p q
+HappenEnds (Err stop.Flash) motes links event p q = DoesNotHappen stop.Flash motes links event p q
+HappenEnds (Err stop.NotAVolume) motes links event p q = DoesNotHappen stop.NotAVolume motes links event p q
+HappenEnds (Err stop.NoImage) motes links event p q = DoesNotHappen stop.NoImage motes links event p q
+
+-- ---- frames
+
+-- what was received at a mote, if anything
+abbrev pub ReceivedAt : Result (Option (List ℕ)) Stop → ℕ → Option Inboxes → Option Inboxes → Type 0
+ReceivedAt (Ok None) mote before after = IsEmptyAt mote before × (after ≡ before)
+ReceivedAt (Ok (Some bytes)) mote before after = Takes mote bytes before after × IsFrame bytes
+ReceivedAt (Err stop.Memory) mote before after = (bytes : List ℕ) × Takes mote bytes before after
+ReceivedAt (Err stop.Write) mote before after = ⊥
+ReceivedAt (Err stop.Link) mote before after = after ≡ before
+ReceivedAt (Err stop.Flash) mote before after = ⊥
+ReceivedAt (Err stop.NotAVolume) mote before after = ⊥
+ReceivedAt (Err stop.NoImage) mote before after = ⊥
+
+-- the count of the link's faults rose, where it failed, and stayed where it did not
+abbrev pub FailuresBy : {T : Type 0} → Result T Stop → (before after : ℕ) → Type 0
+FailuresBy (Ok x) before after = after ≡ before
+FailuresBy (Err stop.Memory) before after = after ≡ before
+FailuresBy (Err stop.Write) before after = ⊥
+FailuresBy (Err stop.Link) before after = Rose before after × (before ≤ after)
+FailuresBy (Err stop.Flash) before after = ⊥
+FailuresBy (Err stop.NotAVolume) before after = ⊥
+FailuresBy (Err stop.NoImage) before after = ⊥
+
+-- a frame, if there is one, was handed to all neighbours of the mote that sent it
+abbrev pub handed_by : List (ℕ × ℕ) → (motes mote : ℕ) → Option (List ℕ) → Inboxes → Inboxes
+handed_by links motes mote None boxes = boxes
+handed_by links motes mote (Some bytes) boxes = handed_to (neighbours_by links motes mote) bytes boxes
+
+-- there was one, and it was handed to the first k of them
+abbrev pub HandedToSome : List (ℕ × ℕ) → (motes mote : ℕ) → Option (List ℕ) → Option Inboxes → Option Inboxes → Type 0
+HandedToSome links motes mote None before after = ⊥
+HandedToSome links motes mote (Some bytes) before after = (k : ℕ) × (after ≡ option_map (handed_to (take k (neighbours_by links motes mote)) bytes) before)
+
+-- why a service ends in an event that was not done
+abbrev pub stop_by : Fault → Stop
+stop_by fault.Stopped = stop.Flash
+stop_by fault.NotAVolume = stop.NotAVolume
+stop_by fault.NoImage = stop.NoImage
+
+abbrev pub stops_by : {T : Type 0} → Result T Fault → Result T Stop
+stops_by (Ok x) = Ok x
+stops_by (Err f) = Err (stop_by f)

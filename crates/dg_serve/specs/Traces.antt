@@ -1,0 +1,43 @@
+-- The trace of a service: a script that tells what happened.
+use Rattle.std.specs.Prelude.{◌≡◌, ℕ, true, List, [], ◌∷◌, ◌++◌, map, codes, None}
+use Rattle.std.specs.List.{flat_map}
+use Rattle.std.specs.Fmt.{decimal}
+use Rattle.dg_base.specs.declared.answers.Status.{Status}
+use Rattle.dg_base.specs.declared.answers.Status.TheVariants.{NotAVolume, NoImage, NoBoard}
+use Rattle.dg_base.specs.declared.events.Event.{Event}
+use Rattle.dg_base.specs.declared.events.Event.TheVariants.{Tick}
+use Rattle.dg_script.specs.Spelling.{line_text}
+use Rattle.dg_script.specs.declared.line.Line.{Line}
+use Rattle.dg_script.specs.declared.line.Line.TheVariants.{Motes, Boards, Link, Happens}
+use Rattle.dg_netcfg.specs.declared.profile.NetProfile.{NetProfile}
+
+-- the first lines
+abbrev pub head_lines : NetProfile → List Line
+head_lines p = Motes p.motes ∷ Boards ∷ map (λ l. Link l.0 l.1) p.links
+
+-- lines as they are written, each with its line end
+abbrev pub written : List Line → List ℕ
+written ls = flat_map (λ l. line_text l ++ 10 ∷ []) ls
+
+-- the lines of events
+abbrev pub event_lines : List Event → List ℕ
+event_lines events = written (map Happens events)
+
+abbrev pub trace : NetProfile → List Event → List ℕ
+trace p events = written (head_lines p) ++ event_lines events
+
+-- the last line of a status
+abbrev pub last_line : Status → (motes boards : ℕ) → List ℕ
+last_line NoBoard motes boards = codes "noboard " ++ decimal motes ++ 32 ∷ decimal boards ++ 10 ∷ []
+last_line NotAVolume motes boards = codes "notavolume" ++ 10 ∷ []
+last_line NoImage motes boards = codes "noimage" ++ 10 ∷ []
+last_line status motes boards = []
+
+-- the line of an event
+abbrev pub IsEventLine : Line → Type 0
+IsEventLine line = (event : Event) × (line ≡ Happens event)
+
+-- the event of a line of one; it is asked of no other line
+abbrev pub event_in : Line → Event
+event_in (Happens event) = event
+event_in line = Tick 0 0 0

@@ -1,0 +1,286 @@
+//! A service, part by part.
+ghost use Rattle.std.specs.Prelude.{◌≡◌, ◌⊎◌, ℕ, ◌+◌, ◌^◌, ◌<◌, ◌≤◌, List, [], ◌∷◌, length, map, slice_get, slice_index_or, Option, Some, None};
+ghost use Rattle.dg_base.specs.Clock.{Answers};
+ghost use Rattle.dg_netcfg.specs.Readings.{IsAllowed};
+ghost use Rattle.dg_nor.specs.Device.{Device};
+ghost use Rattle.dg_rules.specs.Events.{mote_of, dt_of};
+ghost use Rattle.dg_rules.specs.Ranges.{EventFits};
+ghost use Rattle.dg_script.specs.Fitting.{FitsLine};
+ghost use Rattle.dg_script.specs.Spelling.{IsShort};
+ghost use Rattle.dg_world.specs.Alone.{IsAlone, IsReset};
+ghost use Rattle.dg_world.specs.Worlds.{MayRun};
+ghost use Rattle.dg_serve.specs.Each.{each};
+ghost use Rattle.dg_serve.specs.Services.{Begins, Looks, Ticks, Moment, beginning, turn_of_all, plan};
+ghost use Rattle.dg_serve.specs.Traces.{IsEventLine, event_in};
+ghost use Rattle.dg_serve.specs.Standings.{Ready, StandsFor, StandsForSome, GoesOn, HappenEnds, begun_before};
+
+use crate::handing::{hand_on, receive};
+use crate::playing::play;
+use crate::stop::Stop;
+use crate::telling::{put, told_event, write_event};
+use crate::timeline::Timeline;
+use dg_base::{Clock, Event, Sink};
+use dg_link::Link;
+use dg_netcfg::NetProfile;
+use dg_nor::Nor;
+use dg_rules::agreement_is_kept;
+use dg_script::Line;
+use dg_world::RunningMote;
+use std::alloc::Global;
+
+/// The motes of a service, None where one is off, their time, and the text that is written next.
+#[derive(Drop)]
+pub(crate) struct Service {
+    pub(crate) motes: Vec<Option<RunningMote>>,
+    pub(crate) timeline: Timeline,
+    pub(crate) text: Vec<u8>,
+    pub(crate) alloc: Global,
+}
+
+impl Service {
+    /// An event happens: its line is written, and then what it sent is handed on. Where there is no memory for the line,
+    /// the event does not happen.
+    fn happen<K: Sink, N: Nor, L: Link>(
+        &mut self,
+        profile: &NetProfile,
+        mote: u8,
+        line: &Line,
+        boards: &mut [N],
+        link: &mut L,
+        out: &mut K,
+    ) -> Result<(), Stop>
+        requires allowed { IsAllowed profile.now }
+        requires told { IsEventLine line.now }
+        requires fits { FitsLine profile.now.motes line.now }
+        requires short { IsShort line.now }
+        requires ranges { EventFits profile.now.motes (event_in line.now) }
+        requires alone { IsAlone (event_in line.now) }
+        requires at { mote_of (event_in line.now) ≡ mote }
+        requires known { mote < profile.now.motes }
+        requires motes { length self.old.motes.items ≡ profile.now.motes }
+        requires boards { profile.now.motes ≤ length boards.old }
+        requires addressees { L.mote_count link.old ≡ profile.now.motes }
+        requires moment { self.old.timeline.moment < 2 ^ 62 }
+        requires may { (a : Device) → slice_get (map N.device boards.old) mote ≡ Some a → MayRun a.image self.old.timeline.moment (slice_index_or self.old.motes.items mote None) }
+        requires off { IsReset (event_in line.now) → slice_index_or self.old.motes.items mote None ≡ None }
+        requires some { IsReset (event_in line.now) ⊎ ((told : Option Answers) × (reached : ℕ) × (first : List Device) × (s : Moment) × StandsFor profile.now.motes (begun_before profile.now.motes (event_in line.now)) profile.now.links (dt_of (event_in line.now)) first s (record { service = self.old; boards = map N.device boards.old; inboxes = L.inboxes link.old; addressees = L.mote_count link.old; failures = L.faults link.old; clock = told; reached = reached; written = K.written out.old; faults = K.faults out.old })) }
+        ensures ends { (told : Option Answers) (reached : ℕ) → HappenEnds result profile.now.motes profile.now.links (event_in line.now)
+            (record { service = self.old; boards = map N.device boards.old; inboxes = L.inboxes link.old; addressees = L.mote_count link.old; failures = L.faults link.old; clock = told; reached = reached; written = K.written out.old; faults = K.faults out.old })
+            (record { service = self.new; boards = map N.device boards.new; inboxes = L.inboxes link.new; addressees = L.mote_count link.new; failures = L.faults link.new; clock = told; reached = reached; written = K.written out.new; faults = K.faults out.new }) }
+    {
+        agreement_is_kept();
+        write_event(line, &mut self.text)?;
+        let event = told_event(line);
+        let now = self.timeline.moment;
+        let sent = play(self.motes.as_mut_slice(), boards, mote, now, event)?;
+        put(self.text.as_slice(), out)?;
+        hand_on(profile, mote, &sent, link)?;
+        Ok(())
+    }
+
+    /// The power of a mote comes.
+    fn begin<K: Sink, N: Nor, L: Link, C: Clock>(
+        &mut self,
+        profile: &NetProfile,
+        mote: u8,
+        boards: &mut [N],
+        link: &mut L,
+        clock: &mut C,
+        out: &mut K,
+    ) -> Result<(), Stop>
+        requires allowed { IsAllowed profile.now }
+        requires known { mote < profile.now.motes }
+        requires ready { Ready profile.now.motes mote (record { service = self.old; boards = map N.device boards.old; inboxes = L.inboxes link.old; addressees = L.mote_count link.old; failures = L.faults link.old; clock = C.told clock.old; reached = C.reached clock.old; written = K.written out.old; faults = K.faults out.old }) }
+        requires early { self.old.timeline.moment < 2 ^ 60 }
+        ensures goes { GoesOn result profile.now.motes mote (mote + 1) profile.now.links (Begins mote ∷ [])
+            (record { service = self.old; boards = map N.device boards.old; inboxes = L.inboxes link.old; addressees = L.mote_count link.old; failures = L.faults link.old; clock = C.told clock.old; reached = C.reached clock.old; written = K.written out.old; faults = K.faults out.old })
+            (record { service = self.new; boards = map N.device boards.new; inboxes = L.inboxes link.new; addressees = L.mote_count link.new; failures = L.faults link.new; clock = C.told clock.new; reached = C.reached clock.new; written = K.written out.new; faults = K.faults out.new }) }
+    {
+        let draw = self.timeline.draw(clock);
+        let line = Line::Happens(Event::Reset {
+            mote,
+            dt: draw.dt,
+            word: draw.word,
+        });
+        self.happen(profile, mote, &line, boards, link, out)
+    }
+
+    /// A mote looks whether a frame came, and hears it.
+    fn look<K: Sink, N: Nor, L: Link, C: Clock>(
+        &mut self,
+        profile: &NetProfile,
+        mote: u8,
+        boards: &mut [N],
+        link: &mut L,
+        clock: &mut C,
+        out: &mut K,
+    ) -> Result<(), Stop>
+        requires allowed { IsAllowed profile.now }
+        requires known { mote < profile.now.motes }
+        requires ready { Ready profile.now.motes profile.now.motes (record { service = self.old; boards = map N.device boards.old; inboxes = L.inboxes link.old; addressees = L.mote_count link.old; failures = L.faults link.old; clock = C.told clock.old; reached = C.reached clock.old; written = K.written out.old; faults = K.faults out.old }) }
+        requires early { self.old.timeline.moment < 2 ^ 60 }
+        requires some { StandsForSome profile.now.motes profile.now.motes profile.now.links (record { service = self.old; boards = map N.device boards.old; inboxes = L.inboxes link.old; addressees = L.mote_count link.old; failures = L.faults link.old; clock = C.told clock.old; reached = C.reached clock.old; written = K.written out.old; faults = K.faults out.old }) }
+        ensures goes { GoesOn result profile.now.motes profile.now.motes profile.now.motes profile.now.links (Looks mote ∷ [])
+            (record { service = self.old; boards = map N.device boards.old; inboxes = L.inboxes link.old; addressees = L.mote_count link.old; failures = L.faults link.old; clock = C.told clock.old; reached = C.reached clock.old; written = K.written out.old; faults = K.faults out.old })
+            (record { service = self.new; boards = map N.device boards.new; inboxes = L.inboxes link.new; addressees = L.mote_count link.new; failures = L.faults link.new; clock = C.told clock.new; reached = C.reached clock.new; written = K.written out.new; faults = K.faults out.new }) }
+    {
+        match receive(self.alloc, link, mote)? {
+            Some(bytes) => {
+                let draw = self.timeline.draw(clock);
+                let line = Line::Happens(Event::Frame {
+                    mote,
+                    dt: draw.dt,
+                    word: draw.word,
+                    bytes,
+                });
+                self.happen(profile, mote, &line, boards, link, out)
+            }
+            None => Ok(()),
+        }
+    }
+
+    /// A mote ticks.
+    fn tick<K: Sink, N: Nor, L: Link, C: Clock>(
+        &mut self,
+        profile: &NetProfile,
+        mote: u8,
+        boards: &mut [N],
+        link: &mut L,
+        clock: &mut C,
+        out: &mut K,
+    ) -> Result<(), Stop>
+        requires allowed { IsAllowed profile.now }
+        requires known { mote < profile.now.motes }
+        requires ready { Ready profile.now.motes profile.now.motes (record { service = self.old; boards = map N.device boards.old; inboxes = L.inboxes link.old; addressees = L.mote_count link.old; failures = L.faults link.old; clock = C.told clock.old; reached = C.reached clock.old; written = K.written out.old; faults = K.faults out.old }) }
+        requires early { self.old.timeline.moment < 2 ^ 60 }
+        requires some { StandsForSome profile.now.motes profile.now.motes profile.now.links (record { service = self.old; boards = map N.device boards.old; inboxes = L.inboxes link.old; addressees = L.mote_count link.old; failures = L.faults link.old; clock = C.told clock.old; reached = C.reached clock.old; written = K.written out.old; faults = K.faults out.old }) }
+        ensures goes { GoesOn result profile.now.motes profile.now.motes profile.now.motes profile.now.links (Ticks mote ∷ [])
+            (record { service = self.old; boards = map N.device boards.old; inboxes = L.inboxes link.old; addressees = L.mote_count link.old; failures = L.faults link.old; clock = C.told clock.old; reached = C.reached clock.old; written = K.written out.old; faults = K.faults out.old })
+            (record { service = self.new; boards = map N.device boards.new; inboxes = L.inboxes link.new; addressees = L.mote_count link.new; failures = L.faults link.new; clock = C.told clock.new; reached = C.reached clock.new; written = K.written out.new; faults = K.faults out.new }) }
+    {
+        let draw = self.timeline.draw(clock);
+        let line = Line::Happens(Event::Tick {
+            mote,
+            dt: draw.dt,
+            word: draw.word,
+        });
+        self.happen(profile, mote, &line, boards, link, out)
+    }
+
+    /// A mote has its part in a turn: it looks, and it ticks.
+    fn take_part<K: Sink, N: Nor, L: Link, C: Clock>(
+        &mut self,
+        profile: &NetProfile,
+        mote: u8,
+        boards: &mut [N],
+        link: &mut L,
+        clock: &mut C,
+        out: &mut K,
+    ) -> Result<(), Stop>
+        requires allowed { IsAllowed profile.now }
+        requires known { mote < profile.now.motes }
+        requires ready { Ready profile.now.motes profile.now.motes (record { service = self.old; boards = map N.device boards.old; inboxes = L.inboxes link.old; addressees = L.mote_count link.old; failures = L.faults link.old; clock = C.told clock.old; reached = C.reached clock.old; written = K.written out.old; faults = K.faults out.old }) }
+        requires early { self.old.timeline.moment < 2 ^ 59 }
+        requires some { StandsForSome profile.now.motes profile.now.motes profile.now.links (record { service = self.old; boards = map N.device boards.old; inboxes = L.inboxes link.old; addressees = L.mote_count link.old; failures = L.faults link.old; clock = C.told clock.old; reached = C.reached clock.old; written = K.written out.old; faults = K.faults out.old }) }
+        ensures goes { GoesOn result profile.now.motes profile.now.motes profile.now.motes profile.now.links (Looks mote ∷ Ticks mote ∷ [])
+            (record { service = self.old; boards = map N.device boards.old; inboxes = L.inboxes link.old; addressees = L.mote_count link.old; failures = L.faults link.old; clock = C.told clock.old; reached = C.reached clock.old; written = K.written out.old; faults = K.faults out.old })
+            (record { service = self.new; boards = map N.device boards.new; inboxes = L.inboxes link.new; addressees = L.mote_count link.new; failures = L.faults link.new; clock = C.told clock.new; reached = C.reached clock.new; written = K.written out.new; faults = K.faults out.new }) }
+    {
+        self.look(profile, mote, boards, link, clock, out)?;
+        self.tick(profile, mote, boards, link, clock, out)?;
+        Ok(())
+    }
+
+    /// The power of each mote comes, in rising number.
+    fn begin_all<K: Sink, N: Nor, L: Link, C: Clock>(
+        &mut self,
+        profile: &NetProfile,
+        boards: &mut [N],
+        link: &mut L,
+        clock: &mut C,
+        out: &mut K,
+    ) -> Result<(), Stop>
+        requires allowed { IsAllowed profile.now }
+        requires ready { Ready profile.now.motes 0 (record { service = self.old; boards = map N.device boards.old; inboxes = L.inboxes link.old; addressees = L.mote_count link.old; failures = L.faults link.old; clock = C.told clock.old; reached = C.reached clock.old; written = K.written out.old; faults = K.faults out.old }) }
+        requires early { self.old.timeline.moment ≡ 0 }
+        ensures goes { GoesOn result profile.now.motes 0 profile.now.motes profile.now.links (beginning profile.now.motes)
+            (record { service = self.old; boards = map N.device boards.old; inboxes = L.inboxes link.old; addressees = L.mote_count link.old; failures = L.faults link.old; clock = C.told clock.old; reached = C.reached clock.old; written = K.written out.old; faults = K.faults out.old })
+            (record { service = self.new; boards = map N.device boards.new; inboxes = L.inboxes link.new; addressees = L.mote_count link.new; failures = L.faults link.new; clock = C.told clock.new; reached = C.reached clock.new; written = K.written out.new; faults = K.faults out.new }) }
+    {
+        for mote in 0..profile.motes {
+            self.begin(profile, mote, boards, link, clock, out)?;
+        }
+        Ok(())
+    }
+
+    /// Each mote has its part, in rising number.
+    fn play_turn<K: Sink, N: Nor, L: Link, C: Clock>(
+        &mut self,
+        profile: &NetProfile,
+        boards: &mut [N],
+        link: &mut L,
+        clock: &mut C,
+        out: &mut K,
+    ) -> Result<(), Stop>
+        requires allowed { IsAllowed profile.now }
+        requires ready { Ready profile.now.motes profile.now.motes (record { service = self.old; boards = map N.device boards.old; inboxes = L.inboxes link.old; addressees = L.mote_count link.old; failures = L.faults link.old; clock = C.told clock.old; reached = C.reached clock.old; written = K.written out.old; faults = K.faults out.old }) }
+        requires early { self.old.timeline.moment < 2 ^ 58 }
+        requires some { StandsForSome profile.now.motes profile.now.motes profile.now.links (record { service = self.old; boards = map N.device boards.old; inboxes = L.inboxes link.old; addressees = L.mote_count link.old; failures = L.faults link.old; clock = C.told clock.old; reached = C.reached clock.old; written = K.written out.old; faults = K.faults out.old }) }
+        ensures goes { GoesOn result profile.now.motes profile.now.motes profile.now.motes profile.now.links (turn_of_all profile.now.motes)
+            (record { service = self.old; boards = map N.device boards.old; inboxes = L.inboxes link.old; addressees = L.mote_count link.old; failures = L.faults link.old; clock = C.told clock.old; reached = C.reached clock.old; written = K.written out.old; faults = K.faults out.old })
+            (record { service = self.new; boards = map N.device boards.new; inboxes = L.inboxes link.new; addressees = L.mote_count link.new; failures = L.faults link.new; clock = C.told clock.new; reached = C.reached clock.new; written = K.written out.new; faults = K.faults out.new }) }
+    {
+        for mote in 0..profile.motes {
+            self.take_part(profile, mote, boards, link, clock, out)?;
+        }
+        Ok(())
+    }
+
+    /// The power of each mote comes, and then so many turns are played.
+    pub(crate) fn run<K: Sink, N: Nor, L: Link, C: Clock>(
+        &mut self,
+        turns: u32,
+        profile: &NetProfile,
+        boards: &mut [N],
+        link: &mut L,
+        clock: &mut C,
+        out: &mut K,
+    ) -> Result<(), Stop>
+        requires allowed { IsAllowed profile.now }
+        requires few { turns ≤ 1000000 }
+        requires ready { Ready profile.now.motes 0 (record { service = self.old; boards = map N.device boards.old; inboxes = L.inboxes link.old; addressees = L.mote_count link.old; failures = L.faults link.old; clock = C.told clock.old; reached = C.reached clock.old; written = K.written out.old; faults = K.faults out.old }) }
+        requires early { self.old.timeline.moment ≡ 0 }
+        ensures goes { GoesOn result profile.now.motes 0 profile.now.motes profile.now.links (plan profile.now.motes turns)
+            (record { service = self.old; boards = map N.device boards.old; inboxes = L.inboxes link.old; addressees = L.mote_count link.old; failures = L.faults link.old; clock = C.told clock.old; reached = C.reached clock.old; written = K.written out.old; faults = K.faults out.old })
+            (record { service = self.new; boards = map N.device boards.new; inboxes = L.inboxes link.new; addressees = L.mote_count link.new; failures = L.faults link.new; clock = C.told clock.new; reached = C.reached clock.new; written = K.written out.new; faults = K.faults out.new }) }
+    {
+        self.begin_all(profile, boards, link, clock, out)?;
+        self.play_turns(turns, profile, boards, link, clock, out)?;
+        Ok(())
+    }
+
+    /// So many turns.
+    fn play_turns<K: Sink, N: Nor, L: Link, C: Clock>(
+        &mut self,
+        turns: u32,
+        profile: &NetProfile,
+        boards: &mut [N],
+        link: &mut L,
+        clock: &mut C,
+        out: &mut K,
+    ) -> Result<(), Stop>
+        requires allowed { IsAllowed profile.now }
+        requires few { turns ≤ 1000000 }
+        requires ready { Ready profile.now.motes profile.now.motes (record { service = self.old; boards = map N.device boards.old; inboxes = L.inboxes link.old; addressees = L.mote_count link.old; failures = L.faults link.old; clock = C.told clock.old; reached = C.reached clock.old; written = K.written out.old; faults = K.faults out.old }) }
+        requires early { self.old.timeline.moment < 2 ^ 40 }
+        requires some { StandsForSome profile.now.motes profile.now.motes profile.now.links (record { service = self.old; boards = map N.device boards.old; inboxes = L.inboxes link.old; addressees = L.mote_count link.old; failures = L.faults link.old; clock = C.told clock.old; reached = C.reached clock.old; written = K.written out.old; faults = K.faults out.old }) }
+        ensures goes { GoesOn result profile.now.motes profile.now.motes profile.now.motes profile.now.links (each turns (λ turn. turn_of_all profile.now.motes))
+            (record { service = self.old; boards = map N.device boards.old; inboxes = L.inboxes link.old; addressees = L.mote_count link.old; failures = L.faults link.old; clock = C.told clock.old; reached = C.reached clock.old; written = K.written out.old; faults = K.faults out.old })
+            (record { service = self.new; boards = map N.device boards.new; inboxes = L.inboxes link.new; addressees = L.mote_count link.new; failures = L.faults link.new; clock = C.told clock.new; reached = C.reached clock.new; written = K.written out.new; faults = K.faults out.new }) }
+    {
+        for _turn in 0..turns {
+            self.play_turn(profile, boards, link, clock, out)?;
+        }
+        Ok(())
+    }
+}
