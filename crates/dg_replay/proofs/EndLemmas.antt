@@ -89,7 +89,8 @@ ended {table} result script e piece input at_end initial now before mid after fa
       report = wrote_whole e r.came text all;
       enough = enough_by e (length initial) input at_end r.came text settled;
       near = near text;
-      limits = r.limits; stood = r.stood;
+      limits = r.limits;
+      stood = r.stood;
       boards = boards_of e r.came initial now r.boards;
       caused = caused_by e reads worse (BoardStopped (motes_in r.came.done) initial now) (NoVolumeThere r.came initial now) ((UsesBoards r.came.done) × NoImageThere r.came initial now);
     } in
@@ -109,7 +110,8 @@ ended {table} result script e piece input at_end initial now before mid after fa
       };
       enough = ⊎_elim (λ (x : at_end). inl x) (λ (x : IsSettled (length initial) input). inr (inl x)) settled;
       near = inr (record { all = r.all; more = take k piece; told = refl; near = ends_near e input r.came [] (near []) });
-      limits = r.limits; stood = r.stood;
+      limits = r.limits;
+      stood = r.stood;
       boards = inl r.boards;
       caused = spread cut.2;
     } in
@@ -122,7 +124,8 @@ ended {table} result script e piece input at_end initial now before mid after fa
       report = record { more = []; front = append-nil (played_text r.came.played) };
       enough = whole;
       near = tt;
-      limits = r.limits; stood = r.stood;
+      limits = r.limits;
+      stood = r.stood;
       boards = r.boards;
       caused = tt;
     } in
@@ -267,7 +270,8 @@ stopped_ends {table} Memory result script over input at_end number initial now b
       report = record { more = f.more; front = f.whole };
       enough = f.there.1;
       near = tt;
-      limits = f.limits; stood = f.stood;
+      limits = f.limits;
+      stood = f.stood;
       boards = f.there.0;
       caused = tt;
     } in
@@ -287,7 +291,8 @@ stopped_ends {table} WriteFault result script over input at_end number initial n
       report = record { more = f.more; front = inl f.whole };
       enough = ⊎_elim (λ (x : at_end). inl x) (λ (x : DoneIsWhole input f.came.done f.came.rest f.came.begun). inr (inr (inl (x, record { more = f.more; front = f.whole })))) f.there.2;
       near = inl (record { lines = before_it.lines; within = before_it.within; more = before_it.more; told = before_it.told; near = near_later number (before_it.lines + 1) input before_it.behind near });
-      limits = f.limits; stood = f.stood;
+      limits = f.limits;
+      stood = f.stood;
       boards = f.there.0;
       caused = spread rose;
     } in
@@ -300,7 +305,8 @@ stopped_ends {table} FlashFault result script over input at_end number initial n
       report = (refl, subst (λ (ls : List Line). StopsAt (ending_from (length initial) over script) ls) (sym f.there.0.2) f.there.0.3);
       enough = f.there.2;
       near = tt;
-      limits = f.limits; stood = f.stood;
+      limits = f.limits;
+      stood = f.stood;
       boards = f.there.1;
       caused = f.there.1.stopped;
     } in
@@ -432,7 +438,8 @@ finish_as {table} result script input w n p initial now new before mid after fai
       report = (refl, refl);
       enough = inl tt;
       near = tt;
-      limits = bounds_done true script n p initial now before mid r; stood = λ uses. (r.grounded uses).1;
+      limits = bounds_done true script n p initial now before mid r;
+      stood = λ uses. (r.grounded uses).1;
       boards = there;
       caused = there.stopped;
     } in

@@ -159,7 +159,8 @@ module _ (front ahead : List ℕ) (is : IsFront front) (few : length front ≤ m
         more = f.more;
         told = f.told;
         whole = f.whole;
-        limits = f.limits; stood = f.stood;
+        limits = f.limits;
+        stood = f.stood;
         there = (left_there begins_here f.came initial now f.there.0, told_there begins_here f.came number f.text f.there.1, inr (done_whole f.came begins_here.rest));
       },
     )
@@ -170,7 +171,8 @@ module _ (front ahead : List ℕ) (is : IsFront front) (few : length front ≤ m
         record {
           came = lifted b c;
           told = f.told;
-          limits = f.limits; stood = f.stood;
+          limits = f.limits;
+          stood = f.stood;
           there = (
             (at.0, at.1 ++ b.rest, ap (λ (ls : List Line). ls ++ b.rest) at.2, at.3),
             stopped_line c.done c.rest b.rest c.left c.last initial now at.0 at.1 at.2 f.there.1,
@@ -183,7 +185,8 @@ module _ (front ahead : List ℕ) (is : IsFront front) (few : length front ≤ m
         record {
           came = lifted b c;
           told = f.told;
-          limits = f.limits; stood = f.stood;
+          limits = f.limits;
+          stood = f.stood;
           there = (many_on c.done c.rest b.rest c.begun c.left c.played c.parts f.there.0, f.there.1, enough refl, inr (done_whole c b.rest));
         }
     stops_here table (NoBoard motes boards) f enough =
@@ -192,7 +195,8 @@ module _ (front ahead : List ℕ) (is : IsFront front) (few : length front ≤ m
         record {
           came = lifted b c;
           told = f.told;
-          limits = f.limits; stood = f.stood;
+          limits = f.limits;
+          stood = f.stood;
           there = (f.there.0, (f.there.1.0 ++ b.rest, ap (λ (ls : List Line). ls ++ b.rest) f.there.1.1), f.there.2, f.there.3, inr (done_whole c b.rest));
         }
     stops_here table NoImage f enough =

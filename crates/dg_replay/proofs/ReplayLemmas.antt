@@ -500,7 +500,6 @@ cut_begun ends script texts text n p initial old now before mid after line r spe
     (over_tells (beginning_of r.ground r.done).world b.world r.played b.begun b.text o) cut
     (over_bounds (length initial) r.ground r.done b.world r.played b.begun b.text r.boards_enough o) (λ uses. (r.grounded uses).1)
     (λ k. (inl boards, told_begun ends script texts text n p initial old before mid line r spelled b o (λ none. absurd (some_left b.world b.left full none)) k, tt))
-
 cut_begun ends script texts text n p initial old now before mid after line r spelled b (inr (inr (some, lacks, cut))) uses =
     let o = run_of ends script texts text n p initial old before mid line r b in
     let within : b.left ≡ [] → b.begun ≡ [] = λ none. absurd (lacks_left b.world b.left initial now lacks none) in

@@ -61,7 +61,8 @@ end_replayed {table} s input at_end old new before after reads writes ended few 
       report = r.report;
       enough = at_end_for s (length old) input at_end r.came r.text ended r.enough;
       near = r.near;
-      limits = r.limits; stood = r.stood;
+      limits = r.limits;
+      stood = r.stood;
       boards = r.boards;
       caused = caused_too s (ending_from (length old) false (script_of input)) reads writes (BoardStopped (motes_in r.came.done) old new) (NoVolumeThere r.came old new) ((UsesBoards r.came.done) × NoImageThere r.came old new) r.caused;
     } in

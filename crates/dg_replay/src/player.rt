@@ -131,11 +131,7 @@ fn mount_stop(stopped: MountStopped) -> Stop
 }
 
 /// The boards of the motes are used as they are.
-fn play_boards<N: Nor>(
-    alloc: Global,
-    player: &mut Player,
-    boards: &mut Vec<N>,
-) -> Result<(), Stop>
+fn play_boards<N: Nor>(alloc: Global, player: &mut Player, boards: &mut Vec<N>) -> Result<(), Stop>
     requires counted { Counted player.old.place.motes (length boards.old.items) }
     ensures played { (p : Player) (done : List Line) (w : Option RuleWorld) (initial : List Device) (table : List Row) (told : List ℕ) → Passed p player.old Line.Boards
         → p.place.ready ≡ false → Stood p done w initial (map N.device boards.old.items)

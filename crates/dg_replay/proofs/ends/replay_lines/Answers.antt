@@ -19,7 +19,7 @@ returns-in-Ok-clause-replayed g c =
       a.1,
       omega (arith, (a.2 []).1),
       λ table.
-      let x = a.2 table in end_replayed c.end_script.result a.0 (AtEnd (left c.play_lines.new.input)) old (map g.N.Nor.device c.end_script.new.boards.items) (put c.args.out.now) (put c.end_script.new.out) (Rose (reads c.args.input.now) (reads c.play_lines.new.input))
+          let x = a.2 table in end_replayed c.end_script.result a.0 (AtEnd (left c.play_lines.new.input)) old (map g.N.Nor.device c.end_script.new.boards.items) (put c.args.out.now) (put c.end_script.new.out) (Rose (reads c.args.input.now) (reads c.play_lines.new.input))
           (Rose (writes c.args.out.now) (writes c.end_script.new.out)) x.0 x.1 (c.end_script.ensures.ends table (script_of a.0) a.0 old (put c.args.out.now) (writes c.args.out.now) c.in-Ok.ensures.counts x.2 x.3),
     )
 
