@@ -1,5 +1,5 @@
 //! The call that replays a script of nodes.
-ghost use Rattle.std.specs.Prelude.{◌≡◌, ℕ, ◌++◌, [], List, OnOk};
+ghost use Rattle.std.specs.Prelude.{◌≡◌, ◌≤◌, ℕ, ◌++◌, [], List, OnOk};
 ghost use Rattle.dg_words.specs.Counts.{Rose};
 ghost use Rattle.dg_base.specs.Outside.{Takes, AtEnd};
 ghost use Rattle.dg_drip_script.specs.Scripts.{Script, first_script};
@@ -30,6 +30,8 @@ fn play_next<S: Source, K: Sink>(
         (Rose (S.faults input.old) (S.faults input.new)) (Rose (K.faults out.old) (K.faults out.new)) (K.written out.old) (K.written out.new)) }
     ensures unread { OnOk result (S.faults input.new ≡ S.faults input.old) }
     ensures still { OnOk result (K.faults out.new ≡ K.faults out.old) }
+    ensures reads { S.faults input.old ≤ S.faults input.new }
+    ensures counts { K.faults out.old ≤ K.faults out.new }
 {
     match reader.next(input) {
         Ok(Some(number)) => match play_text(alloc, player, reader.text(), number, out) {
@@ -59,6 +61,8 @@ fn play_lines<S: Source, K: Sink>(
     ensures answer { LinesAnswer result (S.left input.old) (S.left input.new) reader.new player.new
         (Rose (S.faults input.old) (S.faults input.new)) (Rose (K.faults out.old) (K.faults out.new)) (K.written out.old) (K.written out.new) }
     ensures still { OnOk result (K.faults out.new ≡ K.faults out.old) }
+    ensures reads { S.faults input.old ≤ S.faults input.new }
+    ensures counts { K.faults out.old ≤ K.faults out.new }
 {
     let mut number = 1;
     while play_next(alloc, reader, input, player, out)? {
@@ -72,8 +76,10 @@ fn play_lines<S: Source, K: Sink>(
 
 /// Reads the script that `input` spells line by line, and replays it.
 fn read_and_play<S: Source, K: Sink>(alloc: Global, input: &mut S, out: &mut K) -> Status
-    ensures { Dripped result (S.left input.old) (S.left input.new) (K.written out.old) (K.written out.new)
+    ensures replayed { Dripped result (S.left input.old) (S.left input.new) (K.written out.old) (K.written out.new)
         (Rose (S.faults input.old) (S.faults input.new)) (Rose (K.faults out.old) (K.faults out.new)) }
+    ensures reads { S.faults input.old ≤ S.faults input.new }
+    ensures counts { K.faults out.old ≤ K.faults out.new }
 {
     let Ok(mut reader) = LineReader::new(alloc) else {
         return Status::Memory;
@@ -112,6 +118,8 @@ pub fn drip<S: Source, K: Sink>(alloc: Global, input: &mut S, out: &mut K) -> St
     // Where each two nodes are within h links, h sweeps at the end with no set between them bring all to the greatest entry.
     ensures sweeps { (x : Dripped result (S.left input.old) (S.left input.new) (K.written out.old) (K.written out.new)
         (Rose (S.faults input.old) (S.faults input.new)) (Rose (K.faults out.old) (K.faults out.new))) → SweepsBringTheGreatest (played x.script) }
+    ensures reads { S.faults input.old ≤ S.faults input.new }
+    ensures writes { K.faults out.old ≤ K.faults out.new }
 {
     values_spread();
     read_and_play(alloc, input, out)

@@ -63,6 +63,7 @@ pub fn end_with<K: Sink>(out: &mut K, piece: &[u8], status: Status) -> Status
     ensures ends { Closed result status [] piece.now (K.written out.old) (K.written out.new) (Rose (K.faults out.old) (K.faults out.new)) }
     ensures put { ((result ≡ status) × Puts (K.written out.old) (K.written out.new) piece.now)
         ⊎ ((result ≡ Status.WriteFault) × Rose (K.faults out.old) (K.faults out.new) × PutsFront (K.written out.old) (K.written out.new) piece.now) }
+    ensures counts { K.faults out.old ≤ K.faults out.new }
 {
     match out.write(piece) {
         Ok(()) => status,
@@ -72,7 +73,8 @@ pub fn end_with<K: Sink>(out: &mut K, piece: &[u8], status: Status) -> Status
 
 /// Writes the last line where a line of the script has a fault.
 pub fn end_at_line<K: Sink>(alloc: Global, out: &mut K, line: u32, fault: DripFault) -> Status
-    ensures { Closed result Status.BadInput [] (bad_line line fault) (K.written out.old) (K.written out.new) (Rose (K.faults out.old) (K.faults out.new)) }
+    ensures ends { Closed result Status.BadInput [] (bad_line line fault) (K.written out.old) (K.written out.new) (Rose (K.faults out.old) (K.faults out.new)) }
+    ensures counts { K.faults out.old ≤ K.faults out.new }
 {
     let mut text = Vec::new(alloc);
     match push_bad_line(&mut text, line, fault) {
@@ -84,8 +86,9 @@ pub fn end_at_line<K: Sink>(alloc: Global, out: &mut K, line: u32, fault: DripFa
 /// Writes the last lines of a script.
 fn finish<K: Sink>(alloc: Global, out: &mut K, player: &Player) -> Status
     requires { player.now.standing.nodes ≤ length player.now.network.nodes.items }
-    ensures { (s : Script) (before : List ℕ) → Plays player.now s before
+    ensures ends { (s : Script) (before : List ℕ) → Plays player.now s before
         → Closed result Status.Done [] (final_text (network_of s) s.nodes (length s.items)) (K.written out.old) (K.written out.new) (Rose (K.faults out.old) (K.faults out.new)) }
+    ensures counts { K.faults out.old ≤ K.faults out.new }
 {
     let mut text = Vec::new(alloc);
     match push_final(&mut text, player) {
@@ -97,9 +100,10 @@ fn finish<K: Sink>(alloc: Global, out: &mut K, player: &Player) -> Status
 /// Ends a script whose lines were all played, `line` being the one after the last.
 pub fn end_script<K: Sink>(alloc: Global, out: &mut K, player: &Player, line: u32) -> Status
     requires { IsPlaying player.now }
-    ensures { (s : Script) (before : List ℕ) → Plays player.now s before
+    ensures ends { (s : Script) (before : List ℕ) → Plays player.now s before
         → ((s.nodes ≡ 0) × Closed result Status.BadInput [] (bad_line line DripFault.Place) (K.written out.old) (K.written out.new) (Rose (K.faults out.old) (K.faults out.new)))
         ⊎ ((0 < s.nodes) × Closed result Status.Done [] (final_text (network_of s) s.nodes (length s.items)) (K.written out.old) (K.written out.new) (Rose (K.faults out.old) (K.faults out.new))) }
+    ensures counts { K.faults out.old ≤ K.faults out.new }
 {
     if player.standing.nodes == 0 {
         return end_at_line(alloc, out, line, DripFault::Place);

@@ -1,5 +1,5 @@
 //! Plays a line of a script, and writes what is told of it.
-ghost use Rattle.std.specs.Prelude.{◌≡◌, ℕ, ◌++◌, ◌∷◌, [], List, codes, OnOk, OnErr};
+ghost use Rattle.std.specs.Prelude.{◌≡◌, ◌≤◌, ℕ, ◌++◌, ◌∷◌, [], List, codes, OnOk, OnErr};
 ghost use Rattle.dg_words.specs.Counts.{Rose};
 ghost use Rattle.dg_base.specs.Outside.{Puts, PutsFront};
 ghost use Rattle.dg_drip_script.specs.Lines.{FitsLine, StandsAt};
@@ -19,6 +19,7 @@ fn put_told<K: Sink>(out: &mut K, text: &[u8]) -> Result<(), WriteFailed>
     ensures err { OnErr result (PutsFront (K.written out.old) (K.written out.new) text.now) }
     ensures failed { OnErr result (Rose (K.faults out.old) (K.faults out.new)) }
     ensures unfailed { OnOk result (K.faults out.new ≡ K.faults out.old) }
+    ensures counts { K.faults out.old ≤ K.faults out.new }
 {
     if text.is_empty() {
         return Ok(());
@@ -28,7 +29,8 @@ fn put_told<K: Sink>(out: &mut K, text: &[u8]) -> Result<(), WriteFailed>
 
 // What follows a line whose events were played as far as they may be.
 fn end_full<K: Sink>(out: &mut K, text: &[u8]) -> Status
-    ensures { Closed result Status.TooMany text.now (codes "toomany" ++ 10 ∷ []) (K.written out.old) (K.written out.new) (Rose (K.faults out.old) (K.faults out.new)) }
+    ensures ends { Closed result Status.TooMany text.now (codes "toomany" ++ 10 ∷ []) (K.written out.old) (K.written out.new) (Rose (K.faults out.old) (K.faults out.new)) }
+    ensures counts { K.faults out.old ≤ K.faults out.new }
 {
     match put_told(out, text) {
         Ok(()) => end_with(out, b"toomany\n", Status::TooMany),
@@ -49,6 +51,7 @@ fn play_read<K: Sink>(
     ensures answer { (s : Script) (before : List ℕ) → Plays player.old s before
         → LineAnswer result s (with_line s line.now) player.new (K.written out.old) (K.written out.new) (Rose (K.faults out.old) (K.faults out.new)) }
     ensures still { OnOk result (K.faults out.new ≡ K.faults out.old) }
+    ensures counts { K.faults out.old ≤ K.faults out.new }
 {
     player.text.clear();
     match player.play_line(alloc, line) {
@@ -73,6 +76,7 @@ pub fn play_text<K: Sink>(
     ensures answer { (s : Script) (before : List ℕ) → Plays player.old s before
         → TextAnswer result s text.now number player.new (K.written out.old) (K.written out.new) (Rose (K.faults out.old) (K.faults out.new)) }
     ensures still { OnOk result (K.faults out.new ≡ K.faults out.old) }
+    ensures counts { K.faults out.old ≤ K.faults out.new }
 {
     match read_line(player.standing, text) {
         Ok(line) => play_read(alloc, player, &line, out),

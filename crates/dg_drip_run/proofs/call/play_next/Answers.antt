@@ -50,5 +50,5 @@ returns-in-Err-Long-clause-answer g c =
     let writes = Rose (g.K.Sink.faults c.args.out.now) (g.K.Sink.faults c.end_at_line.new.out) in (
       a.0,
       a.1,
-      λ s before h. next_long c.end_at_line.result s c.in-Err-Long.field-0 c.in-Err-Long.line (old.ahead ++ a.0) old new c.args.player.now c.args.player.now at_end reads reads writes (put c.args.out.now) (put c.end_at_line.new.out) c.in-Err-Long.field-0-is a.2 c.end_at_line.ensures,
+      λ s before h. next_long c.end_at_line.result s c.in-Err-Long.field-0 c.in-Err-Long.line (old.ahead ++ a.0) old new c.args.player.now c.args.player.now at_end reads reads writes (put c.args.out.now) (put c.end_at_line.new.out) c.in-Err-Long.field-0-is a.2 c.end_at_line.ensures.ends,
     )

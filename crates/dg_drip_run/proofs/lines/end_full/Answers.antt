@@ -5,8 +5,8 @@ use Rattle.dg_base.specs.declared.answers.Status.TheVariants as statuses
 use Rattle.dg_drip_run.proofs.ToldLemmas.{closed_behind}
 use Rattle.dg_drip_run.proofs.lines.end_full.Goals as goal
 
-pub returns-in-Ok : goal.returns-in-Ok
-returns-in-Ok g c =
+pub returns-in-Ok-clause-ends : goal.returns-in-Ok-clause-ends
+returns-in-Ok-clause-ends g c =
     let put = g.K.Sink.written in
     let cuts = g.K.Sink.faults in
     closed_behind c.end_with.result statuses.TooMany (put c.args.out.now) (put c.put_told.new.out) (put c.end_with.new.out) c.args.text.now (codes "toomany" ++ 10 ∷ []) (Rose (cuts c.put_told.new.out) (cuts c.end_with.new.out)) (Rose (cuts c.args.out.now) (cuts c.end_with.new.out))

@@ -23,4 +23,4 @@ pub returns-in-Err-TooMany-clause-answer : goal.returns-in-Err-TooMany-clause-an
 returns-in-Err-TooMany-clause-answer g c = λ s before h.
     let p = cleared_plays c.args.player.now (record { network = c.args.player.now.network; standing = c.args.player.now.standing; events = c.args.player.now.events; text = c.clear.new.self }) s before h refl refl refl c.clear.ensures.items in
     line_full c.end_full.result c.in-Err-TooMany.field-0 (record { network = c.args.player.now.network; standing = c.args.player.now.standing; events = c.args.player.now.events; text = c.clear.new.self }) c.play_line.new.self c.args.line.now s c.deref-in-Err-TooMany.result.now
-    (g.K.Sink.written c.args.out.now) (g.K.Sink.written c.end_full.new.out) (Rose (g.K.Sink.faults c.args.out.now) (g.K.Sink.faults c.end_full.new.out)) c.in-Err-TooMany.field-0-is c.in-Err-TooMany.ensures p c.deref-in-Err-TooMany.ensures.value c.end_full.ensures
+    (g.K.Sink.written c.args.out.now) (g.K.Sink.written c.end_full.new.out) (Rose (g.K.Sink.faults c.args.out.now) (g.K.Sink.faults c.end_full.new.out)) c.in-Err-TooMany.field-0-is c.in-Err-TooMany.ensures p c.deref-in-Err-TooMany.ensures.value c.end_full.ensures.ends
