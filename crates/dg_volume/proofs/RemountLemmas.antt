@@ -1,22 +1,28 @@
 -- A volume that is mounted again, and how many bytes that reads.
-use Rattle.std.proofs.Common.{◌≡◌, ⊎_elim, ℕ, zero, suc, ◌+◌, ◌*◌, ◌<◌, ◌≤◌, Bool, false, List, take, length, get_or, Option, Some, None, IsSomeAnd, refl, sym, ap, subst, ◌∙◌, arith}
+use Rattle.std.proofs.Common.{◌≡◌, ⊎_elim, ℕ, zero, suc, ◌+◌, ◌-◌, ◌*◌, ◌<◌, ◌≤◌, Bool, false, List, take, length, get_or, Option, Some, None, IsSomeAnd, refl, sym, ap, subst, ◌∙◌, arith}
 use Rattle.std.specs.List.{sum_by}
 use Rattle.std.proofs.lemmas.List.Sums.{sum_by-take-le, sum_by_more, sum_by_more_le}
 use Rattle.dg_nor.specs.Device.{Device, Took}
 use Rattle.dg_nor.proofs.TakenLemmas.{Took_then, Took-more}
-use Rattle.dg_control.specs.Sizes.{place_size}
-use Rattle.dg_control.specs.Store.{ControlStore, Controls, IsOrderlyChip, StaysOrderly, remount_most, commit_operations, committed, commit_trail, MayCommit}
+use Rattle.dg_control.specs.Sizes.{places, place_size}
+use Rattle.dg_control.specs.Store.{ControlStore, Controls, current, HasTorn, IsOrderlyChip, StaysOrderly, remount_most, commit_operations, committed, commit_trail, MayCommit}
 use Rattle.dg_control.specs.Store.{IsNear as IsNearControl}
 use Rattle.dg_control.specs.Mounted.{control_snapshot, control_room, control_store, IsControlOf}
 use Rattle.dg_control.specs.declared.control.Control.{Control}
-use Rattle.dg_control.proofs.RemountLemmas.{orderly_again, one_mounted}
+use Rattle.dg_control.proofs.RemountLemmas.{orderly_again, one_mounted, torn_here}
+use Rattle.dg_control.proofs.TornLemmas.{one_torn}
+use Rattle.dg_control.proofs.PlacesLemmas.{blank_is_not_committed}
+use Rattle.dg_control.specs.Places.{place_in, IsCommitted}
+use Rattle.dg_control.specs.Snapshot.{place_of}
+use Rattle.dg_nor.specs.Chip.{sector}
+use Rattle.std.proofs.lemmas.Bool.{cases_lt}
 use Rattle.dg_nor.specs.Trail.{operations}
 use Rattle.dg_nor.proofs.TrailLemmas.{operations-stepping, Leaves-stepping}
 use Rattle.dg_slot.specs.Kept.{Held}
 use Rattle.dg_volume.specs.Sizes.{images, golden_version}
 use Rattle.dg_volume.specs.Store.{Store, held}
 use Rattle.dg_volume.specs.Told.{Says, told, slot_told}
-use Rattle.dg_volume.specs.Stands.{Stands, kept_at, Mounted, IsMounted}
+use Rattle.dg_volume.specs.Stands.{Stands, IsVolume, kept_at, Mounted, IsMounted}
 use Rattle.dg_volume.specs.Reading.{SlotKeeps}
 use Rattle.dg_volume.specs.declared.volume.Volume.{Volume}
 use Rattle.dg_volume.proofs.CommitLemmas.{controls_of}
@@ -143,3 +149,40 @@ stopped_slots v next k d same may =
       same = ⊎_elim (λ near. ap (λ (p : Snapshot). p.slots) near.snapshot) (λ done. ap (λ (y : ControlStore). y.snapshot.slots) done.1 ∙ same)
           ((Leaves-stepping IsNearControl s (commit_operations s.room) (committed s next) k x within).0 left.allowed);
     }
+
+-- ---- a volume has such a number, and one alone
+
+spelled_committed : (s : Snapshot) → IsCommitted (place_of s)
+unfolding place_of
+spelled_committed s = refl
+
+has_torn : (c : List ℕ) (s : Snapshot) (room : ℕ) → Controls c s room → (torn : ℕ) × HasTorn c torn
+has_torn c s room k =
+    let cells = sector c (current k.generation) in
+    let place = k.told.place in
+    let committed : IsCommitted (place_in cells place) = subst IsCommitted (sym k.told.spelled) (spelled_committed s) in
+    let before : place + k.free < places = ⊎_elim (λ less. less) (λ past. absurd (blank_is_not_committed (place_in cells place) (k.are_free.clear place past k.told.in_sector) committed)) (cases_lt (place + k.free) places) in (
+      places - place - 1 - k.free,
+      record {
+        generation = k.generation;
+        counted = k.counted;
+        are_torn = record { place = place; committed = committed; last = k.told.last; free = k.free; are_free = k.are_free; all = omega (arith, before) };
+      },
+    )
+
+pub some_bytes : (c : List ℕ) → IsVolume c → (n : ℕ) × RemountBytes c n
+some_bytes c volume =
+    let p = volume.1.snapshot in
+    let torn = has_torn c p volume.0.room volume.1.controls in
+    (remount_most torn.0 + header_most * slots_live p, record { torn = torn.0; has_torn = torn.1; snapshot = p; room = volume.0.room; controls = volume.1.controls; all = refl })
+
+one_has_torn : (c : List ℕ) (t u : ℕ) → HasTorn c t → HasTorn c u → t ≡ u
+one_has_torn c t u was is =
+    let n = was.generation in
+    sym (one_torn (sector c (current n)) t u was.are_torn (torn_here c c n (current n) was.counted refl refl u is))
+
+pub one_bytes : (c : List ℕ) (m n : ℕ) → RemountBytes c m → RemountBytes c n → m ≡ n
+one_bytes c m n was is =
+    let torn = one_has_torn c was.torn is.torn was.has_torn is.has_torn in
+    let live_same : slots_live was.snapshot ≡ slots_live is.snapshot = ap slots_live (one_control c was.snapshot is.snapshot was.room is.room was.controls is.controls).0 in
+    omega (arith, was.all, is.all, torn, live_same)

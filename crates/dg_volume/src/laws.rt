@@ -12,7 +12,8 @@ ghost use Rattle.dg_slot.specs.Fits.{may_seal};
 ghost use Rattle.dg_slot.specs.Jobs.{seal_trail, SlotStops};
 ghost use Rattle.dg_volume.specs.Sizes.{images, golden_version, short_starts, control_sectors, most_take_commits};
 ghost use Rattle.dg_volume.specs.Store.{App, Store, IsNear, held, held_to, held_whole, golden_row, fresh};
-ghost use Rattle.dg_volume.specs.Stands.{Stands, Tells, MountedBut, Mounted, IsMounted, control_of, kept_at};
+ghost use Rattle.dg_volume.specs.Stands.{Stands, IsVolume, Tells, MountedBut, Mounted, IsMounted, control_of, kept_at};
+ghost use Rattle.dg_volume.specs.Remount.{RemountBytes};
 ghost use Rattle.dg_volume.specs.Shaped.{IsShaped};
 ghost use Rattle.dg_volume.specs.Changes.{spent, keeping, paged, ordered, gesture_cleared, advanced, inject_refusal, FitAll};
 ghost use Rattle.dg_volume.specs.Trails.{BeginsAt, order_trail, clear_trail, advance_trail, take_trail, fill_trail, inject_trail, sealing_trail};
@@ -47,6 +48,12 @@ pub fn a_chip_stands_for_one_store()
 pub fn a_volume_is_mounted_in_one_way()
     ensures control { (c : List ℕ) (v w : Volume) → IsMounted c v → IsMounted c w → control_of v ≡ control_of w }
     ensures kept { (c : List ℕ) (v w : Volume) → IsMounted c v → IsMounted c w → (i : ℕ) → i < images → kept_at v i ≡ kept_at w i }
+{}
+
+/// A volume has one number of bytes that mounting it again reads at most.
+pub fn a_volume_bounds_a_remount()
+    ensures some { (c : List ℕ) → IsVolume c → (n : ℕ) × RemountBytes c n }
+    ensures one { (c : List ℕ) (m n : ℕ) → RemountBytes c m → RemountBytes c n → m ≡ n }
 {}
 
 /// What a chip stands for has a place for each image, and an order in its ranges.
