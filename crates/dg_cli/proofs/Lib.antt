@@ -1,2 +1,3 @@
 mod CarryLemmas
 pub mod ChainLemmas
+mod DripLemmas

@@ -13,6 +13,8 @@ use Rattle.dg_replay.specs.Items.{UsesBoards}
 use Rattle.dg_replay.specs.Ending.{script_of}
 use Rattle.dg_replay.specs.Outcome.{Replayed}
 use Rattle.dg_trial.specs.Trials.{TrialEnds}
+use Rattle.dg_drip_run.specs.Outcome.{Dripped, played}
+use Rattle.dg_drip_run.specs.Promised.{GreatestIsKept, NothingFalls, SetsMakeAll, RoundsRaise, SweepsBringTheGreatest}
 use Rattle.dg_command.specs.Asking.{Said, Replay, Serve, Format, Inject, Order as OrderSaid, Boot, Ping, Dump, Trial, Wrap, Check, Receive, Drip, Base, Asking, Asks, Helps, Misuses}
 use Rattle.dg_tool.specs.Endings.{Ending, FirstAs, content_in}
 use Rattle.dg_tool.specs.Verbs.{format_ending, inject_ending, order_ending, power_boot, boot_ending, ping_ending, dump_ending}
@@ -101,6 +103,16 @@ CheckDone image root status a b = Unread a b × Checked status image root a.writ
 abbrev pub ReceiveDone : (image version : ℕ) → (name root : List ℕ) → Status → Around → Around → Type 0
 ReceiveDone image version name root status a b = ReceivedDone status image version name root a.left b.left a.reads b.reads a.written b.written a.writes b.writes a.boards b.boards
 
+-- no board is used, and the laws of how values spread hold of the run that was played
+pub record DripDone (status : Status) (a b : Around) : Type 0 where
+  pub replayed : Dripped status a.left b.left a.written b.written (Rose a.reads b.reads) (Rose a.writes b.writes)
+  pub boards : b.boards ≡ a.boards
+  pub greatest : GreatestIsKept (played replayed.script)
+  pub rises : NothingFalls (played replayed.script)
+  pub made : SetsMakeAll (played replayed.script)
+  pub rounds : RoundsRaise (played replayed.script)
+  pub sweeps : SweepsBringTheGreatest (played replayed.script)
+
 -- ---- words
 
 -- words that are no command: nothing is read, no board is used, and one line is written
@@ -114,7 +126,7 @@ pub record HelpDone (status : Status) (a b : Around) : Type 0 where
   pub boards : b.boards ≡ a.boards
   pub told : HelpTold status a.written b.written a.writes b.writes
 
--- the commands `serve`, `drip` and `base` are still to come: their words are taken as none
+-- the commands `serve` and `base` are still to come: their words are taken as none
 abbrev pub SaidDone : Said → Status → Around → Around → Type 0
 SaidDone (Replay flashes) status a b = ReplayDone status a b
 SaidDone (Serve turns seed flashes) status a b = UsageDone status a b
@@ -128,7 +140,7 @@ SaidDone (Trial motes pages seed) status a b = TrialDone motes pages seed status
 SaidDone Wrap status a b = WrapDone status a b
 SaidDone (Check image root flash) status a b = CheckDone image (root_in root) status a b
 SaidDone (Receive image version name root flash) status a b = ReceiveDone image version name (root_in root) status a b
-SaidDone Drip status a b = UsageDone status a b
+SaidDone Drip status a b = DripDone status a b
 SaidDone (Base id step seed flash) status a b = UsageDone status a b
 
 -- by what the words ask for; the words themselves may take more memory than there is
@@ -146,5 +158,6 @@ ReadsInput (Asks (Replay flashes)) = Unit {0}
 ReadsInput (Asks (Format name used flash)) = Unit {0}
 ReadsInput (Asks (Inject image version name flash)) = Unit {0}
 ReadsInput (Asks Wrap) = Unit {0}
+ReadsInput (Asks Drip) = Unit {0}
 ReadsInput (Asks (Receive image version name root flash)) = Unit {0}
 ReadsInput _ = ⊥

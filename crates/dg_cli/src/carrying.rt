@@ -13,6 +13,7 @@ use crate::chaining::{check, receive};
 use crate::telling::tell_usage;
 use dg_base::{Sink, Source, Status};
 use dg_command::Command;
+use dg_drip_run::drip;
 use dg_nor::Nor;
 use dg_replay::replay;
 use dg_trial::trial;
@@ -100,7 +101,7 @@ pub(crate) fn carry_out<S: Source, K: Sink, N: Nor>(
             let digits = root.as_bytes();
             receive(alloc, image, version, named, digits, input, out, boards)
         }
-        Command::Drip => tell_usage(out),
+        Command::Drip => drip(alloc, input, out),
         Command::Base {
             id: _id,
             step: _step,

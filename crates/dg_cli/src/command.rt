@@ -54,10 +54,12 @@ fn answer<S: Source, K: Sink, N: Nor>(
 
 /// Does all that the program does with the words after its name, and answers how it ended.
 ///
-/// `replay` replays the script that `input` spells over the boards, which its `golden` line formats and its `boards` line
-/// uses as they are, and writes the report to `out`. `trial` plays the schedule that a seed makes over them. `format`,
-/// `inject`, `order`, `boot`, `ping` and `dump` work on the first board. `--help` and `--version` write a text. All other
-/// words are [`Status::Usage`]. A status other than [`Status::Done`] writes its line last, where it has one.
+/// `replay` replays the script that `input` spells over the boards, which are formatted with its `golden` line and used as
+/// they are with its `boards` line, and writes the report to `out`. `trial` plays the schedule that a seed makes over them.
+/// `format`, `inject`, `order`, `boot`, `ping`, `dump`, `check` and `receive` work on the first board. `wrap` and `drip` use
+/// none: they make a hash-chained image of `input`, and replay the script of nodes that it spells. `--help` and `--version`
+/// write a text. All other words are [`Status::Usage`]. A status other than [`Status::Done`] writes its line last, where it
+/// has one.
 pub fn run<S: Source, K: Sink, N: Nor>(
     alloc: Global,
     words: &Vec<String>,

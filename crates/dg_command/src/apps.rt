@@ -26,7 +26,8 @@ const VERBS: &str = "Commands:
   trial --motes N --pages P --seed S                      play a schedule that a seed makes
   wrap                                                    make a hash-chained image
   check --image I --root HEX FLASH                        test an image of a chip against its root
-  receive --image I --ver V --name NAME --root HEX FLASH  put a hash-chained image into a chip";
+  receive --image I --ver V --name NAME --root HEX FLASH  put a hash-chained image into a chip
+  drip                                                    replay a script of small values";
 
 /// An option that must be there, whose value is a number within bounds.
 fn number<'a>(alloc: Global, name: &'a str, help: &'a str, low: u32, high: u32) -> Arg<'a>

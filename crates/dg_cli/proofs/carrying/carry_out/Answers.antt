@@ -1,6 +1,7 @@
 use Rattle.std.proofs.Common.{sym, refl}
 use Rattle.std.proofs.lemmas.List.{length-map}
 use Rattle.dg_cli.proofs.CarryLemmas.{said_done, format_done, inject_done, order_done, boot_done, received_said, check_said, no_link, no_link_of_a_trial}
+use Rattle.dg_cli.proofs.DripLemmas.{no_link_of_nodes}
 use Rattle.dg_cli.proofs.carrying.carry_out.Goals as goal
 
 pub returns-in-Replay-clause-done : goal.returns-in-Replay-clause-done
@@ -74,3 +75,19 @@ returns-in-Receive-clause-done g c =
 
 pub returns-in-Receive-clause-link : goal.returns-in-Receive-clause-link
 returns-in-Receive-clause-link g c = no_link _ _ _ _ _ c.receive.ensures.done.2.faulted
+
+pub returns-in-Drip-clause-done : goal.returns-in-Drip-clause-done
+returns-in-Drip-clause-done g c =
+    let e = c.drip.ensures in
+    said_done c.args.command _ c.in-Drip.is _ _ _ (record {
+      replayed = e.replayed;
+      boards = refl;
+      greatest = e.greatest e.replayed;
+      rises = e.rises e.replayed;
+      made = e.made e.replayed;
+      rounds = e.rounds e.replayed;
+      sweeps = e.sweeps e.replayed;
+    })
+
+pub returns-in-Drip-clause-link : goal.returns-in-Drip-clause-link
+returns-in-Drip-clause-link g c = no_link_of_nodes _ _ _ _ _ _ _ c.drip.ensures.replayed
