@@ -59,9 +59,11 @@ pub ends_whole : WholeLaw → (r : Status) (motes pages seed : ℕ) (before afte
 ends_whole law r motes pages seed before after old new some few some_pages few_pages ends is =
     let d : TrialDone motes pages seed before after old new = subst (λ (s : Status). TrialEnds s motes pages seed before after old new) is ends in
     let w = d.played.last in
-    let whole = law motes pages seed w some few some_pages few_pages d.played.run in
+    let all = law motes pages seed w some few some_pages few_pages d.played.run in
+    let whole = all.1 in
     record {
       played = d.played;
+      kept = all.0;
       whole = whole;
       told = subst (λ (n : ℕ). Puts before after (summary_line motes pages (sweeps_of motes pages) w.events n)) whole d.told;
     }

@@ -20,7 +20,7 @@ use Rattle.dg_completion.specs.Completion.{newest, page_count, pages_of, Complet
 use Rattle.dg_completion.specs.Holders.{WithinLaw, EnoughLaw}
 use Rattle.dg_trial.specs.Schedule.{Part, uncut, always, line, resets, beside, cut_reset, disturbed_at, disturbances, opening, schedule, seeded, sweeps_of, row_by, row_of_seed}
 use Rattle.dg_trial.specs.Playing.{golden, chip, first, LeadsTo}
-use Rattle.dg_trial.specs.Trials.{WholeLaw, wholes}
+use Rattle.dg_trial.specs.Trials.{AllKeep, WholeLaw, wholes}
 use Rattle.dg_trial.proofs.RunLemmas.{leads_apart, leads_sites}
 use Rattle.dg_trial.proofs.BeginLemmas.{length_first, site_first}
 use Rattle.dg_trial.proofs.FitLemmas.{disturbances_fit, length-disturbances}
@@ -197,8 +197,8 @@ module _ (laws : WholeLaws) (motes pages seed word : ℕ) (g : Lcg) (some : 2 �
         all_whole image.name image.bytes laws.within motes p.again some count_four links_four (four.moves.table ∙ table_three) whole_four
         laws.enough laws.complete laws.moving.free laws.moving.spend laws.swept four.moves.good four.on k (omega (arith, pages_are)) v p.sweeps room_four
 
-    whole_then : length v.sites ≡ motes → wholes image v ≡ motes
-    whole_then count = count_whole image.name image.bytes v.sites (λ j h. kept_then j (omega (arith, h, count))) ∙ count
+    whole_then : length v.sites ≡ motes → AllKeep motes image v × (wholes image v ≡ motes)
+    whole_then count = (kept_then, count_whole image.name image.bytes v.sites (λ j h. kept_then j (omega (arith, h, count))) ∙ count)
 
 pub whole_law : WholeLaws → WholeLaw
 whole_law laws motes pages seed v some few some_pages few_pages run =

@@ -7,6 +7,7 @@ use Rattle.dg_base.specs.declared.answers.Status.{Status}
 use Rattle.dg_base.specs.declared.answers.Status.TheVariants.{Done, Memory, WriteFault, FlashFault, NoBoard}
 use Rattle.dg_nor.specs.Device.{Device}
 use Rattle.dg_object.specs.Object.{Row}
+use Rattle.dg_volume.specs.Store.{held, held_whole}
 use Rattle.dg_volume.specs.Stands.{Stands}
 use Rattle.dg_rules.specs.Sizes.{most_motes}
 use Rattle.dg_rules.specs.World.{World, Site, store_at}
@@ -39,9 +40,14 @@ keeps_all row x = nat_le (page_count row) (pages_of x.store row)
 abbrev pub wholes : Row → World → ℕ
 wholes row w = count_by (keeps_all row) w.sites
 
--- Where a trial leads, every mote keeps the image whole.
+-- every mote keeps a row whole, page by page
+abbrev pub AllKeep : ℕ → Row → World → Type 0
+AllKeep motes row w = (m : ℕ) → m < motes → held (store_at w m) row.image ≡ Some (held_whole row)
+
+-- Where a trial leads, every mote keeps the image whole, and so many are counted.
 abbrev pub WholeLaw : Type 0
-WholeLaw = (motes pages seed : ℕ) (v : World) → 2 ≤ motes → motes ≤ most_motes → 2 ≤ pages → pages ≤ 65 → TrialRun motes pages seed v → wholes (row_of_seed pages seed) v ≡ motes
+WholeLaw = (motes pages seed : ℕ) (v : World) → 2 ≤ motes → motes ≤ most_motes → 2 ≤ pages → pages ≤ 65 → TrialRun motes pages seed v
+    → AllKeep motes (row_of_seed pages seed) v × (wholes (row_of_seed pages seed) v ≡ motes)
 
 -- ---- what is told
 
@@ -152,6 +158,7 @@ pub record TrialCut (motes pages seed : ℕ) (before after : Option (List ℕ)) 
 -- It was played and told, and every mote keeps the image whole, as the line tells.
 pub record EndsWhole (motes pages seed : ℕ) (before after : Option (List ℕ)) (old new : List Device) : Type 0 where
   pub played : TrialPlayed motes pages seed old new
+  pub kept : AllKeep motes (row_of_seed pages seed) played.last
   pub whole : wholes (row_of_seed pages seed) played.last ≡ motes
   pub told : Puts before after (summary_line motes pages (sweeps_of motes pages) played.last.events motes)
 

@@ -172,7 +172,7 @@ pub fn trial<K: Sink, N: Nor>(
     // The boards' stores are those at the end of a run of the schedule, and the line counts that run. Each other status comes
     // with its cause, and what it leaves.
     ensures ends { TrialEnds result motes pages seed (K.written out.old) (K.written out.new) (map N.device boards.old.items) (map N.device boards.new.items) }
-    // Where it is played and told, every mote keeps the image whole, and the line says so.
+    // Where it is played and told, every mote keeps the image whole, page by page, and the line says so.
     ensures whole { result ≡ Status.Done → EndsWhole motes pages seed (K.written out.old) (K.written out.new) (map N.device boards.old.items) (map N.device boards.new.items) }
     // only a write that failed raises the count of such
     ensures cause { result ≡ Status.WriteFault → Rose (K.faults out.old) (K.faults out.new) }

@@ -14,3 +14,4 @@ mod summary;
 mod words;
 
 pub use call::trial;
+pub use laws::trials_end_whole;
