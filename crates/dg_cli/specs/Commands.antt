@@ -12,7 +12,7 @@ use Rattle.dg_volume.specs.Trails.{inject_trail, order_trail}
 use Rattle.dg_replay.specs.Items.{UsesBoards}
 use Rattle.dg_replay.specs.Ending.{script_of}
 use Rattle.dg_replay.specs.Outcome.{Replayed}
-use Rattle.dg_trial.specs.Trials.{TrialEnds}
+use Rattle.dg_trial.specs.Trials.{TrialEnds, EndsWhole}
 use Rattle.dg_drip_run.specs.Outcome.{Dripped, played}
 use Rattle.dg_drip_run.specs.Promised.{GreatestIsKept, NothingFalls, SetsMakeAll, RoundsRaise, SweepsBringTheGreatest}
 use Rattle.dg_command.specs.Asking.{Said, Replay, Serve, Format, Inject, Order as OrderSaid, Boot, Ping, Dump, Trial, Wrap, Check, Receive, Drip, Base, Asking, Asks, Helps, Misuses}
@@ -84,11 +84,12 @@ DumpDone image status a b = Unread a b × FirstDone ⊥ (dump_ending (length a.b
 
 -- ---- the trial
 
--- The schedule that the seed makes is played over the boards, and nothing is read. Only a write that failed raises the count of such.
+-- The schedule that the seed makes is played over the boards, and nothing is read. Only a write that failed raises the count of such. Where it is played and told, every mote keeps the image whole.
 abbrev pub TrialDone : (motes pages seed : ℕ) → Status → Around → Around → Type 0
 TrialDone motes pages seed status a b =
     Unread a b × TrialEnds status motes pages seed a.written b.written a.boards b.boards
     × (status ≡ WriteFault → Rose a.writes b.writes) × (status ≢ WriteFault → b.writes ≡ a.writes)
+    × (status ≡ Done → EndsWhole motes pages seed a.written b.written a.boards b.boards)
 
 -- ---- hash-chained images
 
