@@ -5,18 +5,23 @@ use dg_link::MemLink;
 use dg_netcfg::read_profile;
 use dg_nor::Board;
 use dg_volume::Volume;
+use std::alloc::Global;
 use std::test::Fail;
+
+/// A board that holds a base image.
+fn formatted(alloc: Global) -> Result<Board, Fail> {
+    let mut board = Board::memory(alloc)?;
+    Volume::format(&mut board, b"A", b"base", 0)?;
+    Ok(board)
+}
 
 #[test]
 fn two_motes_over_a_link_in_memory(rt: HostRuntime) -> Result<(), Fail> {
     let alloc = rt.alloc();
     let profile = read_profile(alloc, b"motes = 2\nport = 17000\nlinks = [[0, 1]]\n")?;
     let mut boards = Vec::new(alloc);
-    for _ in 0..2 {
-        let mut board = Board::memory(alloc)?;
-        Volume::format(&mut board, b"A", b"base", 0)?;
-        boards.push(board)?;
-    }
+    boards.push(formatted(alloc)?)?;
+    boards.push(formatted(alloc)?)?;
     let mut link = MemLink::new(alloc, 4);
     let mut clock = StepClock::new(100);
     let mut out = MemSink::new(alloc, 10_000, Vec::new(alloc))?;
