@@ -9,7 +9,7 @@ use Rattle.dg_base.specs.declared.answers.Status.TheVariants as status
 use Rattle.dg_nor.specs.Device.{Device}
 use Rattle.dg_trial.specs.Schedule.{sweeps_of}
 use Rattle.dg_rules.specs.Sizes.{most_motes}
-use Rattle.dg_trial.specs.Trials.{summary_line, no_board_line, told_of, WholeLaw, LineEnds, EndsWhole, TrialDone, TrialEnds, RunEnds, TrialPlayed, Tells, Unplayed}
+use Rattle.dg_trial.specs.Trials.{summary_line, no_board_line, told_of, WholeLaw, LineEnds, TellsWhole, TrialDone, TrialEnds, RunEnds, TrialPlayed, Tells, Unplayed}
 use Rattle.dg_trial.proofs.TrialLemmas.{read_unread}
 use Rattle.dg_trial.specs.declared.summary.Summary.{Summary}
 
@@ -44,29 +44,22 @@ told_is motes pages seed old new s t h =
 unread : (motes pages seed : ℕ) (old new : List Device) → TrialPlayed motes pages seed old new → Unplayed motes pages seed old new
 unread motes pages seed old new t = read_unread motes pages seed t.last old new t.run t.boards
 
-pub trial_told : (r : Status) (motes pages seed : ℕ) (before after : Option (List ℕ)) (fb fa : ℕ) (old new : List Device) (s : Summary) → motes ≤ length old → RunEnds (Ok s) motes pages seed old new
+pub trial_told : WholeLaw → (r : Status) (motes pages seed : ℕ) (before after : Option (List ℕ)) (fb fa : ℕ) (old new : List Device) (s : Summary) → 2 ≤ motes → motes ≤ most_motes → 2 ≤ pages → pages ≤ 65 → motes ≤ length old → RunEnds (Ok s) motes pages seed old new
     → LineEnds r status.Done (summary_line s.motes s.pages s.sweeps s.events s.whole) before after fb fa → TrialEnds r motes pages seed before after old new
-trial_told r motes pages seed before after fb fa old new s enough run h =
+trial_told law r motes pages seed before after fb fa old new s some few some_pages few_pages enough run h =
+    let all = law motes pages seed run.0.last some few some_pages few_pages run.0.run in
     let E : Status → Type 0 = λ x. TrialEnds x motes pages seed before after old new in
     let at = subst (λ (t : List ℕ). LineEnds r status.Done t before after fb fa) (told_is motes pages seed old new s run.0 run.1) h in
-    ⊎_elim (λ a. subst E (sym a.0) (record { enough = enough; played = run.0; told = a.1 }))
+    ⊎_elim (λ a. subst E (sym a.0) (record { enough = enough; played = run.0; kept = all.0; whole = all.1; told = a.1 }))
     (λ x. ⊎_elim (λ b. subst E (sym b.0) (inl (record { enough = enough; played = run.0; told = b.1 })))
     (λ c. subst E (sym c.0) (unread motes pages seed old new run.0, c.1)) x) at
 
--- where it was played and told, every mote keeps the image whole
-pub ends_whole : WholeLaw → (r : Status) (motes pages seed : ℕ) (before after : Option (List ℕ)) (old new : List Device) → 2 ≤ motes → motes ≤ most_motes → 2 ≤ pages → pages ≤ 65
-    → TrialEnds r motes pages seed before after old new → r ≡ status.Done → EndsWhole motes pages seed before after old new
-ends_whole law r motes pages seed before after old new some few some_pages few_pages ends is =
+-- where it was played and told, the line says that every mote keeps the image whole
+pub tells_whole : (r : Status) (motes pages seed : ℕ) (before after : Option (List ℕ)) (old new : List Device) → TrialEnds r motes pages seed before after old new → r ≡ status.Done → TellsWhole motes pages before after
+tells_whole r motes pages seed before after old new ends is =
     let d : TrialDone motes pages seed before after old new = subst (λ (s : Status). TrialEnds s motes pages seed before after old new) is ends in
     let w = d.played.last in
-    let all = law motes pages seed w some few some_pages few_pages d.played.run in
-    let whole = all.1 in
-    record {
-      played = d.played;
-      kept = all.0;
-      whole = whole;
-      told = subst (λ (n : ℕ). Puts before after (summary_line motes pages (sweeps_of motes pages) w.events n)) whole d.told;
-    }
+    (w.events, subst (λ (n : ℕ). Puts before after (summary_line motes pages (sweeps_of motes pages) w.events n)) d.whole d.told)
 
 pub summary_text : (t0 t1 t2 t3 t4 t5 t6 : List ℕ) (a b c d e m p s v w : ℕ) → t1 ≡ t0 ++ (codes "trial motes " ++ decimal a) → t2 ≡ t1 ++ (codes " pages " ++ decimal b) → t3 ≡ t2 ++ (codes " sweeps " ++ decimal c) → t4 ≡ t3 ++ (codes " events " ++ decimal d)
     → t5 ≡ t4 ++ (codes " whole " ++ decimal e) → t6 ≡ t5 ++ 10 ∷ [] → a ≡ m → b ≡ p → c ≡ s → d ≡ v → e ≡ w → t6 ≡ t0 ++ summary_line m p s v w

@@ -143,10 +143,12 @@ pub record LacksBoards (motes : ℕ) (old new : List Device) : Type 0 where
   pub missing : length old < motes
   pub same : new ≡ old
 
--- The trial was played and told.
+-- The trial was played and told, and every mote keeps the image whole.
 pub record TrialDone (motes pages seed : ℕ) (before after : Option (List ℕ)) (old new : List Device) : Type 0 where
   pub enough : motes ≤ length old
   pub played : TrialPlayed motes pages seed old new
+  pub kept : AllKeep motes (row_of_seed pages seed) played.last
+  pub whole : wholes (row_of_seed pages seed) played.last ≡ motes
   pub told : Puts before after (told_of motes pages seed played.last)
 
 -- It was played, and its line was written in part.
@@ -155,12 +157,9 @@ pub record TrialCut (motes pages seed : ℕ) (before after : Option (List ℕ)) 
   pub played : TrialPlayed motes pages seed old new
   pub told : PutsFront before after (told_of motes pages seed played.last)
 
--- It was played and told, and every mote keeps the image whole, as the line tells.
-pub record EndsWhole (motes pages seed : ℕ) (before after : Option (List ℕ)) (old new : List Device) : Type 0 where
-  pub played : TrialPlayed motes pages seed old new
-  pub kept : AllKeep motes (row_of_seed pages seed) played.last
-  pub whole : wholes (row_of_seed pages seed) played.last ≡ motes
-  pub told : Puts before after (summary_line motes pages (sweeps_of motes pages) played.last.events motes)
+-- the line of a trial in which every mote keeps the image whole
+abbrev pub TellsWhole : (motes pages : ℕ) → (before after : Option (List ℕ)) → Type 0
+TellsWhole motes pages before after = (events : ℕ) × Puts before after (summary_line motes pages (sweeps_of motes pages) events motes)
 
 -- How a trial ends, by its status. Only a write that failed raises the count of such.
 abbrev pub TrialEnds : Status → (motes pages seed : ℕ) → (before after : Option (List ℕ)) → (old new : List Device) → Type 0

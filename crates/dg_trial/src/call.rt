@@ -8,7 +8,7 @@ ghost use Rattle.dg_rules.specs.World.{World as RuleWorld};
 ghost use Rattle.dg_world.specs.Worlds.{IsWorld};
 ghost use Rattle.dg_trial.specs.Schedule.{sweeps_of};
 ghost use Rattle.dg_trial.specs.Playing.{WorldStands};
-ghost use Rattle.dg_trial.specs.Trials.{ScheduleEnds, TrialRun, RunEnds, TrialEnds, EndsWhole, LineEnds, summary_line, no_board_line};
+ghost use Rattle.dg_trial.specs.Trials.{ScheduleEnds, TrialRun, RunEnds, TrialEnds, TellsWhole, LineEnds, summary_line, no_board_line};
 
 use crate::beginning::{declare, format, line, linked};
 use crate::laws::trials_end_whole;
@@ -169,11 +169,11 @@ pub fn trial<K: Sink, N: Nor>(
     requires few { motes ≤ most_motes }
     requires some_pages { 2 ≤ pages }
     requires few_pages { pages ≤ 65 }
-    // The boards' stores are those at the end of a run of the schedule, and the line counts that run. Each other status comes
-    // with its cause, and what it leaves.
+    // The boards' stores are those at the end of a run of the schedule, every mote keeps the image whole, page by page, and the
+    // line counts that run. Each other status comes with its cause, and what it leaves.
     ensures ends { TrialEnds result motes pages seed (K.written out.old) (K.written out.new) (map N.device boards.old.items) (map N.device boards.new.items) }
-    // Where it is played and told, every mote keeps the image whole, page by page, and the line says so.
-    ensures whole { result ≡ Status.Done → EndsWhole motes pages seed (K.written out.old) (K.written out.new) (map N.device boards.old.items) (map N.device boards.new.items) }
+    // where it is played and told, the line says that every mote keeps the image whole
+    ensures whole { result ≡ Status.Done → TellsWhole motes pages (K.written out.old) (K.written out.new) }
     // only a write that failed raises the count of such
     ensures cause { result ≡ Status.WriteFault → Rose (K.faults out.old) (K.faults out.new) }
     ensures unfailed { result ≢ Status.WriteFault → K.faults out.new ≡ K.faults out.old }

@@ -1,7 +1,7 @@
 use Rattle.std.proofs.Common.{◌≡◌, refl, arith}
 use Rattle.std.proofs.lemmas.List.{length-map}
 use Rattle.dg_base.specs.declared.answers.Status.TheVariants as status
-use Rattle.dg_trial.proofs.EndLemmas.{line_cause, line_unfailed, boards_missing, trial_told, ends_whole}
+use Rattle.dg_trial.proofs.EndLemmas.{line_cause, line_unfailed, boards_missing, trial_told, tells_whole}
 use Rattle.dg_trial.proofs.call.trial.Goals as goal
 
 no_board_other : status.NoBoard ≡ status.WriteFault → ⊥
@@ -24,7 +24,7 @@ returns-then-len-from-clause-unfailed g c = line_unfailed c.end_without_boards.r
 pub returns-in-Ok-clause-ends : goal.returns-in-Ok-clause-ends
 returns-in-Ok-clause-ends g c =
     let e = length-map c.args.boards.now.items g.N.Nor.device in
-    trial_told c.end_played.result c.args.motes c.args.pages c.args.seed _ _ _ _ _ _ c.in-Ok.summary (omega (arith, e)) c.in-Ok.ensures c.end_played.ensures.ends
+    trial_told c.trials_end_whole.ensures c.end_played.result c.args.motes c.args.pages c.args.seed _ _ _ _ _ _ c.in-Ok.summary c.requires.some c.requires.few c.requires.some_pages c.requires.few_pages (omega (arith, e)) c.in-Ok.ensures c.end_played.ensures.ends
 
 pub returns-in-Ok-clause-cause : goal.returns-in-Ok-clause-cause
 returns-in-Ok-clause-cause g c = line_cause c.end_played.result status.Done _ _ _ _ _ done_other c.end_played.ensures.ends
@@ -42,10 +42,8 @@ returns-in-Err-Flash-clause-ends g c =
 
 pub returns-then-len-from-clause-whole : goal.returns-then-len-from-clause-whole
 returns-then-len-from-clause-whole g c =
-    ends_whole c.trials_end_whole.ensures c.end_without_boards.result c.args.motes c.args.pages c.args.seed _ _ _ _ c.requires.some c.requires.few c.requires.some_pages c.requires.few_pages
-    (returns-then-len-from-clause-ends g c)
+    tells_whole c.end_without_boards.result c.args.motes c.args.pages c.args.seed _ _ _ _ (returns-then-len-from-clause-ends g c)
 
 pub returns-in-Ok-clause-whole : goal.returns-in-Ok-clause-whole
 returns-in-Ok-clause-whole g c =
-    ends_whole c.trials_end_whole.ensures c.end_played.result c.args.motes c.args.pages c.args.seed _ _ _ _ c.requires.some c.requires.few c.requires.some_pages c.requires.few_pages
-    (returns-in-Ok-clause-ends g c)
+    tells_whole c.end_played.result c.args.motes c.args.pages c.args.seed _ _ _ _ (returns-in-Ok-clause-ends g c)
