@@ -12,7 +12,7 @@ use Rattle.dg_volume.specs.Trails.{inject_trail, order_trail}
 use Rattle.dg_replay.specs.Items.{UsesBoards}
 use Rattle.dg_replay.specs.Ending.{script_of}
 use Rattle.dg_replay.specs.Outcome.{Replayed}
-use Rattle.dg_trial.specs.Trials.{TrialEnds, EndsWhole}
+use Rattle.dg_trial.specs.Trials.{TrialEnds}
 use Rattle.dg_drip_run.specs.Outcome.{Dripped, played}
 use Rattle.dg_drip_run.specs.Promised.{GreatestIsKept, NothingFalls, SetsMakeAll, RoundsRaise, SweepsBringTheGreatest}
 use Rattle.dg_command.specs.Asking.{Said, Replay, Serve, Format, Inject, Order as OrderSaid, Boot, Ping, Dump, Trial, Wrap, Check, Receive, Drip, Base, Asking, Asks, Helps, Misuses}
@@ -89,7 +89,6 @@ abbrev pub TrialDone : (motes pages seed : ℕ) → Status → Around → Around
 TrialDone motes pages seed status a b =
     Unread a b × TrialEnds status motes pages seed a.written b.written a.boards b.boards
     × (status ≡ WriteFault → Rose a.writes b.writes) × (status ≢ WriteFault → b.writes ≡ a.writes)
-    × (status ≡ Done → EndsWhole motes pages seed a.written b.written a.boards b.boards)
 
 -- ---- hash-chained images
 

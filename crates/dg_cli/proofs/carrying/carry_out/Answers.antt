@@ -51,7 +51,7 @@ returns-in-Dump-clause-link g c = no_link _ _ _ _ _ c.dump.ensures.done.faulted
 
 pub returns-in-Trial-clause-done : goal.returns-in-Trial-clause-done
 returns-in-Trial-clause-done g c =
-    said_done c.args.command _ c.in-Trial.is _ _ _ ((refl, refl), c.trial.ensures.ends, c.trial.ensures.cause, c.trial.ensures.unfailed, c.trial.ensures.whole)
+    said_done c.args.command _ c.in-Trial.is _ _ _ ((refl, refl), c.trial.ensures.ends, c.trial.ensures.cause, c.trial.ensures.unfailed)
 
 pub returns-in-Trial-clause-link : goal.returns-in-Trial-clause-link
 returns-in-Trial-clause-link g c = no_link_of_a_trial _ c.in-Trial.motes c.in-Trial.pages c.in-Trial.seed _ _ _ _ c.trial.ensures.ends
