@@ -29,7 +29,7 @@ most_bytes = 70656
 
 -- the slots of a chip, each for one image. The images of a chip are numbered from 0 to below this
 abbrev pub slots : ℕ
-slots = 4
+slots = 7
 
 -- the bytes of a descriptor in front of the CRCs
 abbrev pub head_size : ℕ

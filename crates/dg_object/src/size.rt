@@ -25,7 +25,7 @@ pub const MOST_PAGES: u8 = 65;
 pub const MOST_BYTES: usize = 70_656;
 
 /// The slots of a chip, each for one image. Image numbers are below this.
-pub const SLOTS: u8 = 4;
+pub const SLOTS: u8 = 7;
 
 /// The bytes of a descriptor in front of the CRCs.
 pub const HEAD_SIZE: usize = 28;

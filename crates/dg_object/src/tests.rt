@@ -72,7 +72,7 @@ fn descriptors(rt: HostRuntime) -> Result<(), Fail> {
     let rows = [
         (0, b'd', DescriptorFault::Tag),
         (1, 0, DescriptorFault::Tag),
-        (2, 4, DescriptorFault::Range),
+        (2, 7, DescriptorFault::Range),
         (3, 3, DescriptorFault::Range),
         (7, 0, DescriptorFault::Range),
         (11, 0, DescriptorFault::Range),
