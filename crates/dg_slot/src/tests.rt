@@ -7,7 +7,7 @@ ghost use Rattle.dg_object.specs.Sizes.{packets};
 ghost use Rattle.dg_slot.specs.Jobs.{got_told};
 
 use crate::{DirtySlot, PageJob, Sealing};
-use dg_nor::{Board, Fused, Nor, Stopped, erase_sector, program_in, read_in};
+use dg_nor::{Board, Fused, Nor, SECTORS, Stopped, erase_sector, program_in, read_in};
 use dg_object::{PACKET_SIZE, PACKETS, PAGE_SIZE, Profile, page_of};
 use std::test::Fail;
 
@@ -84,7 +84,7 @@ fn make_listed<N: Nor>(nor: &mut N, page: &[u8; PAGE_SIZE]) -> Result<(), Stoppe
 
 /// The bytes of a sector.
 fn sector(board: &mut Board, index: u32) -> Result<[u8; 2048], Fail>
-    requires { index < 332 }
+    requires { index < SECTORS }
 {
     let mut bytes = [0; 2048];
     read_in(board, index, 0, &mut bytes)?;

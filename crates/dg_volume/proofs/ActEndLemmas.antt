@@ -1,6 +1,6 @@
 -- Where takes, fillings and injections end.
 use Rattle.std.proofs.Common.{◌≡◌, ℕ, ◌-◌, ◌<◌, Bool, true, false, cond, List, [], ◌∷◌, length, drop, get_or, set, Option, Some, None, IfSome, refl, sym, ap, subst, ◌∙◌, ⊎_elim, arith, append_assoc, get_or-set_other, get_or-set_same}
-use Rattle.std.specs.Prelude.{option_map}
+use Rattle.std.specs.Prelude.{◌==◌, if◌then◌else◌, option_map}
 use Rattle.std.proofs.lemmas.Bool.{cases_Bool, cases_eq, eqb-true}
 use Rattle.std.proofs.lemmas.List.{same_lists, get_or_default, take-append-drop, append-nil}
 use Rattle.std.proofs.Math.ListN.{length-set}
@@ -10,9 +10,10 @@ use Rattle.dg_control.specs.Store.{commit_operations}
 use Rattle.dg_object.specs.Object.{Row, Outline, object, profile}
 use Rattle.dg_slot.specs.Layout.{page_operations}
 use Rattle.dg_slot.specs.Kept.{Held, held_begun, with_page}
+use Rattle.dg_volume.specs.Sizes.{old_form}
 use Rattle.dg_volume.specs.Store.{Store, held, held_to, held_whole}
 use Rattle.dg_volume.specs.Changes.{spent, keeping, paged, is_version, inject_refusal}
-use Rattle.dg_volume.specs.Trails.{committing, done_of, drop_by, drop_trail, open_trail, take_trail, fill_trail, inject_by, inject_trail}
+use Rattle.dg_volume.specs.Trails.{committing, migrate_trail, done_of, drop_by, drop_trail, open_trail, take_trail, fill_trail, inject_by, inject_trail}
 use Rattle.dg_volume.specs.Ends.{take_commits, taken, with_pages, injected, KeepsPagesOf}
 use Rattle.dg_volume.specs.declared.volume.InjectFault.{InjectFault}
 use Rattle.dg_volume.proofs.FillLemmas.{fill_first}
@@ -150,3 +151,12 @@ inject_last s row known allowed keeps =
     ∙ ap (λ (b : Bool). to (cond b 0 (take_commits o))) (sym yes))
     (λ no. ap (λ (b : Bool). last (cond b on anew)) no ∙ begins s row known ∙ ap (λ (b : Bool). to (cond b 0 (take_commits o))) (sym no))
     (cases_Bool v)
+
+-- ---- a migration
+
+pub migrate_last : (form : ℕ) (s : Store) → last (migrate_trail form s) ≡ if form == old_form then spent s else s
+migrate_last form s = by_form (form == old_form)
+  where
+    by_form : (b : Bool) → last (if b then committing s (spent s) else resting s 0) ≡ if b then spent s else s
+    by_form true = last-stepping s (commit_operations s.room) (spent s)
+    by_form false = last-resting s 0

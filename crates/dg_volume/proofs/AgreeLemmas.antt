@@ -16,9 +16,10 @@ use Rattle.dg_control.specs.declared.snapshot.Order.{Order}
 use Rattle.dg_object.specs.Object.{Row, Outline, object, profile}
 use Rattle.dg_slot.specs.Layout.{page_operations, most_bytes}
 use Rattle.dg_slot.specs.Kept.{Held, held_begun, with_page}
+use Rattle.dg_volume.specs.Sizes.{old_form}
 use Rattle.dg_volume.specs.Store.{Store, App, held}
 use Rattle.dg_volume.specs.Changes.{spent, keeping, paged, ordered, gesture_cleared, is_version, inject_refusal, refusal_by}
-use Rattle.dg_volume.specs.Trails.{committing, order_trail, clear_trail, drop_by, drop_trail, open_trail, take_trail, fill_trail, inject_by, inject_trail, done_of}
+use Rattle.dg_volume.specs.Trails.{committing, order_trail, clear_trail, migrate_trail, drop_by, drop_trail, open_trail, take_trail, fill_trail, inject_by, inject_trail, done_of}
 use Rattle.dg_volume.specs.Table.{row_at}
 use Rattle.dg_volume.specs.Agreement.{KeepsRow, HoldsRow, Agrees}
 use Rattle.dg_volume.specs.declared.volume.InjectFault.{InjectFault}
@@ -62,6 +63,12 @@ order_through table s o a = Through-stepping (Agrees table) s (commit_operations
 
 pub clear_through : (table : List Row) (s : Store) → Agrees table s → Through (Agrees table) (clear_trail s)
 clear_through table s a = Through-stepping (Agrees table) s (commit_operations s.room) (gesture_cleared s) a (agrees_same table s (gesture_cleared s) refl refl a)
+
+pub migrate_through : (table : List Row) (form : ℕ) (s : Store) → Agrees table s → Through (Agrees table) (migrate_trail form s)
+migrate_through table form s a =
+    cond_both (form == old_form) _ _ (Through (Agrees table))
+    (λ _. Through-stepping (Agrees table) s (commit_operations s.room) (spent s) a (agrees_spent table s a))
+    (λ _. Through-resting (Agrees table) s 0 a)
 
 -- ---- a take
 

@@ -7,10 +7,10 @@ use Rattle.dg_nor.proofs.TrailLemmas.{EachWorks-resting, EachWorks-stepping, Eac
 use Rattle.dg_control.specs.Store.{commit_operations}
 use Rattle.dg_object.specs.Object.{Row, Outline, object, profile}
 use Rattle.dg_slot.specs.Kept.{Held, held_begun}
-use Rattle.dg_volume.specs.Sizes.{golden_version, short_starts}
+use Rattle.dg_volume.specs.Sizes.{golden_version, short_starts, old_form}
 use Rattle.dg_volume.specs.Store.{Store, App, held}
 use Rattle.dg_volume.specs.Changes.{spent, keeping, is_version, inject_refusal}
-use Rattle.dg_volume.specs.Trails.{BeginsAt, committing, drop_by, drop_trail, open_trail, take_trail, fill_trail, inject_by, inject_trail}
+use Rattle.dg_volume.specs.Trails.{BeginsAt, committing, migrate_trail, drop_by, drop_trail, open_trail, take_trail, fill_trail, inject_by, inject_trail}
 use Rattle.dg_volume.specs.Start.{Runs, Boot, counts, count_trail, by_gesture, order_waits, blank_by, blank_trail, copy_trail, app_of, kept_runs, order_boot, finish_trail, golden_copied, golden_by, golden_boot, kept_by, kept_boot, waived_once, boot_counted, boot, is_set_to, sound}
 use Rattle.dg_volume.specs.declared.volume.InjectFault.{InjectFault}
 use Rattle.dg_volume.specs.declared.volume.Kind.{Kind}
@@ -28,6 +28,9 @@ begins_committing s next = record { first = refl; works = EachWorks-stepping s (
 pub begins_joined : (s : Store) (t u : Trail Store) → BeginsAt s t → EachWorks u.stages → BeginsAt s (joined t u)
 unfolding joined
 begins_joined s t u b works = record { first = b.first; works = EachWorks-joined t u b.works works }
+
+pub migrate_begins : (form : ℕ) (s : Store) → BeginsAt s (migrate_trail form s)
+migrate_begins form s = cond_both (form == old_form) _ _ (BeginsAt s) (λ _. begins_committing s _) (λ _. begins_resting s 0)
 
 -- ---- a take and an injection
 

@@ -136,7 +136,7 @@ commit_stops v next s t a b commits keeps h =
 -- ---- a commit that was made
 
 pub controls_of : (c : List ℕ) (v : Control) → IsControlOf c v → Controls c (control_snapshot v) (control_room v)
-controls_of c v m = record { generation = _; counted = m.counted; told = m.told; free = v.free; are_free = m.are_free; left = refl }
+controls_of c v m = record { generation = _; counted = m.counted; form = v.form; told = m.told; free = v.free; are_free = m.are_free; left = refl }
 
 pub commit_mounted : (v w : Volume) (next : Snapshot) (s t : Store) (a b : Device) → Commits a.image v.control next s t → Touches 0 control_sectors a.image b.image → IsControlOf b.image w.control → control_snapshot w.control ≡ next
     → control_room w.control + 1 ≡ control_room v.control → ((i : ℕ) → i < images → kept_at w i ≡ told (held t i)) → Mounted b.image w t

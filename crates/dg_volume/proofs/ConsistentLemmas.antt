@@ -21,10 +21,10 @@ use Rattle.dg_object.proofs.RowLemmas.{descriptor_of_row, crc_in-descriptor_page
 use Rattle.dg_slot.specs.Layout.{page_operations, most_bytes}
 use Rattle.dg_slot.specs.Kept.{Held, HasDescriptor, held_begun, with_page}
 use Rattle.dg_slot.specs.Fits.{may_seal}
-use Rattle.dg_volume.specs.Sizes.{images}
+use Rattle.dg_volume.specs.Sizes.{images, old_form}
 use Rattle.dg_volume.specs.Store.{Store, App, held, held_whole, golden_row, fresh}
 use Rattle.dg_volume.specs.Changes.{spent, keeping, paged, ordered, gesture_cleared, is_version, is_other, inject_refusal, refusal_by, FitAll}
-use Rattle.dg_volume.specs.Trails.{committing, order_trail, clear_trail, drop_by, drop_trail, open_trail, take_trail, fill_trail, inject_by, inject_trail, done_of}
+use Rattle.dg_volume.specs.Trails.{committing, order_trail, clear_trail, migrate_trail, drop_by, drop_trail, open_trail, take_trail, fill_trail, inject_by, inject_trail, done_of}
 use Rattle.dg_volume.specs.Consistent.{FitFirst, IsSoundSoFar, IsSoundApp, Consistent}
 use Rattle.dg_volume.specs.declared.volume.InjectFault.{InjectFault}
 use Rattle.dg_volume.specs.declared.volume.InjectFault.TheVariants.{Empty, TooLarge, Reserved, Stale, Taken}
@@ -107,6 +107,12 @@ order_through golden s o a = Through-stepping (Consistent golden) s (commit_oper
 
 pub clear_through : (golden : Row) (s : Store) → Consistent golden s → Through (Consistent golden) (clear_trail s)
 clear_through golden s a = Through-stepping (Consistent golden) s (commit_operations s.room) (gesture_cleared s) a (consistent_same golden s (gesture_cleared s) refl refl a)
+
+pub migrate_through : (golden : Row) (form : ℕ) (s : Store) → Consistent golden s → Through (Consistent golden) (migrate_trail form s)
+migrate_through golden form s a =
+    cond_both (form == old_form) _ _ (Through (Consistent golden))
+    (λ _. Through-stepping (Consistent golden) s (commit_operations s.room) (spent s) a (consistent_spent golden s a))
+    (λ _. Through-resting (Consistent golden) s 0 a)
 
 -- ---- a take
 

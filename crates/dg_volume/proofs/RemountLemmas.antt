@@ -11,9 +11,10 @@ use Rattle.dg_control.specs.Mounted.{control_snapshot, control_room, control_sto
 use Rattle.dg_control.specs.declared.control.Control.{Control}
 use Rattle.dg_control.proofs.RemountLemmas.{orderly_again, one_mounted, torn_here}
 use Rattle.dg_control.proofs.TornLemmas.{one_torn}
-use Rattle.dg_control.proofs.PlacesLemmas.{blank_is_not_committed}
+use Rattle.dg_control.proofs.PlacesLemmas.{told_of, blank_is_not_committed}
 use Rattle.dg_control.specs.Places.{place_in, IsCommitted}
 use Rattle.dg_control.specs.Snapshot.{place_of}
+use Rattle.dg_control.specs.declared.spelled.Spelled.{Spelled}
 use Rattle.dg_nor.specs.Chip.{sector}
 use Rattle.std.proofs.lemmas.Bool.{cases_lt}
 use Rattle.dg_nor.specs.Trail.{operations}
@@ -152,21 +153,22 @@ stopped_slots v next k d same may =
 
 -- ---- a volume has such a number, and one alone
 
-spelled_committed : (s : Snapshot) → IsCommitted (place_of s)
+spelled_committed : (s : Spelled) → IsCommitted (place_of s)
 unfolding place_of
 spelled_committed s = refl
 
 has_torn : (c : List ℕ) (s : Snapshot) (room : ℕ) → Controls c s room → (torn : ℕ) × HasTorn c torn
 has_torn c s room k =
     let cells = sector c (current k.generation) in
-    let place = k.told.place in
-    let committed : IsCommitted (place_in cells place) = subst IsCommitted (sym k.told.spelled) (spelled_committed s) in
-    let before : place + k.free < places = ⊎_elim (λ less. less) (λ past. absurd (blank_is_not_committed (place_in cells place) (k.are_free.clear place past k.told.in_sector) committed)) (cases_lt (place + k.free) places) in (
+    let x = told_of cells s k.form k.told in
+    let place = x.told.place in
+    let committed : IsCommitted (place_in cells place) = subst IsCommitted (sym x.told.spelled) (spelled_committed x.written) in
+    let before : place + k.free < places = ⊎_elim (λ less. less) (λ past. absurd (blank_is_not_committed (place_in cells place) (k.are_free.clear place past x.told.in_sector) committed)) (cases_lt (place + k.free) places) in (
       places - place - 1 - k.free,
       record {
         generation = k.generation;
         counted = k.counted;
-        are_torn = record { place = place; committed = committed; last = k.told.last; free = k.free; are_free = k.are_free; all = omega (arith, before) };
+        are_torn = record { place = place; committed = committed; last = x.told.last; free = k.free; are_free = k.are_free; all = omega (arith, before) };
       },
     )
 

@@ -2,7 +2,7 @@
 -- Each number stands here alone, or in the crate that is cited.
 use Rattle.std.specs.Prelude.{ℕ, ◌+◌}
 use Rattle.dg_control.specs.Sizes.{control_end}
-pub use Rattle.dg_control.specs.Sizes.{images, golden_image, golden_version, short_starts, places, most_room}
+pub use Rattle.dg_control.specs.Sizes.{images, golden_image, golden_version, short_starts, places, most_room, old_form, new_form}
 
 -- the sectors in front of program memory: the ledger, and the two control sectors
 abbrev pub control_sectors : ℕ

@@ -1,5 +1,5 @@
 -- The stores that the acts of a volume go through.
-use Rattle.std.specs.Prelude.{ℕ, if◌then◌else◌, Bool, List, [], ◌∷◌, ◌≡◌, length, drop, Option, Some, None}
+use Rattle.std.specs.Prelude.{ℕ, ◌==◌, if◌then◌else◌, Bool, List, [], ◌∷◌, ◌≡◌, length, drop, Option, Some, None}
 use Rattle.dg_nor.specs.Trail.{Trail, last, joined, resting, stepping, EachWorks}
 use Rattle.dg_control.specs.Store.{commit_operations}
 use Rattle.dg_control.specs.declared.snapshot.Order.{Order}
@@ -7,6 +7,7 @@ use Rattle.dg_object.specs.Object.{Row, Outline, object, profile}
 use Rattle.dg_slot.specs.Layout.{page_operations}
 use Rattle.dg_slot.specs.Kept.{Held, held_begun}
 use Rattle.dg_slot.specs.Fits.{may_seal}
+use Rattle.dg_volume.specs.Sizes.{old_form}
 use Rattle.dg_volume.specs.Store.{Store, App, held}
 use Rattle.dg_volume.specs.Changes.{spent, keeping, paged, ordered, gesture_cleared, advanced, is_version, inject_refusal}
 use Rattle.dg_volume.specs.declared.volume.InjectFault.{InjectFault}
@@ -23,6 +24,10 @@ clear_trail s = committing s (gesture_cleared s)
 
 abbrev pub advance_trail : Store → Option App → ℕ → Bool → Trail Store
 advance_trail s app gesture waived = committing s (advanced s app gesture waived)
+
+-- a chip of the older form is committed again as it stands, which writes today's form
+abbrev pub migrate_trail : ℕ → Store → Trail Store
+migrate_trail form s = if form == old_form then committing s (spent s) else resting s 0
 
 -- what is kept of an image is given up
 abbrev pub drop_by : Option Held → Store → ℕ → Trail Store

@@ -3,10 +3,10 @@ ghost use Rattle.std.specs.Prelude.{◌≡◌, ◌≢◌, ◌↔◌, ℕ, ◌≤
 ghost use Rattle.dg_nor.specs.Chip.{Touches};
 ghost use Rattle.dg_slot.specs.Kept.{Held};
 ghost use Rattle.dg_slot.specs.Jobs.{IsJob, Packets};
-ghost use Rattle.dg_volume.specs.Sizes.{control_sectors, short_starts};
+ghost use Rattle.dg_volume.specs.Sizes.{control_sectors, short_starts, new_form};
 ghost use Rattle.dg_volume.specs.Store.{App, Store};
 ghost use Rattle.dg_volume.specs.Told.{program_told};
-ghost use Rattle.dg_volume.specs.Stands.{HoldsApp, snapshot_of, room_of, is_lent, NothingLent, Mounted, IsMounted};
+ghost use Rattle.dg_volume.specs.Stands.{HoldsApp, snapshot_of, form_of, room_of, is_lent, NothingLent, Mounted, IsMounted};
 ghost use Rattle.dg_volume.specs.Trails.{clear_trail, advance_trail};
 ghost use Rattle.dg_volume.specs.Acts.{Acted, Stops};
 ghost use Rattle.dg_slot.specs.declared.states.PageJob.{PageJob};
@@ -22,6 +22,7 @@ impl Volume {
         requires room { 1 ≤ room_of self.old }
         ensures acted { OnOk result ((s : Store) → Mounted (N.device nor.old).image self.old s → Acted (clear_trail s) (N.device nor.old) (N.device nor.new) self.new) }
         ensures same_reference { (N.device nor.new).references ≡ (N.device nor.old).references }
+        ensures form { OnOk result (form_of self.new ≡ new_form) }
         ensures awake { OnOk result ((N.device nor.old).stopped ≡ false) }
         ensures lent { (i : ℕ) → is_lent self.new i ≡ is_lent self.old i }
         // a page that is being filled stays as it is
@@ -55,6 +56,7 @@ impl Volume {
             → IfSome app (HoldsApp (N.device nor.old).image) → Acted (advance_trail s app gesture waived) (N.device nor.old) (N.device nor.new) self.new) }
         ensures same_reference { (N.device nor.new).references ≡ (N.device nor.old).references }
         ensures free { OnOk result (NothingLent self.new) }
+        ensures form { OnOk result (form_of self.new ≡ new_form) }
         ensures awake { OnOk result ((N.device nor.old).stopped ≡ false) }
         ensures touches { Touches 0 control_sectors (N.device nor.old).image (N.device nor.new).image }
         ensures worn { (result ≡ Err CommitFault.Worn) ↔ (room_of self.old ≡ 0) }

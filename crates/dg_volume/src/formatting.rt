@@ -9,8 +9,8 @@ ghost use Rattle.dg_slot.specs.Layout.{most_bytes, page_operations, header_secto
 ghost use Rattle.dg_slot.specs.Kept.{Held, KeepsImage};
 ghost use Rattle.dg_slot.specs.Jobs.{IsOpen, outline_told};
 ghost use Rattle.dg_control.specs.Places.{place_in};
-ghost use Rattle.dg_control.specs.Store.{current, IsOrderlyChip};
-ghost use Rattle.dg_volume.specs.Sizes.{control_sectors, places, most_room};
+ghost use Rattle.dg_control.specs.Store.{current, HasForm, IsOrderlyChip};
+ghost use Rattle.dg_volume.specs.Sizes.{control_sectors, places, most_room, old_form, new_form};
 ghost use Rattle.dg_volume.specs.Store.{fresh, golden_row, held_to, held_whole};
 ghost use Rattle.dg_volume.specs.Stands.{Stands};
 ghost use Rattle.dg_volume.specs.Acts.{TouchesBut};
@@ -20,23 +20,26 @@ use crate::laws::a_row_is_filled_page_by_page;
 use crate::layout::{GOLDEN, PAGE_SIZE};
 use crate::slot_filling::fill_next;
 use crate::volume::{FormatFault, Volume};
-use dg_control::{Control, GOLDEN_VERSION, Snapshot};
+use dg_control::{Control, GOLDEN_VERSION, Spelled, a_chip_has_one_form};
 use dg_nor::{Nor, Stopped};
 use dg_object::{SizeFault, check_size, page_of, pages_of, profile_of};
 use dg_slot::{DirtySlot, OpenSlot};
 
 impl Volume {
     /// Makes the chip a volume that keeps golden alone: with this name, of 1 to 70,656 bytes. `used` commits, at most
-    /// 520,223, are told as spent. Golden stands in its slot before the control sectors are touched.
+    /// 520,223, are told as spent. The snapshot is written in the form of that number. Golden stands in its slot before the control sectors are touched.
     pub fn format<N: Nor>(
         nor: &mut N,
         golden: &[u8],
         name: &[u8],
         used: u32,
+        form: u8,
     ) -> Result<(), FormatFault>
         requires named { IsTrue (spells_name name.now) }
         requires few { used ≤ most_room }
+        requires known_form { (form ≡ old_form) ⊎ (form ≡ new_form) }
         ensures formatted { OnOk result (Stands (N.device nor.new).image (fresh name.now golden.now used)) }
+        ensures form { OnOk result (HasForm (N.device nor.new).image form) }
         // the places before the snapshot are told as spent
         ensures spent { OnOk result ((i : ℕ) → i < used % places
             → slice_index (place_in (sector (N.device nor.new).image (current (used / places))) i) 0 ≡ 0) }
@@ -58,7 +61,8 @@ impl Volume {
             Err(SizeFault::TooLarge) => return Err(FormatFault::TooLarge),
         }
         write_golden(nor, golden, name)?;
-        Control::format(nor, used, &Snapshot::fresh())?;
+        Control::format(nor, used, &Spelled::fresh(form))?;
+        a_chip_has_one_form();
         Ok(())
     }
 }

@@ -34,7 +34,7 @@ impl Volume {
     /// Keeps an image whole, in place of an older version of it. A version that is kept in part is resumed at its next
     /// page, and where it is whole nothing changes.
     ///
-    /// The image has 1 to 70,656 bytes and number 1 to 3. What refuses it is looked for in this order: `Empty`,
+    /// The image has 1 to 70,656 bytes and number 1 to 6. What refuses it is looked for in this order: `Empty`,
     /// `TooLarge`, `Reserved`, `Stale`, `Taken`, for which page 0 of the slot may be read, and `Worn`. These change
     /// nothing.
     pub fn inject<N: Nor>(

@@ -1,5 +1,5 @@
 //! What holds of volumes. These functions do nothing: their contracts are the laws.
-ghost use Rattle.std.specs.Prelude.{◌≡◌, ◌↔◌, ℕ, ◌+◌, ◌<◌, ◌≤◌, ◌==◌, if◌then◌else◌, Bool, true, false, List, [], Option, Some, None, IfSome, length, drop, slice_index_or};
+ghost use Rattle.std.specs.Prelude.{◌≡◌, ◌↔◌, ◌⊎◌, ℕ, ◌+◌, ◌<◌, ◌≤◌, ◌==◌, if◌then◌else◌, Bool, true, false, List, [], Option, Some, None, IfSome, length, drop, slice_index_or};
 ghost use Rattle.dg_nor.specs.Chip.{Touches};
 ghost use Rattle.dg_nor.specs.Device.{Device, Ran, Halts};
 ghost use Rattle.dg_nor.specs.Trail.{Trail, operations, last, joined, resting, stepping, EachWorks, Leaves};
@@ -10,13 +10,14 @@ ghost use Rattle.dg_slot.specs.Pages.{program};
 ghost use Rattle.dg_slot.specs.Kept.{Held, KeepsImage, held_begun, with_page};
 ghost use Rattle.dg_slot.specs.Fits.{may_seal};
 ghost use Rattle.dg_slot.specs.Jobs.{seal_trail, SlotStops};
-ghost use Rattle.dg_volume.specs.Sizes.{images, golden_version, short_starts, control_sectors, most_take_commits};
+ghost use Rattle.dg_control.specs.Store.{HasForm};
+ghost use Rattle.dg_volume.specs.Sizes.{images, golden_version, short_starts, control_sectors, most_take_commits, old_form, new_form};
 ghost use Rattle.dg_volume.specs.Store.{App, Store, IsNear, held, held_to, held_whole, golden_row, fresh};
-ghost use Rattle.dg_volume.specs.Stands.{Stands, IsVolume, Tells, MountedBut, Mounted, IsMounted, control_of, kept_at};
+ghost use Rattle.dg_volume.specs.Stands.{Stands, IsVolume, Tells, MountedBut, Mounted, IsMounted, control_of, form_of, kept_at};
 ghost use Rattle.dg_volume.specs.Remount.{RemountBytes};
 ghost use Rattle.dg_volume.specs.Shaped.{IsShaped};
 ghost use Rattle.dg_volume.specs.Changes.{spent, keeping, paged, ordered, gesture_cleared, advanced, inject_refusal, FitAll};
-ghost use Rattle.dg_volume.specs.Trails.{BeginsAt, order_trail, clear_trail, advance_trail, take_trail, fill_trail, inject_trail, sealing_trail};
+ghost use Rattle.dg_volume.specs.Trails.{BeginsAt, order_trail, clear_trail, advance_trail, migrate_trail, take_trail, fill_trail, inject_trail, sealing_trail};
 ghost use Rattle.dg_volume.specs.Acts.{Acted, Stops};
 ghost use Rattle.dg_volume.specs.Start.{counts, count_trail, by_gesture, order_waits, is_set_to, sound, app_of, kept_runs, golden_boot, boot_counted, boot};
 ghost use Rattle.dg_volume.specs.Ends.{taken, with_pages, injected, KeepsPagesOf, PartOf, blanked, ordered_runs, order_started, golden_started, golden_runs, app_runs, BootEnds, Boots};
@@ -29,6 +30,7 @@ ghost use Rattle.dg_volume.specs.declared.volume.Kind.{Kind};
 ghost use Rattle.dg_volume.specs.declared.volume.Volume.{Volume};
 
 use crate::TAKE_COMMITS;
+use dg_control::a_chip_has_one_form;
 use dg_object::a_descriptor_is_tested;
 
 /// The constant of this crate is the number of its definitions, and program memory stands behind the control sectors.
@@ -49,6 +51,15 @@ pub fn a_volume_is_mounted_in_one_way()
     ensures control { (c : List ℕ) (v w : Volume) → IsMounted c v → IsMounted c w → control_of v ≡ control_of w }
     ensures kept { (c : List ℕ) (v w : Volume) → IsMounted c v → IsMounted c w → (i : ℕ) → i < images → kept_at v i ≡ kept_at w i }
 {}
+
+/// The last commit of a volume is written in one of the two forms.
+pub fn a_volume_has_one_form()
+    ensures known { (c : List ℕ) (s : Store) → Stands c s → HasForm c old_form ⊎ HasForm c new_form }
+    ensures one { (c : List ℕ) (m n : ℕ) → HasForm c m → HasForm c n → m ≡ n }
+    ensures told { (c : List ℕ) (v : Volume) → IsMounted c v → HasForm c (form_of v) }
+{
+    a_chip_has_one_form();
+}
 
 /// A volume has one number of bytes that mounting it again reads at most.
 pub fn a_volume_bounds_a_remount()
@@ -115,6 +126,7 @@ pub fn trails_begin()
     ensures order { (s : Store) (order : Order) → BeginsAt s (order_trail s order) }
     ensures clear { (s : Store) → BeginsAt s (clear_trail s) }
     ensures advance { (s : Store) (app : Option App) (gesture : ℕ) (waived : Bool) → BeginsAt s (advance_trail s app gesture waived) }
+    ensures migrate { (form : ℕ) (s : Store) → BeginsAt s (migrate_trail form s) }
     ensures take { (s : Store) (p : Outline) → BeginsAt s (take_trail s p) }
     ensures fill { (s : Store) (image : ℕ) (pages : List (List ℕ)) → BeginsAt s (fill_trail s image pages) }
     ensures inject { (s : Store) (row : Row) → BeginsAt s (inject_trail s row) }
@@ -126,6 +138,7 @@ pub fn trails_begin()
 pub fn trails_keep_agreement()
     ensures order { (table : List Row) (s : Store) (order : Order) → Agrees table s → Through (Agrees table) (order_trail s order) }
     ensures clear { (table : List Row) (s : Store) → Agrees table s → Through (Agrees table) (clear_trail s) }
+    ensures migrate { (table : List Row) (form : ℕ) (s : Store) → Agrees table s → Through (Agrees table) (migrate_trail form s) }
     ensures take { (table : List Row) (s : Store) (row : Row) → 1 ≤ row.image → row.image < length s.kept
         → row_at table row.image row.version ≡ Some row → Agrees table s → Through (Agrees table) (take_trail s (profile row)) }
     ensures inject { (table : List Row) (s : Store) (row : Row) → row.image < length s.kept
@@ -146,6 +159,7 @@ pub fn trails_keep_consistency()
     ensures fresh { (name bytes : List ℕ) (used : ℕ) → IsRow (golden_row name bytes) → Consistent (golden_row name bytes) (fresh name bytes used) }
     ensures order { (golden : Row) (s : Store) (order : Order) → Consistent golden s → Through (Consistent golden) (order_trail s order) }
     ensures clear { (golden : Row) (s : Store) → Consistent golden s → Through (Consistent golden) (clear_trail s) }
+    ensures migrate { (golden : Row) (form : ℕ) (s : Store) → Consistent golden s → Through (Consistent golden) (migrate_trail form s) }
     ensures take { (golden : Row) (s : Store) (p : Outline) → 1 ≤ p.image → p.image < length s.kept → Consistent golden s → Through (Consistent golden) (take_trail s p) }
     ensures inject { (golden : Row) (s : Store) (row : Row) → IsRow row → row.image < length s.kept → Consistent golden s → Through (Consistent golden) (inject_trail s row) }
     ensures boot { (golden : Row) (kind : Kind) (s : Store) → Consistent golden s → Through (Consistent golden) (boot kind s).trail }
@@ -183,6 +197,7 @@ pub fn acts_end()
     ensures order { (s : Store) (order : Order) → last (order_trail s order) ≡ ordered s order }
     ensures clear { (s : Store) → last (clear_trail s) ≡ gesture_cleared s }
     ensures advance { (s : Store) (app : Option App) (gesture : ℕ) (waived : Bool) → last (advance_trail s app gesture waived) ≡ advanced s app gesture waived }
+    ensures migrate { (form : ℕ) (s : Store) → last (migrate_trail form s) ≡ if form == old_form then spent s else s }
     ensures take { (s : Store) (p : Outline) → last (take_trail s p) ≡ taken s p }
     ensures begun { (s : Store) (p : Outline) → p.image < length s.kept → held (taken s p) p.image ≡ Some (held_begun p) }
     ensures fill { (s : Store) (image : ℕ) (h : Held) (pages : List (List ℕ)) → image < length s.kept → held s image ≡ Some h

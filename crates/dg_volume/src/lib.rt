@@ -10,6 +10,7 @@ mod injecting;
 mod laws;
 mod layout;
 mod lending;
+mod migrating;
 mod mounting;
 mod new_image;
 mod ordering;
@@ -19,14 +20,14 @@ mod taking;
 mod telling;
 mod volume;
 
-pub use dg_control::{Order, Program, SlotState, Snapshot};
+pub use dg_control::{FORM, OLD_FORM, Order, Program, SlotState, Snapshot};
 pub use laws::{
     a_chip_stands_for_a_shaped_store, a_chip_stands_for_one_store, a_lent_slot_is_filled,
     a_row_is_filled_page_by_page, a_start_ends, a_table_holds_sound_rows,
-    a_volume_bounds_a_remount, a_volume_has_these_sizes, a_volume_is_mounted_in_one_way,
-    a_whole_image_is_sound, acts_end, an_agreeing_store_keeps_rows, program_memory_holds_the_app,
-    starts_end, trails_begin, trails_join, trails_keep_agreement, trails_keep_consistency,
-    trails_of_one_stage, what_stands_behind_the_commits,
+    a_volume_bounds_a_remount, a_volume_has_one_form, a_volume_has_these_sizes,
+    a_volume_is_mounted_in_one_way, a_whole_image_is_sound, acts_end, an_agreeing_store_keeps_rows,
+    program_memory_holds_the_app, starts_end, trails_begin, trails_join, trails_keep_agreement,
+    trails_keep_consistency, trails_of_one_stage, what_stands_behind_the_commits,
 };
 pub use taking::TAKE_COMMITS;
 pub use volume::{

@@ -3,9 +3,9 @@ ghost use Rattle.std.specs.Prelude.{◌≡◌, ◌≢◌, ℕ, ◌+◌, ◌<◌,
 ghost use Rattle.dg_nor.specs.Chip.{Touches};
 ghost use Rattle.dg_control.specs.Sizes.{place_size};
 ghost use Rattle.dg_control.specs.Store.{IsOrderlyChip};
-ghost use Rattle.dg_volume.specs.Sizes.{images, control_sectors};
+ghost use Rattle.dg_volume.specs.Sizes.{images, control_sectors, new_form};
 ghost use Rattle.dg_volume.specs.Store.{Store};
-ghost use Rattle.dg_volume.specs.Stands.{Mounted, IsMounted, is_lent};
+ghost use Rattle.dg_volume.specs.Stands.{Mounted, IsMounted, form_of, is_lent};
 ghost use Rattle.dg_volume.specs.Changes.{order_refusal, UnlessOrderRefused};
 ghost use Rattle.dg_volume.specs.Trails.{order_trail};
 ghost use Rattle.dg_volume.specs.Remount.{RemountBytes};
@@ -33,6 +33,7 @@ impl Volume {
         requires some_version { 1 ≤ version }
         ensures acted { OnOk result ((s : Store) → Mounted (N.device nor.old).image self.old s
             → Acted (order_trail s (record { number = number; image = image; version = version })) (N.device nor.old) (N.device nor.new) self.new) }
+        ensures form { OnOk result (form_of self.new ≡ new_form) }
         ensures awake { OnOk result ((N.device nor.old).stopped ≡ false) }
         ensures same_reference { (N.device nor.new).references ≡ (N.device nor.old).references }
         ensures lent { (i : ℕ) → is_lent self.new i ≡ is_lent self.old i }

@@ -6,10 +6,10 @@ ghost use Rattle.dg_object.specs.Records.{outline_of};
 ghost use Rattle.dg_slot.specs.Layout.{header_sector, slot_end};
 ghost use Rattle.dg_slot.specs.Kept.{Held, KeepsImage, held_begun};
 ghost use Rattle.dg_slot.specs.Jobs.{IsOpen, outline_told};
-ghost use Rattle.dg_volume.specs.Sizes.{images, control_sectors, most_take_commits};
+ghost use Rattle.dg_volume.specs.Sizes.{images, control_sectors, most_take_commits, new_form};
 ghost use Rattle.dg_volume.specs.Store.{Store};
 ghost use Rattle.dg_volume.specs.Told.{told, told_held};
-ghost use Rattle.dg_volume.specs.Stands.{room_of, kept_at, is_lent, Mounted, IsMounted, Tells};
+ghost use Rattle.dg_volume.specs.Stands.{form_of, room_of, kept_at, is_lent, Mounted, IsMounted, Tells};
 ghost use Rattle.dg_volume.specs.Changes.{spent, keeping, take_refusal, UnlessTakeRefused};
 ghost use Rattle.dg_volume.specs.Trails.{committing, drop_trail, open_trail, take_trail};
 ghost use Rattle.dg_volume.specs.Acts.{Acted, Stops, TouchesBut};
@@ -45,6 +45,7 @@ impl Volume {
             → Acted (take_trail s (outline_of profile.now)) (N.device nor.old) (N.device nor.new) self.new) }
         ensures open { IfOk result (λ o. (outline_told o ≡ outline_of profile.now)
             × IsOpen (N.device nor.new).image o (held_begun (outline_of profile.now)) × (is_lent self.new image ≡ true)) }
+        ensures form { OnOk result (form_of self.new ≡ new_form) }
         ensures awake { OnOk result ((N.device nor.old).stopped ≡ false) }
         ensures others { (i : ℕ) → i ≢ image → is_lent self.new i ≡ is_lent self.old i }
         ensures same_reference { (N.device nor.new).references ≡ (N.device nor.old).references }
@@ -100,6 +101,7 @@ impl Volume {
             → Acted (take_trail s (outline_of profile.now)) (N.device nor.old) (N.device nor.new) self.new) }
         ensures open { IfOk result (λ o. (outline_told o ≡ outline_of profile.now)
             × IsOpen (N.device nor.new).image o (held_begun (outline_of profile.now)) × (is_lent self.new profile.now.image ≡ true)) }
+        ensures form { OnOk result (form_of self.new ≡ new_form) }
         ensures awake { OnOk result ((N.device nor.old).stopped ≡ false) }
         ensures others { (i : ℕ) → i ≢ profile.now.image → is_lent self.new i ≡ is_lent self.old i }
         ensures same_reference { (N.device nor.new).references ≡ (N.device nor.old).references }
@@ -145,6 +147,7 @@ impl Volume {
             → Acted (open_trail s (outline_of profile.now)) (N.device nor.old) (N.device nor.new) self.new) }
         ensures open { IfOk result (λ o. (outline_told o ≡ outline_of profile.now)
             × IsOpen (N.device nor.new).image o (held_begun (outline_of profile.now)) × (is_lent self.new profile.now.image ≡ true)) }
+        ensures form { OnOk result (form_of self.new ≡ new_form) }
         ensures awake { OnOk result ((N.device nor.old).stopped ≡ false) }
         ensures others { (i : ℕ) → i ≢ profile.now.image → is_lent self.new i ≡ is_lent self.old i }
         ensures same_reference { (N.device nor.new).references ≡ (N.device nor.old).references }
@@ -177,6 +180,7 @@ impl Volume {
         ensures kept { OnOk result (kept_at self.new image ≡ kept) }
         ensures room { OnOk result (room_of self.new + 1 ≡ room_of self.old) }
         ensures lent { (i : ℕ) → is_lent self.new i ≡ is_lent self.old i }
+        ensures form { OnOk result (form_of self.new ≡ new_form) }
         ensures awake { OnOk result ((N.device nor.old).stopped ≡ false) }
         ensures still { OnOk result ((N.device nor.new).stopped ≡ (N.device nor.old).stopped) }
         ensures same_reference { (N.device nor.new).references ≡ (N.device nor.old).references }

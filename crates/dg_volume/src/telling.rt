@@ -1,10 +1,11 @@
 //! What a mounted volume tells of its chip, without a read.
-ghost use Rattle.std.specs.Prelude.{◌≡◌, ◌<◌};
-ghost use Rattle.dg_volume.specs.Sizes.{images};
-ghost use Rattle.dg_volume.specs.Stands.{snapshot_of, room_of, kept_at};
+ghost use Rattle.std.specs.Prelude.{◌≡◌, ◌⊎◌, ◌<◌, ℕ, List};
+ghost use Rattle.dg_control.specs.Store.{HasForm};
+ghost use Rattle.dg_volume.specs.Sizes.{images, old_form, new_form};
+ghost use Rattle.dg_volume.specs.Stands.{snapshot_of, form_of, room_of, kept_at, IsMounted};
 
 use crate::volume::{Kept, Volume};
-use dg_control::Snapshot;
+use dg_control::{Snapshot, a_chip_has_one_form};
 
 impl Volume {
     /// What the volume commits as a whole.
@@ -19,6 +20,16 @@ impl Volume {
         ensures { result ≡ room_of self.now }
     {
         self.control.room()
+    }
+
+    /// The number of the form in which the chip's last commit is written, 1 or 2.
+    pub fn form(&self) -> u8
+        ensures value { result ≡ form_of self.now }
+        ensures known { (c : List ℕ) → IsMounted c self.now → (result ≡ old_form) ⊎ (result ≡ new_form) }
+        ensures told { (c : List ℕ) → IsMounted c self.now → HasForm c result }
+    {
+        a_chip_has_one_form();
+        self.control.form()
     }
 
     /// What is kept of an image.

@@ -1,7 +1,7 @@
 use Rattle.std.proofs.Common.{Some, None, get_or-set_same}
 use Rattle.dg_nor.proofs.TrailLemmas.{last-stepping}
 use Rattle.dg_slot.specs.Kept.{held_begun}
-use Rattle.dg_volume.proofs.ActEndLemmas.{take_last, fill_last, inject_last}
+use Rattle.dg_volume.proofs.ActEndLemmas.{take_last, fill_last, inject_last, migrate_last}
 use Rattle.dg_volume.proofs.laws.acts_end.Goals as goal
 
 pub returns-clause-order : goal.returns-clause-order
@@ -24,3 +24,6 @@ returns-clause-inject c = inject_last
 
 pub returns-clause-begun : goal.returns-clause-begun
 returns-clause-begun c s p known = get_or-set_same s.kept p.image (Some (held_begun p)) None known
+
+pub returns-clause-migrate : goal.returns-clause-migrate
+returns-clause-migrate c = migrate_last

@@ -1,4 +1,4 @@
-use Rattle.dg_volume.proofs.BeginLemmas.{begins_committing, take_begins, fill_begins, inject_begins, boot_begins}
+use Rattle.dg_volume.proofs.BeginLemmas.{begins_committing, migrate_begins, take_begins, fill_begins, inject_begins, boot_begins}
 use Rattle.dg_volume.proofs.laws.trails_begin.Goals as goal
 
 pub returns-clause-order : goal.returns-clause-order
@@ -21,3 +21,6 @@ returns-clause-inject c s row = inject_begins s row
 
 pub returns-clause-boot : goal.returns-clause-boot
 returns-clause-boot c k s = boot_begins k s
+
+pub returns-clause-migrate : goal.returns-clause-migrate
+returns-clause-migrate c form s = migrate_begins form s

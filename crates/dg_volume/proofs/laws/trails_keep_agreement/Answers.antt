@@ -1,7 +1,7 @@
 use Rattle.dg_nor.proofs.ThroughLemmas.{Through-joined, Through-resting, Through-stepping, Through-last}
 use Rattle.dg_volume.specs.Agreement.{Agrees}
 use Rattle.dg_volume.proofs.AgreedLemmas.{agreed_page}
-use Rattle.dg_volume.proofs.AgreeLemmas.{order_through, clear_through, take_through, inject_through}
+use Rattle.dg_volume.proofs.AgreeLemmas.{order_through, clear_through, migrate_through, take_through, inject_through}
 use Rattle.dg_volume.proofs.BootLemmas.{boot_through}
 use Rattle.dg_volume.proofs.laws.trails_keep_agreement.Goals as goal
 
@@ -32,3 +32,6 @@ returns-clause-joined c table t u first second = Through-joined (Agrees table) t
 
 pub returns-clause-ends : goal.returns-clause-ends
 returns-clause-ends c table t through = Through-last (Agrees table) t through
+
+pub returns-clause-migrate : goal.returns-clause-migrate
+returns-clause-migrate c = migrate_through

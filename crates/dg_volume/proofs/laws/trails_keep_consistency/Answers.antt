@@ -1,7 +1,7 @@
 use Rattle.dg_nor.proofs.ThroughLemmas.{Through-joined, Through-resting, Through-stepping, Through-last}
 use Rattle.dg_volume.specs.Consistent.{Consistent}
 use Rattle.dg_volume.proofs.RowLemmas.{next_fits}
-use Rattle.dg_volume.proofs.ConsistentLemmas.{TestedFirst, fresh_consistent, order_through, clear_through, take_through, inject_through, paged_consistent}
+use Rattle.dg_volume.proofs.ConsistentLemmas.{TestedFirst, fresh_consistent, order_through, clear_through, migrate_through, take_through, inject_through, paged_consistent}
 use Rattle.dg_volume.proofs.ConsistentBoot.{boot_through, boot_starts}
 use Rattle.dg_volume.proofs.laws.trails_keep_consistency.Goals as goal
 
@@ -41,3 +41,6 @@ returns-clause-joined c golden t u first second = Through-joined (Consistent gol
 
 pub returns-clause-ends : goal.returns-clause-ends
 returns-clause-ends c golden t through = Through-last (Consistent golden) t through
+
+pub returns-clause-migrate : goal.returns-clause-migrate
+returns-clause-migrate c = migrate_through

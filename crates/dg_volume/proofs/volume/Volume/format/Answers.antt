@@ -17,7 +17,7 @@ returns-in_err-format-clause-stopped g c _ = search (rules, stopped_after)
 
 pub returns-clause-formatted : goal.returns-clause-formatted
 returns-clause-formatted g c =
-    fresh_stands _ _ c.args.name.now c.args.golden.now c.args.used c.fresh.result c.in_ok-write_golden.ensures.kept c.in_ok-format.ensures.touches c.in_ok-format.ensures.controls c.fresh.ensures
+    fresh_stands _ _ c.args.name.now c.args.golden.now c.args.used c.fresh.result.snapshot c.in_ok-write_golden.ensures.kept c.in_ok-format.ensures.touches c.in_ok-format.ensures.controls c.fresh.ensures.snapshot
 
 pub returns-clause-ran : goal.returns-clause-ran
 returns-clause-ran g c = Ran_then c.in_ok-write_golden.ensures.ran c.in_ok-format.ensures.ran
