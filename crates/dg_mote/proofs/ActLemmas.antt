@@ -24,7 +24,7 @@ use Rattle.dg_volume.specs.Stands.{Stands}
 use Rattle.dg_volume.specs.Acts.{Stops}
 use Rattle.dg_volume.specs.declared.volume.Volume.{Volume}
 use Rattle.dg_frame.specs.declared.Message.{Message}
-use Rattle.dg_mote.specs.Model.{MoteState, Mode, Receive, Transmit, Receiving, Sending, reception, maintains, Turn}
+use Rattle.dg_mote.specs.Model.{MoteState, Mode, Receive, Transmit, NamesKnown, Receiving, Sending, reception, maintains, Turn}
 use Rattle.dg_mote.specs.Ticks.{idle, asked, receive_by, serving, transmit_by, mode_tick}
 use Rattle.dg_mote.specs.Motes.{IsMote, ModeStands, Receives, Transmits, Done}
 use Rattle.dg_mote.specs.declared.mote.Did.{Did}
@@ -43,10 +43,10 @@ rests_done t old new v n s did mote trail answer looked is = record {
 }
 
 -- a mote with another mode, over the same bytes
-pub with_mode : (c d : List ℕ) (v : Mote) (m : MoteState) (s : Store) (x : ModeValue) (mode : Mode) → d ≡ c → IsMote c v m s → ModeStands c v.volume s x mode → IsMote d (record v { mode = x }) (record m { mode = mode }) s
-with_mode c d v m s x mode same is stands =
+pub with_mode : (c d : List ℕ) (v : Mote) (m : MoteState) (s : Store) (x : ModeValue) (mode : Mode) → d ≡ c → IsMote c v m s → ModeStands c v.volume s x mode → NamesKnown m.wide mode → IsMote d (record v { mode = x }) (record m { mode = mode }) s
+with_mode c d v m s x mode same is stands known =
     subst (λ (b : List ℕ). IsMote b (record v { mode = x }) (record m { mode = mode }) s) (sym same)
-    (record { id = is.id; since = is.since; noted = is.noted; mounted = is.mounted; mode = stands })
+    (record { id = is.id; since = is.since; wide = is.wide; noted = is.noted; mounted = is.mounted; mode = stands; known = known })
 
 -- ---- it asks for packets
 
@@ -109,10 +109,11 @@ pub record SentOn (c : List ℕ) (v : Volume) (s : Store) (m : MoteState) (t : S
   pub mode : Mode
   pub is : serving m t now word ≡ record m { mode = mode }
   pub stands : ModeStands c v s (value.Transmit image version page after) mode
+  pub known : NamesKnown m.wide mode
 
-pub sent_on : (c : List ℕ) (v : Volume) (s : Store) (m : MoteState) (t : Sending) (image version page : ℕ) (owed after : Owed) (n now word : ℕ) → image ≡ t.image → version ≡ t.version → page ≡ t.page → owed ≡ t.owed → Transmits v s t
+pub sent_on : (c : List ℕ) (v : Volume) (s : Store) (m : MoteState) (t : Sending) (image version page : ℕ) (owed after : Owed) (n now word : ℕ) → image ≡ t.image → version ≡ t.version → page ≡ t.page → owed ≡ t.owed → Transmits v s t → NamesKnown m.wide (Transmit t)
     → after ≡ after_next owed now → n ≡ set.len after.left → n ≢ 0 → SentOn c v s m t image version page after now word
-sent_on c v s m t image version page owed after n now word of_image of_version of_page owes transmits e count some =
+sent_on c v s m t image version page owed after n now word of_image of_version of_page owes transmits known e count some =
     let next = after_next t.owed now in
     let same : after ≡ next = e ∙ ap (λ (o : Owed). after_next o now) owes in
     let left : n ≡ set.len next.left = count ∙ ap (λ (o : Owed). set.len o.left) same in
@@ -122,6 +123,7 @@ sent_on c v s m t image version page owed after n now word of_image of_version o
       mode = Transmit (record t { owed = next });
       is = ap (λ (b : Bool). cond b (maintains m now word) (record m { mode = Transmit (record t { owed = next }) })) (not_zero (set.len next.left) more);
       stands = (of_image, of_version, of_page, same, record { free = transmits.free; serves = record { not_golden = x.not_golden; kept = x.kept; held_here = x.held_here; version = x.version; complete = x.complete; owed = more } });
+      known = known;
     }
 
 -- nothing is sent
@@ -144,7 +146,8 @@ idle_turn m s t owed x now word is owes none e = transmit_turn m s t owed x now 
 -- ---- the same mote, and one turn
 
 pub same_mote : (c : List ℕ) (v : Mote) (m : MoteState) (s : Store) (x : ModeValue) → x ≡ v.mode → IsMote c v m s → IsMote c (record v { mode = x }) m s
-same_mote c v m s x e is = record { id = is.id; since = is.since; noted = is.noted; mounted = is.mounted; mode = subst (λ (y : ModeValue). ModeStands c v.volume s y m.mode) (sym e) is.mode }
+same_mote c v m s x e is =
+    record { id = is.id; since = is.since; wide = is.wide; noted = is.noted; mounted = is.mounted; mode = subst (λ (y : ModeValue). ModeStands c v.volume s y m.mode) (sym e) is.mode; known = is.known }
 
 pub turn_done : (t : Turn Did) (old new : Device) (v : Mote) (n : MoteState) (s : Store) (sent : Option Message) (did : Did) → t ≡ record { mote = n; trail = resting s 0; sent = sent; answer = did } → Looked old new → IsMote new.image v n s → Done t old new v did
 turn_done t old new v n s sent did e looked is = rests_done t old new v n s did (ap (λ (x : Turn Did). x.mote) e) (ap (λ (x : Turn Did). x.trail) e) (sym (ap (λ (x : Turn Did). x.answer) e)) looked is

@@ -25,7 +25,6 @@ use Rattle.dg_volume.specs.Changes.{is_version}
 use Rattle.dg_volume.specs.Trails.{BeginsAt, order_trail, clear_trail, take_trail, done_of}
 use Rattle.dg_volume.specs.Ends.{taken}
 use Rattle.dg_volume.specs.Table.{row_at}
-use Rattle.dg_frame.specs.Sizes.{narrow_images}
 use Rattle.dg_frame.specs.Ranges.{EntryInRange, TellsVersion}
 use Rattle.dg_frame.specs.declared.Entry.{Entry}
 use Rattle.dg_mote.specs.Model.{MoteState, Mode, Maintain, Receive, Transmit, came, Turn}
@@ -225,7 +224,7 @@ module _ (table : List Row) (laws : TakeLaws table) (now word source : ℕ) wher
   noting_keeps true m timer s w = rests (StoreIsWell table) table (record m { mode = Maintain (after_same timer) }) s 0 None _ w tt tt
   noting_keeps false m timer s w = rests (StoreIsWell table) table (record m { mode = Maintain (after_other timer now word) }) s 0 None _ w tt tt
 
-  module _ (entries : List Entry) (count : length entries ≡ narrow_images) (ranges : (i : ℕ) → 1 ≤ i → i ≤ length entries → EntryInRange (entry_for entries i)) (honest : (i : ℕ) → 1 ≤ i → i ≤ length entries → HonestEntry table i (entry_for entries i)) where
+  module _ (entries : List Entry) (few : length entries < images) (ranges : (i : ℕ) → 1 ≤ i → i ≤ length entries → EntryInRange (entry_for entries i)) (honest : (i : ℕ) → 1 ≤ i → i ≤ length entries → HonestEntry table i (entry_for entries i)) where
     ahead_keeps : (o : Option ℕ) (m : MoteState) (timer : Timer) (s : Store) (own : Bool) → StoreIsWell table s → ahead_in entries s ≡ o → Keeps (StoreIsWell table) table (by_ahead o m timer s now word source entries own)
     ahead_keeps None m timer s own w is = noting_keeps own m timer s w
     ahead_keeps (Some i) m timer s own w is =
@@ -233,7 +232,7 @@ module _ (table : List Row) (laws : TakeLaws table) (now word source : ℕ) wher
         let e = entry_for entries i in
         let n = names_row laws.rows table i e (ranges i a.low a.high) (honest i a.low a.high) (some_page e (held s i) a.ahead) in
         cond_both (asks m s now i e) _ _ (Keeps (StoreIsWell table) table)
-        (λ _. asking_keeps m s i e w a.low (omega (arith, a.high, count)) n a.ahead)
+        (λ _. asking_keeps m s i e w a.low (omega (arith, a.high, few)) n a.ahead)
         (λ _. noting_keeps own m timer s w)
 
     heed_well : (s : Store) (o : Order) → StoreIsWell table s → Through (StoreIsWell table) (heed_trail s o)
@@ -255,7 +254,7 @@ module _ (table : List Row) (laws : TakeLaws table) (now word source : ℕ) wher
         let first = heed_well s order w in
         let here = Through-last (StoreIsWell table) t first in
         behind_keeps s t _ first
-        (ahead_begins laws.order_begins laws.clear_begins laws.take_begins (ahead_in entries (last t)) m timer (last t) now word source entries (is_own entries order s))
-        (ahead_keeps (ahead_in entries (last t)) m timer (last t) (is_own entries order s) here refl)
+        (ahead_begins laws.order_begins laws.clear_begins laws.take_begins (ahead_in entries (last t)) m timer (last t) now word source entries (is_own entries order m.wide s))
+        (ahead_keeps (ahead_in entries (last t)) m timer (last t) (is_own entries order m.wide s) here refl)
     advert_keeps (Receive r) m s order w own = rests (StoreIsWell table) table m s 0 None _ w own tt
     advert_keeps (Transmit t) m s order w own = rests (StoreIsWell table) table m s 0 None _ w own tt

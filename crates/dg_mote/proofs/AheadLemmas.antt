@@ -5,7 +5,7 @@ use Rattle.std.proofs.lemmas.Bool.{cases_eq, cases_lt, and_from}
 use Rattle.dg_frame.specs.declared.Entry.{Entry}
 use Rattle.dg_control.specs.declared.snapshot.Order.{Order}
 use Rattle.dg_volume.specs.Store.{Store, held}
-use Rattle.dg_mote.specs.Summary.{entry_for, entry_by, same_entry, same_order, is_own, ahead_of, ahead_in}
+use Rattle.dg_mote.specs.Summary.{entry_for, entry_by, same_entry, same_order, own_order, is_own, ahead_of, ahead_in}
 use Rattle.dg_mote.proofs.ServeLemmas.{chosen, passed}
 
 -- what is found of so many numbers from a on
@@ -52,10 +52,10 @@ ahead_none entries s out = none_from (λ j. ahead_of (entry_for entries j) (held
 abbrev is_said : List Entry → Store → ℕ → Bool
 is_said entries s = λ i. same_entry (entry_for entries i) (entry_by (held s i))
 
-pub own_entries : (entries : List Entry) (order : Order) (s : Store) → ((j : ℕ) → 1 ≤ j → j ≤ length entries → same_entry (entry_for entries j) (entry_by (held s j)) ≡ true) → is_own entries order s ≡ same_order order s.order
+pub own_entries : (entries : List Entry) (order : Order) (wide : Bool) (s : Store) → ((j : ℕ) → 1 ≤ j → j ≤ length entries → same_entry (entry_for entries j) (entry_by (held s j)) ≡ true) → is_own entries order wide s ≡ same_order order (own_order wide s)
 unfolding is_own
-own_entries entries order s hold = ap (λ b. b && same_order order s.order) (all_from (is_said entries s) (length entries) 1 (λ j from to. hold j from (omega (arith, to))))
+own_entries entries order wide s hold = ap (λ b. b && same_order order (own_order wide s)) (all_from (is_said entries s) (length entries) 1 (λ j from to. hold j from (omega (arith, to))))
 
-pub other_entries : (entries : List Entry) (order : Order) (s : Store) (k : ℕ) → 1 ≤ k → k ≤ length entries → same_entry (entry_for entries k) (entry_by (held s k)) ≡ false → is_own entries order s ≡ false
+pub other_entries : (entries : List Entry) (order : Order) (wide : Bool) (s : Store) (k : ℕ) → 1 ≤ k → k ≤ length entries → same_entry (entry_for entries k) (entry_by (held s k)) ≡ false → is_own entries order wide s ≡ false
 unfolding is_own
-other_entries entries order s k low high out = ap (λ b. b && same_order order s.order) (not_all_from (is_said entries s) (length entries) 1 k low (omega (arith, high)) out)
+other_entries entries order wide s k low high out = ap (λ b. b && same_order order (own_order wide s)) (not_all_from (is_said entries s) (length entries) 1 k low (omega (arith, high)) out)

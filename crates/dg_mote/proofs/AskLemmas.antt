@@ -18,6 +18,7 @@ use Rattle.dg_recv.specs.Reception.{Reception}
 use Rattle.dg_recv.specs.Steps.{begun}
 use Rattle.dg_bits.proofs.SetLaws.{same_numbers, contains-none}
 use Rattle.dg_control.specs.declared.snapshot.Order.{Order}
+use Rattle.dg_frame.specs.Sizes.{known_images}
 use Rattle.dg_frame.specs.Ranges.{unused, EntryInRange, TellsVersion}
 use Rattle.dg_quiet.specs.Noted.{may_ask}
 use Rattle.dg_frame.specs.declared.Entry.{Entry}
@@ -226,10 +227,10 @@ maintain_free c v m s timer is mode = free_by v.mode (subst (λ (y : Mode). Mode
     free_by (value.Receive a b d f) stands = absurd stands
     free_by (value.Transmit a b d f) stands = absurd stands
 
-pub asking_done : (a b : Device) (v : Mote) (w : Volume) (m : MoteState) (s : Store) (timer : Timer) (now word source i page : ℕ) (e : Entry) (asks : Reception) (job : PageJob) → IsMote a.image v m s → m.mode ≡ Maintain timer → MayTake s i e
+pub asking_done : (a b : Device) (v : Mote) (w : Volume) (m : MoteState) (s : Store) (timer : Timer) (now word source i page : ℕ) (e : Entry) (asks : Reception) (job : PageJob) → IsMote a.image v m s → m.mode ≡ Maintain timer → MayTake s i e → i ≤ known_images m.wide
     → Acted (ask_trail s i e) a b w → Begun b.image (last (ask_trail s i e)) i e job → is_lent w i ≡ true → ((k : ℕ) → k ≢ i → is_lent w k ≡ is_lent v.volume k) → asks ≡ begun now word → page ≡ done_told (slot_of job)
     → Done (asking m s now word source i e) a b (record v { volume = w; mode = value.Receive e.version source asks job }) (heard.Asks i page)
-asking_done a b v w m s timer now word source i page e asks job is mode may acted started lent others asked pages =
+asking_done a b v w m s timer now word source i page e asks job is mode may high acted started lent others asked pages =
     let t = last (ask_trail s i e) in
     let free = maintain_free a.image v m s timer is mode in
     let done : length started.kept.complete ≡ done_of (held t i) = sym (ap done_of started.held_here) in
@@ -240,6 +241,7 @@ asking_done a b v w m s timer now word source i page e asks job is mode may acte
       mote = record {
         id = is.id;
         since = is.since;
+        wide = is.wide;
         noted = is.noted;
         mounted = acted.mounted;
         mode = (
@@ -259,6 +261,7 @@ asking_done a b v w m s timer now word source i page e asks job is mode may acte
             missing = omega (arith, none);
           },
         );
+        known = (may.not_golden, high);
       };
       answers = ap (λ (n : ℕ). heard.Asks i n) (pages ∙ started.stands.slot.opens.done ∙ done);
     }
@@ -328,9 +331,13 @@ heed_mote a b v w m s timer order is mode acted lent =
     let free = maintain_free a.image v m s timer is mode in
     let stands : ModeStands a.image v.volume s v.mode (Maintain timer) = subst (λ (y : Mode). ModeStands a.image v.volume s v.mode y) mode is.mode in
     let still : ModeStands b.image w t v.mode (Maintain timer) = maintains_still a.image b.image v.volume w s t timer v.mode (λ i. lent i ∙ free i) stands in
-    record { id = is.id; since = is.since; noted = is.noted; mounted = acted.mounted; mode = subst (λ (y : Mode). ModeStands b.image w t v.mode y) (sym mode) still }
+    record { id = is.id; since = is.since; wide = is.wide; noted = is.noted; mounted = acted.mounted; mode = subst (λ (y : Mode). ModeStands b.image w t v.mode y) (sym mode) still; known = is.known }
 
-pub advert_is : (m : MoteState) (timer : Timer) (s : Store) (now word source : ℕ) (entries : List Entry) (order : Order) (own : Bool) → own ≡ is_own entries order s
+-- it is compared with what the mote says, by its width
+pub said_same : (own : Bool) (entries : List Entry) (order : Order) (wide : Bool) (m : MoteState) (s : Store) → wide ≡ m.wide → own ≡ is_own entries order wide s → own ≡ is_own entries order m.wide s
+said_same own entries order wide m s alike e = e ∙ ap (λ w. is_own entries order w s) alike
+
+pub advert_is : (m : MoteState) (timer : Timer) (s : Store) (now word source : ℕ) (entries : List Entry) (order : Order) (own : Bool) → own ≡ is_own entries order m.wide s
     → advert_heard m timer s now word source entries order ≡ behind (heed_trail s order) (by_ahead (ahead_in entries (last (heed_trail s order))) m timer (last (heed_trail s order)) now word source entries own)
 unfolding advert_heard
 advert_is m timer s now word source entries order own e =

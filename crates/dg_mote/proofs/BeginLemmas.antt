@@ -108,7 +108,7 @@ module _ (order : (s : Store) (o : Order) → BeginsAt s (order_trail s o)) (cle
   unfolding advert_heard
   advert_begins (Maintain timer) m s now word source entries o =
       let t = heed_trail s o in
-      joined_begins s t _ (heed_begins s o) (ahead_begins (ahead_in entries (last t)) m timer (last t) now word source entries (is_own entries o s))
+      joined_begins s t _ (heed_begins s o) (ahead_begins (ahead_in entries (last t)) m timer (last t) now word source entries (is_own entries o m.wide s))
   advert_begins (Receive r) m s now word source entries o = resting_begins s 0
   advert_begins (Transmit t) m s now word source entries o = resting_begins s 0
 
@@ -159,4 +159,4 @@ module _ (order : (s : Store) (o : Order) → BeginsAt s (order_trail s o)) (cle
 
   pub heard_begins : (m : MoteState) (s : Store) (now word : ℕ) (bytes : List ℕ) → Begins s (heard_of m s now word bytes)
   unfolding heard_of
-  heard_begins m s now word bytes = frame_begins (message_of bytes false) m s now word
+  heard_begins m s now word bytes = frame_begins (message_of bytes m.wide) m s now word

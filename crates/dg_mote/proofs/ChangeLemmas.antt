@@ -35,9 +35,9 @@ use Rattle.dg_frame.specs.Grammar.{message_of}
 use Rattle.dg_frame.specs.declared.Entry.{Entry}
 use Rattle.dg_frame.specs.declared.FrameFault.{FrameFault}
 use Rattle.dg_frame.specs.declared.Message.{Message}
-use Rattle.dg_frame.specs.declared.Message.TheVariants.{Advert, Request, Packet}
+use Rattle.dg_frame.specs.declared.Message.TheVariants.{Request, Packet}
 use Rattle.dg_mote.specs.Model.{MoteState, Mode, Maintain, Receive, Transmit, Receiving, Sending, came, reception, Turn}
-use Rattle.dg_mote.specs.Summary.{entry_for, is_own, ahead_of, ahead_in}
+use Rattle.dg_mote.specs.Summary.{entry_for, advert_by, is_own, ahead_of, ahead_in}
 use Rattle.dg_mote.specs.Ticks.{clears, maintain_by, receive_by, transmit_by, mode_tick, tick_of}
 use Rattle.dg_mote.specs.Adverts.{outline, heed_trail, ask_trail, asks, noting, by_ahead, advert_heard, on_advert}
 use Rattle.dg_mote.specs.Requests.{concerns, can_serve, is_served, to_it}
@@ -102,7 +102,7 @@ request_by_rests m s now word source to image version page want =
     (λ _. cond_both (concerns s image version page) _ _ (λ (step : Turn Heard). Rests s step) (λ _. refl) (λ _. refl)))
 
 pub request_rests : (m : MoteState) (s : Store) (now word : ℕ) (bytes : List ℕ) (source to image version page : ℕ) (want : Numbers)
-    → message_of bytes false ≡ Ok (Request source to image version page want) → (heard_of m s now word bytes).trail ≡ resting s 0
+    → message_of bytes m.wide ≡ Ok (Request source to image version page want) → (heard_of m s now word bytes).trail ≡ resting s 0
 unfolding heard_of
 request_rests m s now word bytes source to image version page want is =
     subst (λ (r : Result Message FrameFault). Rests s (by_message r m s now word)) (sym is) (request_by_rests m s now word source to image version page want)
@@ -157,7 +157,7 @@ module _ (m : MoteState) (s : Store) (image version page q : ℕ) where
       cond_both (source == m.id) _ _ (λ (step : Turn Heard). Through Turns step.trail) (λ _. rests_turns 0) (λ _. packet_turns m.mode now word bytes refl)
 
 pub packet_completes : (m : MoteState) (s : Store) (now word : ℕ) (bytes : List ℕ) (source image version page q : ℕ) (content : List ℕ)
-    → message_of bytes false ≡ Ok (Packet source image version page q content) → Through (λ t. (t ≡ s) ⊎ Completes m.mode image version page q s t) (heard_of m s now word bytes).trail
+    → message_of bytes m.wide ≡ Ok (Packet source image version page q content) → Through (λ t. (t ≡ s) ⊎ Completes m.mode image version page q s t) (heard_of m s now word bytes).trail
 unfolding heard_of
 packet_completes m s now word bytes source image version page q content is =
     subst (λ (r : Result Message FrameFault). Through (Turns m s image version page q) (by_message r m s now word).trail) (sym is) (packet_by_turns m s image version page q now word source content)
@@ -339,8 +339,8 @@ module _ (ends : (s : Store) (p : Outline) → last (take_trail s p) ≡ taken s
   advert_both m timer now word source =
       let t = heed_trail s order in
       let u = last t in
-      let rest = by_ahead (ahead_in entries u) m timer u now word source entries (is_own entries order s) in
-      let g = ahead_goes (ahead_in entries u) m timer u now word source (is_own entries order s) (Through-last Heeded t heed_way) (λ i e. let a = is_ahead entries u i e in (a.low, a.ahead)) in (
+      let rest = by_ahead (ahead_in entries u) m timer u now word source entries (is_own entries order m.wide s) in
+      let g = ahead_goes (ahead_in entries u) m timer u now word source (is_own entries order m.wide s) (Through-last Heeded t heed_way) (λ i e. let a = is_ahead entries u i e in (a.low, a.ahead)) in (
         Through-joined (Heeds true) t rest.trail (through_then Heeded (Heeds true) (heeded_heeds true) t heed_way) g.way,
         subst (Heeds false) (sym (last-joined t rest.trail (sym g.first))) g.ends_so,
       )
@@ -350,10 +350,11 @@ module _ (ends : (s : Store) (p : Outline) → last (take_trail s p) ≡ taken s
   on_advert_both (Receive r) m now word source = same_both
   on_advert_both (Transmit t) m now word source = same_both
 
-  advert_by_both : (m : MoteState) (now word source : ℕ) → Both (by_message (Ok (Advert source entries order)) m s now word)
-  advert_by_both m now word source = cond_both (source == m.id) _ _ Both (λ _. same_both) (λ _. on_advert_both m.mode m now word source)
+  advert_by_both : (m : MoteState) (now word : ℕ) (wide : Bool) (source : ℕ) → Both (by_message (Ok (advert_by wide source entries order)) m s now word)
+  advert_by_both m now word true source = cond_both (source == m.id) _ _ Both (λ _. same_both) (λ _. on_advert_both m.mode m now word source)
+  advert_by_both m now word false source = cond_both (source == m.id) _ _ Both (λ _. same_both) (λ _. on_advert_both m.mode m now word source)
 
-  pub advert_heeds : (m : MoteState) (now word : ℕ) (bytes : List ℕ) (source : ℕ) → message_of bytes false ≡ Ok (Advert source entries order)
+  pub advert_heeds : (m : MoteState) (now word : ℕ) (bytes : List ℕ) (wide : Bool) (source : ℕ) → message_of bytes m.wide ≡ Ok (advert_by wide source entries order)
       → Through (HeedsAdvert entries order true s) (heard_of m s now word bytes).trail × HeedsAdvert entries order false s (last (heard_of m s now word bytes).trail)
   unfolding heard_of
-  advert_heeds m now word bytes source is = subst (λ (r : Result Message FrameFault). Both (by_message r m s now word)) (sym is) (advert_by_both m now word source)
+  advert_heeds m now word bytes wide source is = subst (λ (r : Result Message FrameFault). Both (by_message r m s now word)) (sym is) (advert_by_both m now word wide source)

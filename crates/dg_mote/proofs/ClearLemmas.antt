@@ -90,9 +90,11 @@ cleared a b v w m s is acted lent job = record {
   mote = record {
     id = is.id;
     since = is.since;
+    wide = is.wide;
     noted = is.noted;
     mounted = acted.mounted;
     mode = mode_stays a.image b.image v.volume w s (last (clear_trail s)) v.mode m.mode (record { lent = lent; job = job; held_there = λ i. ap (λ (x : Store). held x i) (last-stepping s _ _) }) is.mode;
+    known = is.known;
   };
   answers = refl;
 }

@@ -34,7 +34,7 @@ use Rattle.dg_volume.specs.Trails.{order_trail, clear_trail, take_trail}
 use Rattle.dg_volume.specs.Start.{order_waits}
 use Rattle.dg_volume.specs.Acts.{Stops}
 use Rattle.dg_volume.specs.Consistent.{Consistent}
-use Rattle.dg_frame.specs.Grammar.{in_range, message_of}
+use Rattle.dg_frame.specs.Grammar.{message_of}
 use Rattle.dg_frame.specs.declared.Entry.{Entry}
 use Rattle.dg_frame.specs.declared.Message.{Message}
 use Rattle.dg_frame.specs.declared.Message.TheVariants.{Advert, Request, Packet, Wide}
@@ -55,11 +55,6 @@ use Rattle.dg_mote.proofs.ReadLemmas.{IsWellRead, HasShape, well_read}
 use Rattle.dg_mote.proofs.KeepLemmas.{through_both, through_then}
 use Rattle.dg_mote.proofs.WellStores.{HasPlaces, take_places}
 use Rattle.dg_mote.proofs.AdvertLemmas.{is_ahead}
-
--- a narrow reader has no wide adverts
-no_wide_fits : (source : ℕ) (entries : List Entry) (order : Order) → in_range false (Wide source entries order) ≡ true → ⊥
-unfolding in_range
-no_wide_fits source entries order e = cc
 
 -- ---- what is promised below
 
@@ -176,7 +171,7 @@ module _ (golden : Row) (laws : ActLaws golden) (now word : ℕ) where
     advert_turns (Maintain timer) m s order p own =
         let t = heed_trail s order in
         let first = heed_way s order p in
-        behind_turns t _ first (ahead_turns (ahead_in entries (last t)) m timer (last t) (is_own entries order s) (Through-last P t first) refl)
+        behind_turns t _ first (ahead_turns (ahead_in entries (last t)) m timer (last t) (is_own entries order m.wide s) (Through-last P t first) refl)
     advert_turns (Receive r) m s order p own = rests m s 0 None _ p own
     advert_turns (Transmit t) m s order p own = rests m s 0 None _ p own
 
@@ -230,20 +225,20 @@ module _ (golden : Row) (laws : ActLaws golden) (now word : ℕ) where
 
     -- ---- whatever is heard
 
-    message_turns : (message : Message) (m : MoteState) → AsksForKnown m.mode → in_range false message ≡ true → HasShape message → Turns (on_message m s now word message)
-    message_turns (Advert source entries order) m own fits shape = advert_turns source entries (omega (arith, shape)) m.mode m s order here own
-    message_turns (Request source to image version page want) m own fits shape = request_turns m to image version page want own
-    message_turns (Packet source image version page q bytes) m own fits shape = packet_turns m.mode m image version page q bytes own own
-    message_turns (Wide source entries order) m own fits shape = absurd (no_wide_fits source entries order fits)
+    message_turns : (message : Message) (m : MoteState) → AsksForKnown m.mode → HasShape message → Turns (on_message m s now word message)
+    message_turns (Advert source entries order) m own shape = advert_turns source entries (omega (arith, shape)) m.mode m s order here own
+    message_turns (Request source to image version page want) m own shape = request_turns m to image version page want own
+    message_turns (Packet source image version page q bytes) m own shape = packet_turns m.mode m image version page q bytes own own
+    message_turns (Wide source entries order) m own shape = advert_turns source entries (omega (arith, shape)) m.mode m s order here own
 
-    frame_turns : (r : Result Message FrameFault) (m : MoteState) → AsksForKnown m.mode → IsWellRead r → Turns (by_message r m s now word)
+    frame_turns : (r : Result Message FrameFault) (m : MoteState) → AsksForKnown m.mode → IsWellRead m.wide r → Turns (by_message r m s now word)
     frame_turns (Err fault) m own read = rests m s 0 None _ here own
     frame_turns (Ok message) m own read =
-        cond_both (source_of message == m.id) _ _ Turns (λ _. rests m s 0 None _ here own) (λ _. message_turns message m own read.0 read.1)
+        cond_both (source_of message == m.id) _ _ Turns (λ _. rests m s 0 None _ here own) (λ _. message_turns message m own read.1)
 
     pub heard_consistent : (m : MoteState) (bytes : List ℕ) → AsksForKnown m.mode → Turns (heard_of m s now word bytes)
     unfolding heard_of
-    heard_consistent m bytes own = frame_turns (message_of bytes false) m own (well_read bytes)
+    heard_consistent m bytes own = frame_turns (message_of bytes m.wide) m own (well_read bytes m.wide)
 
 -- ---- what a stop leaves
 

@@ -33,7 +33,7 @@ use Rattle.dg_volume.specs.Changes.{paged}
 use Rattle.dg_volume.specs.Acts.{Acted, Stops}
 use Rattle.dg_volume.specs.Trails.{BeginsAt, sealing_trail}
 use Rattle.dg_volume.specs.declared.volume.Volume.{Volume}
-use Rattle.dg_mote.specs.Model.{MoteState, Mode, Receive, Receiving, came, reception, maintains, Turn}
+use Rattle.dg_mote.specs.Model.{MoteState, Mode, Receive, NamesKnown, Receiving, came, reception, maintains, Turn}
 use Rattle.dg_mote.specs.Adverts.{behind}
 use Rattle.dg_mote.specs.Packets.{accepted, seal_by, takes}
 use Rattle.dg_mote.specs.Motes.{IsMote, ModeStands, Receives, Done}
@@ -218,10 +218,10 @@ pub record Takes (m : MoteState) (r : Receiving) (s : Store) (now q : ℕ) (byte
   pub few : set.len (came (put_packet r.packets q bytes)) < packets
   pub done : Done (took m r s now q bytes) a b v (heard.Took q)
 
-pub took_done : (a b : Device) (v : Mote) (m : MoteState) (s : Store) (r : Receiving) (version server now q : ℕ) (asking new : Reception) (job filled : PageJob) (bytes : List ℕ) → q < packets → IsMote a.image v m s → AsksThis a.image v.volume s r version server asking job
+pub took_done : (a b : Device) (v : Mote) (m : MoteState) (s : Store) (r : Receiving) (version server now q : ℕ) (asking new : Reception) (job filled : PageJob) (bytes : List ℕ) → q < packets → NamesKnown m.wide (Receive r) → IsMote a.image v m s → AsksThis a.image v.volume s r version server asking job
     → InSlot a.image v.volume s job r b.image → set.contains (got_told job) q ≡ false → new ≡ after_accept asking now q → slot_of filled ≡ slot_of job → ((h : Held) (ps : Packets) → IsJob a.image job h ps → IsJob b.image filled h (put_packet ps q bytes)) → Ran 1 a b → set.len new.got < packets
     → Takes m r s now q bytes a b (record v { mode = value.Receive version server new filled })
-took_done a b v m s r version server now q asking new job filled bytes known is this inside missing accepts same put ran less =
+took_done a b v m s r version server now q asking new job filled bytes known named is this inside missing accepts same put ran less =
     let receives = this.receives in
     let gone = missing_came r a.image job receives.kept q known receives.stands missing in
     let asks : new ≡ reception (accepted r now q bytes) = accepts ∙ ap (λ (x : Reception). after_accept x now q) this.asks ∙ accepted_asks r now q bytes known receives.stands.count gone in
@@ -233,6 +233,7 @@ took_done a b v m s r version server now q asking new job filled bytes known is 
         mote = subst (IsMote b.image (record v { mode = value.Receive version server new filled }) (took m r s now q bytes).mote) (sym (last-resting s 1)) (record {
           id = is.id;
           since = is.since;
+          wide = is.wide;
           noted = is.noted;
           mounted = inside.mounted;
           mode = (
@@ -252,6 +253,7 @@ took_done a b v m s r version server now q asking new job filled bytes known is 
               missing = few;
             },
           );
+          known = named;
         });
         answers = refl;
       };
@@ -279,6 +281,7 @@ made_whole a b v m s r version server now q asking new job filled bytes known is
       whole = record {
         id = is.id;
         since = is.since;
+        wide = is.wide;
         noted = is.noted;
         mounted = inside.mounted;
         code = (
@@ -364,7 +367,7 @@ page_done a b v w m s r h ps now word trickle fits answer whole sealed starts ba
     let free : NothingLent w = λ i. ⊎_elim (λ e. ap (is_lent w) e ∙ back) (λ other. others i other ∙ whole.others i other) (cases_eq i r.image) in
     let trail = ends_trail m r h s now word page in
     let t = sealing_trail s r.image h page in
-    let mote : IsMote b.image after (maintains m now word) (last t) = record { id = whole.id; since = whole.since; noted = whole.noted; mounted = sealed.acted.mounted; mode = (starts, free) } in
+    let mote : IsMote b.image after (maintains m now word) (last t) = record { id = whole.id; since = whole.since; wide = whole.wide; noted = whole.noted; mounted = sealed.acted.mounted; mode = (starts, free); known = tt } in
     record {
       ran = subst (λ (x : Trail Store). Ran (operations x) a b) (sym trail) sealed.acted.ran;
       mote = subst (λ (x : Trail Store). IsMote b.image after (page_ends m r h s now word page).mote (last x)) (sym trail) (subst (λ (x : MoteState). IsMote b.image after x (last t)) (sym (ends_mote m r h s now word page)) mote);

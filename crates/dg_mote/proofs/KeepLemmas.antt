@@ -1,5 +1,5 @@
 -- Steps that keep a mode in agreement with its store: what all acts share.
-use Rattle.std.proofs.Common.{◌≡◌, ℕ, ◌-◌, ◌≤◌, List, [], ◌∷◌, length, Option, Some, None, IfSome, refl, sym, ap, subst, ◌∙◌, inl, inr, arith}
+use Rattle.std.proofs.Common.{◌≡◌, ℕ, ◌-◌, ◌≤◌, Bool, true, false, List, [], ◌∷◌, length, Option, Some, None, IfSome, Ok, refl, sym, ap, subst, ◌∙◌, inl, inr, arith}
 use Rattle.std.specs.Prelude.{slice_index_or}
 use Rattle.std.proofs.lemmas.List.FromFn.{get_or-map-range_with_len}
 use Rattle.dg_nor.specs.Trail.{Trail, Stage, last, last_of, resting}
@@ -9,11 +9,11 @@ use Rattle.dg_object.specs.Object.{Row}
 use Rattle.dg_slot.specs.Kept.{Held}
 use Rattle.dg_volume.specs.Store.{Store, held}
 use Rattle.dg_volume.specs.Agreement.{KeepsRow, Agrees}
-use Rattle.dg_frame.specs.Sizes.{narrow_images}
+use Rattle.dg_frame.specs.Sizes.{known_images}
 use Rattle.dg_frame.specs.declared.Message.{Message}
 use Rattle.dg_mote.specs.Model.{MoteState, Mode, Maintain, Receive, Transmit, Turn}
-use Rattle.dg_mote.specs.Summary.{no_entry, entry_by, entries_of, entry_for}
-use Rattle.dg_mote.specs.Agreement.{ModeAgrees, HonestEntry}
+use Rattle.dg_mote.specs.Summary.{no_entry, entry_by, entries_of, advert_of, entry_for}
+use Rattle.dg_mote.specs.Agreement.{ModeAgrees, HonestEntry, HonestMessage}
 use Rattle.dg_mote.specs.Well.{SendsHonest}
 
 -- a step goes through stores of P, leaves a mode that agrees, and sends what is honest
@@ -75,12 +75,20 @@ mode_same table s t e (Transmit x) a = record {
 
 -- ---- the own summary
 
-pub entry_is : (s : Store) (i : ℕ) → 1 ≤ i → i ≤ narrow_images → entry_for (entries_of s) i ≡ entry_by (held s i)
-entry_is s i low high = get_or-map-range_with_len (λ j. entry_by (held s j)) 1 narrow_images (i - 1) i no_entry (omega (arith, low, high)) (omega (arith, low))
+pub entry_is : (wide : Bool) (s : Store) (i : ℕ) → 1 ≤ i → i ≤ known_images wide → entry_for (entries_of wide s) i ≡ entry_by (held s i)
+entry_is wide s i low high = get_or-map-range_with_len (λ j. entry_by (held s j)) 1 (known_images wide) (i - 1) i no_entry (omega (arith, low, high)) (omega (arith, low))
+
+pub length_entries : (wide : Bool) (s : Store) → length (entries_of wide s) ≡ known_images wide
+length_entries true s = refl
+length_entries false s = refl
 
 entry_honest : (table : List Row) (i : ℕ) (o : Option Held) → IfSome o (KeepsRow table i) → HonestEntry table i (entry_by o)
 entry_honest table i None k = inl refl
 entry_honest table i (Some h) k = inr (k.row, k.in_table, k.pages, k.crc)
 
-pub summary_honest : (table : List Row) (s : Store) → Agrees table s → (i : ℕ) → 1 ≤ i → i ≤ length (entries_of s) → HonestEntry table i (entry_for (entries_of s) i)
-summary_honest table s a i low high = subst (HonestEntry table i) (sym (entry_is s i low high)) (entry_honest table i (held s i) (a.kept i))
+pub summary_honest : (table : List Row) (wide : Bool) (s : Store) → Agrees table s → (i : ℕ) → 1 ≤ i → i ≤ length (entries_of wide s) → HonestEntry table i (entry_for (entries_of wide s) i)
+summary_honest table wide s a i low high = subst (HonestEntry table i) (sym (entry_is wide s i low (omega (arith, high, length_entries wide s)))) (entry_honest table i (held s i) (a.kept i))
+
+pub advert_honest : (table : List Row) (wide : Bool) (s : Store) (id : ℕ) → Agrees table s → HonestMessage table (Ok (advert_of id wide s))
+advert_honest table true s id a = summary_honest table true s a
+advert_honest table false s id a = summary_honest table false s a

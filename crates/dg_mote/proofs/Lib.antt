@@ -1,3 +1,4 @@
+pub mod WideLemmas
 pub mod ReadLemmas
 pub mod BeginLemmas
 pub mod RowLemmas

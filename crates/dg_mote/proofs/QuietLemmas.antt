@@ -34,7 +34,7 @@ use Rattle.dg_frame.specs.declared.Message.{Message}
 use Rattle.dg_frame.specs.declared.Message.TheVariants.{Advert, Request, Packet, Wide}
 use Rattle.dg_frame.specs.declared.FrameFault.{FrameFault}
 use Rattle.dg_mote.specs.Model.{MoteState, Mode, Maintain, Receive, Transmit, Receiving, Sending, came, reception, maintains, Turn}
-use Rattle.dg_mote.specs.Summary.{entry_for, is_own, ahead_in}
+use Rattle.dg_mote.specs.Summary.{entries_of, own_order, advert_by, entry_for, is_own, ahead_in}
 use Rattle.dg_mote.specs.Ticks.{clears, maintain_by, receive_by, serving, transmit_by, mode_tick, tick_of}
 use Rattle.dg_mote.specs.Adverts.{heed_trail, asks, noting, by_ahead, advert_heard, on_advert}
 use Rattle.dg_mote.specs.Requests.{concerns, can_serve, is_served, to_it, on_request}
@@ -107,8 +107,12 @@ module _ (image from until : ℕ) (Noting : Noted → Type 0) (shuts : Shuts ima
     quiet : IsQuiet step.mote
     sent : NoRequest image step.sent
 
+  no_request : (wide : Bool) (id : ℕ) (entries : List Entry) (order : Order) → NoRequest image (Some (advert_by wide id entries order))
+  no_request true id entries order = tt
+  no_request false id entries order = tt
+
   maintain_quiet : (a : Act) (m : MoteState) (s : Store) → IsQuiet m → Stays (maintain_by a m s)
-  maintain_quiet act.Send m s q = record { quiet = q; sent = tt }
+  maintain_quiet act.Send m s q = record { quiet = q; sent = no_request m.wide m.id (entries_of m.wide s) (own_order m.wide s) }
   maintain_quiet act.Quiet m s q = record { quiet = q; sent = tt }
   maintain_quiet act.Expired m s q = record { quiet = q; sent = tt }
   maintain_quiet act.Nothing m s q = record { quiet = q; sent = tt }
@@ -165,7 +169,7 @@ module _ (image from until : ℕ) (Noting : Noted → Type 0) (shuts : Shuts ima
     advert_quiet : (mode : Mode) (m : MoteState) (s : Store) (word source : ℕ) (entries : List Entry) (order : Order) → IsQuiet m → Hushed (on_advert mode m s now word source entries order)
     unfolding advert_heard
     advert_quiet (Maintain timer) m s word source entries order q =
-        let t = heed_trail s order in ahead_quiet (ahead_in entries (last t)) m timer (last t) word source entries (is_own entries order s) q
+        let t = heed_trail s order in ahead_quiet (ahead_in entries (last t)) m timer (last t) word source entries (is_own entries order m.wide s) q
     advert_quiet (Receive r) m s word source entries order q = q
     advert_quiet (Transmit t) m s word source entries order q = q
 
@@ -208,7 +212,7 @@ module _ (image from until : ℕ) (Noting : Noted → Type 0) (shuts : Shuts ima
 
     heard_quiet : (m : MoteState) (s : Store) (word : ℕ) (bytes : List ℕ) → IsQuiet m → Hushed (heard_of m s now word bytes)
     unfolding heard_of
-    heard_quiet m s word bytes q = frame_quiet (message_of bytes false) m s word q
+    heard_quiet m s word bytes q = frame_quiet (message_of bytes m.wide) m s word q
 
   -- ---- in a row
 

@@ -1,5 +1,5 @@
 -- What is read of bytes: messages in their ranges, and of the shape of their kind.
-use Rattle.std.proofs.Common.{◌≡◌, ◌↔◌, ℕ, ◌≤◌, ◌-◌, Bool, true, not, ◌&&◌, IfSome, List, take, drop, length, Option, Some, None, Result, Ok, Err, refl, ap, arith, false}
+use Rattle.std.proofs.Common.{◌≡◌, ◌↔◌, ℕ, ◌≤◌, ◌-◌, Bool, true, not, ◌&&◌, IfSome, List, take, drop, length, Option, Some, None, Result, Ok, Err, refl, ap, arith}
 use Rattle.std.proofs.lemmas.Bool.{cond_both}
 use Rattle.std.proofs.lemmas.Option.{same_Some}
 use Rattle.std.proofs.lemmas.List.{length-take}
@@ -24,31 +24,34 @@ HasShape (Request source to image version page want) = AllBelow packets want
 HasShape (Packet source image version page packet bytes) = Unit {0}
 HasShape (Wide source entries order) = length entries ≡ wide_images
 
-abbrev pub IsWellRead : Result Message FrameFault → Type 0
-IsWellRead (Err cause) = Unit {0}
-IsWellRead (Ok m) = (in_range false m ≡ true) × HasShape m
+abbrev pub IsWellRead : (wide : Bool) → Result Message FrameFault → Type 0
+IsWellRead wide (Err cause) = Unit {0}
+IsWellRead wide (Ok m) = (in_range wide m ≡ true) × HasShape m
 
 set_below : (b : List ℕ) → AllBelow packets (numbers_of (take set_bytes b))
 set_below b = AllBelow-packed packets (take set_bytes b) _ refl (λ n high. unmarked_past (take set_bytes b) n (omega (arith, length-take set_bytes b)))
 
-ranged_well : (m : Message) → HasShape m → IsWellRead (ranged false m)
-ranged_well m h = cond_both (in_range false m) _ _ IsWellRead (λ fits. (fits, h)) (λ _. tt)
+ranged_well : (wide : Bool) (m : Message) → HasShape m → IsWellRead wide (ranged wide m)
+ranged_well wide m h = cond_both (in_range wide m) _ _ (IsWellRead wide) (λ fits. (fits, h)) (λ _. tt)
 
-kind_well : (b : List ℕ) (k : Option (ℕ × (List ℕ → Message))) → IfSome k (λ x. HasShape (x.1 b)) → IsWellRead (by_kind b false k)
-kind_well b None h = tt
-kind_well b (Some k) h =
-    cond_both (not (length b == k.0)) _ _ IsWellRead (λ _. tt)
-    (λ _. cond_both (not (half_at b (length b - 2) == crc_of (take (length b - 2) b))) (Err fault.Check) (ranged false (k.1 b)) IsWellRead (λ _. tt) (λ _. ranged_well (k.1 b) h))
+kind_well : (b : List ℕ) (wide : Bool) (k : Option (ℕ × (List ℕ → Message))) → IfSome k (λ x. HasShape (x.1 b)) → IsWellRead wide (by_kind b wide k)
+kind_well b wide None h = tt
+kind_well b wide (Some k) h =
+    cond_both (not (length b == k.0)) _ _ (IsWellRead wide) (λ _. tt)
+    (λ _. cond_both (not (half_at b (length b - 2) == crc_of (take (length b - 2) b))) (Err fault.Check) (ranged wide (k.1 b)) (IsWellRead wide) (λ _. tt) (λ _. ranged_well wide (k.1 b) h))
 
-kinds_shape : (b : List ℕ) (n : ℕ) → IfSome (kind_of false n) (λ x. HasShape (x.1 b))
+kinds_shape : (b : List ℕ) (wide : Bool) (n : ℕ) → IfSome (kind_of wide n) (λ x. HasShape (x.1 b))
 unfolding entries_in
-kinds_shape b n =
+kinds_shape b wide n =
     let P : Option (ℕ × (List ℕ → Message)) → Type 0 = λ k. IfSome k (λ x. HasShape (x.1 b)) in
-    cond_both (n == 1) _ _ P (λ _. refl) (λ _. cond_both (n == 2) _ _ P (λ _. set_below (drop 11 b)) (λ _. cond_both (n == 3) _ _ P (λ _. tt) (λ _. tt)))
+    cond_both (n == 1) _ _ P (λ _. refl)
+    (λ _. cond_both (n == 2) _ _ P (λ _. set_below (drop 11 b))
+    (λ _. cond_both (n == 3) _ _ P (λ _. tt)
+    (λ _. cond_both (wide && (n == 4)) _ _ P (λ _. refl) (λ _. tt))))
 
-pub well_read : (b : List ℕ) → IsWellRead (message_of b false)
+pub well_read : (b : List ℕ) (wide : Bool) → IsWellRead wide (message_of b wide)
 unfolding message_of
-well_read b = cond_both (nat_lt (length b) 5) _ _ IsWellRead (λ _. tt) (λ _. kind_well b (kind_of false (slice_index b 0)) (kinds_shape b (slice_index b 0)))
+well_read b wide = cond_both (nat_lt (length b) 5) _ _ (IsWellRead wide) (λ _. tt) (λ _. kind_well b wide (kind_of wide (slice_index b 0)) (kinds_shape b wide (slice_index b 0)))
 
 -- ---- how long frames are
 

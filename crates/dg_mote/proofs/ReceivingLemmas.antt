@@ -127,7 +127,7 @@ module _ (comes : (image version page q : ℕ) → Type 0) (m : MoteState) where
   unfolding advert_heard
   advert_hears (Maintain timer) s now word source entries order is =
       let u = last (heed_trail s order) in
-      ahead_hears (ahead_in entries u) timer u now word source entries (is_own entries order s) (λ i e. (is_ahead entries u i e).low)
+      ahead_hears (ahead_in entries u) timer u now word source entries (is_own entries order m.wide s) (λ i e. (is_ahead entries u i e).low)
   advert_hears (Receive r) s now word source entries order is = same_mode m.mode refl
   advert_hears (Transmit t) s now word source entries order is = same_mode m.mode refl
 
@@ -172,12 +172,12 @@ module _ (comes : (image version page q : ℕ) → Type 0) (m : MoteState) where
   message_hears (Packet source image version page q bytes) s now word brings = packet_hears m.mode s now word image version page q bytes refl (brings source image version page q bytes refl)
   message_hears (Wide source entries order) s now word brings = advert_hears m.mode s now word source entries order refl
 
-frame_goes_by : (bytes : List ℕ) (r : Result Message FrameFault) (m : MoteState) (s : Store) (now word : ℕ) → message_of bytes false ≡ r → Hears (Brings bytes) m (by_message r m s now word)
-frame_goes_by bytes (Err fault) m s now word is = same_mode (Brings bytes) m m.mode refl
+frame_goes_by : (bytes : List ℕ) (r : Result Message FrameFault) (m : MoteState) (s : Store) (now word : ℕ) → message_of bytes m.wide ≡ r → Hears (Brings bytes m.wide) m (by_message r m s now word)
+frame_goes_by bytes (Err fault) m s now word is = same_mode (Brings bytes m.wide) m m.mode refl
 frame_goes_by bytes (Ok message) m s now word is =
-    cond_both (source_of message == m.id) _ _ (Hears (Brings bytes) m) (λ _. same_mode (Brings bytes) m m.mode refl)
-    (λ _. message_hears (Brings bytes) m message s now word (λ source image version page q content e. (source, content, is ∙ ap Ok e)))
+    cond_both (source_of message == m.id) _ _ (Hears (Brings bytes m.wide) m) (λ _. same_mode (Brings bytes m.wide) m m.mode refl)
+    (λ _. message_hears (Brings bytes m.wide) m message s now word (λ source image version page q content e. (source, content, is ∙ ap Ok e)))
 
-pub frame_goes : (m : MoteState) (s : Store) (now word : ℕ) (bytes : List ℕ) → IfReceives (λ r. IsBegun r ⊎ Continues m.mode (Brings bytes) r) (heard_of m s now word bytes).mote.mode
+pub frame_goes : (m : MoteState) (s : Store) (now word : ℕ) (bytes : List ℕ) → IfReceives (λ r. IsBegun r ⊎ Continues m.mode (Brings bytes m.wide) r) (heard_of m s now word bytes).mote.mode
 unfolding heard_of
-frame_goes m s now word bytes = frame_goes_by bytes (message_of bytes false) m s now word refl
+frame_goes m s now word bytes = frame_goes_by bytes (message_of bytes m.wide) m s now word refl

@@ -1,5 +1,5 @@
 -- Requests that are heard over agreeing stores.
-use Rattle.dg_frame.specs.Sizes.{narrow_images}
+use Rattle.dg_frame.specs.Sizes.{known_images}
 use Rattle.std.proofs.Common.{◌≡◌, ◌≢◌, ℕ, ◌<◌, Bool, true, false, ◌&&◌, ◌||◌, List, length, Option, Some, None, refl, sym, ap, ◌∙◌}
 use Rattle.std.specs.Prelude.{◌==◌, nat_lt}
 use Rattle.std.proofs.lemmas.Bool.{cond_both, and_parts, eqb-true, ltb-true}
@@ -51,13 +51,13 @@ union_some s t some none =
     some (ap set.len nobody ∙ set.len-empty nat_cmp)
 
 module _ (P : Store → Type 0) (table : List Row) (s : Store) (here : P s) (now : ℕ) where
-  begins_serving : (m : MoteState) (image version page : ℕ) (want : Numbers) (answer : Heard) → PageInRange narrow_images image version page → want ≢ set.empty → Complete s image version page
+  begins_serving : (m : MoteState) (image version page : ℕ) (want : Numbers) (answer : Heard) → PageInRange (known_images m.wide) image version page → want ≢ set.empty → Complete s image version page
       → Keeps P table (record { mote = record m { mode = Transmit (record { image = image; version = version; page = page; owed = begun now want }) }; trail = resting s 0; sent = None; answer = answer })
   begins_serving m image version page want answer range some c =
       rests P table (record m { mode = Transmit (record { image = image; version = version; page = page; owed = begun now want }) }) s 0 None answer here
       (record { not_golden = range.first; kept = c.kept; held_here = c.here; version = c.version_is; complete = c.complete; owed = λ none. some (set.empty_of_len want none) }) tt
 
-  to_it_keeps : (mode : Mode) (m : MoteState) (image version page : ℕ) (want : Numbers) → PageInRange narrow_images image version page → want ≢ set.empty → ModeAgrees table s m.mode → ModeAgrees table s mode
+  to_it_keeps : (mode : Mode) (m : MoteState) (image version page : ℕ) (want : Numbers) → PageInRange (known_images m.wide) image version page → want ≢ set.empty → ModeAgrees table s m.mode → ModeAgrees table s mode
       → Keeps P table (to_it mode m s now image version page want)
   to_it_keeps (Maintain timer) m image version page want range some own a =
       cond_both (can_serve s image version page) _ _ (Keeps P table)
@@ -70,7 +70,7 @@ module _ (P : Store → Type 0) (table : List Row) (s : Store) (here : P s) (now
       (λ _. rests P table m s 0 None _ here own tt)
   to_it_keeps (Receive r) m image version page want range some own a = rests P table m s 0 None _ here own tt
 
-  pub request_keeps : (m : MoteState) (to image version page : ℕ) (want : Numbers) → PageInRange narrow_images image version page → want ≢ set.empty → ModeAgrees table s m.mode → Keeps P table (on_request m s now to image version page want)
+  pub request_keeps : (m : MoteState) (to image version page : ℕ) (want : Numbers) → PageInRange (known_images m.wide) image version page → want ≢ set.empty → ModeAgrees table s m.mode → Keeps P table (on_request m s now to image version page want)
   request_keeps m to image version page want range some own =
       cond_both (to == m.id) _ _ (Keeps P table) (λ _. to_it_keeps m.mode m image version page want range some own own)
       (λ _. cond_both (concerns s image version page) _ _ (Keeps P table)

@@ -66,7 +66,7 @@ record OneTick (x : Spot) (now : ℕ) (t u : Timer) : Type 0 where
   calm : Calm (ticked x (now + pace)) (now + pace) u
   store : (ticked x (now + pace)).store ≡ x.store
   mote : (ticked x (now + pace)).mote ≡ record x.mote { mode = Maintain u }
-  sent : (tick_at x (now + pace)).sent ≡ cond t.fired None (Some (advert_of x.mote.id x.store))
+  sent : (tick_at x (now + pace)).sent ≡ cond t.fired None (Some (advert_of x.mote.id x.mote.wide x.store))
   turned : u.fired ≡ not t.fired
 
 one_tick : (x : Spot) (now : ℕ) (t : Timer) → Calm x now t → OneTick x now t (after_tick t (now + pace) 0)
@@ -90,17 +90,17 @@ one_tick x now t c =
     told a = (tick_by (maintain_by a m x.store).answer (maintain_by a m x.store) (now + pace) 0).sent
 
     by_fired : (f : Bool) → t.fired ≡ f → t.begin + pace ≤ now + pace
-        → ((after_tick t (now + pace) 0).count ≡ 0) × ((tick_at x (now + pace)).sent ≡ cond t.fired None (Some (advert_of x.mote.id x.store))) × ((after_tick t (now + pace) 0).fired ≡ not t.fired)
+        → ((after_tick t (now + pace) 0).count ≡ 0) × ((tick_at x (now + pace)).sent ≡ cond t.fired None (Some (advert_of x.mote.id x.mote.wide x.store))) × ((after_tick t (now + pace) 0).fired ≡ not t.fired)
     by_fired false f late =
         let both = fires t (now + pace) f c.unheard c.runs late in (
           ap (λ (s : Timer). s.count) both.1 ∙ c.unheard,
-          ap (λ (e : Effect). e.sent) (tick_is x now t c) ∙ ap told both.0 ∙ sym (ap (λ b. cond b None (Some (advert_of x.mote.id x.store))) f),
+          ap (λ (e : Effect). e.sent) (tick_is x now t c) ∙ ap told both.0 ∙ sym (ap (λ b. cond b None (Some (advert_of x.mote.id x.mote.wide x.store))) f),
           ap (λ (s : Timer). s.fired) both.1 ∙ sym (ap not f),
         )
     by_fired true f late =
         let both = expires t (now + pace) f c.runs late in (
           ap (λ (s : Timer). s.count) both.1,
-          ap (λ (e : Effect). e.sent) (tick_is x now t c) ∙ ap told both.0 ∙ sym (ap (λ b. cond b None (Some (advert_of x.mote.id x.store))) f),
+          ap (λ (e : Effect). e.sent) (tick_is x now t c) ∙ ap told both.0 ∙ sym (ap (λ b. cond b None (Some (advert_of x.mote.id x.mote.wide x.store))) f),
           ap (λ (s : Timer). s.fired) both.1 ∙ sym (ap not f),
         )
 
@@ -111,7 +111,8 @@ record Stays (table : List Row) (x : Spot) (now : ℕ) (t : Timer) : Type 0 wher
   well : SpotIsWell table (ticked x (now + pace)) (now + pace)
   store : (ticked x (now + pace)).store ≡ x.store
   id : (ticked x (now + pace)).mote.id ≡ x.mote.id
-  sent : (tick_at x (now + pace)).sent ≡ cond t.fired None (Some (advert_of x.mote.id x.store))
+  wide : (ticked x (now + pace)).mote.wide ≡ x.mote.wide
+  sent : (tick_at x (now + pace)).sent ≡ cond t.fired None (Some (advert_of x.mote.id x.mote.wide x.store))
   turned : drained.timer.fired ≡ not t.fired
 
 stays : (table : List Row) (x : Spot) (now : ℕ) → SpotIsWell table x now → (d : Drained x now) → Stays table x now d.timer
@@ -137,13 +138,14 @@ stays table x now w d =
       };
       store = one.store;
       id = ap (λ (m : MoteState). m.id) one.mote;
+      wide = ap (λ (m : MoteState). m.wide) one.mote;
       sent = one.sent;
       turned = one.turned;
     }
 
 pub rests : (table : List Row) (x : Spot) (now n : ℕ) → SpotIsWell table x now → Drained x now → Rests table x now n
 unfolding after_ticks
-rests table x now zero w d = record { drained = subst (Drained x) (omega arith) d; well = subst (SpotIsWell table x) (omega arith) w; store = refl; id = refl }
+rests table x now zero w d = record { drained = subst (Drained x) (omega arith) d; well = subst (SpotIsWell table x) (omega arith) w; store = refl; id = refl; wide = refl }
 rests table x now (suc n) w d =
     let one = stays table x now w d in
     let y = ticked x (now + pace) in
@@ -153,6 +155,7 @@ rests table x now (suc n) w d =
       well = subst (SpotIsWell table (after_ticks n y (now + pace))) (omega arith) more.well;
       store = more.store ∙ one.store;
       id = more.id ∙ one.id;
+      wide = more.wide ∙ one.wide;
     }
 
 -- ---- in three ticks
@@ -169,16 +172,17 @@ advertises table x now w d =
     let two = stays table y (now + pace) one.well one.drained in
     let three = stays table (ticked y (now + pace + pace)) (now + pace + pace) two.well two.drained in
     let all = rests table x now advert_ticks w d in
-    let own = advert_of x.mote.id x.store in
+    let own = advert_of x.mote.id x.mote.wide x.store in
     let first = one.drained.timer.fired in
-    let said : cond first None (Some (advert_of y.mote.id y.store)) ≡ cond first None (Some own) = λ i. cond first None (Some (advert_of (one.id i) (one.store i))) in
-    let then : cond two.drained.timer.fired None (Some (advert_of (ticked y (now + pace + pace)).mote.id (ticked y (now + pace + pace)).store)) ≡ cond (not first) None (Some own) =
-    λ i. cond (two.turned i) None (Some (advert_of ((two.id ∙ one.id) i) ((two.store ∙ one.store) i))) in
+    let said : cond first None (Some (advert_of y.mote.id y.mote.wide y.store)) ≡ cond first None (Some own) = λ i. cond first None (Some (advert_of (one.id i) (one.wide i) (one.store i))) in
+    let then : cond two.drained.timer.fired None (Some (advert_of (ticked y (now + pace + pace)).mote.id (ticked y (now + pace + pace)).mote.wide (ticked y (now + pace + pace)).store)) ≡ cond (not first) None (Some own) =
+    λ i. cond (two.turned i) None (Some (advert_of ((two.id ∙ one.id) i) ((two.wide ∙ one.wide) i) ((two.store ∙ one.store) i))) in
     record {
       drained = all.drained;
       well = all.well;
       store = all.store;
       id = all.id;
+      wide = all.wide;
       sent = λ before.
           (λ i. newer_of ((three.sent ∙ then) i) (newer_of ((two.sent ∙ said) i) (newer_of (tick_at x (now + pace)).sent before)))
           ∙ newest_of_two first own (newer_of (tick_at x (now + pace)).sent before);

@@ -1,5 +1,5 @@
 -- A drained mote that hears the summary of a mote ahead of it asks for a page, and its next tick sends the request.
-use Rattle.std.proofs.Common.{◌≡◌, ◌≢◌, ◌⊎◌, ℕ, ◌+◌, ◌<◌, ◌≤◌, Bool, true, false, not, ◌&&◌, cond, eqb, leb, ltb, List, length, take, get_or, Option, Some, None, IfSome, refl, sym, ap, subst, ◌∙◌, inl, inr, arith}
+use Rattle.std.proofs.Common.{◌≡◌, ◌≢◌, ◌⊎◌, ℕ, ◌+◌, ◌<◌, ◌≤◌, Bool, true, false, not, ◌&&◌, cond, eqb, leb, ltb, List, length, take, get_or, Option, Some, None, IfSome, Ok, refl, sym, ap, subst, ◌∙◌, inl, inr, arith}
 use Rattle.std.proofs.lemmas.Bool.{eq-eqb, ne_eqb, eqb-true, le-leb, leb-true, le-ltb, ltb-true, and_parts, or_cases, or_right, cases_Bool, cases_eq, both_ways}
 use Rattle.std.proofs.lemmas.List.{get_or-set_same, get_or-set_other, length-set}
 use Rattle.std.specs.List.{find}
@@ -18,40 +18,43 @@ use Rattle.dg_object.specs.Object.{Row, Outline, object, profile}
 use Rattle.dg_slot.specs.Layout.{packets}
 use Rattle.dg_slot.specs.Kept.{Held, held_begun}
 use Rattle.dg_slot.specs.Jobs.{no_packets}
+use Rattle.dg_volume.specs.Sizes.{images}
 use Rattle.dg_volume.specs.Store.{Store, held}
 use Rattle.dg_volume.specs.Changes.{ordered, is_version}
 use Rattle.dg_volume.specs.Trails.{BeginsAt, order_trail, take_trail, done_of}
 use Rattle.dg_volume.specs.Ends.{taken}
 use Rattle.dg_volume.specs.Table.{row_at}
 use Rattle.dg_volume.specs.Agreement.{Agrees, KeepsRow, HoldsRow}
-use Rattle.dg_frame.specs.Sizes.{narrow_images}
+use Rattle.dg_frame.specs.Sizes.{known_images}
 use Rattle.dg_frame.specs.declared.Entry.{Entry}
+use Rattle.dg_frame.specs.declared.Message.{Message}
 use Rattle.dg_frame.specs.declared.Message.TheVariants.{Request}
 use Rattle.dg_mote.specs.Model.{MoteState, Maintain, Receive, Receiving, Turn, came, reception}
-use Rattle.dg_mote.specs.Summary.{entry_for, entry_by, entries_of, ahead_of, ahead_in, named, advert_of, is_own}
+use Rattle.dg_mote.specs.Summary.{entry_for, entry_by, entries_of, ahead_of, ahead_in, named, own_order, advert_of, is_own}
 use Rattle.dg_mote.specs.Ticks.{asked, receive_by}
 use Rattle.dg_mote.specs.Adverts.{heed_trail, ask_trail, outline, asks, asking, noting, by_ahead, behind, advert_heard, on_advert, dropped}
-use Rattle.dg_mote.specs.Hears.{on_message}
+use Rattle.dg_mote.specs.Hears.{on_message, by_message}
 use Rattle.dg_mote.specs.Effects.{tick_by, tick_effect}
 use Rattle.dg_mote.specs.Spots.{Spot, SpotIsWell, pace, hears, ticked}
 use Rattle.dg_mote.specs.Drained.{Drained, spare_room, HasRoom}
 use Rattle.dg_mote.specs.Completing.{BeginsWith, KeepsNext, AsksPage, Asked, Requested}
 use Rattle.dg_mote.specs.declared.mote.Did.{Did}
 use Rattle.dg_mote.proofs.RowLemmas.{few_complete}
-use Rattle.dg_mote.proofs.KeepLemmas.{entry_is}
+use Rattle.dg_mote.proofs.KeepLemmas.{entry_is, length_entries}
 use Rattle.dg_mote.proofs.AdvertLemmas.{is_ahead, no_places, none_came, no_packet}
 use Rattle.dg_mote.proofs.RoundTicks.{spot_of, ticked_by, tick_by_mode, not_clearing, asks_now}
 use Rattle.dg_mote.proofs.RoundTake.{none_yet}
+use Rattle.dg_mote.proofs.WideLemmas.{known_kept}
 
 -- ---- which image it is
 
 -- the advertiser keeps it, and is ahead
-record Found (s t : Store) (i : ℕ) : Type 0 where
+record Found (wide : Bool) (s t : Store) (i : ℕ) : Type 0 where
   ahead : Held
   kept : held s i ≡ Some ahead
   from : 1 ≤ i
-  to : i ≤ narrow_images
-  entry : entry_for (entries_of s) i ≡ entry_by (Some ahead)
+  to : i < images
+  entry : entry_for (entries_of wide s) i ≡ entry_by (Some ahead)
   is_ahead : ahead_of (entry_by (Some ahead)) (held t i) ≡ true
 
 kept_of : (o : Option Held) (p : Option Held) → ahead_of (entry_by o) p ≡ true → (h : Held) × (o ≡ Some h)
@@ -59,13 +62,21 @@ kept_of None None e = absurd (both_ways false refl e)
 kept_of None (Some g) e = absurd (both_ways false refl e)
 kept_of (Some h) p e = (h, refl)
 
-found : (s t : Store) (i : ℕ) → ahead_in (entries_of s) t ≡ Some i → Found s t i
-found s t i e =
-    let a = is_ahead (entries_of s) t i e in
-    let same = entry_is s i a.low a.high in
+found : (wide : Bool) (s t : Store) (i : ℕ) → ahead_in (entries_of wide s) t ≡ Some i → Found wide s t i
+found wide s t i e =
+    let a = is_ahead (entries_of wide s) t i e in
+    let known : i ≤ known_images wide = omega (arith, a.high, length_entries wide s) in
+    let same = entry_is wide s i a.low known in
     let e2 : ahead_of (entry_by (held s i)) (held t i) ≡ true = ap (λ x. ahead_of x (held t i)) (sym same) ∙ a.ahead in
     let h = kept_of (held s i) (held t i) e2 in
-    record { ahead = h.0; kept = h.1; from = a.low; to = a.high; entry = same ∙ ap entry_by h.1; is_ahead = ap (λ o. ahead_of (entry_by o) (held t i)) (sym h.1) ∙ e2 }
+    record {
+      ahead = h.0;
+      kept = h.1;
+      from = a.low;
+      to = omega (arith, known, known_kept wide);
+      entry = same ∙ ap entry_by h.1;
+      is_ahead = ap (λ o. ahead_of (entry_by o) (held t i)) (sym h.1) ∙ e2;
+    }
 
 -- ---- what is kept once it asks
 
@@ -219,49 +230,63 @@ module _ (laws : ActLaws) where
       by true = refl
       by false = (laws.take_begins s (outline i e)).first
 
+  -- the summary of another mote, of either width, is heard as an advert of its entries and its order
+  hears_summary : (wide : Bool) (m : MoteState) (here : Store) (now id : ℕ) (s : Store) → id ≢ m.id
+      → by_message (Ok (advert_of id wide s)) m here now 0 ≡ on_advert m.mode m here now 0 id (entries_of wide s) (own_order wide s)
+  hears_summary true m here now id s other = ap (λ b. cond b (dropped m here) (on_message m here now 0 (advert_of id true s))) (ne_eqb id m.id other)
+  hears_summary false m here now id s other = ap (λ b. cond b (dropped m here) (on_message m here now 0 (advert_of id false s))) (ne_eqb id m.id other)
+
   module _ (x : Spot) (now id : ℕ) (s : Store) (timer : Timer) where
+    abbrev summary : Message
+    summary = advert_of id x.mote.wide s
+
+    abbrev entries : List Entry
+    entries = entries_of x.mote.wide s
+
+    abbrev order : Order
+    order = own_order x.mote.wide s
+
     abbrev t : Trail Store
-    t = heed_trail x.store s.order
+    t = heed_trail x.store order
 
     abbrev own : Bool
-    own = is_own (entries_of s) s.order x.store
+    own = is_own entries order x.mote.wide x.store
 
     abbrev s1 : Store
-    s1 = heeded x.store s.order
+    s1 = heeded x.store order
 
-    hears_advert : id ≢ x.mote.id → x.mote.mode ≡ Maintain timer
-        → hears x now (advert_of id s) ≡ spot_of (behind t (by_ahead (ahead_in (entries_of s) s1) x.mote timer s1 now 0 id (entries_of s) own))
+    hears_advert : id ≢ x.mote.id → x.mote.mode ≡ Maintain timer → hears x now summary ≡ spot_of (behind t (by_ahead (ahead_in entries s1) x.mote timer s1 now 0 id entries own))
     unfolding hears advert_heard
     hears_advert other is =
         ap spot_of (
-        ap (λ b. cond b (dropped x.mote x.store) (on_message x.mote x.store now 0 (advert_of id s))) (ne_eqb id x.mote.id other)
-        ∙ ap (λ k. on_advert k x.mote x.store now 0 id (entries_of s) s.order) is
-        ∙ ap (λ c. behind t (by_ahead (ahead_in (entries_of s) c) x.mote timer c now 0 id (entries_of s) own)) (last_heed x.store s.order))
+        hears_summary x.mote.wide x.mote x.store now id s other
+        ∙ ap (λ k. on_advert k x.mote x.store now 0 id entries order) is
+        ∙ ap (λ c. behind t (by_ahead (ahead_in entries c) x.mote timer c now 0 id entries own)) (last_heed x.store order))
 
-    ahead_same : ahead_in (entries_of s) s1 ≡ ahead_in (entries_of s) x.store
+    ahead_same : ahead_in entries s1 ≡ ahead_in entries x.store
     unfolding ahead_in
-    ahead_same = ap (λ ks. find (λ i. ahead_of (entry_for (entries_of s) i) (get_or ks i None)) (named (entries_of s))) (same_heeded (heeds x.store s.order) x.store s.order).kept
+    ahead_same = ap (λ ks. find (λ i. ahead_of (entry_for entries i) (get_or ks i None)) (named entries)) (same_heeded (heeds x.store order) x.store order).kept
 
     abbrev e_of : ℕ → Entry
-    e_of i = entry_for (entries_of s) i
+    e_of i = entry_for entries i
 
     abbrev may : ℕ → Bool
     may i = asks x.mote s1 now i (e_of i)
 
-    hears_ahead : (i : ℕ) → id ≢ x.mote.id → x.mote.mode ≡ Maintain timer → ahead_in (entries_of s) x.store ≡ Some i
-        → hears x now (advert_of id s) ≡ spot_of (behind t (cond (may i) (asking x.mote s1 now 0 id i (e_of i)) (noting x.mote timer s1 now 0 own)))
-    hears_ahead i other is a = hears_advert other is ∙ ap (λ o. spot_of (behind t (by_ahead o x.mote timer s1 now 0 id (entries_of s) own))) (ahead_same ∙ a)
+    hears_ahead : (i : ℕ) → id ≢ x.mote.id → x.mote.mode ≡ Maintain timer → ahead_in entries x.store ≡ Some i
+        → hears x now summary ≡ spot_of (behind t (cond (may i) (asking x.mote s1 now 0 id i (e_of i)) (noting x.mote timer s1 now 0 own)))
+    hears_ahead i other is a = hears_advert other is ∙ ap (λ o. spot_of (behind t (by_ahead o x.mote timer s1 now 0 id entries own))) (ahead_same ∙ a)
 
     -- it would not ask only where there is no room
     quiet_store : (b : Bool) → last (behind t (noting x.mote timer s1 now 0 b)).trail ≡ s1
-    quiet_store true = last-joined t (resting s1 0) (last_heed x.store s.order) ∙ last-resting s1 0
-    quiet_store false = last-joined t (resting s1 0) (last_heed x.store s.order) ∙ last-resting s1 0
+    quiet_store true = last-joined t (resting s1 0) (last_heed x.store order) ∙ last-resting s1 0
+    quiet_store false = last-joined t (resting s1 0) (last_heed x.store order) ∙ last-resting s1 0
 
-    does_ask : (i : ℕ) → Drained x now → id ≢ x.mote.id → x.mote.mode ≡ Maintain timer → ahead_in (entries_of s) x.store ≡ Some i → HasRoom (hears x now (advert_of id s)) → may i ≡ true
+    does_ask : (i : ℕ) → Drained x now → id ≢ x.mote.id → x.mote.mode ≡ Maintain timer → ahead_in entries x.store ≡ Some i → HasRoom (hears x now summary) → may i ≡ true
     does_ask i d other is a room = elim (cases_Bool (may i)) [
       | inl agreed ↦ agreed
       | inr none ↦
-          let same : (hears x now (advert_of id s)).store ≡ s1 =
+          let same : (hears x now summary).store ≡ s1 =
           ap (λ (z : Spot). z.store) (hears_ahead i other is a ∙ ap (λ b. spot_of (behind t (cond b (asking x.mote s1 now 0 id i (e_of i)) (noting x.mote timer s1 now 0 own)))) none) ∙ quiet_store own in
           let left : spare_room ≤ s1.room = subst (λ (c : Store). spare_room ≤ c.room) same room in
           λ i0. d.windows now i (omega arith) i0 && or_right (is_version (held s1 i) (e_of i).version) (leb 2 s1.room) (le-leb 2 s1.room (omega (arith, left))) i0
@@ -270,14 +295,14 @@ module _ (laws : ActLaws) where
     abbrev asker : (i page version : ℕ) → MoteState
     asker i page version = record x.mote { mode = Receive (receiving now id i page version) }
 
-    hears_asks : (i : ℕ) (ahead : Held) → id ≢ x.mote.id → x.mote.mode ≡ Maintain timer → ahead_in (entries_of s) x.store ≡ Some i → may i ≡ true → e_of i ≡ entry_by (Some ahead)
-        → let f = asked_store s1 i (entry_by (Some ahead)) in hears x now (advert_of id s) ≡ record { store = f; mote = asker i (done_of (held f i)) ahead.version }
+    hears_asks : (i : ℕ) (ahead : Held) → id ≢ x.mote.id → x.mote.mode ≡ Maintain timer → ahead_in entries x.store ≡ Some i → may i ≡ true → e_of i ≡ entry_by (Some ahead)
+        → let f = asked_store s1 i (entry_by (Some ahead)) in hears x now summary ≡ record { store = f; mote = asker i (done_of (held f i)) ahead.version }
     hears_asks i ahead other is a agreed same =
         hears_ahead i other is a
         ∙ ap (λ b. spot_of (behind t (cond b (asking x.mote s1 now 0 id i (e_of i)) (noting x.mote timer s1 now 0 own)))) agreed
         ∙ ap (λ e. spot_of (behind t (asking x.mote s1 now 0 id i e))) same
         ∙ ap (λ c. record { store = c; mote = asker i (done_of (held (last (ask_trail s1 i (entry_by (Some ahead)))) i)) ahead.version })
-        (last-joined t (ask_trail s1 i (entry_by (Some ahead))) (last_heed x.store s.order ∙ sym (first_ask s1 i (entry_by (Some ahead)))))
+        (last-joined t (ask_trail s1 i (entry_by (Some ahead))) (last_heed x.store order ∙ sym (first_ask s1 i (entry_by (Some ahead)))))
         ∙ ap (λ c. record { store = c; mote = asker i (done_of (held c i)) ahead.version }) (last_ask s1 i (entry_by (Some ahead)))
 
 -- ---- it is well then
@@ -339,12 +364,13 @@ asks_well table x now id i s f ahead w a there some n =
     }
 
 pub asks_law : ActLaws → (table : List Row) (x : Spot) (now id : ℕ) (s : Store) (i : ℕ) → SpotIsWell table x now → Drained x now → Agrees table s → id ≢ x.mote.id
-    → ahead_in (entries_of s) x.store ≡ Some i → HasRoom (hears x now (advert_of id s)) → (ahead : Held) × (held s i ≡ Some ahead) × Asked table x (hears x now (advert_of id s)) now id i ahead
+    → ahead_in (entries_of x.mote.wide s) x.store ≡ Some i → HasRoom (hears x now (advert_of id x.mote.wide s)) → (ahead : Held) × (held s i ≡ Some ahead) × Asked table x (hears x now (advert_of id x.mote.wide s)) now id i ahead
 asks_law laws table x now id s i w d a other is room =
-    let fo = found s x.store i is in
+    let fo = found x.mote.wide s x.store i is in
     let ahead = fo.ahead in
-    let st = heeded x.store s.order in
-    let keeps = same_heeded (heeds x.store s.order) x.store s.order in
+    let order = own_order x.mote.wide s in
+    let st = heeded x.store order in
+    let keeps = same_heeded (heeds x.store order) x.store order in
     let agreed = does_ask laws x now id s d.timer i d other d.maintains is room in
     let f = asked_store st i (entry_by (Some ahead)) in
     let same = hears_asks laws x now id s d.timer i ahead other d.maintains is agreed fo.entry in
@@ -379,6 +405,7 @@ asks_law laws table x now id s i w d a other is room =
         others = nx.others;
         gesture = nx.gesture ∙ d.gesture;
         id_is = refl;
+        wide_is = refl;
         well = asks_well table x now id i s f ahead w a fo.kept fo.from nx;
       }),
     )
@@ -407,6 +434,7 @@ requests_law x now server image kept a to few soon g =
       asks = record { r = asked r later; receives = refl; image_is = a.image_is; version_is = a.version_is; page_is = a.page_is; fresh = a.fresh; held_now = a.held_now };
       store = refl;
       id_is = refl;
+      wide_is = refl;
       sent =
           ap (λ (s : Turn Did). (tick_by s.answer s later 0).sent) turn
           ∙ (λ i. Some (Request x.mote.id (to i) (a.image_is i) (a.version_is i) (a.page_is i) (set.difference (below packets) (came (a.fresh i)))))

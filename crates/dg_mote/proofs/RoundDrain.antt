@@ -101,6 +101,7 @@ record Paid (n : ℕ) (x y : Spot) : Type 0 where
   debt : spare_room ≤ y.store.room → debt y ≤ debt x - n
   kept : y.store.kept ≡ x.store.kept
   id : y.mote.id ≡ x.mote.id
+  wide : y.mote.wide ≡ x.mote.wide
   room : y.store.room ≤ x.store.room
   spent : x.store.room + promised y.store ≤ y.store.room + promised x.store
   noted : (last : ℕ) → NotedBy x.mote.noted last → NotedBy y.mote.noted last
@@ -144,6 +145,7 @@ pays_clear x now e =
           rw (same, before) (omega arith);
       kept = refl;
       id = refl;
+      wide = refl;
       room = omega arith;
       spent =
           let before : one_if (leb 1 x.store.gesture) ≡ 1 = ap one_if some in
@@ -186,6 +188,7 @@ pays_mode x now mode next is less same some calm =
           ]);
       kept = refl;
       id = refl;
+      wide = refl;
       room = omega arith;
       spent = omega arith;
       noted = λ last p. p;
@@ -223,7 +226,7 @@ module _ (laws : OrderLaws) (table : List Row) (sound_rows : SoundRows table) wh
       let g0 : leb 1 x.store.gesture ≡ false = elim calm [ inl e ↦ e | inr e ↦ absurd (omega (arith, room, e)) ] in
       let image = x.store.order.image in
       let fine : sound x.store image ≡ true = whole_sound table sound_rows image x.store.order.version (held x.store image) (agrees.kept image) parts.0 in
-      let y : Spot = record { store = order_started x.store; mote = begun x.mote.id now 0 } in
+      let y : Spot = record { store = order_started x.store; mote = begun x.mote.id x.mote.wide now 0 } in
       let same : ticked x now ≡ y =
       restarts laws x now (tick_by_mode x now (Maintain t) none is
       ∙ ap (λ b. cond b (record { mote = x.mote; trail = resting x.store 0; sent = None; answer = Restart }) (maintain_by (act_of t now) (record x.mote { mode = Maintain (after_tick t now 0) }) x.store)) waits)
@@ -232,6 +235,7 @@ module _ (laws : OrderLaws) (table : List Row) (sound_rows : SoundRows table) wh
         debt = λ h. rw (g0, waits_none x.store, waits) (omega arith);
         kept = refl;
         id = refl;
+        wide = refl;
         room = omega arith;
         spent = let none = ap one_if (waits_none x.store) in let one = ap one_if waits in omega (arith, none, one, room, blank_few x.store.app);
         noted = λ last p. (past_none last, past_none last);
@@ -342,7 +346,7 @@ module _ (laws : OrderLaws) (table : List Row) (sound_rows : SoundRows table) (s
 
   pays_all : (n : ℕ) (x : Spot) (now : ℕ) → SpotIsWell table x now → Paid n x (after_ticks n x now)
   unfolding after_ticks
-  pays_all zero x now w = record { debt = λ h. omega arith; kept = refl; id = refl; room = omega arith; spent = omega arith; noted = λ last p. p }
+  pays_all zero x now w = record { debt = λ h. omega arith; kept = refl; id = refl; wide = refl; room = omega arith; spent = omega arith; noted = λ last p. p }
   pays_all (suc n) x now w =
       let one = pays x now w in
       let rest = pays_all n (ticked x (now + pace)) (now + pace) (next_well x now w) in
@@ -350,6 +354,7 @@ module _ (laws : OrderLaws) (table : List Row) (sound_rows : SoundRows table) (s
         debt = λ h. omega (arith, rest.debt h, one.debt (omega (arith, h, rest.room)));
         kept = rest.kept ∙ one.kept;
         id = rest.id ∙ one.id;
+        wide = rest.wide ∙ one.wide;
         room = omega (arith, rest.room, one.room);
         spent = omega (arith, rest.spent, one.spent);
         noted = λ last p. rest.noted last (one.noted last p);
@@ -420,4 +425,5 @@ module _ (laws : OrderLaws) (table : List Row) (sound_rows : SoundRows table) (s
         well = well;
         kept = λ i. ap (λ k. get_or k i None) p.kept;
         id = p.id;
+        wide = p.wide;
       }

@@ -1,5 +1,5 @@
 -- A mote that has just started over a chip that was formatted.
-use Rattle.std.proofs.Common.{◌≡◌, ℕ, zero, suc, ◌-◌, ◌&&◌, List, length, Option, Some, None, IfSome, get_or, refl, sym, arith, replicate}
+use Rattle.std.proofs.Common.{◌≡◌, Bool, ℕ, zero, suc, ◌-◌, ◌&&◌, List, length, Option, Some, None, IfSome, get_or, refl, sym, arith, replicate}
 use Rattle.std.proofs.lemmas.List.{take_all}
 use Rattle.std.specs.Ordering.{nat_cmp}
 use Rattle.std.specs.FinMap as map
@@ -31,8 +31,8 @@ fresh_well table name bytes used in_table =
     kept golden zero = golden
     kept golden (suc i) = nothing (KeepsRow table (suc i)) (images - 1) i
 
-pub fresh_drained : (name bytes : List ℕ) (used id now word : ℕ) → Drained (fresh_spot name bytes used id now word) now
-fresh_drained name bytes used id now word = record {
+pub fresh_drained : (name bytes : List ℕ) (used id : ℕ) (wide : Bool) (now word : ℕ) → Drained (fresh_spot name bytes used id wide now word) now
+fresh_drained name bytes used id wide now word = record {
   timer = started now word;
   maintains = refl;
   unheard = refl;

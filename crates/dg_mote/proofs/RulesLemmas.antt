@@ -26,13 +26,14 @@ use Rattle.dg_volume.specs.Store.{Store, held}
 use Rattle.dg_volume.specs.Changes.{is_version}
 use Rattle.dg_volume.specs.Trails.{done_of, clear_trail}
 use Rattle.dg_volume.specs.Start.{order_waits}
+use Rattle.std.proofs.lemmas.Option.{same_Some}
 use Rattle.dg_frame.specs.Grammar.{message_of}
 use Rattle.dg_frame.specs.declared.Entry.{Entry}
 use Rattle.dg_frame.specs.declared.Message.{Message}
-use Rattle.dg_frame.specs.declared.Message.TheVariants.{Advert, Request, Packet}
+use Rattle.dg_frame.specs.declared.Message.TheVariants.{Advert, Request, Packet, Wide}
 use Rattle.dg_mote.specs.Model.{MoteState, Mode, Maintain, Receive, Transmit, Receiving, Sending, came, reception, Turn}
-use Rattle.dg_mote.specs.Summary.{advert_of}
-use Rattle.dg_mote.specs.Ticks.{clears, maintain_by, receive_by, transmit_by, mode_tick, tick_of}
+use Rattle.dg_mote.specs.Summary.{entries_of, own_order, advert_by, advert_of}
+use Rattle.dg_mote.specs.Ticks.{clears, maintain_by, receive_by, stored, transmit_by, mode_tick, tick_of}
 use Rattle.dg_mote.specs.Adverts.{dropped}
 use Rattle.dg_mote.specs.Requests.{next_by, is_of_use, concerns, overheard, can_serve, is_served, to_it}
 use Rattle.dg_mote.specs.Packets.{on_packet}
@@ -79,14 +80,14 @@ concerns_is s image version page = use_by (held s image) version page
 
 -- ---- what is overheard
 
-pub request_overheard : (m : MoteState) (s : Store) (now word : ℕ) (bytes : List ℕ) (source to image version page : ℕ) (want : Numbers) → message_of bytes false ≡ Ok (Request source to image version page want) → source ≢ m.id → to ≢ m.id
+pub request_overheard : (m : MoteState) (s : Store) (now word : ℕ) (bytes : List ℕ) (source to image version page : ℕ) (want : Numbers) → message_of bytes m.wide ≡ Ok (Request source to image version page want) → source ≢ m.id → to ≢ m.id
     → IsOfUse (held s image) version page → heard_of m s now word bytes ≡ record { mote = record m { noted = with_request m.noted now image }; trail = resting s 0; sent = None; answer = Noted }
 request_overheard m s now word bytes source to image version page want e other not_me of_use =
     read_as (Request source to image version page want) m s now word bytes e other
     ∙ cond-false (to == m.id) (to_it m.mode m s now image version page want) (overheard m s now image version page) (ne_eqb to m.id not_me)
     ∙ cond-true (concerns s image version page) _ (dropped m s) ((concerns_is s image version page).1 of_use)
 
-pub packet_overheard : (m : MoteState) (s : Store) (timer : Timer) (now word : ℕ) (bytes : List ℕ) (source image version page q : ℕ) (content : List ℕ) → message_of bytes false ≡ Ok (Packet source image version page q content) → source ≢ m.id → m.mode ≡ Maintain timer
+pub packet_overheard : (m : MoteState) (s : Store) (timer : Timer) (now word : ℕ) (bytes : List ℕ) (source image version page q : ℕ) (content : List ℕ) → message_of bytes m.wide ≡ Ok (Packet source image version page q content) → source ≢ m.id → m.mode ≡ Maintain timer
     → IsOfUse (held s image) version page → heard_of m s now word bytes ≡ record { mote = record m { noted = with_packet m.noted now image }; trail = resting s 0; sent = None; answer = Noted }
 packet_overheard m s timer now word bytes source image version page q content e other is of_use =
     read_as (Packet source image version page q content) m s now word bytes e other
@@ -95,7 +96,7 @@ packet_overheard m s timer now word bytes source image version page q content e 
 
 -- ---- what is served
 
-pub union_owed : (m : MoteState) (s : Store) (t : Sending) (now word : ℕ) (bytes : List ℕ) (source : ℕ) (want : Numbers) → message_of bytes false ≡ Ok (Request source m.id t.image t.version t.page want) → source ≢ m.id → m.mode ≡ Transmit t
+pub union_owed : (m : MoteState) (s : Store) (t : Sending) (now word : ℕ) (bytes : List ℕ) (source : ℕ) (want : Numbers) → message_of bytes m.wide ≡ Ok (Request source m.id t.image t.version t.page want) → source ≢ m.id → m.mode ≡ Transmit t
     → heard_of m s now word bytes ≡ record { mote = record m { mode = Transmit (record t { owed = after_merge t.owed want }) }; trail = resting s 0; sent = None; answer = Merged }
 union_owed m s t now word bytes source want e other is =
     let served : is_served t t.image t.version t.page ≡ true =
@@ -118,20 +119,20 @@ can_serve_is s image version page = (
   λ p. serve_by_kept (held s image) s image version page refl p,
 )
 
-to_me : (m : MoteState) (s : Store) (timer : Timer) (now word : ℕ) (bytes : List ℕ) (source image version page : ℕ) (want : Numbers) → message_of bytes false ≡ Ok (Request source m.id image version page want) → source ≢ m.id → m.mode ≡ Maintain timer
+to_me : (m : MoteState) (s : Store) (timer : Timer) (now word : ℕ) (bytes : List ℕ) (source image version page : ℕ) (want : Numbers) → message_of bytes m.wide ≡ Ok (Request source m.id image version page want) → source ≢ m.id → m.mode ≡ Maintain timer
     → heard_of m s now word bytes ≡ to_it (Maintain timer) m s now image version page want
 to_me m s timer now word bytes source image version page want e other is =
     read_as (Request source m.id image version page want) m s now word bytes e other
     ∙ cond-true (m.id == m.id) (to_it m.mode m s now image version page want) (overheard m s now image version page) (eq-eqb m.id m.id refl)
     ∙ ap (λ mode. to_it mode m s now image version page want) is
 
-pub page_served : (m : MoteState) (s : Store) (timer : Timer) (now word : ℕ) (bytes : List ℕ) (source image version page : ℕ) (want : Numbers) → message_of bytes false ≡ Ok (Request source m.id image version page want) → source ≢ m.id → m.mode ≡ Maintain timer → HasPage s image version page
+pub page_served : (m : MoteState) (s : Store) (timer : Timer) (now word : ℕ) (bytes : List ℕ) (source image version page : ℕ) (want : Numbers) → message_of bytes m.wide ≡ Ok (Request source m.id image version page want) → source ≢ m.id → m.mode ≡ Maintain timer → HasPage s image version page
     → heard_of m s now word bytes ≡ record { mote = record m { mode = Transmit (record { image = image; version = version; page = page; owed = begun now want }) }; trail = resting s 0; sent = None; answer = Serves image page }
 page_served m s timer now word bytes source image version page want e other is has =
     to_me m s timer now word bytes source image version page want e other is
     ∙ cond-true (can_serve s image version page) _ (dropped m s) ((can_serve_is s image version page).1 has)
 
-pub page_missing : (m : MoteState) (s : Store) (timer : Timer) (now word : ℕ) (bytes : List ℕ) (source image version page : ℕ) (want : Numbers) → message_of bytes false ≡ Ok (Request source m.id image version page want) → source ≢ m.id → m.mode ≡ Maintain timer → (HasPage s image version page → ⊥)
+pub page_missing : (m : MoteState) (s : Store) (timer : Timer) (now word : ℕ) (bytes : List ℕ) (source image version page : ℕ) (want : Numbers) → message_of bytes m.wide ≡ Ok (Request source m.id image version page want) → source ≢ m.id → m.mode ≡ Maintain timer → (HasPage s image version page → ⊥)
     → heard_of m s now word bytes ≡ dropped m s
 page_missing m s timer now word bytes source image version page want e other is lacks =
     to_me m s timer now word bytes source image version page want e other is
@@ -220,8 +221,12 @@ module _ (m : MoteState) (s : Store) (now word source to image version page : �
   abbrev Told : Option Message → Type 0
   Told sent = sent ≡ Some (Request source to image version page want) → AsksFor m source to image version page want
 
+  advert_told : (id : ℕ) (wide : Bool) (entries : List Entry) (order : Order) → Told (Some (advert_by wide id entries order))
+  advert_told id true entries order e = cc
+  advert_told id false entries order e = cc
+
   maintain_told : (a : Act) (x : MoteState) → Told (maintain_by a x s).sent
-  maintain_told act.Send x e = cc
+  maintain_told act.Send x e = advert_told x.id x.wide (entries_of x.wide s) (own_order x.wide s) e
   maintain_told act.Quiet x e = cc
   maintain_told act.Expired x e = cc
   maintain_told act.Nothing x e = cc
@@ -262,29 +267,37 @@ module _ (m : MoteState) (s : Store) (now word source to image version page : �
   request_told = cond_both (clears m s now) _ _ (λ (x : Turn Did). Told x.sent) (λ _ e. cc) (λ _. mode_told m.mode refl)
 
 -- an advert that is sent is the own summary
-module _ (m : MoteState) (s : Store) (now word source : ℕ) (entries : List Entry) (order : Order) where
+module _ (m : MoteState) (s : Store) (now word : ℕ) (wide : Bool) (source : ℕ) (entries : List Entry) (order : Order) where
   abbrev Says : Option Message → Type 0
-  Says sent = sent ≡ Some (Advert source entries order) → Advert source entries order ≡ advert_of m.id s
+  Says sent = sent ≡ Some (advert_by wide source entries order) → advert_by wide source entries order ≡ advert_of m.id m.wide s
 
-  maintain_says : (a : Act) (x : MoteState) → x.id ≡ m.id → Says (maintain_by a x s).sent
-  maintain_says act.Send x same e = let is : advert_of x.id s ≡ Advert source entries order = cc in sym is ∙ ap (λ n. advert_of n s) same
-  maintain_says act.Quiet x same e = cc
-  maintain_says act.Expired x same e = cc
-  maintain_says act.Nothing x same e = cc
+  maintain_says : (a : Act) (x : MoteState) → x.id ≡ m.id → x.wide ≡ m.wide → Says (maintain_by a x s).sent
+  maintain_says act.Send x same alike e = sym (same_Some (advert_of x.id x.wide s) (advert_by wide source entries order) e) ∙ ap (λ n. advert_of n x.wide s) same ∙ ap (λ w. advert_of m.id w s) alike
+  maintain_says act.Quiet x same alike e = cc
+  maintain_says act.Expired x same alike e = cc
+  maintain_says act.Nothing x same alike e = cc
+
+  -- a message of another kind is none
+  no_advert : (w : Bool) (message : Message) → ((source : ℕ) (entries : List Entry) (order : Order) → message ≢ Advert source entries order) → ((source : ℕ) (entries : List Entry) (order : Order) → message ≢ Wide source entries order)
+      → message ≢ advert_by w source entries order
+  no_advert true message narrow many = many source entries order
+  no_advert false message narrow many = narrow source entries order
 
   receive_says : (a : Ask) (r : Receiving) → Says (receive_by a m r s now word).sent
-  receive_says (ask.Request want) r e = cc
+  receive_says (ask.Request want) r e =
+      absurd (no_advert wide (Request m.id r.server r.image r.version r.page want) (λ a b c f. cc) (λ a b c f. cc) (same_Some _ (advert_by wide source entries order) e))
   receive_says ask.GiveUp r e = cc
   receive_says ask.Wait r e = cc
 
   transmit_says : (a : Serve) (t : Sending) → Says (transmit_by a m t s now word).sent
-  transmit_says (serve.Send q) t e = cc
+  transmit_says (serve.Send q) t e =
+      absurd (no_advert wide (Packet m.id t.image t.version t.page q (stored s t q)) (λ a b c f. cc) (λ a b c f. cc) (same_Some _ (advert_by wide source entries order) e))
   transmit_says serve.Done t e = cc
   transmit_says serve.Wait t e = cc
 
   mode_says : (mode : Mode) → Says (mode_tick mode m s now word).sent
   mode_says (Maintain timer) =
-      cond_both (order_waits s) _ _ (λ (x : Turn Did). Says x.sent) (λ _ e. cc) (λ _. maintain_says (act_of timer now) (record m { mode = Maintain (after_tick timer now word) }) refl)
+      cond_both (order_waits s) _ _ (λ (x : Turn Did). Says x.sent) (λ _ e. cc) (λ _. maintain_says (act_of timer now) (record m { mode = Maintain (after_tick timer now word) }) refl refl)
   mode_says (Receive r) = receive_says (ask_of (reception r) now) r
   mode_says (Transmit t) = transmit_says (serve_of t.owed now) t
 

@@ -1,9 +1,11 @@
 -- What a well mote sends is read as it says it.
-use Rattle.std.proofs.Common.{◌≡◌, ◌≢◌, ℕ, ◌+◌, ◌*◌, ◌<◌, ◌≤◌, ◌^◌, Bool, true, false, not, ◌&&◌, List, [], length, Option, Some, None, IfSome, MatchOption, All, Ok, refl, sym, ap, subst, ◌∙◌, inl, inr, ⊎_elim, arith}
+use Rattle.std.proofs.Common.{◌≡◌, ◌≢◌, ℕ, zero, suc, ◌+◌, ◌*◌, ◌<◌, ◌≤◌, ◌^◌, Bool, true, false, not, ◌&&◌, List, [], length, map, Option, Some, None, IfSome, MatchOption, All, Ok, refl, sym, ap, subst, ◌∙◌, inl, inr, ⊎_elim, arith}
 use Rattle.std.specs.Prelude.{nat_lt, nat_le, slice_index_or}
-use Rattle.std.proofs.lemmas.Bool.{cond_both, cases_lt, lt-ltb, ltb-true, false≢true}
+use Rattle.std.proofs.lemmas.Bool.{cond_both, cases_lt, lt-ltb, ltb-true, leb-true, false≢true}
 use Rattle.std.proofs.lemmas.List.{get_or_past}
 use Rattle.std.proofs.lemmas.List.Elements.{All-from_get_or}
+use Rattle.std.specs.List.{AllByRecursion, range_with_len}
+use Rattle.dg_control.specs.declared.snapshot.Order.{Order}
 use Rattle.std.specs.FinSet as set
 use Rattle.dg_words.specs.Cells.{AreBytes}
 use Rattle.dg_words.proofs.CellLemmas.{length-part, get_or-part}
@@ -26,14 +28,14 @@ use Rattle.dg_volume.specs.Store.{Store, held}
 use Rattle.dg_volume.specs.Start.{order_waits, complete_pages}
 use Rattle.dg_volume.specs.Table.{IsTable}
 use Rattle.dg_volume.specs.Agreement.{KeepsRow}
-use Rattle.dg_frame.specs.Sizes.{last_packet, narrow_images}
+use Rattle.dg_frame.specs.Sizes.{last_packet, narrow_images, wide_images, known_images}
 use Rattle.dg_frame.specs.Grammar.{message_of, in_range}
-use Rattle.dg_frame.specs.Ranges.{IsInRange, EntryInRange, PageInRange}
+use Rattle.dg_frame.specs.Ranges.{IsInRange, EntryInRange, PageInRange, OrderInRange, no_order}
 use Rattle.dg_frame.specs.Spelling.{frame_of, FitsTypes, EntryFitsTypes}
 use Rattle.dg_frame.specs.declared.Message.{Message}
 use Rattle.dg_frame.specs.declared.Message.TheVariants.{Request, Packet}
-use Rattle.dg_mote.specs.Model.{MoteState, Mode, Maintain, Receive, Transmit, Receiving, Sending, came, reception, Turn}
-use Rattle.dg_mote.specs.Summary.{no_entry, entry_by, entries_of, advert_of}
+use Rattle.dg_mote.specs.Model.{MoteState, Mode, Maintain, Receive, Transmit, NamesKnown, Receiving, Sending, came, reception, Turn}
+use Rattle.dg_mote.specs.Summary.{no_entry, entry_by, entries_of, own_order, advert_of}
 use Rattle.dg_mote.specs.Ticks.{clears, maintain_by, receive_by, packet_of, stored, transmit_by, mode_tick, tick_of}
 use Rattle.dg_mote.specs.Timely.{ModeTimely}
 use Rattle.dg_mote.specs.Agreement.{ReceivesRow, Serves, ModeAgrees}
@@ -41,9 +43,9 @@ use Rattle.dg_mote.specs.Well.{StoreIsWell}
 use Rattle.dg_mote.specs.Hears.{source_of}
 use Rattle.dg_mote.specs.Speaking.{OrderFits, ServerFits, IsSaid}
 use Rattle.dg_mote.specs.declared.mote.Did.{Did}
-use Rattle.dg_mote.proofs.RowLemmas.{TableLaws, kept_within, keeps_row, few_complete, complete_page}
+use Rattle.dg_mote.proofs.RowLemmas.{TableLaws, keeps_row, few_complete, complete_page}
 use Rattle.dg_mote.proofs.CameLemmas.{came_below, full_of}
-use Rattle.dg_mote.proofs.KeepLemmas.{entry_is}
+use Rattle.dg_mote.proofs.KeepLemmas.{entry_is, length_entries}
 
 -- what is promised below of rows and frames
 pub record SpellLaws : Type 0 where
@@ -56,8 +58,17 @@ pub record SpellLaws : Type 0 where
   pub bytes : (row : Row) (p : ℕ) → IsRow row → AreBytes (page_of_row row p)
   pub first : (row : Row) → page_of_row row 0 ≡ descriptor_page row
   pub crc : (bytes : List ℕ) → All (λ b. b < 256) bytes → crc_of bytes < 2 ^ 16
-  pub ranges : (m : Message) → IsInRange false m → in_range false m ≡ true
-  pub written : (m : Message) → FitsTypes m → in_range false m ≡ true → message_of (frame_of m) false ≡ Ok m
+  pub ranges : (wide : Bool) (m : Message) → IsInRange wide m → in_range wide m ≡ true
+  pub written : (wide : Bool) (m : Message) → FitsTypes m → in_range wide m ≡ true → message_of (frame_of m) wide ≡ Ok m
+
+-- the order as a mote of this width tells it
+order_told : (wide : Bool) (s : Store) → OrderFits s.order → OrderFits (own_order wide s) × OrderInRange (known_images wide) (own_order wide s)
+unfolding own_order
+order_told true s fits = (fits, fits.in_range)
+order_told false s fits =
+    cond_both (nat_le s.order.image narrow_images) s.order no_order (λ (o : Order). OrderFits o × OrderInRange narrow_images o)
+    (λ few. (fits, ⊎_elim (λ none. inl none) (λ some. inr (record { number = some.number; image = leb-true s.order.image narrow_images few; version = some.version })) fits.in_range))
+    (λ _. (record { in_range = inl refl; number = omega arith; version = omega arith }, inl refl))
 
 -- ---- rows
 
@@ -65,13 +76,13 @@ all_bytes : (xs : List ℕ) → AreBytes xs → All (λ b. b < 256) xs
 all_bytes xs bytes = All-from_get_or (λ b. b < 256) xs 0 (λ k _. bytes k)
 
 module _ (laws : SpellLaws) where
-  said : (id : ℕ) (message : Message) → source_of message ≡ id → FitsTypes message → IsInRange false message → IsSaid id message
-  said id message source fits range = record { source = source; fits = fits; is_read = laws.written message fits (laws.ranges message range) }
+  said : (id : ℕ) (wide : Bool) (message : Message) → source_of message ≡ id → FitsTypes message → IsInRange wide message → IsSaid id wide message
+  said id wide message source fits range = record { source = source; fits = fits; is_read = laws.written wide message fits (laws.ranges wide message range) }
 
   crc_small : (row : Row) → IsRow row → (profile row).crc < 2 ^ 16
   crc_small row is = laws.crc (descriptor_page row) (all_bytes (descriptor_page row) (subst AreBytes (laws.first row) (laws.bytes row 0 is)))
 
-  module _ (table : List Row) (is_table : IsTable table) (s : Store) (w : StoreIsWell table s) (id : ℕ) (small : id < 2 ^ 16) where
+  module _ (table : List Row) (is_table : IsTable table) (s : Store) (w : StoreIsWell table s) (id : ℕ) (small : id < 2 ^ 16) (wide : Bool) where
     -- ---- the own summary
 
     entry_in : (i : ℕ) (o : Option Held) → IfSome o (KeepsRow table i) → EntryInRange (entry_by o)
@@ -93,26 +104,39 @@ module _ (laws : SpellLaws) where
         let key = laws.rows.key table i h.version k.row k.in_table in
         record { version = omega (arith, is.version_fits, key.1); crc = omega (arith, k.crc, crc_small k.row is) }
 
-    entries_in : All EntryInRange (entries_of s)
+    entries_in : All EntryInRange (entries_of wide s)
     entries_in =
-        All-from_get_or EntryInRange (entries_of s) no_entry (λ k less.
-        subst EntryInRange (sym (entry_is s (k + 1) (omega arith) (omega (arith, less))) ∙ ap (λ n. slice_index_or (entries_of s) n no_entry) (omega arith)) (entry_in (k + 1) (held s (k + 1)) (w.agrees.kept (k + 1))))
+        All-from_get_or EntryInRange (entries_of wide s) no_entry (λ k less.
+        subst EntryInRange (sym (entry_is wide s (k + 1) (omega arith) (omega (arith, less, length_entries wide s))) ∙ ap (λ n. slice_index_or (entries_of wide s) n no_entry) (omega arith)) (entry_in (k + 1) (held s (k + 1)) (w.agrees.kept (k + 1))))
 
-    advert_said : OrderFits s.order → IsSaid id (advert_of id s)
-    advert_said order =
-        said id (advert_of id s) refl
-        (small, refl, (entry_small 1 (held s 1) (w.agrees.kept 1), (entry_small 2 (held s 2) (w.agrees.kept 2), (entry_small 3 (held s 3) (w.agrees.kept 3), tt))), order.number, order.version)
-        (entries_in, order.in_range)
+    entries_small : (n a : ℕ) → AllByRecursion EntryFitsTypes (map (λ i. entry_by (held s i)) (range_with_len a n))
+    entries_small zero a = tt
+    entries_small (suc n) a = (entry_small a (held s a) (w.agrees.kept a), entries_small n (a + 1))
+
+    advert_said : OrderFits s.order → IsSaid id wide (advert_of id wide s)
+    advert_said order = let told = order_told wide s order in said id wide (advert_of id wide s) (advert_source wide) (advert_fits_types wide told.0) (advert_in_range wide told.0 told.1 entries_in)
+      where
+        advert_source : (x : Bool) → source_of (advert_of id x s) ≡ id
+        advert_source true = refl
+        advert_source false = refl
+
+        advert_fits_types : (x : Bool) → OrderFits (own_order x s) → FitsTypes (advert_of id x s)
+        advert_fits_types true o = (small, refl, entries_small wide_images 1, o.number, o.version)
+        advert_fits_types false o = (small, refl, entries_small narrow_images 1, o.number, o.version)
+
+        advert_in_range : (x : Bool) → OrderFits (own_order x s) → OrderInRange (known_images x) (own_order x s) → All EntryInRange (entries_of x s) → IsInRange x (advert_of id x s)
+        advert_in_range true o range entries = (refl, (entries, range))
+        advert_in_range false o range entries = (entries, range)
 
     -- ---- pages
 
-    page_in : (image page : ℕ) (h : Held) → (k : KeepsRow table image h) → held s image ≡ Some h → 1 ≤ image → page < length (object k.row) → PageInRange narrow_images image h.version page
-    page_in image page h k here low less =
+    page_in : (image page : ℕ) (h : Held) → (k : KeepsRow table image h) → held s image ≡ Some h → (1 ≤ image) × (image ≤ known_images wide) → page < length (object k.row) → PageInRange (known_images wide) image h.version page
+    page_in image page h k here named less =
         let is = laws.rows.row table image h.version k.row is_table k.in_table in
         let key = laws.rows.key table image h.version k.row k.in_table in
         record {
-          first = low;
-          last = omega (arith, kept_within s image h here, w.places);
+          first = named.0;
+          last = named.1;
           of_version = omega (arith, is.version, key.1);
           in_object = omega (arith, less, laws.count k.row, laws.most k.row is);
         }
@@ -142,13 +166,13 @@ module _ (laws : SpellLaws) where
         in_below q true b e both = ltb-true q packets (sym e)
         in_below q false b e both = cc
 
-    request_said : (r : Receiving) → ReceivesRow table s r → r.server < 2 ^ 16 → IsSaid id (Request id r.server r.image r.version r.page (missing (reception r)))
-    request_said r a server =
+    request_said : (r : Receiving) → ReceivesRow table s r → (r.server < 2 ^ 16) × NamesKnown wide (Receive r) → IsSaid id wide (Request id r.server r.image r.version r.page (missing (reception r)))
+    request_said r a fits =
         let k = keeps_row table s r.image a.kept w.agrees a.held_here in
-        let range = page_in r.image r.page a.kept k a.held_here a.not_golden (omega (arith, a.more, k.pages, laws.count k.row)) in
-        said id (Request id r.server r.image r.version r.page (missing (reception r))) refl
-        (small, server, omega (arith, a.version, version_small r.image a.kept k), missing_below r)
-        (subst (λ v. PageInRange narrow_images r.image v r.page) a.version range, missing_some r a.missing)
+        let range = page_in r.image r.page a.kept k a.held_here fits.1 (omega (arith, a.more, k.pages, laws.count k.row)) in
+        said id wide (Request id r.server r.image r.version r.page (missing (reception r))) refl
+        (small, fits.0, omega (arith, a.version, version_small r.image a.kept k), missing_below r)
+        (subst (λ v. PageInRange (known_images wide) r.image v r.page) a.version range, missing_some r a.missing)
 
     -- ---- a packet
 
@@ -162,8 +186,8 @@ module _ (laws : SpellLaws) where
         (λ past. omega (arith, get_or_past (packet_of page q) k 0 (omega (arith, packet_long page q long less, past))))
         (cases_lt k packet_size)
 
-    packet_said : (t : Sending) (q : ℕ) → Serves s t → q < packets → IsSaid id (Packet id t.image t.version t.page q (stored s t q))
-    packet_said t q v less =
+    packet_said : (t : Sending) (q : ℕ) → Serves s t → NamesKnown wide (Transmit t) → q < packets → IsSaid id wide (Packet id t.image t.version t.page q (stored s t q))
+    packet_said t q v named less =
         let k = keeps_row table s t.image v.kept w.agrees v.held_here in
         let is = laws.rows.row table t.image v.kept.version k.row is_table k.in_table in
         let there : t.page < length (object k.row) = omega (arith, v.complete, few_complete table t.image v.kept k) in
@@ -171,41 +195,41 @@ module _ (laws : SpellLaws) where
         ap (λ (o : Option Held). slice_index_or (complete_pages o) t.page []) v.held_here ∙ complete_page table t.image t.page v.kept k v.complete ∙ laws.page k.row t.page (omega (arith, there, laws.count k.row)) in
         let long = laws.long k.row t.page is in
         let same : stored s t q ≡ packet_of (page_of_row k.row t.page) q = ap (λ (xs : List ℕ). packet_of xs q) page in
-        said id (Packet id t.image t.version t.page q (stored s t q)) refl
+        said id wide (Packet id t.image t.version t.page q (stored s t q)) refl
         (small, omega (arith, v.version, version_small t.image v.kept k), ap length same ∙ packet_long (page_of_row k.row t.page) q long less, subst AreBytes (sym same) (part_bytes (page_of_row k.row t.page) q long less (laws.bytes k.row t.page is)))
-        (subst (λ x. PageInRange narrow_images t.image x t.page) v.version (page_in t.image t.page v.kept k v.held_here v.not_golden there), omega (arith, less))
+        (subst (λ x. PageInRange (known_images wide) t.image x t.page) v.version (page_in t.image t.page v.kept k v.held_here named there), omega (arith, less))
 
     -- ---- ticks
 
-    maintain_said : (a : Act) (m : MoteState) → m.id ≡ id → OrderFits s.order → IfSome (maintain_by a m s).sent (IsSaid id)
-    maintain_said act.Send m same order = subst (λ n. IsSaid id (advert_of n s)) (sym same) (advert_said order)
-    maintain_said act.Quiet m same order = tt
-    maintain_said act.Expired m same order = tt
-    maintain_said act.Nothing m same order = tt
+    maintain_said : (a : Act) (m : MoteState) → m.id ≡ id → m.wide ≡ wide → OrderFits s.order → IfSome (maintain_by a m s).sent (IsSaid id wide)
+    maintain_said act.Send m same alike order = subst (λ n. IsSaid id wide (advert_of n m.wide s)) (sym same) (subst (λ w. IsSaid id wide (advert_of id w s)) (sym alike) (advert_said order))
+    maintain_said act.Quiet m same alike order = tt
+    maintain_said act.Expired m same alike order = tt
+    maintain_said act.Nothing m same alike order = tt
 
-    receive_said : (m : MoteState) (r : Receiving) (now word : ℕ) → m.id ≡ id → ReceivesRow table s r → r.server < 2 ^ 16 → IfSome (receive_by (ask_of (reception r) now) m r s now word).sent (IsSaid id)
-    receive_said m r now word same a server =
-        let P : Ask → Type 0 = λ x. IfSome (receive_by x m r s now word).sent (IsSaid id) in
+    receive_said : (m : MoteState) (r : Receiving) (now word : ℕ) → m.id ≡ id → ReceivesRow table s r → (r.server < 2 ^ 16) × NamesKnown wide (Receive r) → IfSome (receive_by (ask_of (reception r) now) m r s now word).sent (IsSaid id wide)
+    receive_said m r now word same a fits =
+        let P : Ask → Type 0 = λ x. IfSome (receive_by x m r s now word).sent (IsSaid id wide) in
         cond_both (nat_lt now r.due) ask.Wait _ P (λ _. tt)
         (λ _. cond_both (nat_le most_requests r.tries) ask.GiveUp (ask.Request (missing (reception r))) P (λ _. tt)
-        (λ _. subst (λ n. IsSaid id (Request n r.server r.image r.version r.page (missing (reception r)))) (sym same) (request_said r a server)))
+        (λ _. subst (λ n. IsSaid id wide (Request n r.server r.image r.version r.page (missing (reception r)))) (sym same) (request_said r a fits)))
 
-    transmit_said : (m : MoteState) (t : Sending) (now word : ℕ) → m.id ≡ id → Serves s t → AllBelow packets t.owed.left → IfSome (transmit_by (serve_of t.owed now) m t s now word).sent (IsSaid id)
-    transmit_said m t now word same v all = by_least (least t.owed.left) (nat_lt now t.owed.due) (least_cases t.owed.left)
+    transmit_said : (m : MoteState) (t : Sending) (now word : ℕ) → m.id ≡ id → Serves s t → NamesKnown wide (Transmit t) → AllBelow packets t.owed.left → IfSome (transmit_by (serve_of t.owed now) m t s now word).sent (IsSaid id wide)
+    transmit_said m t now word same v named all = by_least (least t.owed.left) (nat_lt now t.owed.due) (least_cases t.owed.left)
       where
-        by_least : (o : Option ℕ) (early : Bool) → MatchOption o (t.owed.left ≡ set.empty) (IsLeast t.owed.left) → IfSome (transmit_by (serve_by o early) m t s now word).sent (IsSaid id)
+        by_least : (o : Option ℕ) (early : Bool) → MatchOption o (t.owed.left ≡ set.empty) (IsLeast t.owed.left) → IfSome (transmit_by (serve_by o early) m t s now word).sent (IsSaid id wide)
         by_least None early l = tt
         by_least (Some q) true l = tt
-        by_least (Some q) false l = subst (λ n. IsSaid id (Packet n t.image t.version t.page q (stored s t q))) (sym same) (packet_said t q v (all q l.member))
+        by_least (Some q) false l = subst (λ n. IsSaid id wide (Packet n t.image t.version t.page q (stored s t q))) (sym same) (packet_said t q v named (all q l.member))
 
-    mode_said : (mode : Mode) (m : MoteState) (now word : ℕ) → m.id ≡ id → OrderFits s.order → ModeAgrees table s mode → ModeTimely mode now → ServerFits mode → IfSome (mode_tick mode m s now word).sent (IsSaid id)
-    mode_said (Maintain timer) m now word same order a timely server =
-        cond_both (order_waits s) _ _ (λ (x : Turn Did). IfSome x.sent (IsSaid id)) (λ _. tt)
-        (λ _. maintain_said (act_of timer now) (record m { mode = Maintain (after_tick timer now word) }) same order)
-    mode_said (Receive r) m now word same order a timely server = receive_said m r now word same a server
-    mode_said (Transmit t) m now word same order a timely server = transmit_said m t now word same a timely.1
+    mode_said : (mode : Mode) (m : MoteState) (now word : ℕ) → m.id ≡ id → m.wide ≡ wide → OrderFits s.order → ModeAgrees table s mode → ModeTimely mode now → ServerFits mode × NamesKnown wide mode → IfSome (mode_tick mode m s now word).sent (IsSaid id wide)
+    mode_said (Maintain timer) m now word same alike order a timely fits =
+        cond_both (order_waits s) _ _ (λ (x : Turn Did). IfSome x.sent (IsSaid id wide)) (λ _. tt)
+        (λ _. maintain_said (act_of timer now) (record m { mode = Maintain (after_tick timer now word) }) same alike order)
+    mode_said (Receive r) m now word same alike order a timely fits = receive_said m r now word same a fits
+    mode_said (Transmit t) m now word same alike order a timely fits = transmit_said m t now word same a fits.1 timely.1
 
-    pub tick_said : (m : MoteState) (now word : ℕ) → m.id ≡ id → OrderFits s.order → ModeAgrees table s m.mode → ModeTimely m.mode now → ServerFits m.mode → IfSome (tick_of m s now word).sent (IsSaid id)
+    pub tick_said : (m : MoteState) (now word : ℕ) → m.id ≡ id → m.wide ≡ wide → OrderFits s.order → ModeAgrees table s m.mode → ModeTimely m.mode now → ServerFits m.mode × NamesKnown wide m.mode → IfSome (tick_of m s now word).sent (IsSaid id wide)
     unfolding tick_of
-    tick_said m now word same order a timely server =
-        cond_both (clears m s now) _ _ (λ (x : Turn Did). IfSome x.sent (IsSaid id)) (λ _. tt) (λ _. mode_said m.mode m now word same order a timely server)
+    tick_said m now word same alike order a timely fits =
+        cond_both (clears m s now) _ _ (λ (x : Turn Did). IfSome x.sent (IsSaid id wide)) (λ _. tt) (λ _. mode_said m.mode m now word same alike order a timely fits)

@@ -1,8 +1,9 @@
 -- What a mote says fits into frames.
-use Rattle.std.proofs.Common.{◌≡◌, ◌≢◌, ℕ, ◌<◌, ◌≤◌, Bool, true, false, not, ◌&&◌, List, length, Option, Some, None, IfSome, IsTrue, refl, sym, ap, subst, ◌∙◌, arith, lit<, cond, get_or, inl, inr, [], ◌∷◌}
-use Rattle.std.proofs.lemmas.Bool.{cases_lt, lt-ltb}
+use Rattle.std.proofs.Common.{◌≡◌, ◌≢◌, ℕ, zero, suc, ◌+◌, ◌<◌, ◌≤◌, Bool, true, false, not, ◌&&◌, ◌||◌, List, map, length, Option, Some, None, IfSome, IsTrue, refl, sym, ap, subst, ◌∙◌, arith, cond, get_or, inl, inr, [], ◌∷◌}
+use Rattle.std.proofs.lemmas.Bool.{cond_both, cond-true, cond-false, false≢true, cases_lt, lt-ltb, and_from}
 use Rattle.std.proofs.lemmas.Bool.Decides.{nat_tests}
 use Rattle.std.proofs.lemmas.List.{get_or_past}
+use Rattle.std.specs.List.{list_all, range_with_len}
 use Rattle.std.specs.Prelude.{nat_le, nat_lt, slice_index_or}
 use Rattle.std.specs.Ordering.{nat_cmp}
 use Rattle.std.specs.FinSet as set
@@ -30,12 +31,13 @@ use Rattle.dg_volume.specs.declared.volume.Volume.{Volume}
 use Rattle.dg_volume.specs.Start.{complete_pages}
 use Rattle.dg_volume.proofs.CompareLemmas.{packet_same}
 use Rattle.dg_volume.proofs.LendingLemmas.{KeptFits, kept_fits}
-use Rattle.dg_frame.specs.Sizes.{narrow_images}
+use Rattle.dg_frame.specs.Sizes.{narrow_images, wide_images, known_images}
+use Rattle.dg_frame.specs.Ranges.{no_order}
 use Rattle.dg_frame.specs.Grammar.{entry_fits, order_in_frame, in_range}
 use Rattle.dg_frame.specs.declared.Entry.{Entry}
-use Rattle.dg_frame.specs.declared.Message.TheVariants.{Advert, Request, Packet}
-use Rattle.dg_mote.specs.Model.{Receiving, Sending, came, reception}
-use Rattle.dg_mote.specs.Summary.{entry_by, advert_of}
+use Rattle.dg_frame.specs.declared.Message.TheVariants.{Advert, Request, Packet, Wide}
+use Rattle.dg_mote.specs.Model.{Receive, Transmit, NamesKnown, Receiving, Sending, came, reception}
+use Rattle.dg_mote.specs.Summary.{entry_by, entries_of, own_order, advert_of}
 use Rattle.dg_mote.specs.Ticks.{stored}
 use Rattle.dg_mote.specs.Agreement.{Serves}
 use Rattle.dg_mote.specs.Motes.{Receives}
@@ -58,23 +60,54 @@ entry_by_fits c v i (Some h) known m is = entry_of_kept h (kept_fits c v i (told
 held_fits : (c : List ℕ) (v : Volume) (s : Store) (i : ℕ) → i < images → Mounted c v s → entry_fits (entry_by (held s i)) ≡ true
 held_fits c v s i known m = entry_by_fits c v i (held s i) known (s, m) (m.tells.kept i known (λ h. h))
 
-order_fits_frame : (o : Order) → IsTrue (order_fits o) → order_in_frame narrow_images o ≡ true
-order_fits_frame o fits = grind (arith, nat_tests)
+-- the order as a mote of this width tells it
+pub order_told : (wide : Bool) (s : Store) → wide || nat_le s.order.image narrow_images ≡ true → own_order wide s ≡ s.order
+unfolding own_order
+order_told wide s e = cond-true (wide || nat_le s.order.image narrow_images) s.order no_order e
 
-pub order_fits_here : (c : List ℕ) (v : Volume) (s : Store) → Mounted c v s → order_in_frame narrow_images s.order ≡ true
-order_fits_here c v s m = order_fits_frame s.order (subst (λ (o : Order). IsTrue (order_fits o)) m.tells.says.order (snapshot_in_range (snapshot_of v)).order)
+pub order_untold : (wide : Bool) (s : Store) → wide || nat_le s.order.image narrow_images ≡ false → own_order wide s ≡ no_order
+unfolding own_order
+order_untold wide s e = cond-false (wide || nat_le s.order.image narrow_images) s.order no_order e
 
-three_and : (x y z w : Bool) → x ≡ true → y ≡ true → z ≡ true → w ≡ true → (x && (y && (z && true))) && w ≡ true
-three_and x y z w a b c d = cc
+told_images : (wide : Bool) (o : Order) → IsTrue (order_fits o) → wide || nat_le o.image narrow_images ≡ true → order_in_frame (known_images wide) o ≡ true
+told_images true o fits few = grind (arith, nat_tests)
+told_images false o fits few = grind (arith, nat_tests)
 
-pub advert_fits : (c : List ℕ) (v : Volume) (s : Store) (id : ℕ) → Mounted c v s → in_range false (advert_of id s) ≡ true
+none_told : (wide : Bool) → order_in_frame (known_images wide) no_order ≡ true
+none_told true = refl
+none_told false = refl
+
+order_fits_frame : (wide : Bool) (s : Store) → IsTrue (order_fits s.order) → order_in_frame (known_images wide) (own_order wide s) ≡ true
+unfolding own_order
+order_fits_frame wide s fits =
+    cond_both (wide || nat_le s.order.image narrow_images) s.order no_order (λ (o : Order). order_in_frame (known_images wide) o ≡ true) (told_images wide s.order fits) (λ _. none_told wide)
+
+order_fits_here : (c : List ℕ) (v : Volume) (wide : Bool) (s : Store) → Mounted c v s → order_in_frame (known_images wide) (own_order wide s) ≡ true
+order_fits_here c v wide s m = order_fits_frame wide s (subst (λ (o : Order). IsTrue (order_fits o)) m.tells.says.order (snapshot_in_range (snapshot_of v)).order)
+
+entries_fit : (c : List ℕ) (v : Volume) (s : Store) (n a : ℕ) → a + n ≤ images → Mounted c v s → list_all entry_fits (map (λ i. entry_by (held s i)) (range_with_len a n)) ≡ true
+entries_fit c v s zero a within m = refl
+entries_fit c v s (suc n) a within m = and_from _ _ (held_fits c v s a (omega (arith, within)) m) (entries_fit c v s n (a + 1) (omega (arith, within)) m)
+
+pub advert_fits : (c : List ℕ) (v : Volume) (wide : Bool) (s : Store) (id : ℕ) → Mounted c v s → in_range wide (advert_of id wide s) ≡ true
 unfolding in_range
-advert_fits c v s id m =
-    three_and (entry_fits (entry_by (held s 1))) (entry_fits (entry_by (held s 2))) (entry_fits (entry_by (held s 3))) (order_in_frame narrow_images s.order)
-    (held_fits c v s 1 (lit< tt) m) (held_fits c v s 2 (lit< tt) m) (held_fits c v s 3 (lit< tt) m) (order_fits_here c v s m)
+advert_fits c v true s id m = and_from _ _ (entries_fit c v s wide_images 1 (omega arith) m) (order_fits_here c v true s m)
+advert_fits c v false s id m = and_from _ _ (entries_fit c v s narrow_images 1 (omega arith) m) (order_fits_here c v false s m)
 
-pub same_advert : (id : ℕ) (s : Store) (a b c : Entry) (o : Order) → a ≡ entry_by (held s 1) → b ≡ entry_by (held s 2) → c ≡ entry_by (held s 3) → o ≡ s.order → Advert id (a ∷ b ∷ c ∷ []) o ≡ advert_of id s
-same_advert id s a b c o x y z e = λ i. Advert id (x i ∷ y i ∷ z i ∷ []) (e i)
+pub narrow_same : (s : Store) (a b c : Entry) → a ≡ entry_by (held s 1) → b ≡ entry_by (held s 2) → c ≡ entry_by (held s 3) → a ∷ b ∷ c ∷ [] ≡ entries_of false s
+narrow_same s a b c x y z = λ i. x i ∷ y i ∷ z i ∷ []
+
+pub wide_same : (s : Store) (a b c d e f : Entry) → a ≡ entry_by (held s 1) → b ≡ entry_by (held s 2) → c ≡ entry_by (held s 3) → d ≡ entry_by (held s 4) → e ≡ entry_by (held s 5) → f ≡ entry_by (held s 6)
+    → a ∷ b ∷ c ∷ d ∷ e ∷ f ∷ [] ≡ entries_of true s
+wide_same s a b c d e f x y z u v w = λ i. x i ∷ y i ∷ z i ∷ u i ∷ v i ∷ w i ∷ []
+
+pub wide_said : (id : ℕ) (wide : Bool) (s : Store) (entries : List Entry) (o : Order) → wide ≡ true → entries ≡ entries_of true s → o ≡ own_order wide s → Wide id entries o ≡ advert_of id wide s
+wide_said id true s entries o is e f = λ i. Wide id (e i) (f i)
+wide_said id false s entries o is e f = absurd (false≢true is)
+
+pub narrow_said : (id : ℕ) (wide : Bool) (s : Store) (entries : List Entry) (o : Order) → wide ≡ false → entries ≡ entries_of false s → o ≡ own_order wide s → Advert id entries o ≡ advert_of id wide s
+narrow_said id true s entries o is e f = absurd (false≢true (sym is))
+narrow_said id false s entries o is e f = λ i. Advert id (e i) (f i)
 
 -- ---- a request
 
@@ -99,22 +132,23 @@ asked_by false false a want e = cc
 asked_for : (r : Reception) (now : ℕ) (want : Numbers) → Ask.Request want ≡ ask_of r now → want ≡ missing r
 asked_for r now want is = asked_by (nat_lt now r.due) (nat_le most_requests r.tries) (missing r) want is
 
-request_in_range : (id to image version page : ℕ) (want : Numbers) → 1 ≤ image → image < images → 1 ≤ version → page < most_pages → set.len want ≢ 0 → in_range false (Request id to image version page want) ≡ true
+request_in_range : (wide : Bool) (id to image version page : ℕ) (want : Numbers) → 1 ≤ image → image ≤ known_images wide → 1 ≤ version → page < most_pages → set.len want ≢ 0 → in_range wide (Request id to image version page want) ≡ true
 unfolding in_range
-request_in_range id to image version page want a b c d some = grind (arith, nat_tests)
+request_in_range true id to image version page want a b c d some = grind (arith, nat_tests)
+request_in_range false id to image version page want a b c d some = grind (arith, nat_tests)
 
-pub request_fits : (c : List ℕ) (v : Volume) (s : Store) (job : PageJob) (r : Receiving) (id to version now : ℕ) (asking : Reception) (want : Numbers) → Receives c v s job r → version ≡ r.version → asking ≡ reception r → Ask.Request want ≡ ask_of asking now
-    → in_range false (Request id to (outline_told (slot_of job)).image version (done_told (slot_of job)) want) ≡ true
-request_fits c v s job r id to version now asking want receives of_version asks is =
+pub request_fits : (c : List ℕ) (v : Volume) (s : Store) (job : PageJob) (r : Receiving) (wide : Bool) (id to version now : ℕ) (asking : Reception) (want : Numbers) → NamesKnown wide (Receive r) → Receives c v s job r → version ≡ r.version → asking ≡ reception r → Ask.Request want ≡ ask_of asking now
+    → in_range wide (Request id to (outline_told (slot_of job)).image version (done_told (slot_of job)) want) ≡ true
+request_fits c v s job r wide id to version now asking want named receives of_version asks is =
     let o = slot_of job in
-    let known = o.known in
+    let high = named.1 in
     let real = o.profile.real_version in
     let few = o.profile.few_pages in
     let opens = receives.stands.slot.opens in
     let more = receives.stands.more in
     let gaps : set.len (missing (reception r)) ≢ 0 = some_missing packets (came r.packets) (came_below r.packets) receives.missing in
-    request_in_range id to (outline_told o).image version (done_told o) want
-    (omega (arith, receives.not_golden, receives.image)) known (omega (arith, real, opens.version, receives.version, of_version)) (omega (arith, few, opens.done, opens.pages, more))
+    request_in_range wide id to (outline_told o).image version (done_told o) want
+    (omega (arith, receives.not_golden, receives.image)) (omega (arith, high, receives.image)) (omega (arith, real, opens.version, receives.version, of_version)) (omega (arith, few, opens.done, opens.pages, more))
     (subst (λ (w : Numbers). set.len w ≢ 0) (sym (asked_for (reception r) now want (is ∙ ap (λ a. ask_of a now) asks))) gaps)
 
 -- ---- a packet
@@ -150,14 +184,15 @@ served_stands c v s t m serves =
       stands = λ q less. packet_same (sector c (page_sector t.image t.page)) page q less here;
     }
 
-packet_in_range : (id image version page q : ℕ) (bytes : List ℕ) → 1 ≤ image → image < images → 1 ≤ version → page < most_pages → q < packets → in_range false (Packet id image version page q bytes) ≡ true
+packet_in_range : (wide : Bool) (id image version page q : ℕ) (bytes : List ℕ) → 1 ≤ image → image ≤ known_images wide → 1 ≤ version → page < most_pages → q < packets → in_range wide (Packet id image version page q bytes) ≡ true
 unfolding in_range
-packet_in_range id image version page q bytes a b c d e = grind (arith, nat_tests)
+packet_in_range true id image version page q bytes a b c d e = grind (arith, nat_tests)
+packet_in_range false id image version page q bytes a b c d e = grind (arith, nat_tests)
 
 -- the message of a packet that is read where the page stands
 pub record PacketSays (c : List ℕ) (s : Store) (t : Sending) (image version page q : ℕ) : Type 0 where
   pub known_page : page < most_pages
-  pub fits : (id : ℕ) → in_range false (Packet id image version page q (packet_in c (page_sector image page) q)) ≡ true
+  pub fits : (wide : Bool) (id : ℕ) → NamesKnown wide (Transmit t) → in_range wide (Packet id image version page q (packet_in c (page_sector image page) q)) ≡ true
   pub is : (id own : ℕ) → id ≡ own → Packet id image version page q (packet_in c (page_sector image page) q) ≡ Packet own t.image t.version t.page q (stored s t q)
 
 pub packet_says : (c : List ℕ) (v : Volume) (s : Store) (t : Sending) (image version page q : ℕ) → image ≡ t.image → version ≡ t.version → page ≡ t.page → Mounted c v s → Serves s t → q < packets → PacketSays c s t image version page q
@@ -166,6 +201,6 @@ packet_says c v s t image version page q of_image of_version of_page m serves le
     let known : page < most_pages = omega (arith, x.known_page, of_page) in
     record {
       known_page = known;
-      fits = λ id. packet_in_range id image version page q (packet_in c (page_sector image page) q) (omega (arith, serves.not_golden, of_image)) (omega (arith, x.known_image, of_image)) (omega (arith, x.some_version, of_version)) known less;
+      fits = λ wide id named. packet_in_range wide id image version page q (packet_in c (page_sector image page) q) (omega (arith, serves.not_golden, of_image)) (omega (arith, named.1, of_image)) (omega (arith, x.some_version, of_version)) known less;
       is = λ id own e. λ i. Packet (e i) (of_image i) (of_version i) (of_page i) q (((λ j. packet_in c (page_sector (of_image j) (of_page j)) q) ∙ x.stands q less) i);
     }

@@ -30,6 +30,7 @@ use Rattle.dg_mote.specs.Hears.{source_of, on_message, by_message, heard_of}
 use Rattle.dg_mote.specs.Well.{StoreIsWell}
 use Rattle.dg_mote.specs.declared.mote.Heard.{Heard}
 use Rattle.dg_mote.specs.declared.mote.Heard.TheVariants.{Refused, Dropped, Noted, Same, Other, Asks, Serves, Merged, Took, Sealed, Bad}
+use Rattle.dg_mote.proofs.HeardLemmas.{honest_read}
 use Rattle.dg_mote.proofs.RowLemmas.{same_row}
 use Rattle.dg_mote.proofs.PacketLemmas.{AreOf, put_are_of, makes_page, wanted, PageLaws, ReceivesPage, receives_page}
 
@@ -60,7 +61,7 @@ ahead_fine (Some i) m timer s now word source entries own = cond_both (asks m s 
 advert_fine : (mode : Mode) (m : MoteState) (s : Store) (now word source : ℕ) (entries : List Entry) (order : Order) → Fine (on_advert mode m s now word source entries order)
 unfolding advert_heard
 advert_fine (Maintain timer) m s now word source entries order =
-    let u = last (heed_trail s order) in ahead_fine (ahead_in entries u) m timer u now word source entries (is_own entries order s)
+    let u = last (heed_trail s order) in ahead_fine (ahead_in entries u) m timer u now word source entries (is_own entries order m.wide s)
 advert_fine (Receive r) m s now word source entries order = tt
 advert_fine (Transmit t) m s now word source entries order = tt
 
@@ -117,4 +118,4 @@ module _ (table : List Row) (is_table : IsTable table) (laws : PageLaws table) (
 
   pub heard_fine : (m : MoteState) (bytes : List ℕ) → ModeAgrees table s m.mode → IsHonest table bytes → (image page : ℕ) → (heard_of m s now word bytes).answer ≡ Bad image page → ⊥
   unfolding heard_of
-  heard_fine m bytes own honest image page e = subst NotBad e (frame_fine (message_of bytes false) m own honest)
+  heard_fine m bytes own honest image page e = subst NotBad e (frame_fine (message_of bytes m.wide) m own (honest_read table m.wide bytes (message_of bytes m.wide) refl honest))

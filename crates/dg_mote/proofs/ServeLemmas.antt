@@ -18,7 +18,8 @@ use Rattle.dg_volume.specs.Store.{Store, held}
 use Rattle.dg_volume.specs.Stands.{NothingLent}
 use Rattle.dg_volume.specs.Changes.{is_version}
 use Rattle.dg_volume.specs.Trails.{done_of}
-use Rattle.dg_mote.specs.Model.{MoteState, Mode, Maintain, Receive, Transmit, Sending, Turn}
+use Rattle.dg_frame.specs.Sizes.{known_images}
+use Rattle.dg_mote.specs.Model.{MoteState, Mode, Maintain, Receive, Transmit, NamesKnown, Sending, Turn}
 use Rattle.dg_mote.specs.Adverts.{dropped}
 use Rattle.dg_mote.specs.Agreement.{Serves}
 use Rattle.dg_mote.specs.Requests.{can_serve, is_served, to_it}
@@ -57,9 +58,9 @@ serves_by s (Some h) i version page owed is some can owes =
     let less : page < length h.complete = grind (arith, nat_tests) in
     record { not_golden = some; kept = h; held_here = is; version = same; complete = less; owed = owes }
 
-pub serving_now : (c : List ℕ) (v : Mote) (m : MoteState) (s : Store) (timer : Timer) (i version page now : ℕ) (want : Numbers) → 1 ≤ i → want ≢ set.empty → IsMote c v m s → m.mode ≡ Maintain timer → can_serve s i version page ≡ true
+pub serving_now : (c : List ℕ) (v : Mote) (m : MoteState) (s : Store) (timer : Timer) (i version page now : ℕ) (want : Numbers) → 1 ≤ i → i ≤ known_images m.wide → want ≢ set.empty → IsMote c v m s → m.mode ≡ Maintain timer → can_serve s i version page ≡ true
     → Rests (to_it (Maintain timer) m s now i version page want) c s (record v { mode = value.Transmit i version page (begun now want) }) (heard.Serves i page)
-serving_now c v m s timer i version page now want some asks is mode can =
+serving_now c v m s timer i version page now want some high asks is mode can =
     let t : Sending = record { image = i; version = version; page = page; owed = begun now want } in
     let free : NothingLent v.volume = free_by v.mode m.mode mode is.mode in
     rests_chosen (can_serve s i version page) _ _ c s (record v { mode = value.Transmit i version page (begun now want) }) (heard.Serves i page) can (record {
@@ -67,9 +68,11 @@ serving_now c v m s timer i version page now want some asks is mode can =
       mote = record {
         id = is.id;
         since = is.since;
+        wide = is.wide;
         noted = is.noted;
         mounted = is.mounted;
         mode = (refl, refl, refl, refl, record { free = free; serves = serves_by s (held s i) i version page (begun now want) refl some can (λ e. asks (set.empty_of_len want e)) });
+        known = (some, high);
       };
       answers = refl;
     })
@@ -120,9 +123,11 @@ serving_more c v m s t i version page a b d now owed want is mode code one two t
       mote = record {
         id = is.id;
         since = is.since;
+        wide = is.wide;
         noted = is.noted;
         mounted = is.mounted;
         mode = (this.of_image, this.of_version, this.of_page, ap (λ (o : Owed). after_merge o want) this.owes, record { free = this.transmits.free; serves = record { not_golden = serves.not_golden; kept = serves.kept; held_here = serves.held_here; version = serves.version; complete = serves.complete; owed = some_left t.owed.left want serves.owed } });
+        known = subst (NamesKnown m.wide) mode is.known;
       };
       answers = refl;
     })

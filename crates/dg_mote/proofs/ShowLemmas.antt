@@ -36,7 +36,7 @@ ticks m s timer x now word waits is =
     ∙ ap (λ (a : Act). maintain_by a (ticked m timer now word) s) (sym is)
 
 pub advert_shows : (m : MoteState) (s : Store) (timer new : Timer) (now word : ℕ) (out : Outbox) → order_waits s ≡ false → act.Send ≡ act_of timer now → new ≡ after_tick timer now word
-    → sent_in out ≡ Some (frame_of (advert_of m.id s)) → IsRead (advert_of m.id s) → Shows (maintain_tick m timer s now word) m s (Maintain new) out Sent
+    → sent_in out ≡ Some (frame_of (advert_of m.id m.wide s)) → IsRead m.wide (advert_of m.id m.wide s) → Shows (maintain_tick m timer s now word) m s (Maintain new) out Sent
 advert_shows m s timer new now word out waits is after sent is_read =
     subst (λ (t : Turn Did). Shows t m s (Maintain new) out Sent) (sym (ticks m s timer act.Send now word waits is))
     (record { mote = ap (λ (x : Timer). record m { mode = Maintain x }) (sym after); trail = refl; sent = sent; read = is_read; answer = refl })

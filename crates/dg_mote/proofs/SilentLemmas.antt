@@ -59,7 +59,7 @@ ahead_plain (Some i) m timer s from now word source entries own t =
 advert_plain : (mode : Mode) (m : MoteState) (s : Store) (now word source : ℕ) (entries : List Entry) (order : Order) → IsPlain m s (on_advert mode m s now word source entries order)
 unfolding advert_heard
 advert_plain (Maintain timer) m s now word source entries order =
-    let t = heed_trail s order in ahead_plain (ahead_in entries (last t)) m timer (last t) s now word source entries (is_own entries order s) t
+    let t = heed_trail s order in ahead_plain (ahead_in entries (last t)) m timer (last t) s now word source entries (is_own entries order m.wide s) t
 advert_plain (Receive r) m s now word source entries order = dropped_plain m s
 advert_plain (Transmit t) m s now word source entries order = dropped_plain m s
 
@@ -107,24 +107,24 @@ by_silent (Ok message) m s now word = (read_plain message m s now word).silent
 
 pub heard_silent : (m : MoteState) (s : Store) (now word : ℕ) (bytes : List ℕ) → (heard_of m s now word bytes).sent ≡ None
 unfolding heard_of
-heard_silent m s now word bytes = by_silent (message_of bytes false) m s now word
+heard_silent m s now word bytes = by_silent (message_of bytes m.wide) m s now word
 
 -- a refusal is told
 by_told : (r : Result Message FrameFault) (m : MoteState) (s : Store) (now word : ℕ) (cause : FrameFault) → r ≡ Err cause → by_message r m s now word ≡ record { mote = m; trail = resting s 0; sent = None; answer = Refused cause }
 by_told r m s now word cause e = ap (λ (x : Result Message FrameFault). by_message x m s now word) e
 
-pub refused_is : (m : MoteState) (s : Store) (now word : ℕ) (bytes : List ℕ) (cause : FrameFault) → message_of bytes false ≡ Err cause → heard_of m s now word bytes ≡ record { mote = m; trail = resting s 0; sent = None; answer = Refused cause }
+pub refused_is : (m : MoteState) (s : Store) (now word : ℕ) (bytes : List ℕ) (cause : FrameFault) → message_of bytes m.wide ≡ Err cause → heard_of m s now word bytes ≡ record { mote = m; trail = resting s 0; sent = None; answer = Refused cause }
 unfolding heard_of
-refused_is m s now word bytes cause e = by_told (message_of bytes false) m s now word cause e
+refused_is m s now word bytes cause e = by_told (message_of bytes m.wide) m s now word cause e
 
 by_cause : (r : Result Message FrameFault) (m : MoteState) (s : Store) (now word : ℕ) (cause : FrameFault) → (by_message r m s now word).answer ≡ Refused cause → r ≡ Err cause
 by_cause (Err other) m s now word cause e = cc
 by_cause (Ok message) m s now word cause e =
     let p = read_plain message m s now word in absurd (subst (Unchanged m s (by_message (Ok message) m s now word)) e p.unchanged)
 
-pub refused_by : (m : MoteState) (s : Store) (now word : ℕ) (bytes : List ℕ) (cause : FrameFault) → (heard_of m s now word bytes).answer ≡ Refused cause → message_of bytes false ≡ Err cause
+pub refused_by : (m : MoteState) (s : Store) (now word : ℕ) (bytes : List ℕ) (cause : FrameFault) → (heard_of m s now word bytes).answer ≡ Refused cause → message_of bytes m.wide ≡ Err cause
 unfolding heard_of
-refused_by m s now word bytes cause e = by_cause (message_of bytes false) m s now word cause e
+refused_by m s now word bytes cause e = by_cause (message_of bytes m.wide) m s now word cause e
 
 by_dropped : (r : Result Message FrameFault) (m : MoteState) (s : Store) (now word : ℕ) → (by_message r m s now word).answer ≡ Dropped → ((by_message r m s now word).mote ≡ m) × ((by_message r m s now word).trail ≡ resting s 0)
 by_dropped (Err cause) m s now word e = (refl, refl)
@@ -132,4 +132,4 @@ by_dropped (Ok message) m s now word e = let p = read_plain message m s now word
 
 pub dropped_is : (m : MoteState) (s : Store) (now word : ℕ) (bytes : List ℕ) → (heard_of m s now word bytes).answer ≡ Dropped → ((heard_of m s now word bytes).mote ≡ m) × ((heard_of m s now word bytes).trail ≡ resting s 0)
 unfolding heard_of
-dropped_is m s now word bytes e = by_dropped (message_of bytes false) m s now word e
+dropped_is m s now word bytes e = by_dropped (message_of bytes m.wide) m s now word e

@@ -1,5 +1,5 @@
 -- A mote that heard its own summary keeps quiet in that interval.
-use Rattle.std.proofs.Common.{◌≡◌, ◌≢◌, ℕ, ◌+◌, ◌*◌, ◌<◌, ◌≤◌, min, Bool, true, false, ◌&&◌, cond, List, [], ◌∷◌, Option, Some, None, Result, Ok, Err, find, refl, sym, ap, subst, ◌∙◌, inl, inr, arith}
+use Rattle.std.proofs.Common.{◌≡◌, ◌≢◌, ℕ, ◌+◌, ◌*◌, ◌<◌, ◌≤◌, min, Bool, true, false, ◌&&◌, ◌||◌, cond, List, [], ◌∷◌, Option, Some, None, Result, Ok, Err, find, refl, sym, ap, subst, ◌∙◌, inl, inr, arith}
 use Rattle.std.specs.Prelude.{◌==◌, nat_le, nat_lt}
 use Rattle.std.specs.List.{list_all}
 use Rattle.std.proofs.lemmas.Bool.{cond_both, cases_Bool, cond-false, and_parts, eqb-true, ne_eqb, le-ltb, leb-true, ltb-true}
@@ -16,13 +16,15 @@ use Rattle.dg_slot.specs.Kept.{Held}
 use Rattle.dg_volume.specs.Store.{Store, held}
 use Rattle.dg_volume.specs.Trails.{order_trail}
 use Rattle.dg_volume.specs.Start.{order_waits}
+use Rattle.dg_frame.specs.Sizes.{narrow_images}
+use Rattle.dg_frame.specs.Ranges.{no_order}
 use Rattle.dg_frame.specs.Grammar.{message_of}
 use Rattle.dg_frame.specs.declared.Entry.{Entry}
 use Rattle.dg_frame.specs.declared.Message.{Message}
 use Rattle.dg_frame.specs.declared.Message.TheVariants.{Advert, Request, Packet, Wide}
 use Rattle.dg_frame.specs.declared.FrameFault.{FrameFault}
 use Rattle.dg_mote.specs.Model.{MoteState, Mode, Maintain, Receive, Transmit, Turn}
-use Rattle.dg_mote.specs.Summary.{entry_for, entry_by, named, same_entry, same_order, is_own, ahead_of, ahead_in}
+use Rattle.dg_mote.specs.Summary.{entry_for, entry_by, named, same_entry, same_order, own_order, advert_by, is_own, ahead_of, ahead_in}
 use Rattle.dg_mote.specs.Ticks.{clears, maintain_by, mode_tick, tick_of}
 use Rattle.dg_mote.specs.Adverts.{heed_trail, asks, asking, noting, by_ahead, behind, advert_heard, on_advert, dropped}
 use Rattle.dg_mote.specs.Requests.{concerns, can_serve, to_it}
@@ -36,11 +38,21 @@ use Rattle.dg_mote.proofs.AdvertLemmas.{some_page, more_pages}
 
 -- ---- frames as their messages
 
-pub read_as : (message : Message) (m : MoteState) (s : Store) (now word : ℕ) (bytes : List ℕ) → message_of bytes false ≡ Ok message → source_of message ≢ m.id → heard_of m s now word bytes ≡ on_message m s now word message
+pub read_as : (message : Message) (m : MoteState) (s : Store) (now word : ℕ) (bytes : List ℕ) → message_of bytes m.wide ≡ Ok message → source_of message ≢ m.id → heard_of m s now word bytes ≡ on_message m s now word message
 unfolding heard_of
 read_as message m s now word bytes e other =
     ap (λ (r : Result Message FrameFault). by_message r m s now word) e
     ∙ cond-false (source_of message == m.id) (dropped m s) (on_message m s now word message) (ne_eqb (source_of message) m.id other)
+
+-- an advert of either kind does the same
+pub advert_from : (wide : Bool) (source : ℕ) (entries : List Entry) (order : Order) → source_of (advert_by wide source entries order) ≡ source
+advert_from true source entries order = refl
+advert_from false source entries order = refl
+
+pub advert_does : (m : MoteState) (s : Store) (now word : ℕ) (wide : Bool) (source : ℕ) (entries : List Entry) (order : Order)
+    → on_message m s now word (advert_by wide source entries order) ≡ on_advert m.mode m s now word source entries order
+advert_does m s now word true source entries order = refl
+advert_does m s now word false source entries order = refl
 
 -- ---- an advert that equals the own summary
 
@@ -66,16 +78,23 @@ same_not_ahead e o same =
           | inr not_ahead ↦ not_ahead
         ]
 
-own_not_ahead : (entries : List Entry) (order : Order) (s : Store) → is_own entries order s ≡ true → (ahead_in entries s ≡ None) × (order.number ≡ s.order.number)
+-- the order that a mote tells is not better than the one that it keeps
+own_not_better : (wide : Bool) (s : Store) → (own_order wide s).number ≤ s.order.number
+unfolding own_order
+own_not_better wide s = cond_both (wide || nat_le s.order.image narrow_images) s.order no_order (λ (o : Order). o.number ≤ s.order.number) (λ _. omega arith) (λ _. omega arith)
+
+own_not_ahead : (entries : List Entry) (order : Order) (wide : Bool) (s : Store) → is_own entries order wide s ≡ true → (ahead_in entries s ≡ None) × (order.number ≤ s.order.number)
 unfolding is_own ahead_in
-own_not_ahead entries order s own =
-    let parts = and_parts (list_all (λ i. same_entry (entry_for entries i) (entry_by (held s i))) (named entries)) (same_order order s.order) own in
-    let two = and_parts ((order.number == s.order.number) && (order.image == s.order.image)) (order.version == s.order.version) parts.1 in (
+own_not_ahead entries order wide s own =
+    let told = own_order wide s in
+    let parts = and_parts (list_all (λ i. same_entry (entry_for entries i) (entry_by (held s i))) (named entries)) (same_order order told) own in
+    let two = and_parts ((order.number == told.number) && (order.image == told.image)) (order.version == told.version) parts.1 in
+    let same = eqb-true order.number told.number (and_parts (order.number == told.number) (order.image == told.image) two.0).0 in (
       none_found (λ i. ahead_of (entry_for entries i) (held s i)) (λ i. same_entry (entry_for entries i) (entry_by (held s i))) (named entries) (λ i same. same_not_ahead (entry_for entries i) (held s i) same) parts.0,
-      eqb-true order.number s.order.number (and_parts (order.number == s.order.number) (order.image == s.order.image) two.0).0,
+      omega (arith, same, own_not_better wide s),
     )
 
-own_not_heeded : (s : Store) (order : Order) → order.number ≡ s.order.number → heed_trail s order ≡ resting s 0
+own_not_heeded : (s : Store) (order : Order) → order.number ≤ s.order.number → heed_trail s order ≡ resting s 0
 unfolding heed_trail
 own_not_heeded s order same =
     ap (λ b. cond (b && nat_le 1 s.room) (order_trail s order) (resting s 0)) (le-ltb s.order.number order.number (omega (arith, same)))
@@ -85,20 +104,21 @@ behind_none : (s : Store) (m : MoteState) (answer : Heard) → behind (resting s
 unfolding last_of
 behind_none s m answer = ap (λ (t : Trail Store). record { mote = m; trail = t; sent = None; answer = answer }) (joined_none (resting s 0))
 
-own_heard : (m : MoteState) (timer : Timer) (s : Store) (now word source : ℕ) (entries : List Entry) (order : Order) → is_own entries order s ≡ true
+own_heard : (m : MoteState) (timer : Timer) (s : Store) (now word source : ℕ) (entries : List Entry) (order : Order) → is_own entries order m.wide s ≡ true
     → advert_heard m timer s now word source entries order ≡ record { mote = record m { mode = Maintain (after_same timer) }; trail = resting s 0; sent = None; answer = Same }
 unfolding advert_heard
 own_heard m timer s now word source entries order own =
-    let facts = own_not_ahead entries order s own in
-    ap (λ (t : Trail Store). behind t (by_ahead (ahead_in entries (last t)) m timer (last t) now word source entries (is_own entries order s))) (own_not_heeded s order facts.1)
-    ∙ ap (λ o. behind (resting s 0) (by_ahead o m timer (last (resting s 0)) now word source entries (is_own entries order s))) (ap (ahead_in entries) (last-resting s 0) ∙ facts.0)
+    let facts = own_not_ahead entries order m.wide s own in
+    ap (λ (t : Trail Store). behind t (by_ahead (ahead_in entries (last t)) m timer (last t) now word source entries (is_own entries order m.wide s))) (own_not_heeded s order facts.1)
+    ∙ ap (λ o. behind (resting s 0) (by_ahead o m timer (last (resting s 0)) now word source entries (is_own entries order m.wide s))) (ap (ahead_in entries) (last-resting s 0) ∙ facts.0)
     ∙ ap (λ b. behind (resting s 0) (noting m timer (last (resting s 0)) now word b)) own
     ∙ behind_none s (record m { mode = Maintain (after_same timer) }) Same
 
-pub equal_heard : (m : MoteState) (s : Store) (timer : Timer) (now word : ℕ) (bytes : List ℕ) (source : ℕ) (entries : List Entry) (order : Order) → message_of bytes false ≡ Ok (Advert source entries order) → source ≢ m.id → m.mode ≡ Maintain timer → is_own entries order s ≡ true
+pub equal_heard : (m : MoteState) (s : Store) (timer : Timer) (now word : ℕ) (bytes : List ℕ) (wide : Bool) (source : ℕ) (entries : List Entry) (order : Order) → message_of bytes m.wide ≡ Ok (advert_by wide source entries order) → source ≢ m.id → m.mode ≡ Maintain timer → is_own entries order m.wide s ≡ true
     → heard_of m s now word bytes ≡ record { mote = record m { mode = Maintain (after_same timer) }; trail = resting s 0; sent = None; answer = Same }
-equal_heard m s timer now word bytes source entries order e other is own =
-    read_as (Advert source entries order) m s now word bytes e other
+equal_heard m s timer now word bytes wide source entries order e other is own =
+    read_as (advert_by wide source entries order) m s now word bytes e (λ same. other (sym (advert_from wide source entries order) ∙ same))
+    ∙ advert_does m s now word wide source entries order
     ∙ ap (λ mode. on_advert mode m s now word source entries order) is
     ∙ own_heard m timer s now word source entries order own
 
@@ -174,7 +194,7 @@ ahead_counts timer (Some i) m t s now word source entries own q =
 advert_counts : (timer : Timer) (mode : Mode) (m : MoteState) (s : Store) (now word source : ℕ) (entries : List Entry) (order : Order) → Suppressed timer mode → Counts timer (on_advert mode m s now word source entries order)
 unfolding advert_heard
 advert_counts timer (Maintain t) m s now word source entries order q =
-    let u = last (heed_trail s order) in ahead_counts timer (ahead_in entries u) m t u now word source entries (is_own entries order s) q
+    let u = last (heed_trail s order) in ahead_counts timer (ahead_in entries u) m t u now word source entries (is_own entries order m.wide s) q
 advert_counts timer (Receive r) m s now word source entries order q = absurd q
 advert_counts timer (Transmit t) m s now word source entries order q = absurd q
 
@@ -201,7 +221,7 @@ frame_counts timer (Ok message) m s now word q = cond_both (source_of message ==
 
 heard_counts : (timer : Timer) (m : MoteState) (s : Store) (now word : ℕ) (bytes : List ℕ) → Suppressed timer m.mode → Counts timer (heard_of m s now word bytes)
 unfolding heard_of
-heard_counts timer m s now word bytes q = frame_counts timer (message_of bytes false) m s now word q
+heard_counts timer m s now word bytes q = frame_counts timer (message_of bytes m.wide) m s now word q
 
 silent_in : ((m : MoteState) (s : Store) (now word : ℕ) (bytes : List ℕ) → (heard_of m s now word bytes).sent ≡ None) → (timer : Timer) (events : List Happens) (m : MoteState) (s : Store) → Suppressed timer m.mode → HappenIn timer events m s → IsSilent (sent_in events m s)
 unfolding sent_in HappenIn

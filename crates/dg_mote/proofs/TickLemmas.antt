@@ -28,7 +28,7 @@ use Rattle.dg_mote.specs.Ticks.{clears, maintain_by, asked, receive_by, packet_o
 use Rattle.dg_mote.specs.Agreement.{ReceivesRow, Serves, ModeAgrees, HonestMessage}
 use Rattle.dg_mote.specs.declared.mote.Did.{Did}
 use Rattle.dg_mote.proofs.RowLemmas.{keeps_row, few_complete, complete_page}
-use Rattle.dg_mote.proofs.KeepLemmas.{Keeps, rests, mode_same, summary_honest}
+use Rattle.dg_mote.proofs.KeepLemmas.{Keeps, rests, mode_same, advert_honest}
 
 asked_receives : (table : List Row) (s : Store) (r : Receiving) (now : ℕ) → ReceivesRow table s r → ReceivesRow table s (asked r now)
 asked_receives table s r now a = record {
@@ -63,7 +63,7 @@ serving_agrees table s m t now word v =
 
 module _ (P : Store → Type 0) (clear : (s : Store) → P s → Through P (clear_trail s)) (table : List Row) (s : Store) (here : P s) (agrees : Agrees table s) (now word : ℕ) where
   maintain_keeps : (a : Act) (m : MoteState) → ModeAgrees table s m.mode → Keeps P table (maintain_by a m s)
-  maintain_keeps act.Send m mode = rests P table m s 0 _ _ here mode (summary_honest table s agrees)
+  maintain_keeps act.Send m mode = rests P table m s 0 _ _ here mode (advert_honest table m.wide s m.id agrees)
   maintain_keeps act.Quiet m mode = rests P table m s 0 None _ here mode tt
   maintain_keeps act.Expired m mode = rests P table m s 0 None _ here mode tt
   maintain_keeps act.Nothing m mode = rests P table m s 0 None _ here mode tt

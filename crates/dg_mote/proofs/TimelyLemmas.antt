@@ -76,8 +76,8 @@ none_got image = map.get-empty nat_cmp image
 none_noted : (image moment now : ℕ) → None ≡ Some moment → moment ≤ now
 none_noted image moment now e = cc
 
-pub timely_begins : (id now word : ℕ) → Timely (begun id now word) now
-timely_begins id now word = record { since = omega arith; requests = λ i m e. none_noted i m now (sym (none_got i) ∙ e); packets_noted = λ i m e. none_noted i m now (sym (none_got i) ∙ e); mode = timer_begins now word }
+pub timely_begins : (id now word : ℕ) (wide : Bool) → Timely (begun id wide now word) now
+timely_begins id now word wide = record { since = omega arith; requests = λ i m e. none_noted i m now (sym (none_got i) ∙ e); packets_noted = λ i m e. none_noted i m now (sym (none_got i) ∙ e); mode = timer_begins now word }
 
 mode_later : (m : Mode) (now then : ℕ) → now ≤ then → ModeTimely m now → ModeTimely m then
 mode_later (Maintain t) now then h m = (m.0, omega (arith, m.1))
@@ -165,7 +165,7 @@ ahead_timely (Some i) m t s now word source entries own y h =
 advert_timely : (m : MoteState) (t : Timer) (s : Store) (now word source : ℕ) (entries : List Entry) (order : Order) → Timely m now → ModeTimely (Maintain t) now → Timely (advert_heard m t s now word source entries order).mote now
 unfolding advert_heard
 advert_timely m t s now word source entries order y h =
-    let u = last (heed_trail s order) in ahead_timely (ahead_in entries u) m t u now word source entries (is_own entries order s) y h
+    let u = last (heed_trail s order) in ahead_timely (ahead_in entries u) m t u now word source entries (is_own entries order m.wide s) y h
 
 on_advert_timely : (mode : Mode) (m : MoteState) (s : Store) (now word source : ℕ) (entries : List Entry) (order : Order) → Timely m now → ModeTimely mode now → Timely (on_advert mode m s now word source entries order).mote now
 on_advert_timely (Maintain t) m s now word source entries order y h = advert_timely m t s now word source entries order y h
@@ -233,17 +233,17 @@ packet_timely (Transmit t) m s now word image version page q bytes y h = y
 
 -- ---- frames
 
-message_timely : (message : Message) (m : MoteState) (s : Store) (now word : ℕ) → IsWellRead (Ok message) → Timely m now → Timely (on_message m s now word message).mote now
+message_timely : (message : Message) (m : MoteState) (s : Store) (now word : ℕ) → IsWellRead m.wide (Ok message) → Timely m now → Timely (on_message m s now word message).mote now
 message_timely (Advert source entries order) m s now word fits y = on_advert_timely m.mode m s now word source entries order y y.mode
 message_timely (Request source to image version page want) m s now word fits y = request_timely m s now to image version page want fits.1 y
 message_timely (Packet source image version page packet bytes) m s now word fits y = packet_timely m.mode m s now word image version page packet bytes y y.mode
 message_timely (Wide source entries order) m s now word fits y = on_advert_timely m.mode m s now word source entries order y y.mode
 
-heard_timely_by : (r : Result Message FrameFault) (m : MoteState) (s : Store) (now word : ℕ) → IsWellRead r → Timely m now → Timely (by_message r m s now word).mote now
+heard_timely_by : (r : Result Message FrameFault) (m : MoteState) (s : Store) (now word : ℕ) → IsWellRead m.wide r → Timely m now → Timely (by_message r m s now word).mote now
 heard_timely_by (Err fault) m s now word fits y = y
 heard_timely_by (Ok message) m s now word fits y =
     cond_both (source_of message == m.id) _ _ (λ (x : Turn Heard). Timely x.mote now) (λ _. y) (λ _. message_timely message m s now word fits y)
 
 pub timely_heard : (m : MoteState) (s : Store) (now word : ℕ) (bytes : List ℕ) → Timely m now → Timely (heard_of m s now word bytes).mote now
 unfolding heard_of
-timely_heard m s now word bytes y = heard_timely_by (message_of bytes false) m s now word (well_read bytes) y
+timely_heard m s now word bytes y = heard_timely_by (message_of bytes m.wide) m s now word (well_read bytes m.wide) y

@@ -1,5 +1,5 @@
 -- Motes that agree and are in time, through ticks, frames and starts.
-use Rattle.std.proofs.Common.{◌≡◌, ℕ, List, length, Option, Some, None, IsSomeAnd, sym, ap, subst, ◌∙◌}
+use Rattle.std.proofs.Common.{◌≡◌, ℕ, Bool, List, length, Option, Some, None, IsSomeAnd, sym, ap, subst, ◌∙◌}
 use Rattle.dg_nor.specs.Trail.{Trail, last, joined, Leaves}
 use Rattle.dg_nor.specs.Through.{Through}
 use Rattle.dg_nor.proofs.TrailLemmas.{last-joined}
@@ -64,9 +64,9 @@ pub record StartLaws (table : List Row) : Type 0 where
   pub begins : (k : Kind) (s : Store) → BeginsAt s (boot k s).trail
   pub boots : BootLaws table
 
-begins_by : (o : Option Runs) (s : Store) (t : Trail Store) (id now word : ℕ) → BeginsAt s t → BeginsAt s (boot_by o t id now word).trail
-begins_by None s t id now word b = b
-begins_by (Some r) s t id now word b = b
+begins_by : (o : Option Runs) (s : Store) (t : Trail Store) (id : ℕ) (wide : Bool) (now word : ℕ) → BeginsAt s t → BeginsAt s (boot_by o t id wide now word).trail
+begins_by None s t id wide now word b = b
+begins_by (Some r) s t id wide now word b = b
 
 module _ (table : List Row) (laws : StartLaws table) where
   start_well : (k : Kind) (s : Store) → StoreIsWell table s → Through (StoreIsWell table) (boot k s).trail
@@ -74,17 +74,17 @@ module _ (table : List Row) (laws : StartLaws table) where
       both_well table (boot k s).trail (laws.way k s w.agrees)
       (through_then (OnTheWay s (boot k s).runs) (λ t. length t.kept ≡ images) (λ t way. ap length way.kept ∙ w.places) (boot k s).trail (laws.ends k s).way)
 
-  pub boots_well : (k : Kind) (s : Store) (id now word : ℕ) → StoreIsWell table s → EffectIsWell table (boots k s id now word) now
-  boots_well k s id now word w =
+  pub boots_well : (k : Kind) (s : Store) (id : ℕ) (wide : Bool) (now word : ℕ) → StoreIsWell table s → EffectIsWell table (boots k s id wide now word) now
+  boots_well k s id wide now word w =
       let found = boot_starts table laws.boots k s w.agrees in
       let way = start_well k s w in
-      let started : EffectIsWell table (boot_by (Some found.0) (boot k s).trail id now word) now =
-      record { way = way; mote = record { store = Through-last (StoreIsWell table) (boot k s).trail way; mode = tt; timely = timely_begins id now word }; started = found.2; sent = tt } in
-      subst (λ (o : Option Runs). EffectIsWell table (boot_by o (boot k s).trail id now word) now) (sym found.1) started
+      let started : EffectIsWell table (boot_by (Some found.0) (boot k s).trail id wide now word) now =
+      record { way = way; mote = record { store = Through-last (StoreIsWell table) (boot k s).trail way; mode = tt; timely = timely_begins id now word wide }; started = found.2; sent = tt } in
+      subst (λ (o : Option Runs). EffectIsWell table (boot_by o (boot k s).trail id wide now word) now) (sym found.1) started
 
-  pub reset_well : (s : Store) (id now word : ℕ) → StoreIsWell table s → EffectIsWell table (reset_effect s id now word) now
+  pub reset_well : (s : Store) (id : ℕ) (wide : Bool) (now word : ℕ) → StoreIsWell table s → EffectIsWell table (reset_effect s id wide now word) now
   unfolding reset_effect
-  reset_well s id now word w = boots_well kind.Power s id now word w
+  reset_well s id wide now word w = boots_well kind.Power s id wide now word w
 
   joined_well : (t : Trail Store) (e : Effect) (now : ℕ) → Through (StoreIsWell table) t → BeginsAt (last t) e.trail → EffectIsWell table e now → EffectIsWell table (record e { trail = joined t e.trail }) now
   joined_well t e now way begins w =
@@ -98,9 +98,9 @@ module _ (table : List Row) (laws : StartLaws table) where
   pub tick_by_well : (a : Did) (step : Turn Did) (now word : ℕ) → TurnIsWell table step now → EffectIsWell table (tick_by a step now word) now
   tick_by_well Restart step now word w =
       let s = last step.trail in
-      joined_well step.trail (boots kind.Order s step.mote.id now word) now w.way
-      (begins_by (boot kind.Order s).runs s (boot kind.Order s).trail step.mote.id now word (laws.begins kind.Order s))
-      (boots_well kind.Order s step.mote.id now word w.mote.store)
+      joined_well step.trail (boots kind.Order s step.mote.id step.mote.wide now word) now w.way
+      (begins_by (boot kind.Order s).runs s (boot kind.Order s).trail step.mote.id step.mote.wide now word (laws.begins kind.Order s))
+      (boots_well kind.Order s step.mote.id step.mote.wide now word w.mote.store)
   tick_by_well Sent step now word w = record { way = w.way; mote = w.mote; started = tt; sent = w.sent }
   tick_by_well Idle step now word w = record { way = w.way; mote = w.mote; started = tt; sent = w.sent }
 

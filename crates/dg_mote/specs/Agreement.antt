@@ -1,5 +1,5 @@
 -- Motes that agree with a table, and frames that are honest by it.
-use Rattle.std.specs.Prelude.{◌≡◌, ◌≢◌, ◌⊎◌, ℕ, ◌<◌, ◌≤◌, List, length, slice_index_or, [], Some, Result, Ok, Err, false}
+use Rattle.std.specs.Prelude.{◌≡◌, ◌≢◌, ◌⊎◌, ℕ, ◌<◌, ◌≤◌, List, length, slice_index_or, [], Some, Result, Ok, Err, true}
 use Rattle.std.specs.FinSet as set
 use Rattle.dg_object.specs.Object.{Row, object, profile}
 use Rattle.dg_slot.specs.Layout.{packets}
@@ -60,5 +60,6 @@ HonestMessage table (Ok (Wide source entries order)) = (i : ℕ) → 1 ≤ i →
 HonestMessage table (Ok (Packet source image version page q bytes)) =
     (row : Row) × (row_at table image version ≡ Some row) × (page < length (object row)) × (bytes ≡ packet_of (slice_index_or (object row) page []) q)
 
+-- by the wide reading: a narrow reader reads no more
 abbrev pub IsHonest : List Row → List ℕ → Type 0
-IsHonest table bytes = HonestMessage table (message_of bytes false)
+IsHonest table bytes = HonestMessage table (message_of bytes true)

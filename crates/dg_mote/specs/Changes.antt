@@ -1,5 +1,5 @@
 -- What a tick and a frame may change of what a chip keeps, and of the page that is asked for.
-use Rattle.std.specs.Prelude.{◌≡◌, ◌⊎◌, ℕ, ◌<◌, ◌≤◌, Bool, true, List, slice_set, Option, Some, None, IfSome, is_some, Ok, false}
+use Rattle.std.specs.Prelude.{◌≡◌, ◌⊎◌, ℕ, ◌<◌, ◌≤◌, Bool, true, List, slice_set, Option, Some, None, IfSome, is_some, Ok}
 use Rattle.dg_control.specs.declared.snapshot.Order.{Order}
 use Rattle.dg_slot.specs.Layout.{packets}
 use Rattle.dg_slot.specs.Kept.{Held, held_begun}
@@ -60,9 +60,9 @@ IfReceives P (Maintain timer) = Unit {0}
 IfReceives P (Receive r) = P r
 IfReceives P (Transmit t) = Unit {0}
 
--- the frame brings this packet
-abbrev pub Brings : List ℕ → (image version page q : ℕ) → Type 0
-Brings bytes image version page q = (source : ℕ) × (content : List ℕ) × (message_of bytes false ≡ Ok (Packet source image version page q content))
+-- the frame brings this packet to a wide reader, or to a narrow one
+abbrev pub Brings : List ℕ → (wide : Bool) → (image version page q : ℕ) → Type 0
+Brings bytes wide image version page q = (source : ℕ) × (content : List ℕ) × (message_of bytes wide ≡ Ok (Packet source image version page q content))
 
 -- a page is begun that is not one of golden: no packet of it came yet
 pub record IsBegun (r : Receiving) : Type 0 where

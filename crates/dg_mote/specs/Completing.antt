@@ -1,5 +1,5 @@
 -- What a round does at each of its two motes: they are drained, one tells what it keeps, the other asks for a page, and the page goes over.
-use Rattle.std.specs.Prelude.{◌≡◌, ◌≢◌, ◌⊎◌, ℕ, ◌+◌, ◌*◌, ◌<◌, ◌≤◌, List, [], ◌∷◌, length, map, slice_index_or, Option, Some, None}
+use Rattle.std.specs.Prelude.{◌≡◌, ◌≢◌, ◌⊎◌, Bool, ℕ, ◌+◌, ◌*◌, ◌<◌, ◌≤◌, List, [], ◌∷◌, length, map, slice_index_or, Option, Some, None}
 use Rattle.std.specs.List.{range_with_len}
 use Rattle.dg_bits.specs.Sets.{below}
 use Rattle.dg_recv.specs.Times.{next_wait}
@@ -28,12 +28,13 @@ drain_ticks = 50
 abbrev pub advert_ticks : ℕ
 advert_ticks = 3
 
--- it is drained then, keeps what it kept, and has the same id
+-- it is drained then, keeps what it kept, and has the same id and width
 pub record IsDrained (table : List Row) (x : Spot) (now : ℕ) : Type 0 where
   pub drained : Drained (after_ticks drain_ticks x now) (now + drain_ticks * pace)
   pub well : SpotIsWell table (after_ticks drain_ticks x now) (now + drain_ticks * pace)
   pub kept : SameKept x.store (after_ticks drain_ticks x now).store
   pub id : (after_ticks drain_ticks x now).mote.id ≡ x.mote.id
+  pub wide : (after_ticks drain_ticks x now).mote.wide ≡ x.mote.wide
 
 -- A well mote, whatever it was doing, is drained in so many ticks, where it has room at their end.
 abbrev pub DrainLaw : Type 0
@@ -53,14 +54,15 @@ pub record Rests (table : List Row) (x : Spot) (now n : ℕ) : Type 0 where
   pub well : SpotIsWell table (after_ticks n x now) (now + n * pace)
   pub store : (after_ticks n x now).store ≡ x.store
   pub id : (after_ticks n x now).mote.id ≡ x.mote.id
+  pub wide : (after_ticks n x now).mote.wide ≡ x.mote.wide
 
 -- So does a drained mote that only ticks, however often it does.
 abbrev pub RestLaw : Type 0
 RestLaw = (table : List Row) (x : Spot) (now n : ℕ) → SpotIsWell table x now → Drained x now → Rests table x now n
 
 -- a mote that has just started, over a chip that was formatted with so many commits told as spent
-abbrev pub fresh_spot : (name bytes : List ℕ) → (used id now word : ℕ) → Spot
-fresh_spot name bytes used id now word = record { store = fresh name bytes used; mote = begun id now word }
+abbrev pub fresh_spot : (name bytes : List ℕ) → (used id : ℕ) → (wide : Bool) → (now word : ℕ) → Spot
+fresh_spot name bytes used id wide now word = record { store = fresh name bytes used; mote = begun id wide now word }
 
 -- ---- telling
 
@@ -70,7 +72,8 @@ pub record Advertises (table : List Row) (x : Spot) (now : ℕ) : Type 0 where
   pub well : SpotIsWell table (after_ticks advert_ticks x now) (now + advert_ticks * pace)
   pub store : (after_ticks advert_ticks x now).store ≡ x.store
   pub id : (after_ticks advert_ticks x now).mote.id ≡ x.mote.id
-  pub sent : (before : Option Message) → last_sent advert_ticks x now before ≡ Some (advert_of x.mote.id x.store)
+  pub wide : (after_ticks advert_ticks x now).mote.wide ≡ x.mote.wide
+  pub sent : (before : Option Message) → last_sent advert_ticks x now before ≡ Some (advert_of x.mote.id x.mote.wide x.store)
 
 -- A well and drained mote tells what it keeps in so many ticks.
 abbrev pub AdvertLaw : Type 0
@@ -113,19 +116,21 @@ pub record Asked (table : List Row) (x y : Spot) (now id image : ℕ) (ahead : H
   pub others : KeptBut image x.store y.store
   pub gesture : y.store.gesture ≡ 0
   pub id_is : y.mote.id ≡ x.mote.id
+  pub wide_is : y.mote.wide ≡ x.mote.wide
   pub well : SpotIsWell table y now
 
--- A drained mote that hears the summary of a mote that is ahead of it asks it for the first image in which it is ahead.
+-- A drained mote that hears the summary of a mote of its width that is ahead of it asks it for the first image in which it is ahead.
 abbrev pub AskLaw : Type 0
 AskLaw = (table : List Row) (x : Spot) (now id : ℕ) (s : Store) (image : ℕ) → SpotIsWell table x now → Drained x now → Agrees table s → id ≢ x.mote.id
-    → ahead_in (entries_of s) x.store ≡ Some image → HasRoom (hears x now (advert_of id s))
-    → (ahead : Held) × (held s image ≡ Some ahead) × Asked table x (hears x now (advert_of id s)) now id image ahead
+    → ahead_in (entries_of x.mote.wide s) x.store ≡ Some image → HasRoom (hears x now (advert_of id x.mote.wide s))
+    → (ahead : Held) × (held s image ≡ Some ahead) × Asked table x (hears x now (advert_of id x.mote.wide s)) now id image ahead
 
 -- x has become y in one tick: it asks still, and sent a request for all packets of the page
 pub record Requested (x y : Spot) (now image : ℕ) (kept : Held) (server : ℕ) : Type 0 where
   pub asks : AsksPage y image kept
   pub store : y.store ≡ x.store
   pub id_is : y.mote.id ≡ x.mote.id
+  pub wide_is : y.mote.wide ≡ x.mote.wide
   pub sent : (tick_at x (now + pace)).sent ≡ Some (Request x.mote.id server image kept.version (length kept.complete) (below packets))
 
 -- A mote that has begun to ask sends its request in the next tick.

@@ -1,5 +1,5 @@
 -- The effect of an event at one mote, over the store of its chip: what a world and a service share.
-use Rattle.std.specs.Prelude.{ℕ, List, Option, Some, None}
+use Rattle.std.specs.Prelude.{ℕ, Bool, List, Option, Some, None}
 use Rattle.dg_nor.specs.Trail.{Trail, last, joined}
 use Rattle.dg_volume.specs.Store.{Store}
 use Rattle.dg_volume.specs.Start.{Runs, boot}
@@ -19,16 +19,16 @@ pub record Effect : Type 0 where
   pub started : Option Runs
   pub sent : Option Message
 
-abbrev pub boot_by : Option Runs → Trail Store → (id now word : ℕ) → Effect
-boot_by None t id now word = record { mote = None; trail = t; started = None; sent = None }
-boot_by (Some r) t id now word = record { mote = Some (begun id now word); trail = t; started = Some r; sent = None }
+abbrev pub boot_by : Option Runs → Trail Store → (id : ℕ) (wide : Bool) (now word : ℕ) → Effect
+boot_by None t id wide now word = record { mote = None; trail = t; started = None; sent = None }
+boot_by (Some r) t id wide now word = record { mote = Some (begun id wide now word); trail = t; started = Some r; sent = None }
 
-abbrev pub boots : Kind → Store → (id now word : ℕ) → Effect
-boots k s id now word = let b = boot k s in boot_by b.runs b.trail id now word
+abbrev pub boots : Kind → Store → (id : ℕ) (wide : Bool) (now word : ℕ) → Effect
+boots k s id wide now word = let b = boot k s in boot_by b.runs b.trail id wide now word
 
 -- its power came
-unfoldable pub reset_effect : Store → (id now word : ℕ) → Effect
-reset_effect s id now word = boots kind.Power s id now word
+unfoldable pub reset_effect : Store → (id : ℕ) (wide : Bool) (now word : ℕ) → Effect
+reset_effect s id wide now word = boots kind.Power s id wide now word
 
 abbrev pub on : {A : Type 0} → Turn A → Effect
 on step = record { mote = Some step.mote; trail = step.trail; started = None; sent = step.sent }
@@ -40,7 +40,7 @@ silent step = record { mote = Some step.mote; trail = step.trail; started = None
 -- a tick that answers Restart goes on with a start
 abbrev pub tick_by : Did → Turn Did → (now word : ℕ) → Effect
 tick_by Restart step now word =
-    let e = boots kind.Order (last step.trail) step.mote.id now word in record e { trail = joined step.trail e.trail }
+    let e = boots kind.Order (last step.trail) step.mote.id step.mote.wide now word in record e { trail = joined step.trail e.trail }
 tick_by Sent step now word = on step
 tick_by Idle step now word = on step
 

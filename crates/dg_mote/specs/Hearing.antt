@@ -57,6 +57,7 @@ is_sealed (sealing.Unfit o) = false
 pub record IsWhole (c : List ℕ) (v : Mote) (m : MoteState) (s : Store) (r : Receiving) (h : Held) (ps : Packets) : Type 0 where
   pub id : v.id ≡ m.id
   pub since : v.since ≡ m.since
+  pub wide : v.wide ≡ m.wide
   pub noted : v.windows ≡ m.noted
   pub mounted : Mounted c v.volume s
   pub code : (version : ℕ) × (server : ℕ) × (asking : Reception) × (job : PageJob) × (v.mode ≡ value.Receive version server asking job) × Fills c s r.image job h ps

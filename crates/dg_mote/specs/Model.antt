@@ -1,5 +1,5 @@
 -- A mote as the rules see it: beside the store of its chip.
-use Rattle.std.specs.Prelude.{ℕ, Option, is_some}
+use Rattle.std.specs.Prelude.{ℕ, ◌≤◌, Bool, Option, is_some}
 use Rattle.std.specs.List.{filter, range_with_len}
 use Rattle.std.specs.FinSet as set
 use Rattle.dg_nor.specs.Trail.{Trail}
@@ -12,6 +12,7 @@ use Rattle.dg_send.specs.Owed.{Owed}
 use Rattle.dg_slot.specs.Layout.{packets}
 use Rattle.dg_slot.specs.Jobs.{Packets, packet}
 use Rattle.dg_volume.specs.Store.{Store}
+use Rattle.dg_frame.specs.Sizes.{known_images}
 use Rattle.dg_frame.specs.declared.Message.{Message}
 
 -- It asks a server for a page of an image, and these packets of it came.
@@ -36,16 +37,24 @@ pub data Mode : Type 0 where
   Receive : (r : Receiving) → Mode
   Transmit : (t : Sending) → Mode
 
+-- the image that it asks for, or serves, is one that its frames speak of
+abbrev pub NamesKnown : (wide : Bool) → Mode → Type 0
+NamesKnown wide (Maintain timer) = Unit {0}
+NamesKnown wide (Receive r) = (1 ≤ r.image) × (r.image ≤ known_images wide)
+NamesKnown wide (Transmit t) = (1 ≤ t.image) × (t.image ≤ known_images wide)
+
 pub record MoteState : Type 0 where
   pub id : ℕ
+  -- whether its radio is wide: that never changes
+  pub wide : Bool
   -- the moment of its start
   pub since : ℕ
   pub noted : Noted
   pub mode : Mode
 
 -- a mote that was started, and one that begins to maintain anew
-abbrev pub begun : (id now word : ℕ) → MoteState
-begun id now word = record { id = id; since = now; noted = nothing_noted; mode = Maintain (started now word) }
+abbrev pub begun : (id : ℕ) (wide : Bool) (now word : ℕ) → MoteState
+begun id wide now word = record { id = id; wide = wide; since = now; noted = nothing_noted; mode = Maintain (started now word) }
 
 abbrev pub maintains : MoteState → (now word : ℕ) → MoteState
 maintains m now word = record m { mode = Maintain (started now word) }

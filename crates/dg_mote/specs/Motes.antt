@@ -1,5 +1,5 @@
 -- How the code's mote and its chip stand for a mote by the rules and a store.
-use Rattle.std.specs.Prelude.{◌≡◌, ◌≢◌, ℕ, ◌<◌, ◌≤◌, true, false, List, length, Option, Some, Ok, option_map}
+use Rattle.std.specs.Prelude.{◌≡◌, ◌≢◌, ℕ, ◌<◌, ◌≤◌, Bool, true, false, List, length, Option, Some, Ok, option_map}
 use Rattle.std.specs.FinSet as set
 use Rattle.dg_nor.specs.Device.{Device, Ran}
 use Rattle.dg_nor.specs.Trail.{operations, last}
@@ -13,7 +13,7 @@ use Rattle.dg_volume.specs.declared.volume.Volume.{Volume}
 use Rattle.dg_frame.specs.Grammar.{message_of}
 use Rattle.dg_frame.specs.Spelling.{frame_of}
 use Rattle.dg_frame.specs.declared.Message.{Message}
-use Rattle.dg_mote.specs.Model.{MoteState, Mode, Maintain, Receive, Transmit, Receiving, Sending, came, reception, Turn}
+use Rattle.dg_mote.specs.Model.{MoteState, Mode, Maintain, Receive, Transmit, NamesKnown, Receiving, Sending, came, reception, Turn}
 use Rattle.dg_mote.specs.Agreement.{Serves}
 use Rattle.dg_mote.specs.declared.mote.Mote.{Mote}
 use Rattle.dg_mote.specs.declared.outbox.Outbox.{Outbox}
@@ -49,12 +49,17 @@ ModeStands c v s value other = ⊥
 pub record IsMote (c : List ℕ) (v : Mote) (m : MoteState) (s : Store) : Type 0 where
   pub id : v.id ≡ m.id
   pub since : v.since ≡ m.since
+  pub wide : v.wide ≡ m.wide
   pub noted : v.windows ≡ m.noted
   pub mounted : Mounted c v.volume s
   pub mode : ModeStands c v.volume s v.mode m.mode
+  pub known : NamesKnown m.wide m.mode
 
 abbrev pub id_told : Mote → ℕ
 id_told v = v.id
+
+abbrev pub wide_told : Mote → Bool
+wide_told v = v.wide
 
 abbrev pub volume_of : Mote → Volume
 volume_of v = v.volume
@@ -63,9 +68,9 @@ volume_of v = v.volume
 abbrev pub sent_in : Outbox → Option (List ℕ)
 sent_in o = option_map (λ f. f.items) o.frame
 
--- the frame of a message is read as the message
-abbrev pub IsRead : Message → Type 0
-IsRead message = message_of (frame_of message) false ≡ Ok message
+-- the frame of a message is read as the message by a reader of this width
+abbrev pub IsRead : (wide : Bool) → Message → Type 0
+IsRead wide message = message_of (frame_of message) wide ≡ Ok message
 
 -- a call did what the rules say: the chip went the trail, and the mote is where they say
 pub record Done {A : Type 0} (turn : Turn A) (old new : Device) (v : Mote) (answer : A) : Type 0 where

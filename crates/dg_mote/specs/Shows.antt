@@ -13,5 +13,5 @@ pub record Shows (turn : Turn Did) (m : MoteState) (s : Store) (mode : Mode) (ou
   pub mote : turn.mote ≡ record m { mode = mode }
   pub trail : turn.trail ≡ resting s 0
   pub sent : sent_in out ≡ option_map frame_of turn.sent
-  pub read : IfSome turn.sent IsRead
+  pub read : IfSome turn.sent (IsRead m.wide)
   pub answer : did ≡ turn.answer

@@ -1,17 +1,17 @@
 -- The numbers of a mote's rules and of its buffers.
-use Rattle.std.specs.Prelude.{ℕ, ◌+◌, ◌*◌, ◌≤◌, List}
+use Rattle.std.specs.Prelude.{ℕ, ◌+◌, ◌*◌, ◌≤◌, Bool, List}
 use Rattle.std.specs.List.{range_with_len}
 use Rattle.dg_object.specs.Sizes.{head_size, name_size, descriptor_piece_size}
 use Rattle.dg_control.specs.Sizes.{place_size}
 use Rattle.dg_slot.specs.Layout.{crc_piece_size}
 use Rattle.dg_boot.specs.Sizes.{copy_piece_size}
-use Rattle.dg_frame.specs.Sizes.{narrow_images, wide_images, frame_bytes, packet_size, set_bytes, entry_size, order_size}
+use Rattle.dg_frame.specs.Sizes.{known_images, wide_images, frame_bytes, packet_size, set_bytes, entry_size, order_size}
 use Rattle.dg_mote.specs.declared.mote.TheConstants.{MOTE_SIZE}
 use Rattle.dg_mote.specs.declared.outbox.TheConstants.{OUTBOX_SIZE}
 
--- the images that motes hand on: those that frames speak of
-abbrev pub shared : List ℕ
-shared = range_with_len 1 narrow_images
+-- the images that a wide mote, or a narrow one, hands on: those that its frames speak of
+abbrev pub shared : (wide : Bool) → List ℕ
+shared wide = range_with_len 1 (known_images wide)
 
 -- a mote that runs so long clears the count of short starts, in milliseconds
 abbrev pub long_run : ℕ
@@ -66,10 +66,10 @@ pub record BuffersFit : Type 0 where
 
 -- ---- the value of a mote
 
--- The bytes of a mote in memory: 192 of them are the moments of its windows, 116 its volume, and 72 its mode, with both
+-- The bytes of a mote in memory: 192 of them are the moments of its windows, 180 its volume, and 72 its mode, with both
 -- packet sets. No array lies in it beside those.
 abbrev pub most_mote_size : ℕ
-most_mote_size = 400
+most_mote_size = 464
 
 -- the bytes of an outbox in memory: a frame, how long it is, and whether there is one
 abbrev pub most_outbox_size : ℕ

@@ -1,21 +1,21 @@
 -- Motes whose messages fit into frames: what they say is read as they say it.
-use Rattle.std.specs.Prelude.{◌≡◌, ℕ, ◌<◌, ◌^◌, Ok, IfSome, false}
+use Rattle.std.specs.Prelude.{◌≡◌, ℕ, ◌<◌, ◌^◌, Bool, Ok, IfSome}
 use Rattle.dg_nor.specs.Trail.{last}
 use Rattle.dg_nor.specs.Through.{Through}
 use Rattle.dg_control.specs.declared.snapshot.Order.{Order}
 use Rattle.dg_volume.specs.Store.{Store}
-use Rattle.dg_frame.specs.Sizes.{narrow_images}
+use Rattle.dg_frame.specs.Sizes.{wide_images}
 use Rattle.dg_frame.specs.Grammar.{message_of}
 use Rattle.dg_frame.specs.Ranges.{OrderInRange}
 use Rattle.dg_frame.specs.Spelling.{frame_of, FitsTypes}
 use Rattle.dg_frame.specs.declared.Message.{Message}
-use Rattle.dg_mote.specs.Model.{MoteState, Mode, Maintain, Receive, Transmit, Turn}
+use Rattle.dg_mote.specs.Model.{MoteState, Mode, Maintain, Receive, Transmit, NamesKnown, Turn}
 use Rattle.dg_mote.specs.Effects.{Effect}
 use Rattle.dg_mote.specs.Hears.{source_of}
 
--- an order that a frame can tell
+-- an order that a wide frame can tell
 pub record OrderFits (o : Order) : Type 0 where
-  pub in_range : OrderInRange narrow_images o
+  pub in_range : OrderInRange wide_images o
   pub number : o.number < 2 ^ 32
   pub version : o.version < 2 ^ 32
 
@@ -25,25 +25,28 @@ ServerFits (Maintain timer) = Unit {0}
 ServerFits (Receive r) = r.server < 2 ^ 16
 ServerFits (Transmit t) = Unit {0}
 
--- a mote has an id of two bytes, and its store an order that a frame can tell
+-- a mote has an id of two bytes, names only images that its frames speak of, and its store an order that a wide frame can tell
 pub record Speaks (m : MoteState) (s : Store) : Type 0 where
   pub id : m.id < 2 ^ 16
   pub server : ServerFits m.mode
+  pub known : NamesKnown m.wide m.mode
   pub order : OrderFits s.order
 
--- the stores of a step tell such orders, and the mote keeps its id and speaks
-pub record TurnSpeaks {A : Type 0} (id : ℕ) (step : Turn A) : Type 0 where
+-- the stores of a step tell such orders, and the mote keeps its id and its width, and speaks
+pub record TurnSpeaks {A : Type 0} (id : ℕ) (wide : Bool) (step : Turn A) : Type 0 where
   pub way : Through (λ s. OrderFits s.order) step.trail
   pub id_is : step.mote.id ≡ id
+  pub wide_is : step.mote.wide ≡ wide
   pub mote : Speaks step.mote (last step.trail)
 
--- So do those of an event, and a mote that was started has the same id.
-pub record EffectSpeaks (id : ℕ) (e : Effect) : Type 0 where
+-- So do those of an event, and a mote that was started has the same id and width.
+pub record EffectSpeaks (id : ℕ) (wide : Bool) (e : Effect) : Type 0 where
   pub way : Through (λ s. OrderFits s.order) e.trail
-  pub mote : IfSome e.mote (λ m. (m.id ≡ id) × Speaks m (last e.trail))
+  pub mote : IfSome e.mote (λ m. (m.id ≡ id) × (m.wide ≡ wide) × Speaks m (last e.trail))
 
--- A message of a mote: it names the mote as its source, and its frame is read as the message.
-pub record IsSaid (id : ℕ) (message : Message) : Type 0 where
+-- A message of a wide mote, or of a narrow one: it names the mote as its source, and its frame is read as the message by
+-- motes of its width.
+pub record IsSaid (id : ℕ) (wide : Bool) (message : Message) : Type 0 where
   pub source : source_of message ≡ id
   pub fits : FitsTypes message
-  pub is_read : message_of (frame_of message) false ≡ Ok message
+  pub is_read : message_of (frame_of message) wide ≡ Ok message

@@ -2,7 +2,7 @@
 ghost use Rattle.std.specs.Prelude.{◌≡◌, ◌≢◌, ℕ, ◌+◌, ◌<◌, ◌≤◌, ◌^◌, ◌&&◌, ◌||◌, ◌==◌, nat_le, nat_lt, true, false, List, length, Option, Some, All, IfOk, OnOk, OnErr, IfSome};
 ghost use Rattle.dg_nor.specs.Trail.{last};
 ghost use Rattle.dg_trickle.specs.Timer.{Timer};
-ghost use Rattle.dg_frame.specs.Sizes.{narrow_images};
+ghost use Rattle.dg_frame.specs.Sizes.{known_images, wide_images};
 ghost use Rattle.dg_frame.specs.Ranges.{EntryInRange, OrderInRange};
 ghost use Rattle.dg_slot.specs.Kept.{Held};
 ghost use Rattle.dg_slot.specs.Jobs.{IsOpen, outline_told};
@@ -18,7 +18,7 @@ ghost use Rattle.dg_mote.specs.Adverts.{heed_trail, ask_trail, asks, asking, not
 ghost use Rattle.dg_mote.specs.Motes.{IsMote, Done};
 ghost use Rattle.dg_mote.specs.Hearing.{Rests, StaysIf, MayTake, slot_trail, Opened, Begun};
 
-use crate::summary::entry_of;
+use crate::summary::{entry_of, own_order};
 use crate::{Heard, Mode, Mote};
 use dg_control::Order;
 use dg_frame::Entry;
@@ -49,8 +49,8 @@ impl Mote {
         requires mote { (m : MoteState) × (s : Store) × IsMote (N.device nor.old).image self.old m s }
         requires moment { now < 2 ^ 62 }
         requires entries { All EntryInRange entries.now }
-        requires known { length entries.now < images }
-        requires order { OrderInRange narrow_images order.now }
+        requires known { length entries.now ≤ known_images self.old.wide }
+        requires order { OrderInRange wide_images order.now }
         ensures done { IfOk result (λ heard. (m : MoteState) (s : Store) → IsMote (N.device nor.old).image self.old m s
             → Done (on_advert m.mode m s now word source entries.now order.now) (N.device nor.old) (N.device nor.new) self.new heard) }
         ensures unchanged { IfOk result (λ heard. StaysIf heard ((N.device nor.new ≡ N.device nor.old) × (self.new ≡ self.old))) }
@@ -78,8 +78,8 @@ impl Mote {
         requires mote { (m : MoteState) × (s : Store) × (timer : Timer) × IsMote (N.device nor.old).image self.old m s × (m.mode ≡ Maintain timer) }
         requires moment { now < 2 ^ 62 }
         requires entries { All EntryInRange entries.now }
-        requires known { length entries.now < images }
-        requires order { OrderInRange narrow_images order.now }
+        requires known { length entries.now ≤ known_images self.old.wide }
+        requires order { OrderInRange wide_images order.now }
         ensures done { IfOk result (λ heard. (m : MoteState) (s : Store) (timer : Timer) → IsMote (N.device nor.old).image self.old m s → m.mode ≡ Maintain timer
             → Done (advert_heard m timer s now word source entries.now order.now) (N.device nor.old) (N.device nor.new) self.new heard) }
         ensures not_dropped { IfOk result (λ heard. StaysIf heard ⊥) }
@@ -88,7 +88,7 @@ impl Mote {
             → Stops (advert_heard m timer s now word source entries.now order.now).trail (N.device nor.old) (N.device nor.new)) }
     {
         trails_begin();
-        let same = would_say(&self.volume, entries, order);
+        let same = would_say(self.wide, &self.volume, entries, order);
         heed(nor, &mut self.volume, order)?;
         self.follow(nor, now, word, source, entries, same)
     }
@@ -106,7 +106,7 @@ impl Mote {
         requires mote { (m : MoteState) × (s : Store) × (timer : Timer) × IsMote (N.device nor.old).image self.old m s × (m.mode ≡ Maintain timer) }
         requires moment { now < 2 ^ 62 }
         requires entries { All EntryInRange entries.now }
-        requires known { length entries.now < images }
+        requires known { length entries.now ≤ known_images self.old.wide }
         ensures done { IfOk result (λ heard. (m : MoteState) (s : Store) (timer : Timer) → IsMote (N.device nor.old).image self.old m s → m.mode ≡ Maintain timer
             → Done (by_ahead (ahead_in entries.now s) m timer s now word source entries.now same) (N.device nor.old) (N.device nor.new) self.new heard) }
         ensures not_dropped { IfOk result (λ heard. StaysIf heard ⊥) }
@@ -165,6 +165,7 @@ impl Mote {
     ) -> Result<Heard, Stopped>
         requires mote { (m : MoteState) × (s : Store) × (timer : Timer) × IsMote (N.device nor.old).image self.old m s × (m.mode ≡ Maintain timer) × MayTake s image entry }
         requires moment { now < 2 ^ 62 }
+        requires known { image ≤ known_images self.old.wide }
         ensures done { IfOk result (λ heard. (m : MoteState) (s : Store) (timer : Timer) → IsMote (N.device nor.old).image self.old m s → m.mode ≡ Maintain timer → MayTake s image entry
             → Done (asking m s now word source image entry) (N.device nor.old) (N.device nor.new) self.new heard) }
         ensures not_dropped { IfOk result (λ heard. StaysIf heard ⊥) }
@@ -184,15 +185,15 @@ impl Mote {
     }
 }
 
-/// Whether an advert equals what a mote would say that keeps this.
-fn would_say(volume: &Volume, entries: &[Entry], order: &Order) -> bool
+/// Whether an advert equals what a wide mote, or a narrow one, would say that keeps this, of the images that it names.
+fn would_say(wide: bool, volume: &Volume, entries: &[Entry], order: &Order) -> bool
     requires { length entries.now < images }
-    ensures { (s : Store) → Tells volume.now s → result ≡ is_own entries.now order.now s }
+    ensures { (s : Store) → Tells volume.now s → result ≡ is_own entries.now order.now wide s }
 {
     if !says_entries(volume, entries) {
         return false;
     }
-    is_same_order(order, &volume.snapshot().order)
+    is_same_order(order, &own_order(wide, volume))
 }
 
 fn is_same_order(a: &Order, b: &Order) -> bool
@@ -305,7 +306,7 @@ fn heeds(volume: &Volume, order: &Order) -> bool
 /// Keeps a better order, while there is room.
 fn heed<N: Nor>(nor: &mut N, volume: &mut Volume, order: &Order) -> Result<(), Stopped>
     requires mounted { IsMounted (N.device nor.old).image volume.old }
-    requires range { OrderInRange narrow_images order.now }
+    requires range { OrderInRange wide_images order.now }
     ensures acted { OnOk result ((s : Store) → Mounted (N.device nor.old).image volume.old s
         → Acted (heed_trail s order.now) (N.device nor.old) (N.device nor.new) volume.new) }
     ensures lent { (i : ℕ) → is_lent volume.new i ≡ is_lent volume.old i }

@@ -1,5 +1,5 @@
 //! What a mote does that hears a frame.
-ghost use Rattle.std.specs.Prelude.{◌≡◌, ℕ, ◌<◌, ◌^◌, Ok, IfOk, OnOk, OnErr, false};
+ghost use Rattle.std.specs.Prelude.{◌≡◌, ℕ, ◌<◌, ◌^◌, Ok, IfOk, OnOk, OnErr};
 ghost use Rattle.dg_frame.specs.Ranges.{IsInRange};
 ghost use Rattle.dg_object.specs.Object.{Row};
 ghost use Rattle.dg_volume.specs.Store.{Store};
@@ -48,7 +48,7 @@ impl Mote {
         ensures stops_consistent { OnErr result ((golden : Row) → MoteIsConsistent golden (N.device nor.old).image self.old → ChipIsConsistent golden (N.device nor.new).image) }
     {
         a_mote_keeps_consistency();
-        match read(bytes, false) {
+        match read(bytes, self.wide) {
             Err(fault) => Ok(Heard::Refused(fault)),
             Ok(message) => self.hear_message(nor, now, word, message),
         }
@@ -64,7 +64,7 @@ impl Mote {
     ) -> Result<Heard, Stopped>
         requires mote { (m : MoteState) × (s : Store) × IsMote (N.device nor.old).image self.old m s }
         requires moment { now < 2 ^ 62 }
-        requires range { IsInRange false message }
+        requires range { IsInRange self.old.wide message }
         ensures done { IfOk result (λ heard. (m : MoteState) (s : Store) → IsMote (N.device nor.old).image self.old m s
             → Done (by_message (Ok message) m s now word) (N.device nor.old) (N.device nor.new) self.new heard) }
         ensures unchanged { IfOk result (λ heard. StaysIf heard ((N.device nor.new ≡ N.device nor.old) × (self.new ≡ self.old))) }
@@ -77,6 +77,11 @@ impl Mote {
         }
         match message {
             Message::Advert {
+                source,
+                entries,
+                order,
+            } => self.hear_advert(nor, now, word, source, &entries, &order),
+            Message::Wide {
                 source,
                 entries,
                 order,
@@ -111,8 +116,6 @@ impl Mote {
                 };
                 self.hear_packet(nor, now, word, name, packet, &bytes)
             }
-            // a narrow mote reads none
-            Message::Wide { .. } => Ok(Heard::Dropped),
         }
     }
 }

@@ -1,5 +1,5 @@
 //! What holds of motes by their rules. These functions do nothing: their contracts are the laws.
-ghost use Rattle.std.specs.Prelude.{◌≡◌, ℕ, ◌<◌, ◌≤◌, ◌^◌, Bool, List, length, Ok, IfSome, IfOk, false};
+ghost use Rattle.std.specs.Prelude.{◌≡◌, ℕ, ◌<◌, ◌≤◌, ◌^◌, Bool, List, length, Ok, IfSome, IfOk};
 ghost use Rattle.dg_nor.specs.Trail.{Trail, last, Leaves};
 ghost use Rattle.dg_nor.specs.Through.{Through};
 ghost use Rattle.dg_object.specs.Object.{Row};
@@ -34,7 +34,7 @@ use dg_volume::{
 
 /// No moment of a mote is later than the present one, and what is due is due soon. Every effect keeps this.
 pub fn a_mote_stays_timely()
-    ensures begins { (id now word : ℕ) → Timely (begun id now word) now }
+    ensures begins { (id now word : ℕ) (wide : Bool) → Timely (begun id wide now word) now }
     ensures later { (m : MoteState) (now then : ℕ) → now ≤ then → Timely m now → Timely m then }
     ensures reloaded { (m : MoteState) (now word : ℕ) → Timely m now → Timely (maintains m now word) now }
     ensures ticked { (m : MoteState) (s : Store) (now word : ℕ) → Timely m now → Timely (tick_of m s now word).mote now }
@@ -52,7 +52,7 @@ pub fn steps_begin()
 /// An agreeing mote that ticks, or hears an honest frame, still agrees, and so does every store on the way. What it sends
 /// is honest, and a page that came in honest packets is never Bad.
 pub fn a_mote_keeps_agreement()
-    ensures begins { (table : List Row) (s : Store) (id now word : ℕ) → ModeAgrees table s (begun id now word).mode }
+    ensures begins { (table : List Row) (s : Store) (id now word : ℕ) (wide : Bool) → ModeAgrees table s (begun id wide now word).mode }
     ensures ticked { (table : List Row) (m : MoteState) (s : Store) (now word : ℕ) → Agrees table s → ModeAgrees table s m.mode
         → Through (Agrees table) (tick_of m s now word).trail × ModeAgrees table (last (tick_of m s now word).trail) (tick_of m s now word).mote.mode }
     ensures honest { (table : List Row) (m : MoteState) (s : Store) (now word : ℕ) → Agrees table s → ModeAgrees table s m.mode
@@ -77,14 +77,14 @@ pub fn a_mote_keeps_agreement()
 /// as it starts, and every store on the way agrees, also one that a stop leaves. A start over such a store finds an
 /// image, which is a row of the table.
 pub fn a_mote_stays_well()
-    ensures begins { (table : List Row) (s : Store) (id now word : ℕ) → StoreIsWell table s → IsWell table (begun id now word) s now }
+    ensures begins { (table : List Row) (s : Store) (id now word : ℕ) (wide : Bool) → StoreIsWell table s → IsWell table (begun id wide now word) s now }
     ensures later { (table : List Row) (m : MoteState) (s : Store) (now then : ℕ) → now ≤ then → IsWell table m s now → IsWell table m s then }
     ensures reloaded { (table : List Row) (m : MoteState) (s : Store) (now word : ℕ) → Timely m now → StoreIsWell table s → IsWell table (maintains m now word) s now }
     ensures ticked { (table : List Row) (m : MoteState) (s : Store) (now word : ℕ) → IsWell table m s now → TurnIsWell table (tick_of m s now word) now }
     ensures heard { (table : List Row) (m : MoteState) (s : Store) (now word : ℕ) (bytes : List ℕ) → IsTable table → IsHonest table bytes → IsWell table m s now → TurnIsWell table (heard_of m s now word bytes) now }
     ensures tick_effect { (table : List Row) (m : MoteState) (s : Store) (now word : ℕ) → IsTable table → IsWell table m s now → EffectIsWell table (tick_effect m s now word) now }
     ensures frame_effect { (table : List Row) (m : MoteState) (s : Store) (now word : ℕ) (bytes : List ℕ) → IsTable table → IsHonest table bytes → IsWell table m s now → EffectIsWell table (frame_effect m s now word bytes) now }
-    ensures reset_effect { (table : List Row) (s : Store) (id now word : ℕ) → IsTable table → StoreIsWell table s → EffectIsWell table (reset_effect s id now word) now }
+    ensures reset_effect { (table : List Row) (s : Store) (id now word : ℕ) (wide : Bool) → IsTable table → StoreIsWell table s → EffectIsWell table (reset_effect s id wide now word) now }
     ensures stopped { (table : List Row) (t : Trail Store) (k : ℕ) (s : Store) → Through (StoreIsWell table) t → Leaves IsNear t k s → StoreIsWell table s }
 {
     a_mote_keeps_agreement();
@@ -99,7 +99,7 @@ pub fn a_mote_stays_well()
 /// A mote that asks for an image that its chip can keep, or for none, goes through consistent stores as it ticks and as it
 /// hears a frame, whatever its bytes are, and then asks for such an image or for none. So is every store that a stop leaves.
 pub fn a_mote_keeps_consistency()
-    ensures begins { (id now word : ℕ) → AsksForKnown (begun id now word).mode }
+    ensures begins { (id now word : ℕ) (wide : Bool) → AsksForKnown (begun id wide now word).mode }
     ensures reloaded { (m : MoteState) (now word : ℕ) → AsksForKnown (maintains m now word).mode }
     ensures ticked { (golden : Row) (m : MoteState) (s : Store) (now word : ℕ) → StoreIsConsistent golden s → AsksForKnown m.mode → TurnIsConsistent golden (tick_of m s now word) }
     ensures heard { (golden : Row) (m : MoteState) (s : Store) (now word : ℕ) (bytes : List ℕ) → StoreIsConsistent golden s → AsksForKnown m.mode → TurnIsConsistent golden (heard_of m s now word bytes) }
@@ -108,18 +108,18 @@ pub fn a_mote_keeps_consistency()
     trails_keep_consistency();
 }
 
-/// What a well mote sends is honest, names the mote, and is read as it was said, where its id has two bytes and its
-/// store's order fits into a frame. Ticks, starts and frames whose fields fit keep this.
+/// What a well mote sends is honest, names the mote, and is read as it was said by motes of its width, where its id has two
+/// bytes and its store's order fits into a wide frame. Ticks, starts and frames whose fields fit keep this.
 pub fn what_is_sent_is_read()
-    ensures said { (table : List Row) (m : MoteState) (s : Store) (now word : ℕ) → IsTable table → IsWell table m s now → Speaks m s → IfSome (tick_of m s now word).sent (IsSaid m.id) }
+    ensures said { (table : List Row) (m : MoteState) (s : Store) (now word : ℕ) → IsTable table → IsWell table m s now → Speaks m s → IfSome (tick_of m s now word).sent (IsSaid m.id m.wide) }
     ensures honest { (table : List Row) (m : MoteState) (s : Store) (now word : ℕ) → IsTable table → IsWell table m s now → Speaks m s
         → IfSome (tick_of m s now word).sent (λ message. IsHonest table (frame_of message)) }
-    ensures begins { (s : Store) (id now word : ℕ) → id < 2 ^ 16 → OrderFits s.order → Speaks (begun id now word) s }
-    ensures ticked { (m : MoteState) (s : Store) (now word : ℕ) → Speaks m s → TurnSpeaks m.id (tick_of m s now word) }
-    ensures heard { (m : MoteState) (s : Store) (now word : ℕ) (bytes : List ℕ) → IfOk (message_of bytes false) FitsTypes → Speaks m s → TurnSpeaks m.id (heard_of m s now word bytes) }
-    ensures tick_effect { (m : MoteState) (s : Store) (now word : ℕ) → Speaks m s → EffectSpeaks m.id (tick_effect m s now word) }
-    ensures frame_effect { (m : MoteState) (s : Store) (now word : ℕ) (bytes : List ℕ) → IfOk (message_of bytes false) FitsTypes → Speaks m s → EffectSpeaks m.id (frame_effect m s now word bytes) }
-    ensures reset_effect { (s : Store) (id now word : ℕ) → id < 2 ^ 16 → OrderFits s.order → EffectSpeaks id (reset_effect s id now word) }
+    ensures begins { (s : Store) (id now word : ℕ) (wide : Bool) → id < 2 ^ 16 → OrderFits s.order → Speaks (begun id wide now word) s }
+    ensures ticked { (m : MoteState) (s : Store) (now word : ℕ) → Speaks m s → TurnSpeaks m.id m.wide (tick_of m s now word) }
+    ensures heard { (m : MoteState) (s : Store) (now word : ℕ) (bytes : List ℕ) → IfOk (message_of bytes m.wide) FitsTypes → Speaks m s → TurnSpeaks m.id m.wide (heard_of m s now word bytes) }
+    ensures tick_effect { (m : MoteState) (s : Store) (now word : ℕ) → Speaks m s → EffectSpeaks m.id m.wide (tick_effect m s now word) }
+    ensures frame_effect { (m : MoteState) (s : Store) (now word : ℕ) (bytes : List ℕ) → IfOk (message_of bytes m.wide) FitsTypes → Speaks m s → EffectSpeaks m.id m.wide (frame_effect m s now word bytes) }
+    ensures reset_effect { (s : Store) (id now word : ℕ) (wide : Bool) → id < 2 ^ 16 → OrderFits s.order → EffectSpeaks id wide (reset_effect s id wide now word) }
     ensures stopped { (t : Trail Store) (k : ℕ) (s : Store) → Through (λ x. OrderFits x.order) t → Leaves IsNear t k s → OrderFits s.order }
 {
     a_mote_keeps_agreement();

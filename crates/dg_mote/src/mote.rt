@@ -5,7 +5,7 @@ ghost use Rattle.dg_volume.specs.Stands.{Mounted, NothingLent};
 ghost use Rattle.dg_mote.specs.Sizes.{buffered_bytes};
 ghost use Rattle.dg_mote.specs.Model.{MoteState, begun, maintains};
 ghost use Rattle.dg_mote.specs.Timely.{Timely};
-ghost use Rattle.dg_mote.specs.Motes.{IsMote, id_told, volume_of};
+ghost use Rattle.dg_mote.specs.Motes.{IsMote, id_told, wide_told, volume_of};
 
 use dg_boot::COPY_PIECE;
 use dg_frame::{FRAME_BYTES, FrameFault, SET_BYTES};
@@ -56,6 +56,8 @@ pub enum Mode {
 #[derive(Drop)]
 pub struct Mote {
     pub(crate) id: u16,
+    /// Whether its radio is wide: what it says and reads then names images 1 to 6, and else 1 to 3.
+    pub(crate) wide: bool,
     /// The moment of its start.
     pub(crate) since: u64,
     pub(crate) windows: Windows,
@@ -102,14 +104,16 @@ pub enum Heard {
 }
 
 impl Mote {
-    /// A mote that was started at this moment, over the volume of its board.
-    pub fn new(volume: Volume, id: u16, now: u64, word: u32) -> Mote
+    /// A mote that was started at this moment, over the volume of its board. A wide one speaks of images 1 to 6, and a narrow
+    /// one, with the old radio, of images 1 to 3.
+    pub fn new(volume: Volume, id: u16, wide: bool, now: u64, word: u32) -> Mote
         requires free { NothingLent volume }
         requires moment { now < 2 ^ 62 }
-        ensures { (c : List ℕ) (s : Store) → Mounted c volume s → IsMote c result (begun id now word) s }
+        ensures { (c : List ℕ) (s : Store) → Mounted c volume s → IsMote c result (begun id wide now word) s }
     {
         Mote {
             id,
+            wide,
             since: now,
             windows: Windows::new(),
             volume,
@@ -150,6 +154,13 @@ impl Mote {
         ensures { result ≡ id_told self.now }
     {
         self.id
+    }
+
+    /// Whether its radio is wide.
+    pub fn wide(&self) -> bool
+        ensures { result ≡ wide_told self.now }
+    {
+        self.wide
     }
 
     /// The bytes of the outbox, of two packet sets in the form that a frame gives them, and of the largest array that a

@@ -1,5 +1,5 @@
 //! The frame that a mote sends.
-ghost use Rattle.std.specs.Prelude.{◌≡◌, true, Some, None, option_map, false};
+ghost use Rattle.std.specs.Prelude.{◌≡◌, Bool, true, Some, None, option_map};
 ghost use Rattle.dg_frame.specs.Grammar.{in_range};
 ghost use Rattle.dg_frame.specs.Spelling.{frame_of};
 ghost use Rattle.dg_mote.specs.Motes.{sent_in, IsRead};
@@ -40,9 +40,9 @@ impl Outbox {
 
     /// Puts the frame of a message in.
     pub(crate) fn put(&mut self, message: &Message)
-        requires { in_range false message.now ≡ true }
+        requires { (wide : Bool) × (in_range wide message.now ≡ true) }
         ensures sent { sent_in self.new ≡ Some (frame_of message.now) }
-        ensures read { IsRead message.now }
+        ensures read { (wide : Bool) → in_range wide message.now ≡ true → IsRead wide message.now }
     {
         self.frame = Some(write(message));
     }

@@ -5,7 +5,7 @@ ghost use Rattle.dg_nor.specs.Chip.{Touches};
 ghost use Rattle.dg_nor.specs.Device.{Ran, Halts};
 ghost use Rattle.dg_trickle.specs.Timer.{Timer};
 ghost use Rattle.dg_recv.specs.Steps.{after_accept};
-ghost use Rattle.dg_frame.specs.Sizes.{last_packet, narrow_images};
+ghost use Rattle.dg_frame.specs.Sizes.{last_packet, known_images};
 ghost use Rattle.dg_frame.specs.Ranges.{PageInRange};
 ghost use Rattle.dg_slot.specs.Layout.{packets};
 ghost use Rattle.dg_slot.specs.Kept.{Held};
@@ -43,7 +43,7 @@ impl Mote {
     ) -> Result<Heard, Stopped>
         requires mote { (m : MoteState) × (s : Store) × IsMote (N.device nor.old).image self.old m s }
         requires moment { now < 2 ^ 62 }
-        requires range { PageInRange narrow_images name.image name.version name.page }
+        requires range { PageInRange (known_images self.old.wide) name.image name.version name.page }
         requires in_page { packet ≤ last_packet }
         ensures done { IfOk result (λ heard. (m : MoteState) (s : Store) → IsMote (N.device nor.old).image self.old m s
             → Done (on_packet m.mode m s now word name.image name.version name.page packet bytes.now) (N.device nor.old) (N.device nor.new) self.new heard) }
@@ -61,7 +61,7 @@ impl Mote {
 
     /// A page is sent to another mote: that is noted where it would be of use here.
     fn overhear_packet(&mut self, now: u64, name: PageName) -> Heard
-        requires { PageInRange narrow_images name.image name.version name.page }
+        requires { PageInRange (known_images self.old.wide) name.image name.version name.page }
         ensures rests { (c : List ℕ) (m : MoteState) (s : Store) (timer : Timer) (word packet : ℕ) (bytes : List ℕ) → IsMote c self.old m s
             → Rests (on_packet (Maintain timer) m s now word name.image name.version name.page packet bytes) c s self.new result }
         ensures unchanged { StaysIf result (self.new ≡ self.old) }
@@ -85,7 +85,7 @@ impl Mote {
     ) -> Result<Heard, Stopped>
         requires mote { (m : MoteState) × (s : Store) × (r : Receiving) × IsMote (N.device nor.old).image self.old m s × (m.mode ≡ Receive r) }
         requires moment { now < 2 ^ 62 }
-        requires range { PageInRange narrow_images name.image name.version name.page }
+        requires range { PageInRange (known_images self.old.wide) name.image name.version name.page }
         requires in_page { packet ≤ last_packet }
         ensures done { IfOk result (λ heard. (m : MoteState) (s : Store) (r : Receiving) → IsMote (N.device nor.old).image self.old m s → m.mode ≡ Receive r
             → Done (on_packet (Receive r) m s now word name.image name.version name.page packet bytes.now) (N.device nor.old) (N.device nor.new) self.new heard) }

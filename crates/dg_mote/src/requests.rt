@@ -1,7 +1,7 @@
 //! Requests that are heard: served, merged with what is owed, or noted.
 ghost use Rattle.std.specs.Prelude.{◌≡◌, ◌≢◌, ℕ, List};
 ghost use Rattle.std.specs.FinSet as set;
-ghost use Rattle.dg_frame.specs.Sizes.{narrow_images};
+ghost use Rattle.dg_frame.specs.Sizes.{known_images};
 ghost use Rattle.dg_frame.specs.Ranges.{PageInRange};
 ghost use Rattle.dg_volume.specs.Store.{Store};
 ghost use Rattle.dg_trickle.specs.Timer.{Timer};
@@ -32,7 +32,7 @@ impl Mote {
         name: PageName,
         want: PageBits<PACKETS>,
     ) -> Heard
-        requires range { PageInRange narrow_images name.image name.version name.page }
+        requires range { PageInRange (known_images self.old.wide) name.image name.version name.page }
         requires some { want ≢ set.empty }
         ensures rests { (c : List ℕ) (m : MoteState) (s : Store) → IsMote c self.old m s
             → Rests (on_request m s now to name.image name.version name.page want) c s self.new result }
@@ -47,7 +47,7 @@ impl Mote {
 
     /// Another mote is asked for a page: that is noted where it would be of use here.
     fn overhear_request(&mut self, now: u64, name: PageName) -> Heard
-        requires { PageInRange narrow_images name.image name.version name.page }
+        requires { PageInRange (known_images self.old.wide) name.image name.version name.page }
         ensures rests { (c : List ℕ) (m : MoteState) (s : Store) → IsMote c self.old m s
             → Rests (overheard m s now name.image name.version name.page) c s self.new result }
         ensures unchanged { StaysIf result (self.new ≡ self.old) }
@@ -61,7 +61,7 @@ impl Mote {
 
     /// This mote is asked for a page.
     fn answer_request(&mut self, now: u64, name: PageName, want: PageBits<PACKETS>) -> Heard
-        requires range { PageInRange narrow_images name.image name.version name.page }
+        requires range { PageInRange (known_images self.old.wide) name.image name.version name.page }
         requires some { want ≢ set.empty }
         ensures rests { (c : List ℕ) (m : MoteState) (s : Store) → IsMote c self.old m s
             → Rests (to_it m.mode m s now name.image name.version name.page want) c s self.new result }
@@ -76,7 +76,7 @@ impl Mote {
 
     /// Begins to serve a page, where it is kept.
     fn serve(&mut self, now: u64, name: PageName, want: PageBits<PACKETS>) -> Heard
-        requires range { PageInRange narrow_images name.image name.version name.page }
+        requires range { PageInRange (known_images self.old.wide) name.image name.version name.page }
         requires some { want ≢ set.empty }
         ensures rests { (c : List ℕ) (m : MoteState) (s : Store) (timer : Timer) → IsMote c self.old m s → m.mode ≡ Maintain timer
             → Rests (to_it (Maintain timer) m s now name.image name.version name.page want) c s self.new result }
@@ -121,7 +121,7 @@ impl Mote {
 
     /// Whether a page, or a later one of that version, is one that would be of use here.
     pub(crate) fn concerns(&self, name: PageName) -> bool
-        requires { PageInRange narrow_images name.image name.version name.page }
+        requires { PageInRange (known_images self.now.wide) name.image name.version name.page }
         ensures { (c : List ℕ) (m : MoteState) (s : Store) → IsMote c self.now m s
             → result ≡ concerns s name.image name.version name.page }
     {
@@ -134,7 +134,7 @@ impl Mote {
 
     /// Whether a page is kept.
     fn can_serve(&self, name: PageName) -> bool
-        requires { PageInRange narrow_images name.image name.version name.page }
+        requires { PageInRange (known_images self.now.wide) name.image name.version name.page }
         ensures { (c : List ℕ) (m : MoteState) (s : Store) → IsMote c self.now m s
             → result ≡ can_serve s name.image name.version name.page }
     {

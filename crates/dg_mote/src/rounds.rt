@@ -1,6 +1,6 @@
 //! What a round of ticks and frames does at each of its two motes. These functions do nothing: their contracts are the
 //! laws.
-ghost use Rattle.std.specs.Prelude.{◌≡◌, ℕ, ◌+◌, ◌≤◌, List, Some};
+ghost use Rattle.std.specs.Prelude.{◌≡◌, Bool, ℕ, ◌+◌, ◌≤◌, List, Some};
 ghost use Rattle.dg_object.specs.Object.{Row};
 ghost use Rattle.dg_volume.specs.Sizes.{golden_version, most_room};
 ghost use Rattle.dg_volume.specs.Store.{golden_row};
@@ -43,12 +43,13 @@ pub fn a_drained_mote_rests()
 
 /// A mote that has just started over a chip that was formatted is drained, and agrees with each table that has its
 /// golden image. Where the chip was formatted with room for three commits, it has that room after any number of ticks.
-/// So such motes are what the laws of a round ask for.
+/// So such motes, wide or narrow, are what the laws of a round ask for.
 pub fn a_fresh_mote_is_drained()
-    ensures well { (table : List Row) (name bytes : List ℕ) (used id now word : ℕ) → row_at table 0 golden_version ≡ Some (golden_row name bytes) → SpotIsWell table (fresh_spot name bytes used id now word) now }
-    ensures drained { (name bytes : List ℕ) (used id now word : ℕ) → Drained (fresh_spot name bytes used id now word) now }
-    ensures room { (table : List Row) (name bytes : List ℕ) (used id now word n : ℕ) → row_at table 0 golden_version ≡ Some (golden_row name bytes) → used + spare_room ≤ most_room
-        → HasRoom (after_ticks n (fresh_spot name bytes used id now word) now) }
+    ensures well { (table : List Row) (name bytes : List ℕ) (used id now word : ℕ) (wide : Bool) → row_at table 0 golden_version ≡ Some (golden_row name bytes)
+        → SpotIsWell table (fresh_spot name bytes used id wide now word) now }
+    ensures drained { (name bytes : List ℕ) (used id now word : ℕ) (wide : Bool) → Drained (fresh_spot name bytes used id wide now word) now }
+    ensures room { (table : List Row) (name bytes : List ℕ) (used id now word n : ℕ) (wide : Bool) → row_at table 0 golden_version ≡ Some (golden_row name bytes) → used + spare_room ≤ most_room
+        → HasRoom (after_ticks n (fresh_spot name bytes used id wide now word) now) }
 {
     a_mote_stays_well();
     a_drained_mote_rests();
@@ -59,8 +60,8 @@ pub fn a_drained_mote_advertises()
     ensures { AdvertLaw }
 {}
 
-/// A drained mote that hears the summary of a mote ahead of it asks that mote for the next page of the first image in
-/// which it is ahead, and its next tick sends the request for all packets of that page.
+/// A drained mote that hears the summary of a mote of its width that is ahead of it asks that mote for the next page of the
+/// first image in which it is ahead, and its next tick sends the request for all packets of that page.
 pub fn a_drained_mote_asks()
     ensures asks { AskLaw }
     ensures requests { RequestLaw }

@@ -1,13 +1,15 @@
 //! What a mote says of itself.
-ghost use Rattle.std.specs.Prelude.{◌≡◌, ℕ, true, List, Option, false};
+ghost use Rattle.std.specs.Prelude.{◌≡◌, ℕ, ◌||◌, nat_le, true, false, List, Option};
 ghost use Rattle.dg_slot.specs.Kept.{Held};
 ghost use Rattle.dg_volume.specs.Store.{Store};
 ghost use Rattle.dg_volume.specs.Told.{told};
 ghost use Rattle.dg_volume.specs.Stands.{Tells, IsMounted};
+ghost use Rattle.dg_frame.specs.Sizes.{narrow_images};
 ghost use Rattle.dg_frame.specs.Grammar.{in_range};
-ghost use Rattle.dg_mote.specs.Summary.{entry_by, advert_of};
+ghost use Rattle.dg_mote.specs.Summary.{entry_by, entries_of, own_order, advert_of};
 
-use dg_frame::{Entry, Message};
+use dg_control::Order;
+use dg_frame::{Entry, Message, NARROW_IMAGES, WIDE_IMAGES};
 use dg_volume::{Kept, Volume};
 
 /// What is said of an image of which this is kept.
@@ -30,19 +32,71 @@ pub(crate) fn entry_of(kept: Option<Kept>) -> Entry
     }
 }
 
-/// The advert of what a volume keeps and of its order.
-pub(crate) fn advert_message(id: u16, volume: &Volume) -> Message
+/// The advert of what a volume keeps and of its order, as a wide mote or a narrow one tells it.
+pub(crate) fn advert_message(id: u16, wide: bool, volume: &Volume) -> Message
     requires { (c : List ℕ) × IsMounted c volume.now }
-    ensures says { (s : Store) → Tells volume.now s → result ≡ advert_of id s }
-    ensures fits { in_range false result ≡ true }
+    ensures says { (s : Store) → Tells volume.now s → result ≡ advert_of id wide s }
+    ensures fits { in_range wide result ≡ true }
 {
-    Message::Advert {
-        source: id,
-        entries: [
-            entry_of(volume.kept(1)),
-            entry_of(volume.kept(2)),
-            entry_of(volume.kept(3)),
-        ],
-        order: volume.snapshot().order,
+    let order = own_order(wide, volume);
+    if wide {
+        Message::Wide {
+            source: id,
+            entries: wide_entries(volume),
+            order,
+        }
+    } else {
+        Message::Advert {
+            source: id,
+            entries: narrow_entries(volume),
+            order,
+        }
     }
+}
+
+/// What is said of images 1 to 6.
+fn wide_entries(volume: &Volume) -> [Entry; WIDE_IMAGES]
+    ensures { (s : Store) → Tells volume.now s → result ≡ entries_of true s }
+{
+    [
+        entry_of(volume.kept(1)),
+        entry_of(volume.kept(2)),
+        entry_of(volume.kept(3)),
+        entry_of(volume.kept(4)),
+        entry_of(volume.kept(5)),
+        entry_of(volume.kept(6)),
+    ]
+}
+
+/// What is said of images 1 to 3.
+fn narrow_entries(volume: &Volume) -> [Entry; NARROW_IMAGES]
+    ensures { (s : Store) → Tells volume.now s → result ≡ entries_of false s }
+{
+    [
+        entry_of(volume.kept(1)),
+        entry_of(volume.kept(2)),
+        entry_of(volume.kept(3)),
+    ]
+}
+
+/// The order as a mote tells it: a narrow one tells none of an image that its frames do not name.
+pub(crate) fn own_order(wide: bool, volume: &Volume) -> Order
+    ensures { (s : Store) → Tells volume.now s → result ≡ own_order wide s }
+{
+    let order = volume.snapshot().order;
+    if tells_image(wide, order.image) {
+        return order;
+    }
+    Order {
+        number: 0,
+        image: 0,
+        version: 0,
+    }
+}
+
+/// Whether the order of an image is told.
+fn tells_image(wide: bool, image: u8) -> bool
+    ensures { result ≡ (wide || nat_le image narrow_images) }
+{
+    wide || usize::from(image) <= NARROW_IMAGES
 }

@@ -59,9 +59,9 @@ impl Mote {
             → Done (tick_of m s now word) (N.device nor.old) (N.device nor.new) self.new did) }
         ensures sent { OnOk result ((m : MoteState) (s : Store) → IsMote (N.device nor.old).image self.old m s
             → sent_in out.new ≡ option_map frame_of (tick_of m s now word).sent) }
-        // the frame that is sent is read as its message
+        // the frame that is sent is read as its message by a mote of its width
         ensures read { OnOk result ((m : MoteState) (s : Store) → IsMote (N.device nor.old).image self.old m s
-            → IfSome (tick_of m s now word).sent IsRead) }
+            → IfSome (tick_of m s now word).sent (IsRead m.wide)) }
         ensures same_reference { (N.device nor.new).references ≡ (N.device nor.old).references }
         ensures stopped { OnErr result ((m : MoteState) (s : Store) → IsMote (N.device nor.old).image self.old m s
             → Stops (tick_of m s now word).trail (N.device nor.old) (N.device nor.new)) }
@@ -103,7 +103,7 @@ impl Mote {
         ensures sent { OnOk result ((m : MoteState) (s : Store) → IsMote (N.device nor.old).image self.old m s
             → sent_in out.new ≡ option_map frame_of (mode_tick m.mode m s now word).sent) }
         ensures read { OnOk result ((m : MoteState) (s : Store) → IsMote (N.device nor.old).image self.old m s
-            → IfSome (mode_tick m.mode m s now word).sent IsRead) }
+            → IfSome (mode_tick m.mode m s now word).sent (IsRead m.wide)) }
         ensures same_reference { (N.device nor.new).references ≡ (N.device nor.old).references }
         ensures stopped { OnErr result ((m : MoteState) (s : Store) → IsMote (N.device nor.old).image self.old m s
             → Stops (mode_tick m.mode m s now word).trail (N.device nor.old) (N.device nor.new)) }
@@ -111,7 +111,8 @@ impl Mote {
     {
         match &mut self.mode {
             Mode::Maintain(trickle) => {
-                Ok(maintain(self.id, &self.volume, trickle, now, word, out))
+                let wide = self.wide;
+                Ok(maintain(self.id, wide, &self.volume, trickle, now, word, out))
             }
             Mode::Receive {
                 version,
@@ -153,6 +154,7 @@ impl Mote {
 /// where that says so.
 fn maintain(
     id: u16,
+    wide: bool,
     volume: &Volume,
     trickle: &mut Trickle,
     now: u64,
@@ -162,7 +164,7 @@ fn maintain(
     requires mounted { (c : List ℕ) × IsMounted c volume.now }
     requires moment { now < 2 ^ 62 }
     requires empty { sent_in out.old ≡ None }
-    ensures { (m : MoteState) (s : Store) → m.id ≡ id → m.mode ≡ Maintain trickle.old → Tells volume.now s
+    ensures { (m : MoteState) (s : Store) → m.id ≡ id → m.wide ≡ wide → m.mode ≡ Maintain trickle.old → Tells volume.now s
         → Shows (maintain_tick m trickle.old s now word) m s (Maintain trickle.new) out.new result }
 {
     if order_waits(volume) {
@@ -170,7 +172,7 @@ fn maintain(
     }
     match trickle.tick(now, word) {
         Act::Send => {
-            out.put(&advert_message(id, volume));
+            out.put(&advert_message(id, wide, volume));
             Did::Sent
         }
         Act::Quiet | Act::Expired | Act::Nothing => Did::Idle,

@@ -54,3 +54,6 @@ returns-clause-consistent g c golden s stands here =
     let looked = c.in_ok-volume.ensures.looked in
     boots_consistent golden c.start_mounted.result (boot c.args.kind s) _ _ (c.trails_keep_consistency.ensures.boot golden c.args.kind s here)
     (boots_looked c.start_mounted.result (boot c.args.kind s) _ _ _ looked (c.start_mounted.ensures.boots s (mounted_looked s _ _ c.in_ok-volume.volume looked (c.in_ok-volume.ensures.mounted s stands))))
+
+pub returns-clause-no_volume : goal.returns-clause-no_volume
+returns-clause-no_volume g c is none = absurd (none c.in_ok-volume.ensures.volume.0 c.in_ok-volume.ensures.volume.1.stands)

@@ -1,9 +1,10 @@
-use Rattle.std.proofs.Common.{ℕ, List, Option, Some, None, IfSome, refl, sym, subst, false}
+use Rattle.std.proofs.Common.{ℕ, Bool, true, false, List, Option, Some, None, IfSome, refl, sym, subst}
 use Rattle.dg_nor.proofs.ThroughLemmas.{Leaves-through}
 use Rattle.dg_object.specs.Object.{Row}
 use Rattle.dg_volume.specs.Store.{Store, IsNear}
 use Rattle.dg_frame.specs.Spelling.{frame_of}
 use Rattle.dg_frame.specs.declared.Message.{Message}
+use Rattle.dg_frame.proofs.ReadingLemmas.{wider}
 use Rattle.dg_mote.specs.Agreement.{HonestMessage, IsHonest}
 use Rattle.dg_mote.specs.Well.{SendsHonest}
 use Rattle.dg_mote.specs.Speaking.{IsSaid}
@@ -25,29 +26,30 @@ returns-clause-said c table m s now word is_table w speaks =
       bytes = rows.bytes;
       first = c.a_row_has_a_descriptor.ensures.first;
       crc = c.checksum_is_a_remainder.ensures.degree;
-      ranges = λ message. (c.one_reading.ensures.ranges false message).1;
-      written = c.one_spelling.ensures.written false;
+      ranges = λ wide message. (c.one_reading.ensures.ranges wide message).1;
+      written = c.one_spelling.ensures.written;
     } in
-    tick_said laws table is_table s w.store m.id speaks.id m now word refl speaks.order w.mode w.timely.mode speaks.server
+    tick_said laws table is_table s w.store m.id speaks.id m.wide m now word refl refl speaks.order w.mode w.timely.mode (speaks.server, speaks.known)
 
 -- an honest message that is read as it was said makes an honest frame
-honest_frames : (table : List Row) (id : ℕ) (sent : Option Message) → SendsHonest table sent → IfSome sent (IsSaid id) → IfSome sent (λ message. IsHonest table (frame_of message))
-honest_frames table id None honest said = tt
-honest_frames table id (Some message) honest said = subst (HonestMessage table) (sym said.is_read) honest
+honest_frames : (table : List Row) (id : ℕ) (wide : Bool) (sent : Option Message) → SendsHonest table sent → IfSome sent (IsSaid id wide) → IfSome sent (λ message. IsHonest table (frame_of message))
+honest_frames table id wide None honest said = tt
+honest_frames table id true (Some message) honest said = subst (HonestMessage table) (sym said.is_read) honest
+honest_frames table id false (Some message) honest said = subst (HonestMessage table) (sym (wider (frame_of message) message said.is_read)) honest
 
 pub returns-clause-honest : goal.returns-clause-honest
 returns-clause-honest c table m s now word is_table w speaks =
-    honest_frames table m.id _ (c.a_mote_keeps_agreement.ensures.honest table m s now word w.store.agrees w.mode) (returns-clause-said c table m s now word is_table w speaks)
+    honest_frames table m.id m.wide _ (c.a_mote_keeps_agreement.ensures.honest table m s now word w.store.agrees w.mode) (returns-clause-said c table m s now word is_table w speaks)
 
 pub returns-clause-begins : goal.returns-clause-begins
-returns-clause-begins c s id now word small fits = record { id = small; server = tt; order = fits }
+returns-clause-begins c s id now word wide small fits = record { id = small; server = tt; known = tt; order = fits }
 
 pub returns-clause-ticked : goal.returns-clause-ticked
-returns-clause-ticked c m s now word speaks = turn_speaks m.id _ speaks.id (tick_says m s now word speaks.order speaks.server)
+returns-clause-ticked c m s now word speaks = turn_speaks m _ speaks.id (tick_says m s now word speaks.order (speaks.server, speaks.known))
 
 pub returns-clause-heard : goal.returns-clause-heard
 returns-clause-heard c m s now word bytes fits speaks =
-    turn_speaks m.id _ speaks.id (heard_says (λ message. (c.one_reading.ensures.ranges false message).0) m s now word bytes fits speaks.order speaks.server)
+    turn_speaks m _ speaks.id (heard_says (λ wide message. (c.one_reading.ensures.ranges wide message).0) m s now word bytes fits speaks.order (speaks.server, speaks.known))
 
 pub returns-clause-tick_effect : goal.returns-clause-tick_effect
 returns-clause-tick_effect c m s now word speaks = tick_effect_speaks c.a_start_ends.ensures c.trails_begin.ensures.boot m s now word (returns-clause-ticked c m s now word speaks)
@@ -56,7 +58,7 @@ pub returns-clause-frame_effect : goal.returns-clause-frame_effect
 returns-clause-frame_effect c m s now word bytes fits speaks = frame_effect_speaks m s now word bytes (returns-clause-heard c m s now word bytes fits speaks)
 
 pub returns-clause-reset_effect : goal.returns-clause-reset_effect
-returns-clause-reset_effect c s id now word small fits = reset_speaks c.a_start_ends.ensures s id now word small fits
+returns-clause-reset_effect c s id now word wide small fits = reset_speaks c.a_start_ends.ensures s id wide now word small fits
 
 near_tells : (a s : Store) → TellsOrder a → IsNear a s → TellsOrder s
 near_tells a s o near = let like : TellsOrder (record a { room = s.room }) = o in subst TellsOrder (sym near.same) like

@@ -8,7 +8,7 @@ pub returns-clause-advert : goal.returns-clause-advert
 returns-clause-advert c = advert_says
 
 pub returns-clause-entry : goal.returns-clause-entry
-returns-clause-entry c s image h low high here = entry_is s image low high ∙ ap entry_by here
+returns-clause-entry c wide s image h low high here = entry_is wide s image low high ∙ ap entry_by here
 
 pub returns-clause-served : goal.returns-clause-served
 returns-clause-served c = page_served

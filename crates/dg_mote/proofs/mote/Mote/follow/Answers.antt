@@ -5,6 +5,7 @@ use Rattle.dg_mote.specs.Motes.{Done}
 use Rattle.dg_mote.specs.declared.mote.Heard.{Heard}
 use Rattle.dg_mote.proofs.ServeLemmas.{rests_done, if_ok, on_err}
 use Rattle.dg_mote.proofs.AskLemmas.{may_take, follows_none, follows_noted, follows_asking}
+use Rattle.dg_mote.proofs.WideLemmas.{kept_few}
 use Rattle.dg_mote.proofs.mote.Mote.follow.Goals as goal
 
 pub returns-in_default-clause-done : goal.returns-in_default-clause-done
@@ -36,7 +37,7 @@ ask-requires-clause-mote g c =
       c.requires.mote.2,
       is,
       c.requires.mote.4,
-      may_take m s c.args.entries.now c.args.now x.image c.entry_for-entry.result c.requires.known c.requires.entries x.ensures.within.0 x.ensures.within.1 c.entry_for-entry.ensures (x.ensures.ahead s is.mounted.tells) can,
+      may_take m s c.args.entries.now c.args.now x.image c.entry_for-entry.result (kept_few c.args.self.now.wide c.args.entries.now c.requires.known) c.requires.entries x.ensures.within.0 x.ensures.within.1 c.entry_for-entry.ensures (x.ensures.ahead s is.mounted.tells) can,
     )
 
 pub returns-clause-done : goal.returns-clause-done
@@ -45,7 +46,7 @@ returns-clause-done g c = if_ok c.ask.result c.ask.ensures.done (λ answer done 
     let b = g.N.Nor.device c.ask.new.nor in
     let x = c.in-Some in
     let can = sym (c.may_ask.ensures a.image m s is) ∙ c.if-not-may_ask.false in
-    let may = may_take m s c.args.entries.now c.args.now x.image c.entry_for-entry.result c.requires.known c.requires.entries x.ensures.within.0 x.ensures.within.1 c.entry_for-entry.ensures (x.ensures.ahead s is.mounted.tells) can in
+    let may = may_take m s c.args.entries.now c.args.now x.image c.entry_for-entry.result (kept_few c.args.self.now.wide c.args.entries.now c.requires.known) c.requires.entries x.ensures.within.0 x.ensures.within.1 c.entry_for-entry.ensures (x.ensures.ahead s is.mounted.tells) can in
     let e = follows_asking m timer s c.args.now c.args.word c.args.source x.image c.args.entries.now c.entry_for-entry.result c.args.same (sym (x.ensures.least s is.mounted.tells)) c.entry_for-entry.ensures can in
     subst (λ (t : Turn Heard). Done t a b c.ask.new.self answer) (sym e) (done m s timer is mode may))
 
@@ -55,6 +56,6 @@ returns-clause-stopped g c = on_err c.ask.result c.ask.ensures.stopped (λ stopp
     let b = g.N.Nor.device c.ask.new.nor in
     let x = c.in-Some in
     let can = sym (c.may_ask.ensures a.image m s is) ∙ c.if-not-may_ask.false in
-    let may = may_take m s c.args.entries.now c.args.now x.image c.entry_for-entry.result c.requires.known c.requires.entries x.ensures.within.0 x.ensures.within.1 c.entry_for-entry.ensures (x.ensures.ahead s is.mounted.tells) can in
+    let may = may_take m s c.args.entries.now c.args.now x.image c.entry_for-entry.result (kept_few c.args.self.now.wide c.args.entries.now c.requires.known) c.requires.entries x.ensures.within.0 x.ensures.within.1 c.entry_for-entry.ensures (x.ensures.ahead s is.mounted.tells) can in
     let e = follows_asking m timer s c.args.now c.args.word c.args.source x.image c.args.entries.now c.entry_for-entry.result c.args.same (sym (x.ensures.least s is.mounted.tells)) c.entry_for-entry.ensures can in
     subst (λ (t : Turn Heard). Stops t.trail a b) (sym e) (stopped m s timer is mode may))

@@ -1,12 +1,8 @@
-use Rattle.std.proofs.Common.{◌≡◌, ◌≢◌, ℕ, true, false, List, sym, subst, arith}
+use Rattle.std.proofs.Common.{◌≡◌, ◌≢◌, ℕ, true, false, sym, subst, arith}
 use Rattle.std.specs.Prelude.{◌==◌}
 use Rattle.std.proofs.lemmas.Bool.Decides.{nat_tests}
 use Rattle.dg_volume.specs.Acts.{Stops}
-use Rattle.dg_control.specs.declared.snapshot.Order.{Order}
-use Rattle.dg_frame.specs.Ranges.{IsInRange}
-use Rattle.dg_frame.specs.declared.Entry.{Entry}
 use Rattle.dg_frame.specs.declared.Message.{Message}
-use Rattle.dg_frame.specs.declared.Message.TheVariants.{Wide}
 use Rattle.dg_mote.specs.Model.{Turn}
 use Rattle.dg_mote.specs.Adverts.{dropped}
 use Rattle.dg_mote.specs.Requests.{on_request}
@@ -73,12 +69,19 @@ returns-in-Packet-clause-stopped g c = on_err c.hear_packet.result c.hear_packet
     subst (λ (t : Turn Heard). Stops t.trail a b) (sym (passed (source_of c.args.message == m.id) (dropped m s) (on_message m s c.args.now c.args.word c.args.message) e))
     (subst (λ (y : Message). Stops (on_message m s c.args.now c.args.word y).trail a b) (sym c.in-Packet.is) (stopped m s is)))
 
--- a narrow mote reads no wide adverts
-narrow_only : (message : Message) (source : ℕ) (entries : List Entry) (order : Order) → IsInRange false message → message ≡ Wide source entries order → ⊥
-narrow_only message source entries order range is = known (subst (IsInRange false) is range).0
-  where
-    known : false ≡ true → ⊥
-    known e = cc
-
 pub returns-in-Wide-clause-done : goal.returns-in-Wide-clause-done
-returns-in-Wide-clause-done g c = absurd (narrow_only c.args.message c.in-Wide.source c.in-Wide.entries c.in-Wide.order c.requires.range c.in-Wide.is)
+returns-in-Wide-clause-done g c = if_ok c.hear_advert-in-Wide.result c.hear_advert-in-Wide.ensures.done (λ answer done m s is.
+    let a = g.N.Nor.device c.args.nor.now in
+    let b = g.N.Nor.device c.hear_advert-in-Wide.new.nor in
+    let v = c.hear_advert-in-Wide.new.self in
+    let e = other_source _ (source_of c.args.message) _ m.id c.source.ensures is.id c.if-source-self.false in
+    subst (λ (t : Turn Heard). Done t a b v answer) (sym (passed (source_of c.args.message == m.id) (dropped m s) (on_message m s c.args.now c.args.word c.args.message) e))
+    (subst (λ (y : Message). Done (on_message m s c.args.now c.args.word y) a b v answer) (sym c.in-Wide.is) (done m s is)))
+
+pub returns-in-Wide-clause-stopped : goal.returns-in-Wide-clause-stopped
+returns-in-Wide-clause-stopped g c = on_err c.hear_advert-in-Wide.result c.hear_advert-in-Wide.ensures.stopped (λ stopped m s is.
+    let a = g.N.Nor.device c.args.nor.now in
+    let b = g.N.Nor.device c.hear_advert-in-Wide.new.nor in
+    let e = other_source _ (source_of c.args.message) _ m.id c.source.ensures is.id c.if-source-self.false in
+    subst (λ (t : Turn Heard). Stops t.trail a b) (sym (passed (source_of c.args.message == m.id) (dropped m s) (on_message m s c.args.now c.args.word c.args.message) e))
+    (subst (λ (y : Message). Stops (on_message m s c.args.now c.args.word y).trail a b) (sym c.in-Wide.is) (stopped m s is)))

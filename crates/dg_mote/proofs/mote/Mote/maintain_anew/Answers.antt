@@ -15,7 +15,9 @@ returns-in-Receive c d m s h =
     record {
       id = h.id;
       since = h.since;
+      wide = h.wide;
       noted = h.noted;
       mounted = freed.mounted;
       mode = subst (λ (x : ModeValue). ModeStands d w s x (Maintain (started c.args.now c.args.word))) (sym c.replace.ensures.after) (c.new.ensures.value, freed.free);
+      known = tt;
     }

@@ -1,5 +1,6 @@
-use Rattle.std.proofs.Common.{sym, subst, ◌∙◌}
+use Rattle.std.proofs.Common.{◌≤◌, Bool, sym, subst, ◌∙◌}
 use Rattle.dg_send.specs.Owed.{Owed}
+use Rattle.dg_frame.specs.Sizes.{known_images}
 use Rattle.dg_mote.specs.Hearing.{Rests}
 use Rattle.dg_mote.specs.Requests.{to_it}
 use Rattle.dg_mote.specs.Model.{Maintain}
@@ -14,4 +15,4 @@ returns-clause-rests c d m s timer is mode =
     let version = c.args.name.version in
     let page = c.args.name.page in
     subst (λ (o : Owed). Rests (to_it (Maintain timer) m s c.args.now i version page c.args.want) d s (record c.args.self.now { mode = value.Transmit i version page o }) (heard.Serves i page)) (sym c.new.ensures)
-    (serving_now d c.args.self.now m s timer i version page c.args.now c.args.want c.requires.range.first c.requires.some is mode (sym (c.can_serve.ensures d m s is) ∙ c.if-not-can_serve.false))
+    (serving_now d c.args.self.now m s timer i version page c.args.now c.args.want c.requires.range.first (subst (λ (w : Bool). i ≤ known_images w) is.wide c.requires.range.last) c.requires.some is mode (sym (c.can_serve.ensures d m s is) ∙ c.if-not-can_serve.false))

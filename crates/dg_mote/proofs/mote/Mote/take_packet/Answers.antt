@@ -1,4 +1,4 @@
-use Rattle.std.proofs.Common.{◌≡◌, ℕ, ◌<◌, ◌≤◌, cond, sym, ap, subst, ◌∙◌, arith}
+use Rattle.std.proofs.Common.{◌≡◌, ℕ, ◌<◌, ◌≤◌, List, cond, refl, sym, ap, subst, ◌∙◌, arith}
 use Rattle.std.specs.FinSet as set
 use Rattle.dg_nor.specs.Device.{Ran}
 use Rattle.dg_nor.specs.Trail.{resting}
@@ -6,11 +6,15 @@ use Rattle.dg_nor.proofs.DeviceLemmas.{OnErr_from}
 use Rattle.dg_nor.proofs.TrailLemmas.{last-resting, operations-resting}
 use Rattle.dg_slot.specs.Layout.{packets}
 use Rattle.dg_slot.specs.Jobs.{put_packet, page_from}
+use Rattle.dg_recv.specs.Reception.{Reception}
+use Rattle.dg_slot.specs.declared.states.PageJob.{PageJob}
+use Rattle.dg_volume.specs.Store.{Store}
 use Rattle.dg_volume.specs.Acts.{Stops}
-use Rattle.dg_mote.specs.Model.{Turn}
+use Rattle.dg_volume.specs.declared.volume.Volume.{Volume}
+use Rattle.dg_mote.specs.Model.{Mode, Receive, NamesKnown, Receiving, Turn}
 use Rattle.dg_mote.specs.Adverts.{dropped}
 use Rattle.dg_mote.specs.Packets.{is_wanted, takes}
-use Rattle.dg_mote.specs.Motes.{Done}
+use Rattle.dg_mote.specs.Motes.{ModeStands, Done}
 use Rattle.dg_mote.specs.Hearing.{page_ends}
 use Rattle.dg_mote.specs.declared.mote.Heard.{Heard}
 use Rattle.dg_mote.specs.declared.mote.Heard.TheVariants as heard
@@ -20,6 +24,20 @@ use Rattle.dg_mote.specs.declared.mote.Mode.TheVariants as value
 use Rattle.dg_mote.proofs.ServeLemmas.{chosen, passed, dropped_done, if_ok, on_err, not_dropped}
 use Rattle.dg_mote.proofs.FillLemmas.{asks_this, in_slot, put_stops, takes_stopped, takes_part, takes_whole, took_done, made_whole, ends_begin, done_behind, stops_behind}
 use Rattle.dg_mote.proofs.mote.Mote.take_packet.Goals as goal
+
+-- a mote that asks for a page has this mode
+must_receive : (d : List ℕ) (v : Volume) (s : Store) (x : ModeValue) (r : Receiving) → ModeStands d v s x (Receive r) → ((version server : ℕ) (asking : Reception) (job : PageJob) → x ≡ value.Receive version server asking job → ⊥) → ⊥
+must_receive d v s (value.Maintain timer) r stands other = stands
+must_receive d v s (value.Receive version server asking job) r stands other = other version server asking job refl
+must_receive d v s (value.Transmit image version page owed) r stands other = stands
+
+pub returns-in_default : goal.returns-in_default
+returns-in_default g c =
+    let a = g.N.Nor.device c.args.nor.now in
+    let v = c.args.self.now in
+    let s = c.requires.mote.1 in
+    let stands = subst (λ (y : Mode). ModeStands a.image v.volume s v.mode y) c.requires.mote.4 c.requires.mote.3.mode in
+    absurd (must_receive a.image v.volume s v.mode c.requires.mote.2 stands c.in_default.not-Receive)
 
 pub returns-then-not-is_wanted-clause-done : goal.returns-then-not-is_wanted-clause-done
 returns-then-not-is_wanted-clause-done g c m s r is mode =
@@ -65,7 +83,7 @@ returns-then-from-lt-PACKETS-clause-done g c m s r is mode =
     let missing = c.is_wanted.ensures.missing c.if-not-is_wanted.false in
     let count : c.count.result ≡ set.len new.got = c.count.ensures.value ∙ ap set.len c.got.ensures.value in
     let less : set.len new.got < packets = omega (arith, count, c.from.ensures, c.if-from-lt-PACKETS.true) in
-    let done = took_done a b v m s r x.version x.server c.args.now q x.asking new x.job c.put.new.job bytes known is this inside missing c.in_ok-put.ensures.asking c.put.ensures.same_slot (λ h ps j. c.in_ok-put.ensures.put h ps j) c.in_ok-put.ensures.ran less in
+    let done = took_done a b v m s r x.version x.server c.args.now q x.asking new x.job c.put.new.job bytes known (subst (NamesKnown m.wide) mode is.known) is this inside missing c.in_ok-put.ensures.asking c.put.ensures.same_slot (λ h ps j. c.in_ok-put.ensures.put h ps j) c.in_ok-put.ensures.ran less in
     let full = takes m r s c.args.now c.args.word q bytes in
     let after : Mote = record v { mode = value.Receive x.version x.server new c.put.new.job } in
     subst (λ (t : Turn Heard). Done t a b after (heard.Took q)) (sym (chosen (is_wanted r n.image n.version n.page q) full (dropped m s) e))

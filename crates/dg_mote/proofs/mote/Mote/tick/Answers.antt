@@ -52,11 +52,11 @@ returns-clause-stopped g c = on_err c.tick_mode.result (λ stopped m s h.
 
 pub returns-then-clears-clause-read : goal.returns-then-clears-clause-read
 returns-then-clears-clause-read g c m s h =
-    subst (λ (t : Turn Did). IfSome t.sent IsRead) (sym (tick_clears m s c.args.now c.args.word (sym (c.clears.ensures m s h.since h.mounted.tells) ∙ c.if-clears.true))) tt
+    subst (λ (t : Turn Did). IfSome t.sent (IsRead m.wide)) (sym (tick_clears m s c.args.now c.args.word (sym (c.clears.ensures m s h.since h.mounted.tells) ∙ c.if-clears.true))) tt
 
 pub returns-clause-read : goal.returns-clause-read
 returns-clause-read g c = on_ok c.tick_mode.result (λ read m s h.
-    subst (λ (t : Turn Did). IfSome t.sent IsRead) (sym (tick_acts m s c.args.now c.args.word (sym (c.clears.ensures m s h.since h.mounted.tells) ∙ c.if-clears.false))) (read m s h)) c.tick_mode.ensures.read
+    subst (λ (t : Turn Did). IfSome t.sent (IsRead m.wide)) (sym (tick_acts m s c.args.now c.args.word (sym (c.clears.ensures m s h.since h.mounted.tells) ∙ c.if-clears.false))) (read m s h)) c.tick_mode.ensures.read
 
 pub returns-then-clears-clause-consistent : goal.returns-then-clears-clause-consistent
 returns-then-clears-clause-consistent g c = λ golden.

@@ -9,7 +9,7 @@ use Rattle.dg_mote.specs.Motes.{Done}
 use Rattle.dg_mote.specs.declared.mote.Heard.{Heard}
 use Rattle.dg_mote.proofs.ServeLemmas.{if_ok, on_err}
 use Rattle.dg_mote.proofs.FillLemmas.{done_behind, stops_behind, stops_before}
-use Rattle.dg_mote.proofs.AskLemmas.{follow_begins, heed_mote, advert_is}
+use Rattle.dg_mote.proofs.AskLemmas.{follow_begins, heed_mote, advert_is, said_same}
 use Rattle.dg_mote.proofs.mote.Mote.weigh_advert.Goals as goal
 
 pub returns-in_err-heed-clause-stopped : goal.returns-in_err-heed-clause-stopped
@@ -18,7 +18,7 @@ returns-in_err-heed-clause-stopped g c = OnErr_from c.from_residual.result (λ m
     let b = g.N.Nor.device c.heed.new.nor in
     let t = heed_trail s c.args.order.now in
     let rest = by_ahead (ahead_in c.args.entries.now (last t)) m timer (last t) c.args.now c.args.word c.args.source c.args.entries.now c.would_say-same.result in
-    subst (λ (x : Turn Heard). Stops x.trail a b) (sym (advert_is m timer s c.args.now c.args.word c.args.source c.args.entries.now c.args.order.now c.would_say-same.result (c.would_say-same.ensures s is.mounted.tells)))
+    subst (λ (x : Turn Heard). Stops x.trail a b) (sym (advert_is m timer s c.args.now c.args.word c.args.source c.args.entries.now c.args.order.now c.would_say-same.result (said_same c.would_say-same.result c.args.entries.now c.args.order.now c.args.self.now.wide m s is.wide (c.would_say-same.ensures s is.mounted.tells))))
     (stops_before t rest a b (follow_begins c.trails_begin.ensures.take (ahead_in c.args.entries.now (last t)) m timer (last t) c.args.now c.args.word c.args.source c.args.entries.now c.would_say-same.result) (c.in_err-heed.ensures.stopped s is.mounted)))
 
 pub follow-requires-clause-mote : goal.follow-requires-clause-mote
@@ -42,7 +42,7 @@ returns-clause-done g c = if_ok c.follow.result c.follow.ensures.done (λ answer
     let acted = c.in_ok-heed.ensures.acted s is.mounted in
     let now_is = heed_mote a b c.args.self.now c.heed.new.volume m s timer c.args.order.now is mode acted c.heed.ensures.lent in
     let begins = follow_begins c.trails_begin.ensures.take (ahead_in c.args.entries.now (last t)) m timer (last t) c.args.now c.args.word c.args.source c.args.entries.now c.would_say-same.result in
-    subst (λ (x : Turn Heard). Done x a d c.follow.new.self answer) (sym (advert_is m timer s c.args.now c.args.word c.args.source c.args.entries.now c.args.order.now c.would_say-same.result (c.would_say-same.ensures s is.mounted.tells)))
+    subst (λ (x : Turn Heard). Done x a d c.follow.new.self answer) (sym (advert_is m timer s c.args.now c.args.word c.args.source c.args.entries.now c.args.order.now c.would_say-same.result (said_same c.would_say-same.result c.args.entries.now c.args.order.now c.args.self.now.wide m s is.wide (c.would_say-same.ensures s is.mounted.tells))))
     (done_behind t rest a b d c.follow.new.self answer (sym begins.first) acted.ran (done m (last t) timer now_is mode)))
 
 pub returns-clause-stopped : goal.returns-clause-stopped
@@ -55,5 +55,5 @@ returns-clause-stopped g c = on_err c.follow.result c.follow.ensures.stopped (λ
     let acted = c.in_ok-heed.ensures.acted s is.mounted in
     let now_is = heed_mote a b c.args.self.now c.heed.new.volume m s timer c.args.order.now is mode acted c.heed.ensures.lent in
     let begins = follow_begins c.trails_begin.ensures.take (ahead_in c.args.entries.now (last t)) m timer (last t) c.args.now c.args.word c.args.source c.args.entries.now c.would_say-same.result in
-    subst (λ (x : Turn Heard). Stops x.trail a d) (sym (advert_is m timer s c.args.now c.args.word c.args.source c.args.entries.now c.args.order.now c.would_say-same.result (c.would_say-same.ensures s is.mounted.tells)))
+    subst (λ (x : Turn Heard). Stops x.trail a d) (sym (advert_is m timer s c.args.now c.args.word c.args.source c.args.entries.now c.args.order.now c.would_say-same.result (said_same c.would_say-same.result c.args.entries.now c.args.order.now c.args.self.now.wide m s is.wide (c.would_say-same.ensures s is.mounted.tells))))
     (stops_behind t rest a b d (sym begins.first) acted.ran (stopped m (last t) timer now_is mode)))

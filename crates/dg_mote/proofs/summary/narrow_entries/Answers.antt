@@ -1,0 +1,11 @@
+use Rattle.std.proofs.Common.{lit<, ◌∙◌}
+use Rattle.dg_volume.specs.Store.{held}
+use Rattle.dg_mote.proofs.SayLemmas.{narrow_same}
+use Rattle.dg_mote.proofs.summary.narrow_entries.Goals as goal
+
+pub returns : goal.returns
+returns c s tells =
+    narrow_same s _ _ _
+    (c.entry_of.ensures (held s 1) (c.kept.ensures ∙ tells.kept 1 (lit< tt) (λ h. h)))
+    (c.entry_of-2.ensures (held s 2) (c.kept-2.ensures ∙ tells.kept 2 (lit< tt) (λ h. h)))
+    (c.entry_of-3.ensures (held s 3) (c.kept-3.ensures ∙ tells.kept 3 (lit< tt) (λ h. h)))
