@@ -3,7 +3,8 @@ mod BlockLemmas
 mod CellLemmas
 mod WindowLemmas
 mod FileLemmas
-mod PassedLemmas
+mod LongLemmas
+mod StreamLemmas
 mod WriterLemmas
 mod ReadBackLemmas
 mod LayLemmas

@@ -13,7 +13,7 @@ use Rattle.dg_ihex.specs.Records.{record_of, typed_record, data_record, linear_r
 use Rattle.dg_ihex.specs.Files.{base_of, blocks_of, has_end, cause_of, records_of, file_from, hex_file}
 use Rattle.dg_ihex.specs.Written.{base_line, base_lines, data_line, end_line, line_of, lines_at, piece_at, pieces_of, written_file, written_lines}
 use Rattle.dg_ihex.proofs.FileLemmas.{base_of-more, blocks_next, blocks_same, data_block, end_same, end_now, no_byte, record_line, span_fits, with_block}
-use Rattle.dg_ihex.proofs.PassedLemmas.{file_more}
+use Rattle.dg_ihex.proofs.StreamLemmas.{file_more}
 use Rattle.dg_ihex.proofs.ReadBackLemmas.{FitsLine, IsByte, IsLine, line_back, line_is, lines_back}
 use Rattle.dg_ihex.proofs.WriterLemmas.{at_base, inside_segment, first_piece}
 use Rattle.dg_ihex.proofs.LayLemmas.{Lays, lays_nothing, lays_more, lays_free, lays_within, lays_image}

@@ -7,5 +7,6 @@ pub mod Windows
 pub mod Files
 pub mod Reading
 pub mod Readers
+pub mod Streams
 pub mod Written
 pub mod Laws

@@ -1,11 +1,11 @@
 -- The state of a reader.
-use Rattle.std.specs.Prelude.{◌≡◌, ◌≢◌, ◌+◌, ℕ, List, length, Result, Ok, Err}
-use Rattle.std.specs.Str.Lines.{lines}
+use Rattle.std.specs.Prelude.{◌≡◌, ◌≢◌, ◌+◌, ℕ, List, length, None, Result, Ok, Err}
 use Rattle.dg_ihex.specs.declared.faults.HexFileFault.{HexFileFault}
 use Rattle.dg_ihex.specs.declared.faults.HexCause.TheVariants.{Memory}
+use Rattle.dg_ihex.specs.declared.reader.Numbered.{Numbered}
 use Rattle.dg_ihex.specs.declared.reader.Reader.{Reader}
 use Rattle.dg_ihex.specs.declared.record.Record.{Record}
-use Rattle.dg_ihex.specs.Files.{base_of, blocks_of, has_end, ended, hex_file, records_of}
+use Rattle.dg_ihex.specs.Files.{base_of, blocks_of, cause_of, has_end, records_of, unless}
 use Rattle.dg_ihex.specs.Windows.{Holds}
 
 -- a reader stands behind records
@@ -14,7 +14,13 @@ pub record Stands (reader : Reader) (before : List Record) : Type 0 where
   pub has_ended : reader.has_ended ≡ has_end before
   pub window : Holds reader.window (blocks_of before)
 
--- what the lines of a file gave: they have no fault, and the reader stands behind them; or their first fault
-abbrev pub TakesLines : List ℕ → Result ℕ HexFileFault → Reader → Type 0
-TakesLines bytes (Ok line) reader = (line ≡ length (lines bytes) + 1) × (hex_file bytes ≡ ended (lines bytes)) × Stands reader (records_of (lines bytes))
-TakesLines bytes (Err fault) reader = (fault.cause ≢ Memory → hex_file bytes ≡ Err fault) × (fault.cause ≡ Memory → fault.line ≡ 0)
+-- a reader stands behind lines
+pub record Behind (numbered : Numbered) (before : List (List ℕ)) : Type 0 where
+  pub number : numbered.line ≡ length before + 1
+  pub stands : Stands numbered.reader (records_of before)
+
+-- what was told of a line behind others: nothing is wrong, and a fact holds behind it; or this is what a file gives that goes on with it
+abbrev pub Judges : {A : Type 0} → Result A HexFileFault → List (List ℕ) → List ℕ → (After : Type 0) → Type 0
+Judges (Ok x) before text After = (cause_of before text ≡ None) × After
+Judges (Err fault) before text After =
+    (fault.cause ≢ Memory → (later : Result (List ℕ) HexFileFault) → unless (cause_of before text) before later ≡ Err fault) × (fault.cause ≡ Memory → fault.line ≡ 0)

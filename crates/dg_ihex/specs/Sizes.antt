@@ -21,6 +21,10 @@ segment = 65536
 abbrev pub record_fields : ℕ
 record_fields = 5
 
+-- the bytes of the line of a record, at most: `:`, and two digits for each of 255 data bytes and the others
+abbrev pub longest_record : ℕ
+longest_record = 521
+
 -- the data bytes of a record that is written, at most
 abbrev pub piece_bytes : ℕ
 piece_bytes = 16

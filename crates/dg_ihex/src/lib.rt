@@ -6,6 +6,7 @@ mod faults;
 mod laws;
 mod reader;
 mod record;
+mod stream;
 mod window;
 mod writer;
 
@@ -14,7 +15,8 @@ pub use laws::{
     a_refused_file_has_its_first_fault, a_written_file_is_read_again, an_image_holds_what_is_given,
     the_numbers_are_these,
 };
-pub use reader::{MOST_TEXT, read_ihex};
+pub use reader::MOST_TEXT;
+pub use stream::{HexReader, read_ihex};
 pub use window::MOST_IMAGE;
 pub use writer::write_ihex;
 

@@ -1,6 +1,7 @@
-//! Reads HEX files.
-ghost use Rattle.std.specs.Prelude.{◌≡◌, ℕ, ◌≤◌, ◌≢◌, List, [], ◌∷◌, ◌++◌, length, IfOk, IfErr, false, ⊤};
-ghost use Rattle.dg_ihex.specs.Files.{cause_behind, cause_of, first_cause, hex_file, records_of};
+//! Reads the records and the lines of HEX files.
+ghost use Rattle.std.specs.Prelude.{◌≡◌, ℕ, ◌≤◌, ◌≢◌, List, [], ◌∷◌, ◌++◌, length, take, IfErr, false, ⊤};
+ghost use Rattle.std.specs.Str.Lines.{strip_carriage_return};
+ghost use Rattle.dg_ihex.specs.Files.{cause_behind, cause_of, ended, first_cause, records_of};
 ghost use Rattle.dg_ihex.specs.Reading.{ReadsFile, Steps};
 ghost use Rattle.dg_ihex.specs.Causes.{out_of_memory};
 ghost use Rattle.dg_ihex.specs.Sizes.{most_text, highest_base};
@@ -8,7 +9,7 @@ ghost use Rattle.dg_ihex.specs.Sizes.{most_text, highest_base};
 use crate::faults::{HexCause, HexFileFault};
 use crate::record::{Record, SEGMENT, read_record};
 use crate::window::{MOST_IMAGE, Window};
-use dg_base::{MOST_INPUT, next_line};
+use dg_base::MOST_INPUT;
 use std::alloc::Global;
 
 /// The most bytes of a HEX file that is read.
@@ -31,7 +32,7 @@ pub struct Reader {
 }
 
 impl Reader {
-    ghost use Rattle.dg_ihex.specs.Readers.{Stands, TakesLines};
+    ghost use Rattle.dg_ihex.specs.Readers.{Stands};
     ghost use Rattle.dg_ihex.specs.declared.record.Record.{Record};
     ghost use Rattle.dg_ihex.specs.declared.record.Record.TheVariants as records;
 
@@ -135,24 +136,74 @@ impl Reader {
         let record = read_record(alloc, text)?;
         self.take(record)
     }
+}
 
-    // The lines of a file, each with its number.
-    fn take_lines(&mut self, alloc: Global, bytes: &[u8]) -> Result<u32, HexFileFault>
-        requires room { length bytes.now ≤ most_text }
-        requires first { Stands self.old [] }
-        ensures { TakesLines bytes.now result self.new }
+/// Reads lines, and counts them.
+#[derive(Debug, Drop)]
+pub struct Numbered {
+    reader: Reader,
+    // The number of the next line, counted from 1.
+    line: u32,
+}
+
+impl Numbered {
+    ghost use Rattle.dg_ihex.specs.Readers.{Behind, Judges};
+
+    /// A reader before the first line.
+    pub fn new(alloc: Global) -> Numbered
+        ensures { Behind result [] }
     {
-        let mut from = 0;
-        let mut line = 1;
-        while from < bytes.len() {
-            let (end, next) = next_line(bytes, from);
-            if let Err(cause) = self.take_line(alloc, &bytes[from..end]) {
-                return Err(fault_at(line, cause));
-            }
-            line += 1;
-            from = next;
+        Numbered {
+            reader: Reader::new(alloc),
+            line: 1,
         }
-        Ok(line)
+    }
+
+    /// The next line.
+    pub fn take_line(&mut self, alloc: Global, text: &[u8]) -> Result<(), HexFileFault>
+        ensures { (before : List (List ℕ)) → Behind self.old before → length before ≤ most_text
+            → Judges result before text.now (Behind self.new (before ++ text.now ∷ [])) }
+    {
+        if let Err(cause) = self.reader.take_line(alloc, text) {
+            return Err(fault_at(self.line, cause));
+        }
+        self.line = self.line.saturating_add(1);
+        Ok(())
+    }
+
+    /// The next line as it stands before its LF.
+    pub fn take_ended(&mut self, alloc: Global, line: &[u8]) -> Result<(), HexFileFault>
+        ensures { (before : List (List ℕ)) → Behind self.old before → length before ≤ most_text
+            → Judges result before (strip_carriage_return line.now) (Behind self.new (before ++ strip_carriage_return line.now ∷ [])) }
+    {
+        self.take_line(alloc, &line[..text_end(line)])
+    }
+
+    /// The image behind the last line.
+    pub fn image(&self, alloc: Global) -> Result<Vec<u8>, HexFileFault>
+        ensures read { (before : List (List ℕ)) → Behind self.now before → ReadsFile (λ image. image.items) result (ended before) }
+        ensures memory { IfErr result (λ fault. fault.cause ≡ HexCause.Memory → fault.line ≡ 0) }
+    {
+        if !self.reader.has_ended {
+            return Err(fault_at(self.line, HexCause::End));
+        }
+        Ok(self.reader.window.image(alloc)?)
+    }
+}
+
+// The end of the text of a line, less one CR at its end.
+fn text_end(line: &[u8]) -> usize
+    ensures within { result ≤ length line.now }
+    ensures text { take result line.now ≡ strip_carriage_return line.now }
+{
+    if line.is_empty() {
+        return 0;
+    }
+    let last = line.len() - 1;
+    if line[last] == b'\r' {
+        last
+    } else {
+        line.len()
     }
 }
 
@@ -165,23 +216,4 @@ fn fault_at(line: u32, cause: HexCause) -> HexFileFault
         return HexFileFault { line: 0, cause };
     }
     HexFileFault { line, cause }
-}
-
-/// The image of a HEX file.
-///
-/// A line ends at LF, or at CR and LF, and a blank line says nothing. The image begins at the lowest
-/// address that a record gives a byte, and ends at the highest; what lies between and is not given
-/// is 0xFF. Where something is wrong, the first line with something wrong is told, and what is first
-/// wrong there.
-pub fn read_ihex(alloc: Global, bytes: &[u8]) -> Result<Vec<u8>, HexFileFault>
-    requires { length bytes.now ≤ most_text }
-    ensures read { ReadsFile (λ image. image.items) result (hex_file bytes.now) }
-    ensures memory { IfErr result (λ fault. fault.cause ≡ HexCause.Memory → fault.line ≡ 0) }
-{
-    let mut reader = Reader::new(alloc);
-    let line = reader.take_lines(alloc, bytes)?;
-    if !reader.has_ended {
-        return Err(fault_at(line, HexCause::End));
-    }
-    Ok(reader.window.image(alloc)?)
 }

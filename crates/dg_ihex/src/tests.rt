@@ -1,4 +1,6 @@
 //! HEX files by hand, from the rules of the format.
+ghost use Rattle.std.specs.Prelude.{◌<◌};
+
 use super::*;
 use std::alloc::{AllocError, Global};
 
@@ -119,6 +121,22 @@ const IMAGES: [(&str, &[u8]); 10] = [
     ),
 ];
 
+// Lines that are too long for a record: their first byte, a number of digits, what stands behind these, and the cause.
+const LONG_LINES: [(u8, usize, &str, HexCause); 12] = [
+    (b':', 522, "\n", HexCause::Count),
+    (b':', 1100, "\n", HexCause::Count),
+    (b':', 1101, "\n", HexCause::Hex),
+    (b':', 1100, "\r\n", HexCause::Count),
+    (b':', 1101, "\r\n", HexCause::Hex),
+    (b':', 1100, "\r0\n", HexCause::Hex),
+    (b':', 1100, "\r", HexCause::Hex),
+    (b':', 1100, "", HexCause::Count),
+    (b':', 2000, "g00000\n", HexCause::Hex),
+    (b':', 2000, "00\n:00000001FF\n", HexCause::Count),
+    (b'x', 2000, "\n", HexCause::Start),
+    (b'\r', 2000, "\n", HexCause::Start),
+];
+
 fn read(alloc: Global, text: &[u8]) -> Result<Vec<u8>, HexFileFault> {
     if text.len() > MOST_TEXT {
         return Ok(Vec::new(alloc));
@@ -131,6 +149,23 @@ fn written(alloc: Global, image: &[u8]) -> Result<Vec<u8>, AllocError> {
         return Ok(Vec::new(alloc));
     }
     write_ihex(alloc, image)
+}
+
+fn in_pieces(alloc: Global, text: &[u8], size: usize) -> Result<Vec<u8>, HexFileFault>
+    requires { 0 < size }
+{
+    let mut reader = HexReader::new(alloc);
+    for piece in text.chunks(size) {
+        reader.feed(alloc, piece)?;
+    }
+    reader.finish(alloc)
+}
+
+fn long_line(alloc: Global, first: u8, count: usize, rest: &str) -> Result<Vec<u8>, AllocError> {
+    let mut line = vec![in alloc; b'0'; count]?;
+    line.insert(0, first)?;
+    line.extend_from_slice(rest.as_bytes())?;
+    Ok(line)
 }
 
 fn zeros(alloc: Global, count: usize) -> Result<Vec<u8>, AllocError> {
@@ -175,5 +210,60 @@ fn written_files(rt: HostRuntime) -> Result<(), AllocError> {
         read(alloc, &long).ok().map(|image| image.len()),
         Some(131_073)
     );
+    Ok(())
+}
+
+#[test]
+fn pieces(rt: HostRuntime) -> Result<(), HexFileFault> {
+    let alloc = rt.alloc();
+    for (text, line, cause) in FAULTS {
+        let wanted = Some(HexFileFault { line, cause });
+        assert_eq!(rt;
+            in_pieces(alloc, text.as_bytes(), 1).err(),
+            wanted,
+            "{text}"
+        );
+        assert_eq!(rt;
+            in_pieces(alloc, text.as_bytes(), 7).err(),
+            wanted,
+            "{text}"
+        );
+    }
+    for (text, image) in IMAGES {
+        let read = in_pieces(alloc, text.as_bytes(), 3)?;
+        assert_eq!(rt; read.as_slice(), image, "{text}");
+    }
+    Ok(())
+}
+
+#[test]
+fn long_lines(rt: HostRuntime) -> Result<(), AllocError> {
+    let alloc = rt.alloc();
+    for (first, count, rest, cause) in LONG_LINES {
+        let text = long_line(alloc, first, count, rest)?;
+        let wanted = Some(HexFileFault { line: 1, cause });
+        assert_eq!(rt; read(alloc, &text).err(), wanted, "{rest}");
+        assert_eq!(rt; in_pieces(alloc, &text, 7).err(), wanted, "{rest}");
+        assert_eq!(rt; in_pieces(alloc, &text, 1000).err(), wanted, "{rest}");
+    }
+    Ok(())
+}
+
+// A line of nearly 16 MiB, of which no more than a piece is kept.
+#[test]
+fn the_longest_line(rt: HostRuntime) -> Result<(), AllocError> {
+    let alloc = rt.alloc();
+    let piece = long_line(alloc, b'0', 65_535, "")?;
+    let mut reader = HexReader::new(alloc);
+    reader.feed(alloc, b":")?;
+    for _ in 0..255 {
+        reader.feed(alloc, &piece)?;
+    }
+    assert_eq!(rt; reader.count(), 16_711_681);
+    let fault = HexFileFault {
+        line: 1,
+        cause: HexCause::Count,
+    };
+    assert_eq!(rt; reader.finish(alloc).err(), Some(fault));
     Ok(())
 }

@@ -1,14 +1,18 @@
-//! The input of a command, read as far as it is used.
+//! The input of a command, read by pieces and as far as it is used.
 #![tactic(auto)]
 
-ghost use Rattle.std.specs.Prelude.{◌≡◌, ◌≢◌, ◌⊎◌, ℕ, ◌+◌, ◌<◌, ◌≤◌, List, ◌++◌, length, vec_len, IfOk, OnOk};
+ghost use Rattle.std.specs.Prelude.{◌≡◌, ◌≢◌, ◌⊎◌, ℕ, ◌+◌, ◌<◌, ◌≤◌, List, ◌++◌, length, IfOk, OnOk};
 ghost use Rattle.dg_words.specs.Counts.{Rose};
 ghost use Rattle.dg_base.specs.Outside.{Takes, AtEnd};
-ghost use Rattle.dg_script.specs.Sizes.{most_used_bytes};
+ghost use Rattle.dg_base.specs.Sizes.{most_input};
+ghost use Rattle.dg_ihex.specs.Streams.{Fed};
 
-use dg_base::{ReadFailed, Source};
-use dg_script::USED;
+mod whole;
+
+use dg_base::{MOST_INPUT, ReadFailed, Source};
+use dg_ihex::HexReader;
 use std::alloc::{AllocError, Global};
+pub use whole::read_whole;
 
 /// Bytes that are asked for at once.
 const PIECE: usize = 65_536;
@@ -20,26 +24,27 @@ pub enum ReadStop {
     ReadFault,
 }
 
-// Reads a piece behind the bytes, up to one byte past those that are used, and answers how many
-// bytes came.
+// Gives a reader the next piece, of at most so many bytes, and answers how many came.
 fn read_piece<S: Source>(
+    alloc: Global,
     source: &mut S,
     piece: &mut [u8],
-    bytes: &mut Vec<u8>,
+    most: usize,
+    reader: &mut HexReader,
 ) -> Result<usize, ReadStop>
     requires piece { 0 < length piece.old }
-    requires room { vec_len bytes.old ≤ most_used_bytes }
-    ensures taken { (more : List ℕ) × Takes (S.left source.old) (S.left source.new) more × (vec_len bytes.old + length more ≤ most_used_bytes + 1)
-        × IfOk result (λ n. (n ≡ length more) × (bytes.new.items ≡ bytes.old.items ++ more)) }
-    ensures bound { OnOk result (vec_len bytes.new ≤ most_used_bytes + 1) }
+    requires some { 0 < most }
+    ensures taken { (more : List ℕ) × Takes (S.left source.old) (S.left source.new) more × (length more ≤ most)
+        × IfOk result (λ n. n ≡ length more)
+        × ((input : List ℕ) → Fed reader.old input → length input + most ≤ most_input + 1 → OnOk result (Fed reader.new (input ++ more))) }
     ensures ended { result ≡ Ok 0 → AtEnd (S.left source.new) }
     ensures counts { S.faults source.old ≤ S.faults source.new }
     ensures failed { result ≡ Err ReadStop.ReadFault → Rose (S.faults source.old) (S.faults source.new) }
     ensures unfailed { result ≢ Err ReadStop.ReadFault → S.faults source.new ≡ S.faults source.old }
 {
-    let most = piece.len().min(USED + 1 - bytes.len());
+    let most = piece.len().min(most);
     match source.read(&mut piece[..most]) {
-        Ok(count) => match bytes.extend_from_slice(&piece[..count]) {
+        Ok(count) => match reader.feed(alloc, &piece[..count]) {
             Ok(()) => Ok(count),
             Err(AllocError) => Err(ReadStop::Memory),
         },
@@ -52,32 +57,33 @@ fn read_pieces<S: Source>(
     alloc: Global,
     source: &mut S,
     piece: &mut [u8],
-) -> Result<Vec<u8>, ReadStop>
+) -> Result<HexReader, ReadStop>
     requires { 0 < length piece.old }
-    ensures taken { (bytes : List ℕ) × Takes (S.left source.old) (S.left source.new) bytes × (length bytes ≤ most_used_bytes + 1) × IfOk result (λ v. v.items ≡ bytes) }
-    ensures ended { IfOk result (λ v. AtEnd (S.left source.new) ⊎ (most_used_bytes < length v.items)) }
-    ensures bound { IfOk result (λ v. length v.items ≤ most_used_bytes + 1) }
+    ensures taken { (bytes : List ℕ) × Takes (S.left source.old) (S.left source.new) bytes × (length bytes ≤ most_input + 1)
+        × IfOk result (λ reader. Fed reader bytes × (AtEnd (S.left source.new) ⊎ (most_input < length bytes))) }
     ensures counts { S.faults source.old ≤ S.faults source.new }
     ensures failed { result ≡ Err ReadStop.ReadFault → Rose (S.faults source.old) (S.faults source.new) }
     ensures unfailed { result ≢ Err ReadStop.ReadFault → S.faults source.new ≡ S.faults source.old }
 {
-    let mut bytes = Vec::new(alloc);
-    while bytes.len() <= USED {
-        if read_piece(source, piece, &mut bytes)? == 0 {
-            break;
+    let mut reader = HexReader::new(alloc);
+    let mut count = 0;
+    while count <= MOST_INPUT {
+        let came = read_piece(alloc, source, piece, MOST_INPUT + 1 - count, &mut reader)?;
+        if came == 0 {
+            return Ok(reader);
         }
+        count += came;
     }
-    Ok(bytes)
+    Ok(reader)
 }
 
-/// Reads an input to its end, or one byte past those that are used.
+/// Gives a reader of HEX files an input to its end, or one byte past those that are used.
 ///
 /// Whatever it answers, some bytes were taken from the source, in their order and no more than that; after Ok they
-/// are those of the answer.
-pub fn read_input<S: Source>(alloc: Global, source: &mut S) -> Result<Vec<u8>, ReadStop>
-    ensures taken { (bytes : List ℕ) × Takes (S.left source.old) (S.left source.new) bytes × (length bytes ≤ most_used_bytes + 1) × IfOk result (λ v. v.items ≡ bytes) }
-    ensures ended { IfOk result (λ v. AtEnd (S.left source.new) ⊎ (most_used_bytes < length v.items)) }
-    ensures bound { IfOk result (λ v. length v.items ≤ most_used_bytes + 1) }
+/// are those that the reader was given.
+pub fn read_input<S: Source>(alloc: Global, source: &mut S) -> Result<HexReader, ReadStop>
+    ensures taken { (bytes : List ℕ) × Takes (S.left source.old) (S.left source.new) bytes × (length bytes ≤ most_input + 1)
+        × IfOk result (λ reader. Fed reader bytes × (AtEnd (S.left source.new) ⊎ (most_input < length bytes))) }
     ensures counts { S.faults source.old ≤ S.faults source.new }
     ensures failed { result ≡ Err ReadStop.ReadFault → Rose (S.faults source.old) (S.faults source.new) }
     ensures unfailed { result ≢ Err ReadStop.ReadFault → S.faults source.new ≡ S.faults source.old }
