@@ -37,7 +37,7 @@ use Rattle.dg_mote.specs.Timely.{Timely}
 use Rattle.dg_mote.specs.Well.{StoreIsWell, IsWell, TurnIsWell, SendsHonest}
 use Rattle.dg_mote.specs.Speaking.{OrderFits, Speaks, TurnSpeaks, IsSaid}
 use Rattle.dg_rules.specs.Sizes.{most_motes}
-use Rattle.dg_rules.specs.World.{World, Site, Running, Sent, site, store_at, counted, off_site}
+use Rattle.dg_rules.specs.World.{World, Site, Running, Sent, site, store_at, wide_at, counted, off_site}
 use Rattle.dg_rules.specs.Events.{Deed, Does, Refuses, Goes, trail_of, does, mote_of, dt_of, key_of, reloaded}
 use Rattle.dg_rules.specs.Steps.{blows, and_sent, StepDoes, WorldStep, DeclareStep, declared_as}
 use Rattle.dg_rules.specs.Ranges.{EventFits, StepFits}
@@ -64,16 +64,17 @@ pub record VolumeLaws : Type 0 where
 -- what is known of a mote and of frames
 pub record MoteLaws : Type 0 where
   pub restarts : RestartLaws
-  pub begins : (table : List Row) (s : Store) (id now word : ℕ) → StoreIsWell table s → IsWell table (begun id now word) s now
+  pub begins : (table : List Row) (s : Store) (id now word : ℕ) (wide : Bool) → StoreIsWell table s → IsWell table (begun id wide now word) s now
   pub later : (table : List Row) (m : MoteState) (s : Store) (now then : ℕ) → now ≤ then → IsWell table m s now → IsWell table m s then
   pub reloads : (table : List Row) (m : MoteState) (s : Store) (now word : ℕ) → Timely m now → StoreIsWell table s → IsWell table (maintains m now word) s now
   pub ticks : (table : List Row) (m : MoteState) (s : Store) (now word : ℕ) → IsWell table m s now → TurnIsWell table (tick_of m s now word) now
   pub hears : (table : List Row) (m : MoteState) (s : Store) (now word : ℕ) (bytes : List ℕ) → IsTable table → IsHonest table bytes → IsWell table m s now → TurnIsWell table (heard_of m s now word bytes) now
-  pub says : (table : List Row) (m : MoteState) (s : Store) (now word : ℕ) → IsTable table → IsWell table m s now → Speaks m s → IfSome (tick_of m s now word).sent (IsSaid m.id)
-  pub speaks_first : (s : Store) (id now word : ℕ) → id < 2 ^ 16 → OrderFits s.order → Speaks (begun id now word) s
-  pub speaks_ticked : (m : MoteState) (s : Store) (now word : ℕ) → Speaks m s → TurnSpeaks m.id (tick_of m s now word)
-  pub speaks_heard : (m : MoteState) (s : Store) (now word : ℕ) (bytes : List ℕ) → IfOk (message_of bytes false) FitsTypes → Speaks m s → TurnSpeaks m.id (heard_of m s now word bytes)
-  pub bytes_fit : (b : List ℕ) (m : Message) → AreBytes b → message_of b false ≡ Ok m → FitsTypes m
+  pub says : (table : List Row) (m : MoteState) (s : Store) (now word : ℕ) → IsTable table → IsWell table m s now → Speaks m s → IfSome (tick_of m s now word).sent (IsSaid m.id m.wide)
+  pub speaks_first : (s : Store) (id now word : ℕ) (wide : Bool) → id < 2 ^ 16 → OrderFits s.order → Speaks (begun id wide now word) s
+  pub speaks_ticked : (m : MoteState) (s : Store) (now word : ℕ) → Speaks m s → TurnSpeaks m.id m.wide (tick_of m s now word)
+  pub speaks_heard : (m : MoteState) (s : Store) (now word : ℕ) (bytes : List ℕ) → IfOk (message_of bytes m.wide) FitsTypes → Speaks m s → TurnSpeaks m.id m.wide (heard_of m s now word bytes)
+  pub bytes_fit : (b : List ℕ) (wide : Bool) (m : Message) → AreBytes b → message_of b wide ≡ Ok m → FitsTypes m
+  pub wider : (b : List ℕ) (m : Message) → message_of b false ≡ Ok m → message_of b true ≡ Ok m
 
 pub record Laws : Type 0 where
   pub volume : VolumeLaws
@@ -125,7 +126,7 @@ pub record AgreesDeed (w : World) (m dt : ℕ) (d : Deed) : Type 0 where
   pub table : IsTable d.table
   pub wider : Wider w.table d.table
   pub way : Through (IsGood d.table) d.trail
-  pub mote : (runs : Option Running) → d.runs ≡ Some runs → IfSome runs (RunsWell d.table m (w.moment + dt) (last d.trail))
+  pub mote : (runs : Option Running) → d.runs ≡ Some runs → IfSome runs (RunsWell d.table m (wide_at w m) (w.moment + dt) (last d.trail))
   pub sent : IfSome d.sent (λ message. SentIsWell d.table (record { by = m; bytes = frame_of message }))
 
 abbrev pub AgreesDoes : World → (m dt : ℕ) → Does → Type 0
@@ -134,6 +135,9 @@ AgreesDoes w m dt (Goes d) = AgreesDeed w m dt d
 
 pub same_running : (a b : Option Running) → Some a ≡ Some b → a ≡ b
 same_running a b e = cc
+
+same_message : (a b : Message) → ◌≡◌ {A = Result Message FrameFault} (Ok a) (Ok b) → a ≡ b
+same_message a b e = cc
 
 pub if_each : {A : Type 0} (P Q R : A → Type 0) (o : Option A) → ((x : A) → P x → Q x → R x) → IfSome o P → IfSome o Q → IfSome o R
 if_each P Q R None f p q = tt
@@ -179,8 +183,8 @@ module _ (laws : Laws) (w : World) (agrees : WorldAgrees w) where
   here : (m : ℕ) → m < length w.sites → IsGood w.table (store_at w m)
   here m low = let x = agrees.sites m low in record { well = x.store; order = x.order }
 
-  runs_here : (m : ℕ) (r : Running) → m < length w.sites → (site w m).runs ≡ Some r → RunsWell w.table m w.moment (store_at w m) r
-  runs_here m r low is = running_at (RunsWell w.table m w.moment (store_at w m)) (site w m).runs r is (agrees.sites m low).runs
+  runs_here : (m : ℕ) (r : Running) → m < length w.sites → (site w m).runs ≡ Some r → RunsWell w.table m (wide_at w m) w.moment (store_at w m) r
+  runs_here m r low is = running_at (RunsWell w.table m (wide_at w m) w.moment (store_at w m)) (site w m).runs r is (agrees.sites m low).runs
 
   well_now : (m dt : ℕ) (r : Running) → m < length w.sites → (site w m).runs ≡ Some r → IsWell w.table r.mote (store_at w m) (w.moment + dt)
   well_now m dt r low is = laws.mote.later w.table r.mote (store_at w m) w.moment (w.moment + dt) (omega arith) (runs_here m r low is).well
@@ -190,13 +194,13 @@ module _ (laws : Laws) (w : World) (agrees : WorldAgrees w) where
 
   -- over the same table
   same_table : (m dt : ℕ) (d : Deed) → d.table ≡ w.table → Through (IsGood w.table) d.trail
-      → ((runs : Option Running) → d.runs ≡ Some runs → IfSome runs (RunsWell w.table m (w.moment + dt) (last d.trail)))
+      → ((runs : Option Running) → d.runs ≡ Some runs → IfSome runs (RunsWell w.table m (wide_at w m) (w.moment + dt) (last d.trail)))
       → IfSome d.sent (λ message. SentIsWell w.table (record { by = m; bytes = frame_of message })) → AgreesDeed w m dt d
   same_table m dt d is way mote sent = record {
     table = subst IsTable (sym is) agrees.table;
     wider = subst (λ (t : List Row). Wider w.table t) (sym is) (wider_same w.table);
     way = subst (λ (t : List Row). Through (IsGood t) d.trail) (sym is) way;
-    mote = λ runs e. subst (λ (t : List Row). IfSome runs (RunsWell t m (w.moment + dt) (last d.trail))) (sym is) (mote runs e);
+    mote = λ runs e. subst (λ (t : List Row). IfSome runs (RunsWell t m (wide_at w m) (w.moment + dt) (last d.trail))) (sym is) (mote runs e);
     sent = subst (λ (t : List Row). IfSome d.sent (λ message. SentIsWell t (record { by = m; bytes = frame_of message }))) (sym is) sent;
   }
 
@@ -211,38 +215,47 @@ module _ (laws : Laws) (w : World) (agrees : WorldAgrees w) where
       (Through-both (Agrees w.table) (OnTheWay s b.runs) b.trail (laws.volume.boots w.table k s g.well.agrees) way))
       (Through-map (OnTheWay s b.runs) (λ t. OrderFits t.order) (λ t on. subst OrderFits (sym on.order) g.order) b.trail way)
 
-  started_well : (m id now word : ℕ) (s : Store) (o : Option Runs) (runs : Option Running) → id ≡ m → m < 2 ^ 16 → IsGood w.table s → running_by o id now word ≡ Some runs
-      → IfSome runs (RunsWell w.table m now s)
-  started_well m id now word s None runs is low g e = absurd cc
-  started_well m id now word s (Some r) runs is low g e =
-      subst (λ (o : Option Running). IfSome o (RunsWell w.table m now s)) (same_running (Some (record { key = key_of r; mote = begun id now word })) runs e)
+  started_well : (m id : ℕ) (wide : Bool) (now word : ℕ) (s : Store) (o : Option Runs) (runs : Option Running) → id ≡ m → wide ≡ wide_at w m → m < 2 ^ 16 → IsGood w.table s
+      → running_by o id wide now word ≡ Some runs
+      → IfSome runs (RunsWell w.table m (wide_at w m) now s)
+  started_well m id wide now word s None runs is same low g e = absurd cc
+  started_well m id wide now word s (Some r) runs is same low g e =
+      subst (λ (o : Option Running). IfSome o (RunsWell w.table m (wide_at w m) now s)) (same_running (Some (record { key = key_of r; mote = begun id wide now word })) runs e)
       (record {
         id = is;
-        well = laws.mote.begins w.table s id now word g.well;
-        speaks = laws.mote.speaks_first s id now word (subst (λ (n : ℕ). n < 2 ^ 16) (sym is) low) g.order;
+        wide_is = same;
+        well = laws.mote.begins w.table s id now word wide g.well;
+        speaks = laws.mote.speaks_first s id now word wide (subst (λ (n : ℕ). n < 2 ^ 16) (sym is) low) g.order;
       })
 
-  start_agrees : (k : Kind) (m dt id word : ℕ) → m < length w.sites → id ≡ m → AgreesDoes w m dt (starts w (boot k (store_at w m)) id (w.moment + dt) word)
-  start_agrees k m dt id word low is =
+  start_agrees : (k : Kind) (m dt id : ℕ) (wide : Bool) (word : ℕ) → m < length w.sites → id ≡ m → wide ≡ wide_at w m
+      → AgreesDoes w m dt (starts w (boot k (store_at w m)) id wide (w.moment + dt) word)
+  start_agrees k m dt id wide word low is same =
       let b = boot k (store_at w m) in
       let way = boot_way k (store_at w m) (here m low) in
       same_table m dt _ refl way
-      (λ runs e. started_well m id (w.moment + dt) word (last b.trail) b.runs runs is (small_id m low) (Through-last (IsGood w.table) b.trail way) e) tt
+      (λ runs e. started_well m id wide (w.moment + dt) word (last b.trail) b.runs runs is same (small_id m low) (Through-last (IsGood w.table) b.trail way) e) tt
 
   -- ---- steps of a mote
 
-  turn_agrees : {A : Type 0} (m dt : ℕ) (r : Running) (step : Turn A) (sent : Option Message) → r.mote.id ≡ m → TurnIsWell w.table step (w.moment + dt) → TurnSpeaks r.mote.id step
+  turn_agrees : {A : Type 0} (m dt : ℕ) (r : Running) (step : Turn A) (sent : Option Message) → r.mote.id ≡ m → r.mote.wide ≡ wide_at w m → TurnIsWell w.table step (w.moment + dt)
+      → TurnSpeaks r.mote.id r.mote.wide step
       → IfSome sent (λ message. SentIsWell w.table (record { by = m; bytes = frame_of message })) → AgreesDoes w m dt (goes_on w step.trail sent r.key step.mote)
-  turn_agrees m dt r step sent id well speaks told =
+  turn_agrees m dt r step sent id wide well speaks told =
       same_table m dt _ refl (through_good w.table step.trail well.way speaks.way)
-      (λ runs e. subst (λ (o : Option Running). IfSome o (RunsWell w.table m (w.moment + dt) (last step.trail))) (same_running (Some (record { key = r.key; mote = step.mote })) runs e)
-      (record { id = speaks.id_is ∙ id; well = well.mote; speaks = speaks.mote }))
+      (λ runs e. subst (λ (o : Option Running). IfSome o (RunsWell w.table m (wide_at w m) (w.moment + dt) (last step.trail))) (same_running (Some (record { key = r.key; mote = step.mote })) runs e)
+      (record { id = speaks.id_is ∙ id; wide_is = speaks.wide_is ∙ wide; well = well.mote; speaks = speaks.mote }))
       told
 
-  said_well : (m id : ℕ) (sent : Option Message) → id ≡ m → IfSome sent (IsSaid id) → SendsHonest w.table sent → IfSome sent (λ message. SentIsWell w.table (record { by = m; bytes = frame_of message }))
-  said_well m id sent is said honest =
-      if_each (IsSaid id) (λ message. HonestMessage w.table (Ok message)) (λ message. SentIsWell w.table (record { by = m; bytes = frame_of message })) sent
-      (λ message a b. record { message = message; spelled = a.is_read; fits = a.fits; source = a.source ∙ is; honest = b }) said honest
+  -- what a mote reads, a wide one reads too
+  read_wide : (wide : Bool) (b : List ℕ) (message : Message) → message_of b wide ≡ Ok message → message_of b true ≡ Ok message
+  read_wide true b message e = e
+  read_wide false b message e = laws.mote.wider b message e
+
+  said_well : (m id : ℕ) (wide : Bool) (sent : Option Message) → id ≡ m → IfSome sent (IsSaid id wide) → SendsHonest w.table sent → IfSome sent (λ message. SentIsWell w.table (record { by = m; bytes = frame_of message }))
+  said_well m id wide sent is said honest =
+      if_each (IsSaid id wide) (λ message. HonestMessage w.table (Ok message)) (λ message. SentIsWell w.table (record { by = m; bytes = frame_of message })) sent
+      (λ message a b. record { message = message; spelled = read_wide wide (frame_of message) message a.is_read; fits = a.fits; source = a.source ∙ is; honest = b }) said honest
 
   tick_agrees : (m dt word : ℕ) (r : Running) → (site w m).runs ≡ Some r → m < length w.sites
       → AgreesDoes w m dt (let step = tick_of r.mote (store_at w m) (w.moment + dt) word in goes_on w step.trail step.sent r.key step.mote)
@@ -252,16 +265,16 @@ module _ (laws : Laws) (w : World) (agrees : WorldAgrees w) where
       let step = tick_of r.mote s now word in
       let known = runs_here m r low is in
       let well = laws.mote.ticks w.table r.mote s now word (well_now m dt r low is) in
-      turn_agrees m dt r step step.sent known.id well (laws.mote.speaks_ticked r.mote s now word known.speaks)
-      (said_well m r.mote.id step.sent known.id (laws.mote.says w.table r.mote s now word agrees.table (well_now m dt r low is) known.speaks) well.sent)
+      turn_agrees m dt r step step.sent known.id known.wide_is well (laws.mote.speaks_ticked r.mote s now word known.speaks)
+      (said_well m r.mote.id r.mote.wide step.sent known.id (laws.mote.says w.table r.mote s now word agrees.table (well_now m dt r low is) known.speaks) well.sent)
 
-  hear_agrees : (m dt word : ℕ) (bytes : List ℕ) (r : Running) → (site w m).runs ≡ Some r → m < length w.sites → IsHonest w.table bytes → IfOk (message_of bytes false) FitsTypes
+  hear_agrees : (m dt word : ℕ) (bytes : List ℕ) (r : Running) → (site w m).runs ≡ Some r → m < length w.sites → IsHonest w.table bytes → IfOk (message_of bytes r.mote.wide) FitsTypes
       → AgreesDoes w m dt (hears w m (w.moment + dt) word bytes r)
   hear_agrees m dt word bytes r is low honest fits =
       let s = store_at w m in
       let now = w.moment + dt in
       let known = runs_here m r low is in
-      turn_agrees m dt r (heard_of r.mote s now word bytes) None known.id
+      turn_agrees m dt r (heard_of r.mote s now word bytes) None known.id known.wide_is
       (laws.mote.hears w.table r.mote s now word bytes agrees.table honest (well_now m dt r low is))
       (laws.mote.speaks_heard r.mote s now word bytes fits known.speaks) tt
 
@@ -269,30 +282,35 @@ module _ (laws : Laws) (w : World) (agrees : WorldAgrees w) where
   sent_honest : (f : Sent) → SentIsWell w.table f → IsHonest w.table f.bytes
   sent_honest f well = subst (HonestMessage w.table) (sym well.spelled) well.honest
 
-  sent_fits : (f : Sent) → SentIsWell w.table f → IfOk (message_of f.bytes false) FitsTypes
-  sent_fits f well = subst (λ (r : Result Message FrameFault). IfOk r FitsTypes) (sym well.spelled) well.fits
+  sent_fits : (wide : Bool) (f : Sent) → SentIsWell w.table f → IfOk (message_of f.bytes wide) FitsTypes
+  sent_fits wide f well = by_reading (message_of f.bytes wide) refl
+    where
+      by_reading : (r : Result Message FrameFault) → message_of f.bytes wide ≡ r → IfOk r FitsTypes
+      by_reading (Err fault) is = tt
+      by_reading (Ok message) is = subst FitsTypes (same_message well.message message (sym well.spelled ∙ read_wide wide f.bytes message is)) well.fits
 
   -- one from outside
-  bytes_fit : (bytes : List ℕ) → AreBytes bytes → (r : Result Message FrameFault) → message_of bytes false ≡ r → IfOk r FitsTypes
-  bytes_fit bytes are (Err fault) is = tt
-  bytes_fit bytes are (Ok message) is = laws.mote.bytes_fit bytes message are is
+  bytes_fit : (wide : Bool) (bytes : List ℕ) → AreBytes bytes → (r : Result Message FrameFault) → message_of bytes wide ≡ r → IfOk r FitsTypes
+  bytes_fit wide bytes are (Err fault) is = tt
+  bytes_fit wide bytes are (Ok message) is = laws.mote.bytes_fit bytes wide message are is
 
   -- ---- orders and injections
 
   reloads_well : (m dt word : ℕ) (table : List Row) (s : Store) (runs : Option Running) → m < length w.sites → IsGood table s → Some (reloaded (site w m).runs (w.moment + dt) word) ≡ Some runs
-      → IfSome runs (RunsWell table m (w.moment + dt) s)
+      → IfSome runs (RunsWell table m (wide_at w m) (w.moment + dt) s)
   reloads_well m dt word table s runs low g e =
-      subst (λ (o : Option Running). IfSome o (RunsWell table m (w.moment + dt) s)) (same_running (reloaded (site w m).runs (w.moment + dt) word) runs e)
+      subst (λ (o : Option Running). IfSome o (RunsWell table m (wide_at w m) (w.moment + dt) s)) (same_running (reloaded (site w m).runs (w.moment + dt) word) runs e)
       (each (site w m).runs refl)
     where
-      each : (o : Option Running) → (site w m).runs ≡ o → IfSome (reloaded o (w.moment + dt) word) (RunsWell table m (w.moment + dt) s)
+      each : (o : Option Running) → (site w m).runs ≡ o → IfSome (reloaded o (w.moment + dt) word) (RunsWell table m (wide_at w m) (w.moment + dt) s)
       each None is = tt
       each (Some r) is =
           let known = runs_here m r low is in
           record {
             id = known.id;
+            wide_is = known.wide_is;
             well = laws.mote.reloads table r.mote s (w.moment + dt) word (well_now m dt r low is).timely g.well;
-            speaks = record { id = known.speaks.id; server = tt; order = g.order };
+            speaks = record { id = known.speaks.id; server = tt; known = tt; order = g.order };
           }
 
   order_fits : (number image version : ℕ) → 1 ≤ number → number < 2 ^ 32 → image < images → 1 ≤ version → version < 2 ^ 32 → OrderFits (order_of number image version)
@@ -350,11 +368,11 @@ module _ (laws : Laws) (w : World) (agrees : WorldAgrees w) where
       does_cases laws.mote.restarts w (SentIsWell w.table) agrees.sent (λ e D. EventFits (length w.sites) e → TrueEvent w e → AgreesDoes w (mote_of e) (dt_of e) D)
       (λ e why fits honest. tt)
       (λ m dt word r is fits honest. tick_agrees m dt word r is fits)
-      (λ m dt word r is waits fits honest. start_agrees kind.Order m dt r.mote.id word fits (runs_here m r fits is).id)
-      (λ m dt word fits honest. start_agrees kind.Power m dt m word fits refl)
-      (λ m dt word number f r is at q fits honest. hear_agrees m dt word f.bytes r is fits.0 (sent_honest f q) (sent_fits f q))
-      (λ from m dt word f r is at q fits honest. hear_agrees m dt word f.bytes r is fits.1 (sent_honest f q) (sent_fits f q))
-      (λ m dt word bytes r is fits honest. hear_agrees m dt word bytes r is fits.0 honest (bytes_fit bytes fits.2 (message_of bytes false) refl))
+      (λ m dt word r is waits fits honest. start_agrees kind.Order m dt r.mote.id r.mote.wide word fits (runs_here m r fits is).id (runs_here m r fits is).wide_is)
+      (λ m dt word fits honest. start_agrees kind.Power m dt m (wide_at w m) word fits refl refl)
+      (λ m dt word number f r is at q fits honest. hear_agrees m dt word f.bytes r is fits.0 (sent_honest f q) (sent_fits r.mote.wide f q))
+      (λ from m dt word f r is at q fits honest. hear_agrees m dt word f.bytes r is fits.1 (sent_honest f q) (sent_fits r.mote.wide f q))
+      (λ m dt word bytes r is fits honest. hear_agrees m dt word bytes r is fits.0 honest (bytes_fit r.mote.wide bytes fits.2 (message_of bytes r.mote.wide) refl))
       (λ m image version dt word row known none fits honest. inject_agrees m image version dt word row fits.0 known (λ kept e. honest row kept known e) none)
       (λ m number image version dt word none fits honest. order_agrees m number image version dt word fits.0 (order_fits number image version fits.1 fits.2 fits.3 fits.4 fits.5))
 
@@ -395,12 +413,12 @@ module _ (laws : Laws) (w : World) (x : Step) (v : World) (reports : List Report
       let now = w.moment + dt_of x.event in
       let mid : World = record (counted w (dt_of x.event)) { table = d.table } in
       let here = Through-last (IsGood d.table) d.trail g.way in
-      let P : Bool → Site → Type 0 = λ b y. SiteIsWell d.table m now y in
-      let off : (s : Store) → IsGood d.table s → SiteIsWell d.table m now (off_site s) = λ s good. record { store = good.well; order = good.order; runs = tt } in
+      let P : Bool → Site → Type 0 = λ b y. SiteIsWell d.table m (wide_at w m) now y in
+      let off : (s : Store) → IsGood d.table s → SiteIsWell d.table m (wide_at w m) now (off_site s) = λ s good. record { store = good.well; order = good.order; runs = tt } in
       let end : EndsAs P (blows x.cut d.trail) w x d v =
       ends_as P (λ s room y. off (record s { room = room }) (good_room d.table s room (record { well = y.store; order = y.order }))) w x d v reports
       (λ runs e. record { store = here.well; order = here.order; runs = g.mote runs e })
-      (Through-map (IsGood d.table) (λ s. SiteIsWell d.table m now (off_site s)) off d.trail g.way) (blows x.cut d.trail) does_it in
+      (Through-map (IsGood d.table) (λ s. SiteIsWell d.table m (wide_at w m) now (off_site s)) off d.trail g.way) (blows x.cut d.trail) does_it in
       let within = step_within w x fits in
       let count : length (ended_world w x d end.0).sites ≡ length w.sites = site_count mid m end.0 in
       let moved : WorldAgrees (ended_world w x d end.0) = record {
@@ -408,7 +426,7 @@ module _ (laws : Laws) (w : World) (x : Step) (v : World) (reports : List Report
         table = g.table;
         rows = agrees.rows;
         links = subst (λ (n : ℕ). AllByRecursion (LinkFits n) w.links) (sym count) agrees.links;
-        sites = each_site (λ k y. SiteIsWell d.table k now y) mid m end.0 within end.2 (λ k less _. site_wider w.table d.table g.wider (laws.mote.later w.table) k w.moment now (site w k) (omega arith) (agrees.sites k less));
+        sites = each_site (λ k y. SiteIsWell d.table k (wide_at w k) now y) mid m end.0 within end.2 (λ k less _. site_wider w.table d.table g.wider (laws.mote.later w.table) k (wide_at w k) w.moment now (site w k) (omega arith) (agrees.sites k less));
         sent = all_map (SentIsWell w.table) (SentIsWell d.table) (sent_wider w.table d.table g.wider) w.sent agrees.sent;
       } in
       subst WorldAgrees (sym end.1)
@@ -423,7 +441,7 @@ module _ (laws : Laws) (w : World) (x : Step) (v : World) (reports : List Report
         table = agrees.table;
         rows = agrees.rows;
         links = agrees.links;
-        sites = λ j low. site_wider w.table w.table (wider_same w.table) (laws.mote.later w.table) j w.moment (w.moment + dt_of x.event) (site w j) (omega arith) (agrees.sites j low);
+        sites = λ j low. site_wider w.table w.table (wider_same w.table) (laws.mote.later w.table) j (wide_at w j) w.moment (w.moment + dt_of x.event) (site w j) (omega arith) (agrees.sites j low);
         sent = agrees.sent;
       })
   does_agrees (Goes d) g did = deed_agrees d g did

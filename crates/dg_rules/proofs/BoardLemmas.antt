@@ -12,7 +12,7 @@ use Rattle.dg_volume.specs.Sizes.{images}
 use Rattle.dg_volume.specs.Store.{Store, fresh}
 use Rattle.dg_mote.specs.Speaking.{OrderFits}
 use Rattle.dg_rules.specs.Sizes.{most_motes}
-use Rattle.dg_rules.specs.World.{World, Site, site, off_site, first_world}
+use Rattle.dg_rules.specs.World.{World, Site, site, wide_in, off_site, first_world}
 use Rattle.dg_rules.specs.Premises.{LinkFits, SiteIsWell, WorldAgrees, AllOff, IsInRange, IsTrueThen}
 use Rattle.dg_rules.specs.Begins.{PlaysFrom, store_of, StoresAgree, AreShaped, PlaysBoards}
 use Rattle.dg_rules.specs.Runs.{Played}
@@ -77,9 +77,9 @@ order_told o fits =
 
 -- ---- the first world
 
-module _ (table : List Row) (stores : List Store) (links : List (ℕ × ℕ)) where
+module _ (table : List Row) (stores : List Store) (links : List (ℕ × ℕ)) (narrow : List Bool) where
   abbrev pub First : World
-  First = first_world table links stores
+  First = first_world table links narrow stores
 
   first_count : length First.sites ≡ length stores
   first_count = length-map stores off_site
@@ -87,7 +87,7 @@ module _ (table : List Row) (stores : List Store) (links : List (ℕ × ℕ)) wh
   first_site : (m : ℕ) → site First m ≡ off_site (store_of stores m)
   first_site m = get_or-map off_site stores m (fresh [] [] 0)
 
-  first_well : StoresAgree table stores → AreShaped stores → (m : ℕ) → m < length stores → SiteIsWell table m 0 (off_site (store_of stores m))
+  first_well : StoresAgree table stores → AreShaped stores → (m : ℕ) → m < length stores → SiteIsWell table m (wide_in narrow m) 0 (off_site (store_of stores m))
   first_well agree shaped m here = record {
     store = record { places = (shaped m here).places; agrees = agree.each m here };
     order = order_told (store_of stores m).order (shaped m here).order;
@@ -100,14 +100,14 @@ module _ (table : List Row) (stores : List Store) (links : List (ℕ × ℕ)) wh
     table = agree.is_table;
     rows = tt;
     links = subst (λ (n : ℕ). AllByRecursion (LinkFits n) links) (sym first_count) links_fit;
-    sites = λ m here. subst (SiteIsWell table m 0) (sym (first_site m)) (first_well agree shaped m (subst (λ (n : ℕ). m < n) first_count here));
+    sites = λ m here. subst (SiteIsWell table m (wide_in narrow m) 0) (sym (first_site m)) (first_well agree shaped m (subst (λ (n : ℕ). m < n) first_count here));
     sent = tt;
   }
 
   first_off : AllOff First
   first_off m = ap (λ (x : Site). x.runs) (first_site m)
 
-  pub boards_from : (played : List Played) (v : World) → PlaysBoards table stores links played v → StoresAgree table stores → AllByRecursion IsTrueThen played → PlaysFrom First played v
+  pub boards_from : (played : List Played) (v : World) → PlaysBoards table stores links narrow played v → StoresAgree table stores → AllByRecursion IsTrueThen played → PlaysFrom First played v
   boards_from played v script agree are_true = record {
     agrees = first_agrees agree script.shaped script.few script.links_fit;
     off = first_off;

@@ -1,5 +1,5 @@
 -- What is known of the changes of a mote, and what they keep of golden.
-use Rattle.std.proofs.Common.{◌≡◌, ◌⊎◌, ℕ, ◌≤◌, List, Option, None, option_map, Result, Ok, Err, refl, sym, ap, subst, ◌∙◌, ⊎_elim, arith, true, false}
+use Rattle.std.proofs.Common.{◌≡◌, ◌⊎◌, ℕ, ◌≤◌, Bool, List, Option, None, option_map, Result, Ok, Err, refl, sym, ap, subst, ◌∙◌, ⊎_elim, arith, true, false}
 use Rattle.std.specs.Prelude.{slice_set, slice_index_or}
 use Rattle.std.proofs.lemmas.List.{get_or-set_other}
 use Rattle.dg_nor.specs.Trail.{last, resting}
@@ -15,12 +15,12 @@ use Rattle.dg_volume.specs.Ends.{Boots}
 use Rattle.dg_volume.specs.RowLaws.{RowLaws}
 use Rattle.dg_volume.specs.declared.volume.Kind.{Kind}
 use Rattle.dg_frame.specs.Grammar.{message_of}
-use Rattle.dg_frame.proofs.ReadingLemmas.{no_wide}
 use Rattle.dg_frame.specs.declared.Entry.{Entry}
 use Rattle.dg_frame.specs.declared.FrameFault.{FrameFault}
 use Rattle.dg_frame.specs.declared.Message.{Message}
 use Rattle.dg_frame.specs.declared.Message.TheVariants.{Advert, Request, Packet, Wide}
 use Rattle.dg_mote.specs.Model.{MoteState, Mode, Maintain, Receive, Transmit, Receiving, Turn}
+use Rattle.dg_mote.specs.Summary.{advert_by}
 use Rattle.dg_mote.specs.Ticks.{tick_of}
 use Rattle.dg_mote.specs.Hears.{heard_of}
 use Rattle.dg_mote.specs.Changes.{MayClear, HeedsAdvert, Completes, IfReceives, Brings, IsBegun, Continues}
@@ -32,16 +32,16 @@ use Rattle.dg_rules.proofs.EventLemmas.{RestartLaws}
 
 pub record ChangeLaws : Type 0 where
   pub ticks : (m : MoteState) (s : Store) (now word : ℕ) → Through (MayClear s) (tick_of m s now word).trail
-  pub adverts : (m : MoteState) (s : Store) (now word : ℕ) (bytes : List ℕ) (source : ℕ) (entries : List Entry) (order : Order) → message_of bytes false ≡ Ok (Advert source entries order)
+  pub adverts : (m : MoteState) (s : Store) (now word : ℕ) (bytes : List ℕ) (wide : Bool) (source : ℕ) (entries : List Entry) (order : Order) → message_of bytes m.wide ≡ Ok (advert_by wide source entries order)
       → Through (HeedsAdvert entries order true s) (heard_of m s now word bytes).trail × HeedsAdvert entries order false s (last (heard_of m s now word bytes).trail)
   pub requests : (m : MoteState) (s : Store) (now word : ℕ) (bytes : List ℕ) (source to image version page : ℕ) (want : Numbers)
-      → message_of bytes false ≡ Ok (Request source to image version page want) → (heard_of m s now word bytes).trail ≡ resting s 0
+      → message_of bytes m.wide ≡ Ok (Request source to image version page want) → (heard_of m s now word bytes).trail ≡ resting s 0
   pub packets : (m : MoteState) (s : Store) (now word : ℕ) (bytes : List ℕ) (source image version page q : ℕ) (content : List ℕ)
-      → message_of bytes false ≡ Ok (Packet source image version page q content) → Through (λ t. (t ≡ s) ⊎ Completes m.mode image version page q s t) (heard_of m s now word bytes).trail
-  pub refusals : (m : MoteState) (s : Store) (now word : ℕ) (bytes : List ℕ) (fault : FrameFault) → message_of bytes false ≡ Err fault
+      → message_of bytes m.wide ≡ Ok (Packet source image version page q content) → Through (λ t. (t ≡ s) ⊎ Completes m.mode image version page q s t) (heard_of m s now word bytes).trail
+  pub refusals : (m : MoteState) (s : Store) (now word : ℕ) (bytes : List ℕ) (fault : FrameFault) → message_of bytes m.wide ≡ Err fault
       → heard_of m s now word bytes ≡ record { mote = m; trail = resting s 0; sent = None; answer = Refused fault }
   pub comes_not : (m : MoteState) (s : Store) (now word : ℕ) → IfReceives (Continues m.mode (λ image version page q. ⊥)) (tick_of m s now word).mote.mode
-  pub comes : (m : MoteState) (s : Store) (now word : ℕ) (bytes : List ℕ) → IfReceives (λ r. IsBegun r ⊎ Continues m.mode (Brings bytes) r) (heard_of m s now word bytes).mote.mode
+  pub comes : (m : MoteState) (s : Store) (now word : ℕ) (bytes : List ℕ) → IfReceives (λ r. IsBegun r ⊎ Continues m.mode (Brings bytes m.wide) r) (heard_of m s now word bytes).mote.mode
 
 -- what is known of steps: of restarts, of what a mote changes, and of starts
 pub record StepLaws : Type 0 where
@@ -50,7 +50,7 @@ pub record StepLaws : Type 0 where
   pub ends : (kind : Kind) (s : Store) → Boots s (boot kind s)
   pub rows : (row : Row) → IsRow row → RowLaws row
 
-pub refused_trail : ChangeLaws → (m : MoteState) (s : Store) (now word : ℕ) (bytes : List ℕ) (fault : FrameFault) → message_of bytes false ≡ Err fault → (heard_of m s now word bytes).trail ≡ resting s 0
+pub refused_trail : ChangeLaws → (m : MoteState) (s : Store) (now word : ℕ) (bytes : List ℕ) (fault : FrameFault) → message_of bytes m.wide ≡ Err fault → (heard_of m s now word bytes).trail ≡ resting s 0
 refused_trail laws m s now word bytes fault is = ap (λ (step : Turn Heard). step.trail) (laws.refusals m s now word bytes fault is)
 
 -- ---- golden
@@ -74,15 +74,18 @@ module _ (laws : ChangeLaws) (m : MoteState) (s : Store) (now word : ℕ) (golde
   golden_rests bytes rests = subst (Through KeepsGoldenRow) (sym rests) (Through-resting KeepsGoldenRow s 0 golden)
 
   pub golden_heard : (bytes : List ℕ) → AsksForOthers m.mode → Through KeepsGoldenRow (heard_of m s now word bytes).trail
-  golden_heard bytes asks = by_message (message_of bytes false) refl
+  golden_heard bytes asks = by_message (message_of bytes m.wide) refl
     where
-      by_message : (r : Result Message FrameFault) → message_of bytes false ≡ r → Through KeepsGoldenRow (heard_of m s now word bytes).trail
-      by_message (Err fault) is = golden_rests bytes (refused_trail laws m s now word bytes fault is)
-      by_message (Ok (Advert source entries order)) is =
+      by_advert : (wide : Bool) (source : ℕ) (entries : List Entry) (order : Order) → message_of bytes m.wide ≡ Ok (advert_by wide source entries order) → Through KeepsGoldenRow (heard_of m s now word bytes).trail
+      by_advert wide source entries order is =
           Through-map (HeedsAdvert entries order true s) KeepsGoldenRow (λ t h. keeps_other s t h.image h.here h.not_golden h.kept golden)
-          (heard_of m s now word bytes).trail (laws.adverts m s now word bytes source entries order is).0
+          (heard_of m s now word bytes).trail (laws.adverts m s now word bytes wide source entries order is).0
+
+      by_message : (r : Result Message FrameFault) → message_of bytes m.wide ≡ r → Through KeepsGoldenRow (heard_of m s now word bytes).trail
+      by_message (Err fault) is = golden_rests bytes (refused_trail laws m s now word bytes fault is)
+      by_message (Ok (Advert source entries order)) is = by_advert false source entries order is
       by_message (Ok (Request source to image version page want)) is = golden_rests bytes (laws.requests m s now word bytes source to image version page want is)
-      by_message (Ok (Wide source entries order)) is = absurd (no_wide bytes source entries order is)
+      by_message (Ok (Wide source entries order)) is = by_advert true source entries order is
       by_message (Ok (Packet source image version page q content)) is =
           Through-map (λ t. (t ≡ s) ⊎ Completes m.mode image version page q s t) KeepsGoldenRow
           (λ t may. ⊎_elim (λ same. subst KeepsGoldenRow (sym same) golden)
@@ -99,13 +102,13 @@ ticked_mode old (Maintain timer) asks c = tt
 ticked_mode old (Receive r) asks c = continues_asks (λ image version page q. ⊥) old r asks c
 ticked_mode old (Transmit t) asks c = tt
 
-heard_mode : (bytes : List ℕ) (old new : Mode) → AsksForOthers old → IfReceives (λ r. IsBegun r ⊎ Continues old (Brings bytes) r) new → AsksForOthers new
-heard_mode bytes old (Maintain timer) asks c = tt
-heard_mode bytes old (Receive r) asks c = ⊎_elim (λ begun. begun.not_golden) (λ more. continues_asks (Brings bytes) old r asks more) c
-heard_mode bytes old (Transmit t) asks c = tt
+heard_mode : (bytes : List ℕ) (wide : Bool) (old new : Mode) → AsksForOthers old → IfReceives (λ r. IsBegun r ⊎ Continues old (Brings bytes wide) r) new → AsksForOthers new
+heard_mode bytes wide old (Maintain timer) asks c = tt
+heard_mode bytes wide old (Receive r) asks c = ⊎_elim (λ begun. begun.not_golden) (λ more. continues_asks (Brings bytes wide) old r asks more) c
+heard_mode bytes wide old (Transmit t) asks c = tt
 
 pub ticked_asks : ChangeLaws → (m : MoteState) (s : Store) (now word : ℕ) → AsksForOthers m.mode → AsksForOthers (tick_of m s now word).mote.mode
 ticked_asks laws m s now word asks = ticked_mode m.mode (tick_of m s now word).mote.mode asks (laws.comes_not m s now word)
 
 pub heard_asks : ChangeLaws → (m : MoteState) (s : Store) (now word : ℕ) (bytes : List ℕ) → AsksForOthers m.mode → AsksForOthers (heard_of m s now word bytes).mote.mode
-heard_asks laws m s now word bytes asks = heard_mode bytes m.mode (heard_of m s now word bytes).mote.mode asks (laws.comes m s now word bytes)
+heard_asks laws m s now word bytes asks = heard_mode bytes m.wide m.mode (heard_of m s now word bytes).mote.mode asks (laws.comes m s now word bytes)

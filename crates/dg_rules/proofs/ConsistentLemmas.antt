@@ -23,7 +23,7 @@ use Rattle.dg_mote.specs.Ticks.{tick_of}
 use Rattle.dg_mote.specs.Hears.{heard_of}
 use Rattle.dg_mote.specs.Consistency.{AsksForKnown, StoreIsConsistent, TurnIsConsistent}
 use Rattle.dg_mote.proofs.ConsistentLemmas.{consistent_room}
-use Rattle.dg_rules.specs.World.{World, Running, Site, site, store_at, off_site}
+use Rattle.dg_rules.specs.World.{World, Running, Site, site, store_at, wide_at, off_site}
 use Rattle.dg_rules.specs.Events.{Deed, Does, Refuses, Goes, trail_of, does, mote_of, key_of, reloaded}
 use Rattle.dg_rules.specs.Steps.{WorldStep, DeclareStep, declared_as}
 use Rattle.dg_rules.specs.Ranges.{EventFits, StepFits}
@@ -106,9 +106,9 @@ module _ (golden : Row) where
       one_asks : (r : Running) (runs : Option Running) → AsksForKnown r.mote.mode → ◌≡◌ {A = Option (Option Running)} (Some (Some r)) (Some runs) → AsksKnown runs
       one_asks r runs asks e = subst AsksKnown (same_running (Some r) runs e) asks
 
-      start_asks : (o : Option Runs) (id now word : ℕ) (runs : Option Running) → running_by o id now word ≡ Some runs → AsksKnown runs
-      start_asks None id now word runs e = absurd cc
-      start_asks (Some r) id now word runs e = one_asks (record { key = key_of r; mote = begun id now word }) runs tt e
+      start_asks : (o : Option Runs) (id : ℕ) (wide : Bool) (now word : ℕ) (runs : Option Running) → running_by o id wide now word ≡ Some runs → AsksKnown runs
+      start_asks None id wide now word runs e = absurd cc
+      start_asks (Some r) id wide now word runs e = one_asks (record { key = key_of r; mote = begun id wide now word }) runs tt e
 
       reload_asks : (o runs : Option Running) (now word : ℕ) → Some (reloaded o now word) ≡ Some runs → AsksKnown runs
       reload_asks o runs now word e = subst AsksKnown (same_running (reloaded o now word) runs e) (each o)
@@ -117,8 +117,8 @@ module _ (golden : Row) where
           each None = tt
           each (Some r) = tt
 
-      start_lands : (k : Kind) (m id now word : ℕ) → m < length w.sites → LandsDoes Fine (starts w (boot k (store_at w m)) id now word)
-      start_lands k m id now word low = lands _ (boot_way k (store_at w m) (store_here m low)) (λ runs e. start_asks (boot k (store_at w m)).runs id now word runs e)
+      start_lands : (k : Kind) (m id : ℕ) (wide : Bool) (now word : ℕ) → m < length w.sites → LandsDoes Fine (starts w (boot k (store_at w m)) id wide now word)
+      start_lands k m id wide now word low = lands _ (boot_way k (store_at w m) (store_here m low)) (λ runs e. start_asks (boot k (store_at w m)).runs id wide now word runs e)
 
       hear_lands : (m now word : ℕ) (bytes : List ℕ) (r : Running) → m < length w.sites → (site w m).runs ≡ Some r → LandsDoes Fine (hears w m now word bytes r)
       hear_lands m now word bytes r low is =
@@ -138,8 +138,8 @@ module _ (golden : Row) where
           does_cases laws.restarts w (λ f. Unit {0}) (all_sent w.sent) (λ e D. EventFits (length w.sites) e → LandsDoes Fine D)
           (λ e why fits. tt)
           (λ m dt word r is fits. tick_lands m (w.moment + dt) word r fits is)
-          (λ m dt word r is waits fits. start_lands kind.Order m r.mote.id (w.moment + dt) word fits)
-          (λ m dt word fits. start_lands kind.Power m m (w.moment + dt) word fits)
+          (λ m dt word r is waits fits. start_lands kind.Order m r.mote.id r.mote.wide (w.moment + dt) word fits)
+          (λ m dt word fits. start_lands kind.Power m m (wide_at w m) (w.moment + dt) word fits)
           (λ m dt word number f r is at q fits. hear_lands m (w.moment + dt) word f.bytes r fits.0 is)
           (λ from m dt word f r is at q fits. hear_lands m (w.moment + dt) word f.bytes r fits.1 is)
           (λ m dt word bytes r is fits. hear_lands m (w.moment + dt) word bytes r fits.0 is)

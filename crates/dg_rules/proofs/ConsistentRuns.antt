@@ -1,5 +1,5 @@
 -- Every store stays consistent through all that is played of a script.
-use Rattle.std.proofs.Common.{◌≡◌, ℕ, List, [], ◌∷◌, length, replicate, refl, sym, ap, subst, ◌∙◌}
+use Rattle.std.proofs.Common.{◌≡◌, ℕ, Bool, List, [], ◌∷◌, length, replicate, refl, sym, ap, subst, ◌∙◌}
 use Rattle.std.specs.List.{AllByRecursion}
 use Rattle.dg_object.specs.Object.{Row, IsRow}
 use Rattle.dg_volume.specs.Store.{golden_row, fresh}
@@ -60,20 +60,20 @@ module _ (laws : RunLaws) (golden : Row) (motes : ℕ) where
 
 -- ---- what is played of a script
 
-module _ (laws : RunLaws) (name bytes : List ℕ) (used motes : ℕ) (links : List (ℕ × ℕ)) (played : List Played) (v : World) (script : PlaysGolden name bytes used motes links played v) where
+module _ (laws : RunLaws) (name bytes : List ℕ) (used motes : ℕ) (links : List (ℕ × ℕ)) (narrow : List Bool) (played : List Played) (v : World) (script : PlaysGolden name bytes used motes links narrow played v) where
   abbrev Golden : Row
   Golden = golden_row name bytes
 
   abbrev Begins : World
-  Begins = first_world (Golden ∷ []) links (replicate motes (fresh name bytes used))
+  Begins = first_world (Golden ∷ []) links narrow (replicate motes (fresh name bytes used))
 
   begins : Holds Golden motes Begins
   begins = record {
     world = record {
       rows = tt;
-      sites = λ m here. subst (SiteConsistent Golden) (sym (first_site name bytes used motes links script.is_row m here)) (record { store = record { places = refl; consistent = laws.fresh name bytes used script.is_row }; asks = tt });
+      sites = λ m here. subst (SiteConsistent Golden) (sym (first_site name bytes used motes links narrow script.is_row m here)) (record { store = record { places = refl; consistent = laws.fresh name bytes used script.is_row }; asks = tt });
     };
-    count = first_count name bytes used motes links script.is_row;
+    count = first_count name bytes used motes links narrow script.is_row;
   }
 
   run : Ended (λ past w. Holds Golden motes w) v × EachAfter (λ past p. Has Golden p) [] played

@@ -25,7 +25,7 @@ use Rattle.dg_mote.specs.Ticks.{tick_of}
 use Rattle.dg_mote.specs.Hears.{heard_of}
 use Rattle.dg_mote.specs.Changes.{MayClear, IfReceives}
 use Rattle.dg_base.specs.declared.events.Key.{Key}
-use Rattle.dg_rules.specs.World.{World, Site, Running, Sent, site, store_at, counted, frame_at, last_frame}
+use Rattle.dg_rules.specs.World.{World, Site, Running, Sent, site, store_at, wide_in, wide_at, counted, frame_at, last_frame}
 use Rattle.dg_rules.specs.Small.{Holding, SmallMote, holding, app_key, running_key, small_mote, Small, small, holds, whole}
 use Rattle.dg_rules.specs.Events.{Deed, Does, Refuses, Goes, does, mote_of, dt_of, key_of, reloaded, acts}
 use Rattle.dg_rules.specs.Steps.{blows, and_sent, StepDoes, WorldStep}
@@ -55,16 +55,20 @@ abbrev pub WorldSettled : World → Type 0
 WorldSettled w = (m : ℕ) → m < length w.sites → IfSome (site w m).runs (λ r. IsSettled (store_at w m))
 
 -- the packets of the page that a mote asks for came to it since its last start
-abbrev pub CameTo : Past → ℕ → Site → Type 0
-CameTo past m x = IfSome x.runs (λ r. IfReceives (AllThere m past) r.mote.mode)
+abbrev pub CameTo : Past → ℕ → (wide : Bool) → Site → Type 0
+CameTo past m wide x = IfSome x.runs (λ r. IfReceives (AllThere m wide past) r.mote.mode)
+
+-- where these motes are narrow
+abbrev pub CameBy : Past → (narrow : List Bool) → World → Type 0
+CameBy past narrow w = (m : ℕ) → m < length w.sites → CameTo past m (wide_in narrow m) (site w m)
 
 abbrev pub WorldCame : Past → World → Type 0
-WorldCame past w = (m : ℕ) → m < length w.sites → CameTo past m (site w m)
+WorldCame past w = CameBy past w.narrow w
 
 -- what an event may do at mote m that brings this frame
 pub record LegalDeed (past : Past) (w : World) (m : ℕ) (frame : Option (List ℕ)) (e : Event) (d : Deed) : Type 0 where
-  pub whole : (runs : Option Running) → d.runs ≡ Some runs → LegalAt past w.declared w.table false frame e (small_mote (site w m)) (mote (last d.trail) runs) d.table
-  pub cut : Through (λ s. LegalAt past w.declared w.table true frame e (small_mote (site w m)) (mote s None) d.table) d.trail
+  pub whole : (runs : Option Running) → d.runs ≡ Some runs → LegalAt past w.declared w.table false (wide_at w m) frame e (small_mote (site w m)) (mote (last d.trail) runs) d.table
+  pub cut : Through (λ s. LegalAt past w.declared w.table true (wide_at w m) frame e (small_mote (site w m)) (mote s None) d.table) d.trail
   pub settled : (runs : Option Running) → d.runs ≡ Some runs → IfSome runs (λ r. IsSettled (last d.trail))
 
 abbrev pub LegalDeedDoes : Past → World → Event → Does → Type 0
@@ -84,9 +88,9 @@ if_on P Q None (Some r) a b f p = absurd (let e = b refl in cc)
 if_on P Q (Some q) None a b f p = tt
 if_on P Q (Some q) (Some r) a b f p = f p
 
-started : (o : Option Runs) (id now word : ℕ) (runs : Option Running) → running_by o id now word ≡ Some runs → (r : Runs) × (o ≡ Some r) × (runs ≡ Some (record { key = key_of r; mote = begun id now word }))
-started None id now word runs e = absurd cc
-started (Some r) id now word runs e = (r, refl, sym (same_running (Some (record { key = key_of r; mote = begun id now word })) runs e))
+started : (o : Option Runs) (id : ℕ) (wide : Bool) (now word : ℕ) (runs : Option Running) → running_by o id wide now word ≡ Some runs → (r : Runs) × (o ≡ Some r) × (runs ≡ Some (record { key = key_of r; mote = begun id wide now word }))
+started None id wide now word runs e = absurd cc
+started (Some r) id wide now word runs e = (r, refl, sym (same_running (Some (record { key = key_of r; mote = begun id wide now word })) runs e))
 
 larger : (s : Store) (order : Order) → order_refusal s order ≡ None → s.order.number < order.number
 larger s order e =
@@ -150,13 +154,13 @@ module _ (laws : StepLaws) (past : Past) (w : World) (agrees : WorldAgrees w) (s
       let way = laws.changes.ticks r.mote s now word in
       record {
         whole = λ runs e. (is_on m r on, inl (clear_small x (last t) runs (Through-last (MayClear s) t way) ∙ same_key s runs x.runs (on_key m r step.mote runs on e)), refl);
-        cut = Through-map (MayClear s) (λ q. LegalAt past w.declared w.table true None (Tick m dt word) (small_mote x) (mote q None) w.table)
+        cut = Through-map (MayClear s) (λ q. LegalAt past w.declared w.table true (wide_at w m) None (Tick m dt word) (small_mote x) (mote q None) w.table)
             (λ q may. (is_on m r on, stays_cut (MayRestart w.table (small_mote x)) x q (clear_small x q None may), refl)) t way;
         settled = λ runs e. one_settled r runs (last t) (calm_settled s (last t) (tick_calm laws.changes r.mote s now word) (settled_here m r on here));
       }
 
   start_tick_legal : (m dt word : ℕ) (r : Running) → (site w m).runs ≡ Some r → order_waits (store_at w m) ≡ true → m < length w.sites
-      → LegalDeedDoes past w (Tick m dt word) (starts w (boot kind.Order (store_at w m)) r.mote.id (w.moment + dt) word)
+      → LegalDeedDoes past w (Tick m dt word) (starts w (boot kind.Order (store_at w m)) r.mote.id r.mote.wide (w.moment + dt) word)
   start_tick_legal m dt word r on waits here =
       let x = site w m in
       let s = x.store in
@@ -165,22 +169,22 @@ module _ (laws : StepLaws) (past : Past) (w : World) (agrees : WorldAgrees w) (s
       let ends = laws.ends in
       let old = (agrees.sites m here).store.agrees in
       let q = kept_runs s s.order.image s.order.version in
-      let n = begun r.mote.id now word in
+      let n = begun r.mote.id r.mote.wide now word in
       let May : Key → Type 0 = MayRestart w.table (small_mote x) in
       let chosen : b.runs ≡ Some q = tick_starts ends w.table x old agrees.table laws.rows waits (settled_here m r on here) in
-      let is : (runs : Option Running) → running_by b.runs r.mote.id now word ≡ Some runs → Some (record { key = key_of q; mote = n }) ≡ runs =
-      λ runs e. same_running (Some (record { key = key_of q; mote = n })) runs (ap (λ (o : Option Runs). running_by o r.mote.id now word) (sym chosen) ∙ e) in
+      let is : (runs : Option Running) → running_by b.runs r.mote.id r.mote.wide now word ≡ Some runs → Some (record { key = key_of q; mote = n }) ≡ runs =
+      λ runs e. same_running (Some (record { key = key_of q; mote = n })) runs (ap (λ (o : Option Runs). running_by o r.mote.id r.mote.wide now word) (sym chosen) ∙ e) in
       record {
         whole = λ runs e.
-            subst (λ (o : Option Running). LegalAt past w.declared w.table false None (Tick m dt word) (small_mote x) (mote (last b.trail) o) w.table) (is runs e)
+            subst (λ (o : Option Running). LegalAt past w.declared w.table false (wide_at w m) None (Tick m dt word) (small_mote x) (mote (last b.trail) o) w.table) (is runs e)
             (is_on m r on, tick_start ends w.table x old n waits chosen, refl);
-        cut = Through-map (λ t. CutStart May (small_mote x) (mote t None)) (λ t. LegalAt past w.declared w.table true None (Tick m dt word) (small_mote x) (mote t None) w.table)
+        cut = Through-map (λ t. CutStart May (small_mote x) (mote t None)) (λ t. LegalAt past w.declared w.table true (wide_at w m) None (Tick m dt word) (small_mote x) (mote t None) w.table)
             (λ t c. (is_on m r on, c, refl)) b.trail
             (cut_start ends w.table x old kind.Order May (λ c e. subst (λ (y : Runs). May (key_of y)) (same_runs q c (sym chosen ∙ e)) (tick_waits ends w.table x old waits)));
         settled = λ runs e. if_any (IsSettled (last b.trail)) runs ((boot_start kind.Order s).settled q chosen);
       }
 
-  reset_legal : (m dt word : ℕ) → m < length w.sites → LegalDeedDoes past w (Reset m dt word) (starts w (boot kind.Power (store_at w m)) m (w.moment + dt) word)
+  reset_legal : (m dt word : ℕ) → m < length w.sites → LegalDeedDoes past w (Reset m dt word) (starts w (boot kind.Power (store_at w m)) m (wide_at w m) (w.moment + dt) word)
   reset_legal m dt word here =
       let x = site w m in
       let s = x.store in
@@ -189,12 +193,12 @@ module _ (laws : StepLaws) (past : Past) (w : World) (agrees : WorldAgrees w) (s
       let ends = laws.ends in
       let old = (agrees.sites m here).store.agrees in
       record {
-        whole = λ runs e. let g = started b.runs m now word runs e in
-            subst (λ (o : Option Running). LegalAt past w.declared w.table false None (Reset m dt word) (small_mote x) (mote (last b.trail) o) w.table) (sym g.2)
-            (legal_start ends w.table x old kind.Power g.0 (begun m now word) g.1, refl);
-        cut = Through-map (λ t. CutStart (MayStart w.table (small_mote x)) (small_mote x) (mote t None)) (λ t. LegalAt past w.declared w.table true None (Reset m dt word) (small_mote x) (mote t None) w.table)
+        whole = λ runs e. let g = started b.runs m (wide_at w m) now word runs e in
+            subst (λ (o : Option Running). LegalAt past w.declared w.table false (wide_at w m) None (Reset m dt word) (small_mote x) (mote (last b.trail) o) w.table) (sym g.2)
+            (legal_start ends w.table x old kind.Power g.0 (begun m (wide_at w m) now word) g.1, refl);
+        cut = Through-map (λ t. CutStart (MayStart w.table (small_mote x)) (small_mote x) (mote t None)) (λ t. LegalAt past w.declared w.table true (wide_at w m) None (Reset m dt word) (small_mote x) (mote t None) w.table)
             (λ t c. (c, refl)) b.trail (cut_start ends w.table x old kind.Power (MayStart w.table (small_mote x)) (chosen_start ends w.table x old kind.Power));
-        settled = λ runs e. let g = started b.runs m now word runs e in if_any (IsSettled (last b.trail)) runs ((boot_start kind.Power s).settled g.0 g.1);
+        settled = λ runs e. let g = started b.runs m (wide_at w m) now word runs e in if_any (IsSettled (last b.trail)) runs ((boot_start kind.Power s).settled g.0 g.1);
       }
 
   -- ---- frames
@@ -211,7 +215,7 @@ module _ (laws : StepLaws) (past : Past) (w : World) (agrees : WorldAgrees w) (s
 
     -- what an event that brings the frame may change
     abbrev Brought : Bool → SmallMote → Type 0
-    Brought blew new = IsOn (small_mote Listener) × (mid : SmallMote) × LegalFrame past blew m (Some bytes) (small_mote Listener) mid × (new ≡ off_after blew mid) × (w.table ≡ w.table)
+    Brought blew new = IsOn (small_mote Listener) × (mid : SmallMote) × LegalFrame past blew m (wide_at w m) (Some bytes) (small_mote Listener) mid × (new ≡ off_after blew mid) × (w.table ≡ w.table)
 
     record Hears : Type 0 where
       pub whole : (runs : Option Running) → ◌≡◌ {A = Option (Option Running)} (Some (Some (record { key = r.key; mote = (heard_of r.mote Listener.store Now word bytes).mote }))) (Some runs) → Brought false (mote (last Heard) runs)
@@ -220,13 +224,13 @@ module _ (laws : StepLaws) (past : Past) (w : World) (agrees : WorldAgrees w) (s
 
     hears_legal : Hears
     hears_legal =
-        let known = running_at (λ q. RunsWell w.table m w.moment Listener.store q) Listener.runs r on (agrees.sites m here).runs in
-        let there = running_at (λ q. IfReceives (AllThere m past) q.mote.mode) Listener.runs r on (came m here) in
-        let ends = heard_ends laws.changes w.table past m Listener r.mote Now word bytes known.well.mode there in
+        let known = running_at (λ q. RunsWell w.table m (wide_at w m) w.moment Listener.store q) Listener.runs r on (agrees.sites m here).runs in
+        let there = running_at (λ q. IfReceives (AllThere m (wide_at w m) past) q.mote.mode) Listener.runs r on (came m here) in
+        let ends = heard_ends laws.changes w.table past m Listener r.mote (wide_at w m) known.wide_is Now word bytes known.well.mode there in
         let n = (heard_of r.mote Listener.store Now word bytes).mote in
         record {
           whole = λ runs e. (is_on m r on, mote (last Heard) Listener.runs, ends.whole.0, same_key (last Heard) runs Listener.runs (on_key m r n runs on e), refl);
-          cut = Through-map (λ t. LegalMessage (Came m bytes past) true m (message_of bytes false) (small_mote Listener) (mote t Listener.runs) × IsCalm Listener.store t) (λ s. Brought true (mote s None))
+          cut = Through-map (λ t. LegalMessage (Came m bytes past) true m (wide_at w m) (message_of bytes (wide_at w m)) (small_mote Listener) (mote t Listener.runs) × IsCalm Listener.store t) (λ s. Brought true (mote s None))
               (λ t may. (is_on m r on, mote t Listener.runs, may.0, refl, refl)) Heard ends.cut;
           calm = λ runs. if_any (IsSettled (last Heard)) runs (calm_settled Listener.store (last Heard) ends.whole.1 (settled_here m r on here));
         }
@@ -274,7 +278,7 @@ module _ (laws : StepLaws) (past : Past) (w : World) (agrees : WorldAgrees w) (s
       let mid : SmallMote = record (small_mote x) { order = order } in
       record {
         whole = λ runs e. (mid, record { larger = more; change = inl refl }, same_key t runs x.runs (reload_key m (w.moment + dt) word runs e), refl);
-        cut = Through-stepping (λ q. LegalAt past w.declared w.table true None (OrderEvent m number image version dt word) (small_mote x) (mote q None) w.table) s (commit_operations s.room) t
+        cut = Through-stepping (λ q. LegalAt past w.declared w.table true (wide_at w m) None (OrderEvent m number image version dt word) (small_mote x) (mote q None) w.table) s (commit_operations s.room) t
             (small_mote x, record { larger = more; change = inr (refl, refl) }, refl, refl)
             (mid, record { larger = more; change = inl refl }, refl, refl);
         settled = λ runs e. reload_settled m (w.moment + dt) word t runs here (λ old three. let empty : s.room ≡ 0 = old three in omega (arith, empty)) e;
@@ -320,7 +324,7 @@ module _ (laws : StepLaws) (past : Past) (w : World) (agrees : WorldAgrees w) (s
             inject_is_legal false (option_map holding way.here) (inl (refl, inject_whole More s row fact.in_table fact.within fact.agrees_more none)),
             inject_small Here row image t way runs Here.runs fact.image_is (reload_key m (w.moment + dt) word runs e),
           );
-          cut = Through-map (OnInject s row) (λ q. LegalAt past w.declared w.table true None (Inject m image version dt word) (small_mote Here) (mote q None) More)
+          cut = Through-map (OnInject s row) (λ q. LegalAt past w.declared w.table true (wide_at w m) None (Inject m image version dt word) (small_mote Here) (mote q None) More)
               (λ q on. (
                 taking (small_mote Here) image (option_map holding on.here),
                 inject_is_legal true (option_map holding on.here) (inr (refl, on.how)),
@@ -348,13 +352,13 @@ module _ (laws : StepLaws) (past : Past) (w : World) (agrees : WorldAgrees w) (s
   -- ---- every step
 
   legal_world : (x : Step) (d : Deed) (y : Site) (blew : Bool) → mote_of x.event < length w.sites
-      → LegalAt past w.declared w.table blew (brought w x.event) x.event (small_mote (site w (mote_of x.event))) (small_mote y) d.table
-      → LegalStep past w.declared blew (brought w x.event) x.event (mote_of x.event) (small w) (small (ended_world w x d y))
+      → LegalAt past w.declared w.table blew (wide_at w (mote_of x.event)) (brought w x.event) x.event (small_mote (site w (mote_of x.event))) (small_mote y) d.table
+      → LegalStep past w.declared blew (wide_at w (mote_of x.event)) (brought w x.event) x.event (mote_of x.event) (small w) (small (ended_world w x d y))
   legal_world x d y blew here there =
       let m = mote_of x.event in
       let mid : World = record (counted w (dt_of x.event)) { table = d.table } in
       record {
-        there = subst₂ (λ (a b : SmallMote). LegalAt past w.declared w.table blew (brought w x.event) x.event a b d.table) (sym (small_at w m)) (sym (small_there mid m y here)) there;
+        there = subst₂ (λ (a b : SmallMote). LegalAt past w.declared w.table blew (wide_at w (mote_of x.event)) (brought w x.event) x.event a b d.table) (sym (small_at w m)) (sym (small_there mid m y here)) there;
         others = λ j other. small_other mid m j y other;
         count = small_count mid m y;
       }
@@ -369,9 +373,9 @@ module _ (laws : StepLaws) (past : Past) (w : World) (agrees : WorldAgrees w) (s
     step_legal_by (Goes d) g did =
         let m = mote_of x.event in
         let b = blows x.cut d.trail in
-        let P : Bool → Site → Type 0 = λ b y. LegalAt past w.declared w.table b (brought w x.event) x.event (small_mote (site w m)) (small_mote y) d.table in
+        let P : Bool → Site → Type 0 = λ b y. LegalAt past w.declared w.table b (wide_at w m) (brought w x.event) x.event (small_mote (site w m)) (small_mote y) d.table in
         let end : EndsAs P b w x d v = ends_as P (λ s room p. p) w x d v reports g.whole g.cut b did in
-        subst (λ (u : Small). LegalStep past w.declared b (brought w x.event) x.event m (small w) u)
+        subst (λ (u : Small). LegalStep past w.declared b (wide_at w m) (brought w x.event) x.event m (small w) u)
         (sym (ap small end.1 ∙ sent_small (ended_world w x d end.0) m (sent_unless b d)))
         (legal_world x d end.0 b (step_within w x fits) end.2)
 

@@ -24,8 +24,8 @@ use Rattle.dg_mote.specs.Effects.{Effect, boot_by, boots, reset_effect, tick_by,
 use Rattle.dg_mote.specs.Rules.{MayRestart}
 use Rattle.dg_mote.specs.declared.mote.Did.{Did}
 use Rattle.dg_mote.specs.declared.mote.Did.TheVariants as did
-use Rattle.dg_rules.specs.World.{World, Site, Running, Sent, site, store_at, with_site, counted, off_site, linked, frame_at, last_by, last_frame}
-use Rattle.dg_rules.specs.Events.{Deed, Does, Refuses, Goes, does, mote_of, dt_of, key_of, of_effect, tick_by as tick_does, hear_by, heard_sent, heard_last, unless_off, acts, inject_unless, inject_row, order_unless}
+use Rattle.dg_rules.specs.World.{World, Site, Running, Sent, site, store_at, wide_at, with_site, counted, off_site, linked, frame_at, last_by, last_frame}
+use Rattle.dg_rules.specs.Events.{Deed, Does, Refuses, Goes, does, mote_of, dt_of, key_of, of_effect, tick_by as tick_does, hear_by, heard_sent, heard_last, unless_off, acts, inject_unless, inject_row, order_unless, knows, injects, orders}
 use Rattle.dg_rules.specs.Steps.{Ended, before_cut, and_sent}
 use Rattle.dg_base.specs.declared.events.Key.{Key}
 use Rattle.dg_base.specs.declared.events.Event.{Event}
@@ -43,13 +43,13 @@ order_of number image version = record { number = number; image = image; version
 -- ---- what is done
 
 -- what runs from now on, None where there was no image to start
-abbrev pub running_by : Option Runs → (id now word : ℕ) → Option (Option Running)
-running_by None id now word = None
-running_by (Some r) id now word = Some (Some (record { key = key_of r; mote = begun id now word }))
+abbrev pub running_by : Option Runs → (id : ℕ) (wide : Bool) (now word : ℕ) → Option (Option Running)
+running_by None id wide now word = None
+running_by (Some r) id wide now word = Some (Some (record { key = key_of r; mote = begun id wide now word }))
 
 -- a start: what was on the mote is dropped
-abbrev pub starts : World → Boot → (id now word : ℕ) → Does
-starts w b id now word = Goes (record { trail = b.trail; table = w.table; started = b.runs; sent = None; runs = running_by b.runs id now word })
+abbrev pub starts : World → Boot → (id : ℕ) (wide : Bool) (now word : ℕ) → Does
+starts w b id wide now word = Goes (record { trail = b.trail; table = w.table; started = b.runs; sent = None; runs = running_by b.runs id wide now word })
 
 -- the mote that runs under this key goes on
 abbrev pub going_on : World → Trail Store → Option Message → Key → MoteState → Deed
@@ -70,32 +70,32 @@ pub record RestartLaws : Type 0 where
   pub nothing : (m : MoteState) (s : Store) (now word : ℕ) → (tick_of m s now word).answer ≡ did.Restart
       → tick_of m s now word ≡ record { mote = m; trail = resting s 0; sent = None; answer = did.Restart }
 
-starts_by : (w : World) (o : Option Runs) (t : Trail Store) (id now word : ℕ) (old : Option Key)
-    → of_effect w (boot_by o t id now word) old ≡ Goes (record { trail = t; table = w.table; started = o; sent = None; runs = running_by o id now word })
-starts_by w None t id now word old = refl
-starts_by w (Some r) t id now word old = refl
+starts_by : (w : World) (o : Option Runs) (t : Trail Store) (id : ℕ) (wide : Bool) (now word : ℕ) (old : Option Key)
+    → of_effect w (boot_by o t id wide now word) old ≡ Goes (record { trail = t; table = w.table; started = o; sent = None; runs = running_by o id wide now word })
+starts_by w None t id wide now word old = refl
+starts_by w (Some r) t id wide now word old = refl
 
-boots_starts : (w : World) (b : Boot) (id now word : ℕ) (old : Option Key) → of_effect w (boot_by b.runs b.trail id now word) old ≡ starts w b id now word
-boots_starts w b id now word old = starts_by w b.runs b.trail id now word old
+boots_starts : (w : World) (b : Boot) (id : ℕ) (wide : Bool) (now word : ℕ) (old : Option Key) → of_effect w (boot_by b.runs b.trail id wide now word) old ≡ starts w b id wide now word
+boots_starts w b id wide now word old = starts_by w b.runs b.trail id wide now word old
 
 first_joined : (s : Store) (t : Trail Store) → t.first ≡ s → joined (resting s 0) t ≡ t
 first_joined s t e = subst (λ (x : Store). joined (resting x 0) t ≡ t) e (joined_none t)
 
-boot_trail_by : (o : Option Runs) (t u : Trail Store) (id now word : ℕ) → u ≡ t → record (boot_by o t id now word) { trail = u } ≡ boot_by o t id now word
-boot_trail_by None t u id now word e = ap (λ (x : Trail Store). record (boot_by None t id now word) { trail = x }) e
-boot_trail_by (Some r) t u id now word e = ap (λ (x : Trail Store). record (boot_by (Some r) t id now word) { trail = x }) e
+boot_trail_by : (o : Option Runs) (t u : Trail Store) (id : ℕ) (wide : Bool) (now word : ℕ) → u ≡ t → record (boot_by o t id wide now word) { trail = u } ≡ boot_by o t id wide now word
+boot_trail_by None t u id wide now word e = ap (λ (x : Trail Store). record (boot_by None t id wide now word) { trail = x }) e
+boot_trail_by (Some r) t u id wide now word e = ap (λ (x : Trail Store). record (boot_by (Some r) t id wide now word) { trail = x }) e
 
-boot_trail_is : (o : Option Runs) (t : Trail Store) (id now word : ℕ) → (boot_by o t id now word).trail ≡ t
-boot_trail_is None t id now word = refl
-boot_trail_is (Some r) t id now word = refl
+boot_trail_is : (o : Option Runs) (t : Trail Store) (id : ℕ) (wide : Bool) (now word : ℕ) → (boot_by o t id wide now word).trail ≡ t
+boot_trail_is None t id wide now word = refl
+boot_trail_is (Some r) t id wide now word = refl
 
 -- a tick that restarts is a start for the order
-restarted : (s : Store) (id now word : ℕ) → record (boots kind.Order (last (resting s 0)) id now word) { trail = joined (resting s 0) (boots kind.Order (last (resting s 0)) id now word).trail } ≡ boots kind.Order s id now word
+restarted : (s : Store) (id : ℕ) (wide : Bool) (now word : ℕ) → record (boots kind.Order (last (resting s 0)) id wide now word) { trail = joined (resting s 0) (boots kind.Order (last (resting s 0)) id wide now word).trail } ≡ boots kind.Order s id wide now word
 unfolding Rattle.dg_nor.specs.Trail.last_of
-restarted s id now word =
+restarted s id wide now word =
     let b = boot kind.Order s in
-    let e : (boot_by b.runs b.trail id now word).trail ≡ b.trail = boot_trail_is b.runs b.trail id now word in
-    boot_trail_by b.runs b.trail (joined (resting s 0) (boot_by b.runs b.trail id now word).trail) id now word
+    let e : (boot_by b.runs b.trail id wide now word).trail ≡ b.trail = boot_trail_is b.runs b.trail id wide now word in
+    boot_trail_by b.runs b.trail (joined (resting s 0) (boot_by b.runs b.trail id wide now word).trail) id wide now word
     (ap (joined (resting s 0)) e ∙ first_joined s b.trail (boot_start kind.Order s).first)
 
 -- ---- frames that were sent
@@ -137,8 +137,8 @@ module _
     (ticking : (m dt word : ℕ) (r : Running) → (site w m).runs ≡ Some r
     → P (Tick m dt word) (let step = tick_of r.mote (store_at w m) (w.moment + dt) word in goes_on w step.trail step.sent r.key step.mote))
     (starting : (m dt word : ℕ) (r : Running) → (site w m).runs ≡ Some r → order_waits (store_at w m) ≡ true
-    → P (Tick m dt word) (starts w (boot kind.Order (store_at w m)) r.mote.id (w.moment + dt) word))
-    (resetting : (m dt word : ℕ) → P (Reset m dt word) (starts w (boot kind.Power (store_at w m)) m (w.moment + dt) word))
+    → P (Tick m dt word) (starts w (boot kind.Order (store_at w m)) r.mote.id r.mote.wide (w.moment + dt) word))
+    (resetting : (m dt word : ℕ) → P (Reset m dt word) (starts w (boot kind.Power (store_at w m)) m (wide_at w m) (w.moment + dt) word))
     (hearing : (m dt word number : ℕ) (f : Sent) (r : Running) → (site w m).runs ≡ Some r → frame_at w number ≡ Some f → Q f
     → P (Hear m dt word number) (hears w m (w.moment + dt) word f.bytes r))
     (following : (from m dt word : ℕ) (f : Sent) (r : Running) → (site w m).runs ≡ Some r → last_frame w from ≡ Some f → Q f
@@ -161,8 +161,8 @@ module _
       let waits = ((laws.exactly r.mote s now word).0 answer).waits in
       subst (P (Tick m dt word))
       (sym (ap (λ (step : Turn Did). of_effect w (tick_by did.Restart step now word) (Some r.key)) e
-      ∙ ap (λ (x : Effect). of_effect w x (Some r.key)) (restarted s r.mote.id now word)
-      ∙ boots_starts w (boot kind.Order s) r.mote.id now word (Some r.key)))
+      ∙ ap (λ (x : Effect). of_effect w x (Some r.key)) (restarted s r.mote.id r.mote.wide now word)
+      ∙ boots_starts w (boot kind.Order s) r.mote.id r.mote.wide now word (Some r.key)))
       (starting m dt word r is waits)
 
   tick_case : (m dt word : ℕ) (o : Option Running) → (site w m).runs ≡ o → P (Tick m dt word) (tick_does w (store_at w m) o (w.moment + dt) word)
@@ -203,14 +203,20 @@ module _
   inject_case m image version dt word None is = refused (Inject m image version dt word) cause.Image
   inject_case m image version dt word (Some row) is = inject_case_by m image version dt word row is (inject_refusal (store_at w m) row) refl
 
+  -- an image that the mote knows
+  known_inject : (m image version dt word : ℕ) → P (Inject m image version dt word) (injects w m image version (w.moment + dt) word)
+  known_inject m image version dt word =
+      cond_both (image == 0) (Refuses cause.Reserved) (inject_row w m (row_at w.declared image version) (w.moment + dt) word) (P (Inject m image version dt word))
+      (λ _. refused (Inject m image version dt word) cause.Reserved) (λ _. inject_case m image version dt word (row_at w.declared image version) refl)
+
   order_case : (m number image version dt word : ℕ) (o : Option OrderFault) → order_refusal (store_at w m) (order_of number image version) ≡ o
       → P (OrderEvent m number image version dt word) (order_unless o w m (order_of number image version) (w.moment + dt) word)
   order_case m number image version dt word (Some fault) is = refused (OrderEvent m number image version dt word) _
   order_case m number image version dt word None is = ordering m number image version dt word is
 
-  reset_case : (m dt word : ℕ) → P (Reset m dt word) (of_effect w (reset_effect (store_at w m) m (w.moment + dt) word) None)
+  reset_case : (m dt word : ℕ) → P (Reset m dt word) (of_effect w (reset_effect (store_at w m) m (wide_at w m) (w.moment + dt) word) None)
   unfolding reset_effect
-  reset_case m dt word = subst (P (Reset m dt word)) (sym (boots_starts w (boot kind.Power (store_at w m)) m (w.moment + dt) word None)) (resetting m dt word)
+  reset_case m dt word = subst (P (Reset m dt word)) (sym (boots_starts w (boot kind.Power (store_at w m)) m (wide_at w m) (w.moment + dt) word None)) (resetting m dt word)
 
   pub does_cases : (e : Event) → P e (does w e)
   unfolding does
@@ -222,9 +228,11 @@ module _
       (cond_both (linked w from m) d (Refuses cause.Link) (P (Last from m dt word)) (λ _. last_case from m dt word (last_frame w from) refl) (λ _. refused (Last from m dt word) cause.Link))
   does_cases (Reset m dt word) = reset_case m dt word
   does_cases (Inject m image version dt word) =
-      cond_both (image == 0) (Refuses cause.Reserved) (inject_row w m (row_at w.declared image version) (w.moment + dt) word) (P (Inject m image version dt word))
-      (λ _. refused (Inject m image version dt word) cause.Reserved) (λ _. inject_case m image version dt word (row_at w.declared image version) refl)
-  does_cases (OrderEvent m number image version dt word) = order_case m number image version dt word (order_refusal (store_at w m) (order_of number image version)) refl
+      cond_both (knows (wide_at w m) image) (injects w m image version (w.moment + dt) word) (Refuses cause.Image) (P (Inject m image version dt word))
+      (λ _. known_inject m image version dt word) (λ _. refused (Inject m image version dt word) cause.Image)
+  does_cases (OrderEvent m number image version dt word) =
+      cond_both (knows (wide_at w m) image) (orders w m (order_of number image version) (w.moment + dt) word) (Refuses cause.Image) (P (OrderEvent m number image version dt word))
+      (λ _. order_case m number image version dt word (order_refusal (store_at w m) (order_of number image version)) refl) (λ _. refused (OrderEvent m number image version dt word) cause.Image)
   does_cases (Frame m dt word bytes) = frame_case (Frame m dt word bytes) m (w.moment + dt) word bytes (λ r at. framing m dt word bytes r at) (site w m).runs refl
 
 pub all_sent : (ss : List Sent) → AllByRecursion (λ f. Unit {0}) ss

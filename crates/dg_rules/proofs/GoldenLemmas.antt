@@ -16,7 +16,7 @@ use Rattle.dg_volume.specs.declared.volume.Kind.TheVariants as kind
 use Rattle.dg_mote.specs.Model.{begun}
 use Rattle.dg_mote.specs.Ticks.{tick_of}
 use Rattle.dg_mote.specs.Hears.{heard_of}
-use Rattle.dg_rules.specs.World.{World, Running, Site, site, store_at, off_site}
+use Rattle.dg_rules.specs.World.{World, Running, Site, site, store_at, wide_at, off_site}
 use Rattle.dg_rules.specs.Events.{Deed, does, key_of, reloaded}
 use Rattle.dg_rules.specs.Steps.{WorldStep, EndsRun}
 use Rattle.dg_rules.specs.Ranges.{EventFits, StepFits}
@@ -73,9 +73,9 @@ module _ (laws : StepLaws) (w : World) (golden : WorldKeepsGolden w) where
   one_asks : (r : Running) (runs : Option Running) → AsksForOthers r.mote.mode → ◌≡◌ {A = Option (Option Running)} (Some (Some r)) (Some runs) → AsksOthers runs
   one_asks r runs asks e = subst AsksOthers (same_running (Some r) runs e) asks
 
-  start_asks : (o : Option Runs) (id now word : ℕ) (runs : Option Running) → running_by o id now word ≡ Some runs → AsksOthers runs
-  start_asks None id now word runs e = absurd cc
-  start_asks (Some r) id now word runs e = one_asks (record { key = key_of r; mote = begun id now word }) runs tt e
+  start_asks : (o : Option Runs) (id : ℕ) (wide : Bool) (now word : ℕ) (runs : Option Running) → running_by o id wide now word ≡ Some runs → AsksOthers runs
+  start_asks None id wide now word runs e = absurd cc
+  start_asks (Some r) id wide now word runs e = one_asks (record { key = key_of r; mote = begun id wide now word }) runs tt e
 
   reload_asks : (o runs : Option Running) (now word : ℕ) → Some (reloaded o now word) ≡ Some runs → AsksOthers runs
   reload_asks o runs now word e = subst AsksOthers (same_running (reloaded o now word) runs e) (each o)
@@ -84,8 +84,8 @@ module _ (laws : StepLaws) (w : World) (golden : WorldKeepsGolden w) where
       each None = tt
       each (Some r) = tt
 
-  start_lands : (k : Kind) (m id now word : ℕ) → m < length w.sites → LandsDoes Golden (starts w (boot k (store_at w m)) id now word)
-  start_lands k m id now word low = lands _ (golden_boot_way k (store_at w m) (golden m low).kept) (λ runs e. start_asks (boot k (store_at w m)).runs id now word runs e)
+  start_lands : (k : Kind) (m id : ℕ) (wide : Bool) (now word : ℕ) → m < length w.sites → LandsDoes Golden (starts w (boot k (store_at w m)) id wide now word)
+  start_lands k m id wide now word low = lands _ (golden_boot_way k (store_at w m) (golden m low).kept) (λ runs e. start_asks (boot k (store_at w m)).runs id wide now word runs e)
 
   hear_lands : (m now word : ℕ) (bytes : List ℕ) (r : Running) → m < length w.sites → (site w m).runs ≡ Some r → LandsDoes Golden (hears w m now word bytes r)
   hear_lands m now word bytes r low is =
@@ -106,8 +106,8 @@ module _ (laws : StepLaws) (w : World) (golden : WorldKeepsGolden w) where
       does_cases laws.restarts w (λ f. Unit {0}) (all_sent w.sent) (λ e D. EventFits (length w.sites) e → LandsDoes Golden D)
       (λ e why fits. tt)
       (λ m dt word r is fits. tick_lands m (w.moment + dt) word r fits is)
-      (λ m dt word r is waits fits. start_lands kind.Order m r.mote.id (w.moment + dt) word fits)
-      (λ m dt word fits. start_lands kind.Power m m (w.moment + dt) word fits)
+      (λ m dt word r is waits fits. start_lands kind.Order m r.mote.id r.mote.wide (w.moment + dt) word fits)
+      (λ m dt word fits. start_lands kind.Power m m (wide_at w m) (w.moment + dt) word fits)
       (λ m dt word number f r is at q fits. hear_lands m (w.moment + dt) word f.bytes r fits.0 is)
       (λ from m dt word f r is at q fits. hear_lands m (w.moment + dt) word f.bytes r fits.1 is)
       (λ m dt word bytes r is fits. hear_lands m (w.moment + dt) word bytes r fits.0 is)
@@ -120,22 +120,22 @@ module _ (laws : StepLaws) (w : World) (golden : WorldKeepsGolden w) where
 
   -- ---- a start finds an image
 
-  some_runs : (o : Option Runs) (id now word : ℕ) → o ≢ None → running_by o id now word ≢ None
-  some_runs None id now word found e = found refl
-  some_runs (Some r) id now word found e = cc
+  some_runs : (o : Option Runs) (id : ℕ) (wide : Bool) (now word : ℕ) → o ≢ None → running_by o id wide now word ≢ None
+  some_runs None id wide now word found e = found refl
+  some_runs (Some r) id wide now word found e = cc
 
-  boot_found : (m id : ℕ) (k : Kind) (now word : ℕ) → m < length w.sites → running_by (boot k (store_at w m)).runs id now word ≢ None
-  boot_found m id k now word low =
+  boot_found : (m id : ℕ) (wide : Bool) (k : Kind) (now word : ℕ) → m < length w.sites → running_by (boot k (store_at w m)).runs id wide now word ≢ None
+  boot_found m id wide k now word low =
       let g = (golden m low).kept in
-      some_runs (boot k (store_at w m)).runs id now word (λ none. (boot_start k (store_at w m)).found ((laws.rows g.row g.is_row).is_sound (store_at w m) 0 g.whole) none)
+      some_runs (boot k (store_at w m)).runs id wide now word (λ none. (boot_start k (store_at w m)).found ((laws.rows g.row g.is_row).is_sound (store_at w m) 0 g.whole) none)
 
   pub finds_image : (e : Event) → EventFits (length w.sites) e → FindsImage (does w e)
   finds_image =
       does_cases laws.restarts w (λ f. Unit {0}) (all_sent w.sent) (λ e D. EventFits (length w.sites) e → FindsImage D)
       (λ e why fits. tt)
       (λ m dt word r is fits e. cc)
-      (λ m dt word r is waits fits. boot_found m r.mote.id kind.Order (w.moment + dt) word fits)
-      (λ m dt word fits. boot_found m m kind.Power (w.moment + dt) word fits)
+      (λ m dt word r is waits fits. boot_found m r.mote.id r.mote.wide kind.Order (w.moment + dt) word fits)
+      (λ m dt word fits. boot_found m m (wide_at w m) kind.Power (w.moment + dt) word fits)
       (λ m dt word number f r is at q fits e. cc)
       (λ from m dt word f r is at q fits e. cc)
       (λ m dt word bytes r is fits e. cc)

@@ -8,12 +8,12 @@ use Rattle.dg_object.specs.Object.{Row}
 use Rattle.dg_control.specs.declared.snapshot.Order.{Order}
 use Rattle.dg_volume.specs.Store.{Store}
 use Rattle.dg_frame.specs.Grammar.{message_of}
-use Rattle.dg_frame.proofs.ReadingLemmas.{no_wide}
 use Rattle.dg_frame.specs.declared.Entry.{Entry}
 use Rattle.dg_frame.specs.declared.FrameFault.{FrameFault}
 use Rattle.dg_frame.specs.declared.Message.{Message}
 use Rattle.dg_frame.specs.declared.Message.TheVariants.{Advert, Request, Packet, Wide}
 use Rattle.dg_mote.specs.Model.{MoteState}
+use Rattle.dg_mote.specs.Summary.{advert_by}
 use Rattle.dg_mote.specs.Ticks.{tick_of}
 use Rattle.dg_mote.specs.Hears.{heard_of}
 use Rattle.dg_mote.specs.Agreement.{ModeAgrees}
@@ -51,13 +51,14 @@ clear_small x t runs may = ⊎_elim (λ same. ap (λ (s : Store). mote s runs) s
 
 -- ---- frames
 
-module _ (laws : ChangeLaws) (table : List Row) (past : Past) (m : ℕ) (x : Site) (n : MoteState) (now word : ℕ) (bytes : List ℕ) (agrees : ModeAgrees table x.store n.mode) (there : IfReceives (AllThere m past) n.mode) where
+module _ (laws : ChangeLaws) (table : List Row) (past : Past) (m : ℕ) (x : Site) (n : MoteState) (wide : Bool) (same : n.wide ≡ wide) (now word : ℕ) (bytes : List ℕ)
+    (agrees : ModeAgrees table x.store n.mode) (there : IfReceives (AllThere m wide past) n.mode) where
   abbrev Step : Trail Store
   Step = (heard_of n x.store now word bytes).trail
 
   -- this store may be left, by whether the power was cut, where the frame is read so
   abbrev May : Result Message FrameFault → Bool → Store → Type 0
-  May r blew t = LegalMessage (Came m bytes past) blew m r (small_mote x) (mote t x.runs) × IsCalm x.store t
+  May r blew t = LegalMessage (Came m bytes past) blew m wide r (small_mote x) (mote t x.runs) × IsCalm x.store t
 
   pub record Ends (r : Result Message FrameFault) : Type 0 where
     pub cut : Through (May r true) Step
@@ -79,23 +80,28 @@ module _ (laws : ChangeLaws) (table : List Row) (past : Past) (m : ℕ) (x : Sit
   completes_calm image version page q t may =
       ⊎_elim (λ same. same_calm x.store t same) (λ c. subst (IsCalm x.store) (sym c.paged_is) (record { gesture = inl refl; room = omega arith })) may
 
-  ends_by : (r : Result Message FrameFault) → message_of bytes false ≡ r → Ends r
+  -- the wide kind, or the narrow one
+  advert_ends : (kind : Bool) (source : ℕ) (entries : List Entry) (order : Order) (r : Result Message FrameFault) → message_of bytes n.wide ≡ Ok (advert_by kind source entries order)
+      → ((blew : Bool) (t : Store) → HeedsAdvert entries order blew x.store t → May r blew t) → Ends r
+  advert_ends kind source entries order r is may =
+      let known = laws.adverts n x.store now word bytes kind source entries order is in
+      record { cut = Through-map (HeedsAdvert entries order true x.store) (May r true) (may true) Step known.0; whole = may false (last Step) known.1 }
+
+  ends_by : (r : Result Message FrameFault) → message_of bytes n.wide ≡ r → Ends r
   ends_by (Err fault) is = rests_ends (Err fault) (λ blew. (refl, calm_here)) (refused_trail laws n x.store now word bytes fault is)
   ends_by (Ok (Advert source entries order)) is =
-      let known = laws.adverts n x.store now word bytes source entries order is in
-      let may : (blew : Bool) (t : Store) → HeedsAdvert entries order blew x.store t → May (Ok (Advert source entries order)) blew t =
-      λ blew t h. (advert_legal blew entries order x t h, heeds_calm entries order blew t h) in
-      record { cut = Through-map (HeedsAdvert entries order true x.store) (May (Ok (Advert source entries order)) true) (may true) Step known.0; whole = may false (last Step) known.1 }
+      advert_ends false source entries order (Ok (Advert source entries order)) is (λ blew t h. (advert_legal blew entries order x t h, heeds_calm entries order blew t h))
   ends_by (Ok (Request source to image version page want)) is =
       rests_ends (Ok (Request source to image version page want)) (λ blew. (refl, calm_here)) (laws.requests n x.store now word bytes source to image version page want is)
-  ends_by (Ok (Wide source entries order)) is = absurd (no_wide bytes source entries order is)
+  ends_by (Ok (Wide source entries order)) is =
+      advert_ends true source entries order (Ok (Wide source entries order)) is (λ blew t h. (advert_legal blew entries order x t h, heeds_calm entries order blew t h))
   ends_by (Ok (Packet source image version page q content)) is =
       let r : Result Message FrameFault = Ok (Packet source image version page q content) in
       let Q : Store → Type 0 = λ t. (t ≡ x.store) ⊎ Completes n.mode image version page q x.store t in
       let known : Through Q Step = laws.packets n x.store now word bytes source image version page q content is in
       let may : (blew : Bool) (t : Store) → Q t → May r blew t =
-      λ blew t c. (packet_legal past m bytes x source image version page q content is table n.mode agrees there t c, completes_calm image version page q t c) in
+      λ blew t c. (packet_legal past m wide bytes x source image version page q content (ap (message_of bytes) (sym same) ∙ is) table n.mode agrees there t c, completes_calm image version page q t c) in
       record { cut = Through-map Q (May r true) (may true) Step known; whole = may false (last Step) (Through-last Q Step known) }
 
-  pub heard_ends : Ends (message_of bytes false)
-  heard_ends = ends_by (message_of bytes false) refl
+  pub heard_ends : Ends (message_of bytes wide)
+  heard_ends = ends_by (message_of bytes wide) (ap (message_of bytes) same)

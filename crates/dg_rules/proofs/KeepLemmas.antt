@@ -5,13 +5,12 @@ use Rattle.std.proofs.lemmas.List.{get_or-set_same, get_or-set_other, get_or_pas
 use Rattle.dg_control.specs.declared.snapshot.Order.{Order}
 use Rattle.dg_object.specs.Object.{Row}
 use Rattle.dg_frame.specs.Grammar.{message_of}
-use Rattle.dg_frame.proofs.ReadingLemmas.{no_wide}
 use Rattle.dg_frame.specs.declared.Entry.{Entry}
 use Rattle.dg_frame.specs.declared.FrameFault.{FrameFault}
 use Rattle.dg_frame.specs.declared.Message.{Message}
 use Rattle.dg_frame.specs.declared.Message.TheVariants.{Advert, Request, Packet, Wide}
-use Rattle.dg_mote.specs.Summary.{entry_for}
-use Rattle.dg_rules.specs.World.{World}
+use Rattle.dg_mote.specs.Summary.{advert_by, entry_for}
+use Rattle.dg_rules.specs.World.{World, wide_at}
 use Rattle.dg_rules.specs.Small.{Holding, SmallMote, Small, small, mote_in, holds, whole}
 use Rattle.dg_rules.specs.Events.{Does, Refuses, Goes, does, mote_of}
 use Rattle.dg_rules.specs.Steps.{blows}
@@ -113,44 +112,44 @@ within_holds : (x : SmallMote) (i : ℕ) (h : Holding) → holds x i ≡ Some h 
 within_holds x i h had = ⊎_elim (λ low. low) (λ past. absurd (none_some h (sym (get_or_past x.holdings i None past) ∙ had))) (cases_lt i (length x.holdings))
 
 -- what is kept of an image after a frame, where this was kept before
-abbrev Framed : Option (List ℕ) → Bool → ℕ → Holding → Option Holding → Type 0
-Framed frame blew i h new = IsKeptIn new h ⊎ ((new ≡ None) × NamesNewer frame i h × (blew ≡ true))
+abbrev Framed : (wide : Bool) → Option (List ℕ) → (blew : Bool) → ℕ → Holding → Option Holding → Type 0
+Framed wide frame blew i h new = IsKeptIn new h ⊎ ((new ≡ None) × NamesNewer wide frame i h × (blew ≡ true))
 
 older_than : (o : Option Holding) (h : Holding) (version : ℕ) → o ≡ Some h → IsOlder o version → h.version < version
 older_than o h version had older = subst (λ (x : Option Holding). IsOlder x version) had older
 
-module _ (bytes : List ℕ) (blew : Bool) (i : ℕ) (h : Holding) (old mid : SmallMote) (had : holds old i ≡ Some h) where
-  framed_stays : mid ≡ old → Framed (Some bytes) blew i h (holds mid i)
+module _ (wide : Bool) (bytes : List ℕ) (blew : Bool) (i : ℕ) (h : Holding) (old mid : SmallMote) (had : holds old i ≡ Some h) where
+  framed_stays : mid ≡ old → Framed wide (Some bytes) blew i h (holds mid i)
   framed_stays same = inl (kept_itself (holds mid i) h (ap (λ (x : SmallMote). holds x i) same ∙ had))
 
-  framed_advert : (source : ℕ) (entries : List Entry) (order : Order) → message_of bytes false ≡ Ok (Advert source entries order) → LegalAdvert blew entries order old mid → Framed (Some bytes) blew i h (holds mid i)
-  framed_advert source entries order is l =
+  framed_advert : (kind : Bool) (source : ℕ) (entries : List Entry) (order : Order) → message_of bytes wide ≡ Ok (advert_by kind source entries order) → LegalAdvert blew entries order old mid → Framed wide (Some bytes) blew i h (holds mid i)
+  framed_advert kind source entries order is l =
       ⊎_elim
       (λ here.
       let old_here : holds old l.image ≡ Some h = ap (holds old) (sym here) ∙ had in
       let new_here : holds mid i ≡ l.held =
       ap (holds mid) here ∙ ap (λ (x : SmallMote). holds x l.image) l.change ∙ get_or-set_same old.holdings l.image l.held None (within_holds old l.image h old_here) in
       let e = entry_for entries l.image in
-      subst (Framed (Some bytes) blew i h) (sym new_here)
+      subst (Framed wide (Some bytes) blew i h) (sym new_here)
       (⊎_elim
       (λ same. inl (kept_itself l.held h (same ∙ old_here)))
       (λ other.
       let newer : h.version < e.version = older_than (holds old l.image) h e.version old_here other.1 in
       ⊎_elim
       (λ begun. inl (subst (λ (x : Option Holding). IsKeptIn x h) (sym begun) (inl newer)))
-      (λ gone. inr (gone.1, subst (λ (k : ℕ). NamesNewer (Some bytes) k h) (sym here) (source, entries, order, is, other.0, newer), gone.0))
+      (λ gone. inr (gone.1, subst (λ (k : ℕ). NamesNewer wide (Some bytes) k h) (sym here) (kind, source, entries, order, is, other.0, newer), gone.0))
       other.2)
       l.held_change))
       (λ apart. inl (kept_itself (holds mid i) h (ap (λ (x : SmallMote). holds x i) l.change ∙ get_or-set_other old.holdings l.image i l.held None apart ∙ had)))
       (cases_eq i l.image)
 
-  framed_packet : (past : Past) (m image version page : ℕ) → LegalPacket past m image version page old mid → Framed (Some bytes) blew i h (holds mid i)
+  framed_packet : (past : Past) (m image version page : ℕ) → LegalPacket past m wide image version page old mid → Framed wide (Some bytes) blew i h (holds mid i)
   framed_packet past m image version page l =
       ⊎_elim
       (λ here.
       let old_here : holds old image ≡ Some h = ap (holds old) (sym here) ∙ had in
       let new_here : holds mid i ≡ l.held = ap (holds mid) here ∙ ap (λ (x : SmallMote). holds x image) l.change ∙ get_or-set_same old.holdings image l.held None (within_holds old image h old_here) in
-      subst (Framed (Some bytes) blew i h) (sym new_here)
+      subst (Framed wide (Some bytes) blew i h) (sym new_here)
       (⊎_elim
       (λ same. inl (kept_itself l.held h (same ∙ old_here)))
       (λ more.
@@ -160,50 +159,51 @@ module _ (bytes : List ℕ) (blew : Bool) (i : ℕ) (h : Holding) (old mid : Sma
       (λ apart. inl (kept_itself (holds mid i) h (ap (λ (x : SmallMote). holds x i) l.change ∙ get_or-set_other old.holdings image i l.held None apart ∙ had)))
       (cases_eq i image)
 
-  framed_by : (past : Past) (m : ℕ) (r : Result Message FrameFault) → message_of bytes false ≡ r → LegalMessage past blew m r old mid → Framed (Some bytes) blew i h (holds mid i)
+  framed_by : (past : Past) (m : ℕ) (r : Result Message FrameFault) → message_of bytes wide ≡ r → LegalMessage past blew m wide r old mid → Framed wide (Some bytes) blew i h (holds mid i)
   framed_by past m (Err fault) is legal = framed_stays legal
-  framed_by past m (Ok (Advert source entries order)) is legal = framed_advert source entries order is legal
+  framed_by past m (Ok (Advert source entries order)) is legal = framed_advert false source entries order is legal
   framed_by past m (Ok (Request source to image version page want)) is legal = framed_stays legal
-  framed_by past m (Ok (Wide source entries order)) is legal = absurd (no_wide bytes source entries order is)
+  framed_by past m (Ok (Wide source entries order)) is legal = framed_advert true source entries order is legal
   framed_by past m (Ok (Packet source image version page q content)) is legal = framed_packet past m image version page legal
 
-framed : (frame : Option (List ℕ)) (blew : Bool) (i : ℕ) (h : Holding) (past : Past) (m : ℕ) (old mid : SmallMote) → holds old i ≡ Some h → LegalFrame past blew m frame old mid → Framed frame blew i h (holds mid i)
-framed None blew i h past m old mid had legal = absurd legal
-framed (Some bytes) blew i h past m old mid had legal = framed_by bytes blew i h old mid had (Came m bytes past) m (message_of bytes false) refl legal
+framed : (wide : Bool) (frame : Option (List ℕ)) (blew : Bool) (i : ℕ) (h : Holding) (past : Past) (m : ℕ) (old mid : SmallMote) → holds old i ≡ Some h → LegalFrame past blew m wide frame old mid
+    → Framed wide frame blew i h (holds mid i)
+framed wide None blew i h past m old mid had legal = absurd legal
+framed wide (Some bytes) blew i h past m old mid had legal = framed_by wide bytes blew i h old mid had (Came m bytes past) m (message_of bytes wide) refl legal
 
 -- the same, where the mote is off behind a cut
-framed_then : (frame : Option (List ℕ)) (blew : Bool) (i : ℕ) (h : Holding) (past : Past) (m : ℕ) (old mid new : SmallMote) → holds old i ≡ Some h → LegalFrame past blew m frame old mid → new ≡ off_after blew mid
-    → Framed frame blew i h (holds new i)
-framed_then frame blew i h past m old mid new had legal is =
-    subst (Framed frame blew i h) (sym (ap (λ (x : SmallMote). holds x i) is ∙ off_holds blew mid i)) (framed frame blew i h past m old mid had legal)
+framed_then : (wide : Bool) (frame : Option (List ℕ)) (blew : Bool) (i : ℕ) (h : Holding) (past : Past) (m : ℕ) (old mid new : SmallMote) → holds old i ≡ Some h → LegalFrame past blew m wide frame old mid → new ≡ off_after blew mid
+    → Framed wide frame blew i h (holds new i)
+framed_then wide frame blew i h past m old mid new had legal is =
+    subst (Framed wide frame blew i h) (sym (ap (λ (x : SmallMote). holds x i) is ∙ off_holds blew mid i)) (framed wide frame blew i h past m old mid had legal)
 
 -- golden stays
-golden_message : (past : Past) (blew : Bool) (m : ℕ) (r : Result Message FrameFault) (old mid : SmallMote) → LegalMessage past blew m r old mid → holds mid 0 ≡ holds old 0
-golden_message past blew m (Err fault) old mid legal = ap (λ (x : SmallMote). holds x 0) legal
-golden_message past blew m (Ok (Advert source entries order)) old mid legal =
+golden_message : (past : Past) (blew : Bool) (m : ℕ) (wide : Bool) (r : Result Message FrameFault) (old mid : SmallMote) → LegalMessage past blew m wide r old mid → holds mid 0 ≡ holds old 0
+golden_message past blew m wide (Err fault) old mid legal = ap (λ (x : SmallMote). holds x 0) legal
+golden_message past blew m wide (Ok (Advert source entries order)) old mid legal =
     let low = legal.known in ap (λ (x : SmallMote). holds x 0) legal.change ∙ get_or-set_other old.holdings legal.image 0 legal.held None (λ e. absurd (omega (arith, e, low)))
-golden_message past blew m (Ok (Request source to image version page want)) old mid legal = ap (λ (x : SmallMote). holds x 0) legal
-golden_message past blew m (Ok (Wide source entries order)) old mid legal =
+golden_message past blew m wide (Ok (Request source to image version page want)) old mid legal = ap (λ (x : SmallMote). holds x 0) legal
+golden_message past blew m wide (Ok (Wide source entries order)) old mid legal =
     let low = legal.known in ap (λ (x : SmallMote). holds x 0) legal.change ∙ get_or-set_other old.holdings legal.image 0 legal.held None (λ e. absurd (omega (arith, e, low)))
-golden_message past blew m (Ok (Packet source image version page q content)) old mid legal =
+golden_message past blew m wide (Ok (Packet source image version page q content)) old mid legal =
     ap (λ (x : SmallMote). holds x 0) legal.change
     ∙ ⊎_elim
     (λ same. ap (λ (o : Option Holding). holds (taking old image o) 0) same ∙ ap (λ (x : SmallMote). holds x 0) (sym (same_holding_stays old image)))
     (λ more. let low = more.0 in get_or-set_other old.holdings image 0 legal.held None (λ e. absurd (omega (arith, e, low))))
     legal.held_change
 
-golden_frame : (frame : Option (List ℕ)) (past : Past) (blew : Bool) (m : ℕ) (old mid new : SmallMote) → LegalFrame past blew m frame old mid → new ≡ off_after blew mid → holds new 0 ≡ holds old 0
-golden_frame None past blew m old mid new legal is = absurd legal
-golden_frame (Some bytes) past blew m old mid new legal is =
-    ap (λ (x : SmallMote). holds x 0) is ∙ off_holds blew mid 0 ∙ golden_message (Came m bytes past) blew m (message_of bytes false) old mid legal
+golden_frame : (wide : Bool) (frame : Option (List ℕ)) (past : Past) (blew : Bool) (m : ℕ) (old mid new : SmallMote) → LegalFrame past blew m wide frame old mid → new ≡ off_after blew mid → holds new 0 ≡ holds old 0
+golden_frame wide None past blew m old mid new legal is = absurd legal
+golden_frame wide (Some bytes) past blew m old mid new legal is =
+    ap (λ (x : SmallMote). holds x 0) is ∙ off_holds blew mid 0 ∙ golden_message (Came m bytes past) blew m wide (message_of bytes wide) old mid legal
 
 -- ---- every kind of event
 
-at_mote : (past : Past) (w : World) (declared table : List Row) (blew : Bool) (e : Event) (old new : SmallMote) (after : List Row) (i : ℕ) (h : Holding) → LegalAt past declared table blew (brought w e) e old new after → holds old i ≡ Some h
+at_mote : (past : Past) (w : World) (declared table : List Row) (blew : Bool) (e : Event) (old new : SmallMote) (after : List Row) (i : ℕ) (h : Holding) → LegalAt past declared table blew (wide_at w (mote_of e)) (brought w e) e old new after → holds old i ≡ Some h
     → After w e blew i h (holds new i)
-at_mote past w declared table blew (Hear m dt word number) old new after i h legal had = framed_then (brought w (Hear m dt word number)) blew i h past m old legal.1 new had legal.2 legal.3
-at_mote past w declared table blew (Last from m dt word) old new after i h legal had = framed_then (brought w (Last from m dt word)) blew i h past m old legal.1 new had legal.2 legal.3
-at_mote past w declared table blew (Frame m dt word bytes) old new after i h legal had = framed_then (Some bytes) blew i h past m old legal.1 new had legal.2 legal.3
+at_mote past w declared table blew (Hear m dt word number) old new after i h legal had = framed_then (wide_at w m) (brought w (Hear m dt word number)) blew i h past m old legal.1 new had legal.2 legal.3
+at_mote past w declared table blew (Last from m dt word) old new after i h legal had = framed_then (wide_at w m) (brought w (Last from m dt word)) blew i h past m old legal.1 new had legal.2 legal.3
+at_mote past w declared table blew (Frame m dt word bytes) old new after i h legal had = framed_then (wide_at w m) (Some bytes) blew i h past m old legal.1 new had legal.2 legal.3
 at_mote past w declared table blew (Tick m dt word) old new after i h legal had = inl (kept_itself (holds new i) h (tick_holds table blew old new i legal.1 ∙ had))
 at_mote past w declared table blew (Reset m dt word) old new after i h legal had = inl (kept_itself (holds new i) h (reset_holds table blew old new i legal.0 ∙ had))
 at_mote past w declared table blew (OrderEvent m number image version dt word) old new after i h legal had =
@@ -247,14 +247,14 @@ keeps_all past p legal = keeps_item (past_of past) p.item p.before p.after legal
 
 -- ---- golden
 
-golden_at : (past : Past) (frame : Option (List ℕ)) (declared table : List Row) (blew : Bool) (e : Event) (old new : SmallMote) (after : List Row) → LegalAt past declared table blew frame e old new after → holds new 0 ≡ holds old 0
-golden_at past frame declared table blew (Tick m dt word) old new after legal = tick_holds table blew old new 0 legal.1
-golden_at past frame declared table blew (Reset m dt word) old new after legal = reset_holds table blew old new 0 legal.0
-golden_at past frame declared table blew (OrderEvent m number image version dt word) old new after legal = order_holds blew (record { number = number; image = image; version = version }) old new legal.0 0 legal.1 legal.2
-golden_at past frame declared table blew (Hear m dt word number) old new after legal = golden_frame frame past blew m old legal.1 new legal.2 legal.3
-golden_at past frame declared table blew (Last from m dt word) old new after legal = golden_frame frame past blew m old legal.1 new legal.2 legal.3
-golden_at past frame declared table blew (Frame m dt word bytes) old new after legal = golden_frame frame past blew m old legal.1 new legal.2 legal.3
-golden_at past frame declared table blew (Inject m image version dt word) old new after legal =
+golden_at : (past : Past) (wide : Bool) (frame : Option (List ℕ)) (declared table : List Row) (blew : Bool) (e : Event) (old new : SmallMote) (after : List Row) → LegalAt past declared table blew wide frame e old new after → holds new 0 ≡ holds old 0
+golden_at past wide frame declared table blew (Tick m dt word) old new after legal = tick_holds table blew old new 0 legal.1
+golden_at past wide frame declared table blew (Reset m dt word) old new after legal = reset_holds table blew old new 0 legal.0
+golden_at past wide frame declared table blew (OrderEvent m number image version dt word) old new after legal = order_holds blew (record { number = number; image = image; version = version }) old new legal.0 0 legal.1 legal.2
+golden_at past wide frame declared table blew (Hear m dt word number) old new after legal = golden_frame wide frame past blew m old legal.1 new legal.2 legal.3
+golden_at past wide frame declared table blew (Last from m dt word) old new after legal = golden_frame wide frame past blew m old legal.1 new legal.2 legal.3
+golden_at past wide frame declared table blew (Frame m dt word bytes) old new after legal = golden_frame wide frame past blew m old legal.1 new legal.2 legal.3
+golden_at past wide frame declared table blew (Inject m image version dt word) old new after legal =
     let mid = legal.0 in
     let known = legal.1.known in
     ap (λ (x : SmallMote). holds x 0) legal.2 ∙ off_holds blew mid 0 ∙ injected_other declared table after blew image version 0 old mid legal.1 (λ e. absurd (omega (arith, e, known)))
@@ -264,7 +264,7 @@ golden_by past w v x (Refuses why) legal m = ap (λ (s : Small). holds (mote_in 
 golden_by past w v x (Goes d) legal m =
     ⊎_elim
     (λ same. subst (λ (n : ℕ). holds (mote_in (small v) n) 0 ≡ holds (mote_in (small w) n) 0) (sym same)
-    (golden_at past (brought w x.event) w.declared w.table (blows x.cut d.trail) x.event (mote_in (small w) (mote_of x.event)) (mote_in (small v) (mote_of x.event)) v.table legal.there))
+    (golden_at past (wide_at w (mote_of x.event)) (brought w x.event) w.declared w.table (blows x.cut d.trail) x.event (mote_in (small w) (mote_of x.event)) (mote_in (small v) (mote_of x.event)) v.table legal.there))
     (λ other. ap (λ (y : SmallMote). holds y 0) (legal.others m other))
     (cases_eq m (mote_of x.event))
 

@@ -7,6 +7,7 @@ pub mod EventLemmas
 pub mod WiderLemmas
 pub mod AgreementLemmas
 pub mod StepLemmas
+pub mod WidthLemmas
 pub mod TimelyLemmas
 pub mod ChangesLemmas
 pub mod KeepingLemmas

@@ -1,5 +1,5 @@
 -- What a frame that is heard may change of the small state.
-use Rattle.std.proofs.Common.{◌≡◌, ◌⊎◌, ℕ, ◌+◌, ◌<◌, Bool, true, List, map, Option, Some, None, option_map, IfSome, is_some, Ok, refl, sym, ap, subst, ◌∙◌, inl, inr, ⊎_elim, arith, false}
+use Rattle.std.proofs.Common.{◌≡◌, ◌⊎◌, ℕ, ◌+◌, ◌<◌, Bool, true, List, map, Option, Some, None, option_map, IfSome, is_some, Ok, refl, sym, ap, subst, ◌∙◌, inl, inr, ⊎_elim, arith}
 use Rattle.std.proofs.lemmas.List.{map-set, length_push, set-get_or}
 use Rattle.std.specs.Prelude.{slice_set}
 use Rattle.dg_object.specs.Object.{Row}
@@ -20,8 +20,8 @@ use Rattle.dg_rules.specs.Legal.{Past, Came, CameTo, AllCame, IsOlder, LegalAdve
 use Rattle.dg_rules.proofs.LegalLemmas.{mote, holds_at}
 
 -- each packet of a page that is asked for came to the mote since its last start
-abbrev pub AllThere : ℕ → Past → Receiving → Type 0
-AllThere m past r = (q : ℕ) → is_some (packet r.packets q) ≡ true → CameTo m r.image r.version r.page q past
+abbrev pub AllThere : ℕ → (wide : Bool) → Past → Receiving → Type 0
+AllThere m wide past r = (q : ℕ) → is_some (packet r.packets q) ≡ true → CameTo m wide r.image r.version r.page q past
 
 -- ---- nothing changes
 
@@ -64,28 +64,28 @@ advert_legal blew entries order x t h =
 
 -- ---- packets
 
-module _ (past : Past) (m : ℕ) (bytes : List ℕ) (x : Site) (source image version page q : ℕ) (content : List ℕ) (is : message_of bytes false ≡ Ok (Packet source image version page q content)) where
-  packet_stays : (t : Store) → t ≡ x.store → LegalPacket (Came m bytes past) m image version page (small_mote x) (mote t x.runs)
+module _ (past : Past) (m : ℕ) (wide : Bool) (bytes : List ℕ) (x : Site) (source image version page q : ℕ) (content : List ℕ) (is : message_of bytes wide ≡ Ok (Packet source image version page q content)) where
+  packet_stays : (t : Store) → t ≡ x.store → LegalPacket (Came m bytes past) m wide image version page (small_mote x) (mote t x.runs)
   packet_stays t same = record { held = holds (small_mote x) image; held_change = inl refl; change = stays_small x t same ∙ same_holding_stays (small_mote x) image }
 
-  module _ (table : List Row) (mode : Mode) (agrees : ModeAgrees table x.store mode) (there : IfReceives (AllThere m past) mode) (t : Store) (c : Completes mode image version page q x.store t) where
+  module _ (table : List Row) (mode : Mode) (agrees : ModeAgrees table x.store mode) (there : IfReceives (AllThere m wide past) mode) (t : Store) (c : Completes mode image version page q x.store t) where
     row : ReceivesRow table x.store c.r
     row = subst (ModeAgrees table x.store) c.receives agrees
 
-    came : AllThere m past c.r
-    came = subst (IfReceives (AllThere m past)) c.receives there
+    came : AllThere m wide past c.r
+    came = subst (IfReceives (AllThere m wide past)) c.receives there
 
-    came_here : (p : ℕ) → is_some (packet c.r.packets p) ≡ true → CameTo m image version page p past
+    came_here : (p : ℕ) → is_some (packet c.r.packets p) ≡ true → CameTo m wide image version page p past
     came_here p some =
-        subst (λ (k : ℕ). CameTo m image version k p past) c.page_is
-        (subst (λ (k : ℕ). CameTo m image k c.r.page p past) c.version_is (subst (λ (k : ℕ). CameTo m k c.r.version c.r.page p past) c.image_is (came p some)))
+        subst (λ (k : ℕ). CameTo m wide image version k p past) c.page_is
+        (subst (λ (k : ℕ). CameTo m wide image k c.r.page p past) c.version_is (subst (λ (k : ℕ). CameTo m wide k c.r.version c.r.page p past) c.image_is (came p some)))
 
-    all_came : AllCame m image version page (Came m bytes past)
+    all_came : AllCame m wide image version page (Came m bytes past)
     unfolding CameTo
     all_came p low =
         ⊎_elim
         (λ some. inr (came_here p some))
-        (λ last_one. subst (λ (k : ℕ). CameTo m image version page k (Came m bytes past)) (sym last_one) (inl (refl, (source, content, is))))
+        (λ last_one. subst (λ (k : ℕ). CameTo m wide image version page k (Came m bytes past)) (sym last_one) (inl (refl, (source, content, is))))
         (c.all p low)
 
     here : held x.store image ≡ Some row.kept
@@ -97,7 +97,7 @@ module _ (past : Past) (m : ℕ) (bytes : List ℕ) (x : Site) (source image ver
     new_holding : holding (with_page row.kept c.content) ≡ record { version = version; pages = page + 1 }
     new_holding = λ j. record { version = (row.version ∙ c.version_is) j; pages = (length_push row.kept.complete c.content ∙ ap (λ (n : ℕ). n + 1) (row.next ∙ c.page_is)) j }
 
-    packet_completes : LegalPacket (Came m bytes past) m image version page (small_mote x) (mote t x.runs)
+    packet_completes : LegalPacket (Came m bytes past) m wide image version page (small_mote x) (mote t x.runs)
     packet_completes =
         let f : Option Held → Option Holding = option_map holding in
         let next = option_map (λ (h : Held). with_page h c.content) (held x.store image) in
@@ -116,6 +116,6 @@ module _ (past : Past) (m : ℕ) (bytes : List ℕ) (x : Site) (source image ver
           change = λ j. record { holdings = holdings j; app = option_map app_key (app j); order = order j; runs = running_key x.runs };
         }
 
-  pub packet_legal : (table : List Row) (mode : Mode) → ModeAgrees table x.store mode → IfReceives (AllThere m past) mode → (t : Store) → (t ≡ x.store) ⊎ Completes mode image version page q x.store t
-      → LegalPacket (Came m bytes past) m image version page (small_mote x) (mote t x.runs)
+  pub packet_legal : (table : List Row) (mode : Mode) → ModeAgrees table x.store mode → IfReceives (AllThere m wide past) mode → (t : Store) → (t ≡ x.store) ⊎ Completes mode image version page q x.store t
+      → LegalPacket (Came m bytes past) m wide image version page (small_mote x) (mote t x.runs)
   packet_legal table mode agrees there t may = ⊎_elim (λ same. packet_stays t same) (λ c. packet_completes table mode agrees there t c) may

@@ -1,5 +1,5 @@
 -- What holds of all that is played, from the worlds in which scripts begin.
-use Rattle.std.proofs.Common.{◌≡◌, ℕ, zero, suc, ◌-◌, ◌<◌, ◌≤◌, List, [], ◌∷◌, ◌++◌, length, replicate, get_or, Option, Some, None, IfSome, refl, sym, ap, subst, ◌∙◌, ⊎_elim, inl, arith}
+use Rattle.std.proofs.Common.{◌≡◌, ℕ, zero, suc, ◌-◌, ◌<◌, ◌≤◌, Bool, List, [], ◌∷◌, ◌++◌, length, replicate, get_or, Option, Some, None, IfSome, refl, sym, ap, subst, ◌∙◌, ⊎_elim, inl, arith}
 use Rattle.std.specs.List.{AllByRecursion}
 use Rattle.std.proofs.Math.ListN.{get_or-map}
 use Rattle.std.proofs.Math.Seq.{take-length}
@@ -12,7 +12,7 @@ use Rattle.dg_volume.specs.Table.{row_at}
 use Rattle.dg_volume.specs.Agreement.{KeepsRow, Agrees}
 use Rattle.dg_frame.specs.declared.Message.{Message}
 use Rattle.dg_rules.specs.Sizes.{most_motes}
-use Rattle.dg_rules.specs.World.{World, Site, site, counted, off_site, first_world}
+use Rattle.dg_rules.specs.World.{World, Site, site, wide_in, counted, off_site, first_world}
 use Rattle.dg_rules.specs.Events.{Does, Refuses, Goes, does, mote_of, dt_of}
 use Rattle.dg_rules.specs.Steps.{blows, and_sent, StepDoes, WorldStep, declared_as}
 use Rattle.dg_rules.specs.Ranges.{EventFits, StepFits}
@@ -184,7 +184,7 @@ none_in zero i = refl
 none_in (suc n) zero = refl
 none_in (suc n) (suc i) = none_in n i
 
-module _ (name bytes : List ℕ) (used motes : ℕ) (links : List (ℕ × ℕ)) (is_row : IsRow (golden_row name bytes)) where
+module _ (name bytes : List ℕ) (used motes : ℕ) (links : List (ℕ × ℕ)) (narrow : List Bool) (is_row : IsRow (golden_row name bytes)) where
   abbrev pub Golden : Row
   Golden = golden_row name bytes
 
@@ -202,7 +202,7 @@ module _ (name bytes : List ℕ) (used motes : ℕ) (links : List (ℕ × ℕ)) 
   fresh_agrees = record { golden = (Golden, refl, refl); kept = fresh_kept; app = tt }
 
   abbrev pub First : World
-  First = first_world Table links (replicate motes Chip)
+  First = first_world Table links narrow (replicate motes Chip)
 
   pub first_count : length First.sites ≡ motes
   first_count = length-map (replicate motes Chip) off_site ∙ length-replicate motes Chip
@@ -225,7 +225,7 @@ module _ (name bytes : List ℕ) (used motes : ℕ) (links : List (ℕ × ℕ)) 
     frame = first_frame;
   }
 
-  first_well : (m : ℕ) → SiteIsWell Table m 0 (off_site Chip)
+  first_well : (m : ℕ) → SiteIsWell Table m (wide_in narrow m) 0 (off_site Chip)
   first_well m = record {
     store = record { places = refl; agrees = fresh_agrees };
     order = record { in_range = inl refl; number = omega arith; version = omega arith };
@@ -238,7 +238,7 @@ module _ (name bytes : List ℕ) (used motes : ℕ) (links : List (ℕ × ℕ)) 
     table = IsTable-one Golden is_row refl refl;
     rows = tt;
     links = subst (λ (n : ℕ). AllByRecursion (LinkFits n) links) (sym first_count) links_fit;
-    sites = λ m here. subst (SiteIsWell Table m 0) (sym (first_site m here)) (first_well m);
+    sites = λ m here. subst (SiteIsWell Table m (wide_in narrow m) 0) (sym (first_site m here)) (first_well m);
     sent = tt;
   }
 
@@ -247,27 +247,27 @@ module _ (name bytes : List ℕ) (used motes : ℕ) (links : List (ℕ × ℕ)) 
 
 -- ---- what is played of a script
 
-module _ (name bytes : List ℕ) (used motes : ℕ) (links : List (ℕ × ℕ)) (played : List Played) (v : World) (script : PlaysGolden name bytes used motes links played v) where
+module _ (name bytes : List ℕ) (used motes : ℕ) (links : List (ℕ × ℕ)) (narrow : List Bool) (played : List Played) (v : World) (script : PlaysGolden name bytes used motes links narrow played v) where
   abbrev pub Begins : World
-  Begins = first_world (golden_row name bytes ∷ []) links (replicate motes (fresh name bytes used))
+  Begins = first_world (golden_row name bytes ∷ []) links narrow (replicate motes (fresh name bytes used))
 
   Count : length Begins.sites ≡ motes
-  Count = first_count name bytes used motes links script.is_row
+  Count = first_count name bytes used motes links narrow script.is_row
 
   Start : Frame motes Begins
-  Start = first_frame name bytes used motes links script.is_row
+  Start = first_frame name bytes used motes links narrow script.is_row
 
   pub script_from : RestartLaws → AllByRecursion IsHonestThen played → PlaysFrom Begins played v
   script_from restarts honest = record {
-    agrees = first_agrees name bytes used motes links script.is_row script.few script.links_fit;
-    off = first_off name bytes used motes links script.is_row;
+    agrees = first_agrees name bytes used motes links narrow script.is_row script.few script.links_fit;
+    off = first_off name bytes used motes links narrow script.is_row;
     plays = script.plays;
     ranges = subst (λ (n : ℕ). AllByRecursion (IsInRange n) played) (sym Count) script.ranges;
     are_true = true_plays restarts motes played Begins v script.plays script.ranges honest Start;
   }
 
   -- what is played more from there is of such a script too
-  pub script_more : (more : List Played) (z : World) → PlaysFrom Begins (played ++ more) z → PlaysGolden name bytes used motes links (played ++ more) z × AllByRecursion IsHonestThen (played ++ more)
+  pub script_more : (more : List Played) (z : World) → PlaysFrom Begins (played ++ more) z → PlaysGolden name bytes used motes links narrow (played ++ more) z × AllByRecursion IsHonestThen (played ++ more)
   script_more more z from = (
     record {
       is_row = script.is_row;
@@ -289,5 +289,5 @@ module _ (name bytes : List ℕ) (used motes : ℕ) (links : List (ℕ × ℕ)) 
   pub script_found : RestartLaws → ((w v : World) (x : Step) (reports : List Report) → WorldKeepsGolden w → StepFits (length w.sites) x → WorldStep w x v reports → WorldKeepsGolden v)
       → ((w : World) (e : Event) → WorldKeepsGolden w → EventFits (length w.sites) e → FindsImage (does w e)) → (e : Event) → EventFits motes e → FindsImage (does v e)
   script_found restarts stepped found e fits =
-      let end = keeps_plays restarts stepped motes played Begins v script.plays script.ranges (first_golden name bytes used motes links script.is_row) in
+      let end = keeps_plays restarts stepped motes played Begins v script.plays script.ranges (first_golden name bytes used motes links narrow script.is_row) in
       found v e end.holds.golden (subst (λ (n : ℕ). EventFits n e) (sym end.holds.frame.count) fits)

@@ -1,10 +1,10 @@
 -- Worlds that agree, in which no short starts wait and the packets of each page that is asked for came: through items.
-use Rattle.std.proofs.Common.{◌≡◌, ℕ, ◌<◌, List, [], ◌∷◌, length, get_or, Option, Some, None, IfSome, refl, sym, ap, subst, ◌∙◌}
+use Rattle.std.proofs.Common.{◌≡◌, ℕ, ◌<◌, Bool, List, [], ◌∷◌, length, get_or, Option, Some, None, IfSome, refl, sym, ap, subst, ◌∙◌}
 use Rattle.std.specs.List.{AllByRecursion}
 use Rattle.dg_object.specs.Object.{Row}
 use Rattle.dg_volume.specs.Table.{row_at}
 use Rattle.dg_mote.specs.Changes.{IfReceives}
-use Rattle.dg_rules.specs.World.{World, Site, Running, store_at, no_site}
+use Rattle.dg_rules.specs.World.{World, Site, Running, store_at, wide_in, wide_at, no_site}
 use Rattle.dg_rules.specs.Small.{small}
 use Rattle.dg_rules.specs.Events.{does}
 use Rattle.dg_rules.specs.Steps.{WorldStep, DeclareStep, declared_as}
@@ -23,6 +23,7 @@ use Rattle.dg_rules.proofs.ChangesLemmas.{StepLaws}
 use Rattle.dg_rules.proofs.DeedLemmas.{CameTo, WorldSettled, WorldCame, step_legal, step_settled}
 use Rattle.dg_rules.proofs.MessageLemmas.{AllThere}
 use Rattle.dg_rules.proofs.CameLemmas.{step_came}
+use Rattle.dg_rules.proofs.WidthLemmas.{declare_narrow}
 use Rattle.dg_rules.proofs.PlayLemmas.{plays, each_then, all_then}
 
 -- ---- declarations change no mote
@@ -71,7 +72,8 @@ module _ (laws : RunLaws) where
         record {
           agrees = laws.declared w v row reports i.agrees fits did;
           settled = subst (At (λ m y. IfSome y.runs (λ r. IsSettled y.store))) (sym sites) i.settled;
-          came = subst (At (λ m y. CameTo past m y)) (sym sites) i.came;
+          came = subst (λ (narrow : List Bool). At (λ m y. CameTo past m (wide_in narrow m) y) v.sites) (sym (declare_narrow w v row reports did))
+              (subst (At (λ m y. CameTo past m (wide_at w m) y)) (sym sites) i.came);
         },
         ap small did.world ∙ declared_small o w row,
         tt,
@@ -80,7 +82,7 @@ module _ (laws : RunLaws) where
     record {
       agrees = laws.stepped w v x did.0 i.agrees fits.0 fits.1 did.1;
       settled = step_settled laws.steps past w i.agrees i.settled i.came x v did.0 fits.0 fits.1 did.1;
-      came = step_came laws.steps.restarts laws.steps.changes past w i.came x v did.0 fits.0 did.1;
+      came = step_came laws.steps.restarts laws.steps.changes past w i.agrees i.came x v did.0 fits.0 did.1;
     },
     step_legal laws.steps past w i.agrees i.settled i.came x v did.0 fits.0 fits.1 did.1,
     laws.starts w x.event i.agrees fits.0.event,
@@ -98,7 +100,7 @@ module _ (laws : RunLaws) where
   off_sound w agrees off = record {
     agrees = agrees;
     settled = λ m low. subst (λ (o : Option Running). IfSome o (λ r. IsSettled (store_at w m))) (sym (off m)) tt;
-    came = λ m low. subst (λ (o : Option Running). IfSome o (λ r. IfReceives (AllThere m (past_of [])) r.mote.mode)) (sym (off m)) tt;
+    came = λ m low. subst (λ (o : Option Running). IfSome o (λ r. IfReceives (AllThere m (wide_at w m) (past_of [])) r.mote.mode)) (sym (off m)) tt;
   }
 
   module _ (w v : World) (played : List Played) (agrees : WorldAgrees w) (off : AllOff w) (run : Plays w played v) (fits : AllByRecursion PlayedFits played) where

@@ -41,7 +41,25 @@ sent_same : (u : World) (m : ℕ) (o : Option Message) → (and_sent u m o).site
 sent_same u m None = refl
 sent_same u m (Some message) = refl
 
+sent_narrow : (u : World) (m : ℕ) (o : Option Message) → (and_sent u m o).narrow ≡ u.narrow
+sent_narrow u m None = refl
+sent_narrow u m (Some message) = refl
+
 -- ---- a step
+
+-- which motes are narrow stays
+module _ (w : World) (x : Step) (v : World) (reports : List Report) where
+  narrow_by : (D : Does) → StepDoes D w x v reports → v.narrow ≡ w.narrow
+  narrow_by (Refuses why) did = ap (λ (u : World). u.narrow) did.0
+  narrow_by (Goes d) did = ended (blows x.cut d.trail) did
+    where
+      ended : (b : Bool) → Ended b w x d v reports → v.narrow ≡ w.narrow
+      ended true e = ap (λ (u : World). u.narrow) e.world
+      ended false e = ap (λ (u : World). u.narrow) e.2 ∙ sent_narrow (ended_world w x d (record { store = last d.trail; runs = e.0 })) (mote_of x.event) d.sent
+
+  pub step_narrow : WorldStep w x v reports → v.narrow ≡ w.narrow
+  unfolding WorldStep
+  step_narrow did = narrow_by (does w x.event) did
 
 module _ (w : World) (x : Step) (v : World) (reports : List Report) (fits : StepFits (length w.sites) x) where
   -- P holds where the event is, T of each site then

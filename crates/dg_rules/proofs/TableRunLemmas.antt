@@ -1,5 +1,5 @@
 -- What is played over chips as they stand: each row of the table is one of those that it began with, or was declared.
-use Rattle.std.proofs.Common.{◌≡◌, ◌⊎◌, ℕ, List, [], Option, Some, None, sym, ap, subst, ◌∙◌, ⊎_elim, inl, inr}
+use Rattle.std.proofs.Common.{◌≡◌, ◌⊎◌, ℕ, Bool, List, [], Option, Some, None, sym, ap, subst, ◌∙◌, ⊎_elim, inl, inr}
 use Rattle.std.specs.List.{AllByRecursion}
 use Rattle.dg_object.specs.Object.{Row}
 use Rattle.dg_volume.specs.Store.{Store}
@@ -93,17 +93,17 @@ module _ (began : List Row) where
   true_played : RestartLaws → (past : List Played) (p : Played) → RowsCome p.before → HoldsToThen began p → ItemStep p.before p.item p.after p.reports → RowsCome p.after × IsTrueThen p
   true_played restarts past p come holds did = (item_come restarts p.item p.before p.after p.reports come did, item_true p.item p.before come holds)
 
-boards_come : RestartLaws → (table : List Row) (stores : List Store) (links : List (ℕ × ℕ)) (played : List Played) (v : World) → PlaysBoards table stores links played v → AllByRecursion (HoldsToThen table) played
+boards_come : RestartLaws → (table : List Row) (stores : List Store) (links : List (ℕ × ℕ)) (narrow : List Bool) (played : List Played) (v : World) → PlaysBoards table stores links narrow played v → AllByRecursion (HoldsToThen table) played
     → Ended (λ past u. RowsCome table u) v × EachAfter (λ past p. IsTrueThen p) [] played
-boards_come restarts table stores links played v script holds =
-    plays (λ past u. RowsCome table u) (HoldsToThen table) (λ past p. IsTrueThen p) (true_played table restarts) [] played (first_world table links stores) v script.plays holds (λ i n row e. inl e)
+boards_come restarts table stores links narrow played v script holds =
+    plays (λ past u. RowsCome table u) (HoldsToThen table) (λ past p. IsTrueThen p) (true_played table restarts) [] played (first_world table links narrow stores) v script.plays holds (λ i n row e. inl e)
 
-pub boards_true : RestartLaws → (table : List Row) (stores : List Store) (links : List (ℕ × ℕ)) (played : List Played) (v : World) → PlaysBoards table stores links played v → AllByRecursion (HoldsToThen table) played
+pub boards_true : RestartLaws → (table : List Row) (stores : List Store) (links : List (ℕ × ℕ)) (narrow : List Bool) (played : List Played) (v : World) → PlaysBoards table stores links narrow played v → AllByRecursion (HoldsToThen table) played
     → AllByRecursion IsTrueThen played
-boards_true restarts table stores links played v script holds =
-    all_then (λ past p. IsTrueThen p) IsTrueThen (λ past p is_true. is_true) [] played (boards_come restarts table stores links played v script holds).1
+boards_true restarts table stores links narrow played v script holds =
+    all_then (λ past p. IsTrueThen p) IsTrueThen (λ past p is_true. is_true) [] played (boards_come restarts table stores links narrow played v script holds).1
 
 -- and so is the next event
-pub next_true : RestartLaws → (table : List Row) (stores : List Store) (links : List (ℕ × ℕ)) (played : List Played) (v : World) → PlaysBoards table stores links played v → AllByRecursion (HoldsToThen table) played
+pub next_true : RestartLaws → (table : List Row) (stores : List Store) (links : List (ℕ × ℕ)) (narrow : List Bool) (played : List Played) (v : World) → PlaysBoards table stores links narrow played v → AllByRecursion (HoldsToThen table) played
     → (e : Event) → HoldsTo table v e → TrueEvent v e
-next_true restarts table stores links played v script holds e here = event_true table v (boards_come restarts table stores links played v script holds).0.holds e here
+next_true restarts table stores links narrow played v script holds e here = event_true table v (boards_come restarts table stores links narrow played v script holds).0.holds e here

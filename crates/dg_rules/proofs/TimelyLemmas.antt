@@ -7,7 +7,7 @@ use Rattle.dg_mote.specs.Model.{MoteState, begun, maintains}
 use Rattle.dg_mote.specs.Ticks.{tick_of}
 use Rattle.dg_mote.specs.Hears.{heard_of}
 use Rattle.dg_mote.specs.Timely.{Timely}
-use Rattle.dg_rules.specs.World.{World, Site, Running, site, store_at}
+use Rattle.dg_rules.specs.World.{World, Site, Running, site, store_at, wide_at}
 use Rattle.dg_rules.specs.Events.{Deed, does, dt_of, key_of, reloaded}
 use Rattle.dg_rules.specs.Steps.{WorldStep}
 use Rattle.dg_rules.specs.Ranges.{EventFits, StepFits}
@@ -22,7 +22,7 @@ use Rattle.dg_rules.proofs.StepLemmas.{Lands, LandsDoes, step_sites, step_moment
 
 -- what is known of the moments of a mote
 pub record TimeLaws : Type 0 where
-  pub begins : (id now word : ℕ) → Timely (begun id now word) now
+  pub begins : (id now word : ℕ) (wide : Bool) → Timely (begun id wide now word) now
   pub later : (m : MoteState) (now then : ℕ) → now ≤ then → Timely m now → Timely m then
   pub reloads : (m : MoteState) (now word : ℕ) → Timely m now → Timely (maintains m now word) now
   pub ticks : (m : MoteState) (s : Store) (now word : ℕ) → Timely m now → Timely (tick_of m s now word).mote now
@@ -48,9 +48,9 @@ module _ (restarts : RestartLaws) (laws : TimeLaws) (w : World) (timely : WorldT
   one_timely : (dt : ℕ) (r : Running) (runs : Option Running) → Timely r.mote (w.moment + dt) → ◌≡◌ {A = Option (Option Running)} (Some (Some r)) (Some runs) → IsTimelyAt (w.moment + dt) runs
   one_timely dt r runs t e = subst (IsTimelyAt (w.moment + dt)) (same_running (Some r) runs e) t
 
-  start_timely : (o : Option Runs) (id dt word : ℕ) (runs : Option Running) → running_by o id (w.moment + dt) word ≡ Some runs → IsTimelyAt (w.moment + dt) runs
-  start_timely None id dt word runs e = absurd cc
-  start_timely (Some r) id dt word runs e = one_timely dt (record { key = key_of r; mote = begun id (w.moment + dt) word }) runs (laws.begins id (w.moment + dt) word) e
+  start_timely : (o : Option Runs) (id : ℕ) (wide : Bool) (dt word : ℕ) (runs : Option Running) → running_by o id wide (w.moment + dt) word ≡ Some runs → IsTimelyAt (w.moment + dt) runs
+  start_timely None id wide dt word runs e = absurd cc
+  start_timely (Some r) id wide dt word runs e = one_timely dt (record { key = key_of r; mote = begun id wide (w.moment + dt) word }) runs (laws.begins id (w.moment + dt) word wide) e
 
   reload_timely : (m dt word : ℕ) (runs : Option Running) → m < length w.sites → Some (reloaded (site w m).runs (w.moment + dt) word) ≡ Some runs → IsTimelyAt (w.moment + dt) runs
   reload_timely m dt word runs low e = subst (IsTimelyAt (w.moment + dt)) (same_running (reloaded (site w m).runs (w.moment + dt) word) runs e) (each (site w m).runs refl)
@@ -70,8 +70,8 @@ module _ (restarts : RestartLaws) (laws : TimeLaws) (w : World) (timely : WorldT
       (λ e why fits. tt)
       (λ m dt word r is fits. let step = tick_of r.mote (store_at w m) (w.moment + dt) word in
       lands dt _ (λ runs e. one_timely dt (record { key = r.key; mote = step.mote }) runs (laws.ticks r.mote (store_at w m) (w.moment + dt) word (on_timely m dt r fits is)) e))
-      (λ m dt word r is waits fits. lands dt _ (λ runs e. start_timely (boot _ (store_at w m)).runs r.mote.id dt word runs e))
-      (λ m dt word fits. lands dt _ (λ runs e. start_timely (boot _ (store_at w m)).runs m dt word runs e))
+      (λ m dt word r is waits fits. lands dt _ (λ runs e. start_timely (boot _ (store_at w m)).runs r.mote.id r.mote.wide dt word runs e))
+      (λ m dt word fits. lands dt _ (λ runs e. start_timely (boot _ (store_at w m)).runs m (wide_at w m) dt word runs e))
       (λ m dt word number f r is at q fits. lands dt _ (λ runs e. hear_timely m dt word f.bytes r runs is fits.0 e))
       (λ from m dt word f r is at q fits. lands dt _ (λ runs e. hear_timely m dt word f.bytes r runs is fits.1 e))
       (λ m dt word bytes r is fits. lands dt _ (λ runs e. hear_timely m dt word bytes r runs is fits.0 e))

@@ -1,5 +1,5 @@
 -- A table with more rows: what agrees with a table, or is honest by it, agrees with the larger one too.
-use Rattle.std.proofs.Common.{◌≡◌, ℕ, ◌≤◌, List, [], ◌∷◌, ◌++◌, Some, Result, Ok, Err, ⊎_elim, inl, inr}
+use Rattle.std.proofs.Common.{◌≡◌, ℕ, ◌≤◌, Bool, List, [], ◌∷◌, ◌++◌, Some, Result, Ok, Err, ⊎_elim, inl, inr}
 use Rattle.std.specs.List.{AllByRecursion}
 use Rattle.std.proofs.lemmas.Option.{IfSome_then}
 use Rattle.dg_object.specs.Object.{Row}
@@ -57,11 +57,11 @@ module _ (table more : List Row) (wider : Wider table more) where
 
   -- a mote at the present moment, and later over a larger table
   module _ (later : (m : MoteState) (s : Store) (now then : ℕ) → now ≤ then → IsWell table m s now → IsWell table m s then) where
-    pub site_wider : (m now then : ℕ) (x : Site) → now ≤ then → SiteIsWell table m now x → SiteIsWell more m then x
-    site_wider m now then x low w = record {
+    pub site_wider : (m : ℕ) (wide : Bool) (now then : ℕ) (x : Site) → now ≤ then → SiteIsWell table m wide now x → SiteIsWell more m wide then x
+    site_wider m wide now then x low w = record {
       store = store_wider x.store w.store;
       order = w.order;
-      runs = IfSome_then x.runs w.runs (λ r k. record { id = k.id; well = well_wider r.mote x.store then (later r.mote x.store now then low k.well); speaks = k.speaks });
+      runs = IfSome_then x.runs w.runs (λ r k. record { id = k.id; wide_is = k.wide_is; well = well_wider r.mote x.store then (later r.mote x.store now then low k.well); speaks = k.speaks });
     }
 
   -- ---- frames

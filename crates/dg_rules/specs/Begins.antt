@@ -1,5 +1,5 @@
 -- What is played from worlds that agree with their tables, and over chips as they stand.
-use Rattle.std.specs.Prelude.{◌≡◌, ℕ, ◌<◌, ◌≤◌, List, length, slice_index_or, Some}
+use Rattle.std.specs.Prelude.{◌≡◌, ℕ, ◌<◌, ◌≤◌, Bool, List, length, slice_index_or, Some}
 use Rattle.std.specs.List.{AllByRecursion}
 use Rattle.dg_object.specs.Object.{Row}
 use Rattle.dg_volume.specs.Store.{Store}
@@ -58,9 +58,9 @@ abbrev pub HoldsToThen : List Row → Played → Type 0
 HoldsToThen table p = ItemHoldsTo table p.item p.before
 
 -- what is played over chips that stand for these stores, against a table: every number is in its range
-pub record PlaysBoards (table : List Row) (stores : List Store) (links : List (ℕ × ℕ)) (played : List Played) (v : World) : Type 0 where
+pub record PlaysBoards (table : List Row) (stores : List Store) (links : List (ℕ × ℕ)) (narrow : List Bool) (played : List Played) (v : World) : Type 0 where
   pub shaped : AreShaped stores
-  pub plays : Plays (first_world table links stores) played v
+  pub plays : Plays (first_world table links narrow stores) played v
   pub few : length stores ≤ most_motes
   pub links_fit : AllByRecursion (LinkFits (length stores)) links
   pub ranges : AllByRecursion (IsInRange (length stores)) played

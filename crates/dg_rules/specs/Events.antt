@@ -1,5 +1,5 @@
 -- What events do by the rules: each is refused, or its mote's chip goes through the stores of a trail.
-use Rattle.std.specs.Prelude.{ℕ, ◌+◌, ◌==◌, if◌then◌else◌, List, length, Option, Some, None, option_map}
+use Rattle.std.specs.Prelude.{ℕ, ◌+◌, ◌==◌, ◌||◌, nat_le, Bool, if◌then◌else◌, List, length, Option, Some, None, option_map}
 use Rattle.dg_nor.specs.Trail.{Trail, resting}
 use Rattle.dg_object.specs.Object.{Row}
 use Rattle.dg_control.specs.declared.snapshot.Order.{Order}
@@ -11,11 +11,12 @@ use Rattle.dg_volume.specs.declared.volume.InjectFault.{InjectFault}
 use Rattle.dg_volume.specs.declared.volume.InjectFault.TheVariants as inject
 use Rattle.dg_volume.specs.declared.volume.OrderFault.{OrderFault}
 use Rattle.dg_volume.specs.declared.volume.OrderFault.TheVariants as order_fault
+use Rattle.dg_frame.specs.Sizes.{narrow_images}
 use Rattle.dg_frame.specs.declared.Message.{Message}
 use Rattle.dg_mote.specs.Model.{MoteState, maintains}
 use Rattle.dg_mote.specs.Effects.{Effect, reset_effect, tick_effect, frame_effect}
 use Rattle.dg_volume.specs.Table.{row_at, with_row}
-use Rattle.dg_rules.specs.World.{World, Running, Sent, site, store_at, linked, frame_at, last_frame}
+use Rattle.dg_rules.specs.World.{World, Running, Sent, site, store_at, wide_at, linked, frame_at, last_frame}
 use Rattle.dg_base.specs.declared.events.Key.{Key}
 use Rattle.dg_base.specs.declared.events.Event.{Event}
 use Rattle.dg_base.specs.declared.events.Event.TheVariants.{Tick, Hear, Last, Reset, Inject, Order as OrderEvent, Frame}
@@ -133,6 +134,17 @@ abbrev pub order_unless : Option OrderFault → World → ℕ → Order → (now
 order_unless (Some fault) w m order now word = Refuses (order_cause fault)
 order_unless None w m order now word = acts w m (order_trail (store_at w m) order) w.table now word
 
+-- A narrow mote knows only the images that its frames speak of, and golden.
+abbrev pub knows : (wide : Bool) → ℕ → Bool
+knows wide image = wide || nat_le image narrow_images
+
+abbrev pub injects : World → (m image version now word : ℕ) → Does
+injects w m image version now word =
+    if image == 0 then Refuses cause.Reserved else inject_row w m (row_at w.declared image version) now word
+
+abbrev pub orders : World → ℕ → Order → (now word : ℕ) → Does
+orders w m order now word = order_unless (order_refusal (store_at w m) order) w m order now word
+
 -- ---- every event
 
 unfoldable pub does : World → Event → Does
@@ -140,10 +152,10 @@ does w (Tick m dt word) = tick_by w (store_at w m) (site w m).runs (w.moment + d
 does w (Hear m dt word frame) = unless_off (site w m).runs (heard_sent w m (w.moment + dt) word (frame_at w frame))
 does w (Last from to dt word) =
     unless_off (site w to).runs (if linked w from to then heard_last w from to (w.moment + dt) word (last_frame w from) else Refuses cause.Link)
-does w (Reset m dt word) = of_effect w (reset_effect (store_at w m) m (w.moment + dt) word) None
+does w (Reset m dt word) = of_effect w (reset_effect (store_at w m) m (wide_at w m) (w.moment + dt) word) None
 does w (Inject m image version dt word) =
-    if image == 0 then Refuses cause.Reserved else inject_row w m (row_at w.declared image version) (w.moment + dt) word
+    if knows (wide_at w m) image then injects w m image version (w.moment + dt) word else Refuses cause.Image
 does w (OrderEvent m number image version dt word) =
-    let order : Order = record { number = number; image = image; version = version } in
-    order_unless (order_refusal (store_at w m) order) w m order (w.moment + dt) word
+    if knows (wide_at w m) image then orders w m (record { number = number; image = image; version = version }) (w.moment + dt) word
+    else Refuses cause.Image
 does w (Frame m dt word bytes) = hear_by w (store_at w m) (site w m).runs (w.moment + dt) word bytes

@@ -1,5 +1,5 @@
 -- Worlds in which golden is kept whole, and what is found there.
-use Rattle.std.specs.Prelude.{◌≡◌, ◌≢◌, ℕ, ◌<◌, ◌≤◌, List, [], ◌∷◌, length, replicate, Some, None, IfSome}
+use Rattle.std.specs.Prelude.{◌≡◌, ◌≢◌, ℕ, ◌<◌, ◌≤◌, Bool, List, [], ◌∷◌, length, replicate, Some, None, IfSome}
 use Rattle.std.specs.List.{AllByRecursion}
 use Rattle.dg_object.specs.Object.{Row, IsRow}
 use Rattle.dg_volume.specs.Store.{Store, held, held_whole, golden_row, fresh}
@@ -37,9 +37,9 @@ FindsImage (Refuses why) = Unit {0}
 FindsImage (Goes d) = d.runs ≢ None
 
 -- what is played of a script with golden: so many motes begin with chips that were formatted with it, and every number is in its range
-pub record PlaysGolden (name bytes : List ℕ) (used motes : ℕ) (links : List (ℕ × ℕ)) (played : List Played) (v : World) : Type 0 where
+pub record PlaysGolden (name bytes : List ℕ) (used motes : ℕ) (links : List (ℕ × ℕ)) (narrow : List Bool) (played : List Played) (v : World) : Type 0 where
   pub is_row : IsRow (golden_row name bytes)
-  pub plays : Plays (first_world (golden_row name bytes ∷ []) links (replicate motes (fresh name bytes used))) played v
+  pub plays : Plays (first_world (golden_row name bytes ∷ []) links narrow (replicate motes (fresh name bytes used))) played v
   pub few : motes ≤ most_motes
   pub links_fit : AllByRecursion (LinkFits motes) links
   pub ranges : AllByRecursion (IsInRange motes) played

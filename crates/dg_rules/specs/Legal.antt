@@ -8,6 +8,7 @@ use Rattle.dg_frame.specs.declared.Message.{Message}
 use Rattle.dg_frame.specs.declared.Message.TheVariants.{Advert, Request, Packet, Wide}
 use Rattle.dg_frame.specs.declared.FrameFault.{FrameFault}
 use Rattle.dg_frame.specs.declared.Entry.{Entry}
+use Rattle.dg_mote.specs.Changes.{Brings}
 use Rattle.dg_mote.specs.Summary.{entry_for}
 use Rattle.dg_volume.specs.Sizes.{golden_version}
 use Rattle.dg_volume.specs.Table.{row_at, with_row}
@@ -24,16 +25,15 @@ pub data Past : Type 0 where
   Came : (mote : ℕ) → (bytes : List ℕ) → (before : Past) → Past
   Started : (mote : ℕ) → (before : Past) → Past
 
--- a packet of a page came to the mote since its last start
-unfoldable pub CameTo : ℕ → (image version page q : ℕ) → Past → Type 0
-CameTo m image version page q Begins = ⊥
-CameTo m image version page q (Started mote before) = (mote ≢ m) × CameTo m image version page q before
-CameTo m image version page q (Came mote bytes before) =
-    ((mote ≡ m) × ((source : ℕ) × (data_bytes : List ℕ) × (message_of bytes false ≡ Ok (Packet source image version page q data_bytes))))
-    ⊎ CameTo m image version page q before
+-- a packet of a page came to the mote, which is wide or narrow, since its last start
+unfoldable pub CameTo : ℕ → (wide : Bool) → (image version page q : ℕ) → Past → Type 0
+CameTo m wide image version page q Begins = ⊥
+CameTo m wide image version page q (Started mote before) = (mote ≢ m) × CameTo m wide image version page q before
+CameTo m wide image version page q (Came mote bytes before) =
+    ((mote ≡ m) × Brings bytes wide image version page q) ⊎ CameTo m wide image version page q before
 
-abbrev pub AllCame : ℕ → (image version page : ℕ) → Past → Type 0
-AllCame m image version page past = (q : ℕ) → q < packets → CameTo m image version page q past
+abbrev pub AllCame : ℕ → (wide : Bool) → (image version page : ℕ) → Past → Type 0
+AllCame m wide image version page past = (q : ℕ) → q < packets → CameTo m wide image version page q past
 
 -- ---- one mote
 
@@ -115,22 +115,22 @@ pub record LegalAdvert (blew : Bool) (entries : List Entry) (order : Order) (old
   pub held_change : (held ≡ holds old image) ⊎ ((1 ≤ (entry_for entries image).have) × IsOlder (holds old image) (entry_for entries image).version × ((held ≡ Some (record { version = (entry_for entries image).version; pages = 0 })) ⊎ ((blew ≡ true) × (held ≡ None))))
   pub change : new ≡ taking (record old { order = kept_order }) image held
 
-pub record LegalPacket (past : Past) (m image version page : ℕ) (old new : SmallMote) : Type 0 where
+pub record LegalPacket (past : Past) (m : ℕ) (wide : Bool) (image version page : ℕ) (old new : SmallMote) : Type 0 where
   pub held : Option Holding
   pub held_change : (held ≡ holds old image)
-      ⊎ ((1 ≤ image) × (holds old image ≡ Some (record { version = version; pages = page })) × (held ≡ Some (record { version = version; pages = page + 1 })) × AllCame m image version page past)
+      ⊎ ((1 ≤ image) × (holds old image ≡ Some (record { version = version; pages = page })) × (held ≡ Some (record { version = version; pages = page + 1 })) × AllCame m wide image version page past)
   pub change : new ≡ taking old image held
 
 abbrev pub off_after : Bool → SmallMote → SmallMote
 off_after true x = record x { runs = None }
 off_after false x = x
 
-abbrev pub LegalMessage : Past → Bool → ℕ → Result Message FrameFault → SmallMote → SmallMote → Type 0
-LegalMessage past blew m (Err fault) old new = new ≡ old
-LegalMessage past blew m (Ok (Advert source entries order)) old new = LegalAdvert blew entries order old new
-LegalMessage past blew m (Ok (Request source to image version page want)) old new = new ≡ old
-LegalMessage past blew m (Ok (Packet source image version page q bytes)) old new = LegalPacket past m image version page old new
-LegalMessage past blew m (Ok (Wide source entries order)) old new = LegalAdvert blew entries order old new
+abbrev pub LegalMessage : Past → (blew : Bool) → ℕ → (wide : Bool) → Result Message FrameFault → SmallMote → SmallMote → Type 0
+LegalMessage past blew m wide (Err fault) old new = new ≡ old
+LegalMessage past blew m wide (Ok (Advert source entries order)) old new = LegalAdvert blew entries order old new
+LegalMessage past blew m wide (Ok (Request source to image version page want)) old new = new ≡ old
+LegalMessage past blew m wide (Ok (Packet source image version page q bytes)) old new = LegalPacket past m wide image version page old new
+LegalMessage past blew m wide (Ok (Wide source entries order)) old new = LegalAdvert blew entries order old new
 
 -- ---- a step
 
@@ -147,28 +147,28 @@ abbrev pub LegalReset : List Row → Bool → SmallMote → SmallMote → Type 0
 LegalReset table false old new = LegalStart table old new
 LegalReset table true old new = CutStart (MayStart table old) old new
 
--- the frame that an event brings is the last of those that came
-abbrev pub LegalFrame : Past → Bool → ℕ → Option (List ℕ) → SmallMote → SmallMote → Type 0
-LegalFrame past blew m None old new = ⊥
-LegalFrame past blew m (Some bytes) old new = LegalMessage (Came m bytes past) blew m (message_of bytes false) old new
+-- the frame that an event brings is the last of those that came, and its mote reads it as a wide one, or as a narrow one
+abbrev pub LegalFrame : Past → (blew : Bool) → ℕ → (wide : Bool) → Option (List ℕ) → SmallMote → SmallMote → Type 0
+LegalFrame past blew m wide None old new = ⊥
+LegalFrame past blew m wide (Some bytes) old new = LegalMessage (Came m bytes past) blew m wide (message_of bytes wide) old new
 
--- what an event that is not refused may change at its mote, where `frame` is the one that it brings. A cut that blew makes the mote off
-abbrev pub LegalAt : Past → List Row → List Row → Bool → Option (List ℕ) → Event → SmallMote → SmallMote → List Row → Type 0
-LegalAt past declared table blew frame (Tick m dt word) old new after = IsOn old × LegalTick table blew old new × (after ≡ table)
-LegalAt past declared table blew frame (Reset m dt word) old new after = LegalReset table blew old new × (after ≡ table)
-LegalAt past declared table blew frame (Inject m image version dt word) old new after =
+-- what an event that is not refused may change at its mote, where `frame` is the one that it brings and `wide` the width of the mote. A cut that blew makes the mote off
+abbrev pub LegalAt : Past → List Row → List Row → (blew wide : Bool) → Option (List ℕ) → Event → SmallMote → SmallMote → List Row → Type 0
+LegalAt past declared table blew wide frame (Tick m dt word) old new after = IsOn old × LegalTick table blew old new × (after ≡ table)
+LegalAt past declared table blew wide frame (Reset m dt word) old new after = LegalReset table blew old new × (after ≡ table)
+LegalAt past declared table blew wide frame (Inject m image version dt word) old new after =
     (mid : SmallMote) × LegalInject declared table blew image version old mid after × (new ≡ off_after blew mid)
-LegalAt past declared table blew frame (OrderEvent m number image version dt word) old new after =
+LegalAt past declared table blew wide frame (OrderEvent m number image version dt word) old new after =
     (mid : SmallMote) × LegalOrder blew (record { number = number; image = image; version = version }) old mid × (new ≡ off_after blew mid) × (after ≡ table)
-LegalAt past declared table blew frame (Hear m dt word number) old new after =
-    IsOn old × (mid : SmallMote) × LegalFrame past blew m frame old mid × (new ≡ off_after blew mid) × (after ≡ table)
-LegalAt past declared table blew frame (Last from m dt word) old new after =
-    IsOn old × (mid : SmallMote) × LegalFrame past blew m frame old mid × (new ≡ off_after blew mid) × (after ≡ table)
-LegalAt past declared table blew frame (Frame m dt word bytes) old new after =
-    IsOn old × (mid : SmallMote) × LegalFrame past blew m frame old mid × (new ≡ off_after blew mid) × (after ≡ table)
+LegalAt past declared table blew wide frame (Hear m dt word number) old new after =
+    IsOn old × (mid : SmallMote) × LegalFrame past blew m wide frame old mid × (new ≡ off_after blew mid) × (after ≡ table)
+LegalAt past declared table blew wide frame (Last from m dt word) old new after =
+    IsOn old × (mid : SmallMote) × LegalFrame past blew m wide frame old mid × (new ≡ off_after blew mid) × (after ≡ table)
+LegalAt past declared table blew wide frame (Frame m dt word bytes) old new after =
+    IsOn old × (mid : SmallMote) × LegalFrame past blew m wide frame old mid × (new ≡ off_after blew mid) × (after ≡ table)
 
 -- An event that is not refused changes only what its kind allows, at its mote alone.
-pub record LegalStep (past : Past) (declared : List Row) (blew : Bool) (frame : Option (List ℕ)) (event : Event) (mote : ℕ) (old new : Small) : Type 0 where
-  pub there : LegalAt past declared old.table blew frame event (mote_in old mote) (mote_in new mote) new.table
+pub record LegalStep (past : Past) (declared : List Row) (blew wide : Bool) (frame : Option (List ℕ)) (event : Event) (mote : ℕ) (old new : Small) : Type 0 where
+  pub there : LegalAt past declared old.table blew wide frame event (mote_in old mote) (mote_in new mote) new.table
   pub others : (m : ℕ) → m ≢ mote → mote_in new m ≡ mote_in old m
   pub count : length new.motes ≡ length old.motes

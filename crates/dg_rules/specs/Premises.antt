@@ -1,5 +1,5 @@
 -- Worlds that agree with their table, and runs over honest frames and true injections.
-use Rattle.std.specs.Prelude.{◌≡◌, ◌≢◌, ℕ, ◌<◌, ◌≤◌, ◌^◌, IsTrue, List, length, Some, None, IfSome, Ok, false}
+use Rattle.std.specs.Prelude.{◌≡◌, ◌≢◌, ℕ, ◌<◌, ◌≤◌, ◌^◌, ◌⊎◌, IsTrue, Bool, true, false, List, length, Some, None, IfSome, Ok}
 use Rattle.std.specs.List.{AllByRecursion}
 use Rattle.dg_words.specs.Cells.{AreBytes}
 use Rattle.dg_base.specs.Texts.{spells_name}
@@ -7,6 +7,7 @@ use Rattle.dg_object.specs.Object.{Row}
 use Rattle.dg_volume.specs.Sizes.{images}
 use Rattle.dg_volume.specs.Table.{row_at, IsTable}
 use Rattle.dg_volume.specs.Store.{Store}
+use Rattle.dg_frame.specs.Sizes.{narrow_images}
 use Rattle.dg_frame.specs.Grammar.{message_of}
 use Rattle.dg_frame.specs.Spelling.{FitsTypes}
 use Rattle.dg_frame.specs.declared.Message.{Message}
@@ -16,7 +17,7 @@ use Rattle.dg_mote.specs.Well.{StoreIsWell, IsWell}
 use Rattle.dg_mote.specs.Speaking.{OrderFits, Speaks}
 use Rattle.dg_mote.specs.Timely.{Timely}
 use Rattle.dg_rules.specs.Sizes.{most_motes, most_content}
-use Rattle.dg_rules.specs.World.{World, Running, Site, Sent, site}
+use Rattle.dg_rules.specs.World.{World, Running, Site, Sent, site, wide_at}
 use Rattle.dg_rules.specs.Ranges.{StepFits}
 use Rattle.dg_script.specs.Items.{Item, Declares, Happens}
 use Rattle.dg_rules.specs.Runs.{Played}
@@ -33,21 +34,23 @@ pub record IsDeclared (row : Row) : Type 0 where
   pub fits : length row.bytes ≤ most_content
   pub bytes : AreBytes row.bytes
 
--- a mote that is on has the number of its site as its id, agrees, is in time, and can say what it says
-pub record RunsWell (table : List Row) (m now : ℕ) (s : Store) (r : Running) : Type 0 where
+-- a mote that is on has the number of its site as its id, and its width, agrees, is in time, and can say what it says
+pub record RunsWell (table : List Row) (m : ℕ) (wide : Bool) (now : ℕ) (s : Store) (r : Running) : Type 0 where
   pub id : r.mote.id ≡ m
+  pub wide_is : r.mote.wide ≡ wide
   pub well : IsWell table r.mote s now
   pub speaks : Speaks r.mote s
 
-pub record SiteIsWell (table : List Row) (m now : ℕ) (x : Site) : Type 0 where
+pub record SiteIsWell (table : List Row) (m : ℕ) (wide : Bool) (now : ℕ) (x : Site) : Type 0 where
   pub store : StoreIsWell table x.store
   pub order : OrderFits x.store.order
-  pub runs : IfSome x.runs (RunsWell table m now x.store)
+  pub runs : IfSome x.runs (RunsWell table m wide now x.store)
 
--- a frame that was sent spells a message of its sender, which is honest, and whose fields fit into a frame
+-- A frame that was sent spells a message of its sender, which is honest, and whose fields fit into a frame. That is what
+-- wide motes read; a narrow one reads the same or nothing.
 pub record SentIsWell (table : List Row) (f : Sent) : Type 0 where
   pub message : Message
-  pub spelled : message_of f.bytes false ≡ Ok message
+  pub spelled : message_of f.bytes true ≡ Ok message
   pub fits : FitsTypes message
   pub source : source_of message ≡ f.by
   pub honest : HonestMessage table (Ok message)
@@ -64,7 +67,7 @@ pub record WorldAgrees (w : World) : Type 0 where
   pub table : IsTable w.table
   pub rows : AllByRecursion IsDeclared w.declared
   pub links : AllByRecursion (LinkFits (length w.sites)) w.links
-  pub sites : (m : ℕ) → m < length w.sites → SiteIsWell w.table m w.moment (site w m)
+  pub sites : (m : ℕ) → m < length w.sites → SiteIsWell w.table m (wide_at w m) w.moment (site w m)
   pub sent : AllByRecursion (SentIsWell w.table) w.sent
 
 -- the moments of the motes that are on are not later than the world's
@@ -121,6 +124,12 @@ IsTrueThen p = TrueItem p.item p.before
 
 abbrev pub LeavesAgreement : Played → Type 0
 LeavesAgreement p = WorldAgrees p.after
+
+-- All motes are wide, or all are narrow and the table has no row of an image that their frames do not speak of.
+abbrev pub OneWidth : World → Type 0
+OneWidth w =
+    ((m : ℕ) → m < length w.sites → wide_at w m ≡ true)
+    ⊎ (((m : ℕ) → m < length w.sites → wide_at w m ≡ false) × AllByRecursion (λ row. row.image ≤ narrow_images) w.table)
 
 -- no mote is on
 abbrev pub AllOff : World → Type 0

@@ -1,19 +1,18 @@
 -- What holds of each item of a run: it is legal, what is kept stays, what starts is one row of the table, byte for byte, and
 -- wherever it is stopped, the chip agrees with the table.
-use Rattle.std.specs.Prelude.{◌≡◌, ◌⊎◌, ℕ, ◌<◌, ◌≤◌, true, List, length, Option, Some, None, IfSome, Ok, false}
+use Rattle.std.specs.Prelude.{◌≡◌, ◌⊎◌, ℕ, ◌<◌, ◌≤◌, true, List, length, Option, Some, None, IfSome, Bool, Ok}
 use Rattle.dg_nor.specs.Trail.{Leaves}
 use Rattle.dg_object.specs.Object.{Row, object}
 use Rattle.dg_base.specs.Crc.{crc_of}
 use Rattle.dg_control.specs.declared.snapshot.Order.{Order}
 use Rattle.dg_frame.specs.Grammar.{message_of}
 use Rattle.dg_frame.specs.declared.Entry.{Entry}
-use Rattle.dg_frame.specs.declared.Message.TheVariants.{Advert}
-use Rattle.dg_mote.specs.Summary.{entry_for}
+use Rattle.dg_mote.specs.Summary.{advert_by, entry_for}
 use Rattle.dg_volume.specs.Start.{Runs, runs_length, runs_crc}
 use Rattle.dg_volume.specs.Store.{Store, IsNear}
 use Rattle.dg_volume.specs.Table.{row_at}
 use Rattle.dg_volume.specs.Agreement.{Agrees}
-use Rattle.dg_rules.specs.World.{World, store_at}
+use Rattle.dg_rules.specs.World.{World, store_at, wide_at}
 use Rattle.dg_rules.specs.Events.{Does, Refuses, Goes, trail_of, does, mote_of}
 use Rattle.dg_rules.specs.Steps.{blows}
 use Rattle.dg_rules.specs.Small.{Holding, small, mote_in, holds}
@@ -31,7 +30,7 @@ use Rattle.dg_base.specs.declared.events.Step.{Step}
 abbrev pub LegalDoes : Does → Past → World → Step → World → Type 0
 LegalDoes (Refuses why) past w x v = small v ≡ small w
 LegalDoes (Goes d) past w x v =
-    LegalStep past w.declared (blows x.cut d.trail) (brought w x.event) x.event (mote_of x.event) (small w) (small v)
+    LegalStep past w.declared (blows x.cut d.trail) (wide_at w (mote_of x.event)) (brought w x.event) x.event (mote_of x.event) (small w) (small v)
 
 abbrev pub LegalItem : Item → Past → World → World → Type 0
 LegalItem (Declares row) past w v = small v ≡ small w
@@ -48,19 +47,20 @@ abbrev pub IsKeptIn : Option Holding → Holding → Type 0
 IsKeptIn None h = ⊥
 IsKeptIn (Some k) h = (h.version < k.version) ⊎ ((h.version ≡ k.version) × (h.pages ≤ k.pages))
 
--- a frame that names a newer version of the image, with at least one page
-abbrev pub NamesNewer : Option (List ℕ) → ℕ → Holding → Type 0
-NamesNewer None i h = ⊥
-NamesNewer (Some bytes) i h =
-    (source : ℕ) × (entries : List Entry) × (order : Order) × (message_of bytes false ≡ Ok (Advert source entries order))
+-- A frame that names a newer version of the image, with at least one page: an advert of either kind, as a wide mote reads
+-- it, or a narrow one.
+abbrev pub NamesNewer : (wide : Bool) → Option (List ℕ) → ℕ → Holding → Type 0
+NamesNewer wide None i h = ⊥
+NamesNewer wide (Some bytes) i h =
+    (kind : Bool) × (source : ℕ) × (entries : List Entry) × (order : Order) × (message_of bytes wide ≡ Ok (advert_by kind source entries order))
     × (1 ≤ (entry_for entries i).have) × (h.version < (entry_for entries i).version)
 
 -- an injection brings a newer version of the image, or an advert that is heard names one
 abbrev pub Replaces : World → Event → ℕ → Holding → Type 0
 Replaces w (Inject m image version dt word) i h = (image ≡ i) × (h.version < version)
-Replaces w (Hear m dt word frame) i h = NamesNewer (brought w (Hear m dt word frame)) i h
-Replaces w (Last from to dt word) i h = NamesNewer (brought w (Last from to dt word)) i h
-Replaces w (Frame m dt word bytes) i h = NamesNewer (Some bytes) i h
+Replaces w (Hear m dt word frame) i h = NamesNewer (wide_at w m) (brought w (Hear m dt word frame)) i h
+Replaces w (Last from to dt word) i h = NamesNewer (wide_at w to) (brought w (Last from to dt word)) i h
+Replaces w (Frame m dt word bytes) i h = NamesNewer (wide_at w m) (Some bytes) i h
 Replaces w (Tick m dt word) i h = ⊥
 Replaces w (Reset m dt word) i h = ⊥
 Replaces w (OrderEvent m number image version dt word) i h = ⊥

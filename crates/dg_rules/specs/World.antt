@@ -1,10 +1,11 @@
 -- A world: its motes with their chips, the images, the links, and the frames that were sent.
-use Rattle.std.specs.Prelude.{ℕ, ◌+◌, ◌-◌, ◌==◌, ◌&&◌, ◌||◌, nat_le, Bool, if◌then◌else◌, List, [], ◌∷◌, map, slice_get, slice_index_or, slice_set, Option, Some, None}
+use Rattle.std.specs.Prelude.{ℕ, ◌+◌, ◌-◌, ◌==◌, ◌&&◌, ◌||◌, nat_le, not, Bool, if◌then◌else◌, List, [], ◌∷◌, map, slice_get, slice_index_or, slice_set, Option, Some, None}
 use Rattle.std.specs.List.{list_any}
 use Rattle.dg_object.specs.Object.{Row}
 use Rattle.dg_volume.specs.Store.{Store, fresh}
 use Rattle.dg_mote.specs.Model.{MoteState}
 use Rattle.dg_base.specs.declared.events.Key.{Key}
+use Rattle.dg_script.specs.Places.{is_narrow}
 
 -- a mote that is on: what it runs, and its state
 pub record Running : Type 0 where
@@ -22,13 +23,15 @@ pub record Sent : Type 0 where
   pub bytes : List ℕ
 
 -- The moment in milliseconds, the number of events, the rows that were declared, the table of images, which motes are
--- neighbours, the frames that were sent, and the motes.
+-- neighbours, which are narrow, the frames that were sent, and the motes.
 pub record World : Type 0 where
   pub moment : ℕ
   pub events : ℕ
   pub declared : List Row
   pub table : List Row
   pub links : List (ℕ × ℕ)
+  -- by the number of the mote: no step changes it
+  pub narrow : List Bool
   -- the first one has number 1
   pub sent : List Sent
   pub sites : List Site
@@ -37,9 +40,9 @@ abbrev pub off_site : Store → Site
 off_site s = record { store = s; runs = None }
 
 -- the world in which a run begins: all motes are off, and nothing was sent
-abbrev pub first_world : List Row → List (ℕ × ℕ) → List Store → World
-first_world table links stores =
-    record { moment = 0; events = 0; declared = []; table = table; links = links; sent = []; sites = map off_site stores }
+abbrev pub first_world : List Row → List (ℕ × ℕ) → (narrow : List Bool) → List Store → World
+first_world table links narrow stores =
+    record { moment = 0; events = 0; declared = []; table = table; links = links; narrow = narrow; sent = []; sites = map off_site stores }
 
 -- a chip that no mote has: the answer for a number that is no mote
 abbrev pub no_site : Site
@@ -47,6 +50,13 @@ no_site = off_site (fresh [] [] 0)
 
 abbrev pub site : World → ℕ → Site
 site w m = slice_index_or w.sites m no_site
+
+-- a mote is wide unless it is said to be narrow
+abbrev pub wide_in : (narrow : List Bool) → ℕ → Bool
+wide_in narrow m = not (is_narrow narrow m)
+
+abbrev pub wide_at : World → ℕ → Bool
+wide_at w m = wide_in w.narrow m
 
 abbrev pub store_at : World → ℕ → Store
 store_at w m = (site w m).store

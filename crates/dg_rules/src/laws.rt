@@ -1,15 +1,16 @@
 //! What holds of worlds and of runs. These functions do nothing: their contracts are the laws.
-ghost use Rattle.std.specs.Prelude.{◌≡◌, ℕ, List, [], ◌∷◌, ◌++◌, length, replicate};
+ghost use Rattle.std.specs.Prelude.{◌≡◌, ℕ, ◌<◌, Bool, false, List, [], ◌∷◌, ◌++◌, length, replicate};
 ghost use Rattle.std.specs.List.{AllByRecursion};
 ghost use Rattle.dg_nor.specs.Trail.{Trail, Leaves};
 ghost use Rattle.dg_nor.specs.Through.{Through};
 ghost use Rattle.dg_object.specs.Object.{Row};
 ghost use Rattle.dg_volume.specs.Store.{Store, IsNear, golden_row, fresh};
 ghost use Rattle.dg_volume.specs.Agreement.{Agrees};
-ghost use Rattle.dg_rules.specs.World.{World, first_world};
+ghost use Rattle.dg_frame.specs.Sizes.{narrow_images};
+ghost use Rattle.dg_rules.specs.World.{World, wide_at, first_world};
 ghost use Rattle.dg_rules.specs.Steps.{WorldStep, DeclareStep, EndsRun};
-ghost use Rattle.dg_rules.specs.Events.{does};
-ghost use Rattle.dg_rules.specs.Runs.{Played, EachAfter};
+ghost use Rattle.dg_rules.specs.Events.{Refuses, does};
+ghost use Rattle.dg_rules.specs.Runs.{Played, Plays, EachAfter};
 ghost use Rattle.dg_rules.specs.Promises.{IsLegal, KeepsAll, GoldenStays, StartsDoes, StartsRow, StopsAgree};
 ghost use Rattle.dg_rules.specs.Ranges.{EventFits, StepFits};
 ghost use Rattle.dg_rules.specs.Premises.{WorldAgrees, WorldTimely, HonestEvent, IsHonestThen, TrueEvent, LeavesAgreement, IsDeclared};
@@ -17,10 +18,12 @@ ghost use Rattle.dg_rules.specs.Begins.{PlaysFrom, StoresAgree, HoldsTo, HoldsTo
 ghost use Rattle.dg_rules.specs.Consistency.{WorldConsistent, LeavesConsistent, StartsSoundDoes, StartsSound, StopsConsistent};
 ghost use Rattle.dg_rules.specs.Golden.{WorldKeepsGolden, FindsImage, PlaysGolden};
 ghost use Rattle.dg_base.specs.declared.events.Event.{Event};
+ghost use Rattle.dg_base.specs.declared.events.Event.TheVariants.{Inject, Order};
 ghost use Rattle.dg_base.specs.declared.events.Step.{Step};
+ghost use Rattle.dg_script.specs.declared.report.Cause.TheVariants.{Image};
 ghost use Rattle.dg_script.specs.declared.report.Report.{Report};
 
-use dg_frame::one_spelling;
+use dg_frame::{one_reading, one_spelling};
 use dg_mote::{
     a_frame_is_heard_in_silence, a_mote_keeps_consistency, a_mote_stays_timely, a_mote_stays_well,
     a_restart_is_for_the_order, packets_come_in_frames, what_a_mote_may_change,
@@ -29,6 +32,21 @@ use dg_mote::{
 use dg_volume::{
     a_start_ends, a_whole_image_is_sound, trails_keep_agreement, trails_keep_consistency,
 };
+
+/// No step and no declaration changes which motes are narrow, nor does a start that ends the run.
+pub fn widths_stay()
+    ensures stepped { (w v : World) (x : Step) (reports : List Report) → WorldStep w x v reports → v.narrow ≡ w.narrow }
+    ensures ended { (w v : World) (x : Step) → EndsRun w x v → v.narrow ≡ w.narrow }
+    ensures declared { (w v : World) (row : Row) (reports : List Report) → DeclareStep w row v reports → v.narrow ≡ w.narrow }
+    ensures played { (w v : World) (played : List Played) → Plays w played v → v.narrow ≡ w.narrow }
+{}
+
+/// A narrow mote takes no image that its frames do not speak of: whatever else is wrong, its injection and an order of it
+/// are refused for the image.
+pub fn narrow_motes_know_few_images()
+    ensures injects { (w : World) (m image version dt word : ℕ) → wide_at w m ≡ false → narrow_images < image → does w (Inject m image version dt word) ≡ Refuses Image }
+    ensures orders { (w : World) (m number image version dt word : ℕ) → wide_at w m ≡ false → narrow_images < image → does w (Order m number image version dt word) ≡ Refuses Image }
+{}
 
 /// A store that a cut leaves on a trail of agreeing stores agrees.
 pub fn what_a_cut_leaves_agrees()
@@ -50,6 +68,7 @@ pub fn agreement_is_kept()
     a_mote_stays_timely();
     what_is_sent_is_read();
     a_restart_is_for_the_order();
+    one_reading();
     one_spelling();
 }
 
@@ -122,11 +141,11 @@ pub fn consistency_is_kept()
 /// A script with golden, whatever bytes its frames carry and wherever its power is cut: every store is consistent at the
 /// end of each event, also where the event was stopped, and what starts is golden, or fits its own descriptor.
 pub fn any_frames_leave_stores_consistent()
-    ensures kept { (name bytes : List ℕ) (used motes : ℕ) (links : List (ℕ × ℕ)) (played : List Played) (v : World) → PlaysGolden name bytes used motes links played v
+    ensures kept { (name bytes : List ℕ) (used motes : ℕ) (links : List (ℕ × ℕ)) (narrow : List Bool) (played : List Played) (v : World) → PlaysGolden name bytes used motes links narrow played v
         → AllByRecursion (LeavesConsistent (golden_row name bytes)) played × WorldConsistent (golden_row name bytes) v }
-    ensures starts { (name bytes : List ℕ) (used motes : ℕ) (links : List (ℕ × ℕ)) (played : List Played) (v : World) → PlaysGolden name bytes used motes links played v
+    ensures starts { (name bytes : List ℕ) (used motes : ℕ) (links : List (ℕ × ℕ)) (narrow : List Bool) (played : List Played) (v : World) → PlaysGolden name bytes used motes links narrow played v
         → AllByRecursion (StartsSound (golden_row name bytes)) played }
-    ensures halves { (name bytes : List ℕ) (used motes : ℕ) (links : List (ℕ × ℕ)) (played : List Played) (v : World) (e : Event) → PlaysGolden name bytes used motes links played v
+    ensures halves { (name bytes : List ℕ) (used motes : ℕ) (links : List (ℕ × ℕ)) (narrow : List Bool) (played : List Played) (v : World) (e : Event) → PlaysGolden name bytes used motes links narrow played v
         → EventFits motes e → StopsConsistent (golden_row name bytes) v e }
 {
     trails_keep_consistency();
@@ -139,25 +158,25 @@ pub fn any_frames_leave_stores_consistent()
 /// and where the next event is honest too, then wherever a stop comes in it, each store that the chip may then stand for
 /// agrees with the table behind it.
 pub fn scripts_with_golden()
-    ensures legal { (name bytes : List ℕ) (used motes : ℕ) (links : List (ℕ × ℕ)) (played : List Played) (v : World) → PlaysGolden name bytes used motes links played v
+    ensures legal { (name bytes : List ℕ) (used motes : ℕ) (links : List (ℕ × ℕ)) (narrow : List Bool) (played : List Played) (v : World) → PlaysGolden name bytes used motes links narrow played v
         → AllByRecursion IsHonestThen played → EachAfter IsLegal [] played }
-    ensures keeps { (name bytes : List ℕ) (used motes : ℕ) (links : List (ℕ × ℕ)) (played : List Played) (v : World) → PlaysGolden name bytes used motes links played v
+    ensures keeps { (name bytes : List ℕ) (used motes : ℕ) (links : List (ℕ × ℕ)) (narrow : List Bool) (played : List Played) (v : World) → PlaysGolden name bytes used motes links narrow played v
         → AllByRecursion IsHonestThen played → AllByRecursion KeepsAll played }
-    ensures starts { (name bytes : List ℕ) (used motes : ℕ) (links : List (ℕ × ℕ)) (played : List Played) (v : World) → PlaysGolden name bytes used motes links played v
+    ensures starts { (name bytes : List ℕ) (used motes : ℕ) (links : List (ℕ × ℕ)) (narrow : List Bool) (played : List Played) (v : World) → PlaysGolden name bytes used motes links narrow played v
         → AllByRecursion IsHonestThen played → AllByRecursion StartsRow played }
-    ensures agrees { (name bytes : List ℕ) (used motes : ℕ) (links : List (ℕ × ℕ)) (played : List Played) (v : World) → PlaysGolden name bytes used motes links played v
+    ensures agrees { (name bytes : List ℕ) (used motes : ℕ) (links : List (ℕ × ℕ)) (narrow : List Bool) (played : List Played) (v : World) → PlaysGolden name bytes used motes links narrow played v
         → AllByRecursion IsHonestThen played → AllByRecursion LeavesAgreement played × WorldAgrees v }
-    ensures found { (name bytes : List ℕ) (used motes : ℕ) (links : List (ℕ × ℕ)) (played : List Played) (v : World) (e : Event) → PlaysGolden name bytes used motes links played v
+    ensures found { (name bytes : List ℕ) (used motes : ℕ) (links : List (ℕ × ℕ)) (narrow : List Bool) (played : List Played) (v : World) (e : Event) → PlaysGolden name bytes used motes links narrow played v
         → EventFits motes e → FindsImage (does v e) }
-    ensures halves { (name bytes : List ℕ) (used motes : ℕ) (links : List (ℕ × ℕ)) (played : List Played) (v : World) (e : Event) → PlaysGolden name bytes used motes links played v
+    ensures halves { (name bytes : List ℕ) (used motes : ℕ) (links : List (ℕ × ℕ)) (narrow : List Bool) (played : List Played) (v : World) (e : Event) → PlaysGolden name bytes used motes links narrow played v
         → AllByRecursion IsHonestThen played → EventFits motes e → HonestEvent v.table e → StopsAgree v e }
     // each row of the table but golden was declared, so that it is played from a world that agrees, and every event is true
-    ensures plays { (name bytes : List ℕ) (used motes : ℕ) (links : List (ℕ × ℕ)) (played : List Played) (v : World) → PlaysGolden name bytes used motes links played v
-        → AllByRecursion IsHonestThen played → PlaysFrom (first_world (golden_row name bytes ∷ []) links (replicate motes (fresh name bytes used))) played v }
+    ensures plays { (name bytes : List ℕ) (used motes : ℕ) (links : List (ℕ × ℕ)) (narrow : List Bool) (played : List Played) (v : World) → PlaysGolden name bytes used motes links narrow played v
+        → AllByRecursion IsHonestThen played → PlaysFrom (first_world (golden_row name bytes ∷ []) links narrow (replicate motes (fresh name bytes used))) played v }
     // and what is played more from there, with true events, is of a script with golden, over honest frames
-    ensures more { (name bytes : List ℕ) (used motes : ℕ) (links : List (ℕ × ℕ)) (played more : List Played) (w v : World) → PlaysGolden name bytes used motes links played w
-        → PlaysFrom (first_world (golden_row name bytes ∷ []) links (replicate motes (fresh name bytes used))) (played ++ more) v
-        → PlaysGolden name bytes used motes links (played ++ more) v × AllByRecursion IsHonestThen (played ++ more) }
+    ensures more { (name bytes : List ℕ) (used motes : ℕ) (links : List (ℕ × ℕ)) (narrow : List Bool) (played more : List Played) (w v : World) → PlaysGolden name bytes used motes links narrow played w
+        → PlaysFrom (first_world (golden_row name bytes ∷ []) links narrow (replicate motes (fresh name bytes used))) (played ++ more) v
+        → PlaysGolden name bytes used motes links narrow (played ++ more) v × AllByRecursion IsHonestThen (played ++ more) }
 {
     every_step_is_legal();
     golden_is_found();
@@ -170,18 +189,18 @@ pub fn scripts_with_golden()
 /// table; and where the next event holds to it too, then wherever a stop comes in it, each store that the chip may then
 /// stand for agrees with the table behind it.
 pub fn scripts_with_boards()
-    ensures legal { (table : List Row) (stores : List Store) (links : List (ℕ × ℕ)) (played : List Played) (v : World) → PlaysBoards table stores links played v
+    ensures legal { (table : List Row) (stores : List Store) (links : List (ℕ × ℕ)) (narrow : List Bool) (played : List Played) (v : World) → PlaysBoards table stores links narrow played v
         → StoresAgree table stores → AllByRecursion (HoldsToThen table) played → EachAfter IsLegal [] played }
-    ensures keeps { (table : List Row) (stores : List Store) (links : List (ℕ × ℕ)) (played : List Played) (v : World) → PlaysBoards table stores links played v
+    ensures keeps { (table : List Row) (stores : List Store) (links : List (ℕ × ℕ)) (narrow : List Bool) (played : List Played) (v : World) → PlaysBoards table stores links narrow played v
         → StoresAgree table stores → AllByRecursion (HoldsToThen table) played → AllByRecursion KeepsAll played }
-    ensures starts { (table : List Row) (stores : List Store) (links : List (ℕ × ℕ)) (played : List Played) (v : World) → PlaysBoards table stores links played v
+    ensures starts { (table : List Row) (stores : List Store) (links : List (ℕ × ℕ)) (narrow : List Bool) (played : List Played) (v : World) → PlaysBoards table stores links narrow played v
         → StoresAgree table stores → AllByRecursion (HoldsToThen table) played → AllByRecursion StartsRow played }
-    ensures agrees { (table : List Row) (stores : List Store) (links : List (ℕ × ℕ)) (played : List Played) (v : World) → PlaysBoards table stores links played v
+    ensures agrees { (table : List Row) (stores : List Store) (links : List (ℕ × ℕ)) (narrow : List Bool) (played : List Played) (v : World) → PlaysBoards table stores links narrow played v
         → StoresAgree table stores → AllByRecursion (HoldsToThen table) played → AllByRecursion LeavesAgreement played × WorldAgrees v }
-    ensures halves { (table : List Row) (stores : List Store) (links : List (ℕ × ℕ)) (played : List Played) (v : World) (e : Event) → PlaysBoards table stores links played v
+    ensures halves { (table : List Row) (stores : List Store) (links : List (ℕ × ℕ)) (narrow : List Bool) (played : List Played) (v : World) (e : Event) → PlaysBoards table stores links narrow played v
         → StoresAgree table stores → AllByRecursion (HoldsToThen table) played → EventFits (length stores) e → HoldsTo table v e → StopsAgree v e }
-    ensures plays { (table : List Row) (stores : List Store) (links : List (ℕ × ℕ)) (played : List Played) (v : World) → PlaysBoards table stores links played v
-        → StoresAgree table stores → AllByRecursion (HoldsToThen table) played → PlaysFrom (first_world table links stores) played v }
+    ensures plays { (table : List Row) (stores : List Store) (links : List (ℕ × ℕ)) (narrow : List Bool) (played : List Played) (v : World) → PlaysBoards table stores links narrow played v
+        → StoresAgree table stores → AllByRecursion (HoldsToThen table) played → PlaysFrom (first_world table links narrow stores) played v }
 {
     every_step_is_legal();
     a_restart_is_for_the_order();

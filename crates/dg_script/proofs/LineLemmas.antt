@@ -11,20 +11,20 @@ use Rattle.dg_base.specs.Sizes.{longest_frame, longest_mask}
 use Rattle.dg_base.specs.declared.events.Event.TheVariants.{Tick, Hear, Last, Reset, Inject, Order, Frame}
 use Rattle.dg_base.specs.declared.events.Cut.{Cut as CutOfPower}
 use Rattle.dg_object.specs.Sizes.{most_bytes}
-use Rattle.dg_script.specs.Sizes.{most_motes, network_images, most_used, most_sweeps, most_number, most_content}
+use Rattle.dg_script.specs.Sizes.{most_motes, most_image, most_used, most_sweeps, most_number, most_content}
 use Rattle.dg_script.specs.Results.{allowed_if, or_fault}
 use Rattle.dg_script.specs.Words.{one_of, two_of, three_of, four_of, five_of, six_of}
 use Rattle.dg_script.specs.Contents.{name_of, content_of, sized, sized_content, mask_of}
 use Rattle.dg_script.specs.Verbs.{is_played, stands, follows, standing, verb_of}
-use Rattle.dg_script.specs.Places.{is_linked}
+use Rattle.dg_script.specs.Places.{is_linked, is_narrow}
 use Rattle.dg_script.specs.Fields.{number_in, ranged_in, motes_in, mote_in, other_in, image_in, any_image_in, version_in, counted_in, used_in, sweeps_in}
-use Rattle.dg_script.specs.Lines.{motes_of, golden_of, none_of, boards_of, link_of, image_of, tick_of, hear_of, last_of, reset_of, inject_of, order_of, frame_of, most_by, at_most, cut_with, cut_of, round_of, sweeps_of, fields_of, played_verb}
+use Rattle.dg_script.specs.Lines.{motes_of, golden_of, none_of, boards_of, link_of, narrow_of, image_of, tick_of, hear_of, last_of, reset_of, inject_of, order_of, frame_of, most_by, at_most, cut_with, cut_of, round_of, sweeps_of, fields_of, played_verb}
 use Rattle.dg_script.specs.Fitting.{StandsBy, StandsAt, FitsLine, IsTimed, IsCounted, IsVersion, AreTwo, IsPlayed}
 use Rattle.dg_script.specs.Reading.{Reads}
 use Rattle.dg_script.specs.declared.fault.LineFault.{LineFault}
 use Rattle.dg_script.specs.declared.fault.LineFault.TheVariants as fault
 use Rattle.dg_script.specs.declared.line.Line.{Line}
-use Rattle.dg_script.specs.declared.line.Line.TheVariants.{Motes, Golden, Boards, Link, Image, Cut, Happens, Round, Sweeps}
+use Rattle.dg_script.specs.declared.line.Line.TheVariants.{Motes, Golden, Boards, Link, Narrow, Image, Cut, Happens, Round, Sweeps}
 use Rattle.dg_script.specs.declared.place.Place.{Place}
 use Rattle.dg_script.specs.declared.verbs.Verb.{Verb}
 use Rattle.dg_script.specs.declared.verbs.Verb.TheVariants as verb
@@ -150,7 +150,7 @@ numbered word n h = let here = ranged_in-within fault.Version 1 most_number word
 
 version_known : (image word : List ℕ) (i v : ℕ) → any_image_in image ≡ Ok i → version_in word ≡ Ok v → IsVersion i v
 version_known image word i v e f =
-    let here = ranged_in-within fault.Image 0 network_images image i e in
+    let here = ranged_in-within fault.Image 0 most_image image i e in
     let there = ranged_in-within fault.Version 1 most_number word v f in
     record { image = omega (arith, here.1); version = there.0; version_fits = omega (arith, there.1) }
 
@@ -209,6 +209,20 @@ link_known place fields line h =
       playing = λ p. p;
     })
 
+narrow_known : (place : Place) (fields : List (List ℕ)) (line : Line) → narrow_of place fields ≡ Ok line → Known verb.Narrow place line
+unfolding narrow_of
+narrow_known place fields line h =
+    let t = bound (one_of fields) _ line h in
+    let u = bound (standing verb.Narrow place) _ line t.2 in
+    let m = bound (mote_in place.motes t.0) _ line u.2 in
+    let new = guarded_ok (not (is_narrow place.narrow m.0)) fault.Place (Narrow m.0) line m.2 in
+    let P : Line → Type 0 = λ l. Known verb.Narrow place l in
+    subst P new.1 (record {
+      stood = (standing-by verb.Narrow place u.0 u.1, not-true _ new.0);
+      fitting = mote_in-below place.motes t.0 m.0 m.1;
+      playing = λ p. p;
+    })
+
 image_known : (place : Place) (fields : List (List ℕ)) (line : Line) → image_of place fields ≡ Ok line → Known verb.Image place line
 unfolding image_of
 image_known place fields line h =
@@ -218,7 +232,7 @@ image_known place fields line h =
     let version = bound (version_in t.0.1) _ line image.2 in
     let name = bound (name_of t.0.2) _ line version.2 in
     let content = bound (sized_content 0 most_content t.0.3) _ line name.2 in
-    let number = ranged_in-within fault.Image 1 network_images t.0.0 image.0 image.1 in
+    let number = ranged_in-within fault.Image 1 most_image t.0.0 image.0 image.1 in
     let some = ranged_in-within fault.Version 1 most_number t.0.1 version.0 version.1 in
     let size = sized_content-is 0 most_content t.0.3 content.0 content.1 in
     let here : Image image.0 version.0 name.0 content.0 ≡ line = cc in
@@ -409,6 +423,7 @@ fields_known verb.Motes place fields line h = motes_known place fields line h
 fields_known verb.Golden place fields line h = golden_known place fields line h
 fields_known verb.Boards place fields line h = boards_known place fields line h
 fields_known verb.Link place fields line h = link_known place fields line h
+fields_known verb.Narrow place fields line h = narrow_known place fields line h
 fields_known verb.Image place fields line h = image_known place fields line h
 fields_known verb.Tick place fields line h = tick_known place fields line h
 fields_known verb.Hear place fields line h = hear_known place fields line h

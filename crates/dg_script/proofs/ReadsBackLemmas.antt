@@ -19,19 +19,19 @@ use Rattle.dg_base.specs.declared.events.Cut.{Cut as CutOfPower}
 use Rattle.dg_base.proofs.NumberLemmas.{number_of-decimal}
 use Rattle.dg_base.proofs.HexLemmas.{hex_bytes-hex_text, length-hex_text}
 use Rattle.dg_object.specs.Sizes.{most_bytes}
-use Rattle.dg_script.specs.Sizes.{most_motes, network_images, most_used, most_sweeps, most_number, most_content, most_line, most_written}
+use Rattle.dg_script.specs.Sizes.{most_motes, most_image, most_used, most_sweeps, most_number, most_content, most_line, most_written}
 use Rattle.dg_script.specs.Words.{split_of, with_word, words_of, behind_spaces, spaced}
 use Rattle.dg_script.specs.Contents.{name_of, content_of, sized_content, mask_of}
 use Rattle.dg_script.specs.Verbs.{word_of, verb_of, is_played, standing}
-use Rattle.dg_script.specs.Places.{is_linked}
+use Rattle.dg_script.specs.Places.{is_linked, is_narrow}
 use Rattle.dg_script.specs.Fields.{number_in, ranged_in, mote_in, other_in}
-use Rattle.dg_script.specs.Lines.{motes_of, golden_of, boards_of, link_of, image_of, tick_of, hear_of, last_of, reset_of, inject_of, order_of, frame_of, cut_of, round_of, sweeps_of, fields_of, played_verb, is_comment, line_of}
+use Rattle.dg_script.specs.Lines.{motes_of, golden_of, boards_of, link_of, narrow_of, image_of, tick_of, hear_of, last_of, reset_of, inject_of, order_of, frame_of, cut_of, round_of, sweeps_of, fields_of, played_verb, is_comment, line_of}
 use Rattle.dg_script.specs.Fitting.{StandsBy, StandsAt, FitsLine, FitsEvent, IsVersion, AreTwo, IsPlayed, verb_of_event}
 use Rattle.dg_script.specs.Spelling.{content_text, event_words, line_text, IsShort}
 use Rattle.dg_script.specs.declared.fault.LineFault.{LineFault}
 use Rattle.dg_script.specs.declared.fault.LineFault.TheVariants as fault
 use Rattle.dg_script.specs.declared.line.Line.{Line}
-use Rattle.dg_script.specs.declared.line.Line.TheVariants.{Nothing, Motes, Golden, Boards, Link, Image, Cut, Happens, Round, Sweeps}
+use Rattle.dg_script.specs.declared.line.Line.TheVariants.{Nothing, Motes, Golden, Boards, Link, Narrow, Image, Cut, Happens, Round, Sweeps}
 use Rattle.dg_script.specs.declared.place.Place.{Place}
 use Rattle.dg_script.specs.declared.verbs.Verb.{Verb}
 use Rattle.dg_script.specs.declared.verbs.Verb.TheVariants as verb
@@ -40,15 +40,15 @@ use Rattle.dg_script.proofs.LineLemmas.{cut_with-ok}
 -- ---- words
 
 -- no byte is a space
-abbrev lacks : List ℕ → Bool
+abbrev pub lacks : List ℕ → Bool
 lacks [] = true
 lacks (c ∷ cs) = not (c == 32) && lacks cs
 
-record IsWord (w : List ℕ) : Type 0 where
-  some : 0 < length w
-  whole : lacks w ≡ true
+pub record IsWord (w : List ℕ) : Type 0 where
+  pub some : 0 < length w
+  pub whole : lacks w ≡ true
 
-abbrev AreWords : List (List ℕ) → Type 0
+abbrev pub AreWords : List (List ℕ) → Type 0
 AreWords [] = Unit {0}
 AreWords (w ∷ ws) = IsWord w × AreWords ws
 
@@ -68,7 +68,7 @@ words_word (c ∷ cs) rest h starts =
     ∙ ap (λ (xs : List ℕ). (c ∷ xs) ∷ (split_of rest).behind) (ap (λ (f : List ℕ). cs ++ f) starts ∙ append-nil cs)
 
 -- words with one space between them are these words
-words_spaced : (w : List ℕ) (ws : List (List ℕ)) → IsWord w → AreWords ws → words_of (w ++ behind_spaces ws) ≡ w ∷ ws
+pub words_spaced : (w : List ℕ) (ws : List (List ℕ)) → IsWord w → AreWords ws → words_of (w ++ behind_spaces ws) ≡ w ∷ ws
 unfolding words_of split_of
 words_spaced w [] h hs = words_word w [] h refl
 words_spaced w (v ∷ vs) h hs = words_word w (behind_spaces (v ∷ vs)) h refl ∙ ap (λ (rest : List (List ℕ)). w ∷ rest) (words_spaced v vs hs.0 hs.1)
@@ -96,6 +96,7 @@ is_verb verb.Motes = record { word = record { some = omega arith; whole = refl }
 is_verb verb.Golden = record { word = record { some = omega arith; whole = refl }; short = omega arith; says = refl; found = refl }
 is_verb verb.Boards = record { word = record { some = omega arith; whole = refl }; short = omega arith; says = refl; found = refl }
 is_verb verb.Link = record { word = record { some = omega arith; whole = refl }; short = omega arith; says = refl; found = refl }
+is_verb verb.Narrow = record { word = record { some = omega arith; whole = refl }; short = omega arith; says = refl; found = refl }
 is_verb verb.Image = record { word = record { some = omega arith; whole = refl }; short = omega arith; says = refl; found = refl }
 is_verb verb.Tick = record { word = record { some = omega arith; whole = refl }; short = omega arith; says = refl; found = refl }
 is_verb verb.Hear = record { word = record { some = omega arith; whole = refl }; short = omega arith; says = refl; found = refl }
@@ -125,7 +126,7 @@ reads_words v place ws line are small plays read =
 
 -- ---- fields
 
-digits_lack : (w : List ℕ) → all_ascii_digits w ≡ true → lacks w ≡ true
+pub digits_lack : (w : List ℕ) → all_ascii_digits w ≡ true → lacks w ≡ true
 digits_lack [] h = refl
 digits_lack (c ∷ cs) h =
     let parts = and_parts (is_ascii_digit c) (all_ascii_digits cs) h in
@@ -142,22 +143,22 @@ names_lack (c ∷ cs) h =
 digit_other : (v : ℕ) → (hex_digit v == 32) ≡ false
 digit_other v = grind (arith, nat_tests)
 
-hex_lacks : (bytes : List ℕ) → lacks (hex_text bytes) ≡ true
+pub hex_lacks : (bytes : List ℕ) → lacks (hex_text bytes) ≡ true
 unfolding hex_text
 hex_lacks [] = refl
 hex_lacks (b ∷ bs) = and_from _ _ (not_from_false _ (digit_other (b / 16))) (and_from _ _ (not_from_false _ (digit_other (b % 16))) (hex_lacks bs))
 
 -- a number as it is written
-record IsNumber (n : ℕ) : Type 0 where
-  small : n < 2 ^ 32
-  word : IsWord (decimal n)
-  short : length (decimal n) ≤ 10
-  read : number_in (decimal n) ≡ Ok n
+pub record IsNumber (n : ℕ) : Type 0 where
+  pub small : n < 2 ^ 32
+  pub word : IsWord (decimal n)
+  pub short : length (decimal n) ≤ 10
+  pub read : number_in (decimal n) ≡ Ok n
 
 own : IsNumeralModel (λ ds. all_ascii_digits ds ≡ true) (digits_value 10)
 own = numerals_by_value _ tells_all_ascii_digits
 
-number : (n : ℕ) → n < 2 ^ 32 → IsNumber n
+pub number : (n : ℕ) → n < 2 ^ 32 → IsNumber n
 unfolding number_in
 number n h = record {
   small = h;
@@ -257,6 +258,14 @@ link_read place a b stands new few fits plays =
     reads_words verb.Link place (decimal a ∷ decimal b ∷ []) (Link a b) (x.word, (y.word, tt)) (omega (arith, x.short, y.short)) plays
     (rw (stood verb.Link place stands, mote place.motes a x fits.first, other_mote place.motes a b y fits.second fits.other, new) refl)
 
+narrow_read : (place : Place) (m : ℕ) → StandsBy verb.Narrow place → is_narrow place.narrow m ≡ false → m < most_motes → m < place.motes → is_played verb.Narrow ≡ true
+    → line_of place (word_of verb.Narrow ++ behind_spaces (decimal m ∷ [])) ≡ Ok (Narrow m)
+unfolding narrow_of
+narrow_read place m stands new few fits plays =
+    let x = number m (omega (arith, few)) in
+    reads_words verb.Narrow place (decimal m ∷ []) (Narrow m) (x.word, tt) (omega (arith, x.short)) plays
+    (rw (stood verb.Narrow place stands, mote place.motes m x fits, new) refl)
+
 image_read : (place : Place) (image version : ℕ) (called bytes : List ℕ) → StandsBy verb.Image place → FitsLine most_motes (Image image version called bytes) → length bytes ≤ most_written → is_played verb.Image ≡ true
     → line_of place (word_of verb.Image ++ behind_spaces (decimal image ∷ decimal version ∷ called ∷ content_text bytes ∷ [])) ≡ Ok (Image image version called bytes)
 unfolding image_of
@@ -267,7 +276,7 @@ image_read place image version called bytes stands fits short plays =
     let c = content 0 most_content bytes fits.bytes (omega arith) fits.fits in
     reads_words verb.Image place (decimal image ∷ decimal version ∷ called ∷ content_text bytes ∷ []) (Image image version called bytes) (i.word, (v.word, (a.word, (c.word, tt))))
     (omega (arith, i.short, v.short, a.short, c.size, short)) plays
-    (rw (stood verb.Image place stands, ranged fault.Image 1 image network_images i fits.image (omega (arith, fits.image_fits)), ranged fault.Version 1 version most_number v fits.version (omega (arith, fits.version_fits)), a.read, c.read) refl)
+    (rw (stood verb.Image place stands, ranged fault.Image 1 image most_image i fits.image (omega (arith, fits.image_fits)), ranged fault.Version 1 version most_number v fits.version (omega (arith, fits.version_fits)), a.read, c.read) refl)
 
 cut_read : (place : Place) (cut : CutOfPower) → StandsBy verb.Cut place → FitsLine most_motes (Cut cut) → is_played verb.Cut ≡ true
     → line_of place (word_of verb.Cut ++ behind_spaces (decimal cut.after ∷ hex_text cut.mask ∷ [])) ≡ Ok (Cut cut)
@@ -335,8 +344,8 @@ reset_read place m d w stands few fits plays =
     reads_words verb.Reset place (decimal m ∷ decimal d ∷ decimal w ∷ []) (Happens (Reset m d w)) (a.word, (b.word, (c.word, tt))) (omega (arith, a.short, b.short, c.short)) plays
     (rw (stood verb.Reset place stands, mote place.motes m a fits.0, b.read, c.read) refl)
 
-any_image : (image version : ℕ) → IsNumber image → IsVersion image version → ranged_in fault.Image 0 network_images (decimal image) ≡ Ok image
-any_image image version is fits = ranged fault.Image 0 image network_images is (omega arith) (omega (arith, fits.image))
+any_image : (image version : ℕ) → IsNumber image → IsVersion image version → ranged_in fault.Image 0 most_image (decimal image) ≡ Ok image
+any_image image version is fits = ranged fault.Image 0 image most_image is (omega arith) (omega (arith, fits.image))
 
 some_version : (version : ℕ) → IsNumber version → 1 ≤ version → ranged_in fault.Version 1 most_number (decimal version) ≡ Ok version
 some_version version is low = ranged fault.Version 1 version most_number is low (omega (arith, is.small))
@@ -394,6 +403,7 @@ line_reads place (Motes n) few short stands fits plays = motes_read place n stan
 line_reads place (Golden called used bytes) few short stands fits plays = golden_read place called used bytes stands few plays
 line_reads place Boards few short stands fits plays = boards_read place stands plays
 line_reads place (Link a b) few short stands fits plays = link_read place a b stands.0 stands.1 few fits plays
+line_reads place (Narrow m) few short stands fits plays = narrow_read place m stands.0 stands.1 few fits plays
 line_reads place (Image image version called bytes) few short stands fits plays = image_read place image version called bytes stands few short plays
 line_reads place (Cut cut) few short stands fits plays = cut_read place cut stands few plays
 line_reads place (Happens event) few short stands fits plays = event_read place event stands few fits plays

@@ -1,7 +1,7 @@
 -- The fields of lines, with the fault of each.
 use Rattle.std.specs.Prelude.{ℕ, ◌==◌, nat_le, nat_lt, ◌&&◌, not, List, Result}
 use Rattle.dg_base.specs.Numbers.{number_of}
-use Rattle.dg_script.specs.Sizes.{most_motes, network_images, most_used, most_sweeps, most_number}
+use Rattle.dg_script.specs.Sizes.{most_motes, most_image, most_used, most_sweeps, most_number}
 use Rattle.dg_script.specs.Results.{◌>>=◌, guarded, or_fault}
 use Rattle.dg_script.specs.declared.fault.LineFault.{LineFault}
 use Rattle.dg_script.specs.declared.fault.LineFault.TheVariants.{Number, Mote, Image, Version}
@@ -28,10 +28,10 @@ other_in motes mote word = mote_in motes word >>= λ n. guarded (not (n == mote)
 
 -- an image that can be declared, and any image
 abbrev pub image_in : List ℕ → Result ℕ LineFault
-image_in = ranged_in Image 1 network_images
+image_in = ranged_in Image 1 most_image
 
 abbrev pub any_image_in : List ℕ → Result ℕ LineFault
-any_image_in = ranged_in Image 0 network_images
+any_image_in = ranged_in Image 0 most_image
 
 -- a version, or the number of an order
 abbrev pub version_in : List ℕ → Result ℕ LineFault

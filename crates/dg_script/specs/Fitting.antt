@@ -8,11 +8,11 @@ use Rattle.dg_base.specs.declared.events.Event.TheVariants.{Tick, Hear, Last, Re
 use Rattle.dg_base.specs.declared.events.Cut.{Cut as CutOfPower}
 use Rattle.dg_object.specs.Sizes.{most_bytes}
 use Rattle.dg_object.specs.Object.{Row, row_of}
-use Rattle.dg_script.specs.Sizes.{most_motes, network_images, most_used, most_content, most_sweeps}
+use Rattle.dg_script.specs.Sizes.{most_motes, most_image, most_used, most_content, most_sweeps}
 use Rattle.dg_script.specs.Verbs.{is_played, stands, follows}
-use Rattle.dg_script.specs.Places.{is_linked}
+use Rattle.dg_script.specs.Places.{is_linked, is_narrow}
 use Rattle.dg_script.specs.declared.line.Line.{Line}
-use Rattle.dg_script.specs.declared.line.Line.TheVariants.{Nothing, Motes, Golden, Boards, Link, Image, Cut, Happens, Round, Sweeps}
+use Rattle.dg_script.specs.declared.line.Line.TheVariants.{Nothing, Motes, Golden, Boards, Link, Narrow, Image, Cut, Happens, Round, Sweeps}
 use Rattle.dg_script.specs.declared.place.Place.{Place}
 use Rattle.dg_script.specs.declared.verbs.Verb.{Verb}
 use Rattle.dg_script.specs.declared.verbs.Verb.TheVariants as verb
@@ -25,10 +25,10 @@ pub record IsGolden (called : List ℕ) (spent : ℕ) (content : List ℕ) : Typ
   pub fits : length content ≤ most_bytes
   pub bytes : AreBytes content
 
--- an image that is declared has a number from 1 to 3, a version and a name
+-- an image that is declared has a number from 1 to 6, a version and a name
 pub record IsDeclared (i v : ℕ) (called content : List ℕ) : Type 0 where
   pub image : 1 ≤ i
-  pub image_fits : i ≤ network_images
+  pub image_fits : i ≤ most_image
   pub version : 1 ≤ v
   pub version_fits : v < 2 ^ 32
   pub name : IsTrue (spells_name called)
@@ -54,9 +54,9 @@ pub record AreTwo (motes a b : ℕ) : Type 0 where
   pub second : b < motes
   pub other : b ≢ a
 
--- an image, from 0 to 3, and a version of it
+-- an image, from 0 to 6, and a version of it
 pub record IsVersion (i v : ℕ) : Type 0 where
-  pub image : i ≤ network_images
+  pub image : i ≤ most_image
   pub version : 1 ≤ v
   pub version_fits : v < 2 ^ 32
 
@@ -85,6 +85,7 @@ FitsLine motes (Motes n) = (1 ≤ n) × (n ≤ most_motes)
 FitsLine motes (Golden name used content) = IsGolden name used content
 FitsLine motes Boards = Unit {0}
 FitsLine motes (Link a b) = AreTwo motes a b
+FitsLine motes (Narrow mote) = mote < motes
 FitsLine motes (Image image version name content) = IsDeclared image version name content
 FitsLine motes (Cut cut) = FitsCut cut
 FitsLine motes (Happens event) = FitsEvent motes event
@@ -112,6 +113,7 @@ StandsAt place (Motes n) = StandsBy verb.Motes place
 StandsAt place (Golden name used content) = StandsBy verb.Golden place
 StandsAt place Boards = StandsBy verb.Boards place
 StandsAt place (Link a b) = StandsBy verb.Link place × (is_linked place.links a b ≡ false)
+StandsAt place (Narrow mote) = StandsBy verb.Narrow place × (is_narrow place.narrow mote ≡ false)
 StandsAt place (Image image version name content) = StandsBy verb.Image place
 StandsAt place (Cut cut) = StandsBy verb.Cut place
 StandsAt place (Happens event) = StandsBy (verb_of_event event) place
@@ -129,6 +131,7 @@ IsPlayed (Motes n) = IsTrue (is_played verb.Motes)
 IsPlayed (Golden name used content) = IsTrue (is_played verb.Golden)
 IsPlayed Boards = IsTrue (is_played verb.Boards)
 IsPlayed (Link a b) = IsTrue (is_played verb.Link)
+IsPlayed (Narrow mote) = IsTrue (is_played verb.Narrow)
 IsPlayed (Image image version name content) = IsTrue (is_played verb.Image)
 IsPlayed (Cut cut) = IsTrue (is_played verb.Cut)
 IsPlayed (Happens event) = IsPlayedEvent event
@@ -142,6 +145,7 @@ UsesBoard (Motes n) = ⊥
 UsesBoard (Golden name used content) = Unit {0}
 UsesBoard Boards = Unit {0}
 UsesBoard (Link a b) = ⊥
+UsesBoard (Narrow mote) = ⊥
 UsesBoard (Image image version name content) = ⊥
 UsesBoard (Cut cut) = ⊥
 UsesBoard (Happens event) = Unit {0}

@@ -8,7 +8,7 @@ use Rattle.dg_rounds.specs.Rounds.{times, round, sweep}
 use Rattle.dg_script.specs.Fitting.{declared_row}
 use Rattle.dg_script.specs.Places.{first_place, place_after}
 use Rattle.dg_script.specs.declared.line.Line.{Line}
-use Rattle.dg_script.specs.declared.line.Line.TheVariants.{Nothing, Motes, Golden, Boards, Link, Image, Cut, Happens as HappensLine, Round, Sweeps}
+use Rattle.dg_script.specs.declared.line.Line.TheVariants.{Nothing, Motes, Golden, Boards, Link, Narrow, Image, Cut, Happens as HappensLine, Round, Sweeps}
 use Rattle.dg_script.specs.declared.place.Place.{Place}
 
 -- A row is declared, or an event happens. It is quiet where a round or a sweep gave it: then it tells of no frame that it sent.
@@ -27,6 +27,7 @@ cut_by cut (Motes n) = cut
 cut_by cut (Golden name used content) = cut
 cut_by cut Boards = cut
 cut_by cut (Link a b) = cut
+cut_by cut (Narrow mote) = cut
 cut_by cut (Image image version name content) = cut
 cut_by cut (Cut c) = Some c
 cut_by cut (HappensLine event) = None
@@ -40,6 +41,7 @@ item_by place cut (Motes n) = []
 item_by place cut (Golden name used content) = []
 item_by place cut Boards = []
 item_by place cut (Link a b) = []
+item_by place cut (Narrow mote) = []
 item_by place cut (Image image version name content) = Declares (declared_row image version name content) ∷ []
 item_by place cut (Cut c) = []
 item_by place cut (HappensLine event) = Happens (record { event = event; cut = cut }) true ∷ []

@@ -10,12 +10,12 @@ use Rattle.dg_script.specs.Results.{◌>>=◌, guarded, allowed_if, or_fault}
 use Rattle.dg_script.specs.Words.{words_of, one_of, two_of, three_of, four_of, five_of, six_of}
 use Rattle.dg_script.specs.Contents.{name_of, sized_content, mask_of}
 use Rattle.dg_script.specs.Verbs.{standing, verb_of, is_played}
-use Rattle.dg_script.specs.Places.{is_linked}
+use Rattle.dg_script.specs.Places.{is_linked, is_narrow}
 use Rattle.dg_script.specs.Fields.{number_in, motes_in, mote_in, other_in, image_in, any_image_in, version_in, counted_in, used_in, sweeps_in}
 use Rattle.dg_script.specs.declared.fault.LineFault.{LineFault}
 use Rattle.dg_script.specs.declared.fault.LineFault.TheVariants as fault
 use Rattle.dg_script.specs.declared.line.Line.{Line}
-use Rattle.dg_script.specs.declared.line.Line.TheVariants.{Nothing, Motes, Golden, Boards, Link, Image, Cut, Happens, Round, Sweeps}
+use Rattle.dg_script.specs.declared.line.Line.TheVariants.{Nothing, Motes, Golden, Boards, Link, Narrow, Image, Cut, Happens, Round, Sweeps}
 use Rattle.dg_script.specs.declared.place.Place.{Place}
 use Rattle.dg_script.specs.declared.verbs.Verb.{Verb}
 use Rattle.dg_script.specs.declared.verbs.Verb.TheVariants as verb
@@ -45,6 +45,12 @@ unfoldable pub link_of : Place → List (List ℕ) → Result Line LineFault
 link_of place fields =
     two_of fields >>= λ t. standing verb.Link place >>= λ u. mote_in place.motes t.0 >>= λ a. other_in place.motes a t.1 >>= λ b.
     guarded (not (is_linked place.links a b)) fault.Place (Link a b)
+
+-- `narrow M`
+unfoldable pub narrow_of : Place → List (List ℕ) → Result Line LineFault
+narrow_of place fields =
+    one_of fields >>= λ word. standing verb.Narrow place >>= λ u. mote_in place.motes word >>= λ mote.
+    guarded (not (is_narrow place.narrow mote)) fault.Place (Narrow mote)
 
 -- `image I V NAME CONTENT`
 unfoldable pub image_of : Place → List (List ℕ) → Result Line LineFault
@@ -134,6 +140,7 @@ fields_of verb.Motes place fields = motes_of place fields
 fields_of verb.Golden place fields = golden_of place fields
 fields_of verb.Boards place fields = boards_of place fields
 fields_of verb.Link place fields = link_of place fields
+fields_of verb.Narrow place fields = narrow_of place fields
 fields_of verb.Image place fields = image_of place fields
 fields_of verb.Tick place fields = tick_of place fields
 fields_of verb.Hear place fields = hear_of place fields

@@ -1,15 +1,20 @@
 -- Where a line stands, and how that changes behind it.
-use Rattle.std.specs.Prelude.{ℕ, ◌==◌, ◌&&◌, ◌||◌, not, Bool, true, false, if◌then◌else◌, List, [], ◌∷◌, ◌++◌, Option, Some, None}
+use Rattle.std.specs.Prelude.{ℕ, ◌==◌, ◌&&◌, ◌||◌, not, Bool, true, false, if◌then◌else◌, List, [], ◌∷◌, ◌++◌, replicate, slice_index_or, slice_set, Option, Some, None}
 use Rattle.std.specs.List.{list_any}
+use Rattle.dg_script.specs.Sizes.{most_motes}
 use Rattle.dg_script.specs.declared.fault.LineFault.{LineFault}
 use Rattle.dg_script.specs.declared.fault.LineFault.TheVariants as fault
 use Rattle.dg_script.specs.declared.line.Line.{Line}
-use Rattle.dg_script.specs.declared.line.Line.TheVariants.{Nothing, Motes, Golden, Boards, Link, Image, Cut, Happens, Round, Sweeps}
+use Rattle.dg_script.specs.declared.line.Line.TheVariants.{Nothing, Motes, Golden, Boards, Link, Narrow, Image, Cut, Happens, Round, Sweeps}
 use Rattle.dg_script.specs.declared.place.Place.{Place}
+
+-- no mote is narrow
+abbrev pub none_narrow : List Bool
+none_narrow = replicate most_motes false
 
 -- before the first line
 abbrev pub first_place : Place
-first_place = record { motes = 0; ready = false; events = false; cut = false; links = [] }
+first_place = record { motes = 0; ready = false; events = false; cut = false; links = []; narrow = none_narrow }
 
 -- the place behind a line
 abbrev pub place_after : Place → Line → Place
@@ -18,6 +23,7 @@ place_after place (Motes motes) = record place { motes = motes }
 place_after place (Golden name used content) = record place { ready = true }
 place_after place Boards = record place { ready = true }
 place_after place (Link a b) = record place { links = place.links ++ (a, b) ∷ [] }
+place_after place (Narrow mote) = record place { narrow = slice_set place.narrow mote true }
 place_after place (Image image version name content) = place
 place_after place (Cut cut) = record place { cut = true }
 place_after place (Happens event) = record place { events = true; cut = false }
@@ -30,6 +36,10 @@ joins a b link = (link.0 == a && link.1 == b) || (link.0 == b && link.1 == a)
 
 abbrev pub is_linked : List (ℕ × ℕ) → (a b : ℕ) → Bool
 is_linked links a b = list_any (joins a b) links
+
+-- a mote was said to be narrow
+abbrev pub is_narrow : List Bool → ℕ → Bool
+is_narrow narrow mote = slice_index_or narrow mote false
 
 -- the fault of an input that ends here, if it may not: its second line is missing, or the event behind a cut
 abbrev pub fault_at_end : Place → Option LineFault

@@ -1,9 +1,14 @@
 -- The ranges of the numbers in a script. They are this project's own profile, and each number stands here alone, but for
 -- those of the crates below.
-use Rattle.std.specs.Prelude.{ℕ, ◌+◌}
+use Rattle.std.specs.Prelude.{ℕ, ◌+◌, ◌-◌}
 use Rattle.dg_base.specs.Sizes.{most_input}
 use Rattle.dg_control.specs.Sizes.{most_room}
-pub use Rattle.dg_base.specs.Sizes.{most_motes, network_images, most_content}
+use Rattle.dg_object.specs.Sizes.{slots}
+pub use Rattle.dg_base.specs.Sizes.{most_motes, most_content}
+
+-- the largest number of an image: a chip has a slot for each from 0 on
+abbrev pub most_image : ℕ
+most_image = slots - 1
 
 -- the commits that are told as spent: as many as a chip has
 abbrev pub most_used : ℕ

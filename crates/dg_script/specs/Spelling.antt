@@ -8,7 +8,7 @@ use Rattle.dg_base.specs.declared.events.Event.TheVariants.{Tick, Hear, Last, Re
 use Rattle.dg_script.specs.Sizes.{most_written}
 use Rattle.dg_script.specs.Words.{spaced}
 use Rattle.dg_script.specs.declared.line.Line.{Line}
-use Rattle.dg_script.specs.declared.line.Line.TheVariants.{Nothing, Motes, Golden, Boards, Link, Image, Cut, Happens, Round, Sweeps}
+use Rattle.dg_script.specs.declared.line.Line.TheVariants.{Nothing, Motes, Golden, Boards, Link, Narrow, Image, Cut, Happens, Round, Sweeps}
 use Rattle.dg_script.specs.declared.spelling.Field.{Field}
 use Rattle.dg_script.specs.declared.spelling.Field.TheVariants as field
 
@@ -46,6 +46,7 @@ line_words (Motes n) = codes "motes" ∷ decimal n ∷ []
 line_words (Golden name used content) = codes "golden" ∷ name ∷ decimal used ∷ content_text content ∷ []
 line_words Boards = codes "boards" ∷ []
 line_words (Link a b) = codes "link" ∷ decimal a ∷ decimal b ∷ []
+line_words (Narrow mote) = codes "narrow" ∷ decimal mote ∷ []
 line_words (Image image version name content) = codes "image" ∷ decimal image ∷ decimal version ∷ name ∷ content_text content ∷ []
 line_words (Cut cut) = codes "cut" ∷ decimal cut.after ∷ hex_text cut.mask ∷ []
 line_words (Happens event) = event_words event
@@ -63,6 +64,7 @@ IsShort (Motes n) = Unit {0}
 IsShort (Golden name used content) = Unit {0}
 IsShort Boards = Unit {0}
 IsShort (Link a b) = Unit {0}
+IsShort (Narrow mote) = Unit {0}
 IsShort (Image image version name content) = length content ≤ most_written
 IsShort (Cut cut) = Unit {0}
 IsShort (Happens event) = Unit {0}

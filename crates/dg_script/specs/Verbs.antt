@@ -6,13 +6,14 @@ use Rattle.dg_script.specs.declared.fault.LineFault.{LineFault}
 use Rattle.dg_script.specs.declared.fault.LineFault.TheVariants as fault
 use Rattle.dg_script.specs.declared.place.Place.{Place}
 use Rattle.dg_script.specs.declared.verbs.Verb.{Verb}
-use Rattle.dg_script.specs.declared.verbs.Verb.TheVariants.{Motes, Golden, Boards, Link, Image, Tick, Hear, Last, Reset, Inject, Order, Frame, Cut, Round, Sweeps}
+use Rattle.dg_script.specs.declared.verbs.Verb.TheVariants.{Motes, Golden, Boards, Link, Narrow, Image, Tick, Hear, Last, Reset, Inject, Order, Frame, Cut, Round, Sweeps}
 
 abbrev pub word_of : Verb → List ℕ
 word_of Motes = codes "motes"
 word_of Golden = codes "golden"
 word_of Boards = codes "boards"
 word_of Link = codes "link"
+word_of Narrow = codes "narrow"
 word_of Image = codes "image"
 word_of Tick = codes "tick"
 word_of Hear = codes "hear"
@@ -31,6 +32,7 @@ is_played Motes = true
 is_played Golden = true
 is_played Boards = true
 is_played Link = true
+is_played Narrow = true
 is_played Image = true
 is_played Tick = true
 is_played Hear = true
@@ -49,6 +51,7 @@ is_event_verb Motes = false
 is_event_verb Golden = false
 is_event_verb Boards = false
 is_event_verb Link = false
+is_event_verb Narrow = false
 is_event_verb Image = false
 is_event_verb Tick = true
 is_event_verb Hear = true
@@ -61,7 +64,7 @@ is_event_verb Cut = false
 is_event_verb Round = false
 is_event_verb Sweeps = false
 
--- The first line that says something is `motes`, and the second is `golden` or `boards`. These come once. Links come before the first event, round or sweep.
+-- The first line that says something is `motes`, and the second is `golden` or `boards`. These come once. Links and narrow motes come before the first event, round or sweep.
 abbrev pub is_second : Place → Bool
 is_second place = nat_lt 0 place.motes && not place.ready
 
@@ -73,6 +76,7 @@ stands Motes place = place.motes == 0
 stands Golden place = is_second place
 stands Boards place = is_second place
 stands Link place = is_later place && not place.events
+stands Narrow place = is_later place && not place.events
 stands Image place = is_later place
 stands Tick place = is_later place
 stands Hear place = is_later place
@@ -102,7 +106,7 @@ abbrev pub event_verb_of : List ℕ → Option Verb
 event_verb_of = verb_among (Tick ∷ Last ∷ Hear ∷ Frame ∷ Reset ∷ Inject ∷ Order ∷ [])
 
 abbrev pub other_verb_of : List ℕ → Option Verb
-other_verb_of = verb_among (Round ∷ Sweeps ∷ Cut ∷ Image ∷ Link ∷ Golden ∷ Boards ∷ Motes ∷ [])
+other_verb_of = verb_among (Round ∷ Sweeps ∷ Cut ∷ Image ∷ Link ∷ Narrow ∷ Golden ∷ Boards ∷ Motes ∷ [])
 
 abbrev pub or_else : Option Verb → Option Verb → Option Verb
 or_else (Some verb) other = Some verb

@@ -31,7 +31,7 @@ pub enum LineFault {
     Content,
     /// A field is no mask of an allowed length.
     Mask,
-    /// The line may not stand at its place, or repeats a link.
+    /// The line may not stand at its place, or repeats a link or a narrow mote.
     Place,
     /// A cut waits for its event, and the line is none.
     Cut,

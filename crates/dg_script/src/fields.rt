@@ -3,8 +3,8 @@ ghost use Rattle.std.specs.Prelude.{◌≡◌, ◌≤◌, ◌<◌, ◌^◌, IfOk
 ghost use Rattle.dg_script.specs.Fields.{number_in, ranged_in, motes_in, mote_in, other_in, image_in, any_image_in, version_in, counted_in, used_in, sweeps_in};
 
 use crate::fault::LineFault;
-use crate::sizes::MOST_SWEEPS;
-use dg_base::{MOST_MOTES, NETWORK_IMAGES, parse_u32};
+use crate::sizes::{MOST_IMAGE, MOST_SWEEPS};
+use dg_base::{MOST_MOTES, parse_u32};
 use dg_control::MOST_ROOM;
 
 /// A number.
@@ -67,19 +67,19 @@ pub fn other_mote(word: &[u8], motes: u8, first: u8) -> Result<u8, LineFault>
     Ok(other)
 }
 
-/// The number of an image that can be declared, 1 to 3.
+/// The number of an image that can be declared, 1 to 6.
 pub fn image_number(word: &[u8]) -> Result<u8, LineFault>
     ensures { result ≡ image_in word.now }
 {
-    let image = ranged(word, 1, NETWORK_IMAGES as u32, LineFault::Image)?;
+    let image = ranged(word, 1, u32::from(MOST_IMAGE), LineFault::Image)?;
     Ok(image as u8)
 }
 
-/// The number of an image, 0 to 3.
+/// The number of an image, 0 to 6.
 pub fn any_image_number(word: &[u8]) -> Result<u8, LineFault>
     ensures { result ≡ any_image_in word.now }
 {
-    let image = ranged(word, 0, NETWORK_IMAGES as u32, LineFault::Image)?;
+    let image = ranged(word, 0, u32::from(MOST_IMAGE), LineFault::Image)?;
     Ok(image as u8)
 }
 

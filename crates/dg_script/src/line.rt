@@ -20,9 +20,11 @@ pub enum Line {
     Boards,
     /// Two motes are neighbours.
     Link(u8, u8),
+    /// A mote is narrow: it has the old radio.
+    Narrow(u8),
     /// An image is declared.
     Image {
-        /// Its number, 1 to 3.
+        /// Its number, 1 to 6.
         image: u8,
         version: u32,
         name: Bytes,

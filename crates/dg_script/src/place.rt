@@ -1,10 +1,10 @@
 //! Where a line stands.
-ghost use Rattle.std.specs.Prelude.{◌≡◌, ℕ, List, OnOk, OnErr};
-ghost use Rattle.dg_script.specs.Places.{first_place, place_after, fault_at_end, is_linked, joins};
+ghost use Rattle.std.specs.Prelude.{◌≡◌, ℕ, List, true, slice_set, OnOk, OnErr};
+ghost use Rattle.dg_script.specs.Places.{first_place, place_after, fault_at_end, is_linked, joins, is_narrow};
 
 use crate::fault::LineFault;
 use crate::line::Line;
-use dg_base::Pairs;
+use dg_base::{MOST_MOTES, Pairs};
 use std::alloc::{AllocError, Global};
 
 /// Where a line stands: what the lines before it said decides which line may come.
@@ -20,6 +20,8 @@ pub struct Place {
     pub cut: bool,
     /// The links so far.
     pub links: Pairs,
+    /// Which motes are narrow, by their numbers.
+    pub narrow: [bool; MOST_MOTES as usize],
 }
 
 impl Place {
@@ -33,6 +35,7 @@ impl Place {
             events: false,
             cut: false,
             links: Pairs::new(Vec::new(alloc)),
+            narrow: [false; MOST_MOTES as usize],
         }
     }
 
@@ -56,6 +59,10 @@ impl Place {
                 Ok(())
             }
             Line::Link(a, b) => self.links.push((*a, *b)),
+            Line::Narrow(mote) => {
+                mark(&mut self.narrow, usize::from(*mote));
+                Ok(())
+            }
             Line::Image { .. } => Ok(()),
             Line::Cut(_) => {
                 self.cut = true;
@@ -92,6 +99,25 @@ impl Place {
         ensures { result ≡ is_linked self.now.links a b }
     {
         self.links.as_slice().iter().any(|link| joins(*link, a, b))
+    }
+
+    /// Whether a mote was said to be narrow.
+    pub(crate) fn is_narrow(&self, mote: u8) -> bool
+        ensures { result ≡ is_narrow self.now.narrow mote }
+    {
+        match self.narrow.get(usize::from(mote)) {
+            Some(narrow) => *narrow,
+            None => false,
+        }
+    }
+}
+
+// Marks the mote with this number, if there may be one.
+fn mark(motes: &mut [bool], mote: usize)
+    ensures { motes.new ≡ slice_set motes.old mote true }
+{
+    if mote < motes.len() {
+        motes[mote] = true;
     }
 }
 

@@ -12,7 +12,8 @@ use crate::fault::LineFault;
 use crate::line::Line;
 use crate::place::Place;
 use crate::settings::{
-    boards_line, cut_line, golden_line, image_line, link_line, motes_line, round_line, sweeps_line,
+    boards_line, cut_line, golden_line, image_line, link_line, motes_line, narrow_line, round_line,
+    sweeps_line,
 };
 use crate::sizes::LONGEST;
 use crate::verbs::Verb;
@@ -42,6 +43,7 @@ fn verb_line(alloc: Global, verb: Verb, fields: &[u8], place: &Place) -> Result<
         Verb::Golden => golden_line(alloc, fields, place),
         Verb::Boards => boards_line(fields, place),
         Verb::Link => link_line(fields, place),
+        Verb::Narrow => narrow_line(fields, place),
         Verb::Image => image_line(alloc, fields, place),
         Verb::Tick => tick_line(fields, place),
         Verb::Hear => hear_line(fields, place),

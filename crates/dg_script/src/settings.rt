@@ -1,7 +1,7 @@
 //! Reads the lines that are no events.
 ghost use Rattle.std.specs.Prelude.{◌≡◌};
 ghost use Rattle.dg_script.specs.Words.{words_of};
-ghost use Rattle.dg_script.specs.Lines.{motes_of, golden_of, boards_of, link_of, image_of, cut_of, round_of, sweeps_of};
+ghost use Rattle.dg_script.specs.Lines.{motes_of, golden_of, boards_of, link_of, narrow_of, image_of, cut_of, round_of, sweeps_of};
 ghost use Rattle.dg_script.specs.Reading.{Reads};
 
 use crate::content::{mask, name, sized_content};
@@ -68,6 +68,20 @@ pub fn link_line(fields: &[u8], place: &Place) -> Result<Line, LineFault>
         return Err(LineFault::Place);
     }
     Ok(Line::Link(a, b))
+}
+
+/// `narrow M`
+#[tactic(auto, unfolding(crate::specs::Lines::narrow_of))]
+pub fn narrow_line(fields: &[u8], place: &Place) -> Result<Line, LineFault>
+    ensures { result ≡ narrow_of place.now (words_of fields.now) }
+{
+    let word = one_word(fields)?;
+    Verb::Narrow.stand(place)?;
+    let mote = mote(word, place.motes)?;
+    if place.is_narrow(mote) {
+        return Err(LineFault::Place);
+    }
+    Ok(Line::Narrow(mote))
 }
 
 /// `image I V NAME CONTENT`

@@ -13,6 +13,7 @@ pub enum Verb {
     Golden,
     Boards,
     Link,
+    Narrow,
     Image,
     Tick,
     Hear,
@@ -79,6 +80,9 @@ fn other_verb(word: &[u8]) -> Option<Verb>
     if is_same(word, b"link") {
         return Some(Verb::Link);
     }
+    if is_same(word, b"narrow") {
+        return Some(Verb::Narrow);
+    }
     if is_same(word, b"golden") {
         return Some(Verb::Golden);
     }
@@ -109,7 +113,7 @@ impl Verb {
     {
         match self {
             Verb::Motes | Verb::Golden | Verb::Boards | Verb::Link => true,
-            Verb::Image => true,
+            Verb::Narrow | Verb::Image => true,
             Verb::Tick | Verb::Hear | Verb::Last | Verb::Reset => true,
             Verb::Inject | Verb::Order | Verb::Frame => true,
             Verb::Cut | Verb::Round | Verb::Sweeps => true,
@@ -124,7 +128,8 @@ impl Verb {
             Verb::Tick | Verb::Hear | Verb::Last | Verb::Reset => true,
             Verb::Inject | Verb::Order | Verb::Frame => true,
             Verb::Motes | Verb::Golden | Verb::Boards | Verb::Link => false,
-            Verb::Image | Verb::Cut | Verb::Round | Verb::Sweeps => false,
+            Verb::Narrow | Verb::Image => false,
+            Verb::Cut | Verb::Round | Verb::Sweeps => false,
         }
     }
 
@@ -135,7 +140,7 @@ impl Verb {
         match self {
             Verb::Motes => place.motes == 0,
             Verb::Golden | Verb::Boards => is_second(place),
-            Verb::Link => is_later(place) && !place.events,
+            Verb::Link | Verb::Narrow => is_later(place) && !place.events,
             Verb::Image | Verb::Cut | Verb::Round | Verb::Sweeps => is_later(place),
             Verb::Tick | Verb::Hear | Verb::Last | Verb::Reset => is_later(place),
             Verb::Inject | Verb::Order | Verb::Frame => is_later(place),

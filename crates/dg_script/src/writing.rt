@@ -217,6 +217,7 @@ fn push_said(out: &mut Vec<u8>, line: &Line) -> Result<(), AllocError>
         ),
         Line::Boards => push_line(out, b"boards", &[]),
         Line::Link(a, b) => push_pair(out, b"link", *a, *b),
+        Line::Narrow(mote) => push_line(out, b"narrow", &[Field::Small(*mote)]),
         Line::Image {
             image,
             version,

@@ -1,4 +1,3 @@
-use Rattle.std.proofs.Common.{false}
 use Rattle.dg_rules.proofs.EventLemmas.{RestartLaws}
 use Rattle.dg_rules.proofs.AgreementLemmas.{VolumeLaws, MoteLaws, Laws, step_agrees, declare_agrees, stops_agree}
 use Rattle.dg_rules.proofs.TimelyLemmas.{TimeLaws, step_timely}
@@ -23,7 +22,8 @@ returns c =
       speaks_first = said.begins;
       speaks_ticked = said.ticked;
       speaks_heard = said.heard;
-      bytes_fit = λ b m h e. c.one_spelling.ensures.fits b false m h e;
+      bytes_fit = c.one_spelling.ensures.fits;
+      wider = c.one_reading.ensures.wider;
     } in
     let laws : Laws = record { volume = volume; mote = mote } in
     let times : TimeLaws = record { begins = time.begins; later = time.later; reloads = time.reloaded; ticks = time.ticked; hears = time.heard } in
