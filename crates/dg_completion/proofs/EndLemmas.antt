@@ -1,5 +1,5 @@
 -- What is played to its end with a rest.
-use Rattle.std.proofs.Common.{◌≡◌, ℕ, zero, suc, ◌+◌, ◌<◌, ◌&&◌, ◌||◌, cond, eqb, List, [], ◌∷◌, ◌++◌, drop, length, replicate, append_assoc, Option, Some, None, refl, sym, ap, subst, ◌∙◌}
+use Rattle.std.proofs.Common.{◌≡◌, ℕ, zero, suc, ◌+◌, ◌<◌, ◌&&◌, ◌||◌, cond, eqb, true, List, [], ◌∷◌, ◌++◌, drop, length, replicate, append_assoc, Option, Some, None, refl, sym, ap, subst, ◌∙◌}
 use Rattle.std.specs.List.{AllByRecursion, list_any}
 use Rattle.dg_object.specs.Object.{Row}
 use Rattle.dg_nor.specs.Trail.{last}
@@ -246,13 +246,14 @@ module _
       rest = end.sweeps;
       run = follows v.declared end.rest w v end.run end.uncut free_rest;
       on = λ j h. record { running = (end.on j h).running; runs = (end.on j h).runs };
+      widths = end.widths;
       room = end.room;
     }
 
   pub ends : CompletionLaw → EndsLaw
   ends complete u played w v n k begins end enough many i row m from to is there =
       let s = stays u played w v n begins end in
-      complete (declaring v.declared w) v n k (events_of end.rest) (rests u played w v n begins end) (enough_same v.declared w shared k enough) many i row m from to
+      complete (declaring v.declared w) v n k (events_of end.rest) (rests u played w v n begins end) (enough_same v.declared w (shared true) k enough) many i row m from to
       (ap (λ t. newest t i) (sym s.table) ∙ is) (subst (λ c. m < c) s.count there)
 
   pub ends_pipeline : PipelineLaw → EndsPipelineLaw
@@ -324,7 +325,7 @@ module _ (agrees : (u v : World) (played : List Played) → PlaysFrom u played v
             record { running = r.running; runs = r.runs; drained = r.drained; kept = r.kept; others = r.others };
         raises = λ w v a b i r ahead.
             let l = passes_on u played end w v (paced a) (drop 1 (round a b)) from (round_free a b) r.passes in
-            let d = raises (declaring v.declared w) v a b i l.good r.near (on_too w v a r.on_a) (on_too w v b r.on_b) l.run r.room_a r.room_b ahead in
+            let d = raises (declaring v.declared w) v a b i l.good r.near r.alike (on_too w v a r.on_a) (on_too w v b r.on_b) l.run r.room_a r.room_b ahead in
             record { raises = d.0; kept = d.1; others = d.2 };
       }
 

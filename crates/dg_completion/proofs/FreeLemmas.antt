@@ -1,5 +1,5 @@
 -- What a tick or a heard frame keeps of a world that agrees with its table.
-use Rattle.std.proofs.Common.{◌≡◌, ◌≢◌, ◌⊎◌, ℕ, ◌+◌, ◌<◌, ◌≤◌, cond, List, length, get_or, Option, Some, None, refl, sym, ap, subst, ◌∙◌, inl, inr, arith}
+use Rattle.std.proofs.Common.{◌≡◌, ◌≢◌, ◌⊎◌, ℕ, ◌+◌, ◌<◌, ◌≤◌, Bool, cond, List, length, get_or, Option, Some, None, refl, sym, ap, subst, ◌∙◌, inl, inr, arith}
 use Rattle.std.specs.Prelude.{◌-◌, nat_le, slice_get}
 use Rattle.std.proofs.lemmas.Bool.{cases_Bool, cases_eq, cases_lt}
 use Rattle.std.proofs.lemmas.List.{get_or-set_same, get_or-set_other, get_or_past, length-set}
@@ -16,8 +16,9 @@ use Rattle.dg_mote.specs.Model.{MoteState, begun}
 use Rattle.dg_mote.specs.Ticks.{tick_of}
 use Rattle.dg_mote.specs.Hears.{heard_of}
 use Rattle.dg_mote.specs.Changes.{MayClear}
+use Rattle.dg_mote.specs.Agreement.{HonestMessage}
 use Rattle.dg_mote.specs.Well.{IsWell}
-use Rattle.dg_rules.specs.World.{World, Running, Site, Sent, site, store_at, with_site, counted, no_site, linked, frame_at, last_frame}
+use Rattle.dg_rules.specs.World.{World, Running, Site, Sent, site, wide_at, store_at, with_site, counted, no_site, linked, frame_at, last_frame}
 use Rattle.dg_rules.specs.Events.{Deed, Does, Refuses, Goes, does, mote_of, dt_of, key_of, tick_by, heard_sent, heard_last, unless_off}
 use Rattle.dg_rules.specs.Steps.{WorldStep, StepDoes, and_sent}
 use Rattle.dg_rules.specs.Premises.{WorldAgrees, SentIsWell, TrueEvent}
@@ -117,9 +118,9 @@ FreeDoes w m (Goes d) = FreeDeed w m d
 going_on : (r : Running) (runs : Option Running) → ◌≡◌ {A = Option (Option Running)} (Some (Some r)) (Some runs) → (q : Running) × (runs ≡ Some q)
 going_on r runs e = (r, sym (same_running (Some r) runs e))
 
-starting_on : (o : Option Runs) (id now word : ℕ) (runs : Option Running) → running_by o id now word ≡ Some runs → (q : Running) × (runs ≡ Some q)
-starting_on None id now word runs e = absurd cc
-starting_on (Some r) id now word runs e = going_on (record { key = key_of r; mote = begun id now word }) runs e
+starting_on : (o : Option Runs) (id : ℕ) (wide : Bool) (now word : ℕ) (runs : Option Running) → running_by o id wide now word ≡ Some runs → (q : Running) × (runs ≡ Some q)
+starting_on None id wide now word runs e = absurd cc
+starting_on (Some r) id wide now word runs e = going_on (record { key = key_of r; mote = begun id wide now word }) runs e
 
 module _ (laws : Laws) (w : World) (good : WorldAgrees w) where
   hear_free : (m dt word : ℕ) (f : Sent) (r : Running) → SentIsWell w.table f
@@ -127,7 +128,7 @@ module _ (laws : Laws) (w : World) (good : WorldAgrees w) where
   hear_free m dt word f r q = record {
     table = refl;
     on = λ runs e. going_on (record { key = r.key; mote = (heard_of r.mote (store_at w m) (w.moment + dt) word f.bytes).mote }) runs e;
-    stays = stays_heard laws.changes w.table r.mote (store_at w m) (w.moment + dt) word f.bytes q.message q.spelled q.honest;
+    stays = stays_heard laws.changes w.table r.mote (store_at w m) (w.moment + dt) word f.bytes (subst (HonestMessage w.table) (sym q.spelled) q.honest);
   }
 
   free_does : (e : Event) → IsFree e → FreeDoes w (mote_of e) (does w e)
@@ -141,7 +142,7 @@ module _ (laws : Laws) (w : World) (good : WorldAgrees w) where
       })
       (λ m dt word r is waits free. record {
         table = refl;
-        on = λ runs e. starting_on (boot kind.Order (store_at w m)).runs r.mote.id (w.moment + dt) word runs e;
+        on = λ runs e. starting_on (boot kind.Order (store_at w m)).runs r.mote.id r.mote.wide (w.moment + dt) word runs e;
         stays = stays_start laws.starts w.table (store_at w m) (laws.sound w.table good.table) (good.sites m (on_there w m r is)).store.agrees waits;
       })
       (λ m dt word free. absurd cc)
@@ -158,10 +159,11 @@ module _ (laws : Laws) (w : World) (good : WorldAgrees w) where
     pub sites : v.sites ≡ u.sites
     pub table : v.table ≡ u.table
     pub links : v.links ≡ u.links
+    pub narrow : v.narrow ≡ u.narrow
 
   pub sent_same : (u : World) (m : ℕ) (o : Option Message) → SameBut u (and_sent u m o)
-  sent_same u m None = record { sites = refl; table = refl; links = refl }
-  sent_same u m (Some message) = record { sites = refl; table = refl; links = refl }
+  sent_same u m None = record { sites = refl; table = refl; links = refl; narrow = refl }
+  sent_same u m (Some message) = record { sites = refl; table = refl; links = refl; narrow = refl }
 
   refused_agrees : (dt : ℕ) → WorldAgrees (counted w dt)
   refused_agrees dt = record {
@@ -169,22 +171,23 @@ module _ (laws : Laws) (w : World) (good : WorldAgrees w) where
     table = good.table;
     rows = good.rows;
     links = good.links;
-    sites = λ j low. site_wider w.table w.table (wider_same w.table) (laws.later w.table) j w.moment (w.moment + dt) (site w j) (omega arith) (good.sites j low);
+    sites = λ j low. site_wider w.table w.table (wider_same w.table) (laws.later w.table) j (wide_at w j) w.moment (w.moment + dt) (site w j) (omega arith) (good.sites j low);
     sent = good.sent;
   }
 
   refused_grows : (v : World) (dt : ℕ) → v ≡ counted w dt → Grows w v
   refused_grows v dt e =
       subst (Grows w) (sym e)
-      (record { good = refused_agrees dt; table = refl; links = refl; count = refl; on = λ m o. record { running = o.running; runs = o.runs }; room = λ m. omega arith; pages = λ m row n. omega arith })
+      (record { good = refused_agrees dt; table = refl; links = refl; narrow = refl; count = refl; on = λ m o. record { running = o.running; runs = o.runs }; room = λ m. omega arith; pages = λ m row n. omega arith })
 
   -- site m became x
-  sites_grow : (v : World) (m : ℕ) (x : Site) (r : Running) → WorldAgrees v → m < length w.sites → v.table ≡ w.table → v.links ≡ w.links → v.sites ≡ (with_site w m x).sites
+  sites_grow : (v : World) (m : ℕ) (x : Site) (r : Running) → WorldAgrees v → m < length w.sites → v.table ≡ w.table → v.links ≡ w.links → v.narrow ≡ w.narrow → v.sites ≡ (with_site w m x).sites
       → x.runs ≡ Some r → Stays w.table (store_at w m) x.store → Grows w v
-  sites_grow v m x r agrees there table links sites runs stays = record {
+  sites_grow v m x r agrees there table links narrow sites runs stays = record {
     good = agrees;
     table = table;
     links = links;
+    narrow = narrow;
     count = ap length sites ∙ length-set w.sites m x;
     on = on;
     room = room;
@@ -227,7 +230,7 @@ module _ (laws : Laws) (w : World) (good : WorldAgrees w) where
         let x : Site = record { store = last d.trail; runs = runs } in
         let same = sent_same (with_site (record (counted w (dt_of e)) { table = d.table }) (mote_of e) x) (mote_of e) d.sent in
         sites_grow v (mote_of e) x on.0 agrees (step_within w step (record { event = fits; cut = tt }))
-        (ap (λ (u : World). u.table) did.2 ∙ same.table ∙ known.table) (ap (λ (u : World). u.links) did.2 ∙ same.links) (ap (λ (u : World). u.sites) did.2 ∙ same.sites) on.1 known.stays
+        (ap (λ (u : World). u.table) did.2 ∙ same.table ∙ known.table) (ap (λ (u : World). u.links) did.2 ∙ same.links) (ap (λ (u : World). u.narrow) did.2 ∙ same.narrow) (ap (λ (u : World). u.sites) did.2 ∙ same.sites) on.1 known.stays
 
     pub event_grows : WorldStep w step v reports → Grows w v
     unfolding WorldStep

@@ -79,6 +79,7 @@ module _
           sweeps = subst (IsRest w.links n) (sym known.events) may.rest;
           uncut = known.uncut;
           on = may.on;
+          widths = may.widths;
           room = λ m there. omega (arith, came.room m, may.room m there);
         };
       }

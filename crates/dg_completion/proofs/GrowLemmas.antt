@@ -53,7 +53,7 @@ rounds_free (r ∷ rs) es h =
 -- ---- what every free event keeps
 
 pub grows_none : (w : World) → WorldAgrees w → Grows w w
-grows_none w g = record { good = g; table = refl; links = refl; count = refl; on = λ m o. o; room = λ m. omega arith; pages = λ m row n. omega arith }
+grows_none w g = record { good = g; table = refl; links = refl; narrow = refl; count = refl; on = λ m o. o; room = λ m. omega arith; pages = λ m row n. omega arith }
 
 pub grows_then : (w u v : World) → Grows w u → Grows u v → Grows w v
 grows_then w u v a b =
@@ -61,6 +61,7 @@ grows_then w u v a b =
       good = b.good;
       table = b.table ∙ a.table;
       links = b.links ∙ a.links;
+      narrow = b.narrow ∙ a.narrow;
       count = b.count ∙ a.count;
       on = λ m o. b.on m (a.on m o);
       room = λ m. omega (arith, a.room m, b.room m);

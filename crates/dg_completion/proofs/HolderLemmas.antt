@@ -5,7 +5,7 @@ use Rattle.std.specs.List.{Contains, list_any, range_with_len}
 use Rattle.std.proofs.lemmas.Bool.{cases_Bool, cases_lt, eq-eqb, eqb-true, le-leb, leb-true, lt-ltb, ltb-true, and_parts, and_from, or_cases, or_left, or_right}
 use Rattle.dg_object.specs.Object.{Row}
 use Rattle.dg_volume.specs.Sizes.{images}
-use Rattle.dg_frame.specs.Sizes.{narrow_images}
+use Rattle.dg_frame.specs.Sizes.{wide_images}
 use Rattle.dg_mote.specs.Sizes.{shared}
 use Rattle.dg_rounds.specs.Ways.{IsLinked, Way, here, more}
 use Rattle.dg_rules.specs.World.{World, store_at}
@@ -184,7 +184,7 @@ enough_over w reached (suc k) i from to =
     (x.0 + y.0, (x.0, y.0, x.1, y.1, refl))
 
 pub enough_law : EnoughLaw
-enough_law w reached = enough_over w reached narrow_images 1 (omega arith) (omega arith)
+enough_law w reached = enough_over w reached wide_images 1 (omega arith) (omega arith)
 
 -- ---- and only one
 
@@ -204,4 +204,4 @@ one_over w (i ∷ is) m n a b =
     omega (arith, here, others, a.4, b.4)
 
 pub one_enough_law : OneEnoughLaw
-one_enough_law w m n a b = one_over w shared m n a b
+one_enough_law w m n a b = one_over w (shared true) m n a b

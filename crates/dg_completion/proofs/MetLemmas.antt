@@ -1,5 +1,5 @@
 -- Free events happen, and take few commits. So a rest happens.
-use Rattle.std.proofs.Common.{◌≡◌, ℕ, ◌+◌, ◌<◌, cond, List, [], ◌∷◌, length, get_or, Option, Some, None, refl, sym, ap, subst, ◌∙◌, inl, inr, arith}
+use Rattle.std.proofs.Common.{◌≡◌, ℕ, ◌+◌, ◌<◌, Bool, cond, List, [], ◌∷◌, length, get_or, Option, Some, None, refl, sym, ap, subst, ◌∙◌, inl, inr, arith}
 use Rattle.std.specs.List.{AllByRecursion, sum_by}
 use Rattle.std.proofs.lemmas.Bool.{cases_eq, eq-eqb}
 use Rattle.std.proofs.lemmas.List.{get_or-set_same, get_or-set_other}
@@ -40,9 +40,9 @@ abbrev pub FewDoes : World → ℕ → Does → Type 0
 FewDoes w m (Refuses why) = Unit {0}
 FewDoes w m (Goes d) = FewDeed w m d
 
-found_runs : (o : Option Runs) (id now word : ℕ) → (o ≡ None → ⊥) → (runs : Option Running) × (running_by o id now word ≡ Some runs)
-found_runs None id now word found = absurd (found refl)
-found_runs (Some r) id now word found = (_, refl)
+found_runs : (o : Option Runs) (id : ℕ) (wide : Bool) (now word : ℕ) → (o ≡ None → ⊥) → (runs : Option Running) × (running_by o id wide now word ≡ Some runs)
+found_runs None id wide now word found = absurd (found refl)
+found_runs (Some r) id wide now word found = (_, refl)
 
 module _ (laws : Laws) (takes : TakeLaws) (w : World) (good : WorldAgrees w) where
   few_does : (e : Event) → IsFree e → FewDoes w (mote_of e) (does w e)
@@ -61,17 +61,17 @@ module _ (laws : Laws) (takes : TakeLaws) (w : World) (good : WorldAgrees w) whe
       let agrees = (good.sites m (on_there w m r is)).store.agrees in
       let rows = laws.sound w.table good.table in
       record {
-        goes_on = found_runs (boot kind.Order s).runs r.mote.id (w.moment + dt) word ((boot_start kind.Order s).found (golden_sound laws.starts w.table s rows agrees));
+        goes_on = found_runs (boot kind.Order s).runs r.mote.id r.mote.wide (w.moment + dt) word ((boot_start kind.Order s).found (golden_sound laws.starts w.table s rows agrees));
         spends = omega (arith, start_spends laws.starts w.table s rows agrees waits);
       })
       (λ m dt word free. absurd cc)
       (λ m dt word number f r is at q free. record {
         goes_on = (_, refl);
-        spends = heard_spends takes laws.changes r.mote (store_at w m) (w.moment + dt) word f.bytes q.message q.spelled;
+        spends = heard_spends takes laws.changes r.mote (store_at w m) (w.moment + dt) word f.bytes;
       })
       (λ from m dt word f r is at q free. record {
         goes_on = (_, refl);
-        spends = heard_spends takes laws.changes r.mote (store_at w m) (w.moment + dt) word f.bytes q.message q.spelled;
+        spends = heard_spends takes laws.changes r.mote (store_at w m) (w.moment + dt) word f.bytes;
       })
       (λ m dt word bytes r is free. absurd cc)
       (λ m image version dt word row known none free. absurd cc)
@@ -152,4 +152,4 @@ module _ (free : FreeLaw) (happen : HappensLaw) (spend : SpendLaw) where
   pub met_law : MetLaw
   met_law w n es may =
       let came = comes es w may.good (rounds_free (times n (rounds_of w.links)) es may.rest) in
-      (came.v, record { good = may.good; rest = may.rest; run = came.run; on = may.on; room = λ m there. omega (arith, came.room m, may.room m there) })
+      (came.v, record { good = may.good; rest = may.rest; run = came.run; on = may.on; widths = may.widths; room = λ m there. omega (arith, came.room m, may.room m there) })

@@ -9,8 +9,8 @@ use Rattle.dg_slot.specs.Kept.{Held}
 use Rattle.dg_volume.specs.Store.{Store, held}
 use Rattle.dg_volume.specs.Table.{row_at}
 use Rattle.dg_volume.specs.Agreement.{Agrees, KeepsRow}
-use Rattle.dg_frame.specs.Sizes.{narrow_images}
-use Rattle.dg_rules.specs.World.{World, store_at, linked}
+use Rattle.dg_frame.specs.Sizes.{known_images}
+use Rattle.dg_rules.specs.World.{World, wide_at, store_at, linked}
 use Rattle.dg_rules.specs.Premises.{WorldAgrees}
 use Rattle.dg_rounds.specs.Rounds.{round}
 use Rattle.dg_completion.specs.Completion.{Follows, FreeLaw, IsOn, HasRoomAt, is_ahead, least_ahead, RoundLaw, RaisedFrom, newest, pages_of, page_count}
@@ -65,11 +65,12 @@ none_ahead (Some h) (Some g) v n some b l = elim (cases_eq g.version v) [
     and_no true = refl
     and_no false = refl
 
--- ---- a world in which every smaller image is whole everywhere
+-- ---- a world of one width in which every smaller image is whole everywhere
 
-pub record Below (row : Row) (w : World) : Type 0 where
+pub record Below (wide : Bool) (row : Row) (w : World) : Type 0 where
   pub from : 1 ≤ row.image
-  pub to : row.image ≤ narrow_images
+  pub to : row.image ≤ known_images wide
+  pub all : (m : ℕ) → m < length w.sites → wide_at w m ≡ wide
   pub newest_is : newest w.table row.image ≡ Some row
   pub whole : (j m : ℕ) (r : Row) → 1 ≤ j → j < row.image → newest w.table j ≡ Some r → m < length w.sites → page_count r ≤ count (held (store_at w m) j) r.version
 
@@ -113,9 +114,9 @@ least_from s t (suc k) j i from to a none = elim (cases_lt j i) [
       cond-true _ _ _ (ap (λ x. is_ahead (held s x) (held t x)) e ∙ a) ∙ ap (λ x. Some x) e
 ]
 
-is_least : (s t : Store) (i : ℕ) → 1 ≤ i → i ≤ narrow_images → is_ahead (held s i) (held t i) ≡ true → ((j : ℕ) → 1 ≤ j → j < i → is_ahead (held s j) (held t j) ≡ false) → least_ahead s t ≡ Some i
+is_least : (wide : Bool) (s t : Store) (i : ℕ) → 1 ≤ i → i ≤ known_images wide → is_ahead (held s i) (held t i) ≡ true → ((j : ℕ) → 1 ≤ j → j < i → is_ahead (held s j) (held t j) ≡ false) → least_ahead wide s t ≡ Some i
 unfolding least_ahead
-is_least s t i from to a none = least_from s t narrow_images 1 i from (omega (arith, to)) a none
+is_least wide s t i from to a none = least_from s t (known_images wide) 1 i from (omega (arith, to)) a none
 
 raised_count : (o : Option Held) (ahead g : Held) (v : ℕ) → ahead.version ≡ v → RaisedFrom o ahead g → count o v + 1 ≤ count (Some g) v
 raised_count None ahead g v e r = omega (arith, r.1, ap (λ c. cond c (length g.complete) 0) (eq-eqb g.version v (r.0 ∙ e)))
@@ -129,9 +130,9 @@ raised_count (Some h) ahead g v e r =
 no_newest : (r : Row) → None ≡ Some r → ⊥
 no_newest r e = cc
 
-pub raises : (free : FreeLaw) (law : RoundLaw) (row : Row) (w v : World) (a b : ℕ) → WorldAgrees w → Below row w → linked w a b ≡ true → IsOn w a → IsOn w b → Follows w (round a b) v
+pub raises : (free : FreeLaw) (law : RoundLaw) (wide : Bool) (row : Row) (w v : World) (a b : ℕ) → WorldAgrees w → Below wide row w → linked w a b ≡ true → IsOn w a → IsOn w b → Follows w (round a b) v
     → HasRoomAt v a → HasRoomAt v b → min (pages_of (store_at w a) row) (pages_of (store_at w b) row + 1) ≤ pages_of (store_at v b) row
-raises free law row w v a b good below link on_a on_b run room_a room_b = elim (cases_lt (pages_of (store_at w b) row) (pages_of (store_at w a) row)) [
+raises free law wide row w v a b good below link on_a on_b run room_a room_b = elim (cases_lt (pages_of (store_at w b) row) (pages_of (store_at w a) row)) [
   | inr enough ↦ omega (arith, enough, (free_grows free (round a b) w v good (round_free a b) run).pages b row below.newest_is)
   | inl more ↦
       let i = row.image in
@@ -139,8 +140,10 @@ raises free law row w v a b good below link on_a on_b run room_a room_b = elim (
       let agrees_a = store_agrees w a good ends.0 in
       let agrees_b = store_agrees w b good ends.1 in
       let ahead = more_ahead (held (store_at w a) i) (held (store_at w b) i) row.version (bounded_by w.table i (held (store_at w b) i) row below.newest_is (agrees_b.kept i)) more in
-      let least = is_least (store_at w a) (store_at w b) i below.from below.to ahead.0 (λ j from less. smaller j from less (newest w.table j) refl ends.0 ends.1) in
-      let r = (law w v a b i good link on_a on_b run room_a room_b least).0 in
+      let least = is_least wide (store_at w a) (store_at w b) i below.from below.to ahead.0 (λ j from less. smaller j from less (newest w.table j) refl ends.0 ends.1) in
+      let width_a = below.all a ends.0 in
+      let alike = width_a ∙ sym (below.all b ends.1) in
+      let r = (law w v a b i good link alike on_a on_b run room_a room_b (ap (λ k. least_ahead k (store_at w a) (store_at w b)) width_a ∙ least)).0 in
       let twice : Some r.ahead ≡ Some ahead.1.0 = sym r.held_there ∙ ahead.1.1 in
       let same : r.ahead ≡ ahead.1.0 = cc in
       omega (arith, raised_count (held (store_at w b) i) r.ahead r.now row.version (ap (λ (h : Held). h.version) same ∙ ahead.1.2) r.raised, ap (λ o. count o row.version) r.held_now)

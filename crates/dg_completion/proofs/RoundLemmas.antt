@@ -16,17 +16,16 @@ use Rattle.dg_frame.specs.declared.Message.{Message}
 use Rattle.dg_frame.specs.declared.FrameFault.{FrameFault}
 use Rattle.dg_frame.specs.declared.Message.TheVariants.{Request}
 use Rattle.dg_frame.specs.Spelling.{frame_of}
-use Rattle.dg_frame.specs.Grammar.{message_of}
 use Rattle.dg_mote.specs.Model.{maintains}
 use Rattle.dg_mote.specs.Summary.{advert_of, entries_of, ahead_in, entry_by, ahead_of, entry_for, no_entry}
-use Rattle.dg_frame.specs.Sizes.{narrow_images}
+use Rattle.dg_frame.specs.Sizes.{known_images}
 use Rattle.dg_mote.specs.Hears.{heard_of, by_message}
 use Rattle.dg_mote.specs.Effects.{silent, frame_effect}
 use Rattle.dg_mote.specs.Agreement.{ReceivesRow, ModeAgrees}
 use Rattle.dg_mote.specs.Spots.{Spot, pace, ticked, after_ticks, last_sent, hears, hears_all}
 use Rattle.dg_mote.specs.Drained.{Drained}
 use Rattle.dg_mote.specs.Completing.{SendsEach, AskLaw, RequestLaw, ServeLaw, TakeLaw, DrainLaw, AdvertLaw, packet_message, KeepsNext, Asked}
-use Rattle.dg_rules.specs.World.{World, Site, Sent, site, store_at, linked, last_frame}
+use Rattle.dg_rules.specs.World.{World, Site, Sent, site, wide_at, store_at, linked, last_frame}
 use Rattle.dg_rules.specs.Events.{Does, Refuses, does, unless_off, hear_by, of_effect}
 use Rattle.dg_rules.specs.Steps.{WorldStep, StepDoes}
 use Rattle.dg_rules.specs.Premises.{WorldAgrees}
@@ -39,12 +38,12 @@ use Rattle.dg_completion.specs.Rests.{IsFree}
 use Rattle.dg_completion.specs.Completion.{Follows, Grows, IsOn, HasRoomAt, is_ahead, least_ahead, RoundLaw, Raises, RaisedFrom}
 use Rattle.dg_completion.specs.Played.{DrainedLaw}
 use Rattle.dg_completion.proofs.GrowLemmas.{free_grows, follows_split, all_append, all_replicate, all_times, link_ends}
-use Rattle.dg_completion.proofs.WalkLemmas.{Spelled, WalkLaws, said_at, well_at, IsTold, At, Beside, Walks, made, made_site, made_beside, newer_frame, frame_told, tick_walks, ticks_walk}
+use Rattle.dg_completion.proofs.WalkLemmas.{Spelled, WalkLaws, said_at, well_at, IsTold, At, Beside, Walks, mote_wide, wide_on, made, made_site, made_beside, newer_frame, frame_told, tick_walks, ticks_walk}
 
 -- ---- a frame is heard
 
 pub hear_walks : (w u : World) (a b : ℕ) (x : Spot) (message : Message) (reports : List Report) → At w b x → linked w a b ≡ true → last_frame w a ≡ frame_told a (Some message)
-    → message_of (frame_of message) false ≡ Ok message → WorldStep w (record { event = passed a b; cut = None }) u reports → Walks b w u (hears x w.moment message) None 0
+    → Spelled x.mote.wide message → WorldStep w (record { event = passed a b; cut = None }) u reports → Walks b w u (hears x w.moment message) None 0
 unfolding WorldStep does frame_told frame_effect heard_of hears
 hear_walks w u a b x message reports at link sent spelled walk =
     let step : Step = record { event = passed a b; cut = None } in
@@ -103,32 +102,44 @@ frame_said : (a : ℕ) (m : Message) → Some (record { by = a; bytes = frame_of
 unfolding frame_told
 frame_said a m = refl
 
+-- two motes are both wide, or both narrow
+abbrev pub Alike : World → (a b : ℕ) → Type 0
+Alike w a b = wide_at w a ≡ wide_at w b
+
+alike_on : (a b : ℕ) (w u : World) → Grows w u → Alike w a b → Alike u a b
+alike_on a b w u g alike = wide_on w u a g ∙ alike ∙ sym (wide_on w u b g)
+
+-- what one says, the other reads
+hears_same : (w : World) (a b : ℕ) (x : Spot) (message : Message) → WorldAgrees w → At w b x → Alike w a b → Spelled (wide_at w a) message → Spelled x.mote.wide message
+hears_same w a b x message good at alike said = subst (λ wide. Spelled wide message) (alike ∙ sym (mote_wide w b x good at)) said
+
 -- a tick at a that sends, and b hears it: so often
 pub record Paired (ms : List Message) (a b : ℕ) (w v : World) (xa xb : Spot) : Type 0 where
   pub at_a : At v a (after_ticks (length ms) xa w.moment)
   pub at_b : At v b (hears_all ms xb w.moment)
   pub between : Between a b w v
 
-pub pairs_walk : WalkLaws → (ms : List Message) (w v : World) (a b : ℕ) (xa xb : Spot) → WorldAgrees w → At w a xa → At w b xb → a ≢ b → linked w a b ≡ true → Follows w (times (length ms) (paced a ∷ passed a b ∷ [])) v
+pub pairs_walk : WalkLaws → (ms : List Message) (w v : World) (a b : ℕ) (xa xb : Spot) → WorldAgrees w → At w a xa → At w b xb → a ≢ b → linked w a b ≡ true → Alike w a b → Follows w (times (length ms) (paced a ∷ passed a b ∷ [])) v
     → SendsEach ms xa w.moment → Paired ms a b w v xa xb
 unfolding Follows times after_ticks hears_all SendsEach
-pairs_walk laws [] w v a b xa xb good at_a at_b other link f sends = subst (λ u. Paired [] a b w u xa xb) f (record { at_a = at_a; at_b = at_b; between = between_none a b w })
-pairs_walk laws (m ∷ ms) w v a b xa xb good at_a at_b other link f sends =
+pairs_walk laws [] w v a b xa xb good at_a at_b other link alike f sends = subst (λ u. Paired [] a b w u xa xb) f (record { at_a = at_a; at_b = at_b; between = between_none a b w })
+pairs_walk laws (m ∷ ms) w v a b xa xb good at_a at_b other link alike f sends =
     let w1 = f.0 in
-    let spelled : Spelled m = subst (λ o. IfSome o Spelled) sends.0 (said_at laws w a xa good at_a) in
     let one = tick_walks w w1 a xa f.1 at_a f.2 in
     let rest1 = f.3 in
     let w2 = rest1.0 in
     let link1 = linked_beside a b w w1 one.beside.links link in
     let said : last_frame w1 a ≡ frame_told a (Some m) = one.frame ∙ ap (λ o. newer_frame a o (last_frame w a)) sends.0 ∙ frame_said a m in
+    let g1 = laws.free w w1 (paced a) f.1 good refl f.2 in
+    let alike1 = alike_on a b w w1 g1 alike in
     let b1 = at_beside a b w w1 xb (λ e. other (sym e)) one.beside at_b in
+    let spelled = hears_same w1 a b xb m g1.good b1 alike1 (subst (λ wide. Spelled wide m) (sym (wide_on w w1 a g1)) (subst (λ o. IfSome o (Spelled (wide_at w a))) sends.0 (said_at laws w a xa good at_a))) in
     let two = hear_walks w1 w2 a b xb m rest1.1 b1 link1 said spelled rest1.2 in
     let a2 = at_beside b a w1 w2 (ticked xa (w.moment + pace)) other two.beside one.at in
     let moment : w2.moment ≡ w.moment + pace = two.moment ∙ ap (λ n. n + 0) one.moment ∙ omega arith in
     let xb2 : At w2 b (hears xb (w.moment + pace) m) = subst (λ t. At w2 b (hears xb t m)) one.moment two.at in
-    let good1 = (laws.free w w1 (paced a) f.1 good refl f.2).good in
-    let good2 = (laws.free w1 w2 (passed a b) rest1.1 good1 refl rest1.2).good in
-    let more = pairs_walk laws ms w2 v a b (ticked xa (w.moment + pace)) (hears xb (w.moment + pace) m) good2 a2 xb2 other (linked_beside a b w1 w2 two.beside.links link1) rest1.3
+    let g2 = laws.free w1 w2 (passed a b) rest1.1 g1.good refl rest1.2 in
+    let more = pairs_walk laws ms w2 v a b (ticked xa (w.moment + pace)) (hears xb (w.moment + pace) m) g2.good a2 xb2 other (linked_beside a b w1 w2 two.beside.links link1) (alike_on a b w1 w2 g2 alike1) rest1.3
     (subst (λ t. SendsEach ms (ticked xa (w.moment + pace)) t) (sym moment) sends.1) in
     record {
       at_a = subst (λ t. At v a (after_ticks (length ms) (ticked xa (w.moment + pace)) t)) moment more.at_a;
@@ -167,19 +178,25 @@ find_same f g (suc k) j same =
     let others = find_same f g k (j + 1) (λ i low less. same i (omega (arith, low)) (omega (arith, less))) in
     λ l. cond (here l) (Some j) (others l)
 
-own_entry : (s : Store) (i : ℕ) → 1 ≤ i → i < 1 + narrow_images → entry_for (entries_of s) i ≡ entry_by (held s i)
-own_entry s i from to = get_or-map-range_with_len (λ j. entry_by (held s j)) 1 narrow_images (i - 1) i no_entry (omega (arith, from, to)) (omega (arith, from))
+own_entry : (wide : Bool) (s : Store) (i : ℕ) → 1 ≤ i → i < 1 + known_images wide → entry_for (entries_of wide s) i ≡ entry_by (held s i)
+own_entry wide s i from to =
+    get_or-map-range_with_len (λ j. entry_by (held s j)) 1 (known_images wide) (i - 1) i no_entry (omega (arith, from, to)) (omega (arith, from))
 
-same_least : (table : List Row) (s t : Store) → Agrees table s → Agrees table t → least_ahead s t ≡ ahead_in (entries_of s) t
+entry_count : (wide : Bool) (s : Store) → length (entries_of wide s) ≡ known_images wide
+entry_count wide s = length-map-range_with_len (λ j. entry_by (held s j)) 1 (known_images wide)
+
+same_least : (table : List Row) (wide : Bool) (s t : Store) → Agrees table s → Agrees table t → least_ahead wide s t ≡ ahead_in (entries_of wide s) t
 unfolding least_ahead ahead_in
-same_least table s t a b =
-    find_same (λ i. is_ahead (held s i) (held t i)) (λ i. ahead_of (entry_for (entries_of s) i) (held t i)) narrow_images 1
-    (λ i from to. same_ahead table i (held s i) (held t i) (a.kept i) (b.kept i) ∙ ap (λ e. ahead_of e (held t i)) (sym (own_entry s i from to)))
+same_least table wide s t a b =
+    let here : ℕ → Bool = λ i. ahead_of (entry_for (entries_of wide s) i) (held t i) in
+    find_same (λ i. is_ahead (held s i) (held t i)) here (known_images wide) 1
+    (λ i from to. same_ahead table i (held s i) (held t i) (a.kept i) (b.kept i) ∙ ap (λ e. ahead_of e (held t i)) (sym (own_entry wide s i from to)))
+    ∙ ap (λ n. find here (range_with_len 1 n)) (sym (entry_count wide s))
 
-least_same : (s t s2 t2 : Store) → ((i : ℕ) → held s2 i ≡ held s i) → ((i : ℕ) → held t2 i ≡ held t i) → least_ahead s2 t2 ≡ least_ahead s t
+least_same : (wide : Bool) (s t s2 t2 : Store) → ((i : ℕ) → held s2 i ≡ held s i) → ((i : ℕ) → held t2 i ≡ held t i) → least_ahead wide s2 t2 ≡ least_ahead wide s t
 unfolding least_ahead
-least_same s t s2 t2 a b =
-    find_same (λ i. is_ahead (held s2 i) (held t2 i)) (λ i. is_ahead (held s i) (held t i)) narrow_images 1 (λ i from to k. is_ahead (a i k) (b i k))
+least_same wide s t s2 t2 a b =
+    find_same (λ i. is_ahead (held s2 i) (held t2 i)) (λ i. is_ahead (held s i) (held t i)) (known_images wide) 1 (λ i from to k. is_ahead (a i k) (b i k))
 
 raised : (o : Option Held) (ahead kept : Held) (page : List ℕ) → kept.version ≡ ahead.version → KeepsNext o ahead kept → RaisedFrom o ahead (with_page kept page)
 raised None ahead kept page v n = (v, length-append kept.complete (page ∷ []) ∙ ap (λ (c : List (List ℕ)). length c + 1) n.complete)
@@ -204,8 +221,8 @@ store_at_is w m x at = ap (λ (s : Site). s.store) at.site_is
 at_on : (w : World) (m : ℕ) → m < length w.sites → (o : IsOn w m) → At w m (record { store = store_at w m; mote = o.running.mote })
 at_on w m h o = record { there = h; key = o.running.key; site_is = ap (λ r. record { store = (site w m).store; runs = r }) o.runs }
 
-told_of : (m : ℕ) (f : Option Sent) (o : Option Message) (message : Message) → IsTold m f o → o ≡ Some message → (f ≡ frame_told m (Some message)) × Spelled message
-told_of m f o message t e = subst (IsTold m f) e t
+told_of : (m : ℕ) (wide : Bool) (f : Option Sent) (o : Option Message) (message : Message) → IsTold m wide f o → o ≡ Some message → (f ≡ frame_told m (Some message)) × Spelled wide message
+told_of m wide f o message t e = subst (IsTold m wide f) e t
 
 some_there : (xs : List (Option Held)) (i : ℕ) (h : Held) → get_or xs i None ≡ Some h → i < length xs
 some_there [] i h e = cc
@@ -233,13 +250,13 @@ module _ (laws : WalkLaws) (drain : DrainLaw) (advert : AdvertLaw) (ask : AskLaw
   room_at es u v m x good all f at room = omega (arith, room, (free_grows laws.free es u v good all f).room m, ap (λ (s : Store). s.room) (store_at_is u m x at))
 
   -- from the moment at which b asks
-  second : (w w3 w4 v : World) (a b i : ℕ) (x1 x2 z1 z2 : Spot) → Follows w4 (paced b ∷ passed b a ∷ times 48 (paced a ∷ passed a b ∷ [])) v → w4.moment ≡ w3.moment → a ≢ b → linked w a b ≡ true → w3.links ≡ w.links → Grows w3 w4 → WorldAgrees w3
+  second : (w w3 w4 v : World) (a b i : ℕ) (x1 x2 z1 z2 : Spot) → Follows w4 (paced b ∷ passed b a ∷ times 48 (paced a ∷ passed a b ∷ [])) v → w4.moment ≡ w3.moment → a ≢ b → linked w a b ≡ true → w3.links ≡ w.links → Alike w3 a b → Grows w3 w4 → WorldAgrees w3
       → At w3 a x2 → Beside b w3 w4 → At w4 b z2 → x2.store ≡ x1.store → x2.mote.id ≡ x1.mote.id → x1.mote.id ≡ a → z1.mote.id ≡ b → Drained x2 w3.moment
       → (ahead : Held) → held x1.store i ≡ Some ahead → Asked w3.table z1 z2 w3.moment x1.mote.id i ahead
       → ((j : ℕ) → held x1.store j ≡ held (store_at w a) j) → ((j : ℕ) → held z1.store j ≡ held (store_at w b) j) → Between a b w w3
       → Raises (store_at w a) (store_at w b) i (store_at v b) × ((j : ℕ) → held (store_at v a) j ≡ held (store_at w a) j) × ((m : ℕ) → m ≢ a → m ≢ b → site v m ≡ site w m)
   unfolding Follows
-  second w w3 w4 v a b i x1 x2 z1 z2 f time other link links g4 good3 at_x2 beside4 at_z2 same_store same_id id_a id_b drained_a ahead kept_a asked kept1 kept2 between3 =
+  second w w3 w4 v a b i x1 x2 z1 z2 f time other link links alike3 g4 good3 at_x2 beside4 at_z2 same_store same_id id_a id_b drained_a ahead kept_a asked kept1 kept2 between3 =
       let other2 : b ≢ a = λ e. other (sym e) in
       let kept = asked.kept in
       let page = length kept.complete in
@@ -260,7 +277,10 @@ module _ (laws : WalkLaws) (drain : DrainLaw) (advert : AdvertLaw) (ask : AskLaw
       -- a hears it
       let e6 = f.3 in
       let w6 = e6.0 in
-      let spelled6 : Spelled message = subst (λ o. IfSome o Spelled) l5.sent (said_at laws w4 b z2 g4.good at_z2) in
+      let alike4 = alike_on a b w3 w4 g4 alike3 in
+      let alike5 = alike_on a b w4 w5 g5 alike4 in
+      let said4 : Spelled (wide_at w4 b) message = subst (λ o. IfSome o (Spelled (wide_at w4 b))) l5.sent (said_at laws w4 b z2 g4.good at_z2) in
+      let spelled6 = hears_same w5 b a x2 message g5.good at_a5 (sym alike5) (subst (λ wide. Spelled wide message) (sym (wide_on w4 w5 b g5)) said4) in
       let k6 = hear_walks w5 w6 b a x2 message e6.1 at_a5 link5 said spelled6 e6.2 in
       let g6 = laws.free w5 w6 (passed b a) e6.1 g5.good refl e6.2 in
       let kept_x2 : held x2.store i ≡ Some ahead = ap (λ s. held s i) same_store ∙ kept_a in
@@ -279,7 +299,7 @@ module _ (laws : WalkLaws) (drain : DrainLaw) (advert : AdvertLaw) (ask : AskLaw
       let at_z6 = at_beside a b w5 w6 z3 other2 k6.beside k5.at in
       let link6 = linked_beside a b w w6 (k6.beside.links ∙ k5.beside.links ∙ g4.links ∙ links) link in
       -- 48 packets
-      let k7 = pairs_walk laws ms w6 v a b x3 z3 g6.good k6.at at_z6 other link6 (subst (λ n. Follows w6 (times n (paced a ∷ passed a b ∷ [])) v) (sym count) e6.3) sends in
+      let k7 = pairs_walk laws ms w6 v a b x3 z3 g6.good k6.at at_z6 other link6 (alike_on a b w5 w6 g6 alike5) (subst (λ n. Follows w6 (times n (paced a ∷ passed a b ∷ [])) v) (sym count) e6.3) sends in
       let well6 = (well_at w6 b z3 g6.good at_z6).well in
       let id_z3 : z3.mote.id ≡ b = (well_at w6 b z3 g6.good at_z6).id in
       let well_a = (well_at w5 a x2 g5.good at_a5).well in
@@ -311,7 +331,7 @@ module _ (laws : WalkLaws) (drain : DrainLaw) (advert : AdvertLaw) (ask : AskLaw
 
   pub round_raises : RoundLaw
   unfolding round Follows
-  round_raises w v a b i good link on_a on_b run room_a room_b least =
+  round_raises w v a b i good link alike on_a on_b run room_a room_b least =
       let pair : List Event = paced a ∷ passed a b ∷ [] in
       let p48 : List Event = times 48 pair in
       let t2 : List Event = passed a b ∷ paced b ∷ passed b a ∷ p48 in
@@ -353,24 +373,33 @@ module _ (laws : WalkLaws) (drain : DrainLaw) (advert : AdvertLaw) (ask : AskLaw
       let l3 = advert w2.table x1 w2.moment (well_at w2 a x1 g2.good a2).well (drained_later x1 (w.moment + 50 * pace) w2.moment (omega (arith, k1.moment, k2.moment)) l1.drained) in
       let x2 = after_ticks 3 x1 w2.moment in
       let id_a : x1.mote.id ≡ a = (well_at w2 a x1 g2.good a2).id in
-      let said = told_of a (last_frame w3 a) (last_sent 3 x1 w2.moment None) (advert_of x1.mote.id x1.store) k3.told (l3.sent None) in
+      let alike2 = alike_on a b w1 w2 g2 (alike_on a b w w1 g1 alike) in
+      let alike3 = alike_on a b w2 w3 g3 alike2 in
       -- b hears the advert
       let b3 = at_beside a b w2 w3 z1 other2 k3.beside k2.at in
       let link3 = linked_beside a b w w3 (g3.links ∙ g2.links ∙ g1.links) link in
+      let wide = z1.mote.wide in
+      let own = advert_of x1.mote.id wide x1.store in
+      let wide_b : wide ≡ wide_at w3 b = mote_wide w3 b z1 g3.good b3 in
+      let same_wide : x1.mote.wide ≡ wide = mote_wide w2 a x1 g2.good a2 ∙ sym (wide_on w2 w3 a g3) ∙ alike3 ∙ sym wide_b in
+      let told = told_of a (wide_at w2 a) (last_frame w3 a) (last_sent 3 x1 w2.moment None) own k3.told (l3.sent None ∙ ap (λ k. Some (advert_of x1.mote.id k x1.store)) same_wide) in
+      let spelled = hears_same w3 a b z1 own g3.good b3 alike3 (subst (λ k. Spelled k own) (sym (wide_on w2 w3 a g3)) told.1) in
       let e4 = s3.2 in
       let w4 = e4.0 in
-      let k4 = hear_walks w3 w4 a b z1 (advert_of x1.mote.id x1.store) e4.1 b3 link3 said.0 said.1 e4.2 in
+      let k4 = hear_walks w3 w4 a b z1 own e4.1 b3 link3 told.0 spelled e4.2 in
       let g4 = laws.free w3 w4 (passed a b) e4.1 g3.good refl e4.2 in
-      let z2 = hears z1 w3.moment (advert_of x1.mote.id x1.store) in
+      let z2 = hears z1 w3.moment own in
       let id_b : z1.mote.id ≡ b = (well_at w3 b z1 g3.good b3).id in
       let table31 : w2.table ≡ w3.table = sym g3.table in
       let agrees_x1 : Agrees w3.table x1.store = subst (λ t. Agrees t x1.store) table31 (well_at w2 a x1 g2.good a2).well.store.agrees in
       let well_z1 = (well_at w3 b z1 g3.good b3).well in
-      let is_ahead_now : ahead_in (entries_of x1.store) z1.store ≡ Some i =
-      sym (same_least w3.table x1.store z1.store agrees_x1 well_z1.store.agrees) ∙ least_same (store_at w a) (store_at w b) x1.store z1.store l1.kept l2.kept ∙ least in
+      let wide_w : wide ≡ wide_at w a = wide_b ∙ sym alike3 ∙ wide_on w2 w3 a g3 ∙ wide_on w1 w2 a g2 ∙ wide_on w w1 a g1 in
+      let is_ahead_now : ahead_in (entries_of wide x1.store) z1.store ≡ Some i =
+      sym (same_least w3.table wide x1.store z1.store agrees_x1 well_z1.store.agrees) ∙ least_same wide (store_at w a) (store_at w b) x1.store z1.store l1.kept l2.kept
+      ∙ ap (λ k. least_ahead k (store_at w a) (store_at w b)) wide_w ∙ least in
       let l4 = ask w3.table z1 w3.moment x1.mote.id x1.store i well_z1 (drained_later z1 (w1.moment + 50 * pace) w3.moment (omega (arith, k2.moment, k3.moment)) l2.drained) agrees_x1
       (λ e. other (sym id_a ∙ e ∙ id_b)) is_ahead_now (room_at (paced b ∷ passed b a ∷ p48) w4 v b z2 g4.good (refl, (refl, f48)) e4.3 k4.at room_b) in
-      second w w3 w4 v a b i x1 x2 z1 z2 e4.3 (omega (arith, k4.moment)) other link (g3.links ∙ g2.links ∙ g1.links) g4 g3.good
+      second w w3 w4 v a b i x1 x2 z1 z2 e4.3 (omega (arith, k4.moment)) other link (g3.links ∙ g2.links ∙ g1.links) alike3 g4 g3.good
       (subst (At w3 a) refl k3.at) k4.beside k4.at l3.store l3.id id_a id_b (drained_later x2 (w2.moment + 3 * pace) w3.moment (omega (arith, k3.moment)) l3.drained)
       l4.0 l4.1 l4.2 l1.kept l2.kept (between_first a b w w1 w3 k1.beside (between_second a b w1 w2 w3 k2.beside (between_first a b w2 w3 w3 k3.beside (between_none a b w3))))
 

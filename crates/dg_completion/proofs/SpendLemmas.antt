@@ -1,5 +1,5 @@
 -- How many commits a tick and a heard frame make at a chip.
-use Rattle.std.proofs.Common.{◌≡◌, ◌⊎◌, ℕ, ◌+◌, ◌≤◌, Bool, true, false, not, ◌&&◌, ◌||◌, eqb, leb, ltb, List, Option, Some, None, Ok, Result, refl, sym, ap, subst, ◌∙◌, inl, inr, arith}
+use Rattle.std.proofs.Common.{◌≡◌, ◌⊎◌, ℕ, ◌+◌, ◌≤◌, Bool, true, false, not, ◌&&◌, ◌||◌, cond, eqb, leb, ltb, List, Option, Some, None, Ok, Err, Result, refl, sym, ap, subst, ◌∙◌, inl, inr, arith}
 use Rattle.std.proofs.lemmas.Bool.{cond_both, cases_Bool}
 use Rattle.dg_nor.specs.Trail.{Trail, last, joined, resting}
 use Rattle.dg_nor.proofs.TrailLemmas.{last-joined, last-resting}
@@ -18,13 +18,12 @@ use Rattle.dg_volume.specs.Start.{Runs, Boot, boot, boot_counted, by_gesture, or
 use Rattle.dg_volume.specs.Ends.{take_commits, taken, blank_commits, golden_started, golden_runs, blanked}
 use Rattle.dg_volume.specs.declared.volume.Kind.TheVariants as kind
 use Rattle.dg_frame.specs.Grammar.{message_of}
-use Rattle.dg_frame.proofs.ReadingLemmas.{no_wide}
 use Rattle.dg_frame.specs.declared.Entry.{Entry}
 use Rattle.dg_frame.specs.declared.FrameFault.{FrameFault}
 use Rattle.dg_frame.specs.declared.Message.{Message}
 use Rattle.dg_frame.specs.declared.Message.TheVariants as message
 use Rattle.dg_mote.specs.Model.{MoteState, Mode, Maintain, Receive, Transmit, Turn}
-use Rattle.dg_mote.specs.Summary.{entry_for, is_own, ahead_in}
+use Rattle.dg_mote.specs.Summary.{entry_for, advert_by, is_own, ahead_in}
 use Rattle.dg_mote.specs.Adverts.{outline, heed_trail, ask_trail, asks, asking, noting, by_ahead, advert_heard, dropped, on_advert}
 use Rattle.dg_mote.specs.Hears.{by_message, heard_of}
 use Rattle.dg_mote.specs.Changes.{MayClear, Completes}
@@ -136,8 +135,8 @@ module _ (laws : TakeLaws) (entries : List Entry) where
   advert_spends m timer s now word source order =
       let t = heed_trail s order in
       let u = last t in
-      let rest = by_ahead (ahead_in entries u) m timer u now word source entries (is_own entries order s) in
-      let r = ahead_rests (ahead_in entries u) m timer u now word source (is_own entries order s) in
+      let rest = by_ahead (ahead_in entries u) m timer u now word source entries (is_own entries order m.wide s) in
+      let r = ahead_rests (ahead_in entries u) m timer u now word source (is_own entries order m.wide s) in
       let at : last (joined t rest.trail) ≡ last rest.trail = last-joined t rest.trail (sym r.first) in
       omega (arith, ap (λ (x : Store). x.room) at, r.spends, heed_spends s order)
 
@@ -149,26 +148,40 @@ module _ (laws : TakeLaws) (entries : List Entry) where
   on_advert_spends (Receive r) m s now word source order = dropped_spends s
   on_advert_spends (Transmit t) m s now word source order = dropped_spends s
 
-  advert_by_spends : (m : MoteState) (s : Store) (now word source : ℕ) (order : Order) → Spends 3 s (last (by_message (Ok (message.Advert source entries order)) m s now word).trail)
-  advert_by_spends m s now word source order =
+  heard_advert_spends : (m : MoteState) (s : Store) (now word source : ℕ) (order : Order)
+      → Spends 3 s (last (cond (eqb source m.id) (dropped m s) (on_advert m.mode m s now word source entries order)).trail)
+  heard_advert_spends m s now word source order =
       cond_both (eqb source m.id) (dropped m s) (on_advert m.mode m s now word source entries order) (λ (step : Turn Heard). Spends 3 s (last step.trail))
       (λ _. dropped_spends s) (λ _. on_advert_spends m.mode m s now word source order)
 
+  advert_by_spends : (wide : Bool) (m : MoteState) (s : Store) (now word source : ℕ) (order : Order) → Spends 3 s (last (by_message (Ok (advert_by wide source entries order)) m s now word).trail)
+  advert_by_spends true m s now word source order = heard_advert_spends m s now word source order
+  advert_by_spends false m s now word source order = heard_advert_spends m s now word source order
+
 -- ---- a frame
 
--- whatever message it is
-pub heard_spends : TakeLaws → ChangeLaws → (m : MoteState) (s : Store) (now word : ℕ) (bytes : List ℕ) (heard : Message) → message_of bytes false ≡ Ok heard
-    → Spends 3 s (last (heard_of m s now word bytes).trail)
+-- whatever it is
+pub heard_spends : TakeLaws → ChangeLaws → (m : MoteState) (s : Store) (now word : ℕ) (bytes : List ℕ) → Spends 3 s (last (heard_of m s now word bytes).trail)
 unfolding heard_of
-heard_spends takes laws m s now word bytes (message.Advert source entries order) is =
-    subst (λ (r : Result Message FrameFault). Spends 3 s (last (by_message r m s now word).trail)) (sym is) (advert_by_spends takes entries m s now word source order)
-heard_spends takes laws m s now word bytes (message.Request source to image version page want) is =
-    let e = ap last (laws.request m s now word bytes source to image version page want is) ∙ last-resting s 0 in
-    omega (arith, ap (λ (x : Store). x.room) e)
-heard_spends takes laws m s now word bytes (message.Wide source entries order) is = absurd (no_wide bytes source entries order is)
-heard_spends takes laws m s now word bytes (message.Packet source image version page q content) is =
-    by_case (Through-last (λ t. (t ≡ s) ⊎ Completes m.mode image version page q s t) (heard_of m s now word bytes).trail (laws.packet m s now word bytes source image version page q content is))
+heard_spends takes laws m s now word bytes = by_read (message_of bytes m.wide) refl
   where
-    by_case : (last (heard_of m s now word bytes).trail ≡ s) ⊎ Completes m.mode image version page q s (last (heard_of m s now word bytes).trail) → Spends 3 s (last (heard_of m s now word bytes).trail)
-    by_case (inl e) = omega (arith, ap (λ (x : Store). x.room) e)
-    by_case (inr c) = omega (arith, ap (λ (x : Store). x.room) c.paged_is)
+    after : Store
+    after = last (heard_of m s now word bytes).trail
+
+    advert : (wide : Bool) (source : ℕ) (entries : List Entry) (order : Order) → message_of bytes m.wide ≡ Ok (advert_by wide source entries order) → Spends 3 s after
+    advert wide source entries order is =
+        subst (λ (r : Result Message FrameFault). Spends 3 s (last (by_message r m s now word).trail)) (sym is) (advert_by_spends takes entries wide m s now word source order)
+
+    by_read : (r : Result Message FrameFault) → message_of bytes m.wide ≡ r → Spends 3 s after
+    by_read (Err fault) is = subst (λ (r : Result Message FrameFault). Spends 3 s (last (by_message r m s now word).trail)) (sym is) (omega (arith, ap (λ (x : Store). x.room) (last-resting s 0)))
+    by_read (Ok (message.Advert source entries order)) is = advert false source entries order is
+    by_read (Ok (message.Wide source entries order)) is = advert true source entries order is
+    by_read (Ok (message.Request source to image version page want)) is =
+        let e = ap last (laws.request m s now word bytes source to image version page want is) ∙ last-resting s 0 in
+        omega (arith, ap (λ (x : Store). x.room) e)
+    by_read (Ok (message.Packet source image version page q content)) is =
+        by_case (Through-last (λ t. (t ≡ s) ⊎ Completes m.mode image version page q s t) (heard_of m s now word bytes).trail (laws.packet m s now word bytes source image version page q content is))
+      where
+        by_case : (after ≡ s) ⊎ Completes m.mode image version page q s after → Spends 3 s after
+        by_case (inl e) = omega (arith, ap (λ (x : Store). x.room) e)
+        by_case (inr c) = omega (arith, ap (λ (x : Store). x.room) c.paged_is)

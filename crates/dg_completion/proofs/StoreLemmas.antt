@@ -1,5 +1,5 @@
 -- What a tick and a heard frame leave of what a chip keeps: room does not grow, and no page of a newest version is lost.
-use Rattle.std.proofs.Common.{◌≡◌, ◌⊎◌, ℕ, ◌+◌, ◌-◌, ◌<◌, ◌≤◌, Bool, true, false, not, ◌&&◌, ◌||◌, cond, eqb, ltb, List, [], ◌∷◌, length, get_or, set, Option, Some, None, option_map, IfSome, Ok, refl, sym, ap, subst, ◌∙◌, inl, inr, arith}
+use Rattle.std.proofs.Common.{◌≡◌, ◌⊎◌, ℕ, ◌+◌, ◌-◌, ◌<◌, ◌≤◌, Bool, true, false, not, ◌&&◌, ◌||◌, cond, eqb, ltb, List, [], ◌∷◌, length, get_or, set, Option, Some, None, option_map, IfSome, Result, Ok, Err, refl, sym, ap, subst, ◌∙◌, inl, inr, arith}
 use Rattle.std.proofs.lemmas.Bool.{cond_both, cases_Bool, cases_eq, cases_lt, and_parts, eq-eqb, ne_eqb, eqb-true}
 use Rattle.std.proofs.lemmas.List.{get_or-set_same, get_or-set_other, get_or_past, length-append, take_all}
 use Rattle.dg_words.proofs.ListLemmas.{length-tabulate}
@@ -22,16 +22,17 @@ use Rattle.dg_volume.specs.Ends.{BootEnds, Boots, OnTheWay, ordered_runs, order_
 use Rattle.dg_volume.specs.declared.volume.Kind.{Kind}
 use Rattle.dg_volume.specs.declared.volume.Kind.TheVariants as kind
 use Rattle.dg_frame.specs.Grammar.{message_of}
-use Rattle.dg_frame.proofs.ReadingLemmas.{no_wide}
+use Rattle.dg_frame.proofs.ReadingLemmas.{wider}
 use Rattle.dg_frame.specs.declared.Entry.{Entry}
+use Rattle.dg_frame.specs.declared.FrameFault.{FrameFault}
 use Rattle.dg_frame.specs.declared.Message.{Message}
 use Rattle.dg_frame.specs.declared.Message.TheVariants as message
 use Rattle.dg_mote.specs.Model.{MoteState}
-use Rattle.dg_mote.specs.Summary.{entry_for, no_entry}
+use Rattle.dg_mote.specs.Summary.{entry_for, no_entry, advert_by}
 use Rattle.dg_mote.specs.Adverts.{outline}
 use Rattle.dg_mote.specs.Ticks.{tick_of}
-use Rattle.dg_mote.specs.Hears.{heard_of}
-use Rattle.dg_mote.specs.Agreement.{HonestEntry, HonestMessage}
+use Rattle.dg_mote.specs.Hears.{by_message, heard_of}
+use Rattle.dg_mote.specs.Agreement.{HonestEntry, HonestMessage, IsHonest}
 use Rattle.dg_mote.specs.Changes.{MayClear, IsBehind, HeedsAdvert, Completes}
 use Rattle.dg_rules.proofs.BootLemmas.{waits_whole}
 use Rattle.dg_completion.specs.Completion.{newest, pages_of}
@@ -182,24 +183,36 @@ stays_paged table s image page =
 -- what is promised below of frames
 pub record ChangeLaws : Type 0 where
   pub ticked : (m : MoteState) (s : Store) (now word : ℕ) → Through (MayClear s) (tick_of m s now word).trail
-  pub advert : (m : MoteState) (s : Store) (now word : ℕ) (bytes : List ℕ) (source : ℕ) (entries : List Entry) (order : Order) → message_of bytes false ≡ Ok (message.Advert source entries order)
+  pub advert : (m : MoteState) (s : Store) (now word : ℕ) (bytes : List ℕ) (wide : Bool) (source : ℕ) (entries : List Entry) (order : Order) → message_of bytes m.wide ≡ Ok (advert_by wide source entries order)
       → Through (HeedsAdvert entries order true s) (heard_of m s now word bytes).trail × HeedsAdvert entries order false s (last (heard_of m s now word bytes).trail)
-  pub request : (m : MoteState) (s : Store) (now word : ℕ) (bytes : List ℕ) (source to image version page : ℕ) (want : Numbers) → message_of bytes false ≡ Ok (message.Request source to image version page want)
+  pub request : (m : MoteState) (s : Store) (now word : ℕ) (bytes : List ℕ) (source to image version page : ℕ) (want : Numbers) → message_of bytes m.wide ≡ Ok (message.Request source to image version page want)
       → (heard_of m s now word bytes).trail ≡ resting s 0
-  pub packet : (m : MoteState) (s : Store) (now word : ℕ) (bytes : List ℕ) (source image version page q : ℕ) (content : List ℕ) → message_of bytes false ≡ Ok (message.Packet source image version page q content)
+  pub packet : (m : MoteState) (s : Store) (now word : ℕ) (bytes : List ℕ) (source image version page q : ℕ) (content : List ℕ) → message_of bytes m.wide ≡ Ok (message.Packet source image version page q content)
       → Through (λ t. (t ≡ s) ⊎ Completes m.mode image version page q s t) (heard_of m s now word bytes).trail
 
--- an honest message, whatever it is
-pub stays_heard : ChangeLaws → (table : List Row) (m : MoteState) (s : Store) (now word : ℕ) (bytes : List ℕ) (heard : Message) → message_of bytes false ≡ Ok heard → HonestMessage table (Ok heard)
-    → Stays table s (last (heard_of m s now word bytes).trail)
-stays_heard laws table m s now word bytes (message.Advert source entries order) is honest =
-    stays_heed table entries order s (last (heard_of m s now word bytes).trail) honest (laws.advert m s now word bytes source entries order is).1
-stays_heard laws table m s now word bytes (message.Request source to image version page want) is honest =
-    subst (Stays table s) (sym (ap last (laws.request m s now word bytes source to image version page want is) ∙ last-resting s 0)) (stays_same table s)
-stays_heard laws table m s now word bytes (message.Wide source entries order) is honest = absurd (no_wide bytes source entries order is)
-stays_heard laws table m s now word bytes (message.Packet source image version page q content) is honest =
-    by_case (Through-last (λ t. (t ≡ s) ⊎ Completes m.mode image version page q s t) (heard_of m s now word bytes).trail (laws.packet m s now word bytes source image version page q content is))
+-- what a mote reads of an honest frame is honest
+read_honest : (table : List Row) (wide : Bool) (bytes : List ℕ) (r : Result Message FrameFault) → message_of bytes wide ≡ r → IsHonest table bytes → HonestMessage table r
+read_honest table wide bytes (Err fault) is honest = tt
+read_honest table true bytes (Ok heard) is honest = subst (HonestMessage table) is honest
+read_honest table false bytes (Ok heard) is honest = subst (HonestMessage table) (wider bytes heard is) honest
+
+-- an honest frame, whatever it is
+pub stays_heard : ChangeLaws → (table : List Row) (m : MoteState) (s : Store) (now word : ℕ) (bytes : List ℕ) → IsHonest table bytes → Stays table s (last (heard_of m s now word bytes).trail)
+unfolding heard_of
+stays_heard laws table m s now word bytes honest = by_read (message_of bytes m.wide) refl (read_honest table m.wide bytes (message_of bytes m.wide) refl honest)
   where
-    by_case : (last (heard_of m s now word bytes).trail ≡ s) ⊎ Completes m.mode image version page q s (last (heard_of m s now word bytes).trail) → Stays table s (last (heard_of m s now word bytes).trail)
-    by_case (inl e) = subst (Stays table s) (sym e) (stays_same table s)
-    by_case (inr c) = subst (Stays table s) (sym c.paged_is) (stays_paged table s image c.content)
+    after : Store
+    after = last (heard_of m s now word bytes).trail
+
+    by_read : (r : Result Message FrameFault) → message_of bytes m.wide ≡ r → HonestMessage table r → Stays table s after
+    by_read (Err fault) is honest = subst (λ (r : Result Message FrameFault). Stays table s (last (by_message r m s now word).trail)) (sym is) (subst (Stays table s) (sym (last-resting s 0)) (stays_same table s))
+    by_read (Ok (message.Advert source entries order)) is honest = stays_heed table entries order s after honest (laws.advert m s now word bytes false source entries order is).1
+    by_read (Ok (message.Wide source entries order)) is honest = stays_heed table entries order s after honest (laws.advert m s now word bytes true source entries order is).1
+    by_read (Ok (message.Request source to image version page want)) is honest =
+        subst (Stays table s) (sym (ap last (laws.request m s now word bytes source to image version page want is) ∙ last-resting s 0)) (stays_same table s)
+    by_read (Ok (message.Packet source image version page q content)) is honest =
+        by_case (Through-last (λ t. (t ≡ s) ⊎ Completes m.mode image version page q s t) (heard_of m s now word bytes).trail (laws.packet m s now word bytes source image version page q content is))
+      where
+        by_case : (after ≡ s) ⊎ Completes m.mode image version page q s after → Stays table s after
+        by_case (inl e) = subst (Stays table s) (sym e) (stays_same table s)
+        by_case (inr c) = subst (Stays table s) (sym c.paged_is) (stays_paged table s image c.content)

@@ -1,5 +1,5 @@
 -- Events of a round over a world: what they do at their mote, and that all else stays.
-use Rattle.std.proofs.Common.{◌≡◌, ◌≢◌, ℕ, zero, suc, ◌+◌, ◌*◌, ◌<◌, ◌≤◌, cond, eqb, List, [], ◌∷◌, ◌++◌, length, replicate, Option, Some, None, option_map, IfSome, Ok, refl, sym, ap, subst, ◌∙◌, arith, false}
+use Rattle.std.proofs.Common.{◌≡◌, ◌≢◌, ℕ, zero, suc, ◌+◌, ◌*◌, ◌<◌, ◌≤◌, cond, eqb, Bool, List, [], ◌∷◌, ◌++◌, length, replicate, Option, Some, None, option_map, IfSome, Ok, refl, sym, ap, subst, ◌∙◌, arith}
 use Rattle.std.proofs.lemmas.Bool.{eq-eqb, ne_eqb}
 use Rattle.std.proofs.lemmas.List.{get_or-set_same, get_or-set_other, length-set}
 use Rattle.dg_nor.specs.Trail.{Trail, last}
@@ -19,13 +19,13 @@ use Rattle.dg_volume.specs.declared.volume.Kind.TheVariants as kind
 use Rattle.dg_frame.specs.Grammar.{message_of}
 use Rattle.dg_mote.specs.Effects.{tick_effect, tick_by as tick_went, boot_by}
 use Rattle.dg_mote.specs.Spots.{Spot, pace, tick_at, ticked, after_ticks, last_sent, newer_of, mote_or}
-use Rattle.dg_rules.specs.World.{World, Running, Site, Sent, no_site, site, with_site, counted, last_by, last_frame}
+use Rattle.dg_rules.specs.World.{World, Running, Site, Sent, no_site, site, wide_in, wide_at, with_site, counted, last_by, last_frame}
 use Rattle.dg_rules.specs.Events.{does, runs_by, key_of, tick_by}
 use Rattle.dg_volume.specs.Start.{Runs}
 use Rattle.dg_rules.specs.Premises.{WorldAgrees, RunsWell, SiteIsWell}
 use Rattle.dg_rules.specs.Steps.{WorldStep, StepDoes, and_sent}
 use Rattle.dg_rounds.specs.Rounds.{paced}
-use Rattle.dg_completion.specs.Completion.{Follows, FreeLaw}
+use Rattle.dg_completion.specs.Completion.{Follows, Grows, FreeLaw}
 use Rattle.dg_base.specs.declared.events.Key.{Key}
 use Rattle.dg_script.specs.declared.report.Report.{Report}
 
@@ -138,63 +138,73 @@ tick_walks w u m x reports at walk =
       moment = made_moment w m pace new e.sent;
     })
 
--- ---- what a well mote sends is read
+-- ---- what a well mote sends is read by motes of its width
 
-abbrev pub Spelled : Message → Type 0
-Spelled m = message_of (frame_of m) false ≡ Ok m
+abbrev pub Spelled : (wide : Bool) → Message → Type 0
+Spelled wide m = message_of (frame_of m) wide ≡ Ok m
 
 -- what is known of free events, and of what a mote sends
 pub record WalkLaws : Type 0 where
   pub free : FreeLaw
   pub later : (table : List Row) (m : MoteState) (s : Store) (now then : ℕ) → now ≤ then → IsWell table m s now → IsWell table m s then
-  pub said : (table : List Row) (m : MoteState) (s : Store) (now word : ℕ) → IsTable table → IsWell table m s now → Speaks m s → IfSome (tick_of m s now word).sent (IsSaid m.id)
+  pub said : (table : List Row) (m : MoteState) (s : Store) (now word : ℕ) → IsTable table → IsWell table m s now → Speaks m s → IfSome (tick_of m s now word).sent (IsSaid m.id m.wide)
 
-if_said : (id : ℕ) (o : Option Message) → IfSome o (IsSaid id) → IfSome o Spelled
-if_said id None i = tt
-if_said id (Some m) i = i.is_read
+if_said : (id : ℕ) (wide : Bool) (o : Option Message) → IfSome o (IsSaid id wide) → IfSome o (Spelled wide)
+if_said id wide None i = tt
+if_said id wide (Some m) i = i.is_read
 
-boot_silent : (o : Option Runs) (t : Trail Store) (id now word : ℕ) → IfSome (boot_by o t id now word).sent Spelled
-boot_silent None t id now word = tt
-boot_silent (Some r) t id now word = tt
+boot_silent : (o : Option Runs) (t : Trail Store) (id : ℕ) (wide : Bool) (now word : ℕ) (P : Message → Type 0) → IfSome (boot_by o t id wide now word).sent P
+boot_silent None t id wide now word P = tt
+boot_silent (Some r) t id wide now word P = tt
 
-effect_said : (a : Did) (step : Turn Did) (now word : ℕ) → IfSome step.sent Spelled → IfSome (tick_went a step now word).sent Spelled
-effect_said did.Sent step now word i = i
-effect_said did.Idle step now word i = i
-effect_said did.Restart step now word i = boot_silent (boot kind.Order (last step.trail)).runs (boot kind.Order (last step.trail)).trail step.mote.id now word
+effect_said : (wide : Bool) (a : Did) (step : Turn Did) (now word : ℕ) → IfSome step.sent (Spelled wide) → IfSome (tick_went a step now word).sent (Spelled wide)
+effect_said wide did.Sent step now word i = i
+effect_said wide did.Idle step now word i = i
+effect_said wide did.Restart step now word i =
+    boot_silent (boot kind.Order (last step.trail)).runs (boot kind.Order (last step.trail)).trail step.mote.id step.mote.wide now word (Spelled wide)
 
-pub well_at : (w : World) (m : ℕ) (x : Spot) → WorldAgrees w → (at : At w m x) → RunsWell w.table m w.moment x.store (record { key = at.key; mote = x.mote })
+pub well_at : (w : World) (m : ℕ) (x : Spot) → WorldAgrees w → (at : At w m x) → RunsWell w.table m (wide_at w m) w.moment x.store (record { key = at.key; mote = x.mote })
 well_at w m x good at =
-    let here : SiteIsWell w.table m w.moment (record { store = x.store; runs = Some (record { key = at.key; mote = x.mote }) }) = subst (SiteIsWell w.table m w.moment) at.site_is (good.sites m at.there) in
+    let here : SiteIsWell w.table m (wide_at w m) w.moment (record { store = x.store; runs = Some (record { key = at.key; mote = x.mote }) }) = subst (SiteIsWell w.table m (wide_at w m) w.moment) at.site_is (good.sites m at.there) in
     here.runs
 
-pub said_at : WalkLaws → (w : World) (m : ℕ) (x : Spot) → WorldAgrees w → At w m x → IfSome (tick_at x (w.moment + pace)).sent Spelled
+-- a mote has its width by the world
+pub mote_wide : (w : World) (m : ℕ) (x : Spot) → WorldAgrees w → At w m x → x.mote.wide ≡ wide_at w m
+mote_wide w m x good at = (well_at w m x good at).wide_is
+
+-- which no free event changes
+pub wide_on : (w u : World) (m : ℕ) → Grows w u → wide_at u m ≡ wide_at w m
+wide_on w u m g = ap (λ narrow. wide_in narrow m) g.narrow
+
+pub said_at : WalkLaws → (w : World) (m : ℕ) (x : Spot) → WorldAgrees w → At w m x → IfSome (tick_at x (w.moment + pace)).sent (Spelled (wide_at w m))
 unfolding tick_effect
 said_at laws w m x good at =
     let known = well_at w m x good at in
     let now = w.moment + pace in
     let step = tick_of x.mote x.store now 0 in
-    effect_said step.answer step now 0 (if_said x.mote.id step.sent (laws.said w.table x.mote x.store now 0 good.table (laws.later w.table x.mote x.store w.moment now (omega arith) known.well) known.speaks))
+    let said = if_said x.mote.id x.mote.wide step.sent (laws.said w.table x.mote x.store now 0 good.table (laws.later w.table x.mote x.store w.moment now (omega arith) known.well) known.speaks) in
+    subst (λ wide. IfSome (tick_went step.answer step now 0).sent (Spelled wide)) (mote_wide w m x good at) (effect_said x.mote.wide step.answer step now 0 said)
 
 -- ---- n ticks in a row: an induction on their number
 
--- the frame is that of the message that was sent last, where one is known, and it is read as that message
-abbrev pub IsTold : ℕ → Option Sent → Option Message → Type 0
-IsTold m f None = Unit {0}
-IsTold m f (Some message) = (f ≡ frame_told m (Some message)) × Spelled message
+-- the frame is that of the message that was sent last, where one is known, and readers of this width read it as that message
+abbrev pub IsTold : ℕ → (wide : Bool) → Option Sent → Option Message → Type 0
+IsTold m wide f None = Unit {0}
+IsTold m wide f (Some message) = (f ≡ frame_told m (Some message)) × Spelled wide message
 
-newer_told : (m : ℕ) (sent before : Option Message) (f : Option Sent) → IfSome sent Spelled → IsTold m f before → IsTold m (newer_frame m sent f) (newer_of sent before)
+newer_told : (m : ℕ) (wide : Bool) (sent before : Option Message) (f : Option Sent) → IfSome sent (Spelled wide) → IsTold m wide f before → IsTold m wide (newer_frame m sent f) (newer_of sent before)
 unfolding frame_told
-newer_told m None before f i e = e
-newer_told m (Some s) before f i e = (refl, i)
+newer_told m wide None before f i e = e
+newer_told m wide (Some s) before f i e = (refl, i)
 
 -- what came of n ticks at m
 pub record Walked (n : ℕ) (m : ℕ) (w v : World) (x : Spot) (before : Option Message) : Type 0 where
   pub at : At v m (after_ticks n x w.moment)
   pub beside : Beside m w v
-  pub told : IsTold m (last_frame v m) (last_sent n x w.moment before)
+  pub told : IsTold m (wide_at w m) (last_frame v m) (last_sent n x w.moment before)
   pub moment : v.moment ≡ w.moment + n * pace
 
-pub ticks_walk : WalkLaws → (n : ℕ) (w v : World) (m : ℕ) (x : Spot) (before : Option Message) → WorldAgrees w → At w m x → IsTold m (last_frame w m) before → Follows w (replicate n (paced m)) v → Walked n m w v x before
+pub ticks_walk : WalkLaws → (n : ℕ) (w v : World) (m : ℕ) (x : Spot) (before : Option Message) → WorldAgrees w → At w m x → IsTold m (wide_at w m) (last_frame w m) before → Follows w (replicate n (paced m)) v → Walked n m w v x before
 unfolding Follows after_ticks last_sent
 ticks_walk laws zero w v m x before good at told f =
     subst (λ u. Walked zero m w u x before) f (record { at = at; beside = Beside-none m w; told = told; moment = omega arith })
@@ -203,11 +213,15 @@ ticks_walk laws (suc n) w v m x before good at told f =
     let y = ticked x (w.moment + pace) in
     let sent = (tick_at x (w.moment + pace)).sent in
     let message = newer_of sent before in
-    let now_told : IsTold m (last_frame f.0 m) message = subst (λ g. IsTold m g message) (sym one.frame) (newer_told m sent before (last_frame w m) (said_at laws w m x good at) told) in
-    let rest = ticks_walk laws n f.0 v m y message (laws.free w f.0 (paced m) f.1 good refl f.2).good one.at now_told f.3 in
+    let wide = wide_at w m in
+    let grown = laws.free w f.0 (paced m) f.1 good refl f.2 in
+    let now_told : IsTold m wide (last_frame f.0 m) message = subst (λ g. IsTold m wide g message) (sym one.frame) (newer_told m wide sent before (last_frame w m) (said_at laws w m x good at) told) in
+    let rest = ticks_walk laws n f.0 v m y message grown.good one.at (subst (λ k. IsTold m k (last_frame f.0 m) message) (sym (wide_on w f.0 m grown)) now_told) f.3 in
     record {
       at = subst (λ t. At v m (after_ticks n y t)) one.moment rest.at;
       beside = Beside-then m w f.0 v one.beside rest.beside;
-      told = subst (λ t. IsTold m (last_frame v m) (last_sent n y t message)) one.moment rest.told;
+      told =
+          subst (λ t. IsTold m wide (last_frame v m) (last_sent n y t message)) one.moment
+          (subst (λ k. IsTold m k (last_frame v m) (last_sent n y f.0.moment message)) (wide_on w f.0 m grown) rest.told);
       moment = omega (arith, rest.moment, one.moment);
     }

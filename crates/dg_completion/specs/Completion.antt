@@ -10,9 +10,9 @@ use Rattle.dg_volume.specs.Changes.{is_version}
 use Rattle.dg_volume.specs.Trails.{done_of}
 use Rattle.dg_mote.specs.Sizes.{shared}
 use Rattle.dg_mote.specs.Drained.{spare_room, SameKept, KeptBut}
-use Rattle.dg_rules.specs.World.{World, Running, site, store_at, linked}
+use Rattle.dg_rules.specs.World.{World, Running, site, wide_at, store_at, linked}
 use Rattle.dg_rules.specs.Steps.{WorldStep}
-use Rattle.dg_rules.specs.Premises.{WorldAgrees}
+use Rattle.dg_rules.specs.Premises.{WorldAgrees, OneWidth}
 use Rattle.dg_rounds.specs.Rounds.{round}
 use Rattle.dg_base.specs.declared.events.Event.{Event}
 use Rattle.dg_script.specs.declared.report.Report.{Report}
@@ -50,12 +50,13 @@ pages_of s row = if is_version (held s row.image) row.version then done_of (held
 
 -- ---- free events
 
--- The world still agrees with its table, which stays, and so do the links. Motes that are on stay on, room does not
--- grow, and no page of a newest version is lost.
+-- The world still agrees with its table, which stays, and so do the links and who is narrow. Motes that are on stay on, room
+-- does not grow, and no page of a newest version is lost.
 pub record Grows (w v : World) : Type 0 where
   pub good : WorldAgrees v
   pub table : v.table ≡ w.table
   pub links : v.links ≡ w.links
+  pub narrow : v.narrow ≡ w.narrow
   pub count : length v.sites ≡ length w.sites
   pub on : (m : ℕ) → IsOn w m → IsOn v m
   pub room : (m : ℕ) → (store_at v m).room ≤ (store_at w m).room
@@ -74,9 +75,9 @@ is_ahead (Some h) None = nat_le 1 (length h.complete)
 is_ahead (Some h) (Some g) =
     nat_le 1 (length h.complete) && (nat_lt g.version h.version || ((g.version == h.version) && nat_lt (length g.complete) (length h.complete)))
 
--- the least image in which the first store is ahead of the second
-unfoldable pub least_ahead : Store → Store → Option ℕ
-least_ahead s t = find (λ i. is_ahead (held s i) (held t i)) shared
+-- the least image in which the first store is ahead of the second, of those that wide motes hand on, or narrow ones
+unfoldable pub least_ahead : (wide : Bool) → Store → Store → Option ℕ
+least_ahead wide s t = find (λ i. is_ahead (held s i) (held t i)) (shared wide)
 
 -- one page more of the version that is ahead, or its first page
 abbrev pub RaisedFrom : Option Held → Held → Held → Type 0
@@ -96,11 +97,12 @@ pub record Raises (s t : Store) (i : ℕ) (after : Store) : Type 0 where
 abbrev pub HasRoomAt : World → ℕ → Type 0
 HasRoomAt w m = spare_room ≤ (store_at w m).room
 
--- A round from a to its neighbour b, both on: where a is ahead, b has one page more in the least image in which it is.
--- What a keeps stays, and so do all other motes.
+-- A round from a to its neighbour b, both on, and both wide or both narrow: where a is ahead, b has one page more in the
+-- least image in which it is. What a keeps stays, and so do all other motes.
 abbrev pub RoundLaw : Type 0
-RoundLaw = (w v : World) (a b i : ℕ) → WorldAgrees w → linked w a b ≡ true → IsOn w a → IsOn w b → Follows w (round a b) v → HasRoomAt v a → HasRoomAt v b
-    → least_ahead (store_at w a) (store_at w b) ≡ Some i
+RoundLaw = (w v : World) (a b i : ℕ) → WorldAgrees w → linked w a b ≡ true → wide_at w a ≡ wide_at w b → IsOn w a → IsOn w b
+    → Follows w (round a b) v → HasRoomAt v a → HasRoomAt v b
+    → least_ahead (wide_at w a) (store_at w a) (store_at w b) ≡ Some i
     → Raises (store_at w a) (store_at w b) i (store_at v b) × SameKept (store_at w a) (store_at v a) × ((m : ℕ) → m ≢ a → m ≢ b → site v m ≡ site w m)
 
 -- ---- sweeps
@@ -130,16 +132,18 @@ unfoldable pub IsEnoughOver : World → List ℕ → ℕ → Type 0
 IsEnoughOver w [] n = n ≡ 0
 IsEnoughOver w (i ∷ is) n = (x y : ℕ) × IsEnoughFor w (newest w.table i) x × IsEnoughOver w is y × (n ≡ x + y)
 
--- so many sweeps are enough: those for each image that motes hand on
+-- so many sweeps are enough: those for each image that wide motes hand on
 abbrev pub IsEnough : World → ℕ → Type 0
-IsEnough w n = IsEnoughOver w shared n
+IsEnough w n = IsEnoughOver w (shared true) n
 
--- A rest of n sweeps from world w to world v: w agrees with its table, every mote is on, and each has room at the end.
+-- A rest of n sweeps from world w to world v: w agrees with its table, every mote is on, all are of one width, and each has
+-- room at the end.
 pub record Rests (w : World) (n : ℕ) (es : List Event) (v : World) : Type 0 where
   pub good : WorldAgrees w
   pub rest : IsRest w.links n es
   pub run : Follows w es v
   pub on : (m : ℕ) → m < length w.sites → IsOn w m
+  pub widths : OneWidth w
   pub room : (m : ℕ) → m < length w.sites → HasRoomAt v m
 
 -- the newest row of every smaller image is whole at every mote

@@ -8,6 +8,7 @@ use Rattle.dg_volume.specs.Store.{held, held_whole}
 use Rattle.dg_script.specs.Items.{Item, Declares, Happens}
 use Rattle.dg_rules.specs.World.{World, store_at}
 use Rattle.dg_rules.specs.Runs.{Played, Plays}
+use Rattle.dg_rules.specs.Premises.{OneWidth}
 use Rattle.dg_rules.specs.Begins.{PlaysFrom}
 use Rattle.dg_completion.specs.Rests.{IsFree, IsRest}
 use Rattle.dg_completion.specs.Completion.{Follows, IsOn, HasRoomAt, newest, page_count, pages_of, within, DoneBelow, IsEnough}
@@ -37,7 +38,7 @@ PlayedLaw = (ps : List Played) (w v : World) → AllByRecursion IsUncut ps → A
 
 -- What was played ends, in world v, with a rest of n sweeps that begins in world w: its events are sweeps, with ticks and
 -- heard frames between their rounds, and no power is cut. Images may be declared meanwhile. Every mote is on when it
--- begins, and each has room when it ends.
+-- begins, all are of one width, and each has room when it ends.
 pub record EndsInRest (played : List Played) (w : World) (n : ℕ) (v : World) : Type 0 where
   pub before : List Played
   pub rest : List Played
@@ -46,6 +47,7 @@ pub record EndsInRest (played : List Played) (w : World) (n : ℕ) (v : World) :
   pub sweeps : IsRest w.links n (events_of rest)
   pub uncut : AllByRecursion IsUncut rest
   pub on : (m : ℕ) → m < length w.sites → IsOn w m
+  pub widths : OneWidth w
   pub room : (m : ℕ) → m < length w.sites → HasRoomAt v m
 
 -- every mote keeps the newest version of each image whole

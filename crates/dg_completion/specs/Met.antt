@@ -9,7 +9,7 @@ use Rattle.dg_rules.specs.Events.{mote_of}
 use Rattle.dg_rules.specs.Steps.{WorldStep}
 use Rattle.dg_rules.specs.Runs.{Played}
 use Rattle.dg_rules.specs.Ranges.{EventFits}
-use Rattle.dg_rules.specs.Premises.{WorldAgrees}
+use Rattle.dg_rules.specs.Premises.{WorldAgrees, OneWidth}
 use Rattle.dg_rules.specs.Begins.{PlaysFrom}
 use Rattle.dg_mote.specs.Drained.{spare_room}
 use Rattle.dg_completion.specs.Rests.{IsFree, IsRest}
@@ -34,11 +34,12 @@ abbrev pub SpendLaw : Type 0
 SpendLaw = (w v : World) (e : Event) (reports : List Report) → WorldAgrees w → IsFree e → WorldStep w (record { event = e; cut = None }) v reports
     → (m : ℕ) → (store_at w m).room ≤ (store_at v m).room + commits_at m e
 
--- Every mote is on, and has room for whatever these events may commit there.
+-- Every mote is on, all are of one width, and each has room for whatever these events may commit there.
 pub record MayRest (w : World) (n : ℕ) (es : List Event) : Type 0 where
   pub good : WorldAgrees w
   pub rest : IsRest w.links n es
   pub on : (m : ℕ) → m < length w.sites → IsOn w m
+  pub widths : OneWidth w
   pub room : (m : ℕ) → m < length w.sites → spare_room + sum_by (commits_at m) es ≤ (store_at w m).room
 
 -- Then the rest happens, and meets what completion asks for.
@@ -51,11 +52,13 @@ MetLaw = (w : World) (n : ℕ) (es : List Event) → MayRest w n es → (v : Wor
 abbrev pub happening : Bool → Event → Item
 happening loud e = Happens (record { event = e; cut = None }) loud
 
--- Every number is in its range, every mote is on, and has room for whatever these events may commit there.
+-- Every number is in its range, every mote is on, all are of one width, and each has room for whatever these events may commit
+-- there.
 pub record MayGoOn (motes : ℕ) (w : World) (n : ℕ) (es : List Event) : Type 0 where
   pub rest : IsRest w.links n es
   pub ranges : AllByRecursion (EventFits motes) es
   pub on : (m : ℕ) → m < length w.sites → IsOn w m
+  pub widths : OneWidth w
   pub room : (m : ℕ) → m < length w.sites → spare_room + sum_by (commits_at m) es ≤ (store_at w m).room
 
 -- What was played before goes on with these events, and so ends with a rest of n sweeps that begins in world w.

@@ -5,7 +5,7 @@ use Rattle.dg_base.specs.declared.events.Event.{Event}
 use Rattle.dg_rounds.specs.Rounds.{round, paced}
 use Rattle.dg_mote.specs.Drained.{Drained, SameKept}
 use Rattle.dg_mote.specs.Completing.{drain_ticks}
-use Rattle.dg_rules.specs.World.{World, Running, site, store_at, linked}
+use Rattle.dg_rules.specs.World.{World, Running, site, wide_at, store_at, linked}
 use Rattle.dg_rules.specs.Premises.{WorldAgrees}
 use Rattle.dg_rules.specs.Begins.{PlaysFrom}
 use Rattle.dg_rules.specs.Runs.{Played, Plays}
@@ -47,10 +47,12 @@ DrainedLaw = (w v : World) (m : ℕ) → WorldAgrees w → m < length w.sites �
 
 -- ---- whole rounds
 
--- a round of two neighbours, from a to b: both are on before it, and have room for three commits at its end
+-- a round of two neighbours, from a to b, both wide or both narrow: both are on before it, and have room for three commits at
+-- its end
 pub record RoundPlayed (played : List Played) (w : World) (a b : ℕ) (v : World) : Type 0 where
   pub passes : Passes played w (round a b) v
   pub near : linked w a b ≡ true
+  pub alike : wide_at w a ≡ wide_at w b
   pub on_a : IsOn w a
   pub on_b : IsOn w b
   pub room_a : HasRoomAt v a
@@ -67,7 +69,7 @@ pub record RaisesOne (w : World) (a b i : ℕ) (v : World) : Type 0 where
 -- mote in the least image in which the first one is ahead.
 pub record RoundsBring (played : List Played) : Type 0 where
   pub rests : (w v : World) (m : ℕ) → TicksPlayed played w m v → ComesToRest w m v
-  pub raises : (w v : World) (a b i : ℕ) → RoundPlayed played w a b v → least_ahead (store_at w a) (store_at w b) ≡ Some i → RaisesOne w a b i v
+  pub raises : (w v : World) (a b i : ℕ) → RoundPlayed played w a b v → least_ahead (wide_at w a) (store_at w a) (store_at w b) ≡ Some i → RaisesOne w a b i v
 
 -- Whatever was played from a world that agrees with its table, with true events, brought that.
 abbrev pub RoundsLaw : Type 0

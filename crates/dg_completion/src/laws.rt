@@ -27,8 +27,8 @@ pub fn sweeps_are_a_rest()
 {}
 
 /// A tick or a heard frame, at any moment and with any word, keeps a world that agrees with its table: it still agrees,
-/// the table, the links and the motes that are on stay, room does not grow, and no page of the newest version of an image
-/// is lost.
+/// the table, the links, the narrow motes and those that are on stay, room does not grow, and no page of the newest version
+/// of an image is lost.
 pub fn a_free_event_keeps_a_good_world()
     ensures { FreeLaw }
 {
@@ -41,8 +41,8 @@ pub fn a_free_event_keeps_a_good_world()
     a_table_holds_sound_rows();
 }
 
-/// A round from a mote to its neighbour brings that one a page of the least image in which the first is ahead, and
-/// changes nothing else that is kept.
+/// A round from a mote to its neighbour, both wide or both narrow, brings that one a page of the least image in which the
+/// first is ahead, of those that such motes speak of, and changes nothing else that is kept.
 pub fn a_round_raises()
     ensures { RoundLaw }
 {
@@ -67,7 +67,8 @@ pub fn a_round_brings_a_mote_to_rest()
 }
 
 /// In a rest each sweep brings every page one link further: after t sweeps a mote within j links of a whole image has
-/// t + 1 - j pages of it, where every smaller image is whole everywhere.
+/// t + 1 - j pages of it, where every smaller image is whole everywhere. All motes are wide, or all are narrow and no image
+/// that such motes do not speak of has a row.
 pub fn sweeps_fill_the_pipeline()
     ensures { PipelineLaw }
 {
@@ -75,7 +76,8 @@ pub fn sweeps_fill_the_pipeline()
     a_round_raises();
 }
 
-/// After a rest of enough sweeps every mote keeps the newest version of every image whole.
+/// After a rest of enough sweeps every mote keeps the newest version of every image whole, where all motes are wide, or all
+/// are narrow and no image that such motes do not speak of has a row. Networks that are mixed are promised nothing.
 pub fn enough_sweeps_complete()
     ensures { CompletionLaw }
 {
@@ -93,8 +95,9 @@ pub fn distances_are_ways()
 {}
 
 /// What is played from a world that agrees with its table, with true events: where it ends with a rest of enough sweeps,
-/// every mote keeps the newest version of each image whole. Where the sweeps are fewer, each brings every page one link further, if
-/// every smaller image is whole everywhere. What is played of free events that are not cut is a run of them.
+/// every mote keeps the newest version of each image whole. Where the sweeps are fewer, each brings every page one link
+/// further, if every smaller image is whole everywhere. All motes are wide in both, or all are narrow and no image that such
+/// motes do not speak of has a row. What is played of free events that are not cut is a run of them.
 pub fn scripts_end_complete()
     ensures completes { EndsLaw }
     ensures pipeline { EndsPipelineLaw }
@@ -107,8 +110,8 @@ pub fn scripts_end_complete()
 }
 
 /// Wherever a round was played from a world that agrees with its table, with true events, and no power was cut in it: its
-/// first ticks brought its mote to rest, and a whole one brought the second mote a page of the least image in which the first was
-/// ahead.
+/// first ticks brought its mote to rest, and a whole one between two wide motes, or two narrow ones, brought the second a page
+/// of the least image in which the first was ahead.
 pub fn rounds_of_scripts_bring_pages()
     ensures brings { RoundsLaw }
     ensures nothing { RoundsBring [] }
@@ -135,7 +138,8 @@ pub fn a_free_event_happens()
     trails_begin();
 }
 
-/// The premises of completion can be met: where every mote is on and has room for what it may commit, a rest happens.
+/// The premises of completion can be met: where every mote is on, all are of one width, and each has room for what it may
+/// commit, a rest happens.
 pub fn a_rest_happens()
     ensures { MetLaw }
 {
@@ -143,8 +147,9 @@ pub fn a_rest_happens()
     a_free_event_happens();
 }
 
-/// What was played from a world that agrees with its table, with true events, can go on with a rest: where every mote is on
-/// and has room for what it may commit, there is what is played of these items, and it ends with a rest of so many sweeps.
+/// What was played from a world that agrees with its table, with true events, can go on with a rest: where every mote is on,
+/// all are of one width, and each has room for what it may commit, there is what is played of these items, and it ends with a
+/// rest of so many sweeps.
 pub fn a_script_goes_on_with_a_rest()
     ensures { GoesOnLaw }
 {

@@ -1,5 +1,5 @@
 -- What a mote does alone at its board, as a step of the world.
-use Rattle.std.proofs.Common.{◌≡◌, ℕ, ◌+◌, ◌<◌, true, List, [], length, refl, sym, subst}
+use Rattle.std.proofs.Common.{◌≡◌, ℕ, ◌+◌, ◌<◌, Bool, true, List, [], length, refl, sym, subst}
 use Rattle.std.specs.Prelude.{Option, Result, Ok, Err, IsErrAnd}
 use Rattle.std.specs.List.{filter}
 use Rattle.std.proofs.lemmas.Bool.{both_ways}
@@ -9,7 +9,7 @@ use Rattle.dg_nor.specs.Reads.{ActStopped}
 use Rattle.dg_volume.specs.Stands.{Stands}
 use Rattle.dg_mote.specs.Motes.{sent_in}
 use Rattle.dg_mote.specs.Effects.{reset_effect}
-use Rattle.dg_rules.specs.World.{World as RuleWorld, site, store_at}
+use Rattle.dg_rules.specs.World.{World as RuleWorld, site, store_at, wide_at}
 use Rattle.dg_rules.specs.Events.{Does, of_effect, tick_by, hear_by, does, mote_of, dt_of}
 use Rattle.dg_rules.specs.Changes.{is_told}
 use Rattle.dg_base.specs.declared.events.Event.{Event}
@@ -24,7 +24,7 @@ use Rattle.dg_world.specs.declared.telling.Fault.{Fault}
 use Rattle.dg_world.specs.declared.telling.Fault.TheVariants as fault
 use Rattle.dg_world.specs.declared.telling.Telling.{Telling}
 use Rattle.dg_world.specs.declared.world.RunningMote.{RunningMote}
-use Rattle.dg_world.specs.Turn.{Turn, Halt, Stopped, NotAVolume, NoImage}
+use Rattle.dg_world.specs.Turn.{Turn, Halt, Stopped, NoImage}
 use Rattle.dg_world.proofs.CutLemmas.{uncut}
 use Rattle.dg_world.proofs.DoneLemmas.{step_turn}
 use Rattle.dg_world.proofs.TellingLemmas.{frame_told}
@@ -32,7 +32,7 @@ use Rattle.dg_world.proofs.TellingLemmas.{frame_told}
 -- ---- which event it is
 
 abbrev pub HappensAlone : Result Turn Halt → RuleWorld → (v u : Option RunningMote) → ℕ → Device → Device → Event → Type 0
-HappensAlone r w v u now a b event = SiteStands a v (site w (mote_of event)) → now ≡ w.moment + dt_of event → TurnEnds r w (mote_of event) (does w event) v u a b
+HappensAlone r w v u now a b event = SiteStands a v (site w (mote_of event)) → now ≡ w.moment + dt_of event → wide_at w (mote_of event) ≡ true → TurnEnds r w (mote_of event) (does w event) v u a b
 
 module _ (r : Result Turn Halt) (w : RuleWorld) (v u : Option RunningMote) (now : ℕ) (a b : Device) where
   at_moment : (m : ℕ) (D : ℕ → Does) (moment : ℕ) → now ≡ moment → TurnEnds r w m (D now) v u a b → TurnEnds r w m (D moment) v u a b
@@ -40,15 +40,17 @@ module _ (r : Result Turn Halt) (w : RuleWorld) (v u : Option RunningMote) (now 
 
   pub alone_ticks : (m dt word : ℕ) → (SiteStands a v (site w m) → TurnEnds r w m (tick_by w (store_at w m) (site w m).runs now word) v u a b) → HappensAlone r w v u now a b (Tick m dt word)
   unfolding does
-  alone_ticks m dt word ends = λ stands at. at_moment m (λ n. tick_by w (store_at w m) (site w m).runs n word) _ at (ends stands)
+  alone_ticks m dt word ends = λ stands at wide. at_moment m (λ n. tick_by w (store_at w m) (site w m).runs n word) _ at (ends stands)
 
   pub alone_hears : (m dt word : ℕ) (bytes : List ℕ) → (SiteStands a v (site w m) → TurnEnds r w m (hear_by w (store_at w m) (site w m).runs now word bytes) v u a b) → HappensAlone r w v u now a b (Frame m dt word bytes)
   unfolding does
-  alone_hears m dt word bytes ends = λ stands at. at_moment m (λ n. hear_by w (store_at w m) (site w m).runs n word bytes) _ at (ends stands)
+  alone_hears m dt word bytes ends = λ stands at wide. at_moment m (λ n. hear_by w (store_at w m) (site w m).runs n word bytes) _ at (ends stands)
 
-  pub alone_starts : (m dt word : ℕ) → (Stands a.image (store_at w m) → TurnEnds r w m (of_effect w (reset_effect (store_at w m) m now word) None) v u a b) → HappensAlone r w v u now a b (Reset m dt word)
+  pub alone_starts : (m dt word : ℕ) → (Stands a.image (store_at w m) → TurnEnds r w m (of_effect w (reset_effect (store_at w m) m true now word) None) v u a b) → HappensAlone r w v u now a b (Reset m dt word)
   unfolding does
-  alone_starts m dt word ends = λ stands at. at_moment m (λ n. of_effect w (reset_effect (store_at w m) m n word) None) _ at (ends stands.stands)
+  alone_starts m dt word ends = λ stands at wide.
+      let D : Bool → ℕ → Does = λ x n. of_effect w (reset_effect (store_at w m) m x n word) None in
+      at_moment m (D (wide_at w m)) _ at (subst (λ (x : Bool). TurnEnds r w m (D x now) v u a b) (sym wide) (ends stands.stands))
 
 -- ---- how it ends
 

@@ -71,11 +71,12 @@ record SameBut (v w : RuleWorld) : Type 0 where
   events : v.events ≡ w.events
   declared : v.declared ≡ w.declared
   links : v.links ≡ w.links
+  narrow : v.narrow ≡ w.narrow
   sites : v.sites ≡ w.sites
 
 same_but : (w : RuleWorld) (m : ℕ) (message : Option Message) → SameBut (and_sent w m message) w
-same_but w m None = record { moment = refl; events = refl; declared = refl; links = refl; sites = refl }
-same_but w m (Some message) = record { moment = refl; events = refl; declared = refl; links = refl; sites = refl }
+same_but w m None = record { moment = refl; events = refl; declared = refl; links = refl; narrow = refl; sites = refl }
+same_but w m (Some message) = record { moment = refl; events = refl; declared = refl; links = refl; narrow = refl; sites = refl }
 
 -- a frame and a message that spells it
 sent_with : (w : RuleWorld) (m : ℕ) (frame : Option (List ℕ)) (message : Option Message) → frame ≡ option_map frame_of message → (and_sent w m message).sent ≡ w.sent ++ sent_now m frame
@@ -107,6 +108,7 @@ refused_done w x loud v u frame why a b start end known stands is same at none t
       events = refl;
       declared = refl;
       links = refl;
+      narrow = refl;
       sent = none_sent w (mote_of x.event) frame none;
       sites = set_here w.sites (mote_of x.event) no_site known;
       stands = subst (λ c. Stands c here.store) (sym same) stands.stands;
@@ -132,6 +134,7 @@ whole_done w x loud u frame turn b start end is sends told =
       events = same.events;
       declared = same.declared;
       links = same.links;
+      narrow = same.narrow;
       sent = sent_with before m frame d.sent (sends ∙ is.tells.sent);
       sites = same.sites;
       stands = is.tells.stands;
@@ -158,6 +161,7 @@ cut_done w x loud before b c start mid end is lines off same =
       events = refl;
       declared = refl;
       links = refl;
+      narrow = refl;
       sent = sym (append-nil w.sent);
       sites = refl;
       stands = subst (λ i. Stands i s) (sym same) is.leaves.stands_for;
@@ -192,19 +196,19 @@ cut_itself : (cut : Option PowerCut) → IfSome cut (λ c. before_cut cut ≤ c.
 cut_itself None = tt
 cut_itself (Some c) = omega arith
 
-pub step_cut : (w : RuleWorld) (x : Step) (loud : Bool) (v u : Option RunningMote) (before : Option Shown) (q : Result (Unit {0}) Fault) (y : Unit {0}) (a b c : Device) (start mid end : List Report) → (p : Played (Ok (Cut before)) w (mote_of x.event) (does w x.event) x.cut v u a b)
+pub step_cut : {T : Type 0} (w : RuleWorld) (x : Step) (loud : Bool) (v u : Option RunningMote) (before : Option Shown) (q : Result T Fault) (y : T) (a b c : Device) (start mid end : List Report) → (p : Played (Ok (Cut before)) w (mote_of x.event) (does w x.event) x.cut v u a b)
     → q ≡ Ok y → CutTold q (mote_of x.event) before p.ends.leaves.store b c start mid → end ≡ mid ++ Off (mote_of x.event) ∷ [] → Stepped (Ok None) w x loud None a c start end
-step_cut w x loud v u before q y a b c start mid end p is told off =
-    let l : CutTold (Ok y) (mote_of x.event) before p.ends.leaves.store b c start mid = subst (λ (z : Result (Unit {0}) Fault). CutTold z (mote_of x.event) before p.ends.leaves.store b c start mid) is told in
+step_cut {T} w x loud v u before q y a b c start mid end p is told off =
+    let l : CutTold (Ok y) (mote_of x.event) before p.ends.leaves.store b c start mid = subst (λ (z : Result T Fault). CutTold z (mote_of x.event) before p.ends.leaves.store b c start mid) is told in
     record {
       ends = cut_done w x loud before b c start mid end p.ends l.0 off l.1.same_image;
       endures = Endures_then (beneath_of a) (beneath_of b) (beneath_of c) p.endures l.1.endures;
       count = l.2 ∙ p.count;
     }
 
-cut_halts : (f : Fault) (w : RuleWorld) (x : Step) (loud : Bool) (v u o : Option RunningMote) (before k : Option Shown) (a b c : Device) (start end : List Report) → (p : Played (Ok (Cut before)) w (mote_of x.event) (does w x.event) x.cut v u a b)
-    → CutTold (Err f) (mote_of x.event) before p.ends.leaves.store b c start end → Stepped (Err (halt_of f k)) w x loud o a c start end
-cut_halts fault.Stopped w x loud v u o before k a b c start end p lines = record {
+cut_halts : (T : Type 0) (f : Fault) (w : RuleWorld) (x : Step) (loud : Bool) (v u o : Option RunningMote) (before k : Option Shown) (a b c : Device) (start end : List Report) → (p : Played (Ok (Cut before)) w (mote_of x.event) (does w x.event) x.cut v u a b)
+    → CutTold {T = T} (Err f) (mote_of x.event) before p.ends.leaves.store b c start end → Stepped (Err (halt_of f k)) w x loud o a c start end
+cut_halts T fault.Stopped w x loud v u o before k a b c start end p lines = record {
   ends = (
     record {
       stopped = lines.0;
@@ -219,15 +223,15 @@ cut_halts fault.Stopped w x loud v u o before k a b c start end p lines = record
   endures = Endures_then (beneath_of a) (beneath_of b) (beneath_of c) p.endures lines.1.endures;
   count = tt;
 }
-cut_halts fault.NotAVolume w x loud v u o before k a b c start end p lines = absurd lines
-cut_halts fault.NoImage w x loud v u o before k a b c start end p lines = absurd lines
+cut_halts T fault.NotAVolume w x loud v u o before k a b c start end p lines = absurd lines
+cut_halts T fault.NoImage w x loud v u o before k a b c start end p lines = absurd lines
 
-pub step_cut_halts : (r q : Result (Unit {0}) Fault) (t : Telling) (f : Fault) (w : RuleWorld) (x : Step) (loud : Bool) (v u o : Option RunningMote) (before : Option Shown) (a b c : Device) (start end : List Report) → IsErrAnd r (λ e. e ≡ f) → q ≡ Err f
+pub step_cut_halts : {T : Type 0} (r : Result (Unit {0}) Fault) (q : Result T Fault) (t : Telling) (f : Fault) (w : RuleWorld) (x : Step) (loud : Bool) (v u o : Option RunningMote) (before : Option Shown) (a b c : Device) (start end : List Report) → IsErrAnd r (λ e. e ≡ f) → q ≡ Err f
     → (p : Played (Ok (Cut before)) w (mote_of x.event) (does w x.event) x.cut v u a b) → CutTold q (mote_of x.event) before p.ends.leaves.store b c start end → Stepped (stepped r t) w x loud o a c start end
-step_cut_halts (Ok y) q t f w x loud v u o before a b c start end is e p lines = absurd is
-step_cut_halts (Err y) q t f w x loud v u o before a b c start end is e p lines =
+step_cut_halts {T} (Ok y) q t f w x loud v u o before a b c start end is e p lines = absurd is
+step_cut_halts {T} (Err y) q t f w x loud v u o before a b c start end is e p lines =
     let P : Fault → Type 0 = λ z. Stepped (Err (halt_of z t.before)) w x loud o a c start end in
-    subst P (sym is) (cut_halts f w x loud v u o before t.before a b c start end p (subst (λ (z : Result (Unit {0}) Fault). CutTold z (mote_of x.event) before p.ends.leaves.store b c start end) e lines))
+    subst P (sym is) (cut_halts T f w x loud v u o before t.before a b c start end p (subst (λ (z : Result T Fault). CutTold z (mote_of x.event) before p.ends.leaves.store b c start end) e lines))
 
 pub step_halts : (h : Halt) (w : RuleWorld) (x : Step) (loud : Bool) (v u : Option RunningMote) (a b : Device) (told : List Report) → Played (Err h) w (mote_of x.event) (does w x.event) x.cut v u a b → Stepped (Err h) w x loud u a b told told
 step_halts (Stopped k) w x loud v u a b told p = record { ends = (p.ends, refl); endures = p.endures; count = tt }
@@ -251,5 +255,5 @@ event_mote motes (Reset m dt word) fits = fits
 event_mote motes (Inject m image version dt word) fits = fits.0
 event_mote motes (OrderEvent m number image version dt word) fits = fits.0
 
-pub told_at : (r : Result (Unit {0}) Fault) (m n : ℕ) (before : Option Shown) (s : Store) (a b : Device) (start end : List Report) → m ≡ n → CutTold r m before s a b start end → CutTold r n before s a b start end
+pub told_at : {T : Type 0} (r : Result T Fault) (m n : ℕ) (before : Option Shown) (s : Store) (a b : Device) (start end : List Report) → m ≡ n → CutTold r m before s a b start end → CutTold r n before s a b start end
 told_at r m n before s a b start end e told = subst (λ (k : ℕ). CutTold r k before s a b start end) e told

@@ -11,6 +11,7 @@ use Rattle.dg_nor.specs.Device.{Device, Endures}
 use Rattle.dg_nor.specs.Fuse.{beneath_of}
 use Rattle.dg_nor.specs.Reads.{ReadStopped}
 use Rattle.dg_nor.proofs.MaskLemmas.{Endures_halts}
+use Rattle.dg_control.specs.Store.{IsOrderlyChip}
 use Rattle.dg_slot.specs.Kept.{Held}
 use Rattle.dg_volume.specs.Sizes.{images}
 use Rattle.dg_volume.specs.Store.{Store, held}
@@ -140,6 +141,12 @@ still_world v w old new same is =
             stands = subst (λ (c : List ℕ). Stands c (site w m).store) image stood.stands;
             mote = subst (λ (c : List ℕ). MoteStands c (slice_index_or v.motes.items m None) (site w m).store (site w m).runs) image stood.mote;
           };
+      orderly = λ m d known here is_known.
+          let within : m < length old = omega (arith, known, is.boards_enough) in
+          let was = slice_get-get_or old m d within in
+          let a : Device = get_or old m d in
+          let image : a.image ≡ d.image = sym (same.images m a d was here) in
+          subst (λ (c : List ℕ). IsOrderlyChip c) image (is.orderly m a known was is_known);
     }
 
 -- the board that is read next is as before, and stands for its site

@@ -8,6 +8,8 @@ use Rattle.dg_nor.specs.Fuse.{beneath_of}
 use Rattle.dg_nor.proofs.DeviceLemmas.{Endures-same}
 use Rattle.dg_nor.proofs.MaskLemmas.{Endures_ran}
 use Rattle.dg_nor.specs.Reads.{ActStopped}
+use Rattle.dg_control.specs.Store.{HasForm}
+use Rattle.dg_volume.specs.Sizes.{new_form}
 use Rattle.dg_volume.specs.Store.{Store}
 use Rattle.dg_volume.specs.Stands.{Stands}
 use Rattle.dg_world.specs.Counts.{NoneRose}
@@ -19,10 +21,11 @@ use Rattle.dg_world.proofs.CountLemmas.{NoneRose-same}
 pub same_err : {E : Type 0} (a b : E) → (let x : Result (Unit {0}) E = Err a in x ≡ Err b) → a ≡ b
 same_err a b e = cc
 
--- the first n boards stand for the store, and were not stopped
+-- the first n boards stand for the store, in today's form, and were not stopped
 pub record FormattedTo (n : ℕ) (s : Store) (old new : List Device) : Type 0 where
   pub boards : FirstBoards n old new
   pub formatted : (m : ℕ) (d : Device) → m < n → slice_get new m ≡ Some d → Stands d.image s
+  pub written : (m : ℕ) (d : Device) → m < n → slice_get new m ≡ Some d → HasForm d.image new_form
   pub awake : (m : ℕ) (d : Device) → m < n → slice_get old m ≡ Some d → d.stopped ≡ false
   pub calm : NoneRose old new
 
@@ -40,6 +43,7 @@ formatted_none s ds =
     record {
       boards = first_none ds;
       formatted = λ m d h here. absurd (omega (arith, h));
+      written = λ m d h here. absurd (omega (arith, h));
       awake = λ m d h here. absurd (omega (arith, h));
       calm = NoneRose-same ds;
     }
@@ -90,14 +94,18 @@ pub first_within : (n k : ℕ) (old new : List Device) → FirstBoards n old new
 first_within n k old new first within = record { count = first.count; others = λ m h. first.others m (omega (arith, h, within)); counts = first.counts; endures = first.endures }
 
 -- one board more was formatted
-pub formatted_more : (n : ℕ) (s : Store) (old now new : List Device) (d e : Device) → FormattedTo n s old now → Used n now new d e → Endures (beneath_of d) (beneath_of e) → d.stopped ≡ false → e.faults ≡ d.faults → Stands e.image s
+pub formatted_more : (n : ℕ) (s : Store) (old now new : List Device) (d e : Device) → FormattedTo n s old now → Used n now new d e → Endures (beneath_of d) (beneath_of e) → d.stopped ≡ false → e.faults ≡ d.faults → Stands e.image s → HasForm e.image new_form
     → FormattedTo (n + 1) s old new
-formatted_more n s old now new d e to used kept awake stays stands =
+formatted_more n s old now new d e to used kept awake stays stands form =
     record {
       boards = first_more n old now new d e to.boards used kept;
       formatted = λ m x h here. elim (cases_eq m n) [
         | inl same ↦ subst (λ (y : Device). Stands y.image s) (same_some e x (sym (is_now n now new d e used) ∙ ap (slice_get new) (sym same) ∙ here)) stands
         | inr other ↦ to.formatted m x (omega (arith, h, other)) (sym (is_other n m now new d e used other) ∙ here)
+      ];
+      written = λ m x h here. elim (cases_eq m n) [
+        | inl same ↦ subst (λ (y : Device). HasForm y.image new_form) (same_some e x (sym (is_now n now new d e used) ∙ ap (slice_get new) (sym same) ∙ here)) form
+        | inr other ↦ to.written m x (omega (arith, h, other)) (sym (is_other n m now new d e used other) ∙ here)
       ];
       awake = λ m x h here. elim (cases_eq m n) [
         | inl same ↦ subst (λ (y : Device). y.stopped ≡ false) (same_some d x (sym (unused n old now new d e to.boards used) ∙ ap (slice_get old) (sym same) ∙ here)) awake

@@ -1,26 +1,23 @@
 -- What each event does at the board of its mote.
 use Rattle.std.proofs.Common.{◌≡◌, ℕ, ◌+◌, Bool, true, false, List, sym, subst, refl, ap, ◌∙◌}
-use Rattle.std.specs.Prelude.{◌==◌, if◌then◌else◌, is_none, is_some, not, Option, Some, None, Result, Ok, Err}
+use Rattle.std.specs.Prelude.{if◌then◌else◌, is_none, is_some, not, Option, Some, None, Result, Ok, Err}
 use Rattle.dg_nor.specs.Device.{Device}
 use Rattle.dg_nor.specs.Reads.{Looked}
 use Rattle.dg_control.specs.declared.snapshot.Order.{Order}
 use Rattle.dg_volume.specs.Store.{Store}
 use Rattle.dg_volume.specs.Stands.{Stands}
-use Rattle.dg_volume.specs.Changes.{order_refusal}
-use Rattle.dg_volume.specs.Table.{row_at}
 use Rattle.dg_volume.specs.declared.volume.Kind.TheVariants as kind
 use Rattle.dg_volume.specs.declared.volume.Volume.{Volume}
 use Rattle.dg_mote.specs.Model.{MoteState, maintains}
 use Rattle.dg_mote.specs.Motes.{IsMote}
 use Rattle.dg_mote.specs.declared.mote.Mote.{Mote}
 use Rattle.dg_mote.specs.Effects.{boots, reset_effect}
-use Rattle.dg_rules.specs.World.{World as RuleWorld, Running, site, store_at, frame_at, linked, last_frame}
-use Rattle.dg_rules.specs.Events.{Does, Refuses, of_effect, reloaded, tick_by, hear_by, heard_sent, heard_last, unless_off, inject_row, order_unless, does, mote_of, dt_of}
+use Rattle.dg_rules.specs.World.{World as RuleWorld, Running, site, store_at, wide_at, frame_at, linked, last_frame}
+use Rattle.dg_rules.specs.Events.{Does, Refuses, of_effect, reloaded, tick_by, hear_by, heard_sent, heard_last, unless_off, knows, injects, orders, does, mote_of, dt_of}
 use Rattle.dg_base.specs.declared.events.Event.{Event}
 use Rattle.dg_base.specs.declared.events.Event.TheVariants.{Tick, Hear, Last, Reset, Inject, Order as OrderEvent, Frame}
 use Rattle.dg_script.specs.declared.report.Cause.{Cause}
 use Rattle.dg_script.specs.declared.report.Cause.TheVariants as cause
-use Rattle.dg_world.specs.Images.{Declares}
 use Rattle.dg_world.specs.Shareds.{IsShared}
 use Rattle.dg_world.specs.Worlds.{MoteStands, SiteStands}
 use Rattle.dg_world.specs.Turns.{TurnEnds}
@@ -59,24 +56,24 @@ module _ (r : Result Turn Halt) (w : RuleWorld) (shared : Shared) (v u : Option 
   unfolding does
   frame_happens m dt word bytes ends = λ is stands at. at_moment m (λ n. hear_by w (store_at w m) (site w m).runs n word bytes) _ at (ends stands)
 
-  pub reset_happens : (m dt word : ℕ) → (Stands a.image (store_at w m) → TurnEnds r w m (of_effect w (reset_effect (store_at w m) m now word) None) v u a b) → Happens r w shared v u now a b (Reset m dt word)
+  pub reset_happens : (m dt word : ℕ) → (IsShared shared w → Stands a.image (store_at w m) → TurnEnds r w m (of_effect w (reset_effect (store_at w m) m (wide_at w m) now word) None) v u a b) → Happens r w shared v u now a b (Reset m dt word)
   unfolding does
-  reset_happens m dt word ends = λ is stands at. at_moment m (λ n. of_effect w (reset_effect (store_at w m) m n word) None) _ at (ends stands.stands)
+  reset_happens m dt word ends = λ is stands at. at_moment m (λ n. of_effect w (reset_effect (store_at w m) m (wide_at w m) n word) None) _ at (ends is stands.stands)
 
   pub inject_happens : (m image version dt word : ℕ)
-      → (Declares shared.images w.declared → SiteStands a v (site w m) → TurnEnds r w m (if image == 0 then Refuses cause.Reserved else inject_row w m (row_at w.declared image version) now word) v u a b)
+      → (IsShared shared w → SiteStands a v (site w m) → TurnEnds r w m (if knows (wide_at w m) image then injects w m image version now word else Refuses cause.Image) v u a b)
       → Happens r w shared v u now a b (Inject m image version dt word)
   unfolding does
   inject_happens m image version dt word ends = λ is stands at.
-      at_moment m (λ n. if image == 0 then Refuses cause.Reserved else inject_row w m (row_at w.declared image version) n word) _ at (ends is.declared stands)
+      at_moment m (λ n. if knows (wide_at w m) image then injects w m image version n word else Refuses cause.Image) _ at (ends is stands)
 
   pub order_happens : (m number image version dt word : ℕ)
       → (let order : Order = record { number = number; image = image; version = version } in
-      SiteStands a v (site w m) → TurnEnds r w m (order_unless (order_refusal (store_at w m) order) w m order now word) v u a b) → Happens r w shared v u now a b (OrderEvent m number image version dt word)
+      IsShared shared w → SiteStands a v (site w m) → TurnEnds r w m (if knows (wide_at w m) image then orders w m order now word else Refuses cause.Image) v u a b) → Happens r w shared v u now a b (OrderEvent m number image version dt word)
   unfolding does
   order_happens m number image version dt word ends = λ is stands at.
       let order : Order = record { number = number; image = image; version = version } in
-      at_moment m (λ n. order_unless (order_refusal (store_at w m) order) w m order n word) _ at (ends stands)
+      at_moment m (λ n. if knows (wide_at w m) image then orders w m order n word else Refuses cause.Image) _ at (ends is stands)
 
   -- a mote that is on does what is asked of it
   pub not_off : (m : ℕ) (D : Does) (c : List ℕ) (s : Store) (o : Option Running) → MoteStands c v s o → is_none v ≡ false → TurnEnds r w m D v u a b → TurnEnds r w m (unless_off o D) v u a b
@@ -102,15 +99,15 @@ ends_at D x y r w m v u a b e ends = subst (λ z. TurnEnds r w m (D z) v u a b) 
 
 -- ---- starts by power
 
-pub reset_starts : (x : Begun) (w : RuleWorld) (m id now word : ℕ) (v : Option RunningMote) (a b : Device) → m ≡ id → TurnEnds (Ok (Starts x.line)) w m (of_effect w (boots kind.Power (store_at w m) id now word) None) v (Some x.running) a b
-    → TurnEnds (Ok (Starts x.line)) w m (of_effect w (reset_effect (store_at w m) m now word) None) v (Some x.running) a b
+pub reset_starts : (x : Begun) (w : RuleWorld) (m id : ℕ) (wide : Bool) (now word : ℕ) (v : Option RunningMote) (a b : Device) → m ≡ id → TurnEnds (Ok (Starts x.line)) w m (of_effect w (boots kind.Power (store_at w m) id wide now word) None) v (Some x.running) a b
+    → TurnEnds (Ok (Starts x.line)) w m (of_effect w (reset_effect (store_at w m) m wide now word) None) v (Some x.running) a b
 unfolding reset_effect
-reset_starts x w m id now word v a b at ends = subst (λ (n : ℕ). TurnEnds (Ok (Starts x.line)) w m (of_effect w (boots kind.Power (store_at w m) n now word) None) v (Some x.running) a b) (sym at) ends
+reset_starts x w m id wide now word v a b at ends = subst (λ (n : ℕ). TurnEnds (Ok (Starts x.line)) w m (of_effect w (boots kind.Power (store_at w m) n wide now word) None) v (Some x.running) a b) (sym at) ends
 
-pub reset_halts : (h : Halt) (w : RuleWorld) (m id now word : ℕ) (v u : Option RunningMote) (a b : Device) → m ≡ id → TurnEnds (Err h) w m (of_effect w (boots kind.Power (store_at w m) id now word) None) v u a b
-    → TurnEnds (Err h) w m (of_effect w (reset_effect (store_at w m) m now word) None) v u a b
+pub reset_halts : (h : Halt) (w : RuleWorld) (m id : ℕ) (wide : Bool) (now word : ℕ) (v u : Option RunningMote) (a b : Device) → m ≡ id → TurnEnds (Err h) w m (of_effect w (boots kind.Power (store_at w m) id wide now word) None) v u a b
+    → TurnEnds (Err h) w m (of_effect w (reset_effect (store_at w m) m wide now word) None) v u a b
 unfolding reset_effect
-reset_halts h w m id now word v u a b at ends = subst (λ (n : ℕ). TurnEnds (Err h) w m (of_effect w (boots kind.Power (store_at w m) n now word) None) v u a b) (sym at) ends
+reset_halts h w m id wide now word v u a b at ends = subst (λ (n : ℕ). TurnEnds (Err h) w m (of_effect w (boots kind.Power (store_at w m) n wide now word) None) v u a b) (sym at) ends
 
 -- ---- reloading
 
@@ -129,3 +126,17 @@ none_told o result b told is = ap not told ∙ twice result ∙ is
     twice : (x : Bool) → not (not x) ≡ x
     twice true = refl
     twice false = refl
+
+-- ---- images that a narrow mote does not know
+
+-- what it knows is done, and all else refused
+pub known_ends : (D : Does) (r : Result Turn Halt) (w : RuleWorld) (m : ℕ) (v u : Option RunningMote) (a b : Device) (x known : Bool) → x ≡ known → known ≡ true → TurnEnds r w m D v u a b
+    → TurnEnds r w m (if x then D else Refuses cause.Image) v u a b
+known_ends D r w m v u a b x known same is ends = subst (λ (y : Bool). TurnEnds r w m (if y then D else Refuses cause.Image) v u a b) (sym (same ∙ is)) ends
+
+pub unknown_ends : (D : Does) (w : RuleWorld) (m : ℕ) (v : Option RunningMote) (a : Device) (x known : Bool) → x ≡ known → known ≡ false → Looked a a → TurnEnds (Ok (Refused cause.Image)) w m (if x then D else Refuses cause.Image) v v a a
+unknown_ends D w m v a x known same is looked = (ap (λ (y : Bool). if y then D else Refuses cause.Image) (same ∙ is), looked, refl)
+
+-- which images a mote knows, by its width
+pub knows_by : (wide told known : Bool) (image : ℕ) → wide ≡ told → known ≡ knows wide image → knows told image ≡ known
+knows_by wide told known image same is = ap (λ (x : Bool). knows x image) (sym same) ∙ sym is

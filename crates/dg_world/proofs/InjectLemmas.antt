@@ -202,7 +202,7 @@ known_image r w m now word image known row v u a b other some ends =
     let P : Bool → Option Row → Type 0 = λ x o. TurnEnds r w m (if x then Refuses cause.Reserved else inject_row w m o now word) v u a b in
     subst (λ (x : Bool). P x known) (sym other) (subst (P false) (sym some) ends)
 
-order_is_stopped : (e : OrderFault) → (e ≡ order_fault.Stopped) ⊎ (e ≢ order_fault.Stopped)
+pub order_is_stopped : (e : OrderFault) → (e ≡ order_fault.Stopped) ⊎ (e ≢ order_fault.Stopped)
 order_is_stopped order_fault.Stopped = inl refl
 order_is_stopped (order_fault.Worn room) = inr (λ h. cc)
 order_is_stopped (order_fault.OldOrder kept) = inr (λ h. cc)

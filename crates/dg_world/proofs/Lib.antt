@@ -9,6 +9,7 @@ pub mod StartLemmas
 pub mod SameLemmas
 pub mod TickLemmas
 pub mod InjectLemmas
+pub mod KnownLemmas
 pub mod HappenLemmas
 pub mod UnseenLemmas
 pub mod CutLemmas

@@ -1,6 +1,6 @@
 -- A step of the world where the board and the mote of one place changed.
 use Rattle.std.proofs.Common.{◌≡◌, ◌≢◌, ◌⊎◌, ℕ, zero, suc, ◌+◌, ◌^◌, ◌<◌, Bool, true, false, List, [], ◌∷◌, length, get_or, set, map, refl, ap, sym, ◌∙◌, subst, inl, inr, ⊎_elim, arith, eqb-true, eq-eqb}
-use Rattle.std.specs.Prelude.{◌≤◌, ◌++◌, ◌==◌, IfSome, Result, OnOk, slice_get, slice_index_or, Option, Some, None, Ok, Err}
+use Rattle.std.specs.Prelude.{◌↔◌, ◌≤◌, ◌++◌, ◌==◌, IfSome, Result, OnOk, slice_get, slice_index_or, Option, Some, None, Ok, Err}
 use Rattle.std.proofs.Math.ListN.{length-set}
 use Rattle.std.proofs.lemmas.List.{get_or-set_same, get_or-set_other, get_or_read}
 use Rattle.std.proofs.lemmas.Option.{same_Some}
@@ -9,6 +9,10 @@ use Rattle.dg_nor.specs.Device.{Device, Endures}
 use Rattle.dg_nor.specs.Fuse.{beneath_of}
 use Rattle.dg_nor.proofs.DeviceLemmas.{Endures-same}
 use Rattle.dg_nor.specs.Trail.{last}
+use Rattle.dg_control.specs.Store.{IsOrderlyChip}
+use Rattle.dg_world.specs.Known.{known_of, IsKnownChip, MakesKnown}
+use Rattle.dg_world.specs.Knows.{KnowsThen}
+use Rattle.dg_base.specs.declared.events.Event.{Event}
 use Rattle.dg_slot.specs.Pages.{program}
 use Rattle.dg_volume.specs.Store.{Store}
 use Rattle.dg_volume.specs.Stands.{Stands}
@@ -105,10 +109,16 @@ pub record Moves (v u : World) (i : ℕ) (moment : ℕ) (runs : Option RunningMo
   pub events : u.events ≡ v.events + 1
   pub images : u.shared.images ≡ v.shared.images
   pub links : u.shared.links ≡ v.shared.links
+  pub narrow : u.shared.narrow ≡ v.shared.narrow
   pub sends : (before : List Sent) → Carries v.shared.air before → Carries u.shared.air (before ++ sent_now i frame)
   pub motes : u.motes.items ≡ set v.motes.items i runs
 
-module _ (v u : World) (bs : List Device) (w : RuleWorld) (x : Step) (loud : Bool) (i : ℕ) (runs : Option RunningMote) (frame : Option (List ℕ)) (b : Device) (start end : List Report) (is : IsWorld v bs w) (at : i ≡ mote_of x.event) (known : i < length w.sites) (moves : Moves v u i (w.moment + dt_of x.event) runs frame) (s : StepDone w x loud runs frame b start end) where
+-- which boards are known then: that of the step may be, if it is orderly, and the others are if they were
+pub record KnownKeeps (v u : World) (i : ℕ) (b : Device) : Type 0 where
+  pub others : (k : ℕ) → k ≢ i → known_of u k ≡ known_of v k
+  pub here : known_of u i ≡ true → IsOrderlyChip b.image
+
+module _ (v u : World) (bs : List Device) (w : RuleWorld) (x : Step) (loud : Bool) (i : ℕ) (runs : Option RunningMote) (frame : Option (List ℕ)) (b : Device) (start end : List Report) (is : IsWorld v bs w) (at : i ≡ mote_of x.event) (known : i < length w.sites) (moves : Moves v u i (w.moment + dt_of x.event) runs frame) (keeps : KnownKeeps v u i b) (s : StepDone w x loud runs frame b start end) where
   sites_are : s.world.sites ≡ set w.sites i s.here
   sites_are = s.sites ∙ ap (λ (j : ℕ). set w.sites j s.here) (sym at)
 
@@ -135,6 +145,16 @@ module _ (v u : World) (bs : List Device) (w : RuleWorld) (x : Step) (loud : Boo
       subst (λ (o : Option RunningMote). P d o (site s.world k)) (sym eo) (subst (P d (slice_index_or v.motes.items k None)) (sym ey) before))
       (is_or k i)
 
+  orderly_then : (k : ℕ) (d : Device) → k < length s.world.sites → slice_get (set bs i b) k ≡ Some d → known_of u k ≡ true → IsOrderlyChip d.image
+  orderly_then k d within here is_known =
+      let wide : i < length bs = omega (arith, known, is.boards_enough) in
+      ⊎_elim
+      (λ same.
+      let ed : d ≡ b = same_of (slice_get (set bs i b) i) d b (sym (ap (slice_get (set bs i b)) same) ∙ here) (get_set_same bs i b wide) in
+      subst (λ (e : Device). IsOrderlyChip e.image) (sym ed) (keeps.here (sym (ap (λ (j : ℕ). known_of u j) same) ∙ is_known)))
+      (λ other. is.orderly k d (omega (arith, within, sites_count)) (sym (get_set_other bs i k b other) ∙ here) (sym (keeps.others k other) ∙ is_known))
+      (is_or k i)
+
   shared_then : IsShared u.shared s.world
   shared_then =
       let P : Images → List Row → Type 0 = λ images rows. Declares images rows in
@@ -142,6 +162,7 @@ module _ (v u : World) (bs : List Device) (w : RuleWorld) (x : Step) (loud : Boo
       record {
         declared = subst (λ (y : Images). P y s.world.declared) (sym moves.images) (subst (P v.shared.images) (sym s.declared) is.shared.declared);
         links = s.links ∙ is.shared.links ∙ sym (ap (λ (l : Links). l.pairs) moves.links);
+        narrow = s.narrow ∙ is.shared.narrow ∙ sym moves.narrow;
         sent = subst Q (ap (λ (j : ℕ). w.sent ++ sent_now j frame) at ∙ sym s.sent) (moves.sends w.sent is.shared.sent);
       }
 
@@ -157,6 +178,7 @@ module _ (v u : World) (bs : List Device) (w : RuleWorld) (x : Step) (loud : Boo
     early = omega (arith, s.moment, s.events, is.early, short);
     timely = timely;
     sites = site_then;
+    orderly = orderly_then;
   }
 
   pub applied : (a : Device) → v.events < most_events → dt_of x.event < 2 ^ 32 → WorldTimely s.world → slice_get bs i ≡ Some a → Endures (beneath_of a) (beneath_of b) → b.faults ≡ a.faults → Applied w x loud u bs (set bs i b) start end
@@ -262,10 +284,10 @@ fits_each v bs w u x is other fits = subst (λ (n : ℕ). StepFits n x) (is.mote
 
 -- the same over boards that are given by an equation
 pub applied_at : (v u : World) (bs cs : List Device) (w : RuleWorld) (x : Step) (loud : Bool) (i : ℕ) (runs : Option RunningMote) (frame : Option (List ℕ)) (a b : Device) (start end : List Report) → cs ≡ set bs i b → IsWorld v bs w → i ≡ mote_of x.event → i < length w.sites → v.events < most_events → dt_of x.event < 2 ^ 32
-    → Moves v u i (w.moment + dt_of x.event) runs frame → slice_get bs i ≡ Some a → (s : Stepped (Ok frame) w x loud runs a b start end) → ((z : RuleWorld) (reports : List Report) → WorldStep w x z reports → WorldTimely z) → Applied w x loud u bs cs start end
-applied_at v u bs cs w x loud i runs frame a b start end e is at known few short moves here s timely =
+    → Moves v u i (w.moment + dt_of x.event) runs frame → KnownKeeps v u i b → slice_get bs i ≡ Some a → (s : Stepped (Ok frame) w x loud runs a b start end) → ((z : RuleWorld) (reports : List Report) → WorldStep w x z reports → WorldTimely z) → Applied w x loud u bs cs start end
+applied_at v u bs cs w x loud i runs frame a b start end e is at known few short moves keeps here s timely =
     subst (λ (ds : List Device). Applied w x loud u bs ds start end) (sym e)
-    (applied v u bs w x loud i runs frame b start end is at known moves s.ends a few short (timely s.ends.world s.ends.reports s.ends.step) here s.endures s.count)
+    (applied v u bs w x loud i runs frame b start end is at known moves keeps s.ends a few short (timely s.ends.world s.ends.reports s.ends.step) here s.endures s.count)
 
 pub halts_there : (h : Halt) (f : WorldFault) (v u : World) (bs cs : List Device) (w : RuleWorld) (x : Step) (loud : Bool) (runs : Option RunningMote) (i mote : ℕ) (a b : Device) (start end : List Report) → cs ≡ set bs i b → f ≡ fault_of h mote → i ≡ mote → IsWorld v bs w → i ≡ mote_of x.event → i < length w.sites
     → slice_get bs i ≡ Some a → Stepped (Err h) w x loud runs a b start end → ApplyEnds (Err f) w x loud u bs cs start end
@@ -280,7 +302,7 @@ pub reserved : (v : World) (air : Air) (bs : List Device) (w : RuleWorld) → ((
 reserved v air bs w same is = record {
   moment = is.moment;
   events = is.events;
-  shared = record { declared = is.shared.declared; links = is.shared.links; sent = same w.sent is.shared.sent };
+  shared = record { declared = is.shared.declared; links = is.shared.links; narrow = is.shared.narrow; sent = same w.sent is.shared.sent };
   motes = is.motes;
   few_motes = is.few_motes;
   boards_enough = is.boards_enough;
@@ -288,8 +310,55 @@ reserved v air bs w same is = record {
   early = is.early;
   timely = is.timely;
   sites = is.sites;
+  orderly = is.orderly;
 }
 
 pub on_ok : {A F : Type 0} {P Q : Type 0} (r : Result A F) → (P → Q) → OnOk r P → OnOk r Q
 on_ok (Ok x) f p = f p
 on_ok (Err e) f p = tt
+
+-- ---- which boards are known
+
+pub chip_at : (v : World) (bs : List Device) (w : RuleWorld) (i m : ℕ) (a : Device) → IsWorld v bs w → i ≡ m → i < length w.sites → slice_get bs i ≡ Some a → known_of v m ≡ true → IsKnownChip a.image
+chip_at v bs w i m a is same within here is_known =
+    record { volume = ((site w i).store, (is.sites i a within here).stands); orderly = is.orderly i a within here (ap (λ (j : ℕ). known_of v j) same ∙ is_known) }
+
+pub knows_at : (v u : World) (bs cs : List Device) (w : RuleWorld) (e : Event) (i : ℕ) (b : Device) → cs ≡ set bs i b → IsWorld v bs w → i ≡ mote_of e → i < length w.sites → ((k : ℕ) → k ≢ i → known_of u k ≡ known_of v k)
+    → (known_of u i ≡ true) ↔ (IsOrderlyChip b.image × ((known_of v i ≡ true) ⊎ MakesKnown w e)) → KnowsThen w e v u cs
+knows_at v u bs cs w e i b all is at within others now =
+    let wide : i < length bs = omega (arith, within, is.boards_enough) in
+    record {
+      exactly = λ k d inside there.
+          let here : slice_get (set bs i b) k ≡ Some d = sym (ap (λ (ds : List Device). slice_get ds k) all) ∙ there in
+          ⊎_elim
+          (λ same.
+          let ed : d ≡ b = same_of (slice_get (set bs i b) i) d b (sym (ap (slice_get (set bs i b)) same) ∙ here) (get_set_same bs i b wide) in
+          let there_is : mote_of e ≡ k = sym at ∙ sym same in (
+            λ is_known.
+                let x = now.0 (sym (ap (λ (j : ℕ). known_of u j) same) ∙ is_known) in (
+                  subst (λ (f : Device). IsOrderlyChip f.image) (sym ed) x.0,
+                  ⊎_elim (λ was. inl (ap (λ (j : ℕ). known_of v j) same ∙ was)) (λ made. inr (there_is, made)) x.1,
+                ),
+            λ x.
+                ap (λ (j : ℕ). known_of u j) same
+                ∙ now.1 (
+                  subst (λ (f : Device). IsOrderlyChip f.image) ed x.0,
+                  ⊎_elim (λ was. inl (sym (ap (λ (j : ℕ). known_of v j) same) ∙ was)) (λ made. inr made.1) x.1,
+                ),
+          ))
+          (λ other. (
+            λ is_known. let was = sym (others k other) ∙ is_known in (is.orderly k d inside (sym (get_set_other bs i k b other) ∙ here) was, inl was),
+            λ x. ⊎_elim (λ was. others k other ∙ was) (λ made. absurd (other (sym made.0 ∙ sym at))) x.1,
+          ))
+          (is_or k i);
+    }
+
+-- what is said of the device of a step is said of the board there
+pub said_at : (P : Device → Device → Type 0) (bs cs : List Device) (i m : ℕ) (a b p q : Device) → cs ≡ set bs i b → i < length bs → slice_get bs i ≡ Some a → i ≡ m → slice_get bs m ≡ Some p → slice_get cs m ≡ Some q → P a b → P p q
+said_at P bs cs i m a b p q all wide here same old new said =
+    let ep : p ≡ a = same_of (slice_get bs i) p a (ap (slice_get bs) same ∙ old) here in
+    let eq : q ≡ b = same_of (slice_get (set bs i b) i) q b (ap (slice_get (set bs i b)) same ∙ sym (ap (λ (ds : List Device). slice_get ds m) all) ∙ new) (get_set_same bs i b wide) in
+    subst (λ (d : Device). P p d) (sym eq) (subst (λ (d : Device). P d b) (sym ep) said)
+
+pub same_board : (o : Option Device) (p q : Device) → o ≡ Some p → o ≡ Some q → p ≡ q
+same_board o p q e f = same_of o p q e f

@@ -1,6 +1,6 @@
 -- An advert that equals what a mote would say changes neither what is kept nor the order.
 use Rattle.std.proofs.Common.{◌≡◌, ℕ, Bool, true, false, cond, List, refl, ap, sym, subst, arith}
-use Rattle.std.specs.Prelude.{◌&&◌, ◌==◌, nat_le, Option, Some, None, Result, Ok, Err}
+use Rattle.std.specs.Prelude.{◌≤◌, ◌&&◌, ◌||◌, ◌==◌, nat_le, Option, Some, None, Result, Ok, Err}
 use Rattle.std.proofs.lemmas.Bool.{cond_both, le-ltb, and_parts, eqb-true}
 use Rattle.std.specs.List.{list_all}
 use Rattle.dg_nor.specs.Trail.{last, joined, resting, stepping}
@@ -16,14 +16,16 @@ use Rattle.dg_volume.specs.Changes.{paged}
 use Rattle.dg_slot.specs.Kept.{Held}
 use Rattle.dg_volume.specs.Store.{Store, held}
 use Rattle.dg_volume.specs.Trails.{order_trail}
+use Rattle.dg_frame.specs.Sizes.{narrow_images}
 use Rattle.dg_frame.specs.Grammar.{message_of}
+use Rattle.dg_frame.specs.Ranges.{no_order}
 use Rattle.dg_frame.specs.declared.Entry.{Entry}
 use Rattle.dg_frame.specs.declared.FrameFault.{FrameFault}
 use Rattle.dg_frame.specs.declared.Message.{Message}
 use Rattle.dg_frame.specs.declared.Message.TheVariants.{Advert, Request, Packet, Wide}
 use Rattle.dg_bits.specs.Sets.{Numbers}
 use Rattle.dg_mote.specs.Model.{MoteState, Mode, Maintain, Receive, Transmit, Receiving, came, maintains, Turn}
-use Rattle.dg_mote.specs.Summary.{is_own, same_order, same_entry, entry_for, entry_by, named, ahead_in}
+use Rattle.dg_mote.specs.Summary.{is_own, own_order, same_order, same_entry, entry_for, entry_by, named, ahead_in}
 use Rattle.dg_mote.specs.Adverts.{heed_trail, asks, asking, noting, by_ahead, advert_heard, dropped, on_advert}
 use Rattle.dg_mote.specs.Requests.{overheard, to_it, on_request}
 use Rattle.dg_mote.specs.Packets.{is_wanted, accepted, seal_by, takes, on_packet}
@@ -49,17 +51,24 @@ module _ (s : Store) where
 
   -- ---- adverts
 
-  own_order : (entries : List Entry) (order : Order) → is_own entries order s ≡ true → s.order.number ≡ order.number
-  unfolding is_own
-  own_order entries order own =
-      let parts = and_parts (list_all (λ i. same_entry (entry_for entries i) (entry_by (held s i))) (named entries)) (same_order order s.order) own in
-      let two = and_parts ((order.number == s.order.number) && (order.image == s.order.image)) (order.version == s.order.version) parts.1 in
-      sym (eqb-true order.number s.order.number (and_parts (order.number == s.order.number) (order.image == s.order.image) two.0).0)
+  -- the order that a mote tells is not better than the one that it keeps
+  told_order : (wide : Bool) → (own_order wide s).number ≤ s.order.number
+  unfolding own_order
+  told_order wide = cond_both (wide || nat_le s.order.image narrow_images) s.order no_order (λ (o : Order). o.number ≤ s.order.number) (λ _. omega arith) (λ _. omega arith)
 
-  own_rests : (entries : List Entry) (order : Order) → is_own entries order s ≡ true → Through (SameShown s) (heed_trail s order)
+  not_better : (entries : List Entry) (order : Order) (wide : Bool) → is_own entries order wide s ≡ true → order.number ≤ s.order.number
+  unfolding is_own
+  not_better entries order wide own =
+      let told = own_order wide s in
+      let parts = and_parts (list_all (λ i. same_entry (entry_for entries i) (entry_by (held s i))) (named entries)) (same_order order told) own in
+      let two = and_parts ((order.number == told.number) && (order.image == told.image)) (order.version == told.version) parts.1 in
+      let same = eqb-true order.number told.number (and_parts (order.number == told.number) (order.image == told.image) two.0).0 in
+      omega (arith, same, told_order wide)
+
+  own_rests : (entries : List Entry) (order : Order) (wide : Bool) → is_own entries order wide s ≡ true → Through (SameShown s) (heed_trail s order)
   unfolding heed_trail
-  own_rests entries order own =
-      let same = own_order entries order own in
+  own_rests entries order wide own =
+      let same = not_better entries order wide own in
       subst (Through (SameShown s)) (sym (ap (λ (b : Bool). cond (b && nat_le 1 s.room) (order_trail s order) (resting s 0)) (le-ltb s.order.number order.number (omega (arith, same))))) (rests 0)
 
   -- what is said of an advert that is heard behind this
@@ -81,8 +90,8 @@ module _ (s : Store) where
   advert_calm m timer now word source entries order = λ is.
       let t = heed_trail s order in
       let x = last t in
-      let h = ahead_own (ahead_in entries x) m timer x now word source entries (is_own entries order s) is in
-      let first = own_rests entries order h.0 in
+      let h = ahead_own (ahead_in entries x) m timer x now word source entries (is_own entries order m.wide s) is in
+      let first = own_rests entries order m.wide h.0 in
       Through-joined (SameShown s) t _ first (subst (Through (SameShown s)) (sym h.1) (Through-resting (SameShown s) x 0 (Through-last (SameShown s) t first)))
 
   on_advert_calm : (mode : Mode) (m : MoteState) (now word source : ℕ) (entries : List Entry) (order : Order) → IsCalm s (on_advert mode m s now word source entries order)
@@ -139,4 +148,4 @@ module _ (s : Store) where
 
   pub heard_calm : (m : MoteState) (now word : ℕ) (bytes : List ℕ) → IsCalm s (heard_of m s now word bytes)
   unfolding heard_of
-  heard_calm m now word bytes = by_message_calm (message_of bytes false) m now word
+  heard_calm m now word bytes = by_message_calm (message_of bytes m.wide) m now word

@@ -1,5 +1,5 @@
 -- What starts, ticks and heard frames do at a board.
-use Rattle.std.proofs.Common.{◌≡◌, ◌⊎◌, ⊎_elim, ℕ, List, [], ◌∷◌, ◌++◌, refl, ap, sym, ◌∙◌, subst}
+use Rattle.std.proofs.Common.{◌≡◌, ◌⊎◌, ⊎_elim, ℕ, Bool, true, false, List, [], ◌∷◌, ◌++◌, refl, ap, sym, ◌∙◌, subst}
 use Rattle.std.specs.Prelude.{Option, Some, None, option_map, IfSome, Result, Ok, Err}
 use Rattle.std.proofs.lemmas.Bool.{cond_both}
 use Rattle.std.proofs.lemmas.List.{append-nil}
@@ -26,6 +26,7 @@ use Rattle.dg_volume.specs.Start.{Runs, boot, order_waits, runs_length, runs_crc
 use Rattle.dg_volume.specs.declared.volume.Kind.{Kind}
 use Rattle.dg_volume.specs.declared.volume.Kind.TheVariants as kind
 use Rattle.dg_volume.proofs.BeginLemmas.{boot_begins}
+use Rattle.dg_frame.specs.Grammar.{message_of}
 use Rattle.dg_frame.specs.Spelling.{frame_of}
 use Rattle.dg_frame.specs.declared.Message.{Message}
 use Rattle.dg_boot.specs.Started.{Starts as BootStarts, Lacks}
@@ -79,11 +80,11 @@ line_is m x told r key long crc i v l c = cc
 key_is : (x : StartLine) (told : Started) (r : Runs) → x.key ≡ record { image = told.image; version = told.version } → told.image ≡ r.image → told.version ≡ r.version → x.key ≡ key_of r
 key_is x told r key i v = cc
 
-boot_trail : (o : Option Runs) (t : Trail Store) (id now word : ℕ) → (boot_by o t id now word).trail ≡ t
-boot_trail None t id now word = refl
-boot_trail (Some r) t id now word = refl
+boot_trail : (o : Option Runs) (t : Trail Store) (id : ℕ) (wide : Bool) (now word : ℕ) → (boot_by o t id wide now word).trail ≡ t
+boot_trail None t id wide now word = refl
+boot_trail (Some r) t id wide now word = refl
 
-module _ (w : RuleWorld) (m : ℕ) (k : Kind) (id now word : ℕ) (old : Option Key) where
+module _ (w : RuleWorld) (m : ℕ) (k : Kind) (id : ℕ) (wide : Bool) (now word : ℕ) (old : Option Key) where
   abbrev s : Store
   s = store_at w m
 
@@ -91,19 +92,19 @@ module _ (w : RuleWorld) (m : ℕ) (k : Kind) (id now word : ℕ) (old : Option 
   t = (boot k s).trail
 
   abbrev starts : Option Runs → Does
-  starts o = of_effect w (boot_by o t id now word) old
+  starts o = of_effect w (boot_by o t id wide now word) old
 
-  pub started : (v : Option RunningMote) (a b : Device) (told : Started) (x : Begun) → BeginsOver told id now word x → BootStarts (boot k s) a b told
-      → TurnEnds (Ok (Starts x.line)) w m (of_effect w (boots k s id now word) old) v (Some x.running) a b
+  pub started : (v : Option RunningMote) (a b : Device) (told : Started) (x : Begun) → BeginsOver told id wide now word x → BootStarts (boot k s) a b told
+      → TurnEnds (Ok (Starts x.line)) w m (of_effect w (boots k s id wide now word) old) v (Some x.running) a b
   started v a b told x over g =
       let r = g.runs in
       let e : changes m s (last t) ≡ [] = changes_same m s (last t) (Through-last (SameShown s) t (boot_same k s)) in
       record {
-        deed = record { trail = t; table = w.table; started = Some r; sent = None; runs = Some (Some (record { key = key_of r; mote = begun id now word })) };
+        deed = record { trail = t; table = w.table; started = Some r; sent = None; runs = Some (Some (record { key = key_of r; mote = begun id wide now word })) };
         goes = ap starts g.chosen;
         ran = g.acted.ran;
         tells = record {
-          runs = Some (record { key = key_of r; mote = begun id now word });
+          runs = Some (record { key = key_of r; mote = begun id wide now word });
           runs_then = refl;
           mote = (over.key ∙ key_is x.line told r over.line_key g.image g.version, over.mote b.image (last t) g.acted.mounted);
           lines = line_is m x.line told r over.line_key over.length over.crc g.image g.version g.length g.crc ∙ ap (λ (l : List Report). (l ++ start_line m (Some r)) ++ []) (sym e);
@@ -113,12 +114,12 @@ module _ (w : RuleWorld) (m : ℕ) (k : Kind) (id now word : ℕ) (old : Option 
         };
       }
 
-  start_stopped : (v u : Option RunningMote) (a b : Device) → Stops t a b → TurnEnds (Err (Stopped None)) w m (of_effect w (boots k s id now word) old) v u a b
+  start_stopped : (v u : Option RunningMote) (a b : Device) → Stops t a b → TurnEnds (Err (Stopped None)) w m (of_effect w (boots k s id wide now word) old) v u a b
   start_stopped v u a b stops =
-      let e : t ≡ (boots k s id now word).trail = sym (boot_trail (boot k s).runs t id now word) in
-      stopped_same w m (of_effect w (boots k s id now word) old) v u a b (subst (Through (SameShown s)) e (boot_same k s)) (subst (λ (x : Trail Store). Stops x a b) e stops)
+      let e : t ≡ (boots k s id wide now word).trail = sym (boot_trail (boot k s).runs t id wide now word) in
+      stopped_same w m (of_effect w (boots k s id wide now word) old) v u a b (subst (Through (SameShown s)) e (boot_same k s)) (subst (λ (x : Trail Store). Stops x a b) e stops)
 
-  start_lacks : (v u : Option RunningMote) (a b : Device) → Lacks (boot k s) a b → Lacked (of_effect w (boots k s id now word) old) a b
+  start_lacks : (v u : Option RunningMote) (a b : Device) → Lacks (boot k s) a b → Lacked (of_effect w (boots k s id wide now word) old) a b
   start_lacks v u a b l = record {
     deed = record { trail = t; table = w.table; started = None; sent = None; runs = None };
     goes = ap starts l.none;
@@ -128,7 +129,7 @@ module _ (w : RuleWorld) (m : ℕ) (k : Kind) (id now word : ℕ) (old : Option 
   }
 
   abbrev Ends : (v u : Option RunningMote) (a b : Device) → Fault → Type 0
-  Ends v u a b f = TurnEnds (Err (halt_of f None)) w m (of_effect w (boots k s id now word) old) v u a b
+  Ends v u a b f = TurnEnds (Err (halt_of f None)) w m (of_effect w (boots k s id wide now word) old) v u a b
 
   pub begin_stopped : (T : Type 0) (f : Fault) (v u : Option RunningMote) (a b : Device) → failed T fault.Stopped ≡ failed T f → Stops t a b → Ends v u a b f
   begin_stopped T f v u a b is stops = subst (Ends v u a b) (same_fault T fault.Stopped f is) (start_stopped v u a b stops)
@@ -181,8 +182,17 @@ pub ticks_on : (m : MoteState) (s : Store) (now word : ℕ) (d : Did) → (d ≡
 unfolding tick_effect
 ticks_on m s now word d is same = acted_on (tick_of m s now word) now word d is same
 
+-- what a mote of either width reads, a wide one reads
+read_wider : (wide : Bool) (message : Message) → ((b : List ℕ) (m : Message) → message_of b false ≡ Ok m → message_of b true ≡ Ok m) → IsRead wide message → IsRead true message
+read_wider true message wider read = read
+read_wider false message wider read = wider (frame_of message) message read
+
+pub reads_wider : (wide : Bool) (o : Option Message) → ((b : List ℕ) (m : Message) → message_of b false ≡ Ok m → message_of b true ≡ Ok m) → IfSome o (IsRead wide) → IfSome o (IsRead true)
+reads_wider wide None wider read = read
+reads_wider wide (Some message) wider read = read_wider wide message wider read
+
 -- a frame in the outbox is told as the message that was sent
-sent_lines : (m : ℕ) (o : Option Message) → IfSome o IsRead → turn_lines m (turn_sent (option_map frame_of o)) ≡ sent_line m o
+sent_lines : (m : ℕ) (o : Option Message) → IfSome o (IsRead true) → turn_lines m (turn_sent (option_map frame_of o)) ≡ sent_line m o
 sent_lines m None read = refl
 sent_lines m (Some message) read = ap (sent_shown m) read
 
@@ -204,7 +214,7 @@ module _ (w : RuleWorld) (m : ℕ) (r : Running) (now word : ℕ) where
   abbrev ticks : Does
   ticks = of_effect w (tick_effect r.mote here now word) (Some r.key)
 
-  tick_went : (v u : RunningMote) (a b : Device) (d : Did) (o : Option (List ℕ)) → (d ≡ did.Sent) ⊎ (d ≡ did.Idle) → v.key ≡ r.key → u.key ≡ v.key → Done step a b u.mote d → o ≡ option_map frame_of step.sent → IfSome step.sent IsRead
+  tick_went : (v u : RunningMote) (a b : Device) (d : Did) (o : Option (List ℕ)) → (d ≡ did.Sent) ⊎ (d ≡ did.Idle) → v.key ≡ r.key → u.key ≡ v.key → Done step a b u.mote d → o ≡ option_map frame_of step.sent → IfSome step.sent (IsRead true)
       → Went w m ticks (Some u) a b (turn_sent o)
   tick_went v u a b d o is key same done sent read =
       let e : changes m here (last step.trail) ≡ [] = changes_same m here (last step.trail) (Through-last (SameShown here) step.trail (tick_same here now word r.mote)) in
@@ -225,7 +235,7 @@ module _ (w : RuleWorld) (m : ℕ) (r : Running) (now word : ℕ) where
 
   -- it sends a frame, or rests
   pub tick_acts : (v u : RunningMote) (a b : Device) (d : Did) (o : Option (List ℕ)) (turn : Turn) → turn ≡ turn_sent o → (d ≡ did.Sent) ⊎ (d ≡ did.Idle) → v.key ≡ r.key → u.key ≡ v.key → Done step a b u.mote d → o ≡ option_map frame_of step.sent
-      → IfSome step.sent IsRead → TurnEnds (Ok turn) w m ticks (Some v) (Some u) a b
+      → IfSome step.sent (IsRead true) → TurnEnds (Ok turn) w m ticks (Some v) (Some u) a b
   tick_acts v u a b d o turn is_turn is key same done sent read =
       subst (λ (x : Turn). TurnEnds (Ok x) w m ticks (Some v) (Some u) a b) (sym is_turn) (sent_turn o w m ticks (Some v) (Some u) a b (tick_went v u a b d o is key same done sent read))
 
@@ -240,8 +250,8 @@ module _ (w : RuleWorld) (m : ℕ) (r : Running) (now word : ℕ) where
   first_same did.Restart =
       let at = last step.trail in
       let same = Through-last (SameShown here) step.trail (tick_same here now word r.mote) in
-      Through-joined (SameShown here) step.trail (boots kind.Order at step.mote.id now word).trail (tick_same here now word r.mote)
-      (subst (Through (SameShown here)) (sym (boot_trail (boot kind.Order at).runs (boot kind.Order at).trail step.mote.id now word)) (boot_same_from here at kind.Order same))
+      Through-joined (SameShown here) step.trail (boots kind.Order at step.mote.id step.mote.wide now word).trail (tick_same here now word r.mote)
+      (subst (Through (SameShown here)) (sym (boot_trail (boot kind.Order at).runs (boot kind.Order at).trail step.mote.id step.mote.wide now word)) (boot_same_from here at kind.Order same))
 
   stops_first : (d : Did) (a b : Device) → Stops step.trail a b → Stops (effect_by d step now word).trail a b
   stops_first did.Sent a b stops = stops
@@ -250,7 +260,7 @@ module _ (w : RuleWorld) (m : ℕ) (r : Running) (now word : ℕ) where
       let at = last step.trail in
       let t = (boot kind.Order at).trail in
       let begins = boot_begins kind.Order at in
-      subst (λ (x : Trail Store). Stops (joined step.trail x) a b) (sym (boot_trail (boot kind.Order at).runs t step.mote.id now word))
+      subst (λ (x : Trail Store). Stops (joined step.trail x) a b) (sym (boot_trail (boot kind.Order at).runs t step.mote.id step.mote.wide now word))
       (Halted-joined_first Stands IsNear step.trail t begins.works (sym begins.first) stops)
 
   pub tick_stopped : (v u : Option RunningMote) (a b : Device) → Stops step.trail a b → TurnEnds (Err (Stopped None)) w m ticks v u a b
@@ -263,14 +273,14 @@ module _ (w : RuleWorld) (m : ℕ) (r : Running) (now word : ℕ) where
   rested = record { mote = r.mote; trail = resting here 0; sent = None; answer = did.Restart }
 
   abbrev restarts : Does
-  restarts = of_effect w (boots kind.Order here r.mote.id now word) (Some r.key)
+  restarts = of_effect w (boots kind.Order here r.mote.id r.mote.wide now word) (Some r.key)
 
-  effect_rested : effect_by did.Restart rested now word ≡ boots kind.Order here r.mote.id now word
+  effect_rested : effect_by did.Restart rested now word ≡ boots kind.Order here r.mote.id r.mote.wide now word
   unfolding last_of
   effect_rested =
-      let e : Effect = boots kind.Order here r.mote.id now word in
+      let e : Effect = boots kind.Order here r.mote.id r.mote.wide now word in
       let t = (boot kind.Order here).trail in
-      let first : e.trail ≡ t = boot_trail (boot kind.Order here).runs t r.mote.id now word in
+      let first : e.trail ≡ t = boot_trail (boot kind.Order here).runs t r.mote.id r.mote.wide now word in
       let at : t.first ≡ here = (boot_begins kind.Order here).first in
       ap (λ (x : Trail Store). record e { trail = x })
       (ap (λ (x : Trail Store). joined (resting here 0) x) first ∙ ap (λ (x : Store). joined (resting x 0) t) (sym at) ∙ joined_none t ∙ sym first)
@@ -287,17 +297,23 @@ module _ (w : RuleWorld) (m : ℕ) (r : Running) (now word : ℕ) where
   ran_none : (u : RunningMote) (a b : Device) → step ≡ rested → Done step a b u.mote did.Restart → Ran 0 a b
   ran_none u a b is done = subst (λ (n : ℕ). Ran n a b) (operations-resting here 0) (subst (λ (x : MoteTurn Did). Ran (operations x.trail) a b) is done.ran)
 
-  pub restart_starts : (u : RunningMote) (x : Begun) (v : Option RunningMote) (a b c : Device) (id : ℕ) → id ≡ u.mote.id → step ≡ rested → Done step a b u.mote did.Restart
-      → TurnEnds (Ok (Starts x.line)) w m (of_effect w (boots kind.Order here id now word) (Some r.key)) v (Some x.running) b c → TurnEnds (Ok (Starts x.line)) w m ticks v (Some x.running) a c
-  restart_starts u x v a b c id at is done ends =
-      subst (λ (y : Does). TurnEnds (Ok (Starts x.line)) w m y v (Some x.running) a c) (ap (λ (n : ℕ). of_effect w (boots kind.Order here n now word) (Some r.key)) (at ∙ done.mote.id ∙ ap (λ (t : MoteTurn Did). t.mote.id) is) ∙ sym (restarts_is is))
-      (start_after w m (of_effect w (boots kind.Order here id now word) (Some r.key)) (Some x.running) a b c x.line (ran_none u a b is done) ends)
+  -- it starts with the number and the width that it had
+  same_start : (u : RunningMote) (a b : Device) (id : ℕ) (wide : Bool) → id ≡ u.mote.id → wide ≡ u.mote.wide → step ≡ rested → Done step a b u.mote did.Restart → of_effect w (boots kind.Order here id wide now word) (Some r.key) ≡ restarts
+  same_start u a b id wide at width is done =
+      ap (λ (n : ℕ). of_effect w (boots kind.Order here n wide now word) (Some r.key)) (at ∙ done.mote.id ∙ ap (λ (t : MoteTurn Did). t.mote.id) is)
+      ∙ ap (λ (x : Bool). of_effect w (boots kind.Order here r.mote.id x now word) (Some r.key)) (width ∙ done.mote.wide ∙ ap (λ (t : MoteTurn Did). t.mote.wide) is)
 
-  pub restart_halts : (u : RunningMote) (h : Halt) (v n : Option RunningMote) (a b c : Device) (id : ℕ) → id ≡ u.mote.id → step ≡ rested → Done step a b u.mote did.Restart
-      → TurnEnds (Err h) w m (of_effect w (boots kind.Order here id now word) (Some r.key)) v n b c → TurnEnds (Err h) w m ticks v n a c
-  restart_halts u h v n a b c id at is done ends =
-      subst (λ (y : Does). TurnEnds (Err h) w m y v n a c) (ap (λ (k : ℕ). of_effect w (boots kind.Order here k now word) (Some r.key)) (at ∙ done.mote.id ∙ ap (λ (t : MoteTurn Did). t.mote.id) is) ∙ sym (restarts_is is))
-      (halt_after h w m (of_effect w (boots kind.Order here id now word) (Some r.key)) v n a b c (ran_none u a b is done) ends)
+  pub restart_starts : (u : RunningMote) (x : Begun) (v : Option RunningMote) (a b c : Device) (id : ℕ) (wide : Bool) → id ≡ u.mote.id → wide ≡ u.mote.wide → step ≡ rested → Done step a b u.mote did.Restart
+      → TurnEnds (Ok (Starts x.line)) w m (of_effect w (boots kind.Order here id wide now word) (Some r.key)) v (Some x.running) b c → TurnEnds (Ok (Starts x.line)) w m ticks v (Some x.running) a c
+  restart_starts u x v a b c id wide at width is done ends =
+      subst (λ (y : Does). TurnEnds (Ok (Starts x.line)) w m y v (Some x.running) a c) (same_start u a b id wide at width is done ∙ sym (restarts_is is))
+      (start_after w m (of_effect w (boots kind.Order here id wide now word) (Some r.key)) (Some x.running) a b c x.line (ran_none u a b is done) ends)
+
+  pub restart_halts : (u : RunningMote) (h : Halt) (v n : Option RunningMote) (a b c : Device) (id : ℕ) (wide : Bool) → id ≡ u.mote.id → wide ≡ u.mote.wide → step ≡ rested → Done step a b u.mote did.Restart
+      → TurnEnds (Err h) w m (of_effect w (boots kind.Order here id wide now word) (Some r.key)) v n b c → TurnEnds (Err h) w m ticks v n a c
+  restart_halts u h v n a b c id wide at width is done ends =
+      subst (λ (y : Does). TurnEnds (Err h) w m y v n a c) (same_start u a b id wide at width is done ∙ sym (restarts_is is))
+      (halt_after h w m (of_effect w (boots kind.Order here id wide now word) (Some r.key)) v n a b c (ran_none u a b is done) ends)
 
 -- ---- heard frames
 

@@ -7,18 +7,16 @@ use Rattle.dg_slot.specs.Kept.{Held}
 use Rattle.dg_control.specs.declared.snapshot.Order.{Order}
 use Rattle.dg_object.specs.Sizes.{most_bytes}
 use Rattle.dg_volume.specs.Store.{Store, held}
-use Rattle.dg_volume.specs.Table.{row_at}
 use Rattle.dg_volume.specs.Changes.{is_other, refusal_by, order_refusal}
 use Rattle.dg_volume.specs.declared.volume.InjectFault.{InjectFault}
 use Rattle.dg_volume.specs.declared.volume.InjectFault.TheVariants as inject
 use Rattle.dg_volume.specs.declared.volume.OrderFault.{OrderFault}
 use Rattle.dg_volume.specs.declared.volume.OrderFault.TheVariants as order_fault
-use Rattle.dg_rules.specs.World.{World as RuleWorld, Running, site, store_at, frame_at, linked, last_frame}
-use Rattle.dg_rules.specs.Events.{Does, Refuses, tick_by, hear_by, heard_sent, heard_last, unless_off, inject_unless, inject_row, order_unless, does, mote_of, dt_of}
+use Rattle.dg_rules.specs.World.{World as RuleWorld, Running, site, store_at, wide_at, frame_at, linked, last_frame}
+use Rattle.dg_rules.specs.Events.{Does, Refuses, tick_by, hear_by, heard_sent, heard_last, unless_off, inject_unless, inject_row, order_unless, knows, injects, orders, does, mote_of, dt_of}
 use Rattle.dg_base.specs.declared.events.Event.{Event}
 use Rattle.dg_base.specs.declared.events.Event.TheVariants.{Tick, Hear, Last, Reset, Inject, Order as OrderEvent, Frame}
 use Rattle.dg_script.specs.declared.report.Cause.TheVariants as cause
-use Rattle.dg_world.specs.Images.{Declares}
 use Rattle.dg_world.specs.Shareds.{IsShared}
 use Rattle.dg_world.specs.Worlds.{MoteStands, SiteStands}
 use Rattle.dg_world.specs.Unseen.{RefusesUnseen}
@@ -95,11 +93,19 @@ image_unseen w m now word image known row other at some unseen =
     let here : P false (Some row) = subst (P false) some (subst (λ (x : Bool). P x known) other unseen) in
     row_unseen w m now word row (ap (λ (i : ℕ). eqb i 0) at ∙ other) here
 
-order_by : {A : Type 0} (o : Option OrderFault) (w : RuleWorld) (m now word : ℕ) (order : Order) → RefusesUnseen (order_unless o w m order now word) → A
+pub order_by : {A : Type 0} (o : Option OrderFault) (w : RuleWorld) (m now word : ℕ) (order : Order) → RefusesUnseen (order_unless o w m order now word) → A
 order_by None w m now word order unseen = absurd unseen
 order_by (Some order_fault.Stopped) w m now word order unseen = not_true unseen
 order_by (Some (order_fault.Worn room)) w m now word order unseen = not_true unseen
 order_by (Some (order_fault.OldOrder kept)) w m now word order unseen = not_true unseen
+
+-- an order of an image that the mote knows looks at the chip
+pub order_seen : {A : Type 0} (w : RuleWorld) (m now word : ℕ) (order : Order) → RefusesUnseen (orders w m order now word) → A
+order_seen w m now word order unseen = order_by (order_refusal (store_at w m) order) w m now word order unseen
+
+-- an image that the mote knows
+pub known_unseen : (D : Does) (x known : Bool) → x ≡ known → known ≡ true → RefusesUnseen (if x then D else Refuses cause.Image) → RefusesUnseen D
+known_unseen D x known same is unseen = subst (λ (y : Bool). RefusesUnseen (if y then D else Refuses cause.Image)) (same ∙ is) unseen
 
 -- ---- each event
 
@@ -141,17 +147,19 @@ module _ {N E : Type 0} (r : Result (Unit {0}) E) (old new : N) (w : RuleWorld) 
   reset_unseen m dt word = λ is stands at unseen. absurd unseen
 
   pub inject_unseen : (m image version dt word : ℕ)
-      → (Declares shared.images w.declared → RefusesUnseen (if image == 0 then Refuses cause.Reserved else inject_row w m (row_at w.declared image version) now word) → Unused r old new)
+      → (IsShared shared w → RefusesUnseen (if knows (wide_at w m) image then injects w m image version now word else Refuses cause.Image) → Unused r old new)
       → StaysUnused r old new w shared a v now (Inject m image version dt word)
   unfolding does
   inject_unseen m image version dt word stays = λ is stands at unseen.
-      stays is.declared (at_moment (λ n. if image == 0 then Refuses cause.Reserved else inject_row w m (row_at w.declared image version) n word) _ at unseen)
+      stays is (at_moment (λ n. if knows (wide_at w m) image then injects w m image version n word else Refuses cause.Image) _ at unseen)
 
-  pub order_unseen : (m number image version dt word : ℕ) → StaysUnused r old new w shared a v now (OrderEvent m number image version dt word)
+  pub order_unseen : (m number image version dt word : ℕ)
+      → (IsShared shared w → RefusesUnseen (if knows (wide_at w m) image then orders w m (record { number = number; image = image; version = version }) now word else Refuses cause.Image) → Unused r old new)
+      → StaysUnused r old new w shared a v now (OrderEvent m number image version dt word)
   unfolding does
-  order_unseen m number image version dt word = λ is stands at unseen.
+  order_unseen m number image version dt word stays = λ is stands at unseen.
       let order : Order = record { number = number; image = image; version = version } in
-      order_by (order_refusal (store_at w m) order) w m (w.moment + dt) word order unseen
+      stays is (at_moment (λ n. if knows (wide_at w m) image then orders w m order n word else Refuses cause.Image) _ at unseen)
 
 -- ---- over a fuse
 

@@ -1,8 +1,10 @@
 -- How the code's world stands for a world by the rules: where it begins, and where a board and a mote changed.
-use Rattle.std.proofs.Common.{◌≡◌, ℕ, ◌<◌, ◌≤◌, List, [], length, ap, sym, ◌∙◌, subst, arith}
+use Rattle.std.proofs.Common.{◌≡◌, ℕ, ◌<◌, ◌≤◌, Bool, false, List, [], length, ap, sym, ◌∙◌, subst, arith}
 use Rattle.std.specs.Prelude.{slice_get, slice_index_or, replicate, Option, Some, None, IfSome}
 use Rattle.std.proofs.lemmas.List.{length-map, length-replicate, get_or-replicate, get_or-map}
+use Rattle.std.proofs.lemmas.Bool.{both_ways}
 use Rattle.dg_nor.specs.Device.{Device}
+use Rattle.dg_world.specs.Known.{known_of}
 use Rattle.dg_object.specs.Object.{Row}
 use Rattle.dg_volume.specs.Store.{Store}
 use Rattle.dg_volume.specs.Stands.{Stands}
@@ -18,8 +20,8 @@ use Rattle.dg_world.specs.declared.world.World.{World}
 use Rattle.dg_world.specs.declared.world.RunningMote.{RunningMote}
 use Rattle.dg_world.proofs.ImageLemmas.{declares_none}
 
-first_site : (stores : List Store) (table : List Row) (links : List (ℕ × ℕ)) (m : ℕ) → m < length stores → site (first_world table links stores) m ≡ off_site (slice_index_or stores m no_site.store)
-first_site stores table links m h = get_or-map off_site stores m no_site.store no_site h
+first_site : (stores : List Store) (table : List Row) (links : List (ℕ × ℕ)) (narrow : List Bool) (m : ℕ) → m < length stores → site (first_world table links narrow stores) m ≡ off_site (slice_index_or stores m no_site.store)
+first_site stores table links narrow m h = get_or-map off_site stores m no_site.store no_site h
 
 stands_off : (d : Device) (v : Option RunningMote) (x : Site) (s : Store) → v ≡ None → x ≡ off_site s → Stands d.image s → SiteStands d v x
 stands_off d v x s off at stands =
@@ -29,26 +31,27 @@ stands_off d v x s off at stands =
 off_timely : (x : Site) (s : Store) (now : ℕ) → x ≡ off_site s → IfSome x.runs (λ r. Timely r.mote now)
 off_timely x s now at = subst (λ (y : Site). IfSome y.runs (λ r. Timely r.mote now)) (sym at) tt
 
-pub begins : (v : World) (boards : List Device) (stores : List Store) (table : List Row) (links : List (ℕ × ℕ)) (n : ℕ) → v.moment ≡ 0 → v.events ≡ 0 → NothingDeclared v.shared.images → links ≡ v.shared.links.pairs → Carries v.shared.air []
-    → v.motes.items ≡ replicate n None → n ≤ most_motes → length stores ≡ n → n ≤ length boards → ((m : ℕ) (d : Device) → m < n → slice_get boards m ≡ Some d → Stands d.image (slice_index_or stores m no_site.store))
-    → IsWorld v boards (first_world table links stores)
-begins v boards stores table links n start none nothing linked silent off few count enough stand =
-    let sites : length (first_world table links stores).sites ≡ n = length-map stores off_site ∙ count in
+pub begins : (v : World) (boards : List Device) (stores : List Store) (table : List Row) (links : List (ℕ × ℕ)) (narrow : List Bool) (n : ℕ) → v.moment ≡ 0 → v.events ≡ 0 → NothingDeclared v.shared.images → links ≡ v.shared.links.pairs → narrow ≡ v.shared.narrow → Carries v.shared.air []
+    → v.motes.items ≡ replicate n None → n ≤ most_motes → length stores ≡ n → n ≤ length boards → ((m : ℕ) (d : Device) → m < n → slice_get boards m ≡ Some d → Stands d.image (slice_index_or stores m no_site.store)) → ((m : ℕ) → known_of v m ≡ false)
+    → IsWorld v boards (first_world table links narrow stores)
+begins v boards stores table links narrow n start none nothing linked radios silent off few count enough stand unknown =
+    let sites : length (first_world table links narrow stores).sites ≡ n = length-map stores off_site ∙ count in
     record {
       moment = start;
       events = none;
-      shared = record { declared = declares_none v.shared.images nothing; links = linked; sent = silent };
+      shared = record { declared = declares_none v.shared.images nothing; links = linked; narrow = radios; sent = silent };
       motes = sites ∙ sym (ap length off ∙ length-replicate n None);
       few_motes = omega (arith, sites, few);
       boards_enough = omega (arith, sites, enough);
       few_events = omega arith;
       early = omega arith;
-      timely = λ m known. off_timely (site (first_world table links stores) m) (slice_index_or stores m no_site.store) 0 (first_site stores table links m (omega (arith, sites, known, count)));
+      timely = λ m known. off_timely (site (first_world table links narrow stores) m) (slice_index_or stores m no_site.store) 0 (first_site stores table links narrow m (omega (arith, sites, known, count)));
       sites = λ m d known here.
           let h : m < n = omega (arith, sites, known) in
-          stands_off d (slice_index_or v.motes.items m None) (site (first_world table links stores) m) (slice_index_or stores m no_site.store)
+          stands_off d (slice_index_or v.motes.items m None) (site (first_world table links narrow stores) m) (slice_index_or stores m no_site.store)
           (ap (λ (l : List (Option RunningMote)). slice_index_or l m None) off ∙ get_or-replicate n m None None h)
-          (first_site stores table links m (omega (arith, h, count))) (stand m d h here);
+          (first_site stores table links narrow m (omega (arith, h, count))) (stand m d h here);
+      orderly = λ m d known here is. absurd (both_ways (known_of v m) (unknown m) is);
     }
 
 -- what is shared may change where the motes and their boards do not
@@ -64,4 +67,21 @@ shares v s boards w rows links is shared = record {
   early = is.early;
   timely = is.timely;
   sites = is.sites;
+  orderly = is.orderly;
+}
+
+-- so may which motes are narrow
+pub narrows : (v : World) (new : List Bool → List Bool) (boards : List Device) (w : RuleWorld) → IsWorld v boards w → IsWorld (record v { shared = record v.shared { narrow = new v.shared.narrow } }) boards (record w { narrow = new w.narrow })
+narrows v new boards w is = record {
+  moment = is.moment;
+  events = is.events;
+  shared = record { declared = is.shared.declared; links = is.shared.links; narrow = ap new is.shared.narrow; sent = is.shared.sent };
+  motes = is.motes;
+  few_motes = is.few_motes;
+  boards_enough = is.boards_enough;
+  few_events = is.few_events;
+  early = is.early;
+  timely = is.timely;
+  sites = is.sites;
+  orderly = is.orderly;
 }

@@ -3,6 +3,7 @@ pub mod Airs
 pub mod Neighbours
 pub mod Shareds
 pub mod Worlds
+pub mod Knows
 pub mod Counts
 pub mod Applied
 pub mod Formatted
@@ -10,6 +11,7 @@ pub mod Shown
 pub mod Turn
 pub mod Turns
 pub mod Tellings
+pub mod Known
 pub mod Cuts
 pub mod Stepped
 pub mod Finished

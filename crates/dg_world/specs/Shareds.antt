@@ -8,4 +8,5 @@ use Rattle.dg_world.specs.declared.shared.Shared.{Shared}
 pub record IsShared (v : Shared) (w : RuleWorld) : Type 0 where
   pub declared : Declares v.images w.declared
   pub links : w.links ≡ v.links.pairs
+  pub narrow : w.narrow ≡ v.narrow
   pub sent : Carries v.air w.sent

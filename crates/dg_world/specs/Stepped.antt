@@ -37,7 +37,7 @@ pub record CutChangesAre (m : ℕ) (before : Option Shown) (t : Store) (told_bef
   pub told_now : told ≡ told_before ++ lines
 
 -- they were found in a reading of the board, which stands for t
-abbrev pub CutTold : Result (Unit {0}) Fault → ℕ → Option Shown → Store → Device → Device → List Report → List Report → Type 0
+abbrev pub CutTold : {T : Type 0} → Result T Fault → ℕ → Option Shown → Store → Device → Device → List Report → List Report → Type 0
 CutTold (Ok u) m before t old new told_before told = CutChangesAre m before t told_before told × IsRead old new × (new.faults ≡ old.faults)
 CutTold (Err fault.Stopped) m before t old new told_before told = (new.stopped ≡ true) × IsRead old new × (told ≡ told_before)
 CutTold (Err fault.NotAVolume) m before t old new told_before told = ⊥
@@ -54,6 +54,7 @@ pub record StepDone (w : RuleWorld) (x : Step) (loud : Bool) (u : Option Running
   pub events : world.events ≡ w.events + 1
   pub declared : world.declared ≡ w.declared
   pub links : world.links ≡ w.links
+  pub narrow : world.narrow ≡ w.narrow
   pub sent : world.sent ≡ w.sent ++ sent_now (mote_of x.event) frame
   pub sites : world.sites ≡ slice_set w.sites (mote_of x.event) here
   pub stands : Stands new.image here.store

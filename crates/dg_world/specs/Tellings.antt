@@ -18,6 +18,7 @@ pub record IsNothing (t : Telling) : Type 0 where
   pub after : t.after ≡ None
   pub started : t.started ≡ None
   pub sent : sent_in t.outbox ≡ None
+  pub orderly : t.orderly ≡ None
 
 abbrev pub turn_by : Option (List ℕ) → Option Cause → Option StartLine → Option Shown → Option Shown → Turn
 turn_by (Some bytes) why x a b = Sends bytes

@@ -1,5 +1,5 @@
 -- What an event does at a board, by the rules.
-use Rattle.std.specs.Prelude.{◌≡◌, ℕ, true, false, List, [], ◌∷◌, length, Option, Some, None, option_map, IfSome, Result, Ok, Err}
+use Rattle.std.specs.Prelude.{◌≡◌, ℕ, Bool, true, false, List, [], ◌∷◌, length, Option, Some, None, option_map, IfSome, Result, Ok, Err}
 use Rattle.dg_nor.specs.Device.{Device, Ran}
 use Rattle.dg_nor.specs.Trail.{Trail, operations, last, Leaves}
 use Rattle.dg_nor.specs.Reads.{Looked, StopsIn}
@@ -38,7 +38,7 @@ abbrev pub turn_sent : Option (List ℕ) → Turn
 turn_sent None = Rests
 turn_sent (Some bytes) = Sends bytes
 
--- the line on a frame
+-- the line on a frame, which a wide reader reads
 abbrev pub sent_shown : ℕ → Result Message FrameFault → List Report
 sent_shown m (Err fault) = []
 sent_shown m (Ok message) = sent_line m (Some message)
@@ -46,17 +46,17 @@ sent_shown m (Ok message) = sent_line m (Some message)
 abbrev pub turn_lines : ℕ → Turn → List Report
 turn_lines m (Refused why) = RefusedLine m why ∷ []
 turn_lines m Rests = []
-turn_lines m (Sends bytes) = sent_shown m (message_of bytes false)
+turn_lines m (Sends bytes) = sent_shown m (message_of bytes true)
 turn_lines m (Changes old new) = changes_shown m old new
 turn_lines m (Starts x) = Start m x.key.image x.key.version x.length x.crc ∷ []
 
 -- a mote that was started over the volume of its chip, and the line of that
-pub record BeginsOver (started : Started) (id now word : ℕ) (b : Begun) : Type 0 where
+pub record BeginsOver (started : Started) (id : ℕ) (wide : Bool) (now word : ℕ) (b : Begun) : Type 0 where
   pub key : b.running.key ≡ b.line.key
   pub line_key : b.line.key ≡ record { image = started.image; version = started.version }
   pub length : b.line.length ≡ started.length
   pub crc : b.line.crc ≡ started.crc
-  pub mote : (c : List ℕ) (s : Store) → Mounted c started.volume s → IsMote c b.running.mote (begun id now word) s
+  pub mote : (c : List ℕ) (s : Store) → Mounted c started.volume s → IsMote c b.running.mote (begun id wide now word) s
 
 -- The turn is the deed: the mote, the report and what is sent are the rules', the chip stands for the last store, and what was started stands in program memory.
 pub record Tells (w : RuleWorld) (m : ℕ) (d : Deed) (turn : Turn) (u : Option RunningMote) (image : List ℕ) : Type 0 where

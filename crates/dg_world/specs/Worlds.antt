@@ -1,5 +1,5 @@
 -- How the code's world and the boards stand for a world by the rules.
-use Rattle.std.specs.Prelude.{◌≡◌, ℕ, ◌-◌, ◌*◌, ◌^◌, ◌<◌, ◌≤◌, List, length, slice_get, slice_index_or, Option, Some, None, IfSome}
+use Rattle.std.specs.Prelude.{◌≡◌, ℕ, ◌-◌, ◌*◌, ◌^◌, ◌<◌, ◌≤◌, true, List, length, slice_get, slice_index_or, Option, Some, None, IfSome}
 use Rattle.dg_nor.specs.Device.{Device}
 use Rattle.dg_volume.specs.Store.{Store}
 use Rattle.dg_volume.specs.Stands.{Stands}
@@ -9,7 +9,9 @@ use Rattle.dg_mote.specs.Motes.{IsMote}
 use Rattle.dg_rules.specs.Sizes.{most_events, most_motes}
 use Rattle.dg_rules.specs.World.{World as RuleWorld, Running, Site, site}
 use Rattle.dg_rules.specs.Premises.{WorldTimely}
+use Rattle.dg_control.specs.Store.{IsOrderlyChip}
 use Rattle.dg_world.specs.Shareds.{IsShared}
+use Rattle.dg_world.specs.Known.{known_of}
 use Rattle.dg_world.specs.declared.world.World.{World}
 use Rattle.dg_world.specs.declared.world.RunningMote.{RunningMote}
 
@@ -49,3 +51,5 @@ pub record IsWorld (v : World) (boards : List Device) (w : RuleWorld) : Type 0 w
   -- no moment of a mote is later than the world's
   pub timely : WorldTimely w
   pub sites : (m : ℕ) (d : Device) → m < length w.sites → slice_get boards m ≡ Some d → SiteStands d (slice_index_or v.motes.items m None) (site w m)
+  -- a known board is orderly
+  pub orderly : (m : ℕ) (d : Device) → m < length w.sites → slice_get boards m ≡ Some d → known_of v m ≡ true → IsOrderlyChip d.image

@@ -1,6 +1,6 @@
 //! A mote alone over its board: its power comes, it ticks, or a frame comes to it. A service plays its motes so.
-ghost use Rattle.std.specs.Prelude.{◌≡◌, ◌+◌, ◌^◌, ◌<◌, ℕ, length};
-ghost use Rattle.dg_rules.specs.World.{World as RuleWorld, site};
+ghost use Rattle.std.specs.Prelude.{◌≡◌, ◌+◌, ◌^◌, ◌<◌, ℕ, true, length};
+ghost use Rattle.dg_rules.specs.World.{World as RuleWorld, site, wide_at};
 ghost use Rattle.dg_rules.specs.Events.{does, mote_of, dt_of};
 ghost use Rattle.dg_world.specs.Alone.{IsAlone, IsReset, PlaysAlone, Powers};
 ghost use Rattle.dg_world.specs.Tellings.{IsNothing, turned};
@@ -15,7 +15,8 @@ use dg_nor::Nor;
 use dg_rules::Event;
 
 /// What an event does at a mote that takes part in it alone: a reset, a tick, or a frame that comes to it. The board of
-/// the mote runs `runs`, and `now` is the moment of the event. What is sent is in the outbox that is answered.
+/// the mote runs `runs`, and `now` is the moment of the event. A mote that starts is wide. What is sent is in the outbox
+/// that is answered.
 pub fn play_alone<N: Nor>(
     runs: &mut Option<RunningMote>,
     now: u64,
@@ -26,7 +27,7 @@ pub fn play_alone<N: Nor>(
     requires mote { MayRun (N.device board.old).image now runs.old }
     requires moment { now < 2 ^ 62 }
     ensures plays { (w : RuleWorld) → SiteStands (N.device board.old) runs.old (site w (mote_of event.now)) → mote_of event.now < length w.sites → now ≡ w.moment + dt_of event.now
-        → PlaysAlone result w event.now runs.new (N.device board.old) (N.device board.new) }
+        → wide_at w (mote_of event.now) ≡ true → PlaysAlone result w event.now runs.new (N.device board.old) (N.device board.new) }
     // a start tells a board that is a volume from one that is none, which keeps its bytes
     ensures powers { IsReset event.now → Powers result (N.device board.old) (N.device board.new) }
 {
@@ -50,7 +51,7 @@ fn happen_alone<N: Nor>(
     requires moment { now < 2 ^ 62 }
     requires nothing { IsNothing telling.old }
     ensures ends { (w : RuleWorld) → SiteStands (N.device board.old) runs.old (site w (mote_of event.now)) → now ≡ w.moment + dt_of event.now
-        → TurnEnds (turned result telling.new) w (mote_of event.now) (does w event.now) runs.old runs.new (N.device board.old) (N.device board.new) }
+        → wide_at w (mote_of event.now) ≡ true → TurnEnds (turned result telling.new) w (mote_of event.now) (does w event.now) runs.old runs.new (N.device board.old) (N.device board.new) }
     ensures powers { IsReset event.now → Powers result (N.device board.old) (N.device board.new) }
 {
     match event {
@@ -58,6 +59,7 @@ fn happen_alone<N: Nor>(
         Event::Reset { mote, word, .. } => reset(
             runs,
             u16::from(*mote),
+            true,
             now,
             *word,
             board,

@@ -1,19 +1,22 @@
 //! The steps of a world.
-ghost use Rattle.std.specs.Prelude.{◌≡◌, ◌≢◌, ◌⊎◌, ◌+◌, ◌<◌, ◌≤◌, ℕ, Option, map, length, slice_get, Err, IfSome, OnOk, OnErr, vec_len};
+ghost use Rattle.std.specs.Prelude.{◌≡◌, ◌≢◌, ◌⊎◌, ◌+◌, ◌<◌, ◌≤◌, ℕ, true, Option, Some, map, length, slice_get, Err, IfSome, OnOk, OnErr, vec_len};
 ghost use Rattle.std.specs.Vec.{vec_capacity};
 ghost use Rattle.dg_nor.specs.Device.{Device};
 ghost use Rattle.dg_object.specs.Object.{Row};
 ghost use Rattle.dg_rules.specs.Sizes.{most_events};
 ghost use Rattle.dg_rules.specs.World.{World as RuleWorld};
-ghost use Rattle.dg_rules.specs.Events.{does};
+ghost use Rattle.dg_rules.specs.Events.{does, mote_of};
 ghost use Rattle.dg_rules.specs.Ranges.{StepFits};
 ghost use Rattle.dg_world.specs.Worlds.{IsWorld};
+ghost use Rattle.dg_world.specs.Knows.{KnowsThen};
+ghost use Rattle.dg_world.specs.Known.{known_of, OrderTakes, InjectTakes};
 ghost use Rattle.dg_world.specs.Applied.{Applied, FlashAt, Ended, ApplyEnds, BoardsAreConsistent, BoardIsConsistent, fault_of};
 ghost use Rattle.dg_world.specs.Tellings.{halt_of};
 ghost use Rattle.dg_world.specs.Unseen.{RefusesUnseen};
 ghost use Rattle.dg_world.specs.declared.shown.Shown.{Shown};
 
 use crate::events::{dt_at, mote_at};
+use crate::knowing::{is_watched, known_after, makes_known, note};
 use crate::stepping::{MOST_LINES, step_at};
 use crate::telling::{Fault, Telling};
 use crate::world::{World, WorldFault};
@@ -48,6 +51,14 @@ impl World {
         ensures no_image { result ≡ Err WorldFault.NoImage → (w : RuleWorld) → IsWorld self.old (map N.device boards.old.items) w
             → Ended w step.now (map N.device boards.old.items) (map N.device boards.new.items) }
         ensures a_volume { result ≡ Err WorldFault.NotAVolume → ⊥ }
+        // after it exactly those boards are known that are orderly then and were known, or were made known by it
+        ensures known { OnOk result ((w : RuleWorld) → IsWorld self.old (map N.device boards.old.items) w → KnowsThen w step.now.event self.old self.new (map N.device boards.new.items)) }
+        // an order and an injection that is refused mount a known board again by halving: an order, whatever is answered, once
+        // more where a cut blew
+        ensures order_reads { (w : RuleWorld) (m : ℕ) (a b : Device) → IsWorld self.old (map N.device boards.old.items) w → m ≡ mote_of step.now.event → known_of self.old m ≡ true
+            → slice_get (map N.device boards.old.items) m ≡ Some a → slice_get (map N.device boards.new.items) m ≡ Some b → OrderTakes step.now.event a b }
+        ensures inject_reads { OnOk result ((w : RuleWorld) (m : ℕ) (a b : Device) → IsWorld self.old (map N.device boards.old.items) w → m ≡ mote_of step.now.event → known_of self.old m ≡ true
+            → slice_get (map N.device boards.old.items) m ≡ Some a → slice_get (map N.device boards.new.items) m ≡ Some b → InjectTakes w step.now.event a b) }
         // an event that is refused without a look at the chip, as at a mote that is off, uses no board, and meets no stopped one
         ensures unseen { (w : RuleWorld) → IsWorld self.old (map N.device boards.old.items) w → RefusesUnseen (does w step.now.event)
             → (map N.device boards.new.items ≡ map N.device boards.old.items) × ((board : ℕ) → result ≡ Err (WorldFault.Flash board) → ⊥) }
@@ -92,6 +103,11 @@ impl World {
             → Ended w step.now (map N.device boards.old.items) (map N.device boards.new.items) }
         ensures a_volume { result ≡ Err WorldFault.NotAVolume → ⊥ }
         // an event that is refused without a look at the chip, as at a mote that is off, uses no board, and meets no stopped one
+        ensures known { OnOk result ((w : RuleWorld) → IsWorld self.old (map N.device boards.old.items) w → KnowsThen w step.now.event self.old self.new (map N.device boards.new.items)) }
+        ensures order_reads { (w : RuleWorld) (m : ℕ) (a b : Device) → IsWorld self.old (map N.device boards.old.items) w → m ≡ mote_of step.now.event → known_of self.old m ≡ true
+            → slice_get (map N.device boards.old.items) m ≡ Some a → slice_get (map N.device boards.new.items) m ≡ Some b → OrderTakes step.now.event a b }
+        ensures inject_reads { OnOk result ((w : RuleWorld) (m : ℕ) (a b : Device) → IsWorld self.old (map N.device boards.old.items) w → m ≡ mote_of step.now.event → known_of self.old m ≡ true
+            → slice_get (map N.device boards.old.items) m ≡ Some a → slice_get (map N.device boards.new.items) m ≡ Some b → InjectTakes w step.now.event a b) }
         ensures unseen { (w : RuleWorld) → IsWorld self.old (map N.device boards.old.items) w → RefusesUnseen (does w step.now.event)
             → (map N.device boards.new.items ≡ map N.device boards.old.items) × ((board : ℕ) → result ≡ Err (WorldFault.Flash board) → ⊥) }
     {
@@ -115,6 +131,11 @@ impl World {
         requires place { vec_len self.old.shared.air.frames + 1 ≤ vec_capacity self.old.shared.air.frames }
         ensures ends { (w : RuleWorld) → IsWorld self.old (map N.device boards.old) w → StepFits (length w.sites) step.now
             → ApplyEnds result w step.now loud self.new (map N.device boards.old) (map N.device boards.new) out.old.items out.new.items }
+        ensures known { OnOk result ((w : RuleWorld) → IsWorld self.old (map N.device boards.old) w → StepFits (length w.sites) step.now → KnowsThen w step.now.event self.old self.new (map N.device boards.new)) }
+        ensures order_reads { (w : RuleWorld) (m : ℕ) (a b : Device) → IsWorld self.old (map N.device boards.old) w → m ≡ mote_of step.now.event → known_of self.old m ≡ true
+            → slice_get (map N.device boards.old) m ≡ Some a → slice_get (map N.device boards.new) m ≡ Some b → OrderTakes step.now.event a b }
+        ensures inject_reads { OnOk result ((w : RuleWorld) (m : ℕ) (a b : Device) → IsWorld self.old (map N.device boards.old) w → m ≡ mote_of step.now.event → known_of self.old m ≡ true
+            → slice_get (map N.device boards.old) m ≡ Some a → slice_get (map N.device boards.new) m ≡ Some b → InjectTakes w step.now.event a b) }
         ensures unseen { (w : RuleWorld) → IsWorld self.old (map N.device boards.old) w → StepFits (length w.sites) step.now → RefusesUnseen (does w step.now.event)
             → (map N.device boards.new ≡ map N.device boards.old) × OnErr result ⊥ }
     {
@@ -124,12 +145,15 @@ impl World {
         let now = self.moment + u64::from(dt_at(&step.event));
         let runs = &mut self.motes[index];
         let board = &mut boards[index];
+        let known = self.known.has(mote);
+        let makes = makes_known(&self.shared, mote, &step.event);
         let mut telling = Telling::new();
         match step_at(
             &self.shared,
             runs,
             now,
             step,
+            known,
             loud,
             board,
             &mut telling,
@@ -139,6 +163,8 @@ impl World {
                 self.moment = now;
                 self.events += 1;
                 self.shared.air.send(mote, &mut telling.outbox);
+                let orderly = known_after(runs, telling.orderly, is_watched(known, makes));
+                note(&mut self.known, mote, orderly);
                 Ok(())
             }
             Err(fault) => Err(fault_at(fault, mote)),

@@ -1,5 +1,5 @@
 //! An event at a board whose power may be cut in the middle of it.
-ghost use Rattle.std.specs.Prelude.{◌≡◌, ◌∷◌, false, ◌&&◌, not, ◌+◌, ◌≤◌, ◌<◌, ◌^◌, ℕ, Some, Ok};
+ghost use Rattle.std.specs.Prelude.{◌≡◌, ◌∷◌, false, ◌&&◌, not, ◌+◌, ◌≤◌, ◌<◌, ◌^◌, ℕ, Some, Ok, IsTrue};
 ghost use Rattle.dg_nor.specs.Device.{Device};
 ghost use Rattle.dg_nor.specs.Fuse.{inner_of, name_of, mask_of, fused_device, before, beneath_of};
 ghost use Rattle.dg_rules.specs.Sizes.{most_motes};
@@ -11,6 +11,7 @@ ghost use Rattle.dg_world.specs.Worlds.{SiteStands, MayRun};
 ghost use Rattle.dg_world.specs.Cuts.{ended, Played};
 ghost use Rattle.dg_world.specs.Tellings.{IsNothing, turned, ended_as};
 ghost use Rattle.dg_world.specs.Unseen.{RefusesUnseen};
+ghost use Rattle.dg_world.specs.Known.{IsKnownChip, EventReads, EventSees};
 
 use crate::happening::happen;
 use crate::shared::Shared;
@@ -58,12 +59,14 @@ pub(crate) fn play_cut<N: Nor>(
     now: u64,
     event: &Event,
     cut: &Cut,
+    known: bool,
     board: &mut N,
     telling: &mut Telling,
 ) -> Result<Power, Fault>
     requires fits { (motes : ℕ) × EventFits motes event.now × (motes ≤ most_motes) }
     requires cut { CutFits cut.now }
     requires mote { MayRun (N.device board.old).image now runs.old }
+    requires known_chip { IsTrue known → IsKnownChip (N.device board.old).image }
     requires moment { now < 2 ^ 62 }
     requires nothing { IsNothing telling.old }
     ensures played { (w : RuleWorld) → IsShared shared.now w → SiteStands (N.device board.old) runs.old (site w (mote_of event.now))
@@ -71,9 +74,11 @@ pub(crate) fn play_cut<N: Nor>(
         → Played (ended_as result telling.new) w (mote_of event.now) (does w event.now) (Some cut.now) runs.old runs.new (N.device board.old) (N.device board.new) }
     ensures unseen { (w : RuleWorld) → IsShared shared.now w → SiteStands (N.device board.old) runs.old (site w (mote_of event.now))
         → now ≡ w.moment + dt_of event.now → RefusesUnseen (does w event.now) → (board.new ≡ board.old) × (result ≡ Ok Power.Stays) }
+    ensures reads { EventReads event.now known (result ≡ Ok Power.Stays) telling.new.refused (N.device board.old) (N.device board.new) }
+    ensures sees { result ≡ Ok Power.Stays → EventSees event.now telling.new runs.new (N.device board.old).image (N.device board.new).image }
 {
     let mut fused = fuse_of(cut, board);
-    let done = happen(shared, runs, now, event, &mut fused, telling);
+    let done = happen(shared, runs, now, event, known, &mut fused, telling);
     let blown = fused.blown();
     let stopped = board.is_stopped();
     end_turn(blown, stopped, done)

@@ -1,5 +1,5 @@
 //! How a world begins, and what is declared in it.
-ghost use Rattle.std.specs.Prelude.{◌≡◌, ◌<◌, ◌≤◌, ◌∷◌, ◌++◌, ℕ, true, false, List, [], length, map, slice_get, slice_index_or, replicate, Some, None, Err, IfOk, OnOk, OnErr, IsTrue};
+ghost use Rattle.std.specs.Prelude.{◌≡◌, ◌<◌, ◌≤◌, ◌∷◌, ◌++◌, ℕ, true, false, List, [], length, map, slice_get, slice_index_or, slice_set, replicate, Some, None, Err, IfOk, OnOk, OnErr, IsTrue};
 ghost use Rattle.dg_base.specs.Texts.{spells_name};
 ghost use Rattle.dg_nor.specs.Device.{Device};
 ghost use Rattle.dg_object.specs.Object.{Row, row_of};
@@ -11,28 +11,32 @@ ghost use Rattle.dg_rules.specs.Sizes.{most_motes, most_content};
 ghost use Rattle.dg_rules.specs.World.{World as RuleWorld, first_world, no_site};
 ghost use Rattle.dg_rules.specs.Changes.{same_row, is_taken};
 ghost use Rattle.dg_rules.specs.Steps.{declared_as};
+ghost use Rattle.dg_script.specs.Places.{none_narrow};
 ghost use Rattle.dg_base.specs.declared.events.Key.{Key};
 ghost use Rattle.dg_world.specs.Images.{row_of_image};
 ghost use Rattle.dg_world.specs.Worlds.{IsWorld};
+ghost use Rattle.dg_world.specs.Known.{known_of};
 
 use crate::air::Air;
 use crate::images::{Image, Images};
-use crate::links::Links;
-use crate::shared::Shared;
+use crate::links::{Links, MOST_MOTES};
+use crate::shared::{Shared, mark};
 use crate::world::{DeclareFault, RunningMote, World};
 use dg_base::Bytes;
+use dg_bits::PageBits;
 use dg_rules::Key;
 use std::alloc::{AllocError, Global};
 
 impl World {
     /// A world at moment 0 in which no event was applied, nothing is declared and nothing was sent. No motes are neighbours,
-    /// and all are off.
+    /// none is narrow, and all are off.
     pub fn new(alloc: Global, motes: u8) -> Result<World, AllocError>
         requires some { 1 ≤ motes }
         requires few { motes ≤ most_motes }
-        ensures { IfOk result (λ v. (boards : List Device) (stores : List Store) (table : List Row) → length stores ≡ motes → motes ≤ length boards
+        ensures begins { IfOk result (λ v. (boards : List Device) (stores : List Store) (table : List Row) → length stores ≡ motes → motes ≤ length boards
             → ((m : ℕ) (d : Device) → m < motes → slice_get boards m ≡ Some d → Stands d.image (slice_index_or stores m no_site.store))
-            → IsWorld v boards (first_world table [] stores)) }
+            → IsWorld v boards (first_world table [] none_narrow stores)) }
+        ensures none_known { IfOk result (λ v. (m : ℕ) → known_of v m ≡ false) }
     {
         Ok(World {
             moment: 0,
@@ -40,9 +44,11 @@ impl World {
             shared: Shared {
                 images: Images::new(alloc),
                 links: Links::none(alloc),
+                narrow: [false; MOST_MOTES],
                 air: Air::new(alloc),
             },
             motes: all_off(alloc, motes)?,
+            known: PageBits::none(),
         })
     }
 
@@ -53,6 +59,14 @@ impl World {
         ensures unchanged { OnErr result ((boards : List Device) (w : RuleWorld) → IsWorld self.old boards w → IsWorld self.new boards w) }
     {
         self.shared.links.join(a, b)
+    }
+
+    /// A mote has the old radio: its frames speak of images 1 to 3.
+    pub fn narrow(&mut self, mote: u8)
+        ensures { (boards : List Device) (w : RuleWorld) → IsWorld self.old boards w
+            → IsWorld self.new boards (record w { narrow = slice_set w.narrow mote true }) }
+    {
+        mark(&mut self.shared.narrow, usize::from(mote));
     }
 
     /// Declares an image, unless its key has another name or content.

@@ -5,14 +5,15 @@ ghost use Rattle.dg_nor.specs.Device.{Device, Endures};
 ghost use Rattle.dg_nor.specs.Fuse.{beneath_of};
 ghost use Rattle.dg_nor.specs.Reads.{ActStopped};
 ghost use Rattle.dg_volume.specs.Layout.{most_bytes};
-ghost use Rattle.dg_volume.specs.Sizes.{most_room};
+ghost use Rattle.dg_volume.specs.Sizes.{most_room, new_form};
+ghost use Rattle.dg_control.specs.Store.{HasForm};
 ghost use Rattle.dg_volume.specs.Store.{fresh};
 ghost use Rattle.dg_volume.specs.Stands.{Stands};
 ghost use Rattle.dg_world.specs.Counts.{NoneRose};
 ghost use Rattle.dg_world.specs.Formatted.{FirstBoards, FormatStops};
 
 use dg_nor::{Nor, Stopped};
-use dg_volume::{FormatFault, Volume};
+use dg_volume::{FORM, FormatFault, Volume};
 
 /// A board stopped while it was formatted.
 #[derive(Clone, Copy, Debug, PartialEq, Eq)]
@@ -21,7 +22,7 @@ pub struct FormatStopped {
     pub board: u8,
 }
 
-/// Formats the boards of the first motes with golden, in their order. So many commits are told as spent.
+/// Formats the boards of the first motes with golden, in their order, in today's form. So many commits are told as spent.
 pub fn format_boards<N: Nor>(
     boards: &mut [N],
     motes: u8,
@@ -35,6 +36,7 @@ pub fn format_boards<N: Nor>(
     requires fits { length golden.now ≤ most_bytes }
     requires used { used ≤ most_room }
     ensures formatted { OnOk result ((m : ℕ) (d : Device) → m < motes → slice_get (map N.device boards.new) m ≡ Some d → Stands d.image (fresh name.now golden.now used)) }
+    ensures form { OnOk result ((m : ℕ) (d : Device) → m < motes → slice_get (map N.device boards.new) m ≡ Some d → HasForm d.image new_form) }
     ensures awake { OnOk result ((m : ℕ) (d : Device) → m < motes → slice_get (map N.device boards.old) m ≡ Some d → d.stopped ≡ false) }
     ensures others { FirstBoards motes (map N.device boards.old) (map N.device boards.new) }
     ensures calm { OnOk result (NoneRose (map N.device boards.old) (map N.device boards.new)) }
@@ -56,13 +58,14 @@ fn format_board<N: Nor>(nor: &mut N, name: &[u8], golden: &[u8], used: u32) -> R
     requires fits { length golden.now ≤ most_bytes }
     requires used { used ≤ most_room }
     ensures formatted { OnOk result (Stands (N.device nor.new).image (fresh name.now golden.now used)) }
+    ensures form { OnOk result (HasForm (N.device nor.new).image new_form) }
     ensures awake { OnOk result ((N.device nor.old).stopped ≡ false) }
     ensures stopped { OnErr result (ActStopped (N.device nor.old) (N.device nor.new)) }
     ensures calm { OnOk result ((N.device nor.new).faults ≡ (N.device nor.old).faults) }
     // it is stopped only where it was, or where its count rose
     ensures endures { Endures (beneath_of (N.device nor.old)) (beneath_of (N.device nor.new)) }
 {
-    match Volume::format(nor, golden, name, used) {
+    match Volume::format(nor, golden, name, used, FORM) {
         Ok(()) => Ok(()),
         Err(FormatFault::Stopped) => Err(Stopped),
         Err(FormatFault::Empty | FormatFault::TooLarge) => unreachable!(),

@@ -11,6 +11,7 @@ mod finish;
 mod format;
 mod happening;
 mod images;
+mod knowing;
 mod links;
 mod mount;
 mod sending;

@@ -1,9 +1,11 @@
 //! A step at the board of its mote, and what is told of it.
-ghost use Rattle.std.specs.Prelude.{◌≡◌, ◌+◌, ◌^◌, ◌<◌, ◌≤◌, ◌∷◌, ◌++◌, ℕ, [], None, Some, length, vec_len, option_to_list, OnErr, false};
+ghost use Rattle.std.specs.Prelude.{◌≡◌, ◌+◌, ◌^◌, ◌<◌, ◌≤◌, ◌∷◌, ◌++◌, ℕ, [], None, Some, length, vec_len, option_to_list, OnOk, OnErr, IfOk, IfSome, IsTrue, true, false};
 ghost use Rattle.std.specs.List.{filter};
 ghost use Rattle.std.specs.Vec.{vec_capacity};
+ghost use Rattle.dg_nor.specs.Device.{Took};
+ghost use Rattle.dg_volume.specs.Remount.{RemountBytes};
 ghost use Rattle.dg_volume.specs.Store.{Store};
-ghost use Rattle.dg_volume.specs.Stands.{Stands};
+ghost use Rattle.dg_volume.specs.Stands.{Stands, Tells};
 ghost use Rattle.dg_frame.specs.Grammar.{message_of};
 ghost use Rattle.dg_rules.specs.Sizes.{most_motes};
 ghost use Rattle.dg_rules.specs.World.{World as RuleWorld, site};
@@ -15,12 +17,13 @@ ghost use Rattle.dg_world.specs.Worlds.{SiteStands, MayRun};
 ghost use Rattle.dg_world.specs.Turn.{Refused, Starts};
 ghost use Rattle.dg_world.specs.Turns.{turn_lines, sent_shown};
 ghost use Rattle.dg_world.specs.Tellings.{IsNothing, turn_of, stepped};
-ghost use Rattle.dg_world.specs.Stepped.{CutTold, Stepped};
+ghost use Rattle.dg_world.specs.Stepped.{CutChangesAre, CutTold, Stepped};
 ghost use Rattle.dg_world.specs.Unseen.{RefusesUnseen};
+ghost use Rattle.dg_world.specs.Known.{IsKnownChip, IsOrder, MakesKnown, SeesOrder, SeesCut, StepSees, OrderTakes, InjectTakes};
 
 use crate::cutting::play_cut;
 use crate::events::mote_at;
-use crate::happening::{happen, mount};
+use crate::happening::{happen, mount_known};
 use crate::shared::Shared;
 use crate::shown::{MOST_CHANGES, Shown, push_changes, push_line, show};
 use crate::telling::{Fault, Power, StartLine, Telling};
@@ -28,7 +31,8 @@ use crate::world::RunningMote;
 use dg_frame::{Frame, Message, read};
 use dg_mote::Outbox;
 use dg_nor::Nor;
-use dg_rules::{Cause, Cut, Report, Step};
+use dg_rules::{Cause, Cut, Event, Report, Step};
+use dg_volume::{Volume, a_volume_bounds_a_remount};
 
 /// The most lines that are told of a step.
 pub(crate) const MOST_LINES: usize = MOST_CHANGES + 1;
@@ -52,7 +56,7 @@ fn push_told(mote: u8, telling: &Telling, loud: bool, out: &mut Vec<Report>)
 /// Appends the line on a frame where it is wanted.
 fn push_sent(mote: u8, frame: &Frame, loud: bool, out: &mut Vec<Report>)
     requires room { vec_len out.old + 1 ≤ vec_capacity out.old }
-    ensures told { out.new.items ≡ out.old.items ++ filter (is_told loud) (sent_shown mote (message_of frame.now.items false)) }
+    ensures told { out.new.items ≡ out.old.items ++ filter (is_told loud) (sent_shown mote (message_of frame.now.items true)) }
     ensures room { vec_capacity out.new ≡ vec_capacity out.old }
     ensures few { vec_len out.new ≤ vec_len out.old + 1 }
 {
@@ -63,9 +67,9 @@ fn push_sent(mote: u8, frame: &Frame, loud: bool, out: &mut Vec<Report>)
 
 /// The line on a frame.
 fn sent_line(mote: u8, frame: &Frame) -> Option<Report>
-    ensures { option_to_list result ≡ sent_shown mote (message_of frame.now.items false) }
+    ensures { option_to_list result ≡ sent_shown mote (message_of frame.now.items true) }
 {
-    match read(frame.as_slice(), false) {
+    match read(frame.as_slice(), true) {
         Ok(message) => Some(message_line(mote, &message)),
         Err(_) => None,
     }
@@ -131,41 +135,93 @@ fn push_start(mote: u8, line: StartLine, out: &mut Vec<Report>)
     });
 }
 
-/// Appends the lines of what a cut changed of what is reported, which is read from the board. There is room for them.
-fn look_again<N: Nor>(
-    mote: u8,
-    before: &Shown,
-    board: &mut N,
-    out: &mut Vec<Report>,
-) -> Result<(), Fault>
-    requires room { vec_len out.old + MOST_CHANGES ≤ vec_capacity out.old }
-    ensures told { (s : Store) → Stands (N.device board.old).image s
-        → CutTold result mote (Some before.now) s (N.device board.old) (N.device board.new) out.old.items out.new.items }
-    ensures room { vec_capacity out.new ≡ vec_capacity out.old }
-    ensures few { vec_len out.new ≤ vec_len out.old + MOST_CHANGES }
+/// Whether an event looks at its chip by itself.
+fn is_look(event: &Event) -> bool
+    ensures { (w : RuleWorld) → result ≡ false → MakesKnown w event.now → ⊥ }
 {
-    let volume = mount(board)?;
-    push_changes(mote, before, &show(&volume), out);
-    Ok(())
+    match event {
+        Event::Reset { .. } | Event::Inject { .. } | Event::Order { .. } => true,
+        Event::Tick { .. } | Event::Hear { .. } | Event::Last { .. } | Event::Frame { .. } => false,
+    }
 }
 
-/// The same, where this was reported of the chip before the cut if it may be something else now.
-fn tell_changes<N: Nor>(
+/// Appends the lines of what a cut changed of what is reported, which is read from the board, and answers whether its chip
+/// is orderly. A known board is mounted by halving. There is room for the lines.
+fn look_again<N: Nor>(
     mote: u8,
     before: &Option<Shown>,
+    known: bool,
     board: &mut N,
     out: &mut Vec<Report>,
-) -> Result<(), Fault>
+) -> Result<bool, Fault>
+    requires known_chip { IsTrue known → IsKnownChip (N.device board.old).image }
     requires room { vec_len out.old + MOST_CHANGES ≤ vec_capacity out.old }
     ensures told { (s : Store) → Stands (N.device board.old).image s
         → CutTold result mote before.now s (N.device board.old) (N.device board.new) out.old.items out.new.items }
+    ensures sees { IfOk result (λ orderly. SeesOrder orderly (N.device board.new).image) }
+    ensures took { IsTrue known → (n : ℕ) → RemountBytes (N.device board.old).image n → Took n (N.device board.old) (N.device board.new) }
+    ensures room { vec_capacity out.new ≡ vec_capacity out.old }
+    ensures few { vec_len out.new ≤ vec_len out.old + MOST_CHANGES }
+{
+    let volume = mount_known(board, known)?;
+    tell_changes(mote, before, &volume, out);
+    Ok(volume.orderly())
+}
+
+/// Appends the lines of what is reported of a volume now, where this was reported of it before.
+fn tell_changes(mote: u8, before: &Option<Shown>, volume: &Volume, out: &mut Vec<Report>)
+    requires room { vec_len out.old + MOST_CHANGES ≤ vec_capacity out.old }
+    ensures told { (s : Store) → Tells volume.now s → CutChangesAre mote before.now s out.old.items out.new.items }
     ensures room { vec_capacity out.new ≡ vec_capacity out.old }
     ensures few { vec_len out.new ≤ vec_len out.old + MOST_CHANGES }
 {
     match before {
-        None => Ok(()),
-        Some(before) => look_again(mote, before, board, out),
+        None => {}
+        Some(before) => push_changes(mote, before, &show(volume), out),
     }
+}
+
+/// Whether a board that is known or not is mounted by halving after a cut: where the cut event was an order, which leaves
+/// a known board so.
+fn is_kept_known(known: bool, event: &Event) -> bool
+    ensures only { IsTrue result → (known ≡ true) × IsOrder event.now }
+    ensures each { (known ≡ true) → IsOrder event.now → IsTrue result }
+{
+    match event {
+        Event::Order { .. } => known,
+        Event::Tick { .. }
+        | Event::Hear { .. }
+        | Event::Last { .. }
+        | Event::Frame { .. }
+        | Event::Reset { .. }
+        | Event::Inject { .. } => false,
+    }
+}
+
+/// The same where the board is looked at: where what is reported may be something else now, or its order is to be known.
+fn look_after_cut<N: Nor>(
+    mote: u8,
+    event: &Event,
+    before: &Option<Shown>,
+    known: bool,
+    board: &mut N,
+    out: &mut Vec<Report>,
+) -> Result<Option<bool>, Fault>
+    requires known_chip { (known ≡ true) → IsOrder event.now → IsKnownChip (N.device board.old).image }
+    requires room { vec_len out.old + MOST_CHANGES ≤ vec_capacity out.old }
+    ensures told { (s : Store) → Stands (N.device board.old).image s
+        → CutTold result mote before.now s (N.device board.old) (N.device board.new) out.old.items out.new.items }
+    ensures sees { IfOk result (λ seen. (w : RuleWorld) → SeesCut w event.now known seen (N.device board.new).image) }
+    ensures took { (known ≡ true) → IsOrder event.now → (n : ℕ) → RemountBytes (N.device board.old).image n → Took n (N.device board.old) (N.device board.new) }
+    ensures room { vec_capacity out.new ≡ vec_capacity out.old }
+    ensures few { vec_len out.new ≤ vec_len out.old + MOST_CHANGES }
+{
+    if before.is_none() && !known && !is_look(event) {
+        return Ok(None);
+    }
+    let again = is_kept_known(known, event);
+    let orderly = look_again(mote, before, again, board, out)?;
+    Ok(Some(orderly))
 }
 
 /// A step without a cut at the board of its mote, whose frame is left in the outbox. There is room for what is told of it.
@@ -174,6 +230,7 @@ fn step_whole<N: Nor>(
     runs: &mut Option<RunningMote>,
     now: u64,
     step: &Step,
+    known: bool,
     loud: bool,
     board: &mut N,
     telling: &mut Telling,
@@ -183,16 +240,22 @@ fn step_whole<N: Nor>(
     requires fits { (motes : ℕ) × StepFits motes step.now × (motes ≤ most_motes) }
     requires uncut { step.now.cut ≡ None }
     requires mote { MayRun (N.device board.old).image now runs.old }
+    requires known_chip { IsTrue known → IsKnownChip (N.device board.old).image }
     requires moment { now < 2 ^ 62 }
     requires nothing { IsNothing telling.old }
     ensures steps { (w : RuleWorld) → StepFits (length w.sites) step.now → IsShared shared.now w → SiteStands (N.device board.old) runs.old (site w (mote_of step.now.event))
         → now ≡ w.moment + dt_of step.now.event
         → Stepped (stepped result telling.new) w step.now loud runs.new (N.device board.old) (N.device board.new) out.old.items out.new.items }
+    ensures sees { OnOk result ((w : RuleWorld) → IsShared shared.now w → SiteStands (N.device board.old) runs.old (site w (mote_of step.now.event)) → now ≡ w.moment + dt_of step.now.event
+        → StepSees w step.now.event known telling.new.orderly runs.new (N.device board.old).image (N.device board.new).image) }
+    ensures order_reads { IsTrue known → OrderTakes step.now.event (N.device board.old) (N.device board.new) }
+    ensures inject_reads { OnOk result (IsTrue known → (w : RuleWorld) → IsShared shared.now w → SiteStands (N.device board.old) runs.old (site w (mote_of step.now.event)) → now ≡ w.moment + dt_of step.now.event
+        → InjectTakes w step.now.event (N.device board.old) (N.device board.new)) }
     ensures unseen { (w : RuleWorld) → IsShared shared.now w → SiteStands (N.device board.old) runs.old (site w (mote_of step.now.event)) → now ≡ w.moment + dt_of step.now.event
         → RefusesUnseen (does w step.now.event) → (board.new ≡ board.old) × OnErr result ⊥ }
 {
     let mote = mote_at(&step.event);
-    happen(shared, runs, now, &step.event, board, telling)?;
+    happen(shared, runs, now, &step.event, known, board, telling)?;
     push_told(mote, telling, loud, out);
     Ok(())
 }
@@ -204,6 +267,7 @@ fn step_cut<N: Nor>(
     now: u64,
     step: &Step,
     cut: &Cut,
+    known: bool,
     loud: bool,
     board: &mut N,
     telling: &mut Telling,
@@ -213,19 +277,27 @@ fn step_cut<N: Nor>(
     requires fits { (motes : ℕ) × StepFits motes step.now × (motes ≤ most_motes) }
     requires cut { step.now.cut ≡ Some cut.now }
     requires mote { MayRun (N.device board.old).image now runs.old }
+    requires known_chip { IsTrue known → IsKnownChip (N.device board.old).image }
     requires moment { now < 2 ^ 62 }
     requires nothing { IsNothing telling.old }
     ensures steps { (w : RuleWorld) → StepFits (length w.sites) step.now → IsShared shared.now w → SiteStands (N.device board.old) runs.old (site w (mote_of step.now.event))
         → now ≡ w.moment + dt_of step.now.event
         → Stepped (stepped result telling.new) w step.now loud runs.new (N.device board.old) (N.device board.new) out.old.items out.new.items }
+    ensures sees { OnOk result ((w : RuleWorld) → IsShared shared.now w → SiteStands (N.device board.old) runs.old (site w (mote_of step.now.event)) → now ≡ w.moment + dt_of step.now.event
+        → StepSees w step.now.event known telling.new.orderly runs.new (N.device board.old).image (N.device board.new).image) }
+    ensures order_reads { IsTrue known → OrderTakes step.now.event (N.device board.old) (N.device board.new) }
+    ensures inject_reads { OnOk result (IsTrue known → (w : RuleWorld) → IsShared shared.now w → SiteStands (N.device board.old) runs.old (site w (mote_of step.now.event)) → now ≡ w.moment + dt_of step.now.event
+        → InjectTakes w step.now.event (N.device board.old) (N.device board.new)) }
     ensures unseen { (w : RuleWorld) → IsShared shared.now w → SiteStands (N.device board.old) runs.old (site w (mote_of step.now.event)) → now ≡ w.moment + dt_of step.now.event
         → RefusesUnseen (does w step.now.event) → (board.new ≡ board.old) × OnErr result ⊥ }
 {
     let mote = mote_at(&step.event);
-    match play_cut(shared, runs, now, &step.event, cut, board, telling)? {
+    match play_cut(shared, runs, now, &step.event, cut, known, board, telling)? {
         Power::Stays => push_told(mote, telling, loud, out),
         Power::Cut => {
-            tell_changes(mote, &telling.before, board, out)?;
+            a_volume_bounds_a_remount();
+            let orderly = look_after_cut(mote, &step.event, &telling.before, known, board, out)?;
+            telling.orderly = orderly;
             out.push_reserved(Report::Off { mote });
             *runs = None;
             telling.outbox = Outbox::new();
@@ -240,6 +312,7 @@ pub(crate) fn step_at<N: Nor>(
     runs: &mut Option<RunningMote>,
     now: u64,
     step: &Step,
+    known: bool,
     loud: bool,
     board: &mut N,
     telling: &mut Telling,
@@ -248,16 +321,24 @@ pub(crate) fn step_at<N: Nor>(
     requires room { vec_len out.old + MOST_LINES ≤ vec_capacity out.old }
     requires fits { (motes : ℕ) × StepFits motes step.now × (motes ≤ most_motes) }
     requires mote { MayRun (N.device board.old).image now runs.old }
+    requires known_chip { IsTrue known → IsKnownChip (N.device board.old).image }
     requires moment { now < 2 ^ 62 }
     requires nothing { IsNothing telling.old }
     ensures steps { (w : RuleWorld) → StepFits (length w.sites) step.now → IsShared shared.now w → SiteStands (N.device board.old) runs.old (site w (mote_of step.now.event))
         → now ≡ w.moment + dt_of step.now.event
         → Stepped (stepped result telling.new) w step.now loud runs.new (N.device board.old) (N.device board.new) out.old.items out.new.items }
+    ensures sees { OnOk result ((w : RuleWorld) → IsShared shared.now w → SiteStands (N.device board.old) runs.old (site w (mote_of step.now.event)) → now ≡ w.moment + dt_of step.now.event
+        → StepSees w step.now.event known telling.new.orderly runs.new (N.device board.old).image (N.device board.new).image) }
+    ensures order_reads { IsTrue known → OrderTakes step.now.event (N.device board.old) (N.device board.new) }
+    ensures inject_reads { OnOk result (IsTrue known → (w : RuleWorld) → IsShared shared.now w → SiteStands (N.device board.old) runs.old (site w (mote_of step.now.event)) → now ≡ w.moment + dt_of step.now.event
+        → InjectTakes w step.now.event (N.device board.old) (N.device board.new)) }
     ensures unseen { (w : RuleWorld) → IsShared shared.now w → SiteStands (N.device board.old) runs.old (site w (mote_of step.now.event)) → now ≡ w.moment + dt_of step.now.event
         → RefusesUnseen (does w step.now.event) → (board.new ≡ board.old) × OnErr result ⊥ }
 {
     match &step.cut {
-        None => step_whole(shared, runs, now, step, loud, board, telling, out),
-        Some(cut) => step_cut(shared, runs, now, step, cut, loud, board, telling, out),
+        None => step_whole(shared, runs, now, step, known, loud, board, telling, out),
+        Some(cut) => step_cut(
+            shared, runs, now, step, cut, known, loud, board, telling, out,
+        ),
     }
 }

@@ -24,6 +24,8 @@ pub(crate) struct Telling {
     /// What is reported of it after the event.
     pub(crate) after: Option<Shown>,
     pub(crate) started: Option<StartLine>,
+    /// Whether the chip is orderly, where an act on its volume or a look at it told that.
+    pub(crate) orderly: Option<bool>,
     /// The frame that is sent.
     pub(crate) outbox: Outbox,
 }
@@ -38,6 +40,7 @@ impl Telling {
             before: None,
             after: None,
             started: None,
+            orderly: None,
             outbox: Outbox::new(),
         }
     }

@@ -1,5 +1,6 @@
 //! The world as the code keeps it.
 use crate::shared::Shared;
+use dg_bits::PageBits;
 use dg_mote::Mote;
 use dg_rules::Key;
 
@@ -9,6 +10,9 @@ pub struct RunningMote {
     pub(crate) key: Key,
     pub(crate) mote: Mote,
 }
+
+/// The most motes of a world.
+pub(crate) const MOST_MOTES: usize = 16;
 
 /// A world of 1 to 16 motes. Their boards stand beside it.
 #[derive(Drop)]
@@ -20,6 +24,8 @@ pub struct World {
     pub(crate) shared: Shared,
     /// Each mote, None where it is off.
     pub(crate) motes: Vec<Option<RunningMote>>,
+    /// The motes whose boards are known: they may be mounted again by halving.
+    pub(crate) known: PageBits<MOST_MOTES>,
 }
 
 /// Why an image is not declared. Nothing has changed.

@@ -1,7 +1,7 @@
 use Rattle.std.proofs.Common.{◌≡◌, ℕ, List, Option, ap, sym, ◌∙◌, subst, refl, Some}
 use Rattle.std.specs.Prelude.{◌&&◌, not}
 use Rattle.dg_nor.specs.Device.{Device}
-use Rattle.dg_nor.specs.Fuse.{inner_of}
+use Rattle.dg_nor.specs.Fuse.{inner_of, fused_device}
 use Rattle.dg_nor.proofs.FuseLemmas.{same_reference}
 use Rattle.dg_volume.specs.Stands.{Stands}
 use Rattle.dg_rules.specs.World.{Site, site}
@@ -12,6 +12,10 @@ use Rattle.dg_world.specs.Cuts.{ended, Played}
 use Rattle.dg_world.specs.Tellings.{turned, ended_as}
 use Rattle.dg_world.proofs.CutLemmas.{is_fused, fused, played_as}
 use Rattle.dg_world.proofs.UnseenLemmas.{ended_on}
+use Rattle.std.proofs.Common.{Ok}
+use Rattle.dg_world.specs.Known.{IsKnownChip, EventSees, EventReads}
+use Rattle.dg_world.specs.declared.telling.Power.TheVariants as power
+use Rattle.dg_world.proofs.KnownLemmas.{reads_over, stays_done, when_ok}
 use Rattle.dg_world.proofs.cutting.play_cut.Goals as goal
 
 -- the fuse begins over the board's bytes
@@ -56,3 +60,34 @@ returns-clause-unseen g c = λ w shared stands at unseen.
     let here = begun (device c.args.board.now) _ c.args.runs.now (site w (mote_of c.args.event.now)) (ap (λ (d : Device). d.image) made) stands in
     let stays = c.happen-done.ensures.unseen w shared here at unseen in
     (last ∙ ap inner_of stays.0 ∙ c.fuse_of-fused.ensures.inner, ended_on c.end_turn.result c.happen-done.result _ c.happen-done.new.telling (c.end_turn.ensures c.happen-done.new.telling) stays.1)
+
+pub happen-done-requires-clause-known_chip : goal.happen-done-requires-clause-known_chip
+happen-done-requires-clause-known_chip g c = λ known.
+    let made = ap (λ (d : Device). d.image) c.fuse_of-fused.ensures.device in
+    subst (λ (i : List ℕ). IsKnownChip i) (sym made) (c.requires.known_chip known)
+
+pub returns-clause-reads : goal.returns-clause-reads
+returns-clause-reads g c =
+    let device = g.N.Nor.device in
+    let made = c.fuse_of-fused.ensures.device in
+    let t = c.happen-done.new.telling in
+    let name = sym (same_reference device c.fuse_of-fused.result c.happen-done.new.board c.happen-done.ensures.same_reference ∙ c.fuse_of-fused.ensures.same_reference) in
+    let last = c.board-1.given.1 name in
+    let y = c.happen-done.new.board in
+    let P : g.row.N.Denot → Type 0 = λ x. EventReads c.args.event.now c.args.known (c.end_turn.result ≡ Ok power.Stays) t.refused (device c.args.board.now) (device x) in
+    subst P (sym last)
+    (reads_over c.args.event.now c.args.known _ (c.end_turn.result ≡ Ok power.Stays) t.refused _ (fused_device device y) (device c.args.board.now) (device (inner_of y)) (λ is. stays_done c.end_turn.result c.happen-done.result _ t (c.end_turn.ensures t) is)
+    (ap (λ (d : Device). d.image) made) refl (ap (λ (d : Device). d.taken) made) refl c.happen-done.ensures.reads)
+
+pub returns-clause-sees : goal.returns-clause-sees
+returns-clause-sees g c = λ is.
+    let device = g.N.Nor.device in
+    let made = c.fuse_of-fused.ensures.device in
+    let t = c.happen-done.new.telling in
+    let name = sym (same_reference device c.fuse_of-fused.result c.happen-done.new.board c.happen-done.ensures.same_reference ∙ c.fuse_of-fused.ensures.same_reference) in
+    let last = c.board-1.given.1 name in
+    let y = c.happen-done.new.board in
+    let u = c.happen-done.new.runs in
+    let P : g.row.N.Denot → Type 0 = λ x. EventSees c.args.event.now t u (device c.args.board.now).image (device x).image in
+    let sees = when_ok c.happen-done.result c.happen-done.ensures.sees (stays_done c.end_turn.result c.happen-done.result _ t (c.end_turn.ensures t) is) in
+    subst P (sym last) (subst (λ (i : List ℕ). EventSees c.args.event.now t u i (device (inner_of y)).image) (ap (λ (d : Device). d.image) made) sees)

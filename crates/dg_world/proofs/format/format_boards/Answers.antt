@@ -23,6 +23,6 @@ loop-board-preserved g c =
     let there : c.from.result < length c.loop-board.boards = omega (arith, c.from.ensures, c.loop-board-test.true, c.requires.boards, within_boards g.N.Nor.device c.args.boards.now c.loop-board.boards i.to.boards.count) in
     let used = used_there g.N.Nor.device c.loop-board.boards c.loop-board.board c.from.result c.index-boards-from.result c.format_board.new.nor c.from.ensures there in
     record {
-      to = formatted_more _ _ _ _ _ _ _ i.to used c.format_board.ensures.endures c.in-Ok.ensures.awake c.in-Ok.ensures.calm c.in-Ok.ensures.formatted;
+      to = formatted_more _ _ _ _ _ _ _ i.to used c.format_board.ensures.endures c.in-Ok.ensures.awake c.in-Ok.ensures.calm c.in-Ok.ensures.formatted c.in-Ok.ensures.form;
       within = omega (arith, c.loop-board-test.true);
     }

@@ -11,6 +11,7 @@ use Rattle.dg_world.specs.Tellings.{turn_of, turned}
 use Rattle.dg_world.specs.declared.telling.Telling.{Telling}
 use Rattle.dg_world.proofs.TellingLemmas.{turned_err, told_as, is_changed, is_refused}
 use Rattle.dg_world.proofs.InjectLemmas.{inject_begun, injected, inject_faulted, cause_stopped, cause_refused, stop_stopped, stop_refused}
+use Rattle.dg_world.proofs.KnownLemmas.{not_stopped, found_cause, same_order, inject_same, not_refused, inject_reads}
 use Rattle.dg_world.proofs.happening.inject_image.Goals as goal
 
 pub returns-in_err-volume-clause-ends : goal.returns-in_err-volume-clause-ends
@@ -92,3 +93,34 @@ returns-in_ok-inject_fault-in-Err-clause-ends g c = λ w m stands.
     (e.allowed s mounted) (λ other. e.refused fault refl other s mounted) c.in_ok-volume.ensures.looked
     (λ other not_taken. (e.unchanged fault refl other not_taken).0) (λ is. (e.taken (ap (λ e. Err e) is)).0) (λ is. e.stopped (ap (λ e. Err e) is) s mounted)
     (c.show.ensures s mounted.tells))
+
+pub returns-in-Ok-clause-sees : goal.returns-in-Ok-clause-sees
+returns-in-Ok-clause-sees g c =
+    let v = c.in_ok-volume.ensures.volume in
+    let acted = c.in-Ok.ensures.acted v.0 v.1 in
+    c.orderly.ensures (g.N.Nor.device c.inject.new.nor).image acted.mounted.control
+
+pub returns-in_ok-inject_fault-in-Err-clause-sees : goal.returns-in_ok-inject_fault-in-Err-clause-sees
+returns-in_ok-inject_fault-in-Err-clause-sees g c =
+    let device = g.N.Nor.device in
+    let v = c.in_ok-volume.ensures.volume in
+    let q = c.in_ok-inject_fault-in-Err in
+    let e = c.in-Err.ensures in
+    let fault = c.in-Err.fault in
+    let other = not_stopped (fault ≡ inject.Stopped) c.inject_fault.result q.field-0 q.was c.inject_fault.ensures.stopped in
+    same_order c.orderly-in-Err.result c.in_ok-volume.volume c.inject.new.self (device c.mount_known.new.board) (device c.inject.new.nor)
+    (inject_same fault _ _ _ _ (λ not_taken. e.unchanged fault refl other not_taken) (λ is. e.taken (ap (λ e. Err e) is))) v.1.control c.orderly-in-Err.ensures
+
+pub returns-in-Ok-clause-reads : goal.returns-in-Ok-clause-reads
+returns-in-Ok-clause-reads g c = not_refused c.args.known c.args.telling.now.refused _ _ c.requires.nothing.refused
+
+pub returns-in_ok-inject_fault-in-Err-clause-reads : goal.returns-in_ok-inject_fault-in-Err-clause-reads
+returns-in_ok-inject_fault-in-Err-clause-reads g c =
+    let q = c.in_ok-inject_fault-in-Err in
+    let e = c.in-Err.ensures in
+    let fault = c.in-Err.fault in
+    let row = row_of c.args.key.image c.args.key.version c.as_slice-name.result.now c.as_slice-content.result.now in
+    let told = c.inject_fault.ensures in
+    let other = not_stopped (fault ≡ inject.Stopped) c.inject_fault.result q.field-0 q.was told.stopped in
+    inject_reads fault row c.args.known q.field-0 _ (g.N.Nor.device c.mount_known.new.board) _ (found_cause c.inject_fault.result q.field-0 (inject_cause row fault) q.was (told.refused other row refl))
+    c.mount_known.ensures.took (λ not_taken. (e.unchanged fault refl other not_taken).0) (λ is. e.took (ap (λ e. Err e) is))

@@ -8,6 +8,8 @@ use Rattle.dg_world.specs.Tellings.{turn_of, turned}
 use Rattle.dg_world.specs.declared.telling.Telling.{Telling}
 use Rattle.dg_world.proofs.TellingLemmas.{turned_err, told_as, is_changed, is_refused}
 use Rattle.dg_world.proofs.InjectLemmas.{order_begins, ordered, order_faulted, cause_stopped, cause_refused, stop_stopped, stop_refused}
+use Rattle.dg_nor.specs.Device.{Device}
+use Rattle.dg_world.proofs.KnownLemmas.{not_stopped, same_order, order_reads, mount_reads, order_volume}
 use Rattle.dg_world.proofs.happening.order.Goals as goal
 
 pub returns-in_err-volume-clause-ends : goal.returns-in_err-volume-clause-ends
@@ -67,3 +69,36 @@ returns-in_ok-order_fault-in-Err-clause-ends g c = λ w m stands.
     (cause_refused (fault ≢ order_fault.Stopped) c.order_fault.result q.field-0 (order_cause fault) (turn_of t) q.was told.refused (is_refused _ q.field-0 _ _ _ c.requires.nothing.sent))
     (e.allowed s mounted) (λ other. e.refused fault refl other s mounted) c.in_ok-volume.ensures.looked
     (λ other. (e.unchanged fault refl other).0) (λ is. e.stopped (ap (λ e. Err e) is) s mounted) (c.show.ensures s mounted.tells)
+
+pub returns-in-Ok-clause-sees : goal.returns-in-Ok-clause-sees
+returns-in-Ok-clause-sees g c =
+    let v = c.in_ok-volume.ensures.volume in
+    let acted = c.in-Ok.ensures.acted v.0 v.1 in
+    c.orderly.ensures (g.N.Nor.device c.order.new.nor).image acted.mounted.control
+
+pub returns-in_ok-order_fault-in-Err-clause-sees : goal.returns-in_ok-order_fault-in-Err-clause-sees
+returns-in_ok-order_fault-in-Err-clause-sees g c =
+    let device = g.N.Nor.device in
+    let v = c.in_ok-volume.ensures.volume in
+    let q = c.in_ok-order_fault-in-Err in
+    let fault = c.in-Err.fault in
+    let same = c.in-Err.ensures.unchanged fault refl (not_stopped (fault ≡ order_fault.Stopped) c.order_fault.result q.field-0 q.was c.order_fault.ensures.stopped) in
+    same_order c.orderly-in-Err.result c.in_ok-volume.volume c.order.new.self (device c.mount_known.new.board) (device c.order.new.nor) (ap (λ (d : Device). d.image) same.0, same.1) v.1.control c.orderly-in-Err.ensures
+
+pub returns-in_err-volume-clause-reads : goal.returns-in_err-volume-clause-reads
+returns-in_err-volume-clause-reads g c = mount_reads c.args.known _ _ c.a_volume_bounds_a_remount.ensures.one c.mount_known.ensures.took c.mount_known.ensures.same_image
+
+pub returns-in-Ok-clause-reads : goal.returns-in-Ok-clause-reads
+returns-in-Ok-clause-reads g c = order_reads c.args.known _ (g.N.Nor.device c.mount_known.new.board) _ c.mount_known.ensures.took c.mount_known.ensures.same_image c.order.ensures.same_taken
+    (let v = c.in_ok-volume.ensures.volume in let x = (c.in-Ok.ensures.acted v.0 v.1).mounted.stands in (_, x))
+    c.order.ensures.orderly c.order.ensures.bytes
+
+pub returns-in_err-order_fault-in-Err-clause-reads : goal.returns-in_err-order_fault-in-Err-clause-reads
+returns-in_err-order_fault-in-Err-clause-reads g c = order_reads c.args.known _ (g.N.Nor.device c.mount_known.new.board) _ c.mount_known.ensures.took c.mount_known.ensures.same_image c.order.ensures.same_taken
+    (let v = c.in_ok-volume.ensures.volume in order_volume c.in-Err.fault (g.N.Nor.device c.mount_known.new.board) _ (v.0, v.1.stands) (λ is. let x = (c.in-Err.ensures.stopped (ap (λ e. Err e) is) v.0 v.1).leaves in (x.store, x.stands_for)) (λ other. (c.in-Err.ensures.unchanged c.in-Err.fault refl other).0))
+    c.order.ensures.orderly c.order.ensures.bytes
+
+pub returns-in_ok-order_fault-in-Err-clause-reads : goal.returns-in_ok-order_fault-in-Err-clause-reads
+returns-in_ok-order_fault-in-Err-clause-reads g c = order_reads c.args.known _ (g.N.Nor.device c.mount_known.new.board) _ c.mount_known.ensures.took c.mount_known.ensures.same_image c.order.ensures.same_taken
+    (let v = c.in_ok-volume.ensures.volume in order_volume c.in-Err.fault (g.N.Nor.device c.mount_known.new.board) _ (v.0, v.1.stands) (λ is. let x = (c.in-Err.ensures.stopped (ap (λ e. Err e) is) v.0 v.1).leaves in (x.store, x.stands_for)) (λ other. (c.in-Err.ensures.unchanged c.in-Err.fault refl other).0))
+    c.order.ensures.orderly c.order.ensures.bytes

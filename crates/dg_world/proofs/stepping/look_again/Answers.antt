@@ -1,5 +1,5 @@
 use Rattle.std.proofs.Common.{refl}
-use Rattle.dg_world.proofs.StepLemmas.{changes_appended, reading_stopped}
+use Rattle.dg_world.proofs.StepLemmas.{read_told, reading_stopped}
 use Rattle.dg_world.proofs.stepping.look_again.Goals as goal
 
 pub returns-in_err-volume-clause-told : goal.returns-in_err-volume-clause-told
@@ -8,4 +8,7 @@ returns-in_err-volume-clause-told g c = λ s stands.
 
 pub returns-clause-told : goal.returns-clause-told
 returns-clause-told g c = λ s stands.
-    changes_appended c.args.mote c.args.before.now c.show.result s _ _ c.args.out.now.items _ (c.show.ensures s (c.in_ok-volume.ensures.mounted s stands).tells) c.in_ok-volume.ensures.looked c.push_changes.ensures.told
+    read_told c.orderly.result c.args.mote c.args.before.now s _ _ c.args.out.now.items _ (c.tell_changes.ensures.told s (c.in_ok-volume.ensures.mounted s stands).tells) c.in_ok-volume.ensures.looked
+
+pub returns-clause-sees : goal.returns-clause-sees
+returns-clause-sees g c = let v = c.in_ok-volume.ensures.volume in c.orderly.ensures (g.N.Nor.device c.mount_known.new.board).image v.1.control

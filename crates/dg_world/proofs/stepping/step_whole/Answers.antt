@@ -9,6 +9,7 @@ use Rattle.dg_world.proofs.CutLemmas.{uncut, halted, played_as}
 use Rattle.dg_world.proofs.TellingLemmas.{frame_told}
 use Rattle.dg_world.proofs.DoneLemmas.{step_turn, step_fails, event_mote}
 use Rattle.dg_world.proofs.UnseenLemmas.{not_err}
+use Rattle.dg_world.proofs.KnownLemmas.{step_sees, turn_refused, refused_turn, refused_told, inject_takes, order_takes}
 use Rattle.dg_world.proofs.stepping.step_whole.Goals as goal
 
 pub happen-requires-clause-fits : goal.happen-requires-clause-fits
@@ -39,3 +40,27 @@ returns-clause-unseen g c = λ w shared stands at unseen. ((c.happen.ensures.uns
 
 pub returns-in_err-happen-clause-unseen : goal.returns-in_err-happen-clause-unseen
 returns-in_err-happen-clause-unseen g c = λ w shared stands at unseen. not_err c.happen.result _ c.in_err-happen.was (c.happen.ensures.unseen w shared stands at unseen).1
+
+pub returns-clause-sees : goal.returns-clause-sees
+returns-clause-sees g c = λ w shared stands at.
+    let x = c.args.step.now in
+    let t = c.happen.new.telling in
+    let a = g.N.Nor.device c.args.board.now in
+    let b = g.N.Nor.device c.happen.new.board in
+    let ends = c.in_ok-happen.ensures.ends w shared stands at in
+    step_sees w c.args.known c.happen.new.runs a.image b.image x.event t c.in_ok-happen.ensures.sees (turn_refused w (mote_of x.event) (does w x.event) _ _ a b (turn_of t) ends)
+
+pub returns-clause-inject_reads : goal.returns-clause-inject_reads
+returns-clause-inject_reads g c = λ known w shared stands at.
+    let x = c.args.step.now in
+    let t = c.happen.new.telling in
+    let a = g.N.Nor.device c.args.board.now in
+    let b = g.N.Nor.device c.happen.new.board in
+    let ends = c.in_ok-happen.ensures.ends w shared stands at in
+    inject_takes w x.event c.args.known _ t.refused a b known tt c.in_ok-happen.ensures.reads (λ why refuses. refused_told t why (refused_turn w (mote_of x.event) (does w x.event) _ _ a b (turn_of t) ends why refuses))
+
+pub returns-clause-order_reads : goal.returns-clause-order_reads
+returns-clause-order_reads g c = λ known. order_takes c.args.step.now.event c.args.known _ c.happen.new.telling.refused _ _ known c.happen.ensures.reads
+
+pub returns-in_err-happen-clause-order_reads : goal.returns-in_err-happen-clause-order_reads
+returns-in_err-happen-clause-order_reads g c = λ known. order_takes c.args.step.now.event c.args.known _ c.happen.new.telling.refused _ _ known c.happen.ensures.reads

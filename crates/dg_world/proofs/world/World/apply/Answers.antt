@@ -1,5 +1,6 @@
 use Rattle.std.proofs.Common.{refl, ⊎_elim, arith}
 use Rattle.dg_world.proofs.PlaceLemmas.{reserved, on_ok}
+use Rattle.dg_world.proofs.KnownLemmas.{same_takes}
 use Rattle.dg_world.proofs.SoundLemmas.{applied_consistent, flash_consistent}
 use Rattle.dg_world.proofs.world.World.apply.Goals as goal
 
@@ -54,3 +55,18 @@ returns-clause-stops_consistent g c = λ golden board fault here.
     flash_consistent golden c.args.self.now _ _ x.0 c.args.step.now board x.1 x.2 here
     (λ w. c.consistency_is_kept.ensures.stopped golden w c.args.step.now.event)
     (c.apply_roomy.ensures.flash board fault here.world (reserved c.args.self.now c.reserve.new.self _ here.world c.reserve.ensures.same here.stands))
+
+pub returns-clause-known : goal.returns-clause-known
+returns-clause-known g c = on_ok c.apply_roomy.result (λ knows w is. record { exactly = (knows w (reserved c.args.self.now c.reserve.new.self _ w c.reserve.ensures.same is)).exactly }) c.apply_roomy.ensures.known
+
+pub returns-clause-order_reads : goal.returns-clause-order_reads
+returns-clause-order_reads g c = λ w m a b is. c.apply_roomy.ensures.order_reads w m a b (reserved c.args.self.now c.reserve.new.self _ w c.reserve.ensures.same is)
+
+pub returns-clause-inject_reads : goal.returns-clause-inject_reads
+returns-clause-inject_reads g c = on_ok c.apply_roomy.result (λ reads w m a b is. reads w m a b (reserved c.args.self.now c.reserve.new.self _ w c.reserve.ensures.same is)) c.apply_roomy.ensures.inject_reads
+
+pub returns-then-is_err-clause-order_reads : goal.returns-then-is_err-clause-order_reads
+returns-then-is_err-clause-order_reads g c = λ w m a b is at is_known old new. same_takes c.args.step.now.event a b _ old new
+
+pub returns-then-self-ge-MOST_EVENTS-clause-order_reads : goal.returns-then-self-ge-MOST_EVENTS-clause-order_reads
+returns-then-self-ge-MOST_EVENTS-clause-order_reads g c = λ w m a b is at is_known old new. same_takes c.args.step.now.event a b _ old new

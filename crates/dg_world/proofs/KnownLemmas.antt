@@ -1,0 +1,423 @@
+-- What an event sees of the order of its chip, and what it reads.
+use Rattle.std.proofs.Common.{◌≡◌, ◌≢◌, ◌⊎◌, ℕ, ◌+◌, ◌*◌, ◌≤◌, ◌||◌, ◌&&◌, not, eqb, Bool, true, false, List, refl, sym, ap, ◌∙◌, subst, inl, inr, ⊎_elim, arith}
+use Rattle.std.specs.Prelude.{Option, Some, None, Result, Ok, Err, OnOk, OnErr, IfSome, IsSomeAnd, ◌↔◌, if◌then◌else◌, ◌==◌, is_none}
+use Rattle.dg_nor.specs.Device.{Device, Took, RisesAtMost}
+use Rattle.dg_nor.specs.Reads.{Looked}
+use Rattle.dg_nor.proofs.TakenLemmas.{Took-same, Took_then, Took-more}
+use Rattle.dg_control.specs.Store.{IsOrderlyChip}
+use Rattle.dg_control.specs.Sizes.{place_size}
+use Rattle.dg_control.specs.Mounted.{IsControlOf}
+use Rattle.dg_object.specs.Object.{Row}
+use Rattle.dg_slot.specs.Layout.{page_size}
+use Rattle.dg_volume.specs.Remount.{RemountBytes}
+use Rattle.dg_volume.specs.Stands.{control_of, IsVolume}
+use Rattle.dg_volume.specs.declared.volume.InjectFault.{InjectFault}
+use Rattle.dg_volume.specs.declared.volume.InjectFault.TheVariants as inject
+use Rattle.dg_volume.specs.declared.volume.Volume.{Volume}
+use Rattle.dg_rules.specs.World.{World as RuleWorld, Running, store_at, wide_at}
+use Rattle.dg_rules.specs.Events.{Deed, Does, Refuses, Goes, does, mote_of, knows, injects, orders, inject_cause, inject_row}
+use Rattle.dg_volume.specs.Store.{Store}
+use Rattle.dg_volume.specs.Changes.{order_refusal}
+use Rattle.dg_volume.specs.Table.{row_at}
+use Rattle.dg_control.specs.declared.snapshot.Order.{Order}
+use Rattle.dg_mote.specs.Motes.{volume_of, sent_in}
+use Rattle.dg_bits.proofs.SetLaws.{contains-none, contains-put, contains-without}
+use Rattle.dg_bits.specs.Sets.{Numbers}
+use Rattle.std.specs.FinSet as set
+use Rattle.std.proofs.lemmas.Bool.Decides.{nat_tests}
+use Rattle.std.proofs.lemmas.Option.{same_Some}
+use Rattle.dg_base.specs.declared.events.Cut.{Cut as PowerCut}
+use Rattle.dg_base.specs.declared.events.Event.TheVariants.{Tick, Hear, Last, Reset, Inject, Order as OrderEvent, Frame}
+use Rattle.dg_world.specs.Worlds.{MoteStands}
+use Rattle.dg_world.specs.Turn.{Turn, Refused, Rests, Sends, Changes, Starts, Whole}
+use Rattle.dg_world.specs.Turns.{TurnEnds}
+use Rattle.dg_world.specs.Cuts.{PlayEnds, ended}
+use Rattle.dg_world.specs.Tellings.{turn_by, turn_of, halt_of, turned, ended_as}
+use Rattle.dg_world.specs.Unseen.{RefusesUnseen}
+use Rattle.dg_world.specs.declared.shown.Shown.{Shown}
+use Rattle.dg_world.specs.declared.telling.StartLine.{StartLine}
+use Rattle.dg_world.specs.declared.telling.Power.{Power}
+use Rattle.dg_world.specs.declared.telling.Power.TheVariants as power
+use Rattle.dg_world.proofs.UnseenLemmas.{image_unseen, order_by}
+use Rattle.dg_script.specs.declared.report.Cause.{Cause}
+use Rattle.dg_script.specs.declared.report.Cause.TheVariants as cause
+use Rattle.dg_volume.specs.declared.volume.OrderFault.{OrderFault}
+use Rattle.dg_volume.specs.declared.volume.OrderFault.TheVariants as order_fault
+use Rattle.dg_world.proofs.InjectLemmas.{order_is_stopped}
+use Rattle.dg_world.specs.Known.{IsKnownChip, SeesOrder, InjectReads, OrderReads, beyond, EventSees, EventReads, StepSees, SeesCut, SeesInjected, IsUndeclared, IsLookedInto, MakesKnown, KnownAfter, IsInject, IsOrder, OrderTakes, InjectTakes}
+use Rattle.dg_base.specs.declared.events.Event.{Event}
+use Rattle.dg_world.specs.declared.telling.Telling.{Telling}
+use Rattle.dg_world.specs.declared.world.RunningMote.{RunningMote}
+use Rattle.dg_world.specs.declared.telling.Fault.{Fault}
+use Rattle.dg_world.specs.declared.telling.Fault.TheVariants as fault
+
+-- ---- the order of a chip that was only read
+
+abbrev cause_ok : Cause → Result Cause Fault
+cause_ok x = Ok x
+
+abbrev cause_err : Fault → Result Cause Fault
+cause_err f = Err f
+
+ok_err : (x : Cause) (f : Fault) → cause_ok x ≡ cause_err f → ⊥
+ok_err x f e = cc
+
+same_cause : (x y : Cause) → cause_ok x ≡ cause_ok y → x ≡ y
+same_cause x y e = cc
+
+-- where a cause was found the board did not stop
+pub not_stopped : (S : Type 0) (q : Result Cause Fault) (x : Cause) → q ≡ Ok x → (S → q ≡ Err fault.Stopped) → S → ⊥
+not_stopped S q x is stopped s = ok_err x fault.Stopped (sym is ∙ stopped s)
+
+pub found_cause : (q : Result Cause Fault) (x y : Cause) → q ≡ Ok x → q ≡ Ok y → x ≡ y
+found_cause q x y is told = same_cause x y (sym is ∙ told)
+
+pub same_order : (o : Bool) (v u : Volume) (a b : Device) → (b.image ≡ a.image) × (u ≡ v) → IsControlOf a.image (control_of v) → ((c : List ℕ) → IsControlOf c (control_of u) → SeesOrder o c) → SeesOrder o b.image
+same_order o v u a b same is tells =
+    tells b.image (subst (λ (c : List ℕ). IsControlOf c (control_of u)) (sym same.0) (subst (λ (x : Volume). IsControlOf a.image (control_of x)) (sym same.1) is))
+
+is_taken : (e : InjectFault) → (e ≡ inject.Taken) ⊎ (e ≢ inject.Taken)
+is_taken inject.Taken = inl refl
+is_taken inject.Empty = inr (λ h. cc)
+is_taken inject.TooLarge = inr (λ h. cc)
+is_taken (inject.Stale kept) = inr (λ h. cc)
+is_taken inject.Reserved = inr (λ h. cc)
+is_taken (inject.Worn room) = inr (λ h. cc)
+is_taken inject.Stopped = inr (λ h. cc)
+
+-- a refused injection looked at most
+pub inject_same : (e : InjectFault) (v u : Volume) (a b : Device) → (e ≢ inject.Taken → (b ≡ a) × (u ≡ v)) → (e ≡ inject.Taken → Looked a b × (u ≡ v)) → (b.image ≡ a.image) × (u ≡ v)
+inject_same e v u a b same taken = ⊎_elim
+    (λ is. let x = taken is in (x.0.same_image, x.1))
+    (λ other. let x = same other in (ap (λ (d : Device). d.image) x.0, x.1))
+    (is_taken e)
+
+-- ---- what was read
+
+took_within : (n k : ℕ) (a b : Device) → n ≤ k → Took n a b → Took k a b
+took_within n k a b l h = Took-more l h
+
+took_only : {n : ℕ} {a m b : Device} → Took n a m → b.taken ≡ m.taken → Took n a b
+took_only {n} {a} {m} {b} took same = took_within (n + 0) n a b (omega arith) (Took_then {b = m} took (Took-same 0 same))
+
+pub order_reads : (known : Bool) (a m b : Device) → (known ≡ true → (n : ℕ) → RemountBytes a.image n → Took n a m) → m.image ≡ a.image → b.taken ≡ m.taken → IsVolume b.image → (IsOrderlyChip m.image → IsOrderlyChip b.image)
+    → ((p q : ℕ) → RemountBytes m.image p → RemountBytes b.image q → q ≤ p + place_size) → OrderReads known a b
+order_reads known a m b took image taken volume orderly bytes = record {
+  took = λ is n remount. took_only (took is n remount) taken;
+  stays = λ is. record { volume = volume; orderly = orderly (subst (λ (c : List ℕ). IsOrderlyChip c) (sym image) is.orderly) };
+  bytes = λ p q here after. bytes p q (subst (λ (c : List ℕ). RemountBytes c p) (sym image) here) after;
+}
+
+-- a board that was mounted and no more
+pub mount_reads : (known : Bool) (a m : Device) → ((c : List ℕ) (p q : ℕ) → RemountBytes c p → RemountBytes c q → p ≡ q) → (known ≡ true → (n : ℕ) → RemountBytes a.image n → Took n a m) → m.image ≡ a.image → OrderReads known a m
+mount_reads known a m one took image = record {
+  took = took;
+  stays = λ is. subst (λ (c : List ℕ). IsKnownChip c) (sym image) is;
+  bytes = λ p q here after. let e : p ≡ q = one a.image p q here (subst (λ (c : List ℕ). RemountBytes c q) image after) in omega (arith, e);
+}
+
+-- an order that was not kept leaves a volume
+pub order_volume : (e : OrderFault) (m b : Device) → IsVolume m.image → (e ≡ order_fault.Stopped → IsVolume b.image) → (e ≢ order_fault.Stopped → b ≡ m) → IsVolume b.image
+order_volume e m b volume stopped same = ⊎_elim stopped (λ other. subst (λ (d : Device). IsVolume d.image) (sym (same other)) volume) (order_is_stopped e)
+
+pub not_refused : (known : Bool) (o : Option Cause) (a b : Device) → o ≡ None → InjectReads known o a b
+not_refused known None a b none = λ is n why remount some. cc
+not_refused known (Some why) a b none = cc
+
+beyond_taken : (e : InjectFault) (row : Row) → e ≡ inject.Taken → beyond (inject_cause row e) ≡ page_size
+beyond_taken e row is = ap (λ (x : InjectFault). beyond (inject_cause row x)) is
+
+pub inject_reads : (e : InjectFault) (row : Row) (known : Bool) (found : Cause) (a m b : Device) → found ≡ inject_cause row e → (known ≡ true → (n : ℕ) → RemountBytes a.image n → Took n a m) → (e ≢ inject.Taken → b ≡ m) → (e ≡ inject.Taken → Took page_size m b)
+    → InjectReads known (Some found) a b
+inject_reads e row known found a m b told took same taken = λ is n why remount some.
+    let why_is : why ≡ found = cc in
+    ⊎_elim
+    (λ at.
+    let all : beyond why ≡ page_size = ap beyond (why_is ∙ told) ∙ beyond_taken e row at in
+    subst (λ (k : ℕ). Took (n + k) a b) (sym all) (Took_then {b = m} (took is n remount) (taken at)))
+    (λ other. took_within n (n + beyond why) a b (omega arith) (subst (λ (d : Device). Took n a d) (sym (same other)) (took is n remount)))
+    (is_taken e)
+
+-- ---- each event
+
+pub sees_at : {T : Type 0} (r : Result T Fault) (t : Telling) (u : Option RunningMote) (c d : List ℕ) (e f : Event) → e ≡ f → OnOk r (EventSees f t u c d) → OnOk r (EventSees e t u c d)
+sees_at r t u c d e f is sees = subst (λ (x : Event). OnOk r (EventSees x t u c d)) (sym is) sees
+
+pub reads_at : (known : Bool) (done : Type 0) (o : Option Cause) (a b : Device) (e f : Event) → e ≡ f → EventReads f known done o a b → EventReads e known done o a b
+reads_at known done o a b e f is reads = subst (λ (x : Event). EventReads x known done o a b) (sym is) reads
+
+pub when_ok : {T X : Type 0} (r : Result T Fault) → OnOk r X → OnErr r ⊥ → X
+when_ok (Ok y) x ok = x
+when_ok (Err f) x ok = absurd ok
+
+-- ---- which events make a board known
+
+module _ (D : Does) where
+  pub looked_into : (RefusesUnseen D → ⊥) → IsLookedInto D
+  looked_into seen = record {
+    not_reserved = λ is. seen (subst RefusesUnseen (sym is) refl);
+    declared = λ is. seen (subst RefusesUnseen (sym is) refl);
+  }
+
+-- what an order or an injection does, by whether its mote knows the image
+order_by_width : (w : RuleWorld) (mote : ℕ) (o : Order) (now word : ℕ) → Bool → Does
+order_by_width w mote o now word b = if b then orders w mote o now word else Refuses cause.Image
+
+inject_by_width : (w : RuleWorld) (mote image version now word : ℕ) → Bool → Does
+inject_by_width w mote image version now word b = if b then injects w mote image version now word else Refuses cause.Image
+
+order_makes : (w : RuleWorld) (mote number image version dt word : ℕ) → knows (wide_at w mote) image ≡ true → MakesKnown w (OrderEvent mote number image version dt word)
+unfolding does order_by_width
+order_makes w mote number image version dt word is =
+    let o : Order = record { number = number; image = image; version = version } in
+    looked_into _ (λ unseen. order_by (order_refusal (store_at w mote) o) w mote (w.moment + dt) word o (subst (λ (b : Bool). RefusesUnseen (order_by_width w mote o (w.moment + dt) word b)) is unseen))
+
+narrow_orders : (w : RuleWorld) (mote number image version dt word : ℕ) → knows (wide_at w mote) image ≡ false → MakesKnown w (OrderEvent mote number image version dt word) → ⊥
+unfolding does order_by_width
+narrow_orders w mote number image version dt word is made =
+    made.declared (ap (order_by_width w mote (record { number = number; image = image; version = version }) (w.moment + dt) word) is)
+
+pub narrow_injects : (w : RuleWorld) (mote image version dt word : ℕ) → knows (wide_at w mote) image ≡ false → MakesKnown w (Inject mote image version dt word) → ⊥
+unfolding does inject_by_width
+narrow_injects w mote image version dt word is made = made.declared (ap (inject_by_width w mote image version (w.moment + dt) word) is)
+
+pub golden_makes : (w : RuleWorld) (mote image version dt word : ℕ) → knows (wide_at w mote) image ≡ true → image ≡ 0 → MakesKnown w (Inject mote image version dt word) → ⊥
+unfolding does inject_by_width
+golden_makes w mote image version dt word known is made =
+    made.not_reserved (ap (inject_by_width w mote image version (w.moment + dt) word) known
+    ∙ ap (λ (i : ℕ). if i == 0 then Refuses cause.Reserved else inject_row w mote (row_at w.declared image version) (w.moment + dt) word) is)
+
+pub unknown_makes : (w : RuleWorld) (mote image version dt word : ℕ) → knows (wide_at w mote) image ≡ true → eqb image 0 ≡ false → row_at w.declared image version ≡ None → MakesKnown w (Inject mote image version dt word) → ⊥
+unfolding does inject_by_width
+unknown_makes w mote image version dt word known other none made =
+    let P : Bool → Option Row → Does = λ b o. if b then Refuses cause.Reserved else inject_row w mote o (w.moment + dt) word in
+    made.declared (ap (inject_by_width w mote image version (w.moment + dt) word) known ∙ ap (λ (b : Bool). P b (row_at w.declared image version)) other ∙ ap (P false) none)
+
+pub known_makes : (w : RuleWorld) (mote image version dt word : ℕ) (row : Row) → knows (wide_at w mote) image ≡ true → eqb image 0 ≡ false → row.image ≡ image → row_at w.declared image version ≡ Some row → MakesKnown w (Inject mote image version dt word)
+unfolding does inject_by_width
+known_makes w mote image version dt word row known other at some =
+    looked_into _ (λ unseen. image_unseen w mote (w.moment + dt) word image (row_at w.declared image version) row other at some
+    (subst (λ (b : Bool). RefusesUnseen (inject_by_width w mote image version (w.moment + dt) word b)) known unseen))
+
+-- the mote of an event, by its number in the event
+pub mote_in : (e f : Event) (m : ℕ) → e ≡ f → mote_of e ≡ m → mote_of f ≡ m
+mote_in e f m is at = ap mote_of (sym is) ∙ at
+
+order_iff : (w : RuleWorld) (mote number image version dt word : ℕ) (b : Bool) → knows (wide_at w mote) image ≡ b → (b ≡ true) ↔ MakesKnown w (OrderEvent mote number image version dt word)
+order_iff w mote number image version dt word true is = (λ x. order_makes w mote number image version dt word is, λ x. refl)
+order_iff w mote number image version dt word false is = (λ x. absurd cc, λ made. absurd (narrow_orders w mote number image version dt word is made))
+
+pub order_known_then : (w : RuleWorld) (mote number image version dt word m : ℕ) (b : Bool) → mote ≡ m → knows (wide_at w m) image ≡ b → (b ≡ true) ↔ MakesKnown w (OrderEvent mote number image version dt word)
+order_known_then w mote number image version dt word m b at is = order_iff w mote number image version dt word b (ap (λ (k : ℕ). knows (wide_at w k) image) at ∙ is)
+
+pub inject_known_then : (w : RuleWorld) (mote image version dt word m : ℕ) (b : Bool) → mote ≡ m → (b ≡ true) ↔ MakesKnown w (Inject m image version dt word) → (b ≡ true) ↔ MakesKnown w (Inject mote image version dt word)
+inject_known_then w mote image version dt word m b at iff = subst (λ (k : ℕ). (b ≡ true) ↔ MakesKnown w (Inject k image version dt word)) (sym at) iff
+
+-- ---- the set of boards that are known
+
+pub put_in : (s : Numbers) (k : ℕ) → set.contains (set.insert s k) k ≡ true
+put_in s k = contains-put s k k ∙ grind (arith, nat_tests)
+
+pub put_others : (s : Numbers) (k q : ℕ) → q ≢ k → set.contains (set.insert s k) q ≡ set.contains s q
+put_others s k q other = contains-put s k q ∙ ap (λ b. b || set.contains s q) (not_same q k other)
+  where
+    not_same : (q k : ℕ) → q ≢ k → eqb q k ≡ false
+    not_same q k other = grind (arith, nat_tests, other)
+
+pub taken_out : (s : Numbers) (k : ℕ) → set.contains (set.remove s k) k ≡ false
+taken_out s k = contains-without s k k ∙ ap (λ b. not b && set.contains s k) (same_as k)
+  where
+    same_as : (k : ℕ) → eqb k k ≡ true
+    same_as k = grind (arith, nat_tests)
+
+pub out_others : (s : Numbers) (k q : ℕ) → q ≢ k → set.contains (set.remove s k) q ≡ set.contains s q
+out_others s k q other = contains-without s k q ∙ ap (λ b. not b && set.contains s q) (not_same q k other)
+  where
+    not_same : (q k : ℕ) → q ≢ k → eqb q k ≡ false
+    not_same q k other = grind (arith, nat_tests, other)
+
+-- ---- what a step sees
+
+undeclared : (turn : Turn) (D : Does) → IsUndeclared turn → ((why : Cause) → turn ≡ Refused why → D ≡ Refuses why) → IsLookedInto D → ⊥
+undeclared (Refused cause.Image) D x refused made = made.declared (refused cause.Image refl)
+undeclared (Refused cause.Reserved) D x refused made = made.not_reserved (refused cause.Reserved refl)
+undeclared (Refused cause.Off) D x refused made = x
+undeclared (Refused cause.Frame) D x refused made = x
+undeclared (Refused cause.Link) D x refused made = x
+undeclared (Refused cause.Empty) D x refused made = x
+undeclared (Refused (cause.TooLarge length)) D x refused made = x
+undeclared (Refused (cause.Stale version)) D x refused made = x
+undeclared (Refused cause.Taken) D x refused made = x
+undeclared (Refused (cause.Worn room)) D x refused made = x
+undeclared (Refused (cause.OldOrder number)) D x refused made = x
+undeclared Rests D x refused made = x
+undeclared (Sends bytes) D x refused made = x
+undeclared (Changes old new) D x refused made = x
+undeclared (Starts line) D x refused made = x
+
+module _ (w : RuleWorld) (known : Bool) (u : Option RunningMote) (c d : List ℕ) where
+  inject_sees : (m image version dt word : ℕ) (o : Option Bool) (turn : Turn) → SeesInjected o turn c d → ((why : Cause) → turn ≡ Refused why → does w (Inject m image version dt word) ≡ Refuses why) → StepSees w (Inject m image version dt word) known o u c d
+  inject_sees m image version dt word (Some o) turn x refused = x
+  inject_sees m image version dt word None turn x refused = λ off. (λ is. x.0, λ made. undeclared turn (does w (Inject m image version dt word)) x.1 refused made)
+
+  order_sees : (m number image version dt word : ℕ) (o : Option Bool) (turn : Turn) → SeesInjected o turn c d → ((why : Cause) → turn ≡ Refused why → does w (OrderEvent m number image version dt word) ≡ Refuses why) → StepSees w (OrderEvent m number image version dt word) known o u c d
+  order_sees m number image version dt word (Some o) turn x refused = x
+  order_sees m number image version dt word None turn x refused = λ off. (λ is. x.0, λ made. undeclared turn (does w (OrderEvent m number image version dt word)) x.1 refused made)
+
+  pub step_sees : (e : Event) (t : Telling) → EventSees e t u c d → ((why : Cause) → turn_of t ≡ Refused why → does w e ≡ Refuses why) → StepSees w e known t.orderly u c d
+  step_sees (Tick m dt word) t x refused = subst (λ (o : Option Bool). StepSees w (Tick m dt word) known o u c d) (sym x.untold) (λ off. (λ is. x.off off, λ made. made))
+  step_sees (Hear m dt word frame) t x refused = subst (λ (o : Option Bool). StepSees w (Hear m dt word frame) known o u c d) (sym x.untold) (λ off. (λ is. x.off off, λ made. made))
+  step_sees (Last from to dt word) t x refused = subst (λ (o : Option Bool). StepSees w (Last from to dt word) known o u c d) (sym x.untold) (λ off. (λ is. x.off off, λ made. made))
+  step_sees (Frame m dt word bytes) t x refused = subst (λ (o : Option Bool). StepSees w (Frame m dt word bytes) known o u c d) (sym x.untold) (λ off. (λ is. x.off off, λ made. made))
+  step_sees (Reset m dt word) t x refused = subst (λ (o : Option Bool). StepSees w (Reset m dt word) known o u c d) (sym x.untold) (λ off. absurd (x.on off))
+  step_sees (Inject m image version dt word) t x refused = inject_sees m image version dt word t.orderly (turn_of t) x refused
+  step_sees (OrderEvent m number image version dt word) t x refused = order_sees m number image version dt word t.orderly (turn_of t) x refused
+
+  -- behind a cut that blew: the board was looked at, or was neither known nor made so
+  pub cut_sees : (e : Event) (o : Option Bool) → SeesCut w e known o d → StepSees w e known o u c d
+  cut_sees e (Some o) x = x
+  cut_sees e None x = λ off. (λ is. absurd (x.0 is), x.1)
+
+-- which turn a refusal is
+pub turn_refused : (w : RuleWorld) (m : ℕ) (D : Does) (v u : Option RunningMote) (a b : Device) (turn : Turn) → TurnEnds (Ok turn) w m D v u a b → (why : Cause) → turn ≡ Refused why → D ≡ Refuses why
+turn_refused w m D v u a b turn ends why is = let x : TurnEnds (Ok (Refused why)) w m D v u a b = subst (λ (y : Turn). TurnEnds (Ok y) w m D v u a b) is ends in x.0
+
+pub play_refused : (w : RuleWorld) (m : ℕ) (D : Does) (cut : Option PowerCut) (v u : Option RunningMote) (a b : Device) (turn : Turn) → PlayEnds (Ok (Whole turn)) w m D cut v u a b → (why : Cause) → turn ≡ Refused why → D ≡ Refuses why
+play_refused w m D cut v u a b turn ends why is = let x : PlayEnds (Ok (Whole (Refused why))) w m D cut v u a b = subst (λ (y : Turn). PlayEnds (Ok (Whole y)) w m D cut v u a b) is ends in x.0
+
+pub refuses_goes : (A : Type 0) (D : Does) (why : Cause) → (d : Deed) → D ≡ Goes d → D ≡ Refuses why → A
+refuses_goes A D why d goes refuses = let e : Goes d ≡ Refuses why = sym goes ∙ refuses in absurd cc
+
+same_refusal : (x y : Cause) → Refuses x ≡ Refuses y → x ≡ y
+same_refusal x y e = cc
+
+pub refused_turn : (w : RuleWorld) (m : ℕ) (D : Does) (v u : Option RunningMote) (a b : Device) (turn : Turn) → TurnEnds (Ok turn) w m D v u a b → (why : Cause) → D ≡ Refuses why → turn ≡ Refused why
+refused_turn w m D v u a b (Refused x) ends why is = ap Refused (same_refusal x why (sym ends.0 ∙ is))
+refused_turn w m D v u a b Rests ends why is = refuses_goes _ D why ends.deed ends.goes is
+refused_turn w m D v u a b (Sends bytes) ends why is = refuses_goes _ D why ends.deed ends.goes is
+refused_turn w m D v u a b (Changes p q) ends why is = refuses_goes _ D why ends.deed ends.goes is
+refused_turn w m D v u a b (Starts x) ends why is = refuses_goes _ D why ends.deed ends.goes is
+
+pub refused_play : (w : RuleWorld) (m : ℕ) (D : Does) (cut : Option PowerCut) (v u : Option RunningMote) (a b : Device) (turn : Turn) → PlayEnds (Ok (Whole turn)) w m D cut v u a b → (why : Cause) → D ≡ Refuses why → turn ≡ Refused why
+refused_play w m D cut v u a b (Refused x) ends why is = ap Refused (same_refusal x why (sym ends.0 ∙ is))
+refused_play w m D cut v u a b Rests ends why is = refuses_goes _ D why ends.deed ends.goes is
+refused_play w m D cut v u a b (Sends bytes) ends why is = refuses_goes _ D why ends.deed ends.goes is
+refused_play w m D cut v u a b (Changes p q) ends why is = refuses_goes _ D why ends.deed ends.goes is
+refused_play w m D cut v u a b (Starts x) ends why is = refuses_goes _ D why ends.deed ends.goes is
+
+told_by : (o : Option (List ℕ)) (r : Option Cause) (x : Option StartLine) (a b : Option Shown) (why : Cause) → turn_by o r x a b ≡ Refused why → r ≡ Some why
+told_by (Some bytes) r x a b why e = absurd cc
+told_by None (Some y) x a b why e = cc
+told_by None None (Some x) a b why e = absurd cc
+told_by None None None (Some p) (Some q) why e = absurd cc
+told_by None None None (Some p) None why e = absurd cc
+told_by None None None None b why e = absurd cc
+
+pub refused_told : (t : Telling) (why : Cause) → turn_of t ≡ Refused why → t.refused ≡ Some why
+refused_told t why e = told_by (sent_in t.outbox) t.refused t.started t.before t.after why e
+
+-- ---- what a step reads
+
+reads_inject : (e : Event) (known : Bool) (done : Type 0) (o : Option Cause) (a b : Device) → IsInject e → EventReads e known done o a b → done → InjectReads known o a b
+reads_inject (Tick m dt word) known done o a b is x d = absurd is
+reads_inject (Hear m dt word frame) known done o a b is x d = absurd is
+reads_inject (Last from to dt word) known done o a b is x d = absurd is
+reads_inject (Frame m dt word bytes) known done o a b is x d = absurd is
+reads_inject (Reset m dt word) known done o a b is x d = absurd is
+reads_inject (Inject m image version dt word) known done o a b is x d = x d
+reads_inject (OrderEvent m number image version dt word) known done o a b is x d = absurd is
+
+pub reads_order : (e : Event) (known : Bool) (done : Type 0) (o : Option Cause) (a b : Device) → IsOrder e → EventReads e known done o a b → OrderReads known a b
+reads_order (Tick m dt word) known done o a b is x = absurd is
+reads_order (Hear m dt word frame) known done o a b is x = absurd is
+reads_order (Last from to dt word) known done o a b is x = absurd is
+reads_order (Frame m dt word bytes) known done o a b is x = absurd is
+reads_order (Reset m dt word) known done o a b is x = absurd is
+reads_order (Inject m image version dt word) known done o a b is x = absurd is
+reads_order (OrderEvent m number image version dt word) known done o a b is x = x
+
+pub inject_takes : (w : RuleWorld) (e : Event) (known : Bool) (done : Type 0) (o : Option Cause) (a b : Device) → known ≡ true → done → EventReads e known done o a b → ((why : Cause) → does w e ≡ Refuses why → o ≡ Some why) → InjectTakes w e a b
+inject_takes w e known done o a b is d x told = record { took = λ inject n why refuses remount. reads_inject e known done o a b inject x d is n why remount (told why refuses) }
+
+pub order_takes : (e : Event) (known : Bool) (done : Type 0) (o : Option Cause) (a b : Device) → known ≡ true → EventReads e known done o a b → OrderTakes e a b
+order_takes e known done o a b is x = record { took = λ order n remount. took_within n (2 * n + place_size) a b (omega arith) ((reads_order e known done o a b order x).took is n remount) }
+
+pub order_again : (e : Event) (known : Bool) (done : Type 0) (o : Option Cause) (a m b : Device) → ((c : List ℕ) → IsVolume c → (n : ℕ) × RemountBytes c n) → known ≡ true → IsKnownChip a.image → EventReads e known done o a m → (known ≡ true → IsOrder e → (n : ℕ) → RemountBytes m.image n → Took n m b) → OrderTakes e a b
+order_again e known done o a m b some is chip x look = record {
+  took = λ order n remount.
+      let r = reads_order e known done o a m order x in
+      let k = some m.image (r.stays chip).volume in
+      let less = r.bytes n k.0 remount k.1 in
+      took_within (n + k.0) (2 * n + place_size) a b (omega (arith, less)) (Took_then {b = m} (r.took is n remount) (look is order k.0 k.1));
+}
+
+-- ---- over a fuse
+
+took_over : (n : ℕ) (x y a b : Device) → x.taken ≡ a.taken → y.taken ≡ b.taken → Took n x y → Took n a b
+took_over n x y a b e f t = record { rise = subst (λ (p : Option ℕ). RisesAtMost n p b.taken) e (subst (λ (p : Option ℕ). RisesAtMost n x.taken p) f t.rise) }
+
+pub reads_over : (e : Event) (known : Bool) (p q : Type 0) (o : Option Cause) (x y a b : Device) → (q → p) → x.image ≡ a.image → y.image ≡ b.image → x.taken ≡ a.taken → y.taken ≡ b.taken → EventReads e known p o x y → EventReads e known q o a b
+reads_over (Tick m dt word) known p q o x y a b done is js e f r = tt
+reads_over (Hear m dt word frame) known p q o x y a b done is js e f r = tt
+reads_over (Last from to dt word) known p q o x y a b done is js e f r = tt
+reads_over (Frame m dt word bytes) known p q o x y a b done is js e f r = tt
+reads_over (Reset m dt word) known p q o x y a b done is js e f r = tt
+reads_over (Inject m image version dt word) known p q o x y a b done is js e f r =
+    λ d k n why remount some. took_over (n + beyond why) x y a b e f (r (done d) k n why (subst (λ (c : List ℕ). RemountBytes c n) (sym is) remount) some)
+reads_over (OrderEvent m number image version dt word) known p q o x y a b done is js e f r = record {
+  took = λ k n remount. took_over n x y a b e f (r.took k n (subst (λ (c : List ℕ). RemountBytes c n) (sym is) remount));
+  stays = λ chip. subst (λ (c : List ℕ). IsKnownChip c) js (r.stays (subst (λ (c : List ℕ). IsKnownChip c) (sym is) chip));
+  bytes = λ n k here after. r.bytes n k (subst (λ (c : List ℕ). RemountBytes c n) (sym is) here) (subst (λ (c : List ℕ). RemountBytes c k) (sym js) after);
+}
+
+stays_by : (f : Fault) (b : Bool) (before : Option Shown) (turn : Turn) → Ok (Whole turn) ≡ ended b (Err (halt_of f before)) → ⊥
+stays_by fault.Stopped true before turn e = cc
+stays_by fault.Stopped false before turn e = cc
+stays_by fault.NotAVolume b before turn e = cc
+stays_by fault.NoImage b before turn e = cc
+
+-- where the power stays on, the event was done
+pub stays_done : (r : Result Power Fault) (done : Result (Unit {0}) Fault) (b : Bool) (t : Telling) → ended_as r t ≡ ended b (turned done t) → r ≡ Ok power.Stays → OnErr done ⊥
+stays_done r (Ok y) b t e is = tt
+stays_done r (Err f) b t e is = stays_by f b t.before (turn_of t) (sym (ap (λ (q : Result Power Fault). ended_as q t) is) ∙ e)
+
+-- ---- what is known then
+
+watches : (known makes : Bool) → ((known || makes) ≡ true) ↔ ((known ≡ true) ⊎ (makes ≡ true))
+watches true makes = (λ is. inl refl, λ x. refl)
+watches false makes = (λ is. inr is, λ x. ⊎_elim (λ h. absurd cc) (λ h. h) x)
+
+pub on_control : (c : List ℕ) (u : Option RunningMote) (s : Store) (o : Option Running) → MoteStands c u s o → IfSome u (λ r. IsControlOf c (control_of (volume_of r.mote)))
+on_control c None s o stands = tt
+on_control c (Some v) s None stands = absurd stands
+on_control c (Some v) s (Some r) stands = stands.1.mounted.control
+
+module _ (w : RuleWorld) (e : Event) (known makes result : Bool) (a b : Device) (made : (makes ≡ true) ↔ MakesKnown w e) (was : known ≡ true → IsOrderlyChip a.image) where
+  watched : (known || makes) ≡ true → (known ≡ true) ⊎ MakesKnown w e
+  watched is = ⊎_elim (λ h. inl h) (λ h. inr (made.0 h)) ((watches known makes).0 is)
+
+  to_watch : (known ≡ true) ⊎ MakesKnown w e → (known || makes) ≡ true
+  to_watch x = (watches known makes).1 (⊎_elim (λ h. inl h) (λ h. inr (made.1 h)) x)
+
+  pub known_then : (seen : Option Bool) (u : Option RunningMote) → StepSees w e known seen u a.image b.image → KnownAfter (known || makes) seen u b.image result → IfSome u (λ r. IsControlOf b.image (control_of (volume_of r.mote)))
+      → (result ≡ true) ↔ (IsOrderlyChip b.image × ((known ≡ true) ⊎ MakesKnown w e))
+  known_then seen (Some r) sees after control = let x = after control in (λ is. let y = x.0 is in (y.1, watched y.0), λ y. x.1 (to_watch y.1, y.0))
+  known_then (Some o) None sees after control = (λ is. let y = after.0 is in (sees.0 y.1, watched y.0), λ y. after.1 (to_watch y.1, sees.1 y.0))
+  known_then None None sees after control =
+      let x = sees refl in (
+        λ is. let y = watched (sym after ∙ is) in (⊎_elim (λ h. subst (λ (c : List ℕ). IsOrderlyChip c) (sym (x.0 h)) (was h)) (λ h. absurd (x.1 h)) y, y),
+        λ y. after ∙ to_watch y.1,
+      )
+
+-- ---- small facts
+
+pub no_value : {A : Type 0} (o : Option A) → is_none o ≡ true → o ≡ None
+no_value None e = refl
+no_value (Some x) e = absurd cc
+
+pub none_known : (s : Numbers) → s ≡ set.empty → (m : ℕ) → set.contains s m ≡ false
+none_known s e m = ap (λ (t : Numbers). set.contains t m) e ∙ contains-none m
+
+-- a board that was not used
+pub same_takes : (e : Event) (a b : Device) (o : Option Device) → o ≡ Some a → o ≡ Some b → OrderTakes e a b
+same_takes e a b o old new = record { took = λ order n remount. subst (λ (d : Device). Took (2 * n + place_size) a d) (same_Some a b (sym old ∙ new)) (Took-same (2 * n + place_size) refl) }

@@ -1,0 +1,101 @@
+//! Which boards a world knows: those that may be mounted again by halving.
+ghost use Rattle.std.specs.Prelude.{◌||◌, ◌≡◌, ◌≢◌, ◌↔◌, ◌+◌, ◌<◌, ℕ, Bool, List, Option, Some, None, IsTrue, true, length};
+ghost use Rattle.std.specs.FinSet as set;
+ghost use Rattle.dg_nor.specs.Device.{Device};
+ghost use Rattle.dg_control.specs.Store.{IsOrderlyChip};
+ghost use Rattle.dg_control.specs.Mounted.{IsControlOf};
+ghost use Rattle.dg_volume.specs.Stands.{control_of};
+ghost use Rattle.dg_mote.specs.Motes.{volume_of};
+ghost use Rattle.dg_rules.specs.Sizes.{most_motes};
+ghost use Rattle.dg_rules.specs.World.{World as RuleWorld, wide_at};
+ghost use Rattle.dg_rules.specs.Events.{knows, mote_of};
+ghost use Rattle.dg_base.specs.declared.events.Event.TheVariants.{Inject};
+ghost use Rattle.dg_world.specs.Shareds.{IsShared};
+ghost use Rattle.dg_world.specs.Worlds.{IsWorld};
+ghost use Rattle.dg_world.specs.Known.{known_of, MakesKnown, KnownAfter};
+
+use crate::happening::knows;
+use crate::shared::Shared;
+use crate::world::{MOST_MOTES, RunningMote, World};
+use dg_bits::PageBits;
+use dg_rules::{Event, Key};
+
+impl World {
+    /// Whether the board of a mote is known: it is orderly, and the world mounts it again by halving. A reset makes the
+    /// board of its mote known, and so do an injection and an order that are not refused as `reserved` or `image`.
+    pub fn known(&self, mote: u8) -> bool
+        requires { (boards : List Device) × (w : RuleWorld) × IsWorld self.now boards w × (mote < length w.sites) }
+        ensures { result ≡ known_of self.now mote }
+    {
+        self.known.has(mote)
+    }
+}
+
+/// Whether an event makes the board of its mote, which has this number, known, where that is orderly after it.
+pub(crate) fn makes_known(shared: &Shared, mote: u8, event: &Event) -> bool
+    requires { mote < most_motes }
+    ensures { (w : RuleWorld) → IsShared shared.now w → mote_of event.now ≡ mote → IsTrue result ↔ MakesKnown w event.now }
+{
+    match event {
+        Event::Tick { .. } | Event::Hear { .. } | Event::Last { .. } | Event::Frame { .. } => false,
+        Event::Reset { .. } => true,
+        Event::Order { image, .. } => is_known_to(shared, mote, *image),
+        Event::Inject { image, version, .. } => is_declared(shared, mote, *image, *version),
+    }
+}
+
+/// Whether a mote knows the images of this number.
+fn is_known_to(shared: &Shared, mote: u8, image: u8) -> bool
+    requires { mote < most_motes }
+    ensures { (w : RuleWorld) → IsShared shared.now w → knows (wide_at w mote) image ≡ result }
+{
+    knows(shared.is_wide(mote), image)
+}
+
+/// Whether an image is declared that is not golden, and that a mote knows.
+fn is_declared(shared: &Shared, mote: u8, image: u8, version: u32) -> bool
+    requires { mote < most_motes }
+    ensures { (w : RuleWorld) (dt word : ℕ) → IsShared shared.now w → IsTrue result ↔ MakesKnown w (Inject mote image version dt word) }
+{
+    if !is_known_to(shared, mote, image) {
+        return false;
+    }
+    if image == 0 {
+        return false;
+    }
+    match shared.images.get(Key { image, version }) {
+        None => false,
+        Some(_) => true,
+    }
+}
+
+/// Whether a board is known, or was made so.
+pub(crate) fn is_watched(known: bool, makes: bool) -> bool
+    ensures { result ≡ (known || makes) }
+{
+    known || makes
+}
+
+/// Whether a board is known after an event, which runs this then and whose order was seen or not, where it was known before
+/// or the event makes it so.
+pub(crate) fn known_after(runs: &Option<RunningMote>, seen: Option<bool>, known: bool) -> bool
+    ensures { (c : List ℕ) → KnownAfter known seen runs.now c result }
+{
+    match runs {
+        Some(running) => known && running.mote.volume().orderly(),
+        None => known && seen.unwrap_or(true),
+    }
+}
+
+/// Whether a board is known changes.
+pub(crate) fn note(boards: &mut PageBits<MOST_MOTES>, mote: u8, known: bool)
+    requires { mote < most_motes }
+    ensures here { set.contains boards.new mote ≡ known }
+    ensures others { (m : ℕ) → m ≢ mote → set.contains boards.new m ≡ set.contains boards.old m }
+{
+    if known {
+        boards.set(mote);
+    } else {
+        boards.clear(mote);
+    }
+}
