@@ -1,5 +1,5 @@
 -- Stores stay consistent in what was played of a script, whatever frames it brings.
-use Rattle.std.proofs.Common.{◌≡◌, ℕ, List, [], ◌∷◌, ◌++◌, map, get_or, sym, ap, ◌∙◌, subst}
+use Rattle.std.proofs.Common.{◌≡◌, ℕ, Bool, List, [], ◌∷◌, ◌++◌, map, get_or, sym, ap, ◌∙◌, subst}
 use Rattle.std.specs.Prelude.{Option, Some, None}
 use Rattle.std.specs.List.{AllByRecursion}
 use Rattle.dg_object.specs.Object.{Row}
@@ -23,10 +23,10 @@ use Rattle.dg_replay.proofs.GoldenLemmas.{GoldenRun, golden_at_end, nothing_or}
 
 -- what is known of all that plays golden
 pub record ConsistentLaws : Type 0 where
-  pub kept : (name bytes : List ℕ) (used motes : ℕ) (links : List (ℕ × ℕ)) (played : List Played) (v : World) → PlaysGolden name bytes used motes links played v
+  pub kept : (name bytes : List ℕ) (used motes : ℕ) (links : List (ℕ × ℕ)) (narrow : List Bool) (played : List Played) (v : World) → PlaysGolden name bytes used motes links narrow played v
       → AllByRecursion (LeavesConsistent (golden_row name bytes)) played × WorldConsistent (golden_row name bytes) v
-  pub starts : (name bytes : List ℕ) (used motes : ℕ) (links : List (ℕ × ℕ)) (played : List Played) (v : World) → PlaysGolden name bytes used motes links played v → AllByRecursion (StartsSound (golden_row name bytes)) played
-  pub halves : (name bytes : List ℕ) (used motes : ℕ) (links : List (ℕ × ℕ)) (played : List Played) (v : World) (e : Event) → PlaysGolden name bytes used motes links played v → EventFits motes e → StopsConsistent (golden_row name bytes) v e
+  pub starts : (name bytes : List ℕ) (used motes : ℕ) (links : List (ℕ × ℕ)) (narrow : List Bool) (played : List Played) (v : World) → PlaysGolden name bytes used motes links narrow played v → AllByRecursion (StartsSound (golden_row name bytes)) played
+  pub halves : (name bytes : List ℕ) (used motes : ℕ) (links : List (ℕ × ℕ)) (narrow : List Bool) (played : List Played) (v : World) (e : Event) → PlaysGolden name bytes used motes links narrow played v → EventFits motes e → StopsConsistent (golden_row name bytes) v e
 
 one_row : (a b : Row) → a ∷ [] ≡ b ∷ [] → a ≡ b
 one_row a b e = ap (λ (rows : List Row). get_or rows 0 a) e
@@ -38,14 +38,14 @@ nothing_played golden left = record { stores = tt; ends = tt; starts = tt; halve
 module _ (laws : ConsistentLaws) where
   golden_consistent : (b : Beginning) (left : List Item) (played : List Played) (v : World) → (g : GoldenRun b left played v) → StaysConsistent (golden_row g.name g.bytes) played (Some v) left
   golden_consistent b left played v g =
-      let kept = laws.kept g.name g.bytes g.used b.motes g.links played v g.plays in
+      let kept = laws.kept g.name g.bytes g.used b.motes g.links g.narrow played v g.plays in
       record {
         stores = kept.0;
         ends = kept.1;
-        starts = laws.starts g.name g.bytes g.used b.motes g.links played v g.plays;
+        starts = laws.starts g.name g.bytes g.used b.motes g.links g.narrow played v g.plays;
         halves = λ w step loud more is next.
             let fits : AllByRecursion (ItemInRange b.motes) (Happens step loud ∷ more) = subst (AllByRecursion (ItemInRange b.motes)) next g.left_fits in
-            subst (λ (u : World). StopsConsistent (golden_row g.name g.bytes) u step.event) (some_is v w is) (laws.halves g.name g.bytes g.used b.motes g.links played v step.event g.plays fits.0.event);
+            subst (λ (u : World). StopsConsistent (golden_row g.name g.bytes) u step.event) (some_is v w is) (laws.halves g.name g.bytes g.used b.motes g.links g.narrow played v step.event g.plays fits.0.event);
       }
 
   pub progress_consistent : {table : List Row} (input : List ℕ) (c : Progress table (script_of input)) → (UsesBoards c.done → ⊥) → (golden : Row) (w : World) → (beginning_of c.ground c.done).world ≡ Some w → w.table ≡ golden ∷ []

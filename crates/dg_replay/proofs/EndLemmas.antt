@@ -33,7 +33,7 @@ use Rattle.dg_replay.specs.Replaying.{ToldBefore, EndsWritten, StopEnds, Reached
 use Rattle.dg_base.specs.declared.events.Step.{Step}
 use Rattle.dg_replay.specs.declared.player.Player.{Player}
 use Rattle.dg_script.specs.declared.line.Line.{Line}
-use Rattle.dg_script.specs.declared.line.Line.TheVariants.{Nothing, Motes, Golden, Boards as BoardsLine, Link, Image, Cut, Happens, Round, Sweeps}
+use Rattle.dg_script.specs.declared.line.Line.TheVariants.{Nothing, Motes, Golden, Boards as BoardsLine, Link, Narrow, Image, Cut, Happens, Round, Sweeps}
 use Rattle.dg_replay.specs.declared.stop.Stop.{Stop}
 use Rattle.dg_replay.specs.declared.stop.Stop.TheVariants.{Memory, BadInput, WriteFault, FlashFault, TooMany, NoBoard, NoImage, NotAVolume}
 use Rattle.dg_replay.proofs.NearLemmas.{near_later}
@@ -167,6 +167,7 @@ lacking_behind boards motes (x ∷ xs) more short none = through x (lacking boar
     through (Golden name used content) rest later e f = f e
     through BoardsLine rest later e f = f e
     through (Link a b) rest later e f = f e
+    through (Narrow m) rest later e f = f e
     through (Image image version name content) rest later e f = f e
     through (Cut cut) rest later e f = f e
     through (Happens event) rest later e f = f e

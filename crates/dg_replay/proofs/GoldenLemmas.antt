@@ -1,7 +1,7 @@
 -- A script with golden: where its run begins, and the ranges of what is played.
 use Rattle.std.proofs.Common.{◌≡◌, ℕ, ◌+◌, ◌<◌, ◌≤◌, Bool, true, false, ◌⊎◌, inl, inr, List, [], ◌∷◌, ◌++◌, length, map, replicate, drop, refl, ap, sym, ◌∙◌, subst, arith, eqb-true}
 use Rattle.std.proofs.lemmas.List.{map-append}
-use Rattle.std.specs.Prelude.{Option, Some, None, option_map, IfSome, Result, Ok, Err}
+use Rattle.std.specs.Prelude.{Option, Some, None, option_map, slice_set, IfSome, Result, Ok, Err}
 use Rattle.std.specs.List.{AllByRecursion}
 use Rattle.dg_object.specs.Object.{Row, IsRow}
 use Rattle.dg_volume.specs.Store.{Store, golden_row, fresh}
@@ -12,13 +12,13 @@ use Rattle.dg_base.specs.declared.events.Step.{Step}
 use Rattle.dg_script.specs.Fitting.{StandsAt, FitsLine, FitsEvent, FitsCut, AreTwo, IsPlayed, IsPlayedEvent, IsGolden, declared_row}
 use Rattle.dg_script.specs.Fitting as script
 use Rattle.dg_script.specs.Lines.{line_of}
-use Rattle.dg_script.specs.Places.{first_place, place_after}
+use Rattle.dg_script.specs.Places.{first_place, place_after, none_narrow}
 use Rattle.dg_script.specs.Script.{Script, script_from, with_line}
 use Rattle.dg_script.proofs.SpelledLemmas.{IsSpelled, is_spelled}
 use Rattle.dg_script.specs.declared.fault.LineFault.{LineFault}
 use Rattle.dg_script.specs.declared.place.Place.{Place}
 use Rattle.dg_script.specs.declared.line.Line.{Line}
-use Rattle.dg_script.specs.declared.line.Line.TheVariants.{Nothing, Motes, Golden, Boards, Link, Image, Cut, Happens, Round, Sweeps}
+use Rattle.dg_script.specs.declared.line.Line.TheVariants.{Nothing, Motes, Golden, Boards, Link, Narrow, Image, Cut, Happens, Round, Sweeps}
 use Rattle.dg_rules.specs.Sizes.{most_motes}
 use Rattle.dg_rules.specs.World.{World, first_world}
 use Rattle.dg_rules.specs.Ranges.{EventFits, CutFits}
@@ -30,7 +30,7 @@ use Rattle.dg_rules.specs.Golden.{PlaysGolden, FindsImage}
 use Rattle.dg_rules.specs.Begins.{PlaysFrom, StoresAgree, AreShaped, HoldsTo, HoldsToThen, PlaysBoards}
 use Rattle.dg_rules.specs.Promises.{StopsAgree}
 use Rattle.dg_script.specs.Items.{Item, Happens as Happened, quietly, item_by, cut_by, cut_behind, place_behind, items_behind, items_of}
-use Rattle.dg_replay.specs.Items.{Ground, UsesBoards, BringsNone, IsNoFrame, Beginning, begin_by, begin_behind, beginning_of, with_link, lacking, no_beginning, next_items}
+use Rattle.dg_replay.specs.Items.{Ground, UsesBoards, BringsNone, IsNoFrame, Beginning, begin_by, begin_behind, beginning_of, with_link, with_narrow, lacking, no_beginning, next_items}
 use Rattle.dg_completion.specs.Completion.{IsEnough}
 use Rattle.dg_completion.specs.Ends.{EndsInRest, PagesCome, KeepsNewest, EndsLaw, EndsPipelineLaw}
 use Rattle.dg_completion.proofs.GrowLemmas.{all_append, all_replicate, all_times, all_map}
@@ -42,7 +42,7 @@ use Rattle.dg_replay.specs.Playing.{LineBegun, RunsFrom}
 use Rattle.dg_replay.specs.Replaying.{Reached, TextRead}
 use Rattle.dg_replay.specs.declared.player.Player.{Player}
 use Rattle.dg_replay.proofs.ItemLemmas.{some_is, motes_same, runs_append, runs_from_none}
-use Rattle.dg_replay.proofs.PlayLemmas.{unplayed, false_not, later_at, second_at, link_at, event_at}
+use Rattle.dg_replay.proofs.PlayLemmas.{unplayed, false_not, later_at, second_at, link_at, narrow_at, event_at}
 use Rattle.dg_nor.specs.Device.{Device}
 
 -- lines stand where they may, are in their ranges, and are played
@@ -191,6 +191,7 @@ kept_next motes place cut (Link a b) k h =
       waits = k.waits;
       links = one_more (LinkFits motes) place.links (a, b) k.links (subst (λ (n : ℕ). LinkFits n (a, b)) k.count (link_fits place.motes a b h.fits));
     }
+kept_next motes place cut (Narrow m) k h = record { behind = record { ready = k.behind.ready; some = k.behind.some }; count = k.count; waits = k.waits; links = k.links }
 kept_next motes place cut (Image image version name content) k h = k
 kept_next motes place cut (Cut c) k h = record { behind = record { ready = k.behind.ready; some = k.behind.some }; count = k.count; waits = h.fits; links = k.links }
 kept_next motes place cut (Happens event) k h = record { behind = record { ready = k.behind.ready; some = k.behind.some }; count = k.count; waits = tt; links = k.links }
@@ -208,6 +209,7 @@ line_in_range motes place cut (Motes n) k h = tt
 line_in_range motes place cut (Golden name used content) k h = tt
 line_in_range motes place cut Boards k h = tt
 line_in_range motes place cut (Link a b) k h = tt
+line_in_range motes place cut (Narrow m) k h = tt
 line_in_range motes place cut (Image image version name content) k h = (row_fits image version name content h.fits, tt)
 line_in_range motes place cut (Cut c) k h = tt
 line_in_range motes place cut (Happens event) k h = (record { event = subst (λ (n : ℕ). EventFits n event) k.count (event_fits place.motes event h.fits h.played); cut = cut_fits_too cut k.waits }, tt)
@@ -250,10 +252,11 @@ OpensBy g lines motes table stores = ByGolden motes table stores ⊎ ByBoards g 
 record Carries (motes : ℕ) (table : List Row) (stores : List Store) (b : Beginning) : Type 0 where
   links : List (ℕ × ℕ)
   fit : AllByRecursion (LinkFits motes) links
-  world : b.world ≡ Some (first_world table links stores)
+  narrow : List Bool
+  world : b.world ≡ Some (first_world table links narrow stores)
   count : b.motes ≡ motes
 
--- behind `golden` or `boards` the lines add links alone
+-- behind `golden` or `boards` the lines add links and narrow motes alone
 module _ (motes : ℕ) (table : List Row) (stores : List Store) (g : Ground) where
   carries : (b : Beginning) (place : Place) (lines : List Line) → IsBehind place → place.motes ≡ motes → LinesFit place lines → Carries motes table stores b → Carries motes table stores (begin_behind g b lines)
   unfolding LinesFit begin_behind
@@ -266,7 +269,16 @@ module _ (motes : ℕ) (table : List Row) (stores : List Store) (g : Ground) whe
       carries (begin_by g b (Link x y)) (place_after place (Link x y)) lines (record { ready = behind.ready; some = behind.some }) count h.3 (record {
         links = k.links ++ (x, y) ∷ [];
         fit = one_more (LinkFits motes) k.links (x, y) k.fit (subst (λ (n : ℕ). LinkFits n (x, y)) count (link_fits place.motes x y h.1));
+        narrow = k.narrow;
         world = ap (option_map (with_link (x, y))) k.world;
+        count = k.count;
+      })
+  carries b place (Narrow m ∷ lines) behind count h k =
+      carries (begin_by g b (Narrow m)) (place_after place (Narrow m)) lines (record { ready = behind.ready; some = behind.some }) count h.3 (record {
+        links = k.links;
+        fit = k.fit;
+        narrow = slice_set k.narrow m true;
+        world = ap (option_map (with_narrow m)) k.world;
         count = k.count;
       })
   carries b place (Image image version name content ∷ lines) behind count h k = carries b place lines behind count h.3 k
@@ -284,6 +296,7 @@ lacking_none boards place (Motes n ∷ lines) behind h = not_first place n behin
 lacking_none boards place (Golden name used content ∷ lines) behind h = not_second place name used content behind.ready h.0
 lacking_none boards place (Boards ∷ lines) behind h = not_boards place behind.ready h.0
 lacking_none boards place (Link x y ∷ lines) behind h = lacking_none boards (place_after place (Link x y)) lines (record { ready = behind.ready; some = behind.some }) h.3
+lacking_none boards place (Narrow m ∷ lines) behind h = lacking_none boards (place_after place (Narrow m)) lines (record { ready = behind.ready; some = behind.some }) h.3
 lacking_none boards place (Image image version name content ∷ lines) behind h = lacking_none boards place lines behind h.3
 lacking_none boards place (Cut c ∷ lines) behind h = lacking_none boards (place_after place (Cut c)) lines (record { ready = behind.ready; some = behind.some }) h.3
 lacking_none boards place (Happens event ∷ lines) behind h = lacking_none boards (place_after place (Happens event)) lines (record { ready = behind.ready; some = behind.some }) h.3
@@ -299,13 +312,14 @@ record Begun (g : Ground) (lines : List Line) (b : Beginning) (w : World) (items
   opens : OpensBy g lines b.motes table stores
   links : List (ℕ × ℕ)
   links_fit : AllByRecursion (LinkFits b.motes) links
-  world : w ≡ first_world table links stores
+  narrow : List Bool
+  world : w ≡ first_world table links narrow stores
   few : b.motes ≤ most_motes
   ranges : AllByRecursion (ItemInRange b.motes) items
   kept : IsKept b.motes place cut
 
 -- the line that opens the boards was read
-opened : (g : Ground) (all : List Line) (b : Beginning) (place : Place) (line : Line) (lines : List Line) (w : World) (table : List Row) (stores : List Store) → (begin_by g b line).motes ≡ b.motes → (begin_by g b line).world ≡ Some (first_world table [] stores)
+opened : (g : Ground) (all : List Line) (b : Beginning) (place : Place) (line : Line) (lines : List Line) (w : World) (table : List Row) (stores : List Store) → (begin_by g b line).motes ≡ b.motes → (begin_by g b line).world ≡ Some (first_world table [] none_narrow stores)
     → (place_after place line).motes ≡ place.motes → (place_after place line).ready ≡ true → (place_after place line).links ≡ place.links → b.motes ≡ place.motes → b.motes ≤ most_motes → place.links ≡ [] → 0 < place.motes → OpensBy g all b.motes table stores
     → LinesFit (place_after place line) lines → (begin_behind g (begin_by g b line) lines).world ≡ Some w
     → Begun g all (begin_behind g (begin_by g b line) lines) w (items_behind (place_after place line) None lines) (place_behind (place_after place line) lines) (cut_behind None lines)
@@ -314,7 +328,7 @@ opened g all b place line lines w table stores same begins_so many ready alike c
     let there : Place = place_after place line in
     let at : there.motes ≡ b.motes = many ∙ sym count in
     let behind : IsBehind there = record { ready = ready; some = subst (λ (n : ℕ). 0 < n) (sym many) some } in
-    let k : Carries b.motes table stores (begin_behind g c lines) = carries b.motes table stores g c there lines behind at h (record { links = []; fit = tt; world = begins_so; count = same }) in
+    let k : Carries b.motes table stores (begin_behind g c lines) = carries b.motes table stores g c there lines behind at h (record { links = []; fit = tt; narrow = none_narrow; world = begins_so; count = same }) in
     let kept : IsKept b.motes there None = record { behind = behind; count = at; waits = tt; links = subst (AllByRecursion (LinkFits b.motes)) (sym (alike ∙ alone)) tt } in
     record {
       table = table;
@@ -322,7 +336,8 @@ opened g all b place line lines w table stores same begins_so many ready alike c
       opens = subst (λ (n : ℕ). OpensBy g all n table stores) (sym k.count) opens;
       links = k.links;
       links_fit = subst (λ (n : ℕ). AllByRecursion (LinkFits n) k.links) (sym k.count) k.fit;
-      world = some_is w (first_world table k.links stores) (sym is ∙ k.world);
+      narrow = k.narrow;
+      world = some_is w (first_world table k.links k.narrow stores) (sym is ∙ k.world);
       few = subst (λ (n : ℕ). n ≤ most_motes) (sym k.count) few;
       ranges = subst (λ (n : ℕ). AllByRecursion (ItemInRange n) (items_behind there None lines)) (sym k.count) (in_range b.motes there None lines kept h);
       kept = subst (λ (n : ℕ). IsKept n (place_behind there lines) (cut_behind None lines)) (sym k.count) (kept_behind b.motes there None lines kept h);
@@ -341,6 +356,7 @@ begins g all b place (Golden name used content ∷ lines) w among count few none
 begins g all b place (Boards ∷ lines) w among count few none before alone h is =
     opened g all b place Boards lines w g.table g.stores refl refl refl refl refl count few alone (second_at place h.0.fits).1 (inr (record { uses = among refl; table_is = refl; stores_are = refl })) h.3 is
 begins g all b place (Link x y ∷ lines) w among count few none before alone h is = false_not place.ready (link_at place x y h.0).0.0 before
+begins g all b place (Narrow m ∷ lines) w among count few none before alone h is = false_not place.ready (narrow_at place m h.0).0.0 before
 begins g all b place (Image image version name content ∷ lines) w among count few none before alone h is = false_not place.ready (later_at place h.0.fits).0 before
 begins g all b place (Cut c ∷ lines) w among count few none before alone h is = false_not place.ready (later_at place h.0.fits).0 before
 begins g all b place (Happens event ∷ lines) w among count few none before alone h is = false_not place.ready (event_at place event h.0).0 before
@@ -365,8 +381,9 @@ record ScriptRun (g : Ground) (lines : List Line) (b : Beginning) (left : List I
   stores : List Store
   opens : OpensBy g lines b.motes table stores
   links : List (ℕ × ℕ)
-  begins : b.world ≡ Some (first_world table links stores)
-  plays : Plays (first_world table links stores) played v
+  narrow : List Bool
+  begins : b.world ≡ Some (first_world table links narrow stores)
+  plays : Plays (first_world table links narrow stores) played v
   few : b.motes ≤ most_motes
   links_fit : AllByRecursion (LinkFits b.motes) links
   ranges : AllByRecursion (IsInRange b.motes) played
@@ -378,14 +395,16 @@ pub record GoldenRun (b : Beginning) (left : List Item) (played : List Played) (
   pub bytes : List ℕ
   pub used : ℕ
   pub links : List (ℕ × ℕ)
-  pub begins : b.world ≡ Some (first_world (golden_row name bytes ∷ []) links (replicate b.motes (fresh name bytes used)))
-  pub plays : PlaysGolden name bytes used b.motes links played v
+  pub narrow : List Bool
+  pub begins : b.world ≡ Some (first_world (golden_row name bytes ∷ []) links narrow (replicate b.motes (fresh name bytes used)))
+  pub plays : PlaysGolden name bytes used b.motes links narrow played v
   pub left_fits : AllByRecursion (ItemInRange b.motes) left
 
 -- and one over the boards as they are
 record BoardsRun (g : Ground) (b : Beginning) (left : List Item) (played : List Played) (v : World) : Type 0 where
   links : List (ℕ × ℕ)
-  plays : PlaysBoards g.table g.stores links played v
+  narrow : List Bool
+  plays : PlaysBoards g.table g.stores links narrow played v
   left_fits : AllByRecursion (ItemInRange b.motes) left
 
 golden_is_row : (golden : Formatted) → IsGolden golden.name golden.used golden.content → IsRow (golden_row golden.name golden.content)
@@ -404,8 +423,8 @@ run_by : (g : Ground) (b : Beginning) (o : Option World) (done rest : List Line)
 run_by g b None done rest begun left played v is begins_so next parts items (none, last) = absurd (let e : Some v ≡ None = last in cc)
 run_by g b (Some w) done rest begun left played v is begins_so next parts items (u, last, plays) =
     let x = begins_so w is in
-    let here : Plays (first_world x.table x.links x.stores) played v =
-    subst (λ (z : World). Plays (first_world x.table x.links x.stores) played z) (sym (some_is v u last)) (subst (λ (z : World). Plays z played u) x.world plays) in
+    let here : Plays (first_world x.table x.links x.narrow x.stores) played v =
+    subst (λ (z : World). Plays (first_world x.table x.links x.narrow x.stores) played z) (sym (some_is v u last)) (subst (λ (z : World). Plays z played u) x.world plays) in
     let line : AllByRecursion (ItemInRange b.motes) (begun ++ left) = subst (AllByRecursion (ItemInRange b.motes)) parts (next_in_range b.motes done rest x.kept next) in
     let all : AllByRecursion (ItemInRange b.motes) (items_of done ++ begun) = all_append (ItemInRange b.motes) (items_of done) begun x.ranges (all_front (ItemInRange b.motes) begun left line) in
     record {
@@ -413,6 +432,7 @@ run_by g b (Some w) done rest begun left played v is begins_so next parts items 
       stores = x.stores;
       opens = x.opens;
       links = x.links;
+      narrow = x.narrow;
       begins = is ∙ ap Some x.world;
       plays = here;
       few = x.few;
@@ -429,13 +449,14 @@ script_run g done rest begun left played v fit next parts items run =
 
 golden_of : (g : Ground) (lines : List Line) (b : Beginning) (left : List Item) (played : List Played) (v : World) (r : ScriptRun g lines b left played v) → ByGolden b.motes r.table r.stores → GoldenRun b left played v
 golden_of g lines b left played v r by =
-    let same : first_world r.table r.links r.stores ≡ first_world (golden_row by.golden.name by.golden.content ∷ []) r.links (replicate b.motes (fresh by.golden.name by.golden.content by.golden.used)) =
-    ap (λ (t : List Row). first_world t r.links r.stores) by.table_is ∙ ap (first_world (golden_row by.golden.name by.golden.content ∷ []) r.links) by.stores_are in
+    let same : first_world r.table r.links r.narrow r.stores ≡ first_world (golden_row by.golden.name by.golden.content ∷ []) r.links r.narrow (replicate b.motes (fresh by.golden.name by.golden.content by.golden.used)) =
+    ap (λ (t : List Row). first_world t r.links r.narrow r.stores) by.table_is ∙ ap (first_world (golden_row by.golden.name by.golden.content ∷ []) r.links r.narrow) by.stores_are in
     record {
       name = by.golden.name;
       bytes = by.golden.content;
       used = by.golden.used;
       links = r.links;
+      narrow = r.narrow;
       begins = r.begins ∙ ap Some same;
       plays = record {
         is_row = golden_is_row by.golden by.is_golden;
@@ -449,9 +470,10 @@ golden_of g lines b left played v r by =
 
 boards_of : (g : Ground) (lines : List Line) (b : Beginning) (left : List Item) (played : List Played) (v : World) (r : ScriptRun g lines b left played v) → ByBoards g lines r.table r.stores → length g.stores ≡ b.motes → AreShaped g.stores → BoardsRun g b left played v
 boards_of g lines b left played v r by count shaped =
-    let same : first_world r.table r.links r.stores ≡ first_world g.table r.links g.stores = ap (λ (t : List Row). first_world t r.links r.stores) by.table_is ∙ ap (first_world g.table r.links) by.stores_are in
+    let same : first_world r.table r.links r.narrow r.stores ≡ first_world g.table r.links r.narrow g.stores = ap (λ (t : List Row). first_world t r.links r.narrow r.stores) by.table_is ∙ ap (first_world g.table r.links r.narrow) by.stores_are in
     record {
       links = r.links;
+      narrow = r.narrow;
       plays = record {
         shaped = shaped;
         plays = subst (λ (z : World). Plays z played v) same r.plays;
@@ -477,13 +499,13 @@ script_of_fits input = script_fits _ first_place 1 _
 
 -- what is played over honest frames is played from a world that agrees with its table, with true events
 abbrev pub GoldenWay : Type 0
-GoldenWay = (name bytes : List ℕ) (used motes : ℕ) (links : List (ℕ × ℕ)) (played : List Played) (v : World) → PlaysGolden name bytes used motes links played v
-    → AllByRecursion IsHonestThen played → PlaysFrom (first_world (golden_row name bytes ∷ []) links (replicate motes (fresh name bytes used))) played v
+GoldenWay = (name bytes : List ℕ) (used motes : ℕ) (links : List (ℕ × ℕ)) (narrow : List Bool) (played : List Played) (v : World) → PlaysGolden name bytes used motes links narrow played v
+    → AllByRecursion IsHonestThen played → PlaysFrom (first_world (golden_row name bytes ∷ []) links narrow (replicate motes (fresh name bytes used))) played v
 
 -- so is what holds to a table, over boards that agree with it
 abbrev pub BoardsWay : Type 0
-BoardsWay = (table : List Row) (stores : List Store) (links : List (ℕ × ℕ)) (played : List Played) (v : World) → PlaysBoards table stores links played v
-    → StoresAgree table stores → AllByRecursion (HoldsToThen table) played → PlaysFrom (first_world table links stores) played v
+BoardsWay = (table : List Row) (stores : List Store) (links : List (ℕ × ℕ)) (narrow : List Bool) (played : List Played) (v : World) → PlaysBoards table stores links narrow played v
+    → StoresAgree table stores → AllByRecursion (HoldsToThen table) played → PlaysFrom (first_world table links narrow stores) played v
 
 pub record Ways : Type 0 where
   pub golden : GoldenWay
@@ -523,10 +545,10 @@ module _ {table : List Row} (input : List ℕ) (c : Progress table (script_of in
       elim r.opens [
         | inl by ↦
             let run = golden_of c.ground c.done (beginning_of c.ground c.done) c.left c.played v r by in
-            record { first = _; from = ways.golden run.name run.bytes run.used (beginning_of c.ground c.done).motes run.links c.played v run.plays honest.frames }
+            record { first = _; from = ways.golden run.name run.bytes run.used (beginning_of c.ground c.done).motes run.links run.narrow c.played v run.plays honest.frames }
         | inr by ↦
             let run = boards_at v r by in
-            record { first = _; from = ways.boards c.ground.table c.ground.stores run.links c.played v run.plays (honest.agree by.uses) (honest.hold by.uses) }
+            record { first = _; from = ways.boards c.ground.table c.ground.stores run.links run.narrow c.played v run.plays (honest.agree by.uses) (honest.hold by.uses) }
       ]
 
   -- nothing was played, or it leads to a world
@@ -557,9 +579,9 @@ module _ {table : List Row} (input : List ℕ) (c : Progress table (script_of in
 -- ---- the next event, wherever it is stopped
 
 pub record HalvesLaws : Type 0 where
-  pub golden : (name bytes : List ℕ) (used motes : ℕ) (links : List (ℕ × ℕ)) (played : List Played) (v : World) (e : Event) → PlaysGolden name bytes used motes links played v
+  pub golden : (name bytes : List ℕ) (used motes : ℕ) (links : List (ℕ × ℕ)) (narrow : List Bool) (played : List Played) (v : World) (e : Event) → PlaysGolden name bytes used motes links narrow played v
       → AllByRecursion IsHonestThen played → EventFits motes e → HonestEvent v.table e → StopsAgree v e
-  pub boards : (table : List Row) (stores : List Store) (links : List (ℕ × ℕ)) (played : List Played) (v : World) (e : Event) → PlaysBoards table stores links played v
+  pub boards : (table : List Row) (stores : List Store) (links : List (ℕ × ℕ)) (narrow : List Bool) (played : List Played) (v : World) (e : Event) → PlaysBoards table stores links narrow played v
       → StoresAgree table stores → AllByRecursion (HoldsToThen table) played → EventFits (length stores) e → HoldsTo table v e → StopsAgree v e
 
 pub halves_agree : {table : List Row} → HalvesLaws → (input : List ℕ) (c : Progress table (script_of input)) (w : World) (step : Step) (loud : Bool) (more : List Item) → FramesAreHonest c → c.last ≡ Some w → c.left ≡ Happened step loud ∷ more
@@ -571,11 +593,11 @@ halves_agree laws input c w step loud more honest is next here holds =
       | inl by ↦
           let run = golden_of c.ground c.done b c.left c.played w r by in
           let fits : AllByRecursion (ItemInRange b.motes) (Happened step loud ∷ more) = subst (AllByRecursion (ItemInRange b.motes)) next run.left_fits in
-          laws.golden run.name run.bytes run.used b.motes run.links c.played w step.event run.plays honest.frames fits.0.event here
+          laws.golden run.name run.bytes run.used b.motes run.links run.narrow c.played w step.event run.plays honest.frames fits.0.event here
       | inr by ↦
           let run = boards_at input c w r by in
           let fits : AllByRecursion (ItemInRange b.motes) (Happened step loud ∷ more) = subst (AllByRecursion (ItemInRange b.motes)) next run.left_fits in
-          laws.boards c.ground.table c.ground.stores run.links c.played w step.event run.plays (honest.agree by.uses) (honest.hold by.uses)
+          laws.boards c.ground.table c.ground.stores run.links run.narrow c.played w step.event run.plays (honest.agree by.uses) (honest.hold by.uses)
           (subst (λ (n : ℕ). EventFits n step.event) (sym (boards_ground input c by.uses).0) fits.0.event) (holds by.uses)
     ]
 
@@ -609,6 +631,7 @@ line_honest place cut (Motes n) none = tt
 line_honest place cut (Golden name used content) none = tt
 line_honest place cut Boards none = tt
 line_honest place cut (Link a b) none = tt
+line_honest place cut (Narrow m) none = tt
 line_honest place cut (Image image version name content) none = (λ w. tt, tt)
 line_honest place cut (Cut c) none = tt
 line_honest place cut (Happens event) none = (λ w. event_honest event w.table none, tt)
@@ -655,12 +678,12 @@ progress_honest spells c none alone = record { frames = frames_honest spells c n
 -- ---- no event lacks an image
 
 abbrev pub ImageIsFound : Type 0
-ImageIsFound = (name bytes : List ℕ) (used motes : ℕ) (links : List (ℕ × ℕ)) (played : List Played) (v : World) (e : Event) → PlaysGolden name bytes used motes links played v → EventFits motes e → FindsImage (does v e)
+ImageIsFound = (name bytes : List ℕ) (used motes : ℕ) (links : List (ℕ × ℕ)) (narrow : List Bool) (played : List Played) (v : World) (e : Event) → PlaysGolden name bytes used motes links narrow played v → EventFits motes e → FindsImage (does v e)
 
 golden_finds : ImageIsFound → (b : Beginning) (left : List Item) (played : List Played) (u : World) (old new : List Device) → GoldenRun b left played u → LacksImage u left old new → ⊥
 golden_finds law b left played u old new g lacks =
     let fits : AllByRecursion (ItemInRange b.motes) (Happened lacks.next.step lacks.next.loud ∷ lacks.next.more) = subst (AllByRecursion (ItemInRange b.motes)) lacks.next.is g.left_fits in
-    let finds : FindsImage (does u lacks.next.step.event) = law g.name g.bytes g.used b.motes g.links played u lacks.next.step.event g.plays fits.0.event in
+    let finds : FindsImage (does u lacks.next.step.event) = law g.name g.bytes g.used b.motes g.links g.narrow played u lacks.next.step.event g.plays fits.0.event in
     let some : FindsImage (Goes lacks.ends.deed) = subst FindsImage lacks.ends.goes finds in
     some lacks.ends.none
 

@@ -13,7 +13,7 @@ use Rattle.dg_script.specs.Places.{first_place, place_after}
 use Rattle.dg_script.specs.Report.{report_text}
 use Rattle.dg_script.specs.declared.place.Place.{Place}
 use Rattle.dg_script.specs.declared.line.Line.{Line}
-use Rattle.dg_script.specs.declared.line.Line.TheVariants.{Nothing, Motes, Golden, Boards, Link, Image, Cut, Happens, Round, Sweeps}
+use Rattle.dg_script.specs.declared.line.Line.TheVariants.{Nothing, Motes, Golden, Boards, Link, Narrow, Image, Cut, Happens, Round, Sweeps}
 use Rattle.dg_script.specs.declared.report.Report.{Report}
 use Rattle.dg_script.specs.declared.report.Report.TheVariants as report
 use Rattle.dg_rules.specs.Sizes.{most_events}
@@ -24,7 +24,7 @@ use Rattle.dg_rules.specs.Steps.{WorldStep, DeclareStep, StepDoes, Ended, declar
 use Rattle.dg_rules.specs.Runs.{Played, Plays, ItemStep}
 use Rattle.dg_rules.proofs.SiteLemmas.{site_count}
 use Rattle.dg_script.specs.Items.{Item, Declares, Happens as Happened, cut_by, cut_behind, place_behind, item_by, items_behind, items_of}
-use Rattle.dg_replay.specs.Items.{Ground, Beginning, begin_by, begin_behind, beginning_of, no_beginning, with_link, is_event, events_among}
+use Rattle.dg_replay.specs.Items.{Ground, Beginning, begin_by, begin_behind, beginning_of, no_beginning, with_link, with_narrow, is_event, events_among}
 use Rattle.dg_replay.specs.Outcome.{RunsTo, item_played, played_text}
 use Rattle.dg_replay.specs.Playing.{ItemsRun}
 
@@ -77,6 +77,7 @@ motes_same g h b c (Motes n ∷ lines) e = motes_same g h (begin_by g b (Motes n
 motes_same g h b c (Golden name used content ∷ lines) e = motes_same g h (begin_by g b (Golden name used content)) (begin_by h c (Golden name used content)) lines e
 motes_same g h b c (Boards ∷ lines) e = motes_same g h (begin_by g b Boards) (begin_by h c Boards) lines e
 motes_same g h b c (Link x y ∷ lines) e = motes_same g h (begin_by g b (Link x y)) (begin_by h c (Link x y)) lines e
+motes_same g h b c (Narrow m ∷ lines) e = motes_same g h (begin_by g b (Narrow m)) (begin_by h c (Narrow m)) lines e
 motes_same g h b c (Image image version name content ∷ lines) e = motes_same g h b c lines e
 motes_same g h b c (Cut cut ∷ lines) e = motes_same g h b c lines e
 motes_same g h b c (Happens event ∷ lines) e = motes_same g h b c lines e
@@ -173,17 +174,20 @@ events_or (Some w) = w.events
 NoEvents : Option World → Type 0
 NoEvents o = (w : World) → o ≡ Some w → w.events ≡ 0
 
+-- no event is applied in a world that is set so
+no_events_set : (f : World → World) → ((w : World) → (f w).events ≡ w.events) → (o : Option World) → NoEvents o → NoEvents (option_map f o)
+unfolding NoEvents
+no_events_set f same None h = λ w is. absurd (let e : None ≡ Some w = is in cc)
+no_events_set f same (Some u) h = λ w is. ap (λ (z : World). z.events) (sym (some_is (f u) w is)) ∙ same u ∙ h u refl
+
 no_events_by : (g : Ground) (b : Beginning) (line : Line) → NoEvents b.world → NoEvents (begin_by g b line).world
 unfolding NoEvents
 no_events_by g b Nothing h = h
 no_events_by g b (Motes n) h = h
 no_events_by g b (Golden name used content) h = λ w is. let e : 0 ≡ w.events = ap events_or (is) in sym e
 no_events_by g b Boards h = λ w is. let e : 0 ≡ w.events = ap events_or (is) in sym e
-no_events_by g b (Link x y) h = linked b.world h
-  where
-    linked : (o : Option World) → NoEvents o → NoEvents (option_map (with_link (x, y)) o)
-    linked None h = λ w is. absurd (let e : None ≡ Some w = is in cc)
-    linked (Some u) h = λ w is. ap (λ (z : World). z.events) (sym (some_is (with_link (x, y) u) w is)) ∙ h u refl
+no_events_by g b (Link x y) h = no_events_set (with_link (x, y)) (λ w. refl) b.world h
+no_events_by g b (Narrow m) h = no_events_set (with_narrow m) (λ w. refl) b.world h
 no_events_by g b (Image image version name content) h = h
 no_events_by g b (Cut c) h = h
 no_events_by g b (Happens event) h = h

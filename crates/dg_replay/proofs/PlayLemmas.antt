@@ -8,7 +8,7 @@ use Rattle.dg_base.specs.declared.events.Event.TheVariants.{Tick, Hear, Last, Re
 use Rattle.dg_script.specs.Fitting.{StandsAt, verb_of_event}
 use Rattle.dg_script.specs.Verbs.{stands, is_later, is_second}
 use Rattle.dg_script.specs.declared.place.Place.{Place}
-use Rattle.dg_script.specs.declared.line.Line.TheVariants.{Golden, Boards, Link, Image, Happens, Round, Sweeps}
+use Rattle.dg_script.specs.declared.line.Line.TheVariants.{Golden, Boards, Link, Narrow, Image, Happens, Round, Sweeps}
 use Rattle.dg_rules.specs.World.{World}
 use Rattle.dg_replay.specs.Playing.{Counted, Seated, InWorld}
 use Rattle.dg_replay.specs.declared.player.Player.{Player}
@@ -54,6 +54,9 @@ boards_at place h = second_at place h.fits
 
 pub link_at : (place : Place) (a b : ℕ) → StandsAt place (Link a b) → ((place.ready ≡ true) × (0 < place.motes)) × (place.events ≡ false)
 link_at place a b h = let x = both_true (is_later place) (not place.events) h.0.fits in (later_at place x.0, not_true place.events x.1)
+
+pub narrow_at : (place : Place) (m : ℕ) → StandsAt place (Narrow m) → ((place.ready ≡ true) × (0 < place.motes)) × (place.events ≡ false)
+narrow_at place m h = let x = both_true (is_later place) (not place.events) h.0.fits in (later_at place x.0, not_true place.events x.1)
 
 pub image_at : (place : Place) (image version : ℕ) (name content : List ℕ) → StandsAt place (Image image version name content) → (place.ready ≡ true) × (0 < place.motes)
 image_at place image version name content h = later_at place h.fits

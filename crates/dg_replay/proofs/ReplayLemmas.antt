@@ -14,7 +14,7 @@ use Rattle.dg_base.specs.declared.events.Cut.{Cut as CutOfPower}
 use Rattle.dg_script.specs.declared.fault.LineFault.{LineFault}
 use Rattle.dg_script.specs.declared.place.Place.{Place}
 use Rattle.dg_script.specs.declared.line.Line.{Line}
-use Rattle.dg_script.specs.declared.line.Line.TheVariants.{Nothing, Motes, Golden, Boards, Link, Image, Cut, Happens, Round, Sweeps}
+use Rattle.dg_script.specs.declared.line.Line.TheVariants.{Nothing, Motes, Golden, Boards, Link, Narrow, Image, Cut, Happens, Round, Sweeps}
 use Rattle.dg_rules.specs.Sizes.{most_events}
 use Rattle.dg_rules.specs.World.{World}
 use Rattle.dg_rules.specs.Runs.{Played, Plays}
@@ -74,6 +74,7 @@ lacking_append boards (l ∷ done) more none one = through l (lacking boards don
     through (Golden name used content) rest more e f = f e
     through Boards rest more e f = f e
     through (Link a b) rest more e f = f e
+    through (Narrow m) rest more e f = f e
     through (Image image version name content) rest more e f = f e
     through (Cut cut) rest more e f = f e
     through (Happens event) rest more e f = f e
@@ -306,6 +307,7 @@ busy place cut (Motes n) item items e = no_items item items e
 busy place cut (Golden name used content) item items e = no_items item items e
 busy place cut Boards item items e = no_items item items e
 busy place cut (Link a b) item items e = no_items item items e
+busy place cut (Narrow m) item items e = no_items item items e
 busy place cut (Image image version name content) item items e = record { begins = λ g b. refl; plain = refl; counts = λ b. refl; enough = λ boards. refl }
 busy place cut (Cut c) item items e = no_items item items e
 busy place cut (Happens event) item items e = record { begins = λ g b. refl; plain = refl; counts = λ b. refl; enough = λ boards. refl }
@@ -383,6 +385,7 @@ stop_within place cut (Motes n) motes begun [] v initial now parts s none = absu
 stop_within place cut Boards motes begun [] None initial now parts s none = front_none begun [] parts
 stop_within place cut Boards motes begun [] (Some v) initial now parts s none = absurd s.there
 stop_within place cut (Link a b) motes begun [] v initial now parts s none = absurd s.there
+stop_within place cut (Narrow m) motes begun [] v initial now parts s none = absurd s.there
 stop_within place cut (Image image version name content) motes begun [] v initial now parts s none = absurd s.there
 stop_within place cut (Cut c) motes begun [] v initial now parts s none = absurd s.there
 stop_within place cut (Happens event) motes begun [] v initial now parts s none = absurd s.there

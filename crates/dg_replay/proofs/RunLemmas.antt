@@ -16,6 +16,9 @@ use Rattle.dg_script.specs.declared.line.Line.TheVariants.{Boards}
 use Rattle.dg_replay.specs.Boards.{BoardsStand, BoardStopped}
 use Rattle.dg_replay.specs.Items.{Ground, UsesBoards, is_boards, begin_behind, beginning_of, motes_in, lacking, next_items}
 use Rattle.dg_replay.specs.Ending.{Ending, Ends, Over, ending_from, ending_of, ending_line, status_of, script_of, is_over, InBounds, InLimits}
+use Rattle.dg_replay.specs.Around.{Around, around}
+use Rattle.dg_replay.specs.Promised.{Headline}
+use Rattle.dg_replay.specs.Done.{IsUnfailed, ReplaysAll, ReplayDone}
 use Rattle.dg_replay.specs.Outcome.{Progress, RunsTo, played_text, Wrote, BoardsLeft, NoVolumeThere, NoImageThere, IsComplete, AreVolumes, IsSettled, AreWhole, AllWhole, NextIsWhole, ReadEnough, IsCaused, Replayed}
 use Rattle.dg_replay.specs.Replaying.{Reached, PlayedUpTo, InputAnswer, StopEnds, EndsWith, ScriptReplayed}
 use Rattle.dg_replay.specs.declared.halt.Halt.{Halt}
@@ -110,9 +113,10 @@ halt_stopped {table} halt stop s input at_end reads old new before mid after fai
     (omega (arith, h.0), stopped_ends stop s (script_of input) (is_over input) input at_end h.2.0 old new before mid after failed later reads worse spread widen h.2.1 h.1 h.2.2 done)
 
 -- what a replay did, where these bytes were taken
-pub replayed_of : {table : List Row} (s : Status) (bytes : List ℕ) (lb la wb wa : Option (List ℕ)) (rb ra kb ka : ℕ) (old new : List Device) → Takes lb la bytes → length bytes ≤ most_used_bytes + 1
-    → ScriptReplayed table s (script_of bytes) (ending_of (length old) bytes) bytes (AtEnd la) old new wb wa (Rose rb ra) (Rose kb ka) → (s ≢ ReadFault → ra ≡ rb) → (s ≢ WriteFault → ka ≡ kb) → Replayed table s lb la wb wa rb ra kb ka old new
-replayed_of s bytes lb la wb wa rb ra kb ka old new taken few r reads writes =
+pub replayed_of : {table : List Row} (s : Status) (bytes : List ℕ) (a b : Around) → Takes a.left b.left bytes → length bytes ≤ most_used_bytes + 1
+    → ScriptReplayed table s (script_of bytes) (ending_of (length a.boards) bytes) bytes (AtEnd b.left) a.boards b.boards a.written b.written (Rose a.reads b.reads) (Rose a.writes b.writes)
+    → (s ≢ ReadFault → b.reads ≡ a.reads) → (s ≢ WriteFault → b.writes ≡ a.writes) → Replayed table s a b
+replayed_of s bytes a b taken few r reads writes =
     record { input = bytes; taken = taken; few_bytes = few; came = r.came; text = r.text; written = r.written; report = r.report; enough = r.enough; near = r.near; limits = r.limits; stood = r.stood; boards = r.boards; caused = r.caused; read_faults = reads; write_faults = writes }
 
 -- before the first line nothing is done
@@ -146,7 +150,8 @@ none_played {table} script = record {
 }
 
 -- memory ran out before anything was read
-pub memory_unread : {table : List Row} (bytes : List ℕ) (lb la wb : Option (List ℕ)) (rb ra k : ℕ) (old : List Device) → Takes lb la bytes → length bytes ≤ (most_used_bytes + 1) → ra ≡ rb → Replayed table Memory lb la wb wb rb ra k k old old
+pub memory_unread : {table : List Row} (bytes : List ℕ) (lb la wb : Option (List ℕ)) (rb ra k : ℕ) (old : List Device) → Takes lb la bytes → length bytes ≤ (most_used_bytes + 1) → ra ≡ rb
+    → Replayed table Memory (around lb rb wb k old) (around la ra wb k old)
 memory_unread bytes lb la wb rb ra k old taken few reads =
     record { input = bytes; taken = taken; few_bytes = few; came = none_played (script_of bytes); text = []; written = Puts-nil wb; report = record { more = []; front = refl }; enough = inr (none_whole bytes); near = tt; limits = none_bound (length old); stood = λ uses. absurd (cc); boards = refl; caused = tt; read_faults = λ other. reads; write_faults = λ other. refl }
 
@@ -239,39 +244,57 @@ told_known bytes input la done (line ∷ rest) board taken front known (inr whol
     (known_in_script (input ++ told.0) done (line ∷ more.0) board (sym (append_assoc done (line ∷ []) more.0) ∙ more.1) known)
 
 -- The boards of a script's motes are volumes, where it uses them as they are.
-pub completed : {table : List Row} (s : Status) (bytes : List ℕ) (lb la wb wa : Option (List ℕ)) (rb ra kb ka : ℕ) (old new : List Device) (n : ℕ) → n ≡ length old → lb ≡ Some bytes → InLimits n bytes → (Rose rb ra → ⊥) → (Rose kb ka → ⊥) → (BoardStopped (motes_in (script_of bytes).lines) old new → ⊥)
-    → (UsesBoards (script_of bytes).lines → AreVolumes (motes_in (script_of bytes).lines) old) → Replayed table s lb la wb wa rb ra kb ka old new → IsComplete (UsesBoards (script_of bytes).lines) s
-completed s bytes lb la wb wa rb ra kb ka old new n count told limits reads writes stops volumes x =
-    let taken : Takes (Some bytes) la x.input = subst (λ (o : Option (List ℕ)). Takes o la x.input) told x.taken in
-    let wanted : InLimits (length old) bytes = subst (λ (k : ℕ). InLimits k bytes) count limits in
-    by_status s x.input (AtEnd la) x.came x.text (Rose rb ra) (Rose kb ka) (BoardStopped (motes_in x.came.done) old new) (NoVolumeThere x.came old new) ((UsesBoards x.came.done) × NoImageThere x.came old new) (UsesBoards (script_of bytes).lines) (length old) x.enough x.caused reads writes
-    (λ b enough. stops (told_stop bytes x.input la x.came.done x.came.rest old new taken x.came.lines b enough))
+completed : {table : List Row} (s : Status) (bytes : List ℕ) (a b : Around) → IsUnfailed bytes a b → (UsesBoards (script_of bytes).lines → AreVolumes (motes_in (script_of bytes).lines) a.boards)
+    → Replayed table s a b → IsComplete (UsesBoards (script_of bytes).lines) s
+completed s bytes a b all volumes x =
+    let old = a.boards in
+    let taken : Takes (Some bytes) b.left x.input = subst (λ (o : Option (List ℕ)). Takes o b.left x.input) all.told x.taken in
+    by_status s x.input (AtEnd b.left) x.came x.text (Rose a.reads b.reads) (Rose a.writes b.writes) (BoardStopped (motes_in x.came.done) old b.boards) (NoVolumeThere x.came old b.boards) ((UsesBoards x.came.done) × NoImageThere x.came old b.boards) (UsesBoards (script_of bytes).lines) (length old) x.enough x.caused all.reads all.writes
+    (λ stop enough. all.boards (told_stop bytes x.input b.left x.came.done x.came.rest old b.boards taken x.came.lines stop enough))
     (λ v enough.
     let at = v.there.at in
-    let volume = volumes (told_boards bytes x.input la x.came.done x.came.rest v.more taken x.came.lines v.next enough) v.there.board at.before (told_known bytes x.input la x.came.done x.came.rest v.there.board taken x.came.lines at.known enough) at.was in at.no_volume volume.0 volume.1)
-    (λ i enough. told_uses bytes x.input la x.came.done x.came.rest taken x.came.lines i.0 enough)
-    (λ enough. told_end bytes x.input la (length old) taken wanted enough)
+    let volume = volumes (told_boards bytes x.input b.left x.came.done x.came.rest v.more taken x.came.lines v.next enough) v.there.board at.before (told_known bytes x.input b.left x.came.done x.came.rest v.there.board taken x.came.lines at.known enough) at.was in at.no_volume volume.0 volume.1)
+    (λ i enough. told_uses bytes x.input b.left x.came.done x.came.rest taken x.came.lines i.0 enough)
+    (λ enough. told_end bytes x.input b.left (length old) taken all.limits enough)
 
 -- without boards as they are no start lacks an image
-pub completed_golden : (uses : Type 0) (s : Status) → (uses → ⊥) → IsComplete uses s → (s ≡ Done) ⊎ (s ≡ Memory)
+completed_golden : (uses : Type 0) (s : Status) → (uses → ⊥) → IsComplete uses s → (s ≡ Done) ⊎ (s ≡ Memory)
 completed_golden uses s alone (inl done) = inl done
 completed_golden uses s alone (inr (inl memory)) = inr memory
 completed_golden uses s alone (inr (inr lacks)) = absurd (alone lacks.1)
+
+replays_all : {table : List Row} (s : Status) (a b : Around) → Replayed table s a b → ReplaysAll s a b
+replays_all s a b x = record {
+  golden = λ bytes all alone. completed_golden (UsesBoards (script_of bytes).lines) s alone (completed s bytes a b all (λ uses. absurd (alone uses)) x);
+  boards = λ bytes all volumes. completed s bytes a b all (λ uses. volumes) x;
+}
 
 -- what a replay comes to
 abbrev pub IsNever : Status → Type 0
 IsNever s = (s ≢ Usage) × (s ≢ Refused) × (s ≢ LinkFault)
 
-pub replayed_never : {table : List Row} (s : Status) (lb la wb wa : Option (List ℕ)) (rb ra kb ka : ℕ) (old new : List Device) → Replayed table s lb la wb wa rb ra kb ka old new → IsNever s
-replayed_never s lb la wb wa rb ra kb ka old new x =
-    let P : Status → Type 0 = λ t. Wrote t (ending_of (length old) x.input) x.came x.text in
+replayed_never : {table : List Row} (s : Status) (a b : Around) → Replayed table s a b → IsNever s
+replayed_never s a b x =
+    let P : Status → Type 0 = λ t. Wrote t (ending_of (length a.boards) x.input) x.came x.text in
     (λ is. subst P is x.report, λ is. subst P is x.report, λ is. subst P is x.report)
 
 -- a script with golden has volumes, and golden starts where nothing else does
-pub golden_never : {table : List Row} (s : Status) (lb la wb wa : Option (List ℕ)) (rb ra kb ka : ℕ) (old new : List Device) → (x : Replayed table s lb la wb wa rb ra kb ka old new) → (UsesBoards (script_of x.input).lines → ⊥) → (s ≢ NotAVolume) × (s ≢ NoImage)
-golden_never s lb la wb wa rb ra kb ka old new x alone =
-    let P : Status → Type 0 = λ t. BoardsLeft t x.came old new in
-    let Q : Status → Type 0 = λ t. IsCaused t (ending_of (length old) x.input) (Rose rb ra) (Rose kb ka) (BoardStopped (motes_in x.came.done) old new) (NoVolumeThere x.came old new) ((UsesBoards x.came.done) × NoImageThere x.came old new) in (
+golden_never : {table : List Row} (s : Status) (a b : Around) → (x : Replayed table s a b) → (UsesBoards (script_of x.input).lines → ⊥) → (s ≢ NotAVolume) × (s ≢ NoImage)
+golden_never s a b x alone =
+    let P : Status → Type 0 = λ t. BoardsLeft t x.came a.boards b.boards in
+    let Q : Status → Type 0 = λ t. IsCaused t (ending_of (length a.boards) x.input) (Rose a.reads b.reads) (Rose a.writes b.writes) (BoardStopped (motes_in x.came.done) a.boards b.boards) (NoVolumeThere x.came a.boards b.boards) ((UsesBoards x.came.done) × NoImageThere x.came a.boards b.boards) in (
       λ is. let lacking = subst P is x.boards in alone (subst UsesBoards (ap (λ (ls : List Line). x.came.done ++ ls) (sym lacking.next) ∙ x.came.lines) (uses_next x.came.done lacking.more)),
       λ is. let lacks = subst Q is x.caused in alone (subst UsesBoards x.came.lines (uses_front x.came.done x.came.rest lacks.0)),
     )
+
+abbrev pub HeadlineLaw : Type 0
+HeadlineLaw = (table : List Row) (input : List ℕ) (c : Progress table (script_of input)) → Headline c
+
+pub replay_done : (s : Status) (a b : Around) → HeadlineLaw → ((table : List Row) → Replayed table s a b) → ReplayDone s a b
+replay_done s a b law replayed = record {
+  replayed = replayed;
+  headline = λ table x. law table x.input x.came;
+  complete = replays_all s a b (replayed []);
+  golden = λ table x alone. golden_never s a b x alone;
+  never = replayed_never s a b (replayed []);
+}

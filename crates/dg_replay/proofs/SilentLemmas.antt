@@ -12,10 +12,10 @@ use Rattle.dg_volume.specs.Stands.{Stands}
 use Rattle.dg_volume.specs.Shaped.{IsShaped}
 use Rattle.dg_base.specs.declared.events.Cut.{Cut as CutOfPower}
 use Rattle.dg_script.specs.Fitting.{FitsCut, FitsLine, StandsAt}
-use Rattle.dg_script.specs.Places.{place_after}
+use Rattle.dg_script.specs.Places.{place_after, none_narrow}
 use Rattle.dg_script.specs.declared.place.Place.{Place}
 use Rattle.dg_script.specs.declared.line.Line.{Line}
-use Rattle.dg_script.specs.declared.line.Line.TheVariants.{Nothing, Motes, Golden, Boards, Link, Cut}
+use Rattle.dg_script.specs.declared.line.Line.TheVariants.{Nothing, Motes, Golden, Boards, Link, Narrow, Cut}
 use Rattle.dg_rules.specs.Sizes.{most_motes}
 use Rattle.dg_rules.specs.World.{World, first_world, off_site, no_site}
 use Rattle.dg_rules.specs.Begins.{store_of}
@@ -28,7 +28,7 @@ use Rattle.dg_world.specs.Counts.{NoneRose}
 use Rattle.dg_world.specs.Formatted.{FirstBoards, FormatStops}
 use Rattle.dg_world.specs.declared.world.World.{World as KeptWorld}
 use Rattle.dg_world.specs.declared.format.FormatStopped.{FormatStopped}
-use Rattle.dg_replay.specs.Items.{motes_in, golden_world, with_link}
+use Rattle.dg_replay.specs.Items.{motes_in, golden_world, with_link, with_narrow}
 use Rattle.dg_replay.specs.Boards.{BoardsEndure, StoppedIn}
 use Rattle.dg_replay.specs.Playing.{Counted, InWorld, Passed, Stood, PlayedLine, LacksBoards, LinkedAs, PlayedAs, mount_stop}
 use Rattle.dg_replay.specs.declared.player.Player.{Player}
@@ -37,7 +37,7 @@ use Rattle.dg_replay.specs.declared.stop.Stop.TheVariants.{Memory, FlashFault, N
 use Rattle.dg_replay.proofs.ItemLemmas.{some_is}
 use Rattle.dg_replay.proofs.BoardLemmas.{there}
 use Rattle.dg_replay.proofs.PlayLemmas.{false_not, no_world, in_world_as, seated_as}
-use Rattle.dg_replay.proofs.StandLemmas.{joined_next, stood_next, grounded_next, grounded_motes, silent_runs, golden_runs, boards_runs, link_runs, none_begun}
+use Rattle.dg_replay.proofs.StandLemmas.{joined_next, stood_next, grounded_next, grounded_motes, silent_runs, golden_runs, boards_runs, link_runs, narrow_runs, none_begun}
 
 -- memory ran out before anything of a line was done
 pub memory_line : (table : List Row) (p q : Player) (done : List Line) (w : Option World) (line : Line) (told_before told : List ℕ) (initial now : List Device) → Stood p done w initial now → PlayedAs table (Err Memory) q done w line told_before told initial now now
@@ -145,7 +145,7 @@ pub golden_played : {table : List Row} (p q : Player) (done : List Line) (w : Op
     → ((m : ℕ) (d : Device) → m < motes → slice_get new m ≡ Some d → Stands d.image (fresh name content used))
     → ((m : ℕ) (d : Device) → m < motes → slice_get old m ≡ Some d → d.stopped ≡ false) → NoneRose old new → FirstBoards motes old new
     → ((boards : List Device) (stores : List Store) (table : List Row) → length stores ≡ motes → motes ≤ length boards
-    → ((m : ℕ) (d : Device) → m < motes → slice_get boards m ≡ Some d → Stands d.image (slice_index_or stores m no_site.store)) → IsWorld v boards (first_world table [] stores))
+    → ((m : ℕ) (d : Device) → m < motes → slice_get boards m ≡ Some d → Stands d.image (slice_index_or stores m no_site.store)) → IsWorld v boards (first_world table [] none_narrow stores))
     → Stood p done w initial old → PlayedLine table q done w (Golden name used content) told told initial new
 golden_played p q done (Some w) name used content motes v told initial old new unready count counted place cut world formatted awake calm others begins s = false_not p.place.ready s.world.4 unready
 golden_played p q done None name used content motes v told initial old new unready count counted place cut world formatted awake calm others begins s =
@@ -224,12 +224,12 @@ pub boards_played : (table : List Row) (p q : Player) (done : List Line) (w : Op
     → ((stores : List Store) × StandFor motes stores new × ((m : ℕ) → m < motes → IsShaped (store_of stores m)))
     → ((m : ℕ) (d : Device) → m < motes → slice_get old m ≡ Some d → d.stopped ≡ false) → NoneRose old new → SameBoards old new → ((m : ℕ) → motes ≤ m → slice_get new m ≡ slice_get old m)
     → ((boards : List Device) (stores : List Store) (table : List Row) → length stores ≡ motes → motes ≤ length boards
-    → ((m : ℕ) (d : Device) → m < motes → slice_get boards m ≡ Some d → Stands d.image (slice_index_or stores m no_site.store)) → IsWorld v boards (first_world table [] stores))
+    → ((m : ℕ) (d : Device) → m < motes → slice_get boards m ≡ Some d → Stands d.image (slice_index_or stores m no_site.store)) → IsWorld v boards (first_world table [] none_narrow stores))
     → Stood p done w initial old → PlayedLine table q done w Boards told told initial new
 boards_played table p q done (Some w) motes v told initial old new unready count counted place cut world stand awake calm same others begins s = false_not p.place.ready s.world.4 unready
 boards_played table p q done None motes v told initial old new unready count counted place cut world (stores, stand, shaped) awake calm same others begins s =
     let first : old ≡ initial = s.boards in
-    let z : World = first_world table [] stores in
+    let z : World = first_world table [] none_narrow stores in
     let enough : motes ≤ length new = omega (arith, counted.2, same.count) in
     let is_world : IsWorld v new z = begins new stores table stand.count enough stand.each in
     let many : length z.sites ≡ motes = length-map stores off_site ∙ stand.count in
@@ -304,7 +304,7 @@ boards_ended table p q done w motes (NoVolume board) stop told initial old new i
     let lacking = refuses board refl in
     subst (λ (x : Stop). PlayedAs table (Err x) q done w Boards told told initial old new) (sym is) (boards_refused table p q done w motes board told initial old new unready count same lacking.0 lacking.1 s)
 
--- ---- links
+-- ---- links and narrow motes
 
 pub link_played : (table : List Row) (r : Result (Unit {0}) Stop) (p q : Player) (done : List Line) (w : Option World) (a b : ℕ) (v v2 : KeptWorld) (told : List ℕ) (initial now : List Device)
     → StandsAt p.place (Link a b) → FitsLine p.place.motes (Link a b) → p.place.ready ≡ true → p.place.events ≡ false → p.world ≡ Some v → q.place ≡ place_after p.place (Link a b) → q.cut ≡ p.cut → q.world ≡ Some v2
@@ -334,3 +334,26 @@ link_played table (Err stop) p q done (Some w) a b v v2 told initial now stands 
   where
     err_is : (x y : Stop) → ◌≡◌ {A = Result (Unit {0}) Stop} (Err x) (Err y) → x ≡ y
     err_is x y e = cc
+
+pub narrow_played : {table : List Row} (p q : Player) (done : List Line) (w : Option World) (m : ℕ) (v v2 : KeptWorld) (told : List ℕ) (initial now : List Device)
+    → StandsAt p.place (Narrow m) → FitsLine p.place.motes (Narrow m) → p.place.ready ≡ true → p.place.events ≡ false → p.world ≡ Some v → q.place ≡ place_after p.place (Narrow m) → q.cut ≡ p.cut → q.world ≡ Some v2
+    → ((boards : List Device) (u : World) → IsWorld v boards u → IsWorld v2 boards (with_narrow m u)) → Stood p done w initial now → PlayedLine table q done w (Narrow m) told told initial now
+narrow_played p q done None m v v2 told initial now stands fits later early has place cut world narrowed s = false_not p.place.ready later s.world.1
+narrow_played p q done (Some w) m v v2 told initial now stands fits later early has place cut world narrowed s =
+    let k = s.world in
+    let kept : IsWorld v now w = subst (λ (x : KeptWorld). IsWorld x now w) (some_is k.0 v (sym k.1 ∙ has)) k.2 in
+    let motes : q.place.motes ≡ p.place.motes = ap (λ (x : Place). x.motes) place in
+    let b = s.boards in
+    record {
+      world = Some (with_narrow m w);
+      text = [];
+      told_now = sym (append-nil told);
+      runs = narrow_runs done m w (s.early early);
+      stood = stood_next p q done (Narrow m) (Some w) (Some (with_narrow m w)) initial now now (joined_next p.place (Narrow m) stands fits s.links) s place
+          (seated_as p.place q.place (length now) motes s.seats)
+          (cut ∙ s.cut)
+          (subst (λ (o : Option CutOfPower). IfSome o FitsCut) (sym cut) s.cut_fits)
+          (v2, world, narrowed now w kept, k.3 ∙ sym motes, ap (λ (x : Place). x.ready) place ∙ k.4, subst (λ (n : ℕ). 0 < n) (sym motes) k.5)
+          (record { all = b.all; calm = b.calm; stands = b.stands; came = b.came; others = b.others });
+      boards_enough = refl;
+    }

@@ -9,22 +9,23 @@ use Rattle.dg_volume.specs.Table.{row_at}
 use Rattle.dg_base.specs.declared.events.Cut.{Cut as CutOfPower}
 use Rattle.dg_script.specs.Fitting.{FitsCut, FitsLine, StandsAt}
 use Rattle.dg_script.specs.Items.{Item, Declares, Happens as Happened, item_by, cut_by, cut_behind, place_behind, items_of}
-use Rattle.dg_script.specs.Places.{first_place, place_after}
+use Rattle.dg_script.specs.Places.{first_place, place_after, none_narrow}
 use Rattle.dg_script.specs.Report.{report_text}
 use Rattle.dg_script.specs.declared.place.Place.{Place}
 use Rattle.dg_script.specs.declared.line.Line.{Line}
-use Rattle.dg_script.specs.declared.line.Line.TheVariants.{Nothing, Motes, Golden, Boards, Link, Image, Cut, Happens, Round, Sweeps}
+use Rattle.dg_script.specs.declared.line.Line.TheVariants.{Nothing, Motes, Golden, Boards, Link, Narrow, Image, Cut, Happens, Round, Sweeps}
 use Rattle.dg_script.specs.declared.report.Report.{Report}
 use Rattle.dg_rules.specs.Sizes.{most_events}
 use Rattle.dg_rules.specs.Premises.{LinkFits}
 use Rattle.dg_rules.specs.Runs.{Played, Plays, ItemStep}
+use Rattle.dg_rules.specs.Changes.{declared_lines}
 use Rattle.dg_rules.specs.Steps.{declared_as}
 use Rattle.dg_volume.specs.Store.{Store}
 use Rattle.dg_rules.specs.World.{World, first_world}
 use Rattle.dg_rules.specs.Begins.{AreShaped}
 use Rattle.dg_world.specs.Mounted.{StandFor}
 use Rattle.dg_replay.specs.Boards.{BoardsStand}
-use Rattle.dg_replay.specs.Items.{Ground, no_ground, Beginning, begin_by, beginning_of, motes_in, no_beginning, golden_world, with_link, is_boards, UsesBoards, begin_behind}
+use Rattle.dg_replay.specs.Items.{Ground, no_ground, Beginning, begin_by, beginning_of, motes_in, no_beginning, golden_world, with_link, with_narrow, is_boards, UsesBoards, begin_behind}
 use Rattle.dg_replay.specs.Outcome.{IsGround, RunsTo, item_played, played_text}
 use Rattle.dg_replay.specs.Playing.{IsDeclaration, Seated, InWorld, Joined, Stood, ItemsRun, ItemsBegun, LineRuns, LineBegun, Grounded}
 use Rattle.dg_replay.specs.declared.player.Player.{Player}
@@ -39,6 +40,7 @@ motes_next g place b (Motes n) e = refl
 motes_next g place b (Golden name used content) e = e
 motes_next g place b Boards e = e
 motes_next g place b (Link x y) e = e
+motes_next g place b (Narrow m) e = e
 motes_next g place b (Image image version name content) e = e
 motes_next g place b (Cut cut) e = e
 motes_next g place b (Happens event) e = e
@@ -49,13 +51,14 @@ all_more : {A : Type 0} (P : A → Type 0) (xs ys : List A) → AllByRecursion P
 all_more P [] ys h k = k
 all_more P (x ∷ xs) ys h k = (h.0, all_more P xs ys h.1 k)
 
--- before the first event, all lines but links and images do nothing to the motes
+-- before the first event, no line but an image has an item
 early_by : (place at : Place) (cut : Option CutOfPower) (line : Line) → (place_after place line).events ≡ false → (place.events ≡ false) × AllByRecursion IsDeclaration (item_by at cut line)
 early_by place at cut Nothing e = (e, tt)
 early_by place at cut (Motes n) e = (e, tt)
 early_by place at cut (Golden name used content) e = (e, tt)
 early_by place at cut Boards e = (e, tt)
 early_by place at cut (Link x y) e = (e, tt)
+early_by place at cut (Narrow m) e = (e, tt)
 early_by place at cut (Image image version name content) e = (e, (tt, tt))
 early_by place at cut (Cut c) e = (e, tt)
 early_by place at cut (Happens event) e = absurd (let f : true ≡ false = e in cc)
@@ -79,6 +82,7 @@ joined_next place (Golden name used content) stands fits all = all
 joined_next place Boards stands fits all = all
 joined_next place (Link a b) stands fits all =
     all_more (LinkFits place.motes) place.links ((a, b) ∷ []) all (record { first = fits.first; second = fits.second; two = λ same. fits.other (sym same) }, tt)
+joined_next place (Narrow m) stands fits all = all
 joined_next place (Image image version name content) stands fits all = all
 joined_next place (Cut cut) stands fits all = all
 joined_next place (Happens event) stands fits all = all
@@ -133,6 +137,7 @@ stays_by g b (Motes n) w e = (w, e)
 stays_by g b (Golden name used content) w e = (_, refl)
 stays_by g b Boards w e = (_, refl)
 stays_by g b (Link x y) w e = (with_link (x, y) w, ap (λ (o : Option World). option_map (with_link (x, y)) o) e)
+stays_by g b (Narrow m) w e = (with_narrow m w, ap (λ (o : Option World). option_map (with_narrow m) o) e)
 stays_by g b (Image image version name content) w e = (w, e)
 stays_by g b (Cut c) w e = (w, e)
 stays_by g b (Happens event) w e = (w, e)
@@ -150,8 +155,9 @@ uses_some g b [] uses = absurd (cc)
 uses_some g b (Nothing ∷ lines) uses = uses_some g b lines uses
 uses_some g b (Motes n ∷ lines) uses = uses_some g (begin_by g b (Motes n)) lines uses
 uses_some g b (Golden name used content ∷ lines) uses = uses_some g (begin_by g b (Golden name used content)) lines uses
-uses_some g b (Boards ∷ lines) uses = stays g (begin_by g b Boards) lines (first_world g.table [] g.stores) refl
+uses_some g b (Boards ∷ lines) uses = stays g (begin_by g b Boards) lines (first_world g.table [] none_narrow g.stores) refl
 uses_some g b (Link x y ∷ lines) uses = uses_some g (begin_by g b (Link x y)) lines uses
+uses_some g b (Narrow m ∷ lines) uses = uses_some g (begin_by g b (Narrow m)) lines uses
 uses_some g b (Image image version name content ∷ lines) uses = uses_some g b lines uses
 uses_some g b (Cut c ∷ lines) uses = uses_some g b lines uses
 uses_some g b (Happens event ∷ lines) uses = uses_some g b lines uses
@@ -210,7 +216,7 @@ golden_runs done name used content motes is = λ g played before items r. record
 }
 
 -- the boards are used as they are, and held against any table
-pub boards_runs : {initial : List Device} (done : List Line) (table : List Row) (stores : List Store) → StandFor (motes_in done) stores initial → AreShaped stores → LineRuns table initial done Boards None (Some (first_world table [] stores)) []
+pub boards_runs : {initial : List Device} (done : List Line) (table : List Row) (stores : List Store) → StandFor (motes_in done) stores initial → AreShaped stores → LineRuns table initial done Boards None (Some (first_world table [] none_narrow stores)) []
 boards_runs {initial} done table stores stand shaped = λ g played before items r.
     let ground : Ground = record { stores = stores; table = table } in
     let count : motes_in (done ++ Boards ∷ []) ≡ motes_in done = ap (λ (b : Beginning). b.motes) (begin_next no_ground no_beginning done Boards) in
@@ -219,60 +225,87 @@ boards_runs {initial} done table stores stand shaped = λ g played before items 
       grounded = λ uses. subst (λ (n : ℕ). IsGround ground table n × StandFor n stores initial) (sym count) (record { held = refl; count = stand.count; shaped = shaped }, stand);
       now = played;
       items = items ∙ same_items done Boards refl;
-      run = subst (λ (b : Beginning). RunsTo b.world played (Some (first_world table [] stores))) (sym (begin_next ground no_beginning done Boards)) (
-        first_world table [] stores,
+      run = subst (λ (b : Beginning). RunsTo b.world played (Some (first_world table [] none_narrow stores))) (sym (begin_next ground no_beginning done Boards)) (
+        first_world table [] none_narrow stores,
         refl,
-        plays_none (first_world table [] stores) (first_world table [] stores) played (runs_from_none (beginning_of g done).world played r).1 refl,
+        plays_none (first_world table [] none_narrow stores) (first_world table [] none_narrow stores) played (runs_from_none (beginning_of g done).world played r).1 refl,
       );
       told = sym (append-nil (played_text played));
       on = inl refl;
     }
 
--- ---- links
+-- ---- links and narrow motes
 
--- what was played, in a world with one more link
-abbrev with_links : (ℕ × ℕ) → Played → Played
-with_links link p = record p { before = with_link link p.before; after = with_link link p.after }
+-- What may be said of a world before its first event: declarations look at it no more than it looks at them.
+record Sets (f : World → World) : Type 0 where
+  declared : (w : World) → (f w).declared ≡ w.declared
+  rows : (o : Option Row) (w : World) (row : Row) → f (declared_as o w row) ≡ declared_as o (f w) row
 
-declared_linked : (link : ℕ × ℕ) (o : Option Row) (w : World) (row : Row) → with_link link (declared_as o w row) ≡ declared_as o (with_link link w) row
-declared_linked link None w row = refl
-declared_linked link (Some k) w row = refl
+link_sets : (link : ℕ × ℕ) → Sets (with_link link)
+link_sets link = record { declared = λ w. refl; rows = by_row }
+  where
+    by_row : (o : Option Row) (w : World) (row : Row) → with_link link (declared_as o w row) ≡ declared_as o (with_link link w) row
+    by_row None w row = refl
+    by_row (Some k) w row = refl
 
-item_linked : (link : ℕ × ℕ) (item : Item) (w v : World) (reports : List Report) → IsDeclaration item → ItemStep w item v reports → ItemStep (with_link link w) item (with_link link v) reports
-item_linked link (Declares row) w v reports is step =
-    record { world = ap (with_link link) step.world ∙ declared_linked link (row_at w.declared row.image row.version) w row; told = step.told }
-item_linked link (Happened x loud) w v reports is step = absurd is
+narrow_sets : (m : ℕ) → Sets (with_narrow m)
+narrow_sets m = record { declared = λ w. refl; rows = by_row }
+  where
+    by_row : (o : Option Row) (w : World) (row : Row) → with_narrow m (declared_as o w row) ≡ declared_as o (with_narrow m w) row
+    by_row None w row = refl
+    by_row (Some k) w row = refl
 
-plays_linked : (link : ℕ × ℕ) (w v : World) (ps : List Played) → AllByRecursion IsDeclaration (map item_played ps) → Plays w ps v → Plays (with_link link w) (map (with_links link) ps) (with_link link v)
+-- what was played, in worlds of which that is said too
+abbrev set_in : (World → World) → Played → Played
+set_in f p = record p { before = f p.before; after = f p.after }
+
+item_set : (f : World → World) → Sets f → (item : Item) (w v : World) (reports : List Report) → IsDeclaration item → ItemStep w item v reports → ItemStep (f w) item (f v) reports
+item_set f s (Declares row) w v reports is step =
+    let same : row_at (f w).declared row.image row.version ≡ row_at w.declared row.image row.version = ap (λ (rows : List Row). row_at rows row.image row.version) (s.declared w) in
+    record {
+      world = ap f step.world ∙ s.rows (row_at w.declared row.image row.version) w row ∙ ap (λ (o : Option Row). declared_as o (f w) row) (sym same);
+      told = step.told ∙ ap (λ (o : Option Row). declared_lines o row) (sym same);
+    }
+item_set f s (Happened x loud) w v reports is step = absurd is
+
+plays_set : (f : World → World) → Sets f → (w v : World) (ps : List Played) → AllByRecursion IsDeclaration (map item_played ps) → Plays w ps v → Plays (f w) (map (set_in f) ps) (f v)
 unfolding Plays
-plays_linked link w v [] all run = ap (with_link link) run
-plays_linked link w v (p ∷ ps) all run =
-    (ap (with_link link) run.0, item_linked link p.item p.before p.after p.reports all.0 run.1, plays_linked link p.after v ps all.1 run.2)
+plays_set f s w v [] all run = ap f run
+plays_set f s w v (p ∷ ps) all run =
+    (ap f run.0, item_set f s p.item p.before p.after p.reports all.0 run.1, plays_set f s p.after v ps all.1 run.2)
 
-items_linked : (link : ℕ × ℕ) (ps : List Played) → map item_played (map (with_links link) ps) ≡ map item_played ps
-items_linked link [] = refl
-items_linked link (p ∷ ps) = ap (λ (xs : List Item). p.item ∷ xs) (items_linked link ps)
+items_set : (f : World → World) (ps : List Played) → map item_played (map (set_in f) ps) ≡ map item_played ps
+items_set f [] = refl
+items_set f (p ∷ ps) = ap (λ (xs : List Item). p.item ∷ xs) (items_set f ps)
 
-text_linked : (link : ℕ × ℕ) (ps : List Played) → played_text (map (with_links link) ps) ≡ played_text ps
-text_linked link [] = refl
-text_linked link (p ∷ ps) = ap (λ (xs : List ℕ). report_text p.reports ++ xs) (text_linked link ps)
+text_set : (f : World → World) (ps : List Played) → played_text (map (set_in f) ps) ≡ played_text ps
+text_set f [] = refl
+text_set f (p ∷ ps) = ap (λ (xs : List ℕ). report_text p.reports ++ xs) (text_set f ps)
 
-run_linked : (link : ℕ × ℕ) (o : Option World) (ps : List Played) (w : World) → AllByRecursion IsDeclaration (map item_played ps) → RunsTo o ps (Some w) → RunsTo (option_map (with_link link) o) (map (with_links link) ps) (Some (with_link link w))
-run_linked link None ps w all (none, is) = absurd (let e : Some w ≡ None = is in cc)
-run_linked link (Some u) ps w all (v, is, plays) = (with_link link w, refl, subst (λ (z : World). Plays (with_link link u) (map (with_links link) ps) (with_link link z)) (sym (some_is w v is)) (plays_linked link u v ps all plays))
+run_set : (f : World → World) → Sets f → (o : Option World) (ps : List Played) (w : World) → AllByRecursion IsDeclaration (map item_played ps) → RunsTo o ps (Some w) → RunsTo (option_map f o) (map (set_in f) ps) (Some (f w))
+run_set f s None ps w all (none, is) = absurd (let e : Some w ≡ None = is in cc)
+run_set f s (Some u) ps w all (v, is, plays) = (f w, refl, subst (λ (z : World). Plays (f u) (map (set_in f) ps) (f z)) (sym (some_is w v is)) (plays_set f s u v ps all plays))
 
--- behind a link, the same was played from a world that has it
-pub link_runs : {table : List Row} {initial : List Device} (done : List Line) (a b : ℕ) (w : World) → AllByRecursion IsDeclaration (items_of done) → LineRuns table initial done (Link a b) (Some w) (Some (with_link (a, b) w)) []
-link_runs done a b w all = λ g played before items r. record {
+-- behind such a line, the same was played from a world of which it says that
+set_runs : {table : List Row} {initial : List Device} (f : World → World) → Sets f → (done : List Line) (line : Line) (w : World) → AllByRecursion IsDeclaration (items_of done) → item_by (place_behind first_place done) (cut_behind None done) line ≡ []
+    → ((g : Ground) (b : Beginning) → (begin_by g b line).world ≡ option_map f b.world) → is_boards line ≡ false → ((b : Beginning) → (begin_by no_ground b line).motes ≡ b.motes) → LineRuns table initial done line (Some w) (Some (f w)) []
+set_runs f s done line w all none begins plain counts = λ g played before items r. record {
   ground = g;
-  grounded = grounded_next g done (Link a b) refl (λ x. refl) before;
-  now = map (with_links (a, b)) played;
-  items = items_linked (a, b) played ∙ items ∙ same_items done (Link a b) refl;
-  run = subst (λ (x : Beginning). RunsTo x.world (map (with_links (a, b)) played) (Some (with_link (a, b) w))) (sym (begin_next g no_beginning done (Link a b)))
-      (run_linked (a, b) (beginning_of g done).world played w (subst (λ (xs : List Item). AllByRecursion IsDeclaration xs) (sym items) all) r);
-  told = text_linked (a, b) played ∙ sym (append-nil (played_text played));
+  grounded = grounded_next g done line plain counts before;
+  now = map (set_in f) played;
+  items = items_set f played ∙ items ∙ same_items done line none;
+  run = subst (λ (x : Beginning). RunsTo x.world (map (set_in f) played) (Some (f w))) (sym (begin_next g no_beginning done line))
+      (subst (λ (o : Option World). RunsTo o (map (set_in f) played) (Some (f w))) (sym (begins g (beginning_of g done)))
+      (run_set f s (beginning_of g done).world played w (subst (λ (xs : List Item). AllByRecursion IsDeclaration xs) (sym items) all) r));
+  told = text_set f played ∙ sym (append-nil (played_text played));
   on = inl refl;
 }
+
+pub link_runs : {table : List Row} {initial : List Device} (done : List Line) (a b : ℕ) (w : World) → AllByRecursion IsDeclaration (items_of done) → LineRuns table initial done (Link a b) (Some w) (Some (with_link (a, b) w)) []
+link_runs done a b w all = set_runs (with_link (a, b)) (link_sets (a, b)) done (Link a b) w all refl (λ g x. refl) refl (λ x. refl)
+
+pub narrow_runs : {table : List Row} {initial : List Device} (done : List Line) (m : ℕ) (w : World) → AllByRecursion IsDeclaration (items_of done) → LineRuns table initial done (Narrow m) (Some w) (Some (with_narrow m w)) []
+narrow_runs done m w all = set_runs (with_narrow m) (narrow_sets m) done (Narrow m) w all refl (λ g x. refl) refl (λ x. refl)
 
 -- ---- a line that was begun
 

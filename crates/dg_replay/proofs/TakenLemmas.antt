@@ -9,7 +9,7 @@ use Rattle.dg_script.specs.Places.{first_place, place_after}
 use Rattle.dg_script.specs.Script.{Script, script_from}
 use Rattle.dg_script.specs.declared.place.Place.{Place}
 use Rattle.dg_script.specs.declared.line.Line.{Line}
-use Rattle.dg_script.specs.declared.line.Line.TheVariants.{Nothing, Motes, Golden, Boards, Link, Image, Cut, Happens, Round, Sweeps}
+use Rattle.dg_script.specs.declared.line.Line.TheVariants.{Nothing, Motes, Golden, Boards, Link, Narrow, Image, Cut, Happens, Round, Sweeps}
 use Rattle.dg_script.specs.Items.{Item}
 use Rattle.dg_replay.specs.Items.{Ground, no_ground, Beginning, begin_by, begin_behind, motes_in, next_items}
 use Rattle.dg_replay.specs.Boards.{BoardStopped}
@@ -17,7 +17,7 @@ use Rattle.dg_replay.specs.Ending.{whole_lines, used, is_over, script_of, ending
 use Rattle.dg_replay.specs.Outcome.{IsSettled, AreWhole, DoneIsWhole}
 use Rattle.dg_replay.proofs.EndLemmas.{is_over-true, over_more}
 use Rattle.dg_replay.proofs.GoldenLemmas.{LinesFit, front_fits, not_first, script_of_fits}
-use Rattle.dg_replay.proofs.PlayLemmas.{unplayed, second_at, later_at, link_at, event_at}
+use Rattle.dg_replay.proofs.PlayLemmas.{unplayed, second_at, later_at, link_at, narrow_at, event_at}
 
 -- ---- more bytes than are used
 
@@ -70,6 +70,7 @@ counted_stays g b place (Motes n ∷ lines) some h = not_first place n some h.0
 counted_stays g b place (Golden name used content ∷ lines) some h = counted_stays g (begin_by g b (Golden name used content)) (place_after place (Golden name used content)) lines some h.3
 counted_stays g b place (Boards ∷ lines) some h = counted_stays g (begin_by g b Boards) (place_after place Boards) lines some h.3
 counted_stays g b place (Link x y ∷ lines) some h = counted_stays g (begin_by g b (Link x y)) (place_after place (Link x y)) lines some h.3
+counted_stays g b place (Narrow m ∷ lines) some h = counted_stays g (begin_by g b (Narrow m)) (place_after place (Narrow m)) lines some h.3
 counted_stays g b place (Image image version name content ∷ lines) some h = counted_stays g b place lines some h.3
 counted_stays g b place (Cut c ∷ lines) some h = counted_stays g b (place_after place (Cut c)) lines some h.3
 counted_stays g b place (Happens event ∷ lines) some h = counted_stays g b (place_after place (Happens event)) lines some h.3
@@ -91,6 +92,7 @@ counted_once (Motes n ∷ done) rest h some =
 counted_once (Golden name used content ∷ done) rest h some = none_yet (second_at first_place h.0.fits).1
 counted_once (Boards ∷ done) rest h some = none_yet (second_at first_place h.0.fits).1
 counted_once (Link x y ∷ done) rest h some = none_yet (link_at first_place x y h.0).0.1
+counted_once (Narrow m ∷ done) rest h some = none_yet (narrow_at first_place m h.0).0.1
 counted_once (Image image version name content ∷ done) rest h some = none_yet (later_at first_place h.0.fits).1
 counted_once (Cut c ∷ done) rest h some = none_yet (later_at first_place h.0.fits).1
 counted_once (Happens event ∷ done) rest h some = none_yet (event_at first_place event h.0).1

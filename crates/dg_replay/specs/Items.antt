@@ -1,14 +1,14 @@
 -- What the lines of a script say of its run: where it begins, and what may come of it.
-use Rattle.std.specs.Prelude.{◌≡◌, ℕ, nat_lt, Bool, true, false, if◌then◌else◌, List, [], ◌∷◌, ◌++◌, replicate, Option, Some, None, option_map}
+use Rattle.std.specs.Prelude.{◌≡◌, ℕ, nat_lt, Bool, true, false, if◌then◌else◌, List, [], ◌∷◌, ◌++◌, replicate, slice_set, Option, Some, None, option_map}
 use Rattle.std.specs.List.{count_by, list_any}
 use Rattle.dg_object.specs.Object.{Row}
 use Rattle.dg_volume.specs.Store.{Store, fresh, golden_row}
 use Rattle.dg_base.specs.declared.events.Event.{Event}
 use Rattle.dg_base.specs.declared.events.Event.TheVariants.{Tick, Hear, Last, Reset, Inject, Order, Frame}
 use Rattle.dg_script.specs.Items.{Item, Declares, Happens as Happened, item_by, cut_behind, place_behind}
-use Rattle.dg_script.specs.Places.{first_place}
+use Rattle.dg_script.specs.Places.{first_place, none_narrow}
 use Rattle.dg_script.specs.declared.line.Line.{Line}
-use Rattle.dg_script.specs.declared.line.Line.TheVariants.{Nothing, Motes, Golden, Boards, Link, Image, Cut, Happens, Round, Sweeps}
+use Rattle.dg_script.specs.declared.line.Line.TheVariants.{Nothing, Motes, Golden, Boards, Link, Narrow, Image, Cut, Happens, Round, Sweeps}
 use Rattle.dg_rules.specs.World.{World, first_world}
 
 -- What a script does not say itself: what the boards of its motes stand for where they are used as they are, and the table
@@ -17,25 +17,31 @@ pub record Ground : Type 0 where
   pub stores : List Store
   pub table : List Row
 
--- How many motes there are, and the world in which their run begins, None before they are formatted. It has all links of these lines, though an image may be declared before a link: declarations look at no link
+-- How many motes there are, and the world in which their run begins, None before they are formatted. It has all
+-- links and narrow motes of these lines, though an image may be declared before one of them: declarations look at neither
 pub record Beginning : Type 0 where
   pub motes : ℕ
   pub world : Option World
 
 -- the world in which so many motes begin, whose boards are formatted with golden
 abbrev pub golden_world : (motes : ℕ) → (name : List ℕ) → (used : ℕ) → (content : List ℕ) → World
-golden_world motes name used content = first_world (golden_row name content ∷ []) [] (replicate motes (fresh name content used))
+golden_world motes name used content = first_world (golden_row name content ∷ []) [] none_narrow (replicate motes (fresh name content used))
 
 -- two motes become neighbours
 abbrev pub with_link : (ℕ × ℕ) → World → World
 with_link link w = record w { links = w.links ++ link ∷ [] }
 
+-- a mote becomes narrow
+abbrev pub with_narrow : ℕ → World → World
+with_narrow m w = record w { narrow = slice_set w.narrow m true }
+
 abbrev pub begin_by : Ground → Beginning → Line → Beginning
 begin_by g b Nothing = b
 begin_by g b (Motes n) = record b { motes = n }
 begin_by g b (Golden name used content) = record b { world = Some (golden_world b.motes name used content) }
-begin_by g b Boards = record b { world = Some (first_world g.table [] g.stores) }
+begin_by g b Boards = record b { world = Some (first_world g.table [] none_narrow g.stores) }
 begin_by g b (Link x y) = record b { world = option_map (with_link (x, y)) b.world }
+begin_by g b (Narrow m) = record b { world = option_map (with_narrow m) b.world }
 begin_by g b (Image image version name content) = b
 begin_by g b (Cut c) = b
 begin_by g b (Happens event) = b
@@ -67,6 +73,7 @@ is_boards (Motes n) = false
 is_boards (Golden name used content) = false
 is_boards Boards = true
 is_boards (Link x y) = false
+is_boards (Narrow m) = false
 is_boards (Image image version name content) = false
 is_boards (Cut c) = false
 is_boards (Happens event) = false
@@ -84,6 +91,7 @@ lacking_by boards (Motes n) rest = if nat_lt boards n then Some n else rest
 lacking_by boards (Golden name used content) rest = rest
 lacking_by boards Boards rest = rest
 lacking_by boards (Link a b) rest = rest
+lacking_by boards (Narrow m) rest = rest
 lacking_by boards (Image image version name content) rest = rest
 lacking_by boards (Cut c) rest = rest
 lacking_by boards (Happens event) rest = rest
@@ -111,6 +119,7 @@ IsNoFrame (Motes n) = Unit {0}
 IsNoFrame (Golden name used content) = Unit {0}
 IsNoFrame Boards = Unit {0}
 IsNoFrame (Link a b) = Unit {0}
+IsNoFrame (Narrow m) = Unit {0}
 IsNoFrame (Image image version name content) = Unit {0}
 IsNoFrame (Cut c) = Unit {0}
 IsNoFrame (Happens event) = BringsNone event

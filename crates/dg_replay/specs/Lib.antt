@@ -4,8 +4,10 @@ pub mod Ending
 pub mod WholeLines
 pub mod Fronts
 pub mod Near
+pub mod Around
 pub mod Outcome
 pub mod Promised
+pub mod Done
 pub mod Steps
 pub mod Playing
 pub mod Replaying

@@ -27,6 +27,7 @@ use Rattle.dg_volume.specs.Stands.{IsVolume}
 use Rattle.dg_world.specs.Mounted.{StandFor}
 use Rattle.dg_replay.specs.Boards.{BoardsStand, BoardStopped, StoppedIn, EventNext, InSome, NoVolumeIn, LacksImage}
 use Rattle.dg_replay.specs.Items.{Ground, UsesBoards, beginning_of, motes_in, next_items, events_among}
+use Rattle.dg_replay.specs.Around.{Around}
 use Rattle.dg_replay.specs.Ending.{Ending, Ends, NoBoards, TooManyEvents, FaultAt, Over, InBounds, whole_lines, ending_of, ending_line, status_of, script_of}
 
 abbrev pub item_played : Played → Item
@@ -245,27 +246,28 @@ ReadsNear WriteFault ending input c text = ToldAndNear input c text ⊎ EndBegun
 ReadsNear _ ending input c text = Unit {0}
 
 -- What a replay did. Some bytes were taken from the source: the bytes left before it and after it, where they are told, say which. What was written is told in the same way.
-pub record Replayed (table : List Row) (status : Status) (left_before left_after written_before written_after : Option (List ℕ)) (reads_before reads_after writes_before writes_after : ℕ) (old new : List Device) : Type 0 where
+pub record Replayed (table : List Row) (status : Status) (a b : Around) : Type 0 where
   -- what was taken of the input, whatever comes of it: no more than one byte past those that are used
   pub input : List ℕ
-  pub taken : Takes left_before left_after input
+  pub taken : Takes a.left b.left input
   pub few_bytes : length input ≤ most_used_bytes + 1
   -- how far its script was played
   pub came : Progress table (script_of input)
   -- what was written is the report of that run, or a front of it
   pub text : List ℕ
-  pub written : Puts written_before written_after text
-  pub report : Wrote status (ending_of (length old) input) came text
-  pub enough : ReadEnough status (length old) input (AtEnd left_after) came text
-  pub near : ReadsNear status (ending_of (length old) input) input came text
+  pub written : Puts a.written b.written text
+  pub report : Wrote status (ending_of (length a.boards) input) came text
+  pub enough : ReadEnough status (length a.boards) input (AtEnd b.left) came text
+  pub near : ReadsNear status (ending_of (length a.boards) input) input came text
   -- nothing behind the ending was done
-  pub limits : InBounds (length old) came.done (map item_played came.played)
+  pub limits : InBounds (length a.boards) came.done (map item_played came.played)
   -- where the boards were used as they are, they stood for the stores from which the run begins
-  pub stood : UsesBoards came.done → StandFor (motes_in came.done) came.ground.stores old
+  pub stood : UsesBoards came.done → StandFor (motes_in came.done) came.ground.stores a.boards
   -- the boards of the motes stand for that world's stores, but for one that is stopped, and the others are as before
-  pub boards : BoardsLeft status came old new
+  pub boards : BoardsLeft status came a.boards b.boards
   -- the status is the one that the rules give to the input, but for want of memory and faults of the outside
-  pub caused : IsCaused status (ending_of (length old) input) (Rose reads_before reads_after) (Rose writes_before writes_after) (BoardStopped (motes_in came.done) old new) (NoVolumeThere came old new) ((UsesBoards came.done) × NoImageThere came old new)
+  pub caused : IsCaused status (ending_of (length a.boards) input) (Rose a.reads b.reads) (Rose a.writes b.writes)
+      (BoardStopped (motes_in came.done) a.boards b.boards) (NoVolumeThere came a.boards b.boards) (UsesBoards came.done × NoImageThere came a.boards b.boards)
   -- a read or a write that fails is always told: its count rises with its own answer alone
-  pub read_faults : status ≢ ReadFault → reads_after ≡ reads_before
-  pub write_faults : status ≢ WriteFault → writes_after ≡ writes_before
+  pub read_faults : status ≢ ReadFault → b.reads ≡ a.reads
+  pub write_faults : status ≢ WriteFault → b.writes ≡ a.writes

@@ -165,7 +165,8 @@ pub record RunsOn (table : List Row) (initial : List Device) (done : List Line) 
   -- where something is told, it goes on behind what was played before
   pub on : (text ≡ []) ⊎ ((more : List Played) × (now ≡ played ++ more))
 
--- What a line behind others makes of a run that leads to a world. Behind a link it is the run of the same items from a world that has the link.
+-- What a line behind others makes of a run that leads to a world. Behind a link or a narrow mote it is the run of the same
+-- items from a world that has it.
 abbrev pub LineRuns : (table : List Row) → (initial : List Device) → (done : List Line) → (line : Line) → (w v : Option World) → (text : List ℕ) → Type 0
 LineRuns table initial done line w v text = (g : Ground) (played : List Played) → Grounded table initial g done → map item_played played ≡ items_of done → RunsTo (beginning_of g done).world played w → RunsOn table initial done line v text played
 

@@ -28,39 +28,41 @@ pub record FramesAreHonest {table : List Row} {script : Script} (c : Progress ta
 abbrev pub HonestWithoutFrames : {table : List Row} {script : Script} → Progress table script → Type 0
 HonestWithoutFrames c = AllByRecursion IsNoFrame c.done → (UsesBoards c.done → ⊥) → FramesAreHonest c
 
--- where it is honest, each step is legal after those before it
-abbrev pub StepsAreLegal : {table : List Row} {script : Script} → Progress table script → Type 0
-StepsAreLegal c = FramesAreHonest c → EachAfter IsLegal [] c.played
-
--- where it is honest, no version falls, and a complete page stays unless a newer version of its image replaces it, which a cut may have left half done
-abbrev pub PagesStay : {table : List Row} {script : Script} → Progress table script → Type 0
-PagesStay c = FramesAreHonest c → AllByRecursion KeepsAll c.played
-
--- where it is honest, what starts is a row of the table
-abbrev pub RowsStart : {table : List Row} {script : Script} → Progress table script → Type 0
-RowsStart c = FramesAreHonest c → AllByRecursion StartsRow c.played
-
--- where it is honest, the world behind each item agrees with its table, and so does the last world
-abbrev pub AllAgrees : {table : List Row} {script : Script} → Progress table script → Type 0
-AllAgrees c = FramesAreHonest c → AllByRecursion LeavesAgreement c.played × IfSome c.last WorldAgrees
-
--- Where it is honest, and so is the next event, each store that the chip may stand for, wherever a stop comes in that event, agrees with the table behind it.
+-- Where the next event is honest too, each store that the chip may stand for, wherever a stop comes in it, agrees with the table behind it.
 abbrev pub HalvesAgree : {table : List Row} {script : Script} → Progress table script → Type 0
-HalvesAgree c = (w : World) (step : Step) (loud : Bool) (more : List Item) → FramesAreHonest c → c.last ≡ Some w → c.left ≡ Happens step loud ∷ more
+HalvesAgree c = (w : World) (step : Step) (loud : Bool) (more : List Item) → c.last ≡ Some w → c.left ≡ Happens step loud ∷ more
     → HonestEvent w.table step.event → (UsesBoards c.done → HoldsTo c.ground.table w step.event) → StopsAgree w step.event
 
--- Where it is honest, each round that was played between two neighbours, both on and with room for three commits at its end, brought the second one a page of the least image in which the first was ahead;
--- and the 50 ticks with which one begins brought their mote to rest.
-abbrev pub RoundsBringPages : {table : List Row} {script : Script} → Progress table script → Type 0
-RoundsBringPages c = FramesAreHonest c → RoundsBring c.played
-
--- where it is honest and ends with a rest, pages came along the links as in a pipeline, by so many sweeps as the rest has
+-- where it ends with a rest, pages came along the links as in a pipeline, by so many sweeps as the rest has
 abbrev pub RestsFillThePipeline : {table : List Row} {script : Script} → Progress table script → Type 0
-RestsFillThePipeline c = (w v : World) (t : ℕ) → FramesAreHonest c → c.last ≡ Some v → EndsInRest c.played w t v → PagesCome w t v
+RestsFillThePipeline c = (w v : World) (t : ℕ) → c.last ≡ Some v → EndsInRest c.played w t v → PagesCome w t v
 
--- where it is honest and ends with a rest of enough sweeps, every mote keeps the newest version of each image whole
+-- where it ends with a rest of enough sweeps, every mote keeps the newest version of each image whole
 abbrev pub RestsComplete : {table : List Row} {script : Script} → Progress table script → Type 0
-RestsComplete c = (w v : World) (n k : ℕ) → FramesAreHonest c → c.last ≡ Some v → EndsInRest c.played w n v → IsEnough w k → k ≤ n → KeepsNewest v
+RestsComplete c = (w v : World) (n k : ℕ) → c.last ≡ Some v → EndsInRest c.played w n v → IsEnough w k → k ≤ n → KeepsNewest v
+
+-- What holds of a script that was played so far with honest frames.
+pub record HonestRun {table : List Row} {script : Script} (c : Progress table script) : Type 0 where
+  -- each step is legal after those before it
+  pub legal : EachAfter IsLegal [] c.played
+  -- no version falls, and a complete page stays unless a newer version of its image replaces it, which a cut may have left half done
+  pub keeps : AllByRecursion KeepsAll c.played
+  -- what starts is a row of the table of images, byte for byte
+  pub starts : AllByRecursion StartsRow c.played
+  -- Every chip, also one that a cut left half done, every mote that is on and every frame that was sent agrees with the table: behind each item, and in the last world.
+  pub agrees : AllByRecursion LeavesAgreement c.played × IfSome c.last WorldAgrees
+  -- so does the store of each half-done chip, wherever a stop comes in the next event
+  pub halves : HalvesAgree c
+  -- Each round that was played between two neighbours, both wide or both narrow, both on and with room for three commits at
+  -- its end, and in which no power was cut, brought the second one a page of the least image in which the first was ahead; and
+  -- the 50 ticks with which one begins brought their mote to rest.
+  pub rounds : RoundsBring c.played
+  -- Where the run ends with an undisturbed rest of t sweeps, in which all motes are wide, or all are narrow and no image above 3
+  -- has a row, and in which every mote is on and has room for three commits at its end, a mote within j links of a whole image
+  -- has t + 1 - j pages of it, or all, if every smaller image was whole everywhere.
+  pub pipeline : RestsFillThePipeline c
+  -- And where such a rest has enough sweeps, every mote keeps the newest version of every image whole.
+  pub completes : RestsComplete c
 
 -- Behind each item, and in the last world, every store is consistent. What starts is golden, or an object that fits its
 -- own descriptor. And wherever a stop comes in the next event, each store that the chip may then stand for is consistent.
@@ -73,3 +75,13 @@ pub record StaysConsistent (golden : Row) (played : List Played) (last : Option 
 -- Whatever bytes its frames carry: golden is the one row of the table with which the run begins
 abbrev pub StoresStayConsistent : {table : List Row} {script : Script} → Progress table script → Type 0
 StoresStayConsistent c = (UsesBoards c.done → ⊥) → (golden : Row) (w : World) → (beginning_of c.ground c.done).world ≡ Some w → w.table ≡ golden ∷ [] → StaysConsistent golden c.played c.last c.left
+
+-- ---- the headline
+
+-- All parts of it, for a script that was played so far.
+pub record Headline {table : List Row} {script : Script} (c : Progress table script) : Type 0 where
+  pub honest : FramesAreHonest c → HonestRun c
+  -- lines that bring no frame from outside meet that premise
+  pub frames : HonestWithoutFrames c
+  -- Whatever bytes its frames carry, every store is consistent: behind each item, in the last world, and wherever a stop comes in the next event. What starts is golden byte for byte, or an object that fits its own descriptor.
+  pub consistent : StoresStayConsistent c

@@ -8,7 +8,7 @@ ghost use Rattle.dg_script.specs.Sizes.{most_used_bytes};
 ghost use Rattle.dg_replay.specs.Ending.{script_of, whole_lines};
 ghost use Rattle.dg_replay.specs.Fronts.{BeginsAs};
 ghost use Rattle.dg_replay.specs.Outcome.{Progress};
-ghost use Rattle.dg_replay.specs.Promised.{StepsAreLegal, PagesStay, RowsStart, AllAgrees, HalvesAgree, HonestWithoutFrames, RoundsBringPages, RestsFillThePipeline, RestsComplete, StoresStayConsistent};
+ghost use Rattle.dg_replay.specs.Promised.{Headline};
 ghost use Rattle.dg_replay.specs.WholeLines.{AreWholeLines};
 
 use dg_completion::{rounds_of_scripts_bring_pages, scripts_end_complete};
@@ -33,20 +33,13 @@ pub fn first_lines_are_read_the_same()
 /// are used as they are agree with a table no key of which is injected with another content, each step is
 /// legal, no version falls, what starts is a row of the table, and the chips, the motes that are on and the frames that
 /// were sent agree with the table, and so does the store of each half-done chip, wherever a stop comes in the next event.
-/// Lines that bring no frame meet that. Each round brought a page to a mote that was behind. Where what was played ends with an undisturbed rest, pages come along the links as
-/// in a pipeline, and after enough sweeps every mote keeps the newest version of every image whole. Whatever
-/// bytes frames carry, every store stays consistent, and what starts is golden, or fits its own descriptor.
+/// Lines that bring no frame meet that. Each round of two wide motes, or of two narrow ones, brought a page to one that was
+/// behind. Where what was played ends with an undisturbed rest, and all motes are wide, or all are narrow and no image above 3
+/// has a row, pages come along the links as in a pipeline, and after enough sweeps every mote keeps the newest version of every
+/// image whole. Whatever bytes frames carry, every store stays consistent, and what starts is golden, or fits its own
+/// descriptor.
 pub fn replays_keep_the_rules()
-    ensures legal { (table : List Row) (input : List ℕ) (c : Progress table (script_of input)) → StepsAreLegal c }
-    ensures keeps { (table : List Row) (input : List ℕ) (c : Progress table (script_of input)) → PagesStay c }
-    ensures starts { (table : List Row) (input : List ℕ) (c : Progress table (script_of input)) → RowsStart c }
-    ensures agrees { (table : List Row) (input : List ℕ) (c : Progress table (script_of input)) → AllAgrees c }
-    ensures halves { (table : List Row) (input : List ℕ) (c : Progress table (script_of input)) → HalvesAgree c }
-    ensures honest { (table : List Row) (input : List ℕ) (c : Progress table (script_of input)) → HonestWithoutFrames c }
-    ensures rounds { (table : List Row) (input : List ℕ) (c : Progress table (script_of input)) → RoundsBringPages c }
-    ensures pipeline { (table : List Row) (input : List ℕ) (c : Progress table (script_of input)) → RestsFillThePipeline c }
-    ensures completes { (table : List Row) (input : List ℕ) (c : Progress table (script_of input)) → RestsComplete c }
-    ensures consistent { (table : List Row) (input : List ℕ) (c : Progress table (script_of input)) → StoresStayConsistent c }
+    ensures { (table : List Row) (input : List ℕ) (c : Progress table (script_of input)) → Headline c }
 {
     every_step_is_legal();
     scripts_with_golden();

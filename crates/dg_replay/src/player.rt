@@ -207,6 +207,13 @@ pub fn play_line<N: Nor>(
             Some(world) => play_link(world, a, b),
             None => unreachable!(),
         },
+        Line::Narrow(mote) => match &mut player.world {
+            Some(world) => {
+                world.narrow(mote);
+                Ok(())
+            }
+            None => unreachable!(),
+        },
         Line::Boards => play_boards(alloc, player, boards),
         Line::Round(a, b) => match &mut player.world {
             Some(world) => play_round(world, a, b, boards, told),

@@ -5,6 +5,7 @@ use Rattle.std.proofs.Math.Seq.{take-length}
 use Rattle.dg_words.proofs.ListLemmas.{length-tabulate}
 use Rattle.dg_object.specs.Object.{row_of}
 use Rattle.dg_script.specs.Contents.{generated, generated_byte}
+use Rattle.dg_script.specs.Places.{none_narrow}
 use Rattle.dg_trial.specs.Schedule.{size_by, row_by}
 use Rattle.std.specs.Prelude.{Some, slice_get, slice_index_or, codes, Result, Ok}
 use Rattle.rand_pcg.specs.Lcg.{Lcg}
@@ -130,18 +131,18 @@ row_is name content made n pages seed word named is size =
 
 -- links are made one after the other
 pub linked_first : (motes : ℕ) (v : KeptWorld) → ((boards : List Device) (stores : List Store) (table : List Row) → length stores ≡ motes → motes ≤ length boards
-    → ((m : ℕ) (d : Device) → m < motes → slice_get boards m ≡ Some d → Stands d.image (slice_index_or stores m no_site.store)) → IsWorld v boards (first_world table [] stores))
-    → (boards : List Device) → motes ≤ length boards → ((m : ℕ) (d : Device) → m < motes → slice_get boards m ≡ Some d → Stands d.image chip) → IsWorld v boards (first_world (golden ∷ []) [] (replicate motes chip))
+    → ((m : ℕ) (d : Device) → m < motes → slice_get boards m ≡ Some d → Stands d.image (slice_index_or stores m no_site.store)) → IsWorld v boards (first_world table [] none_narrow stores))
+    → (boards : List Device) → motes ≤ length boards → ((m : ℕ) (d : Device) → m < motes → slice_get boards m ≡ Some d → Stands d.image chip) → IsWorld v boards (first_world (golden ∷ []) [] none_narrow (replicate motes chip))
 linked_first motes v begins boards enough stands =
     begins boards (replicate motes chip) (golden ∷ []) (length-replicate motes chip) enough
     (λ m d within is. subst (λ (x : Store). Stands d.image x) (sym (get_or-replicate motes m chip no_site.store within)) (stands m d within is))
 
 pub links_more : (motes i : ℕ) (v : KeptWorld) (boards : List Device) (links : List (ℕ × ℕ)) (l : ℕ × ℕ) → take (i + 1) links ≡ take i links ++ l ∷ []
-    → IsWorld v boards (first_world (golden ∷ []) (take i links ++ l ∷ []) (replicate motes chip)) → IsWorld v boards (first_world (golden ∷ []) (take (i + 1) links) (replicate motes chip))
-links_more motes i v boards links l e is = subst (λ (ls : List (ℕ × ℕ)). IsWorld v boards (first_world (golden ∷ []) ls (replicate motes chip))) (sym e) is
+    → IsWorld v boards (first_world (golden ∷ []) (take i links ++ l ∷ []) none_narrow (replicate motes chip)) → IsWorld v boards (first_world (golden ∷ []) (take (i + 1) links) none_narrow (replicate motes chip))
+links_more motes i v boards links l e is = subst (λ (ls : List (ℕ × ℕ)). IsWorld v boards (first_world (golden ∷ []) ls none_narrow (replicate motes chip))) (sym e) is
 
 pub links_all : (motes i : ℕ) (v : KeptWorld) (boards : List Device) (links : List (ℕ × ℕ)) → length links ≤ i → i ≤ length links
-    → IsWorld v boards (first_world (golden ∷ []) (take i links) (replicate motes chip)) → IsWorld v boards (first_world (golden ∷ []) links (replicate motes chip))
+    → IsWorld v boards (first_world (golden ∷ []) (take i links) none_narrow (replicate motes chip)) → IsWorld v boards (first_world (golden ∷ []) links none_narrow (replicate motes chip))
 links_all motes i v boards links low high is =
     let e : i ≡ length links = omega arith in
-    subst (λ (ls : List (ℕ × ℕ)). IsWorld v boards (first_world (golden ∷ []) ls (replicate motes chip))) (ap (λ (n : ℕ). take n links) e ∙ take-length links) is
+    subst (λ (ls : List (ℕ × ℕ)). IsWorld v boards (first_world (golden ∷ []) ls none_narrow (replicate motes chip))) (ap (λ (n : ℕ). take n links) e ∙ take-length links) is

@@ -1,5 +1,5 @@
 -- The beginning of a trial: its world agrees with its table, and the injection into the first mote is not refused.
-use Rattle.std.proofs.Common.{◌≡◌, inl, inr, lit<, lit≤, ℕ, ◌+◌, ◌-◌, ◌*◌, ◌%◌, ◌<◌, ◌≤◌, eqb, ltb, if◌then◌else◌, List, [], ◌∷◌, length, replicate, codes, Option, Some, None, IfSome, refl, sym, ap, subst, ◌∙◌, arith, eqb-true}
+use Rattle.std.proofs.Common.{◌≡◌, inl, inr, lit<, lit≤, ℕ, ◌+◌, ◌-◌, ◌*◌, ◌%◌, ◌<◌, ◌≤◌, eqb, ltb, Bool, true, false, if◌then◌else◌, List, [], ◌∷◌, length, replicate, codes, Option, Some, None, IfSome, refl, sym, ap, subst, ◌∙◌, arith, eqb-true}
 use Rattle.std.specs.List.{AllByRecursion}
 use Rattle.std.proofs.lemmas.Bool.{cond_both, cases_lt, cases_eq, ltb-true}
 use Rattle.std.proofs.lemmas.List.{get_or_past, get_or-set_same}
@@ -20,10 +20,12 @@ use Rattle.dg_volume.specs.declared.volume.InjectFault.{InjectFault}
 use Rattle.dg_volume.specs.declared.volume.InjectFault.TheVariants.{Empty, TooLarge, Worn}
 use Rattle.dg_script.specs.Contents.{generated, generated_byte}
 use Rattle.dg_base.specs.declared.events.Event.TheVariants.{Inject}
+use Rattle.dg_script.specs.Places.{none_narrow}
+use Rattle.dg_script.specs.declared.report.Cause.TheVariants.{Image}
 use Rattle.dg_script.specs.declared.report.Report.{Report}
 use Rattle.dg_rules.specs.Sizes.{most_motes}
-use Rattle.dg_rules.specs.World.{World, Site, Running, site, store_at, with_site, counted, first_world}
-use Rattle.dg_rules.specs.Events.{Does, does, acts, inject_row, inject_unless}
+use Rattle.dg_rules.specs.World.{World, Site, Running, site, wide_at, store_at, with_site, counted, first_world}
+use Rattle.dg_rules.specs.Events.{Does, Refuses, does, acts, knows, injects, inject_row, inject_unless}
 use Rattle.dg_rules.specs.Steps.{WorldStep, StepDoes}
 use Rattle.dg_rules.specs.Golden.{PlaysGolden}
 use Rattle.dg_rules.specs.Runs.{Played, Plays}
@@ -80,8 +82,8 @@ trial_declared pages seed word few = record {
 -- ---- the first world
 
 abbrev pub GoldenPlaysLaw : Type 0
-GoldenPlaysLaw = (name bytes : List ℕ) (used motes : ℕ) (links : List (ℕ × ℕ)) (played : List Played) (v : World) → PlaysGolden name bytes used motes links played v
-    → AllByRecursion IsHonestThen played → PlaysFrom (first_world (golden_row name bytes ∷ []) links (replicate motes (fresh name bytes used))) played v
+GoldenPlaysLaw = (name bytes : List ℕ) (used motes : ℕ) (links : List (ℕ × ℕ)) (narrow : List Bool) (played : List Played) (v : World) → PlaysGolden name bytes used motes links narrow played v
+    → AllByRecursion IsHonestThen played → PlaysFrom (first_world (golden_row name bytes ∷ []) links narrow (replicate motes (fresh name bytes used))) played v
 
 plays_none : (w : World) → Plays w [] w
 unfolding Plays
@@ -89,8 +91,8 @@ plays_none w = refl
 
 pub first_agrees : GoldenPlaysLaw → (motes : ℕ) (row : Row) → motes ≤ most_motes → IsDeclared row → WorldAgrees (first motes row)
 first_agrees law motes row few declared =
-    let w : World = first_world (golden ∷ []) (line motes) (replicate motes chip) in
-    let a = (law (codes "base") (codes "A") 0 motes (line motes) [] w (record { is_row = golden_is; plays = plays_none w; few = few; links_fit = line_fits motes motes (omega arith); ranges = tt }) tt).agrees in
+    let w : World = first_world (golden ∷ []) (line motes) none_narrow (replicate motes chip) in
+    let a = (law (codes "base") (codes "A") 0 motes (line motes) none_narrow [] w (record { is_row = golden_is; plays = plays_none w; few = few; links_fit = line_fits motes motes (omega arith); ranges = tt }) tt).agrees in
     record { few = a.few; table = a.table; rows = (declared, tt); links = a.links; sites = a.sites; sent = a.sent }
 
 -- ---- the injection
@@ -120,6 +122,7 @@ module _ (name bytes : List ℕ) where
     pub good : WorldAgrees v
     pub table : v.table ≡ row ∷ golden ∷ []
     pub links : v.links ≡ u.links
+    pub narrow : v.narrow ≡ u.narrow
     pub count : length v.sites ≡ length u.sites
     pub room : (j c : ℕ) → c + 5 ≤ (store_at u j).room → c ≤ (store_at v j).room
     pub whole : page_count row ≤ pages_of (store_at v 0) row
@@ -133,10 +136,16 @@ module _ (name bytes : List ℕ) where
   true_injection : (u : World) → u.table ≡ golden ∷ [] → TrueEvent u (Inject 0 1 1 0 0)
   true_injection u table r kept known there = absurd (let none = none_there u.table table in cc)
 
+  -- every mote knows image 1
+  known : (wide : Bool) (does refuses : Does) → (if knows wide 1 then does else refuses) ≡ does
+  known true does refuses = refl
+  known false does refuses = refl
+
   does_inject : (u : World) → u.declared ≡ row ∷ [] → inject_refusal (store_at u 0) row ≡ None → does u (Inject 0 1 1 0 0) ≡ acts u 0 (inject_trail (store_at u 0) row) (with_row u.table row) (u.moment + 0) 0
   unfolding does
   does_inject u declared fine =
-      ap (λ (rows : List Row). inject_row u 0 (row_at rows 1 1) (u.moment + 0) 0) declared
+      known (wide_at u 0) (injects u 0 1 1 (u.moment + 0) 0) (Refuses Image)
+      ∙ ap (λ (rows : List Row). inject_row u 0 (row_at rows 1 1) (u.moment + 0) 0) declared
       ∙ ap (λ (f : Option InjectFault). inject_unless f u 0 row (u.moment + 0) 0) fine
 
   module _ (laws : Laws) (law : InjectLaw) (u v : World) (reports : List Report) (good : WorldAgrees u) (there : 0 < length u.sites)
@@ -198,6 +207,7 @@ module _ (name bytes : List ℕ) where
       good = laws.agrees u v (uncut (Inject 0 1 1 0 0)) reports good (record { event = (there, lit< tt, lit≤ tt); cut = tt }) (true_injection u table) did;
       table = ap (λ (z : World). z.table) world_is.1 ∙ ap (λ (rows : List Row). with_row rows row) table ∙ table_more;
       links = ap (λ (z : World). z.links) world_is.1;
+      narrow = ap (λ (z : World). z.narrow) world_is.1;
       count = ap (λ (z : World). length z.sites) world_is.1 ∙ site_count mid 0 y;
       room = rooms;
       whole = let a : pages_of (store_at v 0) row ≡ pages_of y.store row = ap (λ (z : Site). pages_of z.store row) here in let b = pages_here in omega (arith, a, b);

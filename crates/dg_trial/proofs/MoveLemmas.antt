@@ -40,19 +40,21 @@ pub record Moves (spent : ℕ) (w v : World) : Type 0 where
   pub good : WorldAgrees v
   pub table : v.table ≡ w.table
   pub links : v.links ≡ w.links
+  pub narrow : v.narrow ≡ w.narrow
   pub count : length v.sites ≡ length w.sites
   pub room : (j c : ℕ) → c + spent ≤ (store_at w j).room → c ≤ (store_at v j).room
   pub pages : (j : ℕ) (row : Row) → newest w.table row.image ≡ Some row → pages_of (store_at w j) row ≤ pages_of (store_at v j) row
 
 pub moves_none : (n : ℕ) (w v : World) → WorldAgrees w → w ≡ v → Moves n w v
 moves_none n w v good e =
-    subst (Moves n w) e (record { good = good; table = refl; links = refl; count = refl; room = λ j c h. omega (arith, h); pages = λ j row is. omega arith })
+    subst (Moves n w) e (record { good = good; table = refl; links = refl; narrow = refl; count = refl; room = λ j c h. omega (arith, h); pages = λ j row is. omega arith })
 
 pub moves_then : (a b n : ℕ) (w u v : World) → n ≡ a + b → Moves a w u → Moves b u v → Moves n w v
 moves_then a b n w u v sum x y = record {
   good = y.good;
   table = y.table ∙ x.table;
   links = y.links ∙ x.links;
+  narrow = y.narrow ∙ x.narrow;
   count = y.count ∙ x.count;
   room = λ j c h. y.room j c (x.room j (c + b) (omega (arith, h, sum)));
   pages = λ j row is.
@@ -87,6 +89,7 @@ module _ (w v : World) (m dt : ℕ) (cut : Option Cut) (r : Restarted w m dt cut
     good = good;
     table = ap (λ (u : World). u.table) r.world;
     links = ap (λ (u : World). u.links) r.world;
+    narrow = ap (λ (u : World). u.narrow) r.world;
     count = ap (λ (u : World). length u.sites) r.world ∙ site_count mid m r.there;
     room = each (λ j y. (c : ℕ) → c + 5 ≤ (store_at w j).room → c ≤ y.store.room) (λ c h. r.room c h) (λ j other c h. omega (arith, h));
     pages = λ j row is. each (λ k y. pages_of (store_at w k) row ≤ pages_of y.store row)
@@ -102,6 +105,7 @@ free_moves laws w v e reports good free did =
       good = g.good;
       table = g.table;
       links = g.links;
+      narrow = g.narrow;
       count = g.count;
       room = λ j c h. let s = laws.spend w v e reports good free did j in let f = few_at j e in omega (arith, s, f, h);
       pages = λ j row is. g.pages j row is;

@@ -1,8 +1,9 @@
 -- The rest at the end of a trial: its sweeps are enough, and every mote keeps the image whole.
-use Rattle.std.proofs.Common.{◌≡◌, ℕ, zero, suc, ◌+◌, ◌-◌, ◌*◌, ◌<◌, ◌≤◌, true, cond, if◌then◌else◌, List, [], ◌∷◌, length, map, Option, Some, None, refl, sym, ap, subst, ◌∙◌, arith}
+use Rattle.std.proofs.Common.{◌≡◌, inl, lit≤, ℕ, zero, suc, ◌+◌, ◌-◌, ◌*◌, ◌<◌, ◌≤◌, ◌==◌, ◌&&◌, Bool, true, false, not, cond, if◌then◌else◌, List, [], ◌∷◌, length, map, Option, Some, None, refl, sym, ap, subst, ◌∙◌, arith}
 use Rattle.std.specs.Prelude.{slice_index_or, count_by}
-use Rattle.std.specs.List.{AllByRecursion, sum_by}
-use Rattle.std.proofs.lemmas.Bool.{le-leb}
+use Rattle.std.specs.List.{AllByRecursion, range_with_len, sum_by}
+use Rattle.std.proofs.lemmas.Bool.{le-leb, ne_eqb}
+use Rattle.std.proofs.lemmas.List.{get_or-replicate}
 use Rattle.std.proofs.lemmas.List.Sums.{sum_by-cons}
 use Rattle.dg_object.specs.Object.{Row}
 use Rattle.dg_object.proofs.RowLemmas.{length-object}
@@ -13,7 +14,8 @@ use Rattle.dg_volume.specs.Trails.{done_of}
 use Rattle.dg_base.specs.declared.events.Event.{Event}
 use Rattle.dg_rounds.specs.Rounds.{times, sweep, rounds_of}
 use Rattle.dg_rounds.specs.Ways.{Way}
-use Rattle.dg_rules.specs.World.{World, Site, store_at, no_site}
+use Rattle.dg_script.specs.Places.{none_narrow}
+use Rattle.dg_rules.specs.World.{World, Site, wide_in, wide_at, store_at, no_site}
 use Rattle.dg_rules.specs.Premises.{WorldAgrees}
 use Rattle.dg_completion.specs.Rests.{IsFree, IsRest}
 use Rattle.dg_completion.specs.Completion.{Follows, FreeLaw, IsOn, newest, largest, page_count, pages_of, IsEnoughFor, IsEnoughOver, IsEnough, AllWithin, CompletionLaw}
@@ -56,16 +58,18 @@ module _ (name bytes : List ℕ) where
   unfolding newest largest
   newest_one = refl
 
-  newest_two : newest rows 2 ≡ None
+  -- of the other images that motes hand on there is none
+  newest_other : (i : ℕ) → 2 ≤ i → newest rows i ≡ None
   unfolding newest largest
-  newest_two = refl
-
-  newest_three : newest rows 3 ≡ None
-  unfolding newest largest
-  newest_three = refl
+  newest_other i low =
+      let v = largest rows i in
+      let not_image : (image.image == i) ≡ false = ne_eqb 1 i (λ e. let f : 1 ≡ i = e in omega (arith, f, low)) in
+      let not_golden : (golden.image == i) ≡ false = ne_eqb 0 i (λ e. let f : 0 ≡ i = e in omega (arith, f, low)) in
+      let base : Bool → Option Row = λ b. cond (b && (golden.version == v)) (Some golden) None in
+      ap (λ (b : Bool). cond (b && (image.version == v)) (Some image) (base (golden.image == i))) not_image ∙ ap base not_golden
 
   module _ (within_law : WithinLaw) (motes : ℕ) (w : World) (some : 2 ≤ motes) (count : length w.sites ≡ motes) (links : w.links ≡ line motes) (table : w.table ≡ rows)
-      (whole : page_count image ≤ pages_of (store_at w 0) image) where
+      (narrow : w.narrow ≡ none_narrow) (whole : page_count image ≤ pages_of (store_at w 0) image) where
     keeps : KeepsWhole w image 0
     keeps = record { there = omega (arith, count, some); pages = whole }
 
@@ -87,15 +91,22 @@ module _ (name bytes : List ℕ) where
     pub reached : AllReached w
     reached zero r low high is = absurd (omega (arith, low))
     reached (suc zero) r low high is = the_row r is
-    reached (suc (suc zero)) r low high is = no_row 2 r newest_two is
-    reached (suc (suc (suc zero))) r low high is = no_row 3 r newest_three is
-    reached (suc (suc (suc (suc i)))) r low high is = absurd (omega (arith, high))
+    reached (suc (suc i)) r low high is = no_row (suc (suc i)) r (newest_other (suc (suc i)) (omega arith)) is
 
     all_within : AllWithin w image (motes - 1)
     all_within m h = (within_law w image (motes - 1) m).1 (record { holder = 0; keeps = keeps; links = m; few = omega (arith, h, count); way = way m h })
 
-    none_for : (i n : ℕ) → newest rows i ≡ None → IsEnoughFor w (newest w.table i) n → n ≡ 0
-    none_for i n none enough = subst (λ (o : Option Row). IsEnoughFor w o n) (newest_at i ∙ none) enough
+    none_for : (i n : ℕ) → 2 ≤ i → IsEnoughFor w (newest w.table i) n → n ≡ 0
+    none_for i n low enough = subst (λ (o : Option Row). IsEnoughFor w o n) (newest_at i ∙ newest_other i low) enough
+
+    none_over : (i many n : ℕ) → 2 ≤ i → IsEnoughOver w (range_with_len i many) n → n ≡ 0
+    unfolding IsEnoughOver
+    none_over i zero n low h = h
+    none_over i (suc many) n low h =
+        let here = none_for i h.0 low h.2 in
+        let rest = none_over (i + 1) many h.1 (omega (arith, low)) h.3 in
+        let sum = h.4 in
+        omega (arith, here, rest, sum)
 
     one_for : (n : ℕ) → IsEnoughFor w (newest w.table 1) n → n ≤ page_count image + motes - 2
     one_for n enough =
@@ -108,13 +119,9 @@ module _ (name bytes : List ℕ) where
     unfolding IsEnoughOver
     bound k h =
         let a = one_for h.0 h.2 in
-        let b = none_for 2 h.3.0 newest_two h.3.2 in
-        let c = none_for 3 h.3.3.0 newest_three h.3.3.2 in
-        let d = h.3.3.3 in
-        let e = h.4 in
-        let f = h.3.4 in
-        let g = h.3.3.4 in
-        omega (arith, a, b, c, d, e, f, g)
+        let others = none_over 2 5 h.1 (lit≤ tt) h.3 in
+        let sum = h.4 in
+        omega (arith, a, others, sum)
 
     -- ---- the rest
 
@@ -127,6 +134,11 @@ module _ (name bytes : List ℕ) where
       rest : IsRest w.links k es
       rest = subst (λ (ls : List (ℕ × ℕ)). IsRest ls k es) (sym links) (swept (line motes) k)
 
+      all_wide : (m : ℕ) → m < length w.sites → wide_at w m ≡ true
+      all_wide m h =
+          let low : m < 16 = let n = good.few in omega (arith, h, n) in
+          ap (λ (l : List Bool). wide_in l m) narrow ∙ ap not (get_or-replicate 16 m false false low)
+
       room_left : (m : ℕ) → m < length w.sites → 3 ≤ (store_at v m).room
       room_left m h =
           let few = sweeps_few m motes k in
@@ -138,7 +150,7 @@ module _ (name bytes : List ℕ) where
           let n = enough_law w reached in
           let low = bound n.0 n.1 in
           complete w v k n.0 es
-          (record { good = good; rest = rest; run = leads_follow es w v run; on = λ j there. on j (omega (arith, there, count)); room = room_left })
+          (record { good = good; rest = rest; run = leads_follow es w v run; on = λ j there. on j (omega (arith, there, count)); widths = inl all_wide; room = room_left })
           n.1 (omega (arith, low, many)) 1 image m (omega arith) (omega arith) (newest_at 1 ∙ newest_one) (omega (arith, h, count))
 
   -- ---- how many they are

@@ -13,7 +13,7 @@ use Rattle.dg_base.specs.declared.events.Cut.{Cut}
 use Rattle.dg_base.specs.declared.events.Event.TheVariants.{Reset}
 use Rattle.dg_base.specs.declared.events.Step.{Step}
 use Rattle.dg_script.specs.declared.report.Report.{Report}
-use Rattle.dg_rules.specs.World.{World, Site, Running, store_at, with_site, counted, off_site}
+use Rattle.dg_rules.specs.World.{World, Site, Running, wide_at, store_at, with_site, counted, off_site}
 use Rattle.dg_rules.specs.Events.{Does, Goes, Deed, does, of_effect}
 use Rattle.dg_rules.specs.Steps.{WorldStep, StepDoes, Ended, blows, before_cut}
 use Rattle.dg_rules.proofs.ThroughLemmas.{Through-map, cut_holds}
@@ -25,14 +25,14 @@ use Rattle.dg_trial.proofs.RoomLemmas.{Roomy, boot_rooms, leaves_rooms}
 abbrev pub BootLaw : Type 0
 BootLaw = (k : Kind) (s : Store) → Boots s (boot k s)
 
-starts_by : (w : World) (o : Option Runs) (t : Trail Store) (id now word : ℕ) (old : Option Key)
-    → of_effect w (boot_by o t id now word) old ≡ Goes (record { trail = t; table = w.table; started = o; sent = None; runs = running_by o id now word })
-starts_by w None t id now word old = refl
-starts_by w (Some r) t id now word old = refl
+starts_by : (w : World) (o : Option Runs) (t : Trail Store) (id : ℕ) (wide : Bool) (now word : ℕ) (old : Option Key)
+    → of_effect w (boot_by o t id wide now word) old ≡ Goes (record { trail = t; table = w.table; started = o; sent = None; runs = running_by o id wide now word })
+starts_by w None t id wide now word old = refl
+starts_by w (Some r) t id wide now word old = refl
 
-reset_does : (w : World) (m dt word : ℕ) → does w (Reset m dt word) ≡ starts w (boot kind.Power (store_at w m)) m (w.moment + dt) word
+reset_does : (w : World) (m dt word : ℕ) → does w (Reset m dt word) ≡ starts w (boot kind.Power (store_at w m)) m (wide_at w m) (w.moment + dt) word
 unfolding does reset_effect
-reset_does w m dt word = let b = boot kind.Power (store_at w m) in starts_by w b.runs b.trail m (w.moment + dt) word None
+reset_does w m dt word = let b = boot kind.Power (store_at w m) in starts_by w b.runs b.trail m (wide_at w m) (w.moment + dt) word None
 
 -- The mote has another site: what is kept there is as before, and few commits were made. It is on, unless its power was to be cut.
 pub record Restarted (w : World) (m dt : ℕ) (cut : Option Cut) (v : World) : Type 0 where
@@ -42,9 +42,9 @@ pub record Restarted (w : World) (m dt : ℕ) (cut : Option Cut) (v : World) : T
   pub room : (c : ℕ) → c + 5 ≤ (store_at w m).room → c ≤ there.store.room
   pub on : cut ≡ None → (r : Running) × (there.runs ≡ Some r)
 
-started_on : (o : Option Runs) (id now word : ℕ) (runs : Option Running) → running_by o id now word ≡ Some runs → (r : Running) × (runs ≡ Some r)
-started_on None id now word runs e = absurd cc
-started_on (Some r) id now word runs e = (_, sym (same_running _ runs e))
+started_on : (o : Option Runs) (id : ℕ) (wide : Bool) (now word : ℕ) (runs : Option Running) → running_by o id wide now word ≡ Some runs → (r : Running) × (runs ≡ Some r)
+started_on None id wide now word runs e = absurd cc
+started_on (Some r) id wide now word runs e = (_, sym (same_running _ runs e))
 
 module _ (boots : BootLaw) (w v : World) (m dt word : ℕ) (cut : Option Cut) (reports : List Report) where
   abbrev s : Store
@@ -63,7 +63,7 @@ module _ (boots : BootLaw) (w v : World) (m dt word : ℕ) (cut : Option Cut) (r
   x = record { event = Reset m dt word; cut = cut }
 
   abbrev d : Deed
-  d = record { trail = b.trail; table = w.table; started = b.runs; sent = None; runs = running_by b.runs m (w.moment + dt) word }
+  d = record { trail = b.trail; table = w.table; started = b.runs; sent = None; runs = running_by b.runs m (wide_at w m) (w.moment + dt) word }
 
   uncut_blows : cut ≡ None → blows cut b.trail ≡ true → ⊥
   uncut_blows none e = let f : blows cut b.trail ≡ false = ap (λ (c : Option Cut). blows c b.trail) none in cc
@@ -81,7 +81,7 @@ module _ (boots : BootLaw) (w v : World) (m dt word : ℕ) (cut : Option Cut) (r
     world = e.2;
     kept = Through-last Same b.trail same;
     room = λ c h. Through-last (Roomy c) b.trail (boot_rooms c kind.Power s (omega (arith, h)));
-    on = λ none. started_on b.runs m (w.moment + dt) word e.0 e.1;
+    on = λ none. started_on b.runs m (wide_at w m) (w.moment + dt) word e.0 e.1;
   }
 
   pub restarted : WorldStep w (record { event = Reset m dt word; cut = cut }) v reports → Restarted w m dt cut v

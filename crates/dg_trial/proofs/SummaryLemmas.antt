@@ -1,13 +1,13 @@
 -- The last lines of a world tell how many of its motes keep the image whole.
-use Rattle.std.proofs.Common.{◌≡◌, ℕ, suc, ◌+◌, ◌-◌, ◌*◌, ◌%◌, ◌<◌, ◌≤◌, ◌==◌, ◌&&◌, nat_le, Bool, true, false, cond, if◌then◌else◌, List, [], ◌∷◌, length, refl, ap, sym, ◌∙◌, arith}
+use Rattle.std.proofs.Common.{◌≡◌, lit≤, ℕ, zero, suc, ◌+◌, ◌-◌, ◌*◌, ◌%◌, ◌<◌, ◌≤◌, ◌==◌, ◌&&◌, nat_le, Bool, true, false, cond, if◌then◌else◌, List, [], ◌∷◌, length, refl, ap, sym, ◌∙◌, arith}
 use Rattle.std.specs.Prelude.{Option, Some, None, slice_index_or, count_by}
 use Rattle.std.specs.List.{cons_option, filter_map, flat_map, range_with_len}
 use Rattle.std.proofs.lemmas.List.Sums.{sum_by-append, sum_by-cons}
-use Rattle.std.proofs.lemmas.Bool.{leb-true}
+use Rattle.std.proofs.lemmas.Bool.{leb-true, ne_eqb}
 use Rattle.dg_words.proofs.ListLemmas.{length-tabulate}
 use Rattle.dg_object.specs.Object.{Row, pages_for}
 use Rattle.dg_slot.specs.Kept.{Held}
-use Rattle.dg_volume.specs.Store.{held}
+use Rattle.dg_volume.specs.Store.{Store, held}
 use Rattle.dg_volume.specs.Changes.{is_version}
 use Rattle.dg_volume.specs.Trails.{done_of}
 use Rattle.dg_script.specs.Contents.{generated, generated_byte}
@@ -47,6 +47,19 @@ unfolding told_in
 first_told pages m None some = ap (λ (b : Bool). cond {A = ℕ} b 1 0) (sym (none_enough pages (nat_le pages 0) some refl))
 first_told pages m (Some h) some = ap (λ (b : Bool). cond {A = ℕ} b 1 0) (by_version pages (length h.complete) (h.version == 1) some)
 
+not_one : (i : ℕ) → 2 ≤ i → (i == 1) ≡ false
+not_one i low = ne_eqb i 1 (λ e. let f : i ≡ 1 = e in omega (arith, f, low))
+
+-- the lines on the other images tell nothing of it
+others_told : (pages m : ℕ) (s : Store) (i n : ℕ) → 2 ≤ i → ◌≡◌ {A = ℕ} (count_by (tells_whole pages) (filter_map (λ j. kept_line m j (held s j)) (range_with_len i n))) 0
+others_told pages m s i zero low = refl
+others_told pages m s i (suc n) low =
+    let k : ℕ → Option Report = λ j. kept_line m j (held s j) in
+    let a = told_cons pages (k i) (filter_map k (range_with_len (i + 1) n)) in
+    let b = other_told pages m i (held s i) (not_one i low) in
+    let c = others_told pages m s (i + 1) n (omega (arith, low)) in
+    omega (arith, a, b, c)
+
 mote_untold : (pages m : ℕ) (r : Option Running) → tells_whole pages (mote_line m r) ≡ false
 mote_untold pages m None = refl
 mote_untold pages m (Some r) = refl
@@ -60,16 +73,16 @@ module _ (row : Row) (image : row.image ≡ 1) (version : row.version ≡ 1) (pa
   site_told : (m : ℕ) (x : Site) → count_by (tells_whole pages) (site_lines m x) ≡ cond (keeps_all row x) 1 0
   site_told m x =
       let k : ℕ → Option Report = λ i. kept_line m i (held x.store i) in
-      let a = told_cons pages (k 1) (filter_map k (2 ∷ 3 ∷ [])) in
-      let b = told_cons pages (k 2) (filter_map k (3 ∷ [])) in
-      let c = told_cons pages (k 3) [] in
-      let d = first_told pages m (held x.store 1) some in
-      let e = other_told pages m 2 (held x.store 2) refl in
-      let f = other_told pages m 3 (held x.store 3) refl in
+      let all : ℕ = count_by (tells_whole pages) (filter_map k (range_with_len 1 6)) in
+      let others : ℕ = count_by (tells_whole pages) (filter_map k (range_with_len 2 5)) in
+      let whole : ℕ = cond (nat_le pages (if is_version (held x.store 1) 1 then done_of (held x.store 1) else 0)) 1 0 in
       let g : ◌≡◌ {A = ℕ} (cond (tells_whole pages (mote_line m x.runs)) 1 0) 0 = ap (λ (b : Bool). cond {A = ℕ} b 1 0) (mote_untold pages m x.runs) in
-      let h : ◌≡◌ {A = ℕ} (count_by (tells_whole pages) (filter_map k (1 ∷ 2 ∷ 3 ∷ []))) (cond (nat_le pages (if is_version (held x.store 1) 1 then done_of (held x.store 1) else 0)) 1 0) = omega (arith, a, b, c, d, e, f) in
-      let j = sum_by-cons (λ (r' : Report). cond {A = ℕ} (tells_whole pages r') 1 0) (mote_line m x.runs) (filter_map k (1 ∷ 2 ∷ 3 ∷ [])) in
-      let i : ◌≡◌ {A = ℕ} (count_by (tells_whole pages) (site_lines m x)) (count_by (tells_whole pages) (filter_map k (1 ∷ 2 ∷ 3 ∷ []))) = omega (arith, g, j) in
+      let h : all ≡ whole =
+      told_cons pages (k 1) (filter_map k (range_with_len 2 5)) ∙ ap (λ (n : ℕ). n + others) (first_told pages m (held x.store 1) some)
+      ∙ ap (λ (n : ℕ). whole + n) (others_told pages m x.store 2 5 (lit≤ tt)) ∙ (let e : whole + 0 ≡ whole = omega arith in e) in
+      let i : count_by (tells_whole pages) (site_lines m x) ≡ all =
+      sum_by-cons (λ (r' : Report). cond {A = ℕ} (tells_whole pages r') 1 0) (mote_line m x.runs) (filter_map k (range_with_len 1 6))
+      ∙ ap (λ (n : ℕ). n + all) g ∙ (let e : 0 + all ≡ all = omega arith in e) in
       i ∙ h ∙ ap (λ (b : Bool). cond {A = ℕ} b 1 0) (sym (keeps_is x))
 
   sites_told : (F : ℕ → Site) (a : ℕ) (xs : List Site) → ((k : ℕ) → k < length xs → F (a + k) ≡ slice_index_or xs k no_site) → count_by (tells_whole pages) (flat_map (λ m. site_lines m (F m)) (range_with_len a (length xs))) ≡ count_by (keeps_all row) xs

@@ -17,6 +17,7 @@ use Rattle.dg_world.proofs.CountLemmas.{NoneRose_then}
 use Rattle.std.specs.Prelude.{count_by}
 use Rattle.std.proofs.Common.{◌^◌}
 use Rattle.std.proofs.lemmas.List.Sums.{count_by-le-length}
+use Rattle.dg_script.specs.Places.{none_narrow}
 use Rattle.dg_script.specs.declared.report.Report.{Report}
 use Rattle.dg_script.specs.declared.report.Report.TheVariants.{End}
 use Rattle.dg_rules.specs.Changes.{final_lines}
@@ -160,11 +161,11 @@ ends_first w reports e = (w.events, _, e)
 
 -- the world that was made stands for the beginning, over boards that were formatted
 pub linked_is : (motes : ℕ) (v : KeptWorld) (links : List (ℕ × ℕ)) (old new : List Device) → motes ≤ length old → links ≡ line motes → Formatted motes old new
-    → ((boards : List Device) → motes ≤ length boards → ((m : ℕ) (d : Device) → m < motes → slice_get boards m ≡ Some d → Stands d.image chip) → IsWorld v boards (first_world (golden ∷ []) links (replicate motes chip)))
-    → IsWorld v new (first_world (golden ∷ []) (line motes) (replicate motes chip))
+    → ((boards : List Device) → motes ≤ length boards → ((m : ℕ) (d : Device) → m < motes → slice_get boards m ≡ Some d → Stands d.image chip) → IsWorld v boards (first_world (golden ∷ []) links none_narrow (replicate motes chip)))
+    → IsWorld v new (first_world (golden ∷ []) (line motes) none_narrow (replicate motes chip))
 linked_is motes v links old new enough e f is =
     let count = f.boards.count in
-    subst (λ (ls : List (ℕ × ℕ)). IsWorld v new (first_world (golden ∷ []) ls (replicate motes chip))) e (is new (omega (arith, count, enough)) f.stands)
+    subst (λ (ls : List (ℕ × ℕ)). IsWorld v new (first_world (golden ∷ []) ls none_narrow (replicate motes chip))) e (is new (omega (arith, count, enough)) f.stands)
 
 -- it was stopped before the reading
 pub run_stopped : (e : Stop) (motes pages seed : ℕ) (old new : List Device) → ScheduleEnds (Err e) motes pages seed old new → RunEnds (Err e) motes pages seed old new

@@ -14,6 +14,7 @@ use Rattle.dg_rounds.specs.Rounds.{times, sweep}
 use Rattle.dg_rules.specs.World.{World, Site, site, store_at, off_site}
 use Rattle.dg_rules.specs.Steps.{WorldStep}
 use Rattle.dg_rules.specs.Premises.{WorldAgrees}
+use Rattle.dg_script.specs.Places.{none_narrow}
 use Rattle.dg_script.specs.declared.report.Report.{Report}
 use Rattle.dg_completion.specs.Rests.{IsRest}
 use Rattle.dg_completion.specs.Completion.{newest, page_count, pages_of, CompletionLaw}
@@ -171,6 +172,9 @@ module _ (laws : WholeLaws) (motes pages seed word : ℕ) (g : Lcg) (some : 2 �
     links_four : p.again.links ≡ line motes
     links_four = four.moves.links ∙ three.links ∙ two.links ∙ resets_one.moves.links
 
+    narrow_four : p.again.narrow ≡ none_narrow
+    narrow_four = four.moves.narrow ∙ three.narrow ∙ two.narrow ∙ resets_one.moves.narrow
+
     table_three : p.shook.table ≡ image ∷ golden ∷ []
     table_three = three.table ∙ two.table
 
@@ -194,7 +198,7 @@ module _ (laws : WholeLaws) (motes pages seed word : ℕ) (g : Lcg) (some : 2 �
     kept_then : (m : ℕ) → m < motes → held (store_at v m) 1 ≡ Some (held_whole image)
     kept_then =
         let pages_are = page_count_is pages seed word some_pages in
-        all_whole image.name image.bytes laws.within motes p.again some count_four links_four (four.moves.table ∙ table_three) whole_four
+        all_whole image.name image.bytes laws.within motes p.again some count_four links_four (four.moves.table ∙ table_three) narrow_four whole_four
         laws.enough laws.complete laws.moving.free laws.moving.spend laws.swept four.moves.good four.on k (omega (arith, pages_are)) v p.sweeps room_four
 
     whole_then : length v.sites ≡ motes → AllKeep motes image v × (wholes image v ≡ motes)

@@ -9,6 +9,7 @@ use Rattle.dg_object.specs.Object.{Row}
 use Rattle.dg_volume.specs.Store.{Store, IsNear, golden_row, fresh}
 use Rattle.dg_volume.specs.Stands.{Stands}
 use Rattle.dg_base.specs.declared.events.Step.{Step}
+use Rattle.dg_script.specs.Places.{none_narrow}
 use Rattle.dg_script.specs.declared.report.Report.{Report}
 use Rattle.dg_rules.specs.Sizes.{most_events}
 use Rattle.dg_rules.specs.World.{World, store_at, first_world}
@@ -37,9 +38,9 @@ golden = golden_row (codes "base") (codes "A")
 abbrev pub chip : Store
 chip = fresh (codes "base") (codes "A") 0
 
--- the world in which a trial begins: motes in a line, whose chips were formatted with golden, and an image that is declared
+-- the world in which a trial begins: wide motes in a line, whose chips were formatted with golden, and an image that is declared
 abbrev pub first : (motes : ℕ) → Row → World
-first motes row = record (first_world (golden ∷ []) (line motes) (replicate motes chip)) { declared = row ∷ [] }
+first motes row = record (first_world (golden ∷ []) (line motes) none_narrow (replicate motes chip)) { declared = row ∷ [] }
 
 -- ---- the boards
 

@@ -3,6 +3,7 @@ ghost use Rattle.std.specs.Prelude.{◌≡◌, ◌+◌, ◌-◌, ◌*◌, ◌<�
 ghost use Rattle.dg_nor.specs.Device.{Device};
 ghost use Rattle.dg_object.specs.Sizes.{most_bytes};
 ghost use Rattle.dg_volume.specs.Stands.{Stands};
+ghost use Rattle.dg_script.specs.Places.{none_narrow};
 ghost use Rattle.dg_rules.specs.Sizes.{most_motes};
 ghost use Rattle.dg_rules.specs.World.{World as RuleWorld, first_world};
 ghost use Rattle.dg_world.specs.Worlds.{IsWorld};
@@ -37,7 +38,7 @@ pub fn linked(alloc: Global, motes: u8, links: &[(u8, u8)]) -> Result<World, All
     requires some { 1 ≤ motes }
     requires few { motes ≤ most_motes }
     ensures { IfOk result (λ v. (boards : List Device) → motes ≤ length boards → ((m : ℕ) (d : Device) → m < motes → slice_get boards m ≡ Some d → Stands d.image chip)
-        → IsWorld v boards (first_world (golden ∷ []) links.now (replicate motes chip))) }
+        → IsWorld v boards (first_world (golden ∷ []) links.now none_narrow (replicate motes chip))) }
 {
     let mut world = World::new(alloc, motes)?;
     for link in links {

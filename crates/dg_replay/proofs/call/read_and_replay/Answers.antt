@@ -7,8 +7,7 @@ pub returns-in-Ok-clause-replayed : goal.returns-in-Ok-clause-replayed
 returns-in-Ok-clause-replayed g c =
     let a = c.replay_lines.ensures.replayed in
     λ table.
-    replayed_of c.replay_lines.result a.0 (g.S.Source.left c.args.input.now) (g.S.Source.left c.replay_lines.new.input) (g.K.Sink.written c.args.out.now) (g.K.Sink.written c.replay_lines.new.out) _ _ _ _ (map g.N.Nor.device c.args.boards.now.items)
-    (map g.N.Nor.device c.replay_lines.new.boards.items) a.1 a.2 (a.3 table) c.replay_lines.ensures.unread c.replay_lines.ensures.unfailed
+    replayed_of c.replay_lines.result a.0 _ _ a.1 a.2 (a.3 table) c.replay_lines.ensures.unread c.replay_lines.ensures.unfailed
 
 pub returns-in-Err-clause-replayed : goal.returns-in-Err-clause-replayed
 returns-in-Err-clause-replayed g c = λ table. memory_unread [] _ _ _ _ _ _ _ (Takes-nil (g.S.Source.left c.args.input.now)) (omega arith) refl

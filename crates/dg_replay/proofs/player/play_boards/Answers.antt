@@ -16,4 +16,4 @@ pub returns-in-Ok-mount-clause-played : goal.returns-in-Ok-mount-clause-played
 returns-in-Ok-mount-clause-played g c = λ p done w initial table told at unready stood.
     let count = length-map c.args.boards.now.items g.N.Nor.device in
     boards_played table p _ done w c.args.player.now.place.motes c.in-Ok.world told initial _ _ unready (ap (λ (x : Place). x.motes) at.place) (c.requires.counted.0, c.requires.counted.1, omega (arith, c.requires.counted.2, count)) at.place at.cut refl
-    c.in-Ok-mount.ensures.stands c.in-Ok-mount.ensures.awake c.in-Ok-mount.ensures.calm c.mount.ensures.read c.mount.ensures.others c.in-Ok.ensures stood
+    c.in-Ok-mount.ensures.stands c.in-Ok-mount.ensures.awake c.in-Ok-mount.ensures.calm c.mount.ensures.read c.mount.ensures.others c.in-Ok.ensures.begins stood

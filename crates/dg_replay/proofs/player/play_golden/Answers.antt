@@ -15,4 +15,4 @@ pub returns-in-Ok-format-clause-played : goal.returns-in-Ok-format-clause-played
 returns-in-Ok-format-clause-played g c = λ p done w initial table told at unready stood.
     let count = length-map c.args.boards.now.items g.N.Nor.device in
     golden_played p _ done w c.args.name.now c.args.used c.args.content.now c.args.player.now.place.motes c.in-Ok.world told initial _ _ unready (ap (λ (x : Place). x.motes) at.place) (c.requires.counted.0, c.requires.counted.1, omega (arith, c.requires.counted.2, count)) at.place at.cut refl
-    c.in-Ok-format.ensures.formatted c.in-Ok-format.ensures.awake c.in-Ok-format.ensures.calm c.format.ensures.others c.in-Ok.ensures stood
+    c.in-Ok-format.ensures.formatted c.in-Ok-format.ensures.awake c.in-Ok-format.ensures.calm c.format.ensures.others c.in-Ok.ensures.begins stood

@@ -1,7 +1,7 @@
 use Rattle.std.proofs.Common.{refl, ap, ◌∙◌, sym}
 use Rattle.std.proofs.lemmas.List.{length-map}
-use Rattle.dg_replay.proofs.PlayLemmas.{golden_at, boards_at, link_at, image_at, event_at, round_at, sweeps_at}
-use Rattle.dg_replay.proofs.SilentLemmas.{nothing_played, motes_as, link_played, cut_played}
+use Rattle.dg_replay.proofs.PlayLemmas.{golden_at, boards_at, link_at, narrow_at, image_at, event_at, round_at, sweeps_at}
+use Rattle.dg_replay.proofs.SilentLemmas.{nothing_played, motes_as, link_played, narrow_played, cut_played}
 use Rattle.dg_replay.proofs.BusyLemmas.{busy_in, image_has, event_has, round_has, sweeps_has, step_asked, round_asked, sweeps_asked}
 use Rattle.dg_script.specs.declared.place.Place.{Place}
 use Rattle.dg_replay.proofs.player.play_line.Goals as goal
@@ -45,6 +45,14 @@ returns-in-Some-world-2-clause-played g c = λ p done w initial table passed sta
     rw e.is (link_played table c.play_link.result p _ done w e.a e.b c.in-Some-world-2.world c.play_link.new.world _ initial _ (rw e.is at stands) (rw e.is at fits)
     at.0.0 at.1 (sym ps.world ∙ c.in-Some-world-2.is) ps.place ps.cut refl c.play_link.ensures stood)
 
+pub returns-in-Some-world-3-clause-played : goal.returns-in-Some-world-3-clause-played
+returns-in-Some-world-3-clause-played g c = λ p done w initial table passed stands fits stood.
+    let e = c.in-Narrow in
+    let ps = rw e.is at passed in
+    let at = narrow_at p.place e.mote (rw e.is at stands) in
+    rw e.is (narrow_played p _ done w e.mote c.in-Some-world-3.world c.narrow.new.self _ initial _ (rw e.is at stands) (rw e.is at fits)
+    at.0.0 at.1 (sym ps.world ∙ c.in-Some-world-3.is) ps.place ps.cut refl c.narrow.ensures stood)
+
 pub returns-in-Some-world-clause-played : goal.returns-in-Some-world-clause-played
 returns-in-Some-world-clause-played g c = λ p done w initial table passed stands fits stood.
     let e = c.in-Happens in
@@ -52,20 +60,20 @@ returns-in-Some-world-clause-played g c = λ p done w initial table passed stand
     rw e.is (busy_in table c.play_step.result p _ done w _ _ c.in-Some-world.world c.play_step.new.world _ _ initial _ _ (event_has done e.event c.take-cut.result (c.take-cut.ensures.value ∙ ps.cut ∙ stood.cut)) (rw e.is at stands) (rw e.is at fits)
     (event_at p.place e.event (rw e.is at stands)).0 (sym ps.world ∙ c.in-Some-world.is) ps.place c.take-cut.ensures.after refl stood (λ u is there. c.play_step.ensures.played u initial is there))
 
-pub returns-in-Some-world-3-clause-played : goal.returns-in-Some-world-3-clause-played
-returns-in-Some-world-3-clause-played g c = λ p done w initial table passed stands fits stood.
-    let e = c.in-Round in
-    let ps = rw e.is at passed in
-    rw e.is (busy_in table c.play_round.result p _ done w _ _ c.in-Some-world-3.world c.play_round.new.world _ _ initial _ _ (round_has done e.a e.b) (rw e.is at stands) (rw e.is at fits)
-    (round_at p.place e.a e.b (rw e.is at stands)).0 (sym ps.world ∙ c.in-Some-world-3.is) ps.place ps.cut refl stood (λ u is there. c.play_round.ensures.played u initial is there))
-
 pub returns-in-Some-world-4-clause-played : goal.returns-in-Some-world-4-clause-played
 returns-in-Some-world-4-clause-played g c = λ p done w initial table passed stands fits stood.
+    let e = c.in-Round in
+    let ps = rw e.is at passed in
+    rw e.is (busy_in table c.play_round.result p _ done w _ _ c.in-Some-world-4.world c.play_round.new.world _ _ initial _ _ (round_has done e.a e.b) (rw e.is at stands) (rw e.is at fits)
+    (round_at p.place e.a e.b (rw e.is at stands)).0 (sym ps.world ∙ c.in-Some-world-4.is) ps.place ps.cut refl stood (λ u is there. c.play_round.ensures.played u initial is there))
+
+pub returns-in-Some-world-5-clause-played : goal.returns-in-Some-world-5-clause-played
+returns-in-Some-world-5-clause-played g c = λ p done w initial table passed stands fits stood.
     let e = c.in-Sweeps in
     let ps = rw e.is at passed in
     let known = c.as_slice.ensures ∙ ap (λ (x : Place). x.links) ps.place ∙ ap (λ (x : Place). x.links) stood.place in
-    rw e.is (busy_in table c.play_sweeps.result p _ done w _ _ c.in-Some-world-4.world c.play_sweeps.new.world _ _ initial _ _ (sweeps_has done e.count c.as_slice.result.now known) (rw e.is at stands) (rw e.is at fits)
-    (sweeps_at p.place e.count (rw e.is at stands)).0 (sym ps.world ∙ c.in-Some-world-4.is) ps.place ps.cut refl stood (λ u is there. c.play_sweeps.ensures u initial is there))
+    rw e.is (busy_in table c.play_sweeps.result p _ done w _ _ c.in-Some-world-5.world c.play_sweeps.new.world _ _ initial _ _ (sweeps_has done e.count c.as_slice.result.now known) (rw e.is at stands) (rw e.is at fits)
+    (sweeps_at p.place e.count (rw e.is at stands)).0 (sym ps.world ∙ c.in-Some-world-5.is) ps.place ps.cut refl stood (λ u is there. c.play_sweeps.ensures u initial is there))
 
 pub play_step-requires : goal.play_step-requires
 play_step-requires g c =
@@ -79,11 +87,11 @@ play_round-requires g c =
     let m = c.requires.may in
     let e = c.in-Round in
     let ps = rw e.is at m.passed in
-    round_asked m.before c.in-Some-world-3.world _ e.a e.b m.ready (rw e.is at m.stands) (rw e.is at m.fits) (sym ps.world ∙ c.in-Some-world-3.is)
+    round_asked m.before c.in-Some-world-4.world _ e.a e.b m.ready (rw e.is at m.stands) (rw e.is at m.fits) (sym ps.world ∙ c.in-Some-world-4.is)
 
 pub play_sweeps-requires : goal.play_sweeps-requires
 play_sweeps-requires g c =
     let m = c.requires.may in
     let e = c.in-Sweeps in
     let ps = rw e.is at m.passed in
-    sweeps_asked m.before c.in-Some-world-4.world _ e.count c.as_slice.result.now m.ready (rw e.is at m.stands) (sym ps.world ∙ c.in-Some-world-4.is) (c.as_slice.ensures ∙ ap (λ (x : Place). x.links) ps.place)
+    sweeps_asked m.before c.in-Some-world-5.world _ e.count c.as_slice.result.now m.ready (rw e.is at m.stands) (sym ps.world ∙ c.in-Some-world-5.is) (c.as_slice.ensures ∙ ap (λ (x : Place). x.links) ps.place)

@@ -4,7 +4,7 @@ use Rattle.dg_trial.proofs.BeginLemmas.{linked_first, links_more, links_all}
 use Rattle.dg_trial.proofs.beginning.linked.Goals as goal
 
 pub loop-link-init : goal.loop-link-init
-loop-link-init c = linked_first c.args.motes c.in_ok-world.world c.in_ok-world.ensures
+loop-link-init c = linked_first c.args.motes c.in_ok-world.world c.in_ok-world.ensures.begins
 
 pub loop-link-preserved : goal.loop-link-preserved
 loop-link-preserved c = λ boards enough stands.
