@@ -183,6 +183,7 @@ module _ (links : List (ℕ × ℕ)) (motes begun on ahead : ℕ) (event : Event
           ∙ handed_told d.world links motes (mote_of event) frame s.inboxes (d.links ∙ h.stands.linked)
           ∙ ap (λ fs. option_map (handed d.world motes fs) s.inboxes) (sym (frames_of s event u frame after told d));
       linked = d.links ∙ h.stands.linked;
+      wide = d.narrow ∙ h.stands.wide;
       sites = sites_count;
       count = ap length h.put ∙ length-set p.boards (mote_of event) after ∙ h.stands.count;
       timely = timely;

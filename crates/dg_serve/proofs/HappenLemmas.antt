@@ -28,7 +28,7 @@ use Rattle.dg_world.specs.declared.telling.Fault.{Fault}
 use Rattle.dg_world.specs.declared.telling.Fault.TheVariants as fault
 use Rattle.dg_world.specs.declared.world.RunningMote.{RunningMote}
 use Rattle.dg_serve.specs.Services.{Moment, Steps, handed}
-use Rattle.dg_serve.specs.Traces.{event_lines, event_in, IsEventLine}
+use Rattle.dg_serve.specs.Traces.{event_lines, IsEventLine}
 use Rattle.dg_serve.specs.Endings.{BoardsStand}
 use Rattle.dg_serve.specs.Standings.{Standing, StandsFor, Ready, BoardsAreUsed, BoardsAreCalm, CountsBy, PlayedAt, HappensAt, DoesNotHappen, HappensPartly, HappenEnds, HandedToSome, FailuresBy, begun_before, begun_behind, handed_by, stop_by, stops_by}
 use Rattle.dg_serve.specs.declared.service.Service.{Service}
@@ -62,12 +62,11 @@ pub err_exit : (r : Result (Unit {0}) Stop) (why : Stop) (motes : ℕ) (links : 
 err_exit (Ok x) why motes links event p q is ends = absurd is
 err_exit (Err e) why motes links event p q is ends = subst (λ (w : Stop). HappenEnds (Err w) motes links event p q) (sym is) ends
 
-pub event_is : (line : Line) (event : Event) → line ≡ Happens event → event_in line ≡ event
-event_is line event e = ap event_in e
+pub event_is : (event told : Event) → Happens event ≡ Happens told → event ≡ told
+event_is event told e = cc
 
-pub text_is : (line : Line) (event : Event) (x t : List ℕ) → x ≡ t → t ≡ line_text line ++ 10 ∷ [] → line ≡ Happens event → x ≡ event_lines (event_in line ∷ [])
-text_is line event x t same text e =
-    same ∙ text ∙ ap (λ l. line_text l ++ 10 ∷ []) e ∙ sym (one_line event) ∙ ap (λ y. event_lines (y ∷ [])) (sym (event_is line event e))
+pub text_is : (event : Event) (x t : List ℕ) → x ≡ t → t ≡ line_text (Happens event) ++ 10 ∷ [] → x ≡ event_lines (event ∷ [])
+text_is event x t same text = same ∙ text ∙ sym (one_line event)
 
 -- the motes that are written back to a service
 pub written_back : (s : Service) (ms ns : List (Option RunningMote)) (mote : ℕ) (x : Option RunningMote) → ms ≡ s.motes.items → ns ≡ set ms mote x → (with_items s.motes ns).items ≡ ns

@@ -13,3 +13,6 @@ pub mod LoopLemmas
 pub mod StartLemmas
 pub mod ServeLemmas
 pub mod OpenLemmas
+pub mod NetworkLemmas
+pub mod RunLemmas
+pub mod ScriptLemmas

@@ -24,7 +24,7 @@ one_next x (suc n) = ap (λ xs. x ∷ xs) (one_next x n)
 pub one_more : {X : Type 0} (x : X) (n : ℕ) → replicate n x ++ x ∷ [] ≡ replicate (n + 1) x
 one_more x n = one_next x n ∙ ap (λ k. replicate k x) (sym (add-one n))
 
-one_in : {X : Type 0} (x : X) (n m : ℕ) → slice_index_or (replicate n x) m x ≡ x
+pub one_in : {X : Type 0} (x : X) (n m : ℕ) → slice_index_or (replicate n x) m x ≡ x
 one_in x zero m = refl
 one_in x (suc n) zero = refl
 one_in x (suc n) (suc m) = one_in x n m
@@ -48,7 +48,7 @@ opens_err (Err e) why profile seed before addressees reached after is hindered c
 pub open_hindered : (why : Stop) (profile : NetProfile) (before after : Outside) (f g addressees : ℕ) → OpensLink (Err why) profile.motes before.inboxes after.inboxes before.failures after.failures addressees → Puts before.written after.written (written (head_lines profile)) → after.faults ≡ before.faults → Hindered (status_of why) profile before after
 open_hindered stop.Memory profile before after f g addressees opens put faults =
     ((length (written (head_lines profile)), subst (λ l. Puts before.written after.written l) (sym (take_all (length (written (head_lines profile))) (written (head_lines profile)) (omega arith))) put), faults, opens)
-open_hindered stop.Link profile before after f g addressees opens put faults = (put, faults, opens.1, opens.0)
+open_hindered stop.Link profile before after f g addressees opens put faults = (put, faults, opens.1, opens.0, opens.2)
 open_hindered stop.Write profile before after f g addressees opens put faults = absurd opens
 open_hindered stop.Flash profile before after f g addressees opens put faults = absurd opens
 open_hindered stop.NotAVolume profile before after f g addressees opens put faults = absurd opens

@@ -8,6 +8,7 @@ use Rattle.dg_base.specs.declared.events.Event.{Event}
 use Rattle.dg_base.specs.declared.events.Event.TheVariants.{Tick, Reset, Frame}
 use Rattle.dg_nor.specs.Device.{Device}
 use Rattle.dg_rules.specs.World.{site}
+use Rattle.dg_script.specs.Fitting.{IsTimed}
 use Rattle.dg_world.specs.Worlds.{SiteStands}
 use Rattle.dg_serve.specs.Services.{Part, Begins, Looks, Ticks, Moment, Reads, Steps, Happened, PartDone, later, at_reading}
 use Rattle.dg_serve.specs.Standings.{Standing, StandsFor}
@@ -19,6 +20,7 @@ pub record Draws (old new : Timeline) (dt word : ℕ) (told told_then : Option A
   pub rises : old.reading ≤ new.reading
   pub answered : Answered told told_then new.reading
   pub word_is : (word, new.words) ≡ pcg32 old.words
+  pub fits : IsTimed dt word
   pub moment : new.moment ≡ old.moment + dt
 
 -- the moment between the draw and the event
@@ -28,6 +30,7 @@ drawn s new told_then = at_reading s new.reading told_then new.words
 pub reads_of : (s : Moment) (old new : Timeline) (dt word : ℕ) (told told_then : Option Answers) → old.reading ≡ s.reading → old.words ≡ s.words → told ≡ s.clock → Draws old new dt word told told_then → Reads s dt word (drawn s new told_then)
 reads_of s old new dt word told told_then reading words clock d = record {
   answer = new.reading;
+  fits = d.fits;
   rises = omega (arith, reading, d.rises);
   told = subst (λ (c : Option Answers). Answered c told_then new.reading) clock d.answered;
   dt_is = d.dt_is ∙ ap (λ n. later n new.reading) reading;
@@ -45,6 +48,7 @@ stands_drawn motes begun links first s p q dt word st d boards motes_same inboxe
   clock = refl;
   inboxes = inboxes ∙ st.inboxes;
   linked = st.linked;
+  wide = st.wide;
   sites = st.sites;
   count = ap length boards ∙ st.count;
   timely = st.timely;

@@ -1,6 +1,6 @@
 -- What an event at a board is by its kind: a reset, a tick, or a frame.
 use Rattle.std.proofs.Common.{◌≡◌, ◌≢◌, ◌⊎◌, ℕ, ◌+◌, ◌<◌, ◌≤◌, List, [], ◌∷◌, length, set, refl, ap, sym, ◌∙◌, subst, ⊎_elim, inl, inr, arith}
-use Rattle.std.specs.Prelude.{true, slice_get, slice_index_or, take, option_map, Option, Some, None, Result, Ok, Err}
+use Rattle.std.specs.Prelude.{Bool, not, true, false, slice_get, slice_index_or, take, option_map, Option, Some, None, Result, Ok, Err}
 use Rattle.std.proofs.lemmas.Option.{same_Some}
 use Rattle.dg_base.specs.declared.events.Event.{Event}
 use Rattle.dg_base.specs.declared.events.Event.TheVariants.{Tick, Hear, Last, Reset, Inject, Order, Frame}
@@ -9,7 +9,8 @@ use Rattle.dg_mote.specs.declared.outbox.Outbox.{Outbox}
 use Rattle.dg_nor.specs.Device.{Device, Endures}
 use Rattle.dg_nor.specs.Fuse.{beneath_of}
 use Rattle.dg_volume.specs.Stands.{Stands, IsVolume, IsNoVolume}
-use Rattle.dg_rules.specs.World.{World, Running, site, store_at}
+use Rattle.dg_script.specs.Places.{none_narrow}
+use Rattle.dg_rules.specs.World.{World, Running, site, wide_in, wide_at, store_at}
 use Rattle.dg_rules.specs.Premises.{WorldTimely}
 use Rattle.dg_rules.specs.Ranges.{EventFits, StepFits}
 use Rattle.dg_rules.specs.Events.{does, mote_of, dt_of}
@@ -28,6 +29,7 @@ use Rattle.dg_serve.specs.Endings.{BoardsStand, EventEnds, PartlyHanded}
 use Rattle.dg_serve.specs.Standings.{Standing, StandsFor, Ready, BoardsAreUsed, BoardsAreCalm, PlayedAt, begun_before, begun_behind, handed_by, HandedToSome, stop_by}
 use Rattle.dg_serve.specs.declared.stop.Stop.{Stop}
 use Rattle.dg_serve.specs.declared.stop.Stop.TheVariants as stop
+use Rattle.dg_serve.proofs.OpenLemmas.{one_in}
 use Rattle.dg_serve.proofs.BoardLemmas.{got_within, used_one, used_more, calm_one}
 use Rattle.dg_serve.proofs.EventLemmas.{got_some, same_of, behind, steps_on, frames_of, IsHere, stands_then, boards_then, stops_in, finds_no_volume, finds_no_image}
 
@@ -123,6 +125,10 @@ volume_on links motes (Last from to dt word) r first s p q alone x st told a was
 volume_on links motes (Inject m image version dt word) r first s p q alone x st told a was = absurd alone
 volume_on links motes (Order m number image version dt word) r first s p q alone x st told a was = absurd alone
 
+-- every mote of a service is wide
+is_wide : (w : World) (m : ℕ) → w.narrow ≡ none_narrow → wide_at w m ≡ true
+is_wide w m none = ap (λ (narrow : List Bool). wide_in narrow m) none ∙ ap not (one_in false 16 m)
+
 -- ---- what is known of the board without a moment
 
 -- the moment of some service
@@ -138,7 +144,7 @@ module _ (links : List (ℕ × ℕ)) (motes : ℕ) (event : Event) (r : Result O
       → PlaysAlone r s.world event (ran_at q (mote_of event)) x.played.before x.played.after
   played_for first s st a was volume =
       let h = is_here links motes event r first s p q alone x st in
-      x.played.plays s.world (h.site_of a was volume) (omega (arith, x.known, st.sites)) st.moment
+      x.played.plays s.world (h.site_of a was volume) (omega (arith, x.known, st.sites)) st.moment (is_wide s.world (mote_of event) st.wide)
 
 -- its board among those at the beginning
 first_at : (links : List (ℕ × ℕ)) (motes begun ahead : ℕ) (mote : ℕ) (first : List Device) (s : Moment) (p : Standing) (before : Device) → StandsFor motes begun links ahead first s p → slice_get p.boards mote ≡ Some before → (a : Device) × (slice_get first mote ≡ Some a)

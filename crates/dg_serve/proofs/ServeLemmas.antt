@@ -303,8 +303,8 @@ too_few_told answer profile before v g n same t = record { boards = refl; clock 
   where
     told : TellsTooFew answer (last_line status.NoBoard profile.motes (length before.boards)) before.written v before.faults g
         → ((answer ≡ status.NoBoard) × Puts before.written v (last_line status.NoBoard profile.motes (length before.boards)) × (g ≡ before.faults))
-        ⊎ (((k : ℕ) × (answer ≡ status.WriteFault) × Puts before.written v (take k (last_line status.NoBoard profile.motes (length before.boards))) × Rose before.faults g)
+        ⊎ (((k : ℕ) × (answer ≡ status.WriteFault) × Puts before.written v (take k (last_line status.NoBoard profile.motes (length before.boards))) × Rose before.faults g × (before.faults ≤ g))
         ⊎ ((answer ≡ status.Memory) × (v ≡ before.written) × (g ≡ before.faults)))
     told (inl (inl x)) = inl x
-    told (inl (inr x)) = inr (inl (x.1.0, x.0, x.1.1, x.2))
+    told (inl (inr x)) = inr (inl (x.1.0, x.0, x.1.1, x.2, x.3))
     told (inr x) = inr (inr x)

@@ -10,6 +10,7 @@ use Rattle.dg_object.specs.Object.{Row}
 use Rattle.dg_volume.specs.Store.{Store}
 use Rattle.dg_volume.specs.Stands.{Stands, IsVolume, IsNoVolume}
 use Rattle.dg_mote.specs.Timely.{Timely}
+use Rattle.dg_script.specs.Places.{none_narrow}
 use Rattle.dg_rules.specs.World.{World, Site, first_world, off_site, no_site, site, store_at}
 use Rattle.dg_serve.specs.Services.{Part, Moment}
 use Rattle.dg_serve.specs.Endings.{StoresOf}
@@ -25,7 +26,7 @@ site_off (s ∷ stores) (suc m) = site_off stores m
 
 -- the moment of a service that begins
 abbrev pub first_moment : List Row → List (ℕ × ℕ) → List Store → (reading : ℕ) → Option Answers → Lcg → Option Inboxes → Moment
-first_moment table links stores reading clock words inboxes = record { world = first_world table links stores; reading = reading; clock = clock; words = words; inboxes = inboxes }
+first_moment table links stores reading clock words inboxes = record { world = first_world table links none_narrow stores; reading = reading; clock = clock; words = words; inboxes = inboxes }
 
 pub stands_first : (motes : ℕ) (links : List (ℕ × ℕ)) (table : List Row) (stores : List Store) (reading : ℕ) (clock : Option Answers) (words : Lcg) (inboxes : Option Inboxes) (p : Standing) → StoresOf motes p.boards stores → p.service.timeline.moment ≡ 0 → p.service.timeline.reading ≡ reading → p.service.timeline.words ≡ words → p.clock ≡ clock → p.inboxes ≡ inboxes
     → StandsFor motes 0 links 0 p.boards (first_moment table links stores reading clock words inboxes) p
@@ -36,6 +37,7 @@ stands_first motes links table stores reading clock words inboxes p of moment re
   clock = told;
   inboxes = waits;
   linked = refl;
+  wide = refl;
   sites = length-map stores off_site ∙ of.count;
   count = refl;
   timely = λ m known. subst (λ (x : Site). IfSome x.runs (λ r. Timely r.mote 0)) (sym (site_off stores m)) tt;

@@ -76,6 +76,7 @@ stands_looked motes begun links boxes p first s st = record {
   clock = st.clock;
   inboxes = refl;
   linked = st.linked;
+  wide = st.wide;
   sites = st.sites;
   count = st.count;
   timely = st.timely;
@@ -302,15 +303,15 @@ frame_runs : (w : World) (m dt word : ℕ) (bytes : List ℕ) (deed : Deed) → 
 unfolding does
 frame_runs w m dt word bytes deed e none = heard_runs w m dt word bytes deed (site w m).runs e none
 
-pub looks_part : (motes mote : ℕ) (bytes : List ℕ) (before taken : Option Inboxes) → mote < motes → Takes mote bytes before taken → IsPart motes motes motes (Looks mote) (λ dt word. Frame mote dt word bytes) bytes before taken
-looks_part motes mote bytes before taken known takes = record {
+pub looks_part : (motes mote : ℕ) (bytes : List ℕ) (before taken : Option Inboxes) → mote < motes → Takes mote bytes before taken → IsFrame bytes → IsPart motes motes motes (Looks mote) (λ dt word. Frame mote dt word bytes) bytes before taken
+looks_part motes mote bytes before taken known takes fits = record {
   dt_is = λ dt word. refl;
   before_is = λ dt word. refl;
   behind_is = λ dt word. refl;
   event_is = λ dt word. refl;
   within = omega arith;
   rises = omega arith;
-  done = λ s t es same x. inr (record { bytes = bytes; taken = taken; takes = subst (λ (o : Option Inboxes). Takes mote bytes o taken) (sym same) takes; heard = x });
+  done = λ s t es same x. inr (record { bytes = bytes; fits = fits; taken = taken; takes = subst (λ (o : Option Inboxes). Takes mote bytes o taken) (sym same) takes; heard = x });
   link = inr (mote, takes);
   untaken = λ dt word w old new ends volumes.
       ⊎_elim

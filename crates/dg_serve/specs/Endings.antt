@@ -11,6 +11,7 @@ use Rattle.dg_nor.specs.Trail.{operations, MayLeave}
 use Rattle.dg_object.specs.Object.{Row}
 use Rattle.dg_volume.specs.Store.{Store, IsNear}
 use Rattle.dg_volume.specs.Stands.{Stands, IsVolume, IsNoVolume}
+use Rattle.dg_script.specs.Places.{none_narrow}
 use Rattle.dg_rules.specs.World.{World, Sent, first_world, store_at, no_site}
 use Rattle.dg_rules.specs.Events.{does, mote_of, trail_of}
 use Rattle.dg_rules.specs.Steps.{EndsRun}
@@ -26,10 +27,10 @@ pub record StoresOf (motes : ℕ) (boards : List Device) (stores : List Store) :
   pub count : length stores ≡ motes
   pub stands : (m : ℕ) (d : Device) → m < motes → slice_get boards m ≡ Some d → Stands d.image (slice_index_or stores m no_site.store) ⊎ IsNoVolume d.image
 
--- from these stores, at this first answer of the clock
+-- wide motes begin from these stores, at this first answer of the clock
 abbrev pub begins : List Row → List (ℕ × ℕ) → List Store → (origin : ℕ) → Option Answers → (seed : ℕ) → Option Inboxes → Moment
 begins table links stores origin clock seed inboxes = record {
-  world = first_world table links stores;
+  world = first_world table links none_narrow stores;
   reading = origin;
   clock = clock;
   words = words_of_seed seed;

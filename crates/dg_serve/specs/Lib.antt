@@ -5,3 +5,6 @@ pub mod Endings
 pub mod Served
 pub mod Standings
 pub mod Ran
+pub mod Networks
+pub mod Spelled
+pub mod Promised

@@ -119,5 +119,5 @@ TellsTooFew answer line w v f g = Tells answer status.NoBoard line w v f g ⊎ (
 abbrev pub OpensLink : Result (Unit {0}) Stop → (motes : ℕ) → (old new : Option Inboxes) → (f g addressees : ℕ) → Type 0
 OpensLink (Ok u) motes old new f g addressees = (new ≡ option_map (emptied motes) old) × (g ≡ f) × (addressees ≡ motes)
 OpensLink (Err stop.Memory) motes old new f g addressees = g ≡ f
-OpensLink (Err stop.Link) motes old new f g addressees = (new ≡ option_map (emptied 0) old) × Rose f g
+OpensLink (Err stop.Link) motes old new f g addressees = (new ≡ option_map (emptied 0) old) × Rose f g × (f ≤ g)
 OpensLink (Err why) motes old new f g addressees = ⊥

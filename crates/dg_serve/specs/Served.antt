@@ -93,9 +93,9 @@ pub record Began (answer : Status) (profile : NetProfile) (seed turns : ℕ) (be
 abbrev pub Hindered : Status → NetProfile → (before after : Outside) → Type 0
 Hindered status.Memory profile before after = ((n : ℕ) × Puts before.written after.written (take n (written (head_lines profile)))) × (after.faults ≡ before.faults) × (after.failures ≡ before.failures)
 Hindered status.WriteFault profile before after = ((n : ℕ) × Puts before.written after.written (take n (written (head_lines profile)))) × Rose before.faults after.faults × (after.failures ≡ before.failures)
-    × (after.inboxes ≡ before.inboxes)
+    × (after.inboxes ≡ before.inboxes) × (before.faults ≤ after.faults)
 Hindered status.LinkFault profile before after = Puts before.written after.written (written (head_lines profile)) × (after.faults ≡ before.faults) × Rose before.failures after.failures
-    × (after.inboxes ≡ option_map (emptied 0) before.inboxes)
+    × (after.inboxes ≡ option_map (emptied 0) before.inboxes) × (before.failures ≤ after.failures)
 Hindered answer profile before after = ⊥
 
 -- The service did not begin. No board was used, and the clock was not read.
@@ -114,5 +114,5 @@ pub record TooFewBoards (answer : Status) (profile : NetProfile) (before after :
   pub link : after.inboxes ≡ before.inboxes
   pub failures : after.failures ≡ before.failures
   pub told : ((answer ≡ status.NoBoard) × Puts before.written after.written (last_line status.NoBoard profile.motes (length before.boards)) × (after.faults ≡ before.faults))
-      ⊎ (((n : ℕ) × (answer ≡ status.WriteFault) × Puts before.written after.written (take n (last_line status.NoBoard profile.motes (length before.boards))) × Rose before.faults after.faults)
+      ⊎ (((n : ℕ) × (answer ≡ status.WriteFault) × Puts before.written after.written (take n (last_line status.NoBoard profile.motes (length before.boards))) × Rose before.faults after.faults × (before.faults ≤ after.faults))
       ⊎ ((answer ≡ status.Memory) × (after.written ≡ before.written) × (after.faults ≡ before.faults)))

@@ -9,6 +9,7 @@ use Rattle.dg_base.specs.declared.events.Event.TheVariants.{Tick, Reset, Frame}
 use Rattle.dg_link.specs.Inboxes.{Inboxes, Takes, IsEmptyAt, delivered}
 use Rattle.dg_rules.specs.World.{World, Sent}
 use Rattle.dg_rules.specs.Steps.{WorldStep}
+use Rattle.dg_script.specs.Fitting.{IsFrame, IsTimed}
 use Rattle.dg_script.specs.Places.{is_linked}
 use Rattle.dg_script.specs.declared.report.Report.{Report}
 use Rattle.dg_world.specs.Alone.{uncut}
@@ -65,6 +66,7 @@ pub record Reads (s : Moment) (dt word : ℕ) (t : Moment) : Type 0 where
   pub told : Answered s.clock t.clock answer
   pub dt_is : dt ≡ later s.reading answer
   pub word_is : (word, t.words) ≡ pcg32 s.words
+  pub fits : IsTimed dt word
   pub same : t ≡ at_reading s answer t.clock t.words
 
 -- ---- frames over the link
@@ -116,9 +118,10 @@ pub record NoneCame (mote : ℕ) (s : Moment) (done : List Event) (t : Moment) :
   pub nothing : done ≡ []
   pub same : t ≡ s
 
--- a frame had come, the oldest that waits where that is known, and is heard
+-- a frame of at most 64 bytes had come, the oldest that waits where that is known, and is heard
 pub record OneCame (motes mote : ℕ) (s : Moment) (done : List Event) (t : Moment) : Type 0 where
   pub bytes : List ℕ
+  pub fits : IsFrame bytes
   pub taken : Option Inboxes
   pub takes : Takes mote bytes s.inboxes taken
   pub heard : Happened motes (record s { inboxes = taken }) (λ dt word. Frame mote dt word bytes) done t

@@ -1,5 +1,5 @@
 -- Where the code of a service stands, and how its calls go on from there.
-use Rattle.std.specs.Prelude.{◌≡◌, ◌≢◌, ◌⊎◌, ℕ, ◌+◌, ◌-◌, ◌*◌, ◌^◌, ◌<◌, ◌≤◌, List, [], ◌∷◌, ◌++◌, length, take, slice_get, slice_index_or, slice_set, option_map, Option, Some, None, Result, Ok, Err}
+use Rattle.std.specs.Prelude.{◌≡◌, ◌≢◌, ◌⊎◌, ℕ, ◌+◌, ◌-◌, ◌*◌, ◌^◌, ◌<◌, ◌≤◌, true, List, [], ◌∷◌, ◌++◌, length, take, slice_get, slice_index_or, slice_set, option_map, Option, Some, None, Result, Ok, Err}
 use Rattle.dg_words.specs.Counts.{Rose}
 use Rattle.dg_base.specs.Clock.{Answers}
 use Rattle.dg_base.specs.Outside.{Puts}
@@ -11,7 +11,8 @@ use Rattle.dg_nor.specs.Fuse.{beneath_of}
 use Rattle.dg_volume.specs.Stands.{Stands, IsVolume, IsNoVolume}
 use Rattle.dg_mote.specs.declared.outbox.Outbox.{Outbox}
 use Rattle.dg_script.specs.Fitting.{IsFrame}
-use Rattle.dg_rules.specs.World.{World, site, store_at}
+use Rattle.dg_script.specs.Places.{none_narrow}
+use Rattle.dg_rules.specs.World.{World, site, wide_at, store_at}
 use Rattle.dg_rules.specs.Events.{mote_of, dt_of}
 use Rattle.dg_rules.specs.Premises.{WorldTimely}
 use Rattle.dg_world.specs.Worlds.{SiteStands}
@@ -47,6 +48,7 @@ pub record StandsFor (motes begun : ℕ) (links : List (ℕ × ℕ)) (ahead : �
   pub clock : p.clock ≡ s.clock
   pub inboxes : p.inboxes ≡ s.inboxes
   pub linked : s.world.links ≡ links
+  pub wide : s.world.narrow ≡ none_narrow
   pub sites : length s.world.sites ≡ motes
   pub count : length p.boards ≡ length first
   pub timely : WorldTimely s.world
@@ -176,7 +178,7 @@ pub record PlayedAt (r : Result Outbox Fault) (event : Event) (mote now : ℕ) (
   pub after : Device
   pub was : slice_get old mote ≡ Some before
   pub put : new ≡ slice_set old mote after
-  pub plays : (w : World) → SiteStands before v (site w mote) → mote < length w.sites → now ≡ w.moment + dt_of event → PlaysAlone r w event u before after
+  pub plays : (w : World) → SiteStands before v (site w mote) → mote < length w.sites → now ≡ w.moment + dt_of event → wide_at w mote ≡ true → PlaysAlone r w event u before after
   pub powers : IsReset event → Powers r before after
 
 -- The event happened, was told and what it sent was handed on.

@@ -2,10 +2,12 @@
 use Rattle.std.specs.Prelude.{◌≡◌, ℕ, true, List, [], ◌∷◌, ◌++◌, map, codes, None}
 use Rattle.std.specs.List.{flat_map}
 use Rattle.std.specs.Fmt.{decimal}
+use Rattle.std.specs.Str.Lines.{lines}
 use Rattle.dg_base.specs.declared.answers.Status.{Status}
 use Rattle.dg_base.specs.declared.answers.Status.TheVariants.{NotAVolume, NoImage, NoBoard}
 use Rattle.dg_base.specs.declared.events.Event.{Event}
-use Rattle.dg_base.specs.declared.events.Event.TheVariants.{Tick}
+use Rattle.dg_script.specs.Places.{first_place}
+use Rattle.dg_script.specs.Script.{script_from}
 use Rattle.dg_script.specs.Spelling.{line_text}
 use Rattle.dg_script.specs.declared.line.Line.{Line}
 use Rattle.dg_script.specs.declared.line.Line.TheVariants.{Motes, Boards, Link, Happens}
@@ -37,7 +39,10 @@ last_line status motes boards = []
 abbrev pub IsEventLine : Line → Type 0
 IsEventLine line = (event : Event) × (line ≡ Happens event)
 
--- the event of a line of one; it is asked of no other line
-abbrev pub event_in : Line → Event
-event_in (Happens event) = event
-event_in line = Tick 0 0 0
+-- the lines of the script that tells of events
+abbrev pub trace_lines : NetProfile → List Event → List Line
+trace_lines p events = head_lines p ++ map Happens events
+
+-- the bytes are a script of these lines, whole and without a fault
+abbrev pub IsScript : (bytes : List ℕ) → List Line → Type 0
+IsScript bytes ls = script_from true first_place 1 (lines bytes) ≡ record { lines = ls; fault = None }

@@ -2,6 +2,8 @@
 #![tactic(auto)]
 
 mod handing;
+mod laws;
+mod network;
 mod playing;
 mod service;
 mod serving;
@@ -9,6 +11,8 @@ mod stop;
 mod telling;
 mod timeline;
 
+pub use laws::services_keep_the_rules;
+pub use network::serve_network;
 pub use serving::serve;
 
 #[cfg(test)]

@@ -7,11 +7,11 @@ ghost use Rattle.dg_rules.specs.Events.{mote_of, dt_of};
 ghost use Rattle.dg_rules.specs.Ranges.{EventFits};
 ghost use Rattle.dg_script.specs.Fitting.{FitsLine};
 ghost use Rattle.dg_script.specs.Spelling.{IsShort};
+ghost use Rattle.dg_script.specs.declared.line.Line.TheVariants.{Happens};
 ghost use Rattle.dg_world.specs.Alone.{IsAlone, IsReset};
 ghost use Rattle.dg_world.specs.Worlds.{MayRun};
 ghost use Rattle.dg_serve.specs.Each.{each};
 ghost use Rattle.dg_serve.specs.Services.{Begins, Looks, Ticks, Moment, beginning, turn_of_all, plan};
-ghost use Rattle.dg_serve.specs.Traces.{IsEventLine, event_in};
 ghost use Rattle.dg_serve.specs.Standings.{Ready, StandsFor, StandsForSome, GoesOn, HappenEnds, begun_before};
 
 use crate::handing::{hand_on, receive};
@@ -44,35 +44,35 @@ impl Service {
         &mut self,
         profile: &NetProfile,
         mote: u8,
-        line: &Line,
+        event: Event,
         boards: &mut [N],
         link: &mut L,
         out: &mut K,
     ) -> Result<(), Stop>
         requires allowed { IsAllowed profile.now }
-        requires told { IsEventLine line.now }
-        requires fits { FitsLine profile.now.motes line.now }
-        requires short { IsShort line.now }
-        requires ranges { EventFits profile.now.motes (event_in line.now) }
-        requires alone { IsAlone (event_in line.now) }
-        requires at { mote_of (event_in line.now) ≡ mote }
+        requires fits { FitsLine profile.now.motes (Happens event) }
+        requires short { IsShort (Happens event) }
+        requires ranges { EventFits profile.now.motes event }
+        requires alone { IsAlone event }
+        requires at { mote_of event ≡ mote }
         requires known { mote < profile.now.motes }
         requires motes { length self.old.motes.items ≡ profile.now.motes }
         requires boards { profile.now.motes ≤ length boards.old }
         requires addressees { L.mote_count link.old ≡ profile.now.motes }
         requires moment { self.old.timeline.moment < 2 ^ 62 }
         requires may { (a : Device) → slice_get (map N.device boards.old) mote ≡ Some a → MayRun a.image self.old.timeline.moment (slice_index_or self.old.motes.items mote None) }
-        requires off { IsReset (event_in line.now) → slice_index_or self.old.motes.items mote None ≡ None }
-        requires some { IsReset (event_in line.now) ⊎ ((told : Option Answers) × (reached : ℕ) × (first : List Device) × (s : Moment) × StandsFor profile.now.motes (begun_before profile.now.motes (event_in line.now)) profile.now.links (dt_of (event_in line.now)) first s (record { service = self.old; boards = map N.device boards.old; inboxes = L.inboxes link.old; addressees = L.mote_count link.old; failures = L.faults link.old; clock = told; reached = reached; written = K.written out.old; faults = K.faults out.old })) }
-        ensures ends { (told : Option Answers) (reached : ℕ) → HappenEnds result profile.now.motes profile.now.links (event_in line.now)
+        requires off { IsReset event → slice_index_or self.old.motes.items mote None ≡ None }
+        requires some { IsReset event ⊎ ((told : Option Answers) × (reached : ℕ) × (first : List Device) × (s : Moment) × StandsFor profile.now.motes (begun_before profile.now.motes event) profile.now.links (dt_of event) first s (record { service = self.old; boards = map N.device boards.old; inboxes = L.inboxes link.old; addressees = L.mote_count link.old; failures = L.faults link.old; clock = told; reached = reached; written = K.written out.old; faults = K.faults out.old })) }
+        ensures ends { (told : Option Answers) (reached : ℕ) → HappenEnds result profile.now.motes profile.now.links event
             (record { service = self.old; boards = map N.device boards.old; inboxes = L.inboxes link.old; addressees = L.mote_count link.old; failures = L.faults link.old; clock = told; reached = reached; written = K.written out.old; faults = K.faults out.old })
             (record { service = self.new; boards = map N.device boards.new; inboxes = L.inboxes link.new; addressees = L.mote_count link.new; failures = L.faults link.new; clock = told; reached = reached; written = K.written out.new; faults = K.faults out.new }) }
     {
         agreement_is_kept();
-        write_event(line, &mut self.text)?;
-        let event = told_event(line);
+        let line = Line::Happens(event);
+        write_event(&line, &mut self.text)?;
+        let told = told_event(&line);
         let now = self.timeline.moment;
-        let sent = play(self.motes.as_mut_slice(), boards, mote, now, event)?;
+        let sent = play(self.motes.as_mut_slice(), boards, mote, now, told)?;
         put(self.text.as_slice(), out)?;
         hand_on(profile, mote, &sent, link)?;
         Ok(())
@@ -97,12 +97,12 @@ impl Service {
             (record { service = self.new; boards = map N.device boards.new; inboxes = L.inboxes link.new; addressees = L.mote_count link.new; failures = L.faults link.new; clock = C.told clock.new; reached = C.reached clock.new; written = K.written out.new; faults = K.faults out.new }) }
     {
         let draw = self.timeline.draw(clock);
-        let line = Line::Happens(Event::Reset {
+        let event = Event::Reset {
             mote,
             dt: draw.dt,
             word: draw.word,
-        });
-        self.happen(profile, mote, &line, boards, link, out)
+        };
+        self.happen(profile, mote, event, boards, link, out)
     }
 
     /// A mote looks whether a frame came, and hears it.
@@ -127,13 +127,13 @@ impl Service {
         match receive(self.alloc, link, mote)? {
             Some(bytes) => {
                 let draw = self.timeline.draw(clock);
-                let line = Line::Happens(Event::Frame {
+                let event = Event::Frame {
                     mote,
                     dt: draw.dt,
                     word: draw.word,
                     bytes,
-                });
-                self.happen(profile, mote, &line, boards, link, out)
+                };
+                self.happen(profile, mote, event, boards, link, out)
             }
             None => Ok(()),
         }
@@ -159,12 +159,12 @@ impl Service {
             (record { service = self.new; boards = map N.device boards.new; inboxes = L.inboxes link.new; addressees = L.mote_count link.new; failures = L.faults link.new; clock = C.told clock.new; reached = C.reached clock.new; written = K.written out.new; faults = K.faults out.new }) }
     {
         let draw = self.timeline.draw(clock);
-        let line = Line::Happens(Event::Tick {
+        let event = Event::Tick {
             mote,
             dt: draw.dt,
             word: draw.word,
-        });
-        self.happen(profile, mote, &line, boards, link, out)
+        };
+        self.happen(profile, mote, event, boards, link, out)
     }
 
     /// A mote has its part in a turn: it looks, and it ticks.

@@ -19,8 +19,8 @@ use dg_nor::Nor;
 use dg_world::RunningMote;
 use std::alloc::{AllocError, Global};
 
-/// Runs the motes of a profile for so many turns, over the boards, the link and the clock, and writes what happens to
-/// `out` as a script. `turns` is at most 1,000,000.
+/// Runs the motes of a profile, all of them wide, for so many turns, over the boards, the link and the clock, and writes
+/// what happens to `out` as a script. `turns` is at most 1,000,000.
 pub fn serve<K: Sink, N: Nor, L: Link, C: Clock>(
     alloc: Global,
     profile: &NetProfile,
@@ -33,7 +33,6 @@ pub fn serve<K: Sink, N: Nor, L: Link, C: Clock>(
 ) -> Status
     requires allowed { IsAllowed profile.now }
     requires turns { turns ≤ 1000000 }
-    requires boards { vec_len boards.old < 2 ^ 32 }
     ensures served { profile.now.motes ≤ vec_len boards.old → Served result profile.now seed turns
         (record { written = K.written out.old; faults = K.faults out.old; clock = C.told clock.old; inboxes = L.inboxes link.old; failures = L.faults link.old; boards = map N.device boards.old.items })
         (record { written = K.written out.new; faults = K.faults out.new; clock = C.told clock.new; inboxes = L.inboxes link.new; failures = L.faults link.new; boards = map N.device boards.new.items }) }
@@ -147,7 +146,7 @@ fn tell_stop<K: Sink>(stop: Stop, out: &mut K) -> Status
 }
 
 /// Writes the last line of a status, and answers the status, unless the line cannot be written.
-fn tell_last<K: Sink>(line: &[u8], status: Status, out: &mut K) -> Status
+pub(crate) fn tell_last<K: Sink>(line: &[u8], status: Status, out: &mut K) -> Status
     ensures { Tells result status line.now (K.written out.old) (K.written out.new) (K.faults out.old) (K.faults out.new) }
 {
     match out.write(line) {

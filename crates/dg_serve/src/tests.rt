@@ -4,14 +4,14 @@ use dg_base::{MemSink, Pairs, Status, StepClock};
 use dg_link::MemLink;
 use dg_netcfg::read_profile;
 use dg_nor::Board;
-use dg_volume::Volume;
+use dg_volume::{FORM, Volume};
 use std::alloc::Global;
 use std::test::Fail;
 
 /// A board that holds a base image.
 fn formatted(alloc: Global) -> Result<Board, Fail> {
     let mut board = Board::memory(alloc)?;
-    Volume::format(&mut board, b"A", b"base", 0)?;
+    Volume::format(&mut board, b"A", b"base", 0, FORM)?;
     Ok(board)
 }
 

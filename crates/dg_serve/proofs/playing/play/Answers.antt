@@ -1,7 +1,11 @@
 use Rattle.std.proofs.Common.{refl, sym, ap, get_or, ◌∙◌, arith}
 use Rattle.std.specs.Prelude.{Ok, Err}
-use Rattle.dg_serve.proofs.PlayedLemmas.{played_at}
+use Rattle.dg_serve.proofs.PlayedLemmas.{played_at, may_run}
 use Rattle.dg_serve.proofs.playing.play.Goals as goal
+
+pub play_alone-requires-clause-mote : goal.play_alone-requires-clause-mote
+play_alone-requires-clause-mote g c =
+    may_run g.N.Nor.device c.args.now c.from-index.result c.args.mote c.args.motes.now c.args.boards.now (get_or c.args.motes.now c.from-index.result c.index-motes-index.result) (get_or c.args.boards.now c.from-index.result c.index-boards-index.result) (omega (arith, c.from-index.ensures, c.requires.motes)) (omega (arith, c.from-index.ensures, c.requires.boards)) (ap (λ x. get_or c.args.motes.now c.from-index.result x) c.index-motes-index.is) (ap (λ x. get_or c.args.boards.now c.from-index.result x) c.index-boards-index.is) c.from-index.ensures c.requires.may
 
 pub returns-in-Ok-clause-played : goal.returns-in-Ok-clause-played
 returns-in-Ok-clause-played g c = (

@@ -8,7 +8,7 @@ use Rattle.dg_serve.proofs.ServeLemmas.{served_done, served_stop, count_of, too_
 use Rattle.dg_serve.proofs.serving.serve.Goals as goal
 
 pub tell_too_few-requires : goal.tell_too_few-requires
-tell_too_few-requires g c = record { few = omega (arith, c.requires.boards) }
+tell_too_few-requires g c = record { few = omega (arith, c.requires.allowed.motes.1, c.from.ensures, c.if-len-from.true) }
 
 pub returns-then-len-from-clause-served : goal.returns-then-len-from-clause-served
 returns-then-len-from-clause-served g c = λ enough. absurd (omega (arith, enough))

@@ -26,9 +26,6 @@ draw-draw-requires-clause-early g c = c.requires.early
 pub happen-requires-clause-allowed : goal.happen-requires-clause-allowed
 happen-requires-clause-allowed g c = c.requires.allowed
 
-pub happen-requires-clause-told : goal.happen-requires-clause-told
-happen-requires-clause-told g c = (Frame c.args.mote c.draw-draw.result.dt c.draw-draw.result.word c.in-Some.bytes, refl)
-
 pub happen-requires-clause-fits : goal.happen-requires-clause-fits
 happen-requires-clause-fits g c = let x = (came_is c.in_ok-bytes.field-0 c.in-Some.bytes c.args.mote _ _ c.in-Some.is c.in_ok-bytes.ensures.received) in (c.requires.known, record { dt = c.draw-draw.ensures.short; word = c.draw-draw.ensures.drawn }, x.1)
 
@@ -57,7 +54,7 @@ pub happen-requires-clause-may : goal.happen-requires-clause-may
 happen-requires-clause-may g c =
     let p : Standing = record { service = c.args.self.now; boards = map g.N.Nor.device c.args.boards.now; inboxes = g.L.Link.inboxes c.args.link.now; addressees = g.L.Link.mote_count c.args.link.now; failures = g.L.Link.faults c.args.link.now; clock = g.C.Clock.told c.args.clock.now; reached = g.C.Clock.reached c.args.clock.now; written = g.K.Sink.written c.args.out.now; faults = g.K.Sink.faults c.args.out.now } in
     let m : Standing = record { service = record { motes = c.args.self.now.motes; timeline = c.draw-draw.new.self; text = c.args.self.now.text; alloc = c.args.self.now.alloc }; boards = map g.N.Nor.device c.args.boards.now; inboxes = g.L.Link.inboxes c.receive.new.link; addressees = g.L.Link.mote_count c.receive.new.link; failures = g.L.Link.faults c.receive.new.link; clock = g.C.Clock.told c.draw-draw.new.clock; reached = g.C.Clock.reached c.draw-draw.new.clock; written = g.K.Sink.written c.args.out.now; faults = g.K.Sink.faults c.args.out.now } in
-    let d : DrawnTo p m c.draw-draw.result.dt c.draw-draw.result.word = record { draws = record { dt_is = c.draw-draw.ensures.dt; rises = c.draw-draw.ensures.rises; answered = c.draw-draw.ensures.told; word_is = c.draw-draw.ensures.word; moment = c.draw-draw.ensures.moment }; boards = refl; motes = refl; written = refl; failures = c.in_ok-bytes.ensures.counts; faults = refl; addressees = c.in_ok-bytes.ensures.same_motes; reached = c.draw-draw.ensures.goes_on; known = c.draw-draw.ensures.reached; short = c.draw-draw.ensures.short } in
+    let d : DrawnTo p m c.draw-draw.result.dt c.draw-draw.result.word = record { draws = record { dt_is = c.draw-draw.ensures.dt; rises = c.draw-draw.ensures.rises; answered = c.draw-draw.ensures.told; word_is = c.draw-draw.ensures.word; moment = c.draw-draw.ensures.moment; fits = record { dt = c.draw-draw.ensures.short; word = c.draw-draw.ensures.drawn } }; boards = refl; motes = refl; written = refl; failures = c.in_ok-bytes.ensures.counts; faults = refl; addressees = c.in_ok-bytes.ensures.same_motes; reached = c.draw-draw.ensures.goes_on; known = c.draw-draw.ensures.reached; short = c.draw-draw.ensures.short } in
     may_at c.args.profile.now.motes c.draw-draw.result.dt c.args.mote c.args.profile.now.links m c.requires.known (some_drawn c.args.profile.now.motes c.args.profile.now.motes c.args.profile.now.links p m c.draw-draw.result.dt c.draw-draw.result.word d c.requires.some)
 
 pub happen-requires-clause-off : goal.happen-requires-clause-off
@@ -67,7 +64,7 @@ pub happen-requires-clause-some : goal.happen-requires-clause-some
 happen-requires-clause-some g c =
     let p : Standing = record { service = c.args.self.now; boards = map g.N.Nor.device c.args.boards.now; inboxes = g.L.Link.inboxes c.args.link.now; addressees = g.L.Link.mote_count c.args.link.now; failures = g.L.Link.faults c.args.link.now; clock = g.C.Clock.told c.args.clock.now; reached = g.C.Clock.reached c.args.clock.now; written = g.K.Sink.written c.args.out.now; faults = g.K.Sink.faults c.args.out.now } in
     let m : Standing = record { service = record { motes = c.args.self.now.motes; timeline = c.draw-draw.new.self; text = c.args.self.now.text; alloc = c.args.self.now.alloc }; boards = map g.N.Nor.device c.args.boards.now; inboxes = g.L.Link.inboxes c.receive.new.link; addressees = g.L.Link.mote_count c.receive.new.link; failures = g.L.Link.faults c.receive.new.link; clock = g.C.Clock.told c.draw-draw.new.clock; reached = g.C.Clock.reached c.draw-draw.new.clock; written = g.K.Sink.written c.args.out.now; faults = g.K.Sink.faults c.args.out.now } in
-    let d : DrawnTo p m c.draw-draw.result.dt c.draw-draw.result.word = record { draws = record { dt_is = c.draw-draw.ensures.dt; rises = c.draw-draw.ensures.rises; answered = c.draw-draw.ensures.told; word_is = c.draw-draw.ensures.word; moment = c.draw-draw.ensures.moment }; boards = refl; motes = refl; written = refl; failures = c.in_ok-bytes.ensures.counts; faults = refl; addressees = c.in_ok-bytes.ensures.same_motes; reached = c.draw-draw.ensures.goes_on; known = c.draw-draw.ensures.reached; short = c.draw-draw.ensures.short } in
+    let d : DrawnTo p m c.draw-draw.result.dt c.draw-draw.result.word = record { draws = record { dt_is = c.draw-draw.ensures.dt; rises = c.draw-draw.ensures.rises; answered = c.draw-draw.ensures.told; word_is = c.draw-draw.ensures.word; moment = c.draw-draw.ensures.moment; fits = record { dt = c.draw-draw.ensures.short; word = c.draw-draw.ensures.drawn } }; boards = refl; motes = refl; written = refl; failures = c.in_ok-bytes.ensures.counts; faults = refl; addressees = c.in_ok-bytes.ensures.same_motes; reached = c.draw-draw.ensures.goes_on; known = c.draw-draw.ensures.reached; short = c.draw-draw.ensures.short } in
     let x = some_drawn c.args.profile.now.motes c.args.profile.now.motes c.args.profile.now.links p m c.draw-draw.result.dt c.draw-draw.result.word d c.requires.some in
     inr (m.clock, m.reached, x.0, x.1, x.2)
 
@@ -75,9 +72,10 @@ pub returns-in-Some : goal.returns-in-Some
 returns-in-Some g c =
     let p : Standing = record { service = c.args.self.now; boards = map g.N.Nor.device c.args.boards.now; inboxes = g.L.Link.inboxes c.args.link.now; addressees = g.L.Link.mote_count c.args.link.now; failures = g.L.Link.faults c.args.link.now; clock = g.C.Clock.told c.args.clock.now; reached = g.C.Clock.reached c.args.clock.now; written = g.K.Sink.written c.args.out.now; faults = g.K.Sink.faults c.args.out.now } in
     let m : Standing = record { service = record { motes = c.args.self.now.motes; timeline = c.draw-draw.new.self; text = c.args.self.now.text; alloc = c.args.self.now.alloc }; boards = map g.N.Nor.device c.args.boards.now; inboxes = g.L.Link.inboxes c.receive.new.link; addressees = g.L.Link.mote_count c.receive.new.link; failures = g.L.Link.faults c.receive.new.link; clock = g.C.Clock.told c.draw-draw.new.clock; reached = g.C.Clock.reached c.draw-draw.new.clock; written = g.K.Sink.written c.args.out.now; faults = g.K.Sink.faults c.args.out.now } in
-    let d : DrawnTo p m c.draw-draw.result.dt c.draw-draw.result.word = record { draws = record { dt_is = c.draw-draw.ensures.dt; rises = c.draw-draw.ensures.rises; answered = c.draw-draw.ensures.told; word_is = c.draw-draw.ensures.word; moment = c.draw-draw.ensures.moment }; boards = refl; motes = refl; written = refl; failures = c.in_ok-bytes.ensures.counts; faults = refl; addressees = c.in_ok-bytes.ensures.same_motes; reached = c.draw-draw.ensures.goes_on; known = c.draw-draw.ensures.reached; short = c.draw-draw.ensures.short } in
+    let d : DrawnTo p m c.draw-draw.result.dt c.draw-draw.result.word = record { draws = record { dt_is = c.draw-draw.ensures.dt; rises = c.draw-draw.ensures.rises; answered = c.draw-draw.ensures.told; word_is = c.draw-draw.ensures.word; moment = c.draw-draw.ensures.moment; fits = record { dt = c.draw-draw.ensures.short; word = c.draw-draw.ensures.drawn } }; boards = refl; motes = refl; written = refl; failures = c.in_ok-bytes.ensures.counts; faults = refl; addressees = c.in_ok-bytes.ensures.same_motes; reached = c.draw-draw.ensures.goes_on; known = c.draw-draw.ensures.reached; short = c.draw-draw.ensures.short } in
+    let came = came_is c.in_ok-bytes.field-0 c.in-Some.bytes c.args.mote _ _ c.in-Some.is c.in_ok-bytes.ensures.received in
     record {
-      goes = part_ends c.args.profile.now.motes c.args.profile.now.motes c.args.profile.now.motes c.args.profile.now.links (Looks c.args.mote) (λ dt word. Frame c.args.mote dt word c.in-Some.bytes) c.in-Some.bytes c.draw-draw.result.dt c.draw-draw.result.word p m _ d (looks_part c.args.profile.now.motes c.args.mote c.in-Some.bytes p.inboxes m.inboxes c.requires.known (came_is c.in_ok-bytes.field-0 c.in-Some.bytes c.args.mote _ _ c.in-Some.is c.in_ok-bytes.ensures.received).0) c.happen.result c.requires.ready (c.happen.ensures.ends (g.C.Clock.told c.draw-draw.new.clock) (g.C.Clock.reached c.draw-draw.new.clock)) refl refl;
+      goes = part_ends c.args.profile.now.motes c.args.profile.now.motes c.args.profile.now.motes c.args.profile.now.links (Looks c.args.mote) (λ dt word. Frame c.args.mote dt word c.in-Some.bytes) c.in-Some.bytes c.draw-draw.result.dt c.draw-draw.result.word p m _ d (looks_part c.args.profile.now.motes c.args.mote c.in-Some.bytes p.inboxes m.inboxes c.requires.known came.0 came.1) c.happen.result c.requires.ready (c.happen.ensures.ends (g.C.Clock.told c.draw-draw.new.clock) (g.C.Clock.reached c.draw-draw.new.clock)) refl refl;
     }
 
 pub returns-in-None : goal.returns-in-None

@@ -1,0 +1,78 @@
+-- A service of the network that an input spells.
+use Rattle.std.specs.Prelude.{◌≡◌, ◌⊎◌, ℕ, ◌+◌, ◌<◌, ◌≤◌, nat_lt, if◌then◌else◌, List, [], ◌∷◌, ◌++◌, length, codes, Option, Result, Ok, Err}
+use Rattle.dg_words.specs.Counts.{Rose}
+use Rattle.dg_base.specs.Outside.{Takes, AtEnd}
+use Rattle.dg_base.specs.declared.answers.Status.{Status}
+use Rattle.dg_base.specs.declared.answers.Status.TheVariants as status
+use Rattle.dg_netcfg.specs.Faults.{profile_fault_text}
+use Rattle.dg_netcfg.specs.Profile.{netprofile}
+use Rattle.dg_netcfg.specs.declared.profile.NetProfile.{NetProfile}
+use Rattle.dg_netcfg.specs.declared.profile.ProfileFault.{ProfileFault}
+use Rattle.dg_script.specs.Sizes.{most_used_bytes}
+use Rattle.dg_serve.specs.Ran.{Tells}
+use Rattle.dg_serve.specs.Served.{Outside, Served, TooFewBoards}
+
+-- ---- how the rules say that it goes, by the input and the number of boards alone
+
+pub data Opening : Type 0 where
+  -- the input is too long
+  Over : Opening
+  -- it is no network profile
+  FaultAt : (fault : ProfileFault) → Opening
+  -- it is this profile, whose motes are more than the boards
+  TooFew : (profile : NetProfile) → Opening
+  -- it is this profile, and its motes are served
+  Serves : (profile : NetProfile) → Opening
+
+abbrev pub by_boards : ℕ → NetProfile → Opening
+by_boards boards profile = if nat_lt boards profile.motes then TooFew profile else Serves profile
+
+abbrev pub by_profile : ℕ → Result NetProfile ProfileFault → Opening
+by_profile boards (Ok profile) = by_boards boards profile
+by_profile boards (Err fault) = FaultAt fault
+
+-- A longer input than is used is refused whatever it spells. The boards are counted last.
+abbrev pub opening_of : (boards : ℕ) → (input : List ℕ) → Opening
+opening_of boards input = if nat_lt most_used_bytes (length input) then Over else by_profile boards (netprofile input)
+
+-- ---- the last lines
+
+abbrev pub over_line : List ℕ
+over_line = codes "toolong" ++ 10 ∷ []
+
+abbrev pub fault_line : ProfileFault → List ℕ
+fault_line fault = codes "profile " ++ profile_fault_text fault ++ 10 ∷ []
+
+-- ---- what was done
+
+-- Nothing was done but to write this line, or a front of it, since a write failed; or memory ran out, and nothing was written.
+pub record TellsAlone (answer of : Status) (line : List ℕ) (before after : Outside) : Type 0 where
+  pub boards : after.boards ≡ before.boards
+  pub clock : after.clock ≡ before.clock
+  pub link : after.inboxes ≡ before.inboxes
+  pub failures : after.failures ≡ before.failures
+  pub told : Tells answer of line before.written after.written before.faults after.faults ⊎ ((answer ≡ status.Memory) × (after.written ≡ before.written) × (after.faults ≡ before.faults))
+
+abbrev pub DoneBy : Opening → (answer : Status) → (seed turns : ℕ) → (before after : Outside) → Type 0
+DoneBy Over answer seed turns before after = TellsAlone answer status.TooLong over_line before after
+DoneBy (FaultAt fault) answer seed turns before after = TellsAlone answer status.BadInput (fault_line fault) before after
+DoneBy (TooFew profile) answer seed turns before after = TooFewBoards answer profile before after
+DoneBy (Serves profile) answer seed turns before after = Served answer profile seed turns before after
+
+-- Memory ran out over the input, or a read of it failed. Nothing was done.
+pub record NotRead (answer : Status) (reads_before reads_after : ℕ) (before after : Outside) : Type 0 where
+  pub cause : ((answer ≡ status.Memory) × (reads_after ≡ reads_before)) ⊎ ((answer ≡ status.ReadFault) × Rose reads_before reads_after)
+  pub same : after ≡ before
+
+-- It was read to its end, or one byte past those that are used, and what the rules say was done.
+pub record WasRead (input : List ℕ) (at_end : Type 0) (answer : Status) (seed turns : ℕ) (reads_before reads_after : ℕ) (before after : Outside) : Type 0 where
+  pub enough : at_end ⊎ (most_used_bytes < length input)
+  pub reads : reads_after ≡ reads_before
+  pub done : DoneBy (opening_of (length before.boards) input) answer seed turns before after
+
+-- some bytes were taken of the input, and this was done
+pub record NetworkServed (answer : Status) (seed turns : ℕ) (left_before left_after : Option (List ℕ)) (reads_before reads_after : ℕ) (before after : Outside) : Type 0 where
+  pub input : List ℕ
+  pub taken : Takes left_before left_after input
+  pub few_bytes : length input ≤ most_used_bytes + 1
+  pub done : NotRead answer reads_before reads_after before after ⊎ WasRead input (AtEnd left_after) answer seed turns reads_before reads_after before after
