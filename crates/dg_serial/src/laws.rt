@@ -1,12 +1,17 @@
 //! What holds of streams.
 ghost use Rattle.std.specs.Prelude.{◌≡◌, ◌↔◌, ◌++◌, ℕ, true, List, map};
 ghost use Rattle.std.specs.List.{AllByRecursion};
-ghost use Rattle.dg_serial.specs.Line.{IsOnLine, IsWhole, IsCut, Cut, HasLoneEscape, cut_of, is_broken, line_of, items, Frame};
+ghost use Rattle.dg_serial.specs.Line.{IsOnLine, IsWhole, IsCut, Cut, HasLoneEscape, cut_of, is_broken, line_of, items, Item, Frame};
 
 /// A stream is its pieces, each ended by a flag, and a rest, in one way.
 pub fn streams_are_cut()
     ensures cut { (stream : List ℕ) → IsCut stream (cut_of stream) }
     ensures only { (stream : List ℕ) (other : Cut) → IsCut stream other → other ≡ cut_of stream }
+{}
+
+/// What a stream gave stays given, whatever follows it.
+pub fn streams_go_on()
+    ensures { (stream more : List ℕ) → (later : List Item) × (items (stream ++ more) ≡ items stream ++ later) }
 {}
 
 /// A piece is broken exactly where an escape in it is not followed, within it, by one of the two bytes that may follow.

@@ -9,7 +9,9 @@ mod sizes;
 mod stuffing;
 mod unstuffing;
 
-pub use laws::{broken_pieces_have_a_lone_escape, frames_come_back, streams_are_cut};
+pub use laws::{
+    broken_pieces_have_a_lone_escape, frames_come_back, streams_are_cut, streams_go_on,
+};
 pub use sizes::the_bytes_of_a_line_are_these;
 pub use stuffing::stuff;
 pub use unstuffing::{Fed, Unstuff};

@@ -1,0 +1,18 @@
+-- The words of the generator PCG-XSH-RR (64 bits of state, 32 bits of output) that a seed begins.
+use Rattle.std.specs.Prelude.{ℕ, zero, suc}
+use Rattle.rand_core.specs.Pcg32Seed.{pcg32_seed}
+use Rattle.rand_pcg.specs.Lcg.{Lcg}
+use Rattle.rand_pcg.specs.Pcg.{pcg32, pcg32_of_seed}
+use Rattle.dg_seed.specs.declared.Words.{Words}
+
+abbrev pub generator_of : Words → Lcg
+generator_of w = w.generator
+
+-- the generator behind n words
+unfoldable pub generator_after : (seed n : ℕ) → Lcg
+generator_after seed zero = pcg32_of_seed (pcg32_seed 16 seed)
+generator_after seed (suc n) = (pcg32 (generator_after seed n)).1
+
+-- word n of a seed, from 0 on
+abbrev pub word_of : (seed n : ℕ) → ℕ
+word_of seed n = (pcg32 (generator_after seed n)).0

@@ -1,0 +1,237 @@
+-- A base mote goes on by a deed, or stops in it.
+use Rattle.std.proofs.Common.{◌≡◌, ℕ, suc, ◌+◌, ◌≤◌, List, [], ◌∷◌, ◌++◌, length, refl, ap, sym, ◌∙◌, subst, append_assoc, append-nil, length-append, arith}
+use Rattle.std.specs.Prelude.{Option, Some, None, option_map, map, Result, Ok, Err, OnOk, IfSome}
+use Rattle.std.proofs.lemmas.Result.{IfOk-at_ok}
+use Rattle.dg_base.specs.Outside.{Puts}
+use Rattle.dg_nor.specs.Device.{Device}
+use Rattle.dg_volume.specs.Store.{Store}
+use Rattle.dg_volume.specs.Stands.{Stands}
+use Rattle.dg_volume.specs.Acts.{Stops}
+use Rattle.std.specs.Int.{to_be_bytes, w16, w32}
+use Rattle.std.specs.List.{flat_map}
+use Rattle.dg_base.specs.Crc.{crc_of}
+use Rattle.dg_bits.specs.ByteForm.{byte_form}
+use Rattle.dg_control.specs.Snapshot.{order_bytes}
+use Rattle.dg_frame.specs.Sizes.{advert_kind, request_kind, packet_kind, wide_kind, set_bytes}
+use Rattle.dg_frame.specs.Spelling.{entry_bytes, unchecked, frame_of}
+use Rattle.dg_frame.specs.declared.Message.{Message}
+use Rattle.dg_frame.specs.declared.Message.TheVariants.{Advert, Request, Packet, Wide}
+use Rattle.dg_mote.specs.Model.{MoteState}
+use Rattle.dg_mote.specs.Effects.{Effect, tick_effect, frame_effect}
+use Rattle.dg_mote.specs.Hears.{heard_of}
+use Rattle.dg_mote.specs.Motes.{Done, IsMote}
+use Rattle.dg_mote.specs.Timely.{Timely}
+use Rattle.dg_mote.specs.declared.mote.Heard.{Heard}
+use Rattle.dg_mote.specs.declared.mote.Mote.{Mote}
+use Rattle.dg_serial.specs.Line.{line_of}
+use Rattle.dg_serial_base.specs.Based.{IsFront}
+use Rattle.dg_serial_base.specs.Deeds.{Base, At, Deed, Hears, Ticks, powered, moment_at, word_at, effect_of, after, sent_too, said}
+use Rattle.dg_serial_base.specs.Standing.{IsLeft, LeavesNone, StopsOn, FailedBy, EffectEnds, IsTime, Stood, IsStood, one_if, DoneOne, LacksIn, StopsIn, DeedFails, DeedEnds, SendFails, StoppedBy, Halted, WentOn}
+use Rattle.dg_serial_base.specs.declared.running.Running.{Running}
+use Rattle.dg_serial_base.specs.declared.stop.Stop.{Stop}
+use Rattle.dg_serial_base.specs.declared.stop.Stop.TheVariants as stop
+use Rattle.dg_serial_base.proofs.RunLemmas.{run_goes, sent_one, said_one}
+use Rattle.dg_serial_base.proofs.StartLemmas.{hear_leaves, hear_stops, hear_silent}
+use Rattle.dg_serial_base.proofs.WriteLemmas.{puts_then, puts_front_then}
+
+-- ---- one deed
+
+module _ (b : Base) (s : Store) (done : List Deed) (d : Deed) (before : At) (v : Running) (c : List ℕ) (stood : Stood b s done v c before) where
+  abbrev e : Effect
+  e = effect_of b stood.state before d
+
+  pub one_done : (u : Running) (new : Device) (frame : Option (List ℕ)) → IsTime u.timeline b (suc before.events) → frame ≡ option_map frame_of e.sent → IsLeft e new.image u.mote u.timeline.moment
+      → DoneOne b s done d before u new.image frame
+  one_done u new frame time sent left =
+      record {
+        there = after b stood.state before d;
+        stood = record {
+          state = left.state;
+          run = run_goes b done (powered b s) before d stood.state stood.run stood.on;
+          on = left.on;
+          mote = left.mote;
+          timely = left.timely;
+          time = time;
+        };
+        sent = sent_one before.sent e.sent frame sent;
+      }
+
+  lacks : (new : Device) → LeavesNone e new.image → LacksIn b s done d before new.image
+  lacks new l =
+      record {
+        there = after b stood.state before d;
+        run = run_goes b done (powered b s) before d stood.state stood.run stood.on;
+        none = l.none;
+        sent = ap (sent_too before.sent) l.silent;
+        stands = l.stands;
+      }
+
+  fails : (why : Stop) (new : Device) → FailedBy why before.store e new → DeedFails why b s done d before new
+  fails stop.Flash new x = record { state = stood.state; on = stood.on; stops = x }
+  fails stop.NoImage new x = lacks new x
+  fails stop.Memory new x = x
+  fails stop.Read new x = x
+  fails stop.Write new x = x
+  fails stop.NotAVolume new x = x
+  fails stop.TooLong new x = x
+
+  pub deed_ends : {T : Type 0} (r : Result T Stop) (u : Running) (new : Device) (frame : Option (List ℕ)) → IsTime u.timeline b (suc before.events)
+      → ((x : T) → r ≡ Ok x → frame ≡ option_map frame_of e.sent) → EffectEnds r before.store e u.timeline.moment new u.mote → DeedEnds r b s done d before u new frame
+  deed_ends (Ok x) u new frame time sent ends = one_done u new frame time (sent x refl) ends
+  deed_ends (Err why) u new frame time sent ends = fails why new ends
+
+-- ---- a deed at the next moment
+
+pub timely_next : ((m : MoteState) (now then : ℕ) → now ≤ then → Timely m now → Timely m then) → (m : MoteState) (moment step new now : ℕ) → Timely m moment → now ≡ new → new ≡ moment + step → Timely m now
+timely_next law m moment step new now t p q = let le : moment ≤ now = omega (arith, p, q) in law m moment now le t
+
+-- a frame is heard
+module _ (b : Base) (s : Store) (done : List Deed) (before : At) (v : Running) (c : List ℕ) (stood : Stood b s done v c before) (bytes : List ℕ) (now word : ℕ)
+    (drawn : (now ≡ moment_at b before.events) × (word ≡ word_at b before.events)) where
+  frame_is : frame_effect stood.state before.store now word bytes ≡ effect_of b stood.state before (Hears bytes)
+  frame_is =
+      ap (λ (x : ℕ). frame_effect stood.state before.store x word bytes) drawn.0
+      ∙ ap (λ (x : ℕ). frame_effect stood.state before.store (moment_at b before.events) x bytes) drawn.1
+
+  pub hear_done : Timely stood.state now → ((m : MoteState) (s : Store) (now word : ℕ) (bytes : List ℕ) → Timely m now → Timely (heard_of m s now word bytes).mote now)
+      → (u : Running) (old new : Device) (d : Heard) → now ≡ u.timeline.moment → IsTime u.timeline b (suc before.events) → Done (heard_of stood.state before.store now word bytes) old new u.mote d
+      → DoneOne b s done (Hears bytes) before u new.image None
+  hear_done timely law u old new d at time x =
+      let left = hear_leaves stood.state before.store now word bytes old new u.mote d x (law stood.state before.store now word bytes timely) in
+      one_done b s done (Hears bytes) before v c stood u new None time
+      (sym (ap (λ (e : Effect). option_map frame_of e.sent) (sym frame_is) ∙ ap (option_map frame_of) (hear_silent stood.state before.store now word bytes)))
+      (subst (λ (n : ℕ). IsLeft (effect_of b stood.state before (Hears bytes)) new.image u.mote n) at (subst (λ (e : Effect). IsLeft e new.image u.mote now) frame_is left))
+
+  pub hear_fails : (old new : Device) → Stands old.image before.store → Stops (heard_of stood.state before.store now word bytes).trail old new → StopsIn b (Hears bytes) before new
+  hear_fails old new stands stops =
+      record {
+        state = stood.state;
+        on = stood.on;
+        stops = subst (λ (e : Effect). StopsOn before.store e new) frame_is (hear_stops stood.state before.store now word bytes old new stands stops);
+      }
+
+-- the mote ticks
+abbrev SendsBy : {T : Type 0} → Result T Stop → (c : List ℕ) → Mote → (now word : ℕ) → Option (List ℕ) → Type 0
+SendsBy r c v now word frame = OnOk r ((m : MoteState) (s : Store) → IsMote c v m s → Timely m now → frame ≡ option_map frame_of (tick_effect m s now word).sent)
+
+pub tick_done : {T : Type 0} (r : Result T Stop) (b : Base) (s : Store) (done : List Deed) (before : At) (v : Running) (c : List ℕ) (stood : Stood b s done v c before) (now word : ℕ)
+    → (now ≡ moment_at b before.events) × (word ≡ word_at b before.events) → (u : Running) (new : Device) (frame : Option (List ℕ)) → now ≡ u.timeline.moment → IsTime u.timeline b (suc before.events)
+    → Timely stood.state now → SendsBy r c v.mote now word frame → EffectEnds r before.store (tick_effect stood.state before.store now word) now new u.mote → DeedEnds r b s done Ticks before u new frame
+tick_done {T} r b s done before v c stood now word drawn u new frame at time timely sends ends =
+    let e : Effect = effect_of b stood.state before Ticks in
+    let is : tick_effect stood.state before.store now word ≡ e =
+    ap (λ (x : ℕ). tick_effect stood.state before.store x word) drawn.0 ∙ ap (λ (x : ℕ). tick_effect stood.state before.store (moment_at b before.events) x) drawn.1 in
+    deed_ends b s done Ticks before v c stood r u new frame time
+    (λ x ok. IfOk-at_ok (λ _. (m : MoteState) (s : Store) → IsMote c v.mote m s → Timely m now → frame ≡ option_map frame_of (tick_effect m s now word).sent) ok sends stood.state before.store stood.mote timely
+    ∙ ap (λ (y : Effect). option_map frame_of y.sent) is)
+    (subst (λ (n : ℕ). EffectEnds r before.store e n new u.mote) at (subst (λ (y : Effect). EffectEnds r before.store y now new u.mote) is ends))
+
+pub ends_stood : {T : Type 0} (r : Result T Stop) (b : Base) (s : Store) (done : List Deed) (d : Deed) (before : At) (u : Running) (new : Device) (frame : Option (List ℕ))
+    → DeedEnds r b s done d before u new frame → OnOk r (IsStood u new.image)
+ends_stood (Ok x) b s done d before u new frame one = (b, s, done ++ d ∷ [], one.there, one.stood)
+ends_stood (Err why) b s done d before u new frame one = tt
+
+-- a frame has some bytes
+cons_long : (x : ℕ) (xs : List ℕ) → 1 ≤ length (x ∷ xs)
+cons_long x xs = omega arith
+
+unchecked_long : (m : Message) → 1 ≤ length (unchecked m)
+unchecked_long (Advert source entries order) = cons_long advert_kind (to_be_bytes w16 source ++ flat_map entry_bytes entries ++ order_bytes order)
+unchecked_long (Request source to image version page want) =
+    cons_long request_kind (to_be_bytes w16 source ++ to_be_bytes w16 to ++ image ∷ to_be_bytes w32 version ++ page ∷ byte_form set_bytes want)
+unchecked_long (Packet source image version page packet bytes) = cons_long packet_kind (to_be_bytes w16 source ++ image ∷ to_be_bytes w32 version ++ page ∷ packet ∷ bytes)
+unchecked_long (Wide source entries order) = cons_long wide_kind (to_be_bytes w16 source ++ flat_map entry_bytes entries ++ order_bytes order)
+
+more_long : (xs ys : List ℕ) → 1 ≤ length xs → 1 ≤ length (xs ++ ys)
+more_long xs ys long = omega (arith, length-append xs ys, long)
+
+frame_long : (m : Message) → 1 ≤ length (frame_of m)
+unfolding frame_of
+frame_long m = more_long (unchecked m) (to_be_bytes w16 (crc_of (unchecked m))) (unchecked_long m)
+
+frame_some : (o : Option Message) → IfSome (option_map frame_of o) (λ f. 1 ≤ length f)
+frame_some None = tt
+frame_some (Some m) = frame_long m
+
+pub ends_frame : {T : Type 0} {c : List ℕ} {v : Mote} (r : Result T Stop) (m : MoteState) (s : Store) (now word : ℕ) (frame : Option (List ℕ)) → IsMote c v m s → Timely m now → SendsBy r c v now word frame
+    → OnOk r (IfSome frame (λ f. 1 ≤ length f))
+ends_frame (Ok x) m s now word frame mote timely sends =
+    subst (λ (o : Option (List ℕ)). IfSome o (λ f. 1 ≤ length f)) (sym (sends m s mote timely)) (frame_some (tick_effect m s now word).sent)
+ends_frame (Err why) m s now word frame mote timely sends = tt
+
+-- ---- and what is written
+
+-- a deed that failed is the last one
+pub deed_halts : (why : Stop) (b : Base) (s : Store) (done : List Deed) (d : Deed) (before : At) (v : Running) (c : List ℕ) (first now : Option (List ℕ)) (new : Device)
+    → Stood b s done v c before → Puts first now (said before) → DeedFails why b s done d before new → Halted why b s (done ++ d ∷ []) first now new
+deed_halts stop.Flash b s done d before v c first now new stood put x =
+    record { done = done; rest = d ∷ []; parts = refl; there = before; run = stood.run; by = (x.state, d, [], x.on, refl, put, x.stops) }
+deed_halts stop.NoImage b s done d before v c first now new stood put x =
+    record {
+      done = done ++ d ∷ [];
+      rest = [];
+      parts = append-nil (done ++ d ∷ []);
+      there = x.there;
+      run = x.run;
+      by = (x.none, subst (λ (sent : List Message). Puts first now (line_of (map frame_of sent))) (sym x.sent) put, x.stands);
+    }
+deed_halts stop.Memory b s done d before v c first now new stood put x = absurd x
+deed_halts stop.Read b s done d before v c first now new stood put x = absurd x
+deed_halts stop.Write b s done d before v c first now new stood put x = absurd x
+deed_halts stop.NotAVolume b s done d before v c first now new stood put x = absurd x
+deed_halts stop.TooLong b s done d before v c first now new stood put x = absurd x
+
+stopped_more : (why : Stop) (b : Base) (there : At) (rest more : List Deed) (first now : Option (List ℕ)) (new : Device) → StoppedBy why b there rest first now new → StoppedBy why b there (rest ++ more) first now new
+stopped_more stop.Memory b there rest more first now new x = x
+stopped_more stop.Write b there rest more first now new x = x
+stopped_more stop.NoImage b there rest more first now new x = x
+stopped_more stop.Flash b there rest more first now new x = (x.0, x.1, x.2 ++ more, x.3, ap (λ (ds : List Deed). ds ++ more) x.4, x.5, x.6)
+stopped_more stop.Read b there rest more first now new x = x
+stopped_more stop.NotAVolume b there rest more first now new x = x
+stopped_more stop.TooLong b there rest more first now new x = x
+
+-- it halted before deeds that follow
+pub halted_more : (why : Stop) (b : Base) (s : Store) (all more : List Deed) (first now : Option (List ℕ)) (new : Device) → Halted why b s all first now new → Halted why b s (all ++ more) first now new
+halted_more why b s all more first now new h =
+    record {
+      done = h.done;
+      rest = h.rest ++ more;
+      parts = sym (append_assoc h.done h.rest more) ∙ ap (λ (x : List Deed). x ++ more) h.parts;
+      there = h.there;
+      run = h.run;
+      by = stopped_more why b h.there h.rest more first now new h.by;
+    }
+
+-- ---- a deed, and what it sent goes onto the line
+
+module _ (b : Base) (s : Store) (done : List Deed) (d : Deed) (before : At) (first old now : Option (List ℕ)) (put : Puts first old (said before)) where
+  -- what is said behind the deed
+  said_then : (there : At) (frame : Option (List ℕ)) → map frame_of there.sent ≡ map frame_of before.sent ++ one_if frame → said there ≡ said before ++ line_of (one_if frame)
+  said_then there frame e = ap line_of e ∙ said_one (map frame_of before.sent) (one_if frame)
+
+  pub sent_goes : (v : Running) (new : Device) (frame : Option (List ℕ)) → DoneOne b s done d before v new.image frame → Puts old now (line_of (one_if frame)) → WentOn b s (done ++ d ∷ []) first now v new
+  sent_goes v new frame one w =
+      record {
+        there = one.there;
+        stood = one.stood;
+        put = subst (λ (text : List ℕ). Puts first now text) (sym (said_then one.there frame one.sent)) (puts_then first old now (said before) (line_of (one_if frame)) put w);
+      }
+
+  halts_behind : (why : Stop) (v : Running) (new : Device) (frame : Option (List ℕ)) (one : DoneOne b s done d before v new.image frame) → StoppedBy why b one.there [] first now new → Halted why b s (done ++ d ∷ []) first now new
+  halts_behind why v new frame one by =
+      record { done = done ++ d ∷ []; rest = []; parts = append-nil (done ++ d ∷ []); there = one.there; run = one.stood.run; by = by }
+
+  pub send_fails : (why : Stop) (v : Running) (new : Device) (frame : Option (List ℕ)) → DoneOne b s done d before v new.image frame
+      → SendFails why (line_of (one_if frame)) old now → Halted why b s (done ++ d ∷ []) first now new
+  send_fails stop.Write v new frame one w =
+      let x = puts_front_then first old now (said before) (line_of (one_if frame)) put w in
+      halts_behind stop.Write v new frame one
+      (x.text, x.put, subst (IsFront x.text) (sym (said_then one.there frame one.sent)) x.front, one.stood.mote.mounted.stands)
+  send_fails stop.Memory v new frame one w =
+      halts_behind stop.Memory v new frame one
+      (said before, w ∙ put, (line_of (one_if frame), sym (said_then one.there frame one.sent)), one.stood.mote.mounted.stands)
+  send_fails stop.Flash v new frame one w = absurd w
+  send_fails stop.NoImage v new frame one w = absurd w
+  send_fails stop.Read v new frame one w = absurd w
+  send_fails stop.NotAVolume v new frame one w = absurd w
+  send_fails stop.TooLong v new frame one w = absurd w

@@ -1,0 +1,12 @@
+pub mod WriteLemmas
+pub mod RunLemmas
+pub mod StartLemmas
+pub mod ResultLemmas
+pub mod PowerLemmas
+pub mod DeedLemmas
+pub mod LineLemmas
+pub mod PlayLemmas
+pub mod InputLemmas
+pub mod FirstLemmas
+pub mod EndLemmas
+pub mod AgreeLemmas

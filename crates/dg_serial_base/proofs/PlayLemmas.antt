@@ -1,0 +1,96 @@
+-- How playing goes on, by what its parts answered.
+use Rattle.std.proofs.Common.{◌≡◌, ℕ, ◌+◌, ◌<◌, List, [], ◌∷◌, ◌++◌, length, take, drop, get_or, refl, ap, sym, ◌∙◌, subst, append_assoc}
+use Rattle.std.proofs.lemmas.List.{take-append-drop, take_more}
+use Rattle.std.specs.Prelude.{Option, Result, Ok, Err}
+use Rattle.dg_nor.specs.Device.{Device}
+use Rattle.dg_volume.specs.Store.{Store}
+use Rattle.dg_serial.specs.Line.{line_of}
+use Rattle.dg_serial.specs.Reading.{Reading, told, Feeds}
+use Rattle.dg_serial.specs.declared.unstuffing.Fed.{Fed}
+use Rattle.dg_serial_base.specs.Deeds.{Base, At, Deed, Ticks, deeds_of_items, deeds_of}
+use Rattle.dg_serial_base.specs.Standing.{Calm, CountsBy, Counts, WritesBy, ReadsBy, ReadCounts, one_if, DoneOne, DeedFails, SendFails, SendEnds, Halted, WentOn, GoesEnds, Played, PlayEnds}
+use Rattle.dg_serial_base.specs.declared.running.Running.{Running}
+use Rattle.dg_serial_base.specs.declared.stop.Stop.{Stop}
+use Rattle.dg_serial_base.specs.declared.stop.Stop.TheVariants as stop
+use Rattle.dg_serial_base.proofs.DeedLemmas.{sent_goes, send_fails}
+use Rattle.dg_serial_base.proofs.LineLemmas.{GoOn, went_along, halted_along, deeds_longer, halted_front}
+
+-- ---- a tick
+
+pub pass_goes : (r : Result (Unit {0}) Stop) (b : Base) (s : Store) (done : List Deed) (first old now : Option (List ℕ)) (v u : Running) (a new : Device) (frame : Option (List ℕ)) (went : WentOn b s done first old v a)
+    → DoneOne b s done Ticks went.there u new.image frame → SendEnds r (line_of (one_if frame)) old now → GoesEnds r b s (done ++ Ticks ∷ []) first now u new
+pass_goes (Ok x) b s done first old now v u a new frame went one w = sent_goes b s done Ticks went.there first old now went.put u new frame one w
+pass_goes (Err why) b s done first old now v u a new frame went one w = send_fails b s done Ticks went.there first old now went.put why u new frame one w
+
+-- a write stops no chip
+send_calm : (why : Stop) (text : List ℕ) (before now : Option (List ℕ)) (a b : Device) → Calm a b → SendFails why text before now → CountsBy why a b
+send_calm stop.Write text before now a b calm w = calm
+send_calm stop.Memory text before now a b calm w = calm
+send_calm stop.Flash text before now a b calm w = absurd w
+send_calm stop.NoImage text before now a b calm w = absurd w
+send_calm stop.Read text before now a b calm w = absurd w
+send_calm stop.NotAVolume text before now a b calm w = absurd w
+send_calm stop.TooLong text before now a b calm w = absurd w
+
+pub send_counts : (r : Result (Unit {0}) Stop) (text : List ℕ) (before now : Option (List ℕ)) (a b : Device) → Calm a b → SendEnds r text before now → Counts r a b
+send_counts (Ok x) text before now a b calm w = calm
+send_counts (Err why) text before now a b calm w = send_calm why text before now a b calm w
+
+-- a deed that failed wrote nothing
+pub write_calm : (why : Stop) (b : Base) (s : Store) (done : List Deed) (d : Deed) (before : At) (new : Device) (n : ℕ) → DeedFails why b s done d before new → WritesBy why n n
+write_calm stop.Flash b s done d before new n x = refl
+write_calm stop.NoImage b s done d before new n x = refl
+write_calm stop.Memory b s done d before new n x = refl
+write_calm stop.Read b s done d before new n x = refl
+write_calm stop.Write b s done d before new n x = absurd x
+write_calm stop.NotAVolume b s done d before new n x = refl
+write_calm stop.TooLong b s done d before new n x = refl
+
+-- nor was anything read
+pub read_calm : (why : Stop) (b : Base) (s : Store) (done : List Deed) (d : Deed) (before : At) (new : Device) (n : ℕ) → DeedFails why b s done d before new → ReadsBy why n n
+read_calm stop.Flash b s done d before new n x = refl
+read_calm stop.NoImage b s done d before new n x = refl
+read_calm stop.Memory b s done d before new n x = refl
+read_calm stop.Write b s done d before new n x = refl
+read_calm stop.Read b s done d before new n x = absurd x
+read_calm stop.NotAVolume b s done d before new n x = refl
+read_calm stop.TooLong b s done d before new n x = refl
+
+send_unread : (why : Stop) (text : List ℕ) (before now : Option (List ℕ)) (n : ℕ) → SendFails why text before now → ReadsBy why n n
+send_unread stop.Write text before now n w = refl
+send_unread stop.Memory text before now n w = refl
+send_unread stop.Flash text before now n w = absurd w
+send_unread stop.NoImage text before now n w = absurd w
+send_unread stop.Read text before now n w = absurd w
+send_unread stop.NotAVolume text before now n w = absurd w
+send_unread stop.TooLong text before now n w = absurd w
+
+pub send_reads : (r : Result (Unit {0}) Stop) (text : List ℕ) (before now : Option (List ℕ)) (n : ℕ) → SendEnds r text before now → ReadCounts r n n
+send_reads (Ok x) text before now n w = refl
+send_reads (Err why) text before now n w = send_unread why text before now n w
+
+-- ---- a byte
+
+pub byte_goes : (r : Result (Unit {0}) Stop) (b : Base) (s : Store) (stream : List ℕ) (byte : ℕ) (first now : Option (List ℕ)) (u : Running) (before line : Reading) (new : Device) (fed : Fed) → Feeds stream byte fed before → line ≡ before
+    → GoesEnds r b s (deeds_of stream ++ deeds_of_items (told fed)) first now u new → PlayEnds r b s (stream ++ byte ∷ []) first now u line new
+byte_goes (Ok x) b s stream byte first now u before line new fed f l g =
+    record { line = l ∙ f.behind; went = went_along b s (deeds_of stream ++ deeds_of_items (told fed)) (deeds_of (stream ++ byte ∷ [])) first now u new (deeds_longer stream byte fed before f) g }
+byte_goes (Err why) b s stream byte first now u before line new fed f l g =
+    halted_along why b s (deeds_of stream ++ deeds_of_items (told fed)) (deeds_of (stream ++ byte ∷ [])) first now new (deeds_longer stream byte fed before f) g
+
+pub played_along : (b : Base) (s : Store) (x y : List ℕ) (first now : Option (List ℕ)) (v : Running) (line : Reading) (new : Device) → x ≡ y → Played b s x first now v line new → Played b s y first now v line new
+played_along b s x y first now v line new e p = subst (λ (stream : List ℕ). Played b s stream first now v line new) e p
+
+-- ---- bytes one after the other
+
+pub next_byte : (stream bytes : List ℕ) (i : ℕ) → i < length bytes → (stream ++ take i bytes) ++ get_or bytes i 0 ∷ [] ≡ stream ++ take (i + 1) bytes
+next_byte stream bytes i lt = append_assoc stream (take i bytes) (get_or bytes i 0 ∷ []) ∙ ap (λ (xs : List ℕ). stream ++ xs) (sym (take_more bytes i 0 lt))
+
+pub front_bytes : (stream bytes : List ℕ) (i : ℕ) → (stream ++ take i bytes) ++ drop i bytes ≡ stream ++ bytes
+front_bytes stream bytes i = append_assoc stream (take i bytes) (drop i bytes) ∙ ap (λ (xs : List ℕ). stream ++ xs) (take-append-drop i bytes)
+
+pub halted_bytes : GoOn → (why : Stop) (b : Base) (s : Store) (stream bytes : List ℕ) (i : ℕ) (first now : Option (List ℕ)) (new : Device) → i < length bytes
+    → Halted why b s (deeds_of ((stream ++ take i bytes) ++ get_or bytes i 0 ∷ [])) first now new → Halted why b s (deeds_of (stream ++ bytes)) first now new
+halted_bytes law why b s stream bytes i first now new lt h =
+    halted_front law why b s (stream ++ take (i + 1) bytes) (drop (i + 1) bytes) (stream ++ bytes) first now new (front_bytes stream bytes (i + 1))
+    (subst (λ (x : List ℕ). Halted why b s (deeds_of x) first now new) (next_byte stream bytes i lt) h)

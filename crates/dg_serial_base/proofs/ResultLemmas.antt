@@ -1,0 +1,47 @@
+-- What is said of results is handed on with them.
+use Rattle.std.proofs.Common.{◌≡◌, ℕ, sym, ◌∙◌, subst, inl, inr}
+use Rattle.std.specs.Prelude.{Result, Ok, Err, OnOk, IsErr, IsErrAnd}
+use Rattle.dg_words.specs.Counts.{Rose}
+use Rattle.dg_nor.specs.Device.{Device}
+use Rattle.dg_serial_base.specs.Standing.{Calm, WhyStopped, CountsBy, Counts, WriteCounts}
+use Rattle.dg_serial_base.specs.declared.stop.Stop.{Stop}
+use Rattle.dg_serial_base.specs.declared.stop.Stop.TheVariants as stop
+use Rattle.dg_serial_base.proofs.StartLemmas.{calm_then}
+
+pub on_ok : {T P : Type 0} (r : Result T Stop) → P → OnOk r P
+on_ok (Ok x) p = p
+on_ok (Err e) p = tt
+
+pub on_ok_then : {T P Q : Type 0} (r : Result T Stop) → (P → Q) → OnOk r P → OnOk r Q
+on_ok_then (Ok x) f p = f p
+on_ok_then (Err e) f p = tt
+
+-- what holds of the fault that is handed on holds of the answer
+pub handed : {T : Type 0} (P : Result T Stop → Type 0) (r : Result T Stop) (f : Stop) → IsErrAnd r (λ e. e ≡ f) → P (Err f) → P r
+handed P (Ok x) f is p = absurd is
+handed P (Err e) f is p = subst (λ (x : Stop). P (Err x)) (sym is) p
+
+why_after : (a b c : Device) → Calm a b → WhyStopped b c → WhyStopped a c
+why_after a b c x (inl was) = inl (sym x.stopped ∙ was)
+why_after a b c x (inr rose) = inr (subst (λ (n : ℕ). Rose n c.faults) x.faults rose)
+
+pub counts_by_after : (why : Stop) (a b c : Device) → Calm a b → CountsBy why b c → CountsBy why a c
+counts_by_after stop.Flash a b c l r = why_after a b c l r
+counts_by_after stop.Memory a b c l r = calm_then a b c l r
+counts_by_after stop.Read a b c l r = calm_then a b c l r
+counts_by_after stop.Write a b c l r = calm_then a b c l r
+counts_by_after stop.NotAVolume a b c l r = calm_then a b c l r
+counts_by_after stop.NoImage a b c l r = calm_then a b c l r
+counts_by_after stop.TooLong a b c l r = calm_then a b c l r
+
+pub counts_after : {T : Type 0} (r : Result T Stop) (a b c : Device) → Calm a b → Counts r b c → Counts r a c
+counts_after (Ok x) a b c l r = calm_then a b c l r
+counts_after (Err why) a b c l r = counts_by_after why a b c l r
+
+pub writes_after : {T : Type 0} (r : Result T Stop) (a b c : ℕ) → b ≡ a → WriteCounts r b c → WriteCounts r a c
+writes_after {T} r a b c e w = subst (λ (n : ℕ). WriteCounts r n c) e w
+
+-- want of memory that is handed on
+pub handed_memory : {T : Type 0} (P : Result T Stop → Type 0) (r : Result T Stop) → IsErr r × IsErrAnd r (λ x. x ≡ stop.Memory) → P (Err stop.Memory) → P r
+handed_memory P (Ok x) is p = absurd is.1
+handed_memory P (Err f) is p = subst (λ (x : Stop). P (Err x)) (sym is.1) p

@@ -1,0 +1,34 @@
+-- What is written behind what was written.
+use Rattle.std.proofs.Common.{◌≡◌, ℕ, List, [], ◌++◌, take, drop, refl, ap, sym, ◌∙◌, append_assoc, append-nil}
+use Rattle.std.specs.Prelude.{Option, Some, None}
+use Rattle.std.proofs.lemmas.List.{take-append-drop}
+use Rattle.dg_base.specs.Outside.{followed_by, Puts, PutsFront}
+use Rattle.dg_serial_base.specs.Based.{IsFront}
+
+pub puts_nothing : (a : Option (List ℕ)) → Puts a a []
+puts_nothing None = refl
+puts_nothing (Some w) = ap (λ (x : List ℕ). Some x) (sym (append-nil w))
+
+followed_twice : (a : Option (List ℕ)) (x y : List ℕ) → followed_by (followed_by a x) y ≡ followed_by a (x ++ y)
+followed_twice None x y = refl
+followed_twice (Some w) x y = ap (λ (z : List ℕ). Some z) (append_assoc w x y)
+
+pub puts_then : (a b c : Option (List ℕ)) (x y : List ℕ) → Puts a b x → Puts b c y → Puts a c (x ++ y)
+puts_then a b c x y p q = q ∙ ap (λ (o : Option (List ℕ)). followed_by o y) p ∙ followed_twice a x y
+
+-- some front of what was to be written
+pub record Fronted (a c : Option (List ℕ)) (whole : List ℕ) : Type 0 where
+  pub text : List ℕ
+  pub put : Puts a c text
+  pub front : IsFront text whole
+
+pub puts_front_then : (a b c : Option (List ℕ)) (x y : List ℕ) → Puts a b x → PutsFront b c y → Fronted a c (x ++ y)
+puts_front_then a b c x y p q =
+    record {
+      text = x ++ take q.0 y;
+      put = puts_then a b c x (take q.0 y) p q.2;
+      front = (drop q.0 y, append_assoc x (take q.0 y) (drop q.0 y) ∙ ap (λ (z : List ℕ). x ++ z) (take-append-drop q.0 y));
+    }
+
+pub puts_all : (a c : Option (List ℕ)) (whole : List ℕ) → Puts a c whole → Fronted a c whole
+puts_all a c whole p = record { text = whole; put = p; front = ([], append-nil whole) }

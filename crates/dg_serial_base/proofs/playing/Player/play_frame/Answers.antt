@@ -1,0 +1,26 @@
+use Rattle.std.proofs.Common.{◌∷◌, [], ◌++◌, append_assoc}
+use Rattle.dg_serial_base.specs.Deeds.{Hears, Ticks}
+use Rattle.dg_serial_base.proofs.LineLemmas.{goes_along, hear_goes, hear_halts}
+use Rattle.dg_serial_base.proofs.PlayLemmas.{write_calm, read_calm}
+use Rattle.dg_serial_base.proofs.ResultLemmas.{counts_after}
+use Rattle.dg_serial_base.proofs.playing.Player.play_frame.Goals as goal
+
+pub returns-in-Ok-clause-ends : goal.returns-in-Ok-clause-ends
+returns-in-Ok-clause-ends g c = λ b s done first went.
+    let bytes = c.args.bytes.now in
+    goes_along c.pass.result b s ((done ++ Hears bytes ∷ []) ++ Ticks ∷ []) (done ++ Hears bytes ∷ Ticks ∷ []) first (g.K.Sink.written c.pass.new.out) _ _ (append_assoc done (Hears bytes ∷ []) (Ticks ∷ []))
+    (c.pass.ensures.ends b s (done ++ Hears bytes ∷ []) first
+    (hear_goes b s done bytes first (g.K.Sink.written c.args.out.now) c.args.self.now.running c.hear.new.self _ _ went (c.in-Ok.ensures.ends b s done went.there went.stood)))
+
+pub returns-in-Ok-clause-counts : goal.returns-in-Ok-clause-counts
+returns-in-Ok-clause-counts g c = counts_after c.pass.result _ _ _ c.in-Ok.ensures.counts c.pass.ensures.counts
+
+pub returns-in-Err-clause-ends : goal.returns-in-Err-clause-ends
+returns-in-Err-clause-ends g c = λ b s done first went.
+    hear_halts c.in-Err.stop b s done c.args.bytes.now first (g.K.Sink.written c.args.out.now) c.args.self.now.running _ _ went (c.in-Err.ensures.ends b s done went.there went.stood)
+
+pub returns-in-Err-clause-writes : goal.returns-in-Err-clause-writes
+returns-in-Err-clause-writes g c = let r = c.requires.stood in write_calm c.in-Err.stop r.0 r.1 r.2 _ r.3 _ _ (c.in-Err.ensures.ends r.0 r.1 r.2 r.3 r.4)
+
+pub returns-in-Err-clause-reads : goal.returns-in-Err-clause-reads
+returns-in-Err-clause-reads g c = λ n. let r = c.requires.stood in read_calm c.in-Err.stop r.0 r.1 r.2 _ r.3 _ n (c.in-Err.ensures.ends r.0 r.1 r.2 r.3 r.4)

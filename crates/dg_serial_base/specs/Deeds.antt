@@ -1,0 +1,80 @@
+-- What happens to a base mote: its power comes, and then for each item of its line it hears the frame, if the item is one, and ticks.
+use Rattle.std.specs.Prelude.{◌≡◌, ℕ, suc, ◌*◌, true, List, [], ◌∷◌, ◌++◌, map, Option, Some, None}
+use Rattle.std.specs.List.{flat_map}
+use Rattle.dg_nor.specs.Trail.{last}
+use Rattle.dg_volume.specs.Store.{Store}
+use Rattle.dg_frame.specs.Spelling.{frame_of}
+use Rattle.dg_frame.specs.declared.Message.{Message}
+use Rattle.dg_mote.specs.Model.{MoteState}
+use Rattle.dg_mote.specs.Effects.{Effect, reset_effect, frame_effect, tick_effect}
+use Rattle.dg_seed.specs.Words.{word_of}
+use Rattle.dg_serial.specs.Line.{Item, Frame, Escape, Long, items, line_of}
+
+-- what happens to a mote that is on
+pub data Deed : Type 0 where
+  Hears : (bytes : List ℕ) → Deed
+  Ticks : Deed
+
+abbrev pub deeds_of_item : Item → List Deed
+deeds_of_item (Frame bytes) = Hears bytes ∷ Ticks ∷ []
+deeds_of_item Escape = Ticks ∷ []
+deeds_of_item Long = Ticks ∷ []
+
+abbrev pub deeds_of_items : List Item → List Deed
+deeds_of_items xs = flat_map deeds_of_item xs
+
+-- the rest of a stream gives nothing
+abbrev pub deeds_of : List ℕ → List Deed
+deeds_of stream = deeds_of_items (items stream)
+
+-- who the mote is, how many milliseconds pass to each event, and what its words come from
+pub record Base : Type 0 where
+  pub id : ℕ
+  pub step : ℕ
+  pub seed : ℕ
+
+-- where a mote stands behind so many events: its state, None where a start had no image; the store of its chip; what it sent
+pub record At : Type 0 where
+  pub mote : Option MoteState
+  pub store : Store
+  pub events : ℕ
+  pub sent : List Message
+
+-- the moment and the word of the event behind so many
+abbrev pub moment_at : Base → ℕ → ℕ
+moment_at b events = b.step * suc events
+
+abbrev pub word_at : Base → ℕ → ℕ
+word_at b events = word_of b.seed events
+
+abbrev pub sent_too : List Message → Option Message → List Message
+sent_too sent None = sent
+sent_too sent (Some message) = sent ++ message ∷ []
+
+-- behind an event of this effect
+abbrev pub behind : Effect → (events : ℕ) → (sent : List Message) → At
+behind e events sent = record { mote = e.mote; store = last e.trail; events = suc events; sent = sent_too sent e.sent }
+
+-- the power comes, in the first event
+abbrev pub power_effect : Base → Store → Effect
+power_effect b s = reset_effect s b.id true (moment_at b 0) (word_at b 0)
+
+abbrev pub powered : Base → Store → At
+powered b s = behind (power_effect b s) 0 []
+
+-- what a deed does to a mote that stands there
+abbrev pub effect_of : Base → MoteState → At → Deed → Effect
+effect_of b m a (Hears bytes) = frame_effect m a.store (moment_at b a.events) (word_at b a.events) bytes
+effect_of b m a Ticks = tick_effect m a.store (moment_at b a.events) (word_at b a.events)
+
+abbrev pub after : Base → MoteState → At → Deed → At
+after b m a d = behind (effect_of b m a d) a.events a.sent
+
+-- these happen, one behind the other, and the mote is on before each
+unfoldable pub Runs : Base → At → List Deed → At → Type 0
+Runs b a [] z = z ≡ a
+Runs b a (d ∷ ds) z = (m : MoteState) × (a.mote ≡ Some m) × Runs b (after b m a d) ds z
+
+-- what stands on the line of a mote that sent this: the frames of its messages, stuffed, in order
+abbrev pub said : At → List ℕ
+said a = line_of (map frame_of a.sent)

@@ -1,0 +1,60 @@
+-- How a base mote that ended tells it, and how its line went.
+use Rattle.std.specs.Prelude.{◌≡◌, ◌⊎◌, ℕ, ◌≤◌, List, [], Option, Result, Ok, Err}
+use Rattle.dg_words.specs.Counts.{Rose}
+use Rattle.dg_base.specs.Outside.{Puts, PutsFront}
+use Rattle.dg_base.specs.declared.answers.Status.{Status}
+use Rattle.dg_base.specs.declared.answers.Status.TheVariants as status
+use Rattle.dg_nor.specs.Device.{Device}
+use Rattle.dg_volume.specs.Store.{Store}
+use Rattle.dg_serial.specs.Reading.{Reading}
+use Rattle.dg_serial_base.specs.Deeds.{Base, powered, power_effect}
+use Rattle.dg_serial_base.specs.Based.{closing}
+use Rattle.dg_serial_base.specs.Standing.{FailedBy, InputEnds, NoneBy}
+use Rattle.dg_serial_base.specs.declared.running.Running.{Running}
+use Rattle.dg_serial_base.specs.declared.stop.Stop.{Stop}
+use Rattle.dg_serial_base.specs.declared.stop.Stop.TheVariants as stop
+
+-- a last line was written, with its status; or it could not be
+abbrev pub Tells : (answer wanted : Status) → (line : List ℕ) → (before now : Option (List ℕ)) → (old new : ℕ) → Type 0
+Tells answer wanted line before now old new =
+    ((answer ≡ wanted) × Puts before now line × (new ≡ old)) ⊎ ((answer ≡ status.WriteFault) × PutsFront before now line × Rose old new × (old ≤ new))
+
+-- a status without a last line
+abbrev pub IsTold : (answer wanted : Status) → (before now : Option (List ℕ)) → (old new : ℕ) → Type 0
+IsTold answer wanted before now old new = (answer ≡ wanted) × (now ≡ before) × (new ≡ old)
+
+abbrev pub TellsStop : Stop → (answer : Status) → (before now : Option (List ℕ)) → (old new : ℕ) → Type 0
+TellsStop stop.Memory answer before now old new = IsTold answer status.Memory before now old new
+TellsStop stop.Read answer before now old new = IsTold answer status.ReadFault before now old new
+TellsStop stop.Write answer before now old new = IsTold answer status.WriteFault before now old new
+TellsStop stop.Flash answer before now old new = IsTold answer status.FlashFault before now old new
+TellsStop stop.NotAVolume answer before now old new = Tells answer status.NotAVolume (closing status.NotAVolume) before now old new
+TellsStop stop.NoImage answer before now old new = Tells answer status.NoImage (closing status.NoImage) before now old new
+TellsStop stop.TooLong answer before now old new = Tells answer status.TooLong (closing status.TooLong) before now old new
+
+-- how a result is told
+abbrev pub TellsResult : Result (Unit {0}) Stop → (answer : Status) → (before now : Option (List ℕ)) → (old new : ℕ) → Type 0
+TellsResult (Ok x) answer before now old new = IsTold answer status.Done before now old new
+TellsResult (Err why) answer before now old new = TellsStop why answer before now old new
+
+-- the chip failed as its power came
+pub record FailsAtPower (why : Stop) (b : Base) (s : Store) (left_old left_now first now : Option (List ℕ)) (new : Device) : Type 0 where
+  pub failed : FailedBy why s (power_effect b s) new
+  pub silent : (powered b s).sent ≡ []
+  pub unread : left_now ≡ left_old
+  pub unwritten : now ≡ first
+
+-- the line went on over its input
+pub record GoesOver (r : Result (Unit {0}) Stop) (b : Base) (s : Store) (left_old left_now first now : Option (List ℕ)) (new : Device) : Type 0 where
+  pub mote : Running
+  pub reading : Reading
+  pub ends : InputEnds r b s left_old left_now first now mote reading new
+
+abbrev pub LineEnds : Result (Unit {0}) Stop → (b : Base) (s : Store) (left_old left_now first now : Option (List ℕ)) → Device → Type 0
+LineEnds (Ok x) b s left_old left_now first now new = GoesOver (Ok x) b s left_old left_now first now new
+LineEnds (Err why) b s left_old left_now first now new = FailsAtPower why b s left_old left_now first now new ⊎ GoesOver (Err why) b s left_old left_now first now new
+
+-- the chip is no volume
+abbrev pub LineRefused : Result (Unit {0}) Stop → (left_old left_now first now : Option (List ℕ)) → (old new : Device) → Type 0
+LineRefused (Ok x) left_old left_now first now old new = ⊥
+LineRefused (Err why) left_old left_now first now old new = NoneBy why old new × (left_now ≡ left_old) × (now ≡ first)

@@ -1,0 +1,5 @@
+pub mod Deeds
+pub mod Based
+pub mod Standing
+pub mod Ending
+pub mod Agreeing

@@ -1,0 +1,311 @@
+-- Where the code of a base mote stands, and how its calls go on from there.
+use Rattle.std.specs.Prelude.{◌≡◌, ◌⊎◌, ℕ, ◌+◌, ◌*◌, ◌<◌, ◌≤◌, true, List, [], ◌∷◌, ◌++◌, length, take, map, Option, Some, None, Result, Ok, Err}
+use Rattle.dg_words.specs.Counts.{Rose}
+use Rattle.dg_base.specs.Outside.{Takes, Puts, PutsFront, AtEnd}
+use Rattle.dg_base.specs.Sizes.{most_input}
+use Rattle.dg_nor.specs.Device.{Device}
+use Rattle.dg_nor.specs.Trail.{last}
+use Rattle.dg_nor.specs.Reads.{Looked, ReadStopped}
+use Rattle.dg_volume.specs.Store.{Store}
+use Rattle.dg_volume.specs.Stands.{Stands}
+use Rattle.dg_volume.specs.Acts.{Stops}
+use Rattle.dg_frame.specs.Spelling.{frame_of}
+use Rattle.dg_mote.specs.Model.{MoteState}
+use Rattle.dg_mote.specs.Effects.{Effect}
+use Rattle.dg_mote.specs.Motes.{IsMote}
+use Rattle.dg_mote.specs.Timely.{Timely}
+use Rattle.dg_mote.specs.declared.mote.Mote.{Mote}
+use Rattle.dg_seed.specs.Words.{generator_of, generator_after}
+use Rattle.dg_serial.specs.Reading.{Reading, reading_behind}
+use Rattle.dg_serial_base.specs.Deeds.{Base, At, Deed, deeds_of, powered, power_effect, effect_of, Runs, said}
+use Rattle.dg_serial_base.specs.Based.{IsFront}
+use Rattle.dg_serial_base.specs.declared.timeline.Timeline.{Timeline}
+use Rattle.dg_serial_base.specs.declared.running.Running.{Running}
+use Rattle.dg_serial_base.specs.declared.stop.Stop.{Stop}
+use Rattle.dg_serial_base.specs.declared.stop.Stop.TheVariants as stop
+
+-- ---- chips
+
+-- a chip that did not stop
+pub record Calm (old new : Device) : Type 0 where
+  pub faults : new.faults ≡ old.faults
+  pub stopped : new.stopped ≡ old.stopped
+
+-- why a chip is stopped
+abbrev pub WhyStopped : (old new : Device) → Type 0
+WhyStopped old new = (old.stopped ≡ true) ⊎ Rose old.faults new.faults
+
+-- a chip stops only with the answer that says so
+abbrev pub CountsBy : Stop → (old new : Device) → Type 0
+CountsBy stop.Flash old new = WhyStopped old new
+CountsBy stop.Memory old new = Calm old new
+CountsBy stop.Read old new = Calm old new
+CountsBy stop.Write old new = Calm old new
+CountsBy stop.NotAVolume old new = Calm old new
+CountsBy stop.NoImage old new = Calm old new
+CountsBy stop.TooLong old new = Calm old new
+
+abbrev pub Counts : {T : Type 0} → Result T Stop → (old new : Device) → Type 0
+Counts (Ok x) old new = Calm old new
+Counts (Err why) old new = CountsBy why old new
+
+-- ---- one event at the mote
+
+-- the mote that an effect leaves
+pub record IsLeft (e : Effect) (c : List ℕ) (v : Mote) (now : ℕ) : Type 0 where
+  pub state : MoteState
+  pub on : e.mote ≡ Some state
+  pub mote : IsMote c v state (last e.trail)
+  pub timely : Timely state now
+
+-- there was no image to start
+pub record LeavesNone (e : Effect) (c : List ℕ) : Type 0 where
+  pub none : e.mote ≡ None
+  pub silent : e.sent ≡ None
+  pub stands : Stands c (last e.trail)
+
+-- the chip stopped on the way of an effect, perhaps behind some reading
+pub record StopsOn (s : Store) (e : Effect) (new : Device) : Type 0 where
+  pub between : Device
+  pub stands : Stands between.image s
+  pub stops : Stops e.trail between new
+
+-- how an event failed that has this effect at a chip that stood for s
+abbrev pub FailedBy : Stop → (s : Store) → Effect → Device → Type 0
+FailedBy stop.Flash s e new = StopsOn s e new
+FailedBy stop.NoImage s e new = LeavesNone e new.image
+FailedBy stop.Memory s e new = ⊥
+FailedBy stop.Read s e new = ⊥
+FailedBy stop.Write s e new = ⊥
+FailedBy stop.NotAVolume s e new = ⊥
+FailedBy stop.TooLong s e new = ⊥
+
+abbrev pub StartEnds : Result Mote Stop → (s : Store) → Effect → (now : ℕ) → Device → Type 0
+StartEnds (Ok v) s e now new = IsLeft e new.image v now
+StartEnds (Err why) s e now new = FailedBy why s e new
+
+abbrev pub EffectEnds : {T : Type 0} → Result T Stop → (s : Store) → Effect → (now : ℕ) → Device → Mote → Type 0
+EffectEnds (Ok x) s e now new v = IsLeft e new.image v now
+EffectEnds (Err why) s e now new v = FailedBy why s e new
+
+-- what a start answers where the chip is no volume
+abbrev pub NoneBy : Stop → (old new : Device) → Type 0
+NoneBy stop.Flash old new = ReadStopped old new
+NoneBy stop.NotAVolume old new = Looked old new
+NoneBy stop.NoImage old new = ⊥
+NoneBy stop.Memory old new = ⊥
+NoneBy stop.Read old new = ⊥
+NoneBy stop.Write old new = ⊥
+NoneBy stop.TooLong old new = ⊥
+
+abbrev pub NoneEnds : {T : Type 0} → Result T Stop → (old new : Device) → Type 0
+NoneEnds (Ok x) old new = ⊥
+NoneEnds (Err why) old new = NoneBy why old new
+
+-- the code's mote is some mote over these bytes, and in time
+abbrev pub IsTimely : List ℕ → Mote → (now : ℕ) → Type 0
+IsTimely c v now = (m : MoteState) × (s : Store) × IsMote c v m s × Timely m now
+
+-- ---- the mote behind its deeds
+
+-- the time and the words of so many events
+pub record IsTime (t : Timeline) (b : Base) (events : ℕ) : Type 0 where
+  pub step : t.step ≡ b.step
+  pub moment : t.moment ≡ b.step * events
+  pub words : generator_of t.words ≡ generator_after b.seed events
+
+-- These deeds were done, and the code's mote over a chip of these bytes is the mote then.
+pub record Stood (b : Base) (s : Store) (done : List Deed) (v : Running) (c : List ℕ) (there : At) : Type 0 where
+  pub state : MoteState
+  pub run : Runs b (powered b s) done there
+  pub on : there.mote ≡ Some state
+  pub mote : IsMote c v.mote state there.store
+  pub timely : Timely state v.timeline.moment
+  pub time : IsTime v.timeline b there.events
+
+abbrev pub IsStood : Running → List ℕ → Type 0
+IsStood v c = (b : Base) × (s : Store) × (done : List Deed) × (there : At) × Stood b s done v c there
+
+-- what the power makes
+abbrev pub PowerEnds : Result Running Stop → (b : Base) (s : Store) → Device → Type 0
+PowerEnds (Ok v) b s new = Stood b s [] v new.image (powered b s) × ((powered b s).sent ≡ [])
+PowerEnds (Err why) b s new = FailedBy why s (power_effect b s) new × ((powered b s).sent ≡ [])
+
+-- a frame, if there is one
+abbrev pub one_if : Option (List ℕ) → List (List ℕ)
+one_if None = []
+one_if (Some frame) = frame ∷ []
+
+-- One deed more was done, in which this frame was sent, if any.
+pub record DoneOne (b : Base) (s : Store) (done : List Deed) (d : Deed) (before : At) (v : Running) (c : List ℕ) (frame : Option (List ℕ)) : Type 0 where
+  pub there : At
+  pub stood : Stood b s (done ++ d ∷ []) v c there
+  pub sent : map frame_of there.sent ≡ map frame_of before.sent ++ one_if frame
+
+-- A deed found no image to start.
+pub record LacksIn (b : Base) (s : Store) (done : List Deed) (d : Deed) (before : At) (c : List ℕ) : Type 0 where
+  pub there : At
+  pub run : Runs b (powered b s) (done ++ d ∷ []) there
+  pub none : there.mote ≡ None
+  pub sent : there.sent ≡ before.sent
+  pub stands : Stands c there.store
+
+-- The chip stopped in a deed.
+pub record StopsIn (b : Base) (d : Deed) (before : At) (new : Device) : Type 0 where
+  pub state : MoteState
+  pub on : before.mote ≡ Some state
+  pub stops : StopsOn before.store (effect_of b state before d) new
+
+abbrev pub DeedFails : Stop → (b : Base) (s : Store) (done : List Deed) (d : Deed) (before : At) → Device → Type 0
+DeedFails stop.Flash b s done d before new = StopsIn b d before new
+DeedFails stop.NoImage b s done d before new = LacksIn b s done d before new.image
+DeedFails stop.Memory b s done d before new = ⊥
+DeedFails stop.Read b s done d before new = ⊥
+DeedFails stop.Write b s done d before new = ⊥
+DeedFails stop.NotAVolume b s done d before new = ⊥
+DeedFails stop.TooLong b s done d before new = ⊥
+
+abbrev pub DeedEnds : {T : Type 0} → Result T Stop → (b : Base) (s : Store) (done : List Deed) (d : Deed) (before : At) → Running → Device → Option (List ℕ) → Type 0
+DeedEnds (Ok x) b s done d before v new frame = DoneOne b s done d before v new.image frame
+DeedEnds (Err why) b s done d before v new frame = DeedFails why b s done d before new
+
+-- ---- writing
+
+-- a frame was written, or a front of it
+abbrev pub SendFails : Stop → (text : List ℕ) (before now : Option (List ℕ)) → Type 0
+SendFails stop.Write text before now = PutsFront before now text
+SendFails stop.Memory text before now = now ≡ before
+SendFails stop.Flash text before now = ⊥
+SendFails stop.NoImage text before now = ⊥
+SendFails stop.Read text before now = ⊥
+SendFails stop.NotAVolume text before now = ⊥
+SendFails stop.TooLong text before now = ⊥
+
+abbrev pub SendEnds : {T : Type 0} → Result T Stop → (text : List ℕ) (before now : Option (List ℕ)) → Type 0
+SendEnds (Ok x) text before now = Puts before now text
+SendEnds (Err why) text before now = SendFails why text before now
+
+-- a write fails only with the answer that says so, and so does a read
+abbrev pub WritesBy : Stop → (old new : ℕ) → Type 0
+WritesBy stop.Write old new = Rose old new × (old ≤ new)
+WritesBy stop.Memory old new = new ≡ old
+WritesBy stop.Flash old new = new ≡ old
+WritesBy stop.NoImage old new = new ≡ old
+WritesBy stop.Read old new = new ≡ old
+WritesBy stop.NotAVolume old new = new ≡ old
+WritesBy stop.TooLong old new = new ≡ old
+
+abbrev pub WriteCounts : {T : Type 0} → Result T Stop → (old new : ℕ) → Type 0
+WriteCounts (Ok x) old new = new ≡ old
+WriteCounts (Err why) old new = WritesBy why old new
+
+abbrev pub ReadsBy : Stop → (old new : ℕ) → Type 0
+ReadsBy stop.Read old new = Rose old new × (old ≤ new)
+ReadsBy stop.Memory old new = new ≡ old
+ReadsBy stop.Flash old new = new ≡ old
+ReadsBy stop.NoImage old new = new ≡ old
+ReadsBy stop.Write old new = new ≡ old
+ReadsBy stop.NotAVolume old new = new ≡ old
+ReadsBy stop.TooLong old new = new ≡ old
+
+abbrev pub ReadCounts : {T : Type 0} → Result T Stop → (old new : ℕ) → Type 0
+ReadCounts (Ok x) old new = new ≡ old
+ReadCounts (Err why) old new = ReadsBy why old new
+
+-- why the mote goes no further, and what was written by then
+abbrev pub StoppedBy : Stop → (b : Base) (there : At) (rest : List Deed) (first now : Option (List ℕ)) → Device → Type 0
+StoppedBy stop.Memory b there rest first now new = (text : List ℕ) × Puts first now text × IsFront text (said there) × Stands new.image there.store
+StoppedBy stop.Write b there rest first now new = (text : List ℕ) × Puts first now text × IsFront text (said there) × Stands new.image there.store
+StoppedBy stop.NoImage b there rest first now new = (there.mote ≡ None) × Puts first now (said there) × Stands new.image there.store
+StoppedBy stop.Flash b there rest first now new =
+    (m : MoteState) × (d : Deed) × (more : List Deed) × (there.mote ≡ Some m) × (rest ≡ d ∷ more) × Puts first now (said there) × StopsOn there.store (effect_of b m there d) new
+StoppedBy stop.Read b there rest first now new = ⊥
+StoppedBy stop.NotAVolume b there rest first now new = ⊥
+StoppedBy stop.TooLong b there rest first now new = ⊥
+
+-- Some of these deeds were done, and then the mote stopped.
+pub record Halted (why : Stop) (b : Base) (s : Store) (all : List Deed) (first now : Option (List ℕ)) (new : Device) : Type 0 where
+  pub done : List Deed
+  pub rest : List Deed
+  pub parts : done ++ rest ≡ all
+  pub there : At
+  pub run : Runs b (powered b s) done there
+  pub by : StoppedBy why b there rest first now new
+
+-- These deeds were done, and what was sent is written.
+pub record WentOn (b : Base) (s : Store) (all : List Deed) (first now : Option (List ℕ)) (v : Running) (new : Device) : Type 0 where
+  pub there : At
+  pub stood : Stood b s all v new.image there
+  pub put : Puts first now (said there)
+
+abbrev pub GoesEnds : {T : Type 0} → Result T Stop → (b : Base) (s : Store) (all : List Deed) (first now : Option (List ℕ)) → Running → Device → Type 0
+GoesEnds (Ok x) b s all first now v new = WentOn b s all first now v new
+GoesEnds (Err why) b s all first now v new = Halted why b s all first now new
+
+-- ---- the line
+
+-- The bytes of the line were played.
+pub record Played (b : Base) (s : Store) (stream : List ℕ) (first now : Option (List ℕ)) (v : Running) (reading : Reading) (new : Device) : Type 0 where
+  pub line : reading ≡ reading_behind stream
+  pub went : WentOn b s (deeds_of stream) first now v new
+
+abbrev pub PlayEnds : {T : Type 0} → Result T Stop → (b : Base) (s : Store) (stream : List ℕ) (first now : Option (List ℕ)) → Running → Reading → Device → Type 0
+PlayEnds (Ok x) b s stream first now v line new = Played b s stream first now v line new
+PlayEnds (Err why) b s stream first now v line new = Halted why b s (deeds_of stream) first now new
+
+-- ---- the input
+
+-- A piece was read and played behind a stream.
+pub record PieceRead (b : Base) (s : Store) (stream : List ℕ) (most count : ℕ) (left_old left_now first now : Option (List ℕ)) (v : Running) (reading : Reading) (new : Device) : Type 0 where
+  pub more : List ℕ
+  pub taken : Takes left_old left_now more
+  pub few : length more ≤ most
+  pub counted : length more ≡ count
+  pub played : Played b s (stream ++ more) first now v reading new
+  pub ended : count ≡ 0 → AtEnd left_now
+
+-- The mote halted in a piece.
+pub record PieceHalted (why : Stop) (b : Base) (s : Store) (stream : List ℕ) (most : ℕ) (left_old left_now first now : Option (List ℕ)) (new : Device) : Type 0 where
+  pub more : List ℕ
+  pub taken : Takes left_old left_now more
+  pub few : length more ≤ most
+  pub halted : Halted why b s (deeds_of (stream ++ more)) first now new
+
+abbrev pub PieceFails : Stop → (b : Base) (s : Store) (stream : List ℕ) (most : ℕ) (left_old left_now first now : Option (List ℕ)) → Running → Reading → Device → Type 0
+PieceFails stop.Read b s stream most left_old left_now first now v reading new = Takes left_old left_now [] × Played b s stream first now v reading new
+PieceFails why b s stream most left_old left_now first now v reading new = PieceHalted why b s stream most left_old left_now first now new
+
+abbrev pub PieceEnds : Result ℕ Stop → (b : Base) (s : Store) (stream : List ℕ) (most : ℕ) (left_old left_now first now : Option (List ℕ)) → Running → Reading → Device → Type 0
+PieceEnds (Ok count) b s stream most left_old left_now first now v reading new = PieceRead b s stream most count left_old left_now first now v reading new
+PieceEnds (Err why) b s stream most left_old left_now first now v reading new = PieceFails why b s stream most left_old left_now first now v reading new
+
+-- so many bytes were taken and played
+pub record Consumed (b : Base) (s : Store) (used : ℕ) (left_old left_now first now : Option (List ℕ)) (v : Running) (line : Reading) (new : Device) : Type 0 where
+  pub stream : List ℕ
+  pub counted : length stream ≡ used
+  pub taken : Takes left_old left_now stream
+  pub played : Played b s stream first now v line new
+
+-- The bytes behind those that are used were looked for.
+abbrev pub LastEnds : Result (Unit {0}) Stop → (left_old left_now : Option (List ℕ)) → Type 0
+LastEnds (Ok x) left_old left_now = Takes left_old left_now [] × AtEnd left_now
+LastEnds (Err stop.TooLong) left_old left_now = (byte : ℕ) × Takes left_old left_now (byte ∷ [])
+LastEnds (Err stop.Read) left_old left_now = Takes left_old left_now []
+LastEnds (Err stop.Memory) left_old left_now = ⊥
+LastEnds (Err stop.Write) left_old left_now = ⊥
+LastEnds (Err stop.Flash) left_old left_now = ⊥
+LastEnds (Err stop.NoImage) left_old left_now = ⊥
+LastEnds (Err stop.NotAVolume) left_old left_now = ⊥
+
+-- how the input ended, of which these bytes were taken
+abbrev pub InputBy : Result (Unit {0}) Stop → (b : Base) (s : Store) (input : List ℕ) (left first now : Option (List ℕ)) → Running → Reading → Device → Type 0
+InputBy (Ok x) b s input left first now v reading new = Played b s (take most_input input) first now v reading new × AtEnd left × (length input ≤ most_input)
+InputBy (Err stop.Read) b s input left first now v reading new = Played b s (take most_input input) first now v reading new × (length input ≤ most_input)
+InputBy (Err stop.TooLong) b s input left first now v reading new = Played b s (take most_input input) first now v reading new × (most_input < length input)
+InputBy (Err why) b s input left first now v reading new = Halted why b s (deeds_of (take most_input input)) first now new
+
+pub record InputEnds (r : Result (Unit {0}) Stop) (b : Base) (s : Store) (left_old left_now first now : Option (List ℕ)) (v : Running) (reading : Reading) (new : Device) : Type 0 where
+  pub input : List ℕ
+  pub taken : Takes left_old left_now input
+  pub few : length input ≤ most_input + 1
+  pub by : InputBy r b s input left_now first now v reading new

@@ -1,0 +1,38 @@
+//! A chip starts, and its mote is made.
+ghost use Rattle.std.specs.Prelude.{◌≡◌, ℕ, ◌^◌, ◌<◌, IfOk, OnOk};
+ghost use Rattle.dg_volume.specs.Store.{Store};
+ghost use Rattle.dg_volume.specs.Stands.{Stands, IsVolume, IsNoVolume};
+ghost use Rattle.dg_mote.specs.Effects.{boots};
+ghost use Rattle.dg_serial_base.specs.Standing.{StartEnds, NoneEnds, IsTimely, Counts, WriteCounts, ReadCounts};
+
+use crate::stop::Stop;
+use crate::timeline::Draw;
+use dg_boot::{BootFault, Kind, start};
+use dg_mote::{Mote, a_mote_stays_timely};
+use dg_nor::Nor;
+
+/// Starts a chip, and makes its mote.
+pub(crate) fn start_mote<N: Nor>(
+    nor: &mut N,
+    kind: Kind,
+    id: u16,
+    wide: bool,
+    draw: Draw,
+) -> Result<Mote, Stop>
+    requires moment { draw.now < 2 ^ 62 }
+    ensures ends { (s : Store) → Stands (N.device nor.old).image s → StartEnds result s (boots kind s id wide draw.now draw.word) draw.now (N.device nor.new) }
+    ensures volume { OnOk result (IsVolume (N.device nor.old).image) }
+    ensures timely { IfOk result (λ v. IsTimely (N.device nor.new).image v draw.now) }
+    ensures counts { Counts result (N.device nor.old) (N.device nor.new) }
+    ensures writes { (n : ℕ) → WriteCounts result n n }
+    ensures reads { (n : ℕ) → ReadCounts result n n }
+    ensures none { IsNoVolume (N.device nor.old).image → NoneEnds result (N.device nor.old) (N.device nor.new) }
+{
+    a_mote_stays_timely();
+    match start(nor, kind) {
+        Ok(started) => Ok(Mote::new(started.volume, id, wide, draw.now, draw.word)),
+        Err(BootFault::Stopped) => Err(Stop::Flash),
+        Err(BootFault::NotAVolume) => Err(Stop::NotAVolume),
+        Err(BootFault::NoImage) => Err(Stop::NoImage),
+    }
+}
