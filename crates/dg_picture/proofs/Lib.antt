@@ -1,0 +1,5 @@
+pub mod EachLemmas
+pub mod ColumnLemmas
+pub mod TextLemmas
+pub mod ReadLemmas
+pub mod LawLemmas

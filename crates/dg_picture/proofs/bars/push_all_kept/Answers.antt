@@ -1,0 +1,13 @@
+use Rattle.std.proofs.Common.{Option, ◌++◌, ap, ◌∙◌}
+use Rattle.dg_picture.specs.Picture.{kept_text}
+use Rattle.dg_picture.specs.declared.told.Pages.{Pages}
+use Rattle.dg_picture.proofs.EachLemmas.{begun, grown}
+use Rattle.dg_picture.proofs.bars.push_all_kept.Goals as goal
+
+pub loop-mote-init : goal.loop-mote-init
+loop-mote-init c = begun _ _
+
+pub loop-mote-preserved : goal.loop-mote-preserved
+loop-mote-preserved c =
+    grown _ c.loop-mote.mote _ _ _ c.loop-mote.invariant
+    (c.in_ok-push_kept.ensures ∙ ap (λ (kept : Option Pages). c.loop-mote.out.items ++ kept_text c.loop-mote.mote c.args.image kept) c.total.ensures)

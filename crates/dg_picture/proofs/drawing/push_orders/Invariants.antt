@@ -1,0 +1,7 @@
+use Rattle.std.proofs.Common.{◌≡◌, ◌++◌}
+use Rattle.dg_picture.specs.Layout.{each}
+use Rattle.dg_picture.specs.Picture.{orders_text}
+use Rattle.dg_picture.proofs.drawing.push_orders.Given as goal
+
+abbrev pub invariant-loop-image : goal.invariant-loop-image
+invariant-loop-image l = l.out.items ≡ l.initial.out.items ++ each (orders_text l.grid l.changes l.rows) l.image

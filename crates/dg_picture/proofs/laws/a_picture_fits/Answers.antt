@@ -1,0 +1,14 @@
+use Rattle.dg_picture.proofs.LawLemmas.{has_lane, low, high, wide}
+use Rattle.dg_picture.proofs.laws.a_picture_fits.Goals as goal
+
+pub returns-clause-lanes : goal.returns-clause-lanes
+returns-clause-lanes c = has_lane
+
+pub returns-clause-low : goal.returns-clause-low
+returns-clause-low c = low
+
+pub returns-clause-high : goal.returns-clause-high
+returns-clause-high c = high
+
+pub returns-clause-wide : goal.returns-clause-wide
+returns-clause-wide c = wide

@@ -1,0 +1,7 @@
+pub mod Told
+pub mod Counts
+pub mod Layout
+pub mod Texts
+pub mod Picture
+pub mod Reading
+pub mod Drawn

@@ -1,0 +1,84 @@
+//! The largest count of pages that is told of each version of an image.
+ghost use Rattle.std.specs.Prelude.{◌≡◌, ◌==◌, ◌&&◌, ℕ, max, unwrap_or, if◌then◌else◌, IfOk, OnOk};
+ghost use Rattle.dg_picture.specs.Counts.{held, counted_of};
+ghost use Rattle.dg_picture.specs.Told.{counted, largest};
+
+use crate::told::Pages;
+use dg_script::Report;
+use std::alloc::{AllocError, Global};
+use std::collections::BTreeMap;
+
+// The pages that a line tells of an image.
+fn counted(image: u32, report: &Report) -> Option<Pages>
+    ensures { (version : ℕ) → counted_of version result ≡ counted image version report.now }
+{
+    match *report {
+        Report::Have {
+            image: of,
+            version,
+            pages,
+            ..
+        } => of_image(image, of, version, pages),
+        Report::Kept {
+            image: of,
+            version,
+            pages,
+            ..
+        } => of_image(image, of, version, pages),
+        _ => None,
+    }
+}
+
+fn of_image(image: u32, of: u8, version: u32, count: u8) -> Option<Pages>
+    ensures { (v : ℕ) → counted_of v result ≡ (if of == image && version == v then count else 0) }
+{
+    if u32::from(of) != image {
+        return None;
+    }
+    Some(Pages { version, count })
+}
+
+/// The largest count of a version.
+pub fn largest_of(counts: &BTreeMap<u32, u8>, version: u32) -> u8
+    ensures { result ≡ held counts.now version }
+{
+    counts.get(&version).copied().unwrap_or(0)
+}
+
+// Keeps a count where it is larger than the one of its version.
+fn raise(counts: &mut BTreeMap<u32, u8>, pages: Pages) -> Result<(), AllocError>
+    ensures { OnOk result ((version : ℕ) → held counts.new version
+        ≡ max (held counts.old version) (if pages.version == version then pages.count else 0)) }
+{
+    if pages.count <= largest_of(counts, pages.version) {
+        return Ok(());
+    }
+    counts.insert(pages.version, pages.count)?;
+    Ok(())
+}
+
+// Keeps what a line tells of an image.
+fn keep(counts: &mut BTreeMap<u32, u8>, image: u32, report: &Report) -> Result<(), AllocError>
+    ensures { OnOk result ((version : ℕ) → held counts.new version
+        ≡ max (held counts.old version) (counted image version report.now)) }
+{
+    match counted(image, report) {
+        None => Ok(()),
+        Some(pages) => raise(counts, pages),
+    }
+}
+
+/// The largest count of each version of an image.
+pub fn largest(
+    alloc: Global,
+    image: u32,
+    reports: &[Report],
+) -> Result<BTreeMap<u32, u8>, AllocError>
+    ensures { IfOk result (λ counts. (version : ℕ) → held counts version ≡ largest image version reports.now) }
+{
+    let mut counts = BTreeMap::new(alloc);
+    for report in reports {
+        keep(&mut counts, image, report)?;
+    }
+    Ok(counts)
+}

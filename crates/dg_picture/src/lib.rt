@@ -1,0 +1,17 @@
+//! A picture of how an image spread, drawn of the report of a replay.
+#![tactic(auto)]
+
+mod bars;
+mod call;
+mod counts;
+mod drawing;
+mod laws;
+mod layout;
+mod marks;
+mod pieces;
+mod reading;
+mod texts;
+mod told;
+
+pub use call::{PictureFault, picture};
+pub use laws::{a_picture_fits, the_last_column_shows_the_last_state};
