@@ -3,6 +3,7 @@
 
 use dg_base::{MOST_MOTES, Status, StdSink, StdSource};
 use dg_cli::{flash_names, run};
+use dg_net::{SystemClock, UdpLink};
 use dg_nor::Board;
 use std::env;
 use std::env::Args;
@@ -87,8 +88,9 @@ fn nothing(rt: &HostRuntime) -> Option<File> {
         .ok()
 }
 
-/// Runs the command over standard input and output.
+/// Runs the command over standard input and output, sockets of this machine and its clock.
 fn status(rt: &HostRuntime) -> Status {
+    let mut clock = SystemClock::new(rt);
     // Where a standard stream is closed, the file that is opened next takes its number, and gets what is written there:
     // let that be one of these, and no chip.
     let _streams = (nothing(rt), nothing(rt), nothing(rt));
@@ -100,7 +102,16 @@ fn status(rt: &HostRuntime) -> Status {
     };
     let mut input = StdSource::new(rt.stdin());
     let mut out = StdSink::new(rt.stdout());
-    run(rt.alloc(), &words, &mut input, &mut out, &mut boards)
+    let mut link = UdpLink::new(rt, rt.alloc());
+    run(
+        rt.alloc(),
+        &words,
+        &mut input,
+        &mut out,
+        &mut boards,
+        &mut link,
+        &mut clock,
+    )
 }
 
 /// Tells, beside the output, where help is.

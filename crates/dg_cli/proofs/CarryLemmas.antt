@@ -15,23 +15,25 @@ use Rattle.dg_trial.specs.Trials.{TrialEnds}
 use Rattle.dg_command.specs.Asking.{Said, Asking, Asks, Helps, Misuses, said_by, asking}
 use Rattle.dg_command.specs.declared.command.Asked.{Asked}
 use Rattle.dg_command.specs.declared.command.Command.{Command}
-use Rattle.dg_cli.specs.Commands.{Around, ReadsInput, SaidDone, FormatDone, InjectDone, OrderDone, BootDone, CheckDone, ReceiveDone}
+use Rattle.dg_replay.specs.Around.{Around}
+use Rattle.dg_cli.specs.Surroundings.{Surroundings}
+use Rattle.dg_cli.specs.Commands.{ReadsInput, UsesLink, SaidDone, FormatDone, InjectDone, OrderDone, BootDone, CheckDone, ReceiveDone}
 use Rattle.dg_cli.specs.Chained.{root_in}
 
-pub said_done : (c d : Command) → c ≡ d → (s : Status) (a b : Around) → SaidDone (said_by d) s a b → SaidDone (said_by c) s a b
+pub said_done : (c d : Command) → c ≡ d → (s : Status) (a b : Surroundings) → SaidDone (said_by d) s a b → SaidDone (said_by c) s a b
 said_done c d e s a b h = subst (λ (x : Command). SaidDone (said_by x) s a b) (sym e) h
 
 -- ---- each command, with the number of boards and the name as its call has them
 
-abbrev pub FormatTold : (n : ℕ) → (name : List ℕ) → (used : ℕ) → Status → Around → Around → Type 0
-FormatTold n name used s a b =
+abbrev pub FormatTold : (n : ℕ) → (name : List ℕ) → (used form : ℕ) → Status → Around → Around → Type 0
+FormatTold n name used form s a b =
     (input : List ℕ) × InputRead s n input a.left b.left a.reads b.reads
-    × ToolDone s (λ chip. Unit {0}) (format_ending n used input) (λ chip. IsFormatted name (content_in input) used) (λ chip. FormatStops name (content_in input) used)
+    × ToolDone s (λ chip. Unit {0}) (format_ending n used input) (λ chip. IsFormatted name (content_in input) used form) (λ chip. FormatStops name (content_in input) used)
     (Rose a.reads b.reads) a.written b.written a.writes b.writes a.boards b.boards
 
-pub format_done : (n : ℕ) (told name : List ℕ) (used : ℕ) (s : Status) (a b : Around) → n ≡ length a.boards → told ≡ name → FormatTold n told used s a b → FormatDone name used s a b
-format_done n told name used s a b e f h =
-    subst (λ (k : ℕ). FormatTold k name used s a b) e (subst (λ (t : List ℕ). FormatTold n t used s a b) f h)
+pub format_done : (n : ℕ) (told name : List ℕ) (used form : ℕ) (s : Status) (a b : Around) → n ≡ length a.boards → told ≡ name → FormatTold n told used form s a b → FormatDone name used form s a b
+format_done n told name used form s a b e f h =
+    subst (λ (k : ℕ). FormatTold k name used form s a b) e (subst (λ (t : List ℕ). FormatTold n t used form s a b) f h)
 
 abbrev pub InjectTold : (n image version : ℕ) → (name : List ℕ) → Status → Around → Around → Type 0
 InjectTold n image version name s a b =
@@ -66,20 +68,14 @@ no_link_of_a_trial s motes pages seed before after old new h e = subst (λ (x : 
 
 -- ---- what was asked for
 
-said_or : Said → Asking → Said
-said_or d (Asks said) = said
-said_or d Helps = d
-said_or d Misuses = d
-
-pub asks_same : (a b : Said) → Asks a ≡ Asks b → a ≡ b
-unfolding said_or
-asks_same a b e = ap (said_or a) e
-
 pub asked_said : (asked said : Asked) (asking_for : Asking) → asked ≡ said → asking asked ≡ asking_for → asking said ≡ asking_for
 asked_said asked said asking_for e h = ap asking (sym e) ∙ h
 
 pub reads_same : (a b : Asking) → a ≡ b → ReadsInput a → ReadsInput b
 reads_same a b e h = subst ReadsInput e h
+
+pub uses_same : (a b : Asking) → a ≡ b → UsesLink a → UsesLink b
+uses_same a b e h = subst UsesLink e h
 
 pub received_said : (s : Status) (image version : ℕ) (named name digits root : List ℕ) (a b : Around) → named ≡ name → digits ≡ root → ReceiveDone image version named (root_in digits) s a b → ReceiveDone image version name (root_in root) s a b
 received_said s image version named name digits root a b e f h =

@@ -1,3 +1,5 @@
 mod CarryLemmas
+mod MigrateLemmas
 pub mod ChainLemmas
 mod DripLemmas
+mod BaseLemmas

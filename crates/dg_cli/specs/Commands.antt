@@ -9,38 +9,40 @@ use Rattle.dg_object.specs.Object.{Row, row_of}
 use Rattle.dg_control.specs.declared.snapshot.Order.{Order}
 use Rattle.dg_volume.specs.Store.{Store}
 use Rattle.dg_volume.specs.Trails.{inject_trail, order_trail}
-use Rattle.dg_replay.specs.Items.{UsesBoards}
-use Rattle.dg_replay.specs.Ending.{script_of}
-use Rattle.dg_replay.specs.Outcome.{Replayed}
+use Rattle.dg_replay.specs.Around.{Around}
+use Rattle.dg_replay.specs.Done.{ReplayDone}
+use Rattle.dg_rules.specs.Begins.{AreShaped}
+use Rattle.dg_netcfg.specs.Readings.{IsAllowed}
+use Rattle.dg_netcfg.specs.declared.profile.NetProfile.{NetProfile}
+use Rattle.dg_serve.specs.Endings.{StoresOf}
+use Rattle.dg_serve.specs.Served.{Began}
+use Rattle.dg_serve.specs.Traces.{IsScript, trace, trace_lines}
+use Rattle.dg_serve.specs.Promised.{KeepsRules}
+use Rattle.dg_serve.specs.Networks.{NetworkServed}
 use Rattle.dg_trial.specs.Trials.{TrialEnds}
 use Rattle.dg_drip_run.specs.Outcome.{Dripped, played}
 use Rattle.dg_drip_run.specs.Promised.{GreatestIsKept, NothingFalls, SetsMakeAll, RoundsRaise, SweepsBringTheGreatest}
-use Rattle.dg_command.specs.Asking.{Said, Replay, Serve, Format, Inject, Order as OrderSaid, Boot, Ping, Dump, Trial, Wrap, Check, Receive, Drip, Base, Asking, Asks, Helps, Misuses}
+use Rattle.dg_command.specs.Asking.{Said, Replay, Serve, Format, Inject, Order as OrderSaid, Boot, Ping, Dump, Migrate, Trial, Wrap, Check, Receive, Drip, Base, Asking, Asks, Helps, Misuses}
 use Rattle.dg_tool.specs.Endings.{Ending, FirstAs, content_in}
 use Rattle.dg_tool.specs.Verbs.{format_ending, inject_ending, order_ending, power_boot, boot_ending, ping_ending, dump_ending}
 use Rattle.dg_tool.specs.Done.{ToolDone, InputRead, IsFormatted, FormatStops, WentOn, StopsOn, BootedOn}
 use Rattle.dg_cli.specs.Words.{UsageTold, HelpTold}
+use Rattle.dg_cli.specs.Surroundings.{Surroundings, outside_of}
+use Rattle.dg_cli.specs.Migrating.{MigratedDone}
+use Rattle.dg_cli.specs.Basing.{BaseDone}
 use Rattle.dg_cli.specs.Chained.{root_in, Checked, WrappedDone, ReceivedDone}
 
--- what stands around the program: what is left of the input and what was written, where that is told, how many reads and writes failed, and the boards
-pub record Around : Type 0 where
-  pub left : Option (List ℕ)
-  pub reads : ℕ
-  pub written : Option (List ℕ)
-  pub writes : ℕ
-  pub boards : List Device
+-- ---- serving
 
--- nothing was done, for want of memory
-abbrev pub Nothing : Status → Around → Around → Type 0
-Nothing status a b = (status ≡ Memory) × (b ≡ a)
-
--- ---- replay
-
--- What a replay did, whichever table its boards are held against where it uses them as they are. Else it formats them itself, so that they are volumes, and golden starts where nothing else does.
-pub record ReplayDone (status : Status) (a b : Around) : Type 0 where
-  pub replayed : (table : List Row) → Replayed table status a.left b.left a.written b.written a.reads b.reads a.writes b.writes a.boards b.boards
-  pub golden : (table : List Row) → (UsesBoards (script_of (replayed table).input).lines → ⊥) → (status ≢ NotAVolume) × (status ≢ NoImage)
-  pub never : status ≢ Refused
+-- The network that the input spells was served over the link, by the clock, with the words of the seed.
+pub record ServeDone (turns seed : ℕ) (status : Status) (a b : Surroundings) : Type 0 where
+  pub served : NetworkServed status seed turns a.here.left b.here.left a.here.reads b.here.reads (outside_of a) (outside_of b)
+  -- whichever table its boards are held against: what agrees stays so where the frames that came are honest
+  pub keeps : (profile : NetProfile) → IsAllowed profile → (x : Began status profile seed turns (outside_of a) (outside_of b)) (table : List Row) (stores : List Store)
+      → (fits : StoresOf profile.motes a.here.boards stores) → AreShaped stores → KeepsRules table stores profile.links profile.motes x.events (x.came table stores fits).last.world
+  -- the trace of its events is a script of them
+  pub script : (profile : NetProfile) → IsAllowed profile → (x : Began status profile seed turns (outside_of a) (outside_of b)) (stores : List Store)
+      → StoresOf profile.motes a.here.boards stores → IsScript (trace profile x.events) (trace_lines profile x.events)
 
 -- ---- the verbs over the first board
 
@@ -56,11 +58,11 @@ InputDone input status a b = InputRead status (length a.boards) input a.left b.l
 abbrev pub Unread : Around → Around → Type 0
 Unread a b = (b.left ≡ a.left) × (b.reads ≡ a.reads)
 
--- any board is formatted, whatever it stands for
-abbrev pub FormatDone : (name : List ℕ) → (used : ℕ) → Status → Around → Around → Type 0
-FormatDone name used status a b =
+-- any board is formatted in this form, whatever it stands for
+abbrev pub FormatDone : (name : List ℕ) → (used form : ℕ) → Status → Around → Around → Type 0
+FormatDone name used form status a b =
     (input : List ℕ) × InputDone input status a b
-    × ToolDone status (λ chip. Unit {0}) (format_ending (length a.boards) used input) (λ chip. IsFormatted name (content_in input) used) (λ chip. FormatStops name (content_in input) used)
+    × ToolDone status (λ chip. Unit {0}) (format_ending (length a.boards) used input) (λ chip. IsFormatted name (content_in input) used form) (λ chip. FormatStops name (content_in input) used)
     (Rose a.reads b.reads) a.written b.written a.writes b.writes a.boards b.boards
 
 abbrev pub InjectDone : (image version : ℕ) → (name : List ℕ) → Status → Around → Around → Type 0
@@ -81,6 +83,10 @@ PingDone status a b = Unread a b × FirstDone ⊥ (ping_ending (length a.boards)
 
 abbrev pub DumpDone : (image : ℕ) → Status → Around → Around → Type 0
 DumpDone image status a b = Unread a b × FirstDone ⊥ (dump_ending (length a.boards) image) (λ chip. Looked) (λ chip. ReadStopped) status a b
+
+-- the first board is committed again as it stands, where its last commit is written in the older form
+abbrev pub MigrateDone : Status → Around → Around → Type 0
+MigrateDone status a b = Unread a b × MigratedDone status a.written b.written a.writes b.writes a.boards b.boards
 
 -- ---- the trial
 
@@ -126,38 +132,48 @@ pub record HelpDone (status : Status) (a b : Around) : Type 0 where
   pub boards : b.boards ≡ a.boards
   pub told : HelpTold status a.written b.written a.writes b.writes
 
--- the commands `serve` and `base` are still to come: their words are taken as none
-abbrev pub SaidDone : Said → Status → Around → Around → Type 0
-SaidDone (Replay flashes) status a b = ReplayDone status a b
-SaidDone (Serve turns seed flashes) status a b = UsageDone status a b
-SaidDone (Format name used flash) status a b = FormatDone name used status a b
-SaidDone (Inject image version name flash) status a b = InjectDone image version name status a b
-SaidDone (OrderSaid number image version flash) status a b = OrderDone (record { number = number; image = image; version = version }) status a b
-SaidDone (Boot flash) status a b = BootDone status a b
-SaidDone (Ping flash) status a b = PingDone status a b
-SaidDone (Dump image flash) status a b = DumpDone image status a b
-SaidDone (Trial motes pages seed) status a b = TrialDone motes pages seed status a b
-SaidDone Wrap status a b = WrapDone status a b
-SaidDone (Check image root flash) status a b = CheckDone image (root_in root) status a b
-SaidDone (Receive image version name root flash) status a b = ReceiveDone image version name (root_in root) status a b
-SaidDone Drip status a b = DripDone status a b
-SaidDone (Base id step seed flash) status a b = UsageDone status a b
+-- ---- all commands
 
--- by what the words ask for; the words themselves may take more memory than there is
-abbrev pub AskedDone : Asking → Status → Around → Around → Type 0
+abbrev pub SaidDone : Said → Status → Surroundings → Surroundings → Type 0
+SaidDone (Replay flashes) status a b = ReplayDone status a.here b.here
+SaidDone (Serve turns seed flashes) status a b = ServeDone turns seed status a b
+SaidDone (Format name used form flash) status a b = FormatDone name used form status a.here b.here
+SaidDone (Inject image version name flash) status a b = InjectDone image version name status a.here b.here
+SaidDone (OrderSaid number image version flash) status a b = OrderDone (record { number = number; image = image; version = version }) status a.here b.here
+SaidDone (Boot flash) status a b = BootDone status a.here b.here
+SaidDone (Ping flash) status a b = PingDone status a.here b.here
+SaidDone (Dump image flash) status a b = DumpDone image status a.here b.here
+SaidDone (Migrate flash) status a b = MigrateDone status a.here b.here
+SaidDone (Trial motes pages seed) status a b = TrialDone motes pages seed status a.here b.here
+SaidDone Wrap status a b = WrapDone status a.here b.here
+SaidDone (Check image root flash) status a b = CheckDone image (root_in root) status a.here b.here
+SaidDone (Receive image version name root flash) status a b = ReceiveDone image version name (root_in root) status a.here b.here
+SaidDone Drip status a b = DripDone status a.here b.here
+SaidDone (Base id step seed flash) status a b = BaseDone id step seed status a.here b.here
+
+-- by what the words ask for
+abbrev pub AskedDone : Asking → Status → Surroundings → Surroundings → Type 0
 AskedDone (Asks said) status a b = SaidDone said status a b
-AskedDone Helps status a b = HelpDone status a b
-AskedDone Misuses status a b = UsageDone status a b
+AskedDone Helps status a b = HelpDone status a.here b.here
+AskedDone Misuses status a b = UsageDone status a.here b.here
 
-abbrev pub Does : Asking → Status → Around → Around → Type 0
-Does asking status a b = AskedDone asking status a b ⊎ Nothing status a b
+-- the words themselves may take more memory than there is, and then nothing is done
+abbrev pub Does : Asking → Status → Surroundings → Surroundings → Type 0
+Does asking status a b = AskedDone asking status a b ⊎ ((status ≡ Memory) × (b ≡ a))
 
 -- the words ask for what reads the input
 abbrev pub ReadsInput : Asking → Type 0
 ReadsInput (Asks (Replay flashes)) = Unit {0}
-ReadsInput (Asks (Format name used flash)) = Unit {0}
+ReadsInput (Asks (Serve turns seed flashes)) = Unit {0}
+ReadsInput (Asks (Format name used form flash)) = Unit {0}
 ReadsInput (Asks (Inject image version name flash)) = Unit {0}
 ReadsInput (Asks Wrap) = Unit {0}
 ReadsInput (Asks Drip) = Unit {0}
 ReadsInput (Asks (Receive image version name root flash)) = Unit {0}
+ReadsInput (Asks (Base id step seed flash)) = Unit {0}
 ReadsInput _ = ⊥
+
+-- the words ask for what uses the link and the clock
+abbrev pub UsesLink : Asking → Type 0
+UsesLink (Asks (Serve turns seed flashes)) = Unit {0}
+UsesLink _ = ⊥

@@ -1,58 +1,59 @@
 //! Carrying out a command.
-ghost use Rattle.std.specs.Prelude.{◌≡◌, ◌≢◌, ◌⊎◌, ◌≤◌, ℕ, true, List, length, map, Some};
+ghost use Rattle.std.specs.Prelude.{◌≡◌, ◌≤◌, true, map};
 ghost use Rattle.dg_words.specs.Counts.{Rose};
-ghost use Rattle.dg_replay.specs.Ending.{InLimits, script_of};
-ghost use Rattle.dg_replay.specs.Items.{UsesBoards, motes_in};
-ghost use Rattle.dg_replay.specs.Outcome.{IsComplete, AreVolumes};
-ghost use Rattle.dg_replay.specs.Boards.{BoardStopped};
-ghost use Rattle.dg_command.specs.Asking.{Replay, Asks, said_by, is_well_formed};
+ghost use Rattle.dg_replay.specs.Around.{around};
+ghost use Rattle.dg_command.specs.Asking.{Asks, said_by, is_well_formed};
 ghost use Rattle.dg_command.specs.Bounds.{IsInRange};
-ghost use Rattle.dg_cli.specs.Commands.{Around, SaidDone, ReadsInput};
+ghost use Rattle.dg_cli.specs.Commands.{SaidDone, ReadsInput, UsesLink};
+ghost use Rattle.dg_cli.specs.Surroundings.{surroundings};
 
+use crate::basing::base;
 use crate::chaining::{check, receive};
-use crate::telling::tell_usage;
-use dg_base::{Sink, Source, Status};
+use crate::migrating::migrate;
+use dg_base::{Clock, Sink, Source, Status};
 use dg_command::Command;
 use dg_drip_run::drip;
+use dg_link::Link;
 use dg_nor::Nor;
 use dg_replay::replay;
+use dg_serve::{serve_network, services_keep_the_rules};
 use dg_trial::trial;
 use dg_volume::Order;
 use std::alloc::Global;
 
 /// Carries out a command.
-pub(crate) fn carry_out<S: Source, K: Sink, N: Nor>(
+pub(crate) fn carry_out<S: Source, K: Sink, N: Nor, L: Link, C: Clock>(
     alloc: Global,
     command: Command,
     input: &mut S,
     out: &mut K,
     boards: &mut Vec<N>,
+    link: &mut L,
+    clock: &mut C,
 ) -> Status
     requires ranges { IsInRange (said_by command) }
     requires formed { is_well_formed (said_by command) ≡ true }
-    ensures done { let before : Around = record { left = S.left input.old; reads = S.faults input.old; written = K.written out.old; writes = K.faults out.old; boards = map N.device boards.old.items } in
-        let after : Around = record { left = S.left input.new; reads = S.faults input.new; written = K.written out.new; writes = K.faults out.new; boards = map N.device boards.new.items } in
-        SaidDone (said_by command) result before after }
+    ensures done { SaidDone (said_by command) result
+        (surroundings (around (S.left input.old) (S.faults input.old) (K.written out.old) (K.faults out.old) (map N.device boards.old.items))
+        (L.inboxes link.old) (L.faults link.old) (C.told clock.old))
+        (surroundings (around (S.left input.new) (S.faults input.new) (K.written out.new) (K.faults out.new) (map N.device boards.new.items))
+        (L.inboxes link.new) (L.faults link.new) (C.told clock.new)) }
     ensures untouched { (ReadsInput (Asks (said_by command)) → ⊥) → input.new ≡ input.old }
-    ensures complete { (flashes : List (List ℕ)) (bytes : List ℕ) → said_by command ≡ Replay flashes → S.left input.old ≡ Some bytes → InLimits (length boards.old.items) bytes
-        → (Rose (S.faults input.old) (S.faults input.new) → ⊥) → (Rose (K.faults out.old) (K.faults out.new) → ⊥)
-        → (BoardStopped (motes_in (script_of bytes).lines) (map N.device boards.old.items) (map N.device boards.new.items) → ⊥)
-        → (UsesBoards (script_of bytes).lines → ⊥) → (result ≡ Status.Done) ⊎ (result ≡ Status.Memory) }
-    ensures complete_boards { (flashes : List (List ℕ)) (bytes : List ℕ) → said_by command ≡ Replay flashes → S.left input.old ≡ Some bytes → InLimits (length boards.old.items) bytes
-        → (Rose (S.faults input.old) (S.faults input.new) → ⊥) → (Rose (K.faults out.old) (K.faults out.new) → ⊥)
-        → (BoardStopped (motes_in (script_of bytes).lines) (map N.device boards.old.items) (map N.device boards.new.items) → ⊥)
-        → AreVolumes (motes_in (script_of bytes).lines) (map N.device boards.old.items) → IsComplete (UsesBoards (script_of bytes).lines) result }
-    ensures link { result ≢ Status.LinkFault }
+    ensures apart { (UsesLink (Asks (said_by command)) → ⊥) → (link.new ≡ link.old) × (clock.new ≡ clock.old) }
+    ensures link_fault { result ≡ Status.LinkFault → Rose (L.faults link.old) (L.faults link.new) }
     ensures reads { S.faults input.old ≤ S.faults input.new }
     ensures writes { K.faults out.old ≤ K.faults out.new }
+    ensures sends { L.faults link.old ≤ L.faults link.new }
 {
+    services_keep_the_rules();
     match command {
         Command::Replay { flashes: _flashes } => replay(alloc, input, out, boards),
         Command::Format {
             name,
             used,
+            form,
             flash: _flash,
-        } => dg_tool::format(alloc, name.as_bytes(), used, input, out, boards),
+        } => dg_tool::format(alloc, name.as_bytes(), used, form, input, out, boards),
         Command::Inject {
             image,
             version,
@@ -78,11 +79,12 @@ pub(crate) fn carry_out<S: Source, K: Sink, N: Nor>(
             image,
             flash: _flash,
         } => dg_tool::dump(alloc, image, out, boards),
+        Command::Migrate { flash: _flash } => migrate(alloc, out, boards),
         Command::Serve {
-            turns: _turns,
-            seed: _seed,
+            turns,
+            seed,
             flashes: _flashes,
-        } => tell_usage(out),
+        } => serve_network(alloc, input, boards, link, clock, seed, turns, out),
         Command::Trial { motes, pages, seed } => trial(alloc, motes, pages, seed, out, boards),
         Command::Wrap => dg_chain_tool::wrap(alloc, input, out),
         Command::Check {
@@ -103,10 +105,10 @@ pub(crate) fn carry_out<S: Source, K: Sink, N: Nor>(
         }
         Command::Drip => drip(alloc, input, out),
         Command::Base {
-            id: _id,
-            step: _step,
-            seed: _seed,
+            id,
+            step,
+            seed,
             flash: _flash,
-        } => tell_usage(out),
+        } => base(alloc, id, step, seed, input, out, boards),
     }
 }

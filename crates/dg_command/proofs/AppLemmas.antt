@@ -14,7 +14,7 @@ use Rattle.dg_command.specs.Apps.{app_for, app_of_verb, rules_of, top_app}
 use Rattle.dg_command.specs.Verbs.{word_of}
 use Rattle.dg_command.proofs.KindLemmas.{AtMostOne, one_kind}
 use Rattle.dg_command.specs.declared.verbs.Verb.{Verb}
-use Rattle.dg_command.specs.declared.verbs.Verb.TheVariants.{Replay, Serve, Format, Inject, Order, Boot, Ping, Dump, Trial, Wrap, Check, Receive, Drip, Base}
+use Rattle.dg_command.specs.declared.verbs.Verb.TheVariants.{Replay, Serve, Format, Inject, Order, Boot, Ping, Dump, Migrate, Trial, Wrap, Check, Receive, Drip, Base}
 
 -- ---- arguments added in turn
 
@@ -61,6 +61,7 @@ simple_rules Order = refl
 simple_rules Boot = refl
 simple_rules Ping = refl
 simple_rules Dump = refl
+simple_rules Migrate = refl
 simple_rules Trial = refl
 simple_rules Wrap = refl
 simple_rules Check = refl
@@ -89,6 +90,7 @@ plain_for (Some Order) = refl
 plain_for (Some Boot) = refl
 plain_for (Some Ping) = refl
 plain_for (Some Dump) = refl
+plain_for (Some Migrate) = refl
 plain_for (Some Trial) = refl
 plain_for (Some Wrap) = refl
 plain_for (Some Check) = refl
@@ -110,6 +112,7 @@ one_for (Some Order) words = one_kind (built (app_of_verb Order)).top refl (argu
 one_for (Some Boot) words = one_kind (built (app_of_verb Boot)).top refl (argument_words (app_of_verb Boot) words)
 one_for (Some Ping) words = one_kind (built (app_of_verb Ping)).top refl (argument_words (app_of_verb Ping) words)
 one_for (Some Dump) words = one_kind (built (app_of_verb Dump)).top refl (argument_words (app_of_verb Dump) words)
+one_for (Some Migrate) words = one_kind (built (app_of_verb Migrate)).top refl (argument_words (app_of_verb Migrate) words)
 one_for (Some Trial) words = one_kind (built (app_of_verb Trial)).top refl (argument_words (app_of_verb Trial) words)
 one_for (Some Wrap) words = one_kind (built (app_of_verb Wrap)).top refl (argument_words (app_of_verb Wrap) words)
 one_for (Some Check) words = one_kind (built (app_of_verb Check)).top refl (argument_words (app_of_verb Check) words)

@@ -26,7 +26,7 @@ use Rattle.dg_command.specs.Apps.{app_of_verb, number_option, rules_of}
 use Rattle.dg_command.specs.Values.{number_at, number_in}
 use Rattle.dg_command.proofs.ReadLemmas.{digits_from, digits_pass, is_read}
 use Rattle.dg_command.specs.declared.verbs.Verb.{Verb}
-use Rattle.dg_command.specs.declared.verbs.Verb.TheVariants.{Replay, Serve, Format, Inject, Order, Boot, Ping, Dump, Trial, Wrap, Check, Receive, Drip, Base}
+use Rattle.dg_command.specs.declared.verbs.Verb.TheVariants.{Replay, Serve, Format, Inject, Order, Boot, Ping, Dump, Migrate, Trial, Wrap, Check, Receive, Drip, Base}
 
 -- ---- the number that a text writes, as `signed_reads` wants it
 
@@ -77,6 +77,7 @@ ready Order = refl
 ready Boot = refl
 ready Ping = refl
 ready Dump = refl
+ready Migrate = refl
 ready Trial = refl
 ready Wrap = refl
 ready Check = refl
@@ -93,6 +94,7 @@ free Order = refl
 free Boot = refl
 free Ping = refl
 free Dump = refl
+free Migrate = refl
 free Trial = refl
 free Wrap = refl
 free Check = refl

@@ -5,9 +5,9 @@ use Rattle.clap.specs.Simple.{new_shape}
 use Rattle.clap.specs.declared.builder.action.ArgAction.TheVariants.{Set, Append}
 use Rattle.clap.specs.declared.builder.value_parser.ValueParser.TheVariants as vp
 use Rattle.dg_command.specs.Verbs.{word_of}
-use Rattle.dg_command.specs.Sizes.{network_images, last_slot, most_turns, most_room, least_motes, most_motes, least_pages, most_pages, most_step, most_id}
+use Rattle.dg_command.specs.Sizes.{last_slot, most_turns, most_room, least_motes, most_motes, least_pages, most_pages, most_step, most_id, old_form, new_form}
 use Rattle.dg_command.specs.declared.verbs.Verb.{Verb}
-use Rattle.dg_command.specs.declared.verbs.Verb.TheVariants.{Replay, Serve, Format, Inject, Order, Boot, Ping, Dump, Trial, Wrap, Check, Receive, Drip, Base}
+use Rattle.dg_command.specs.declared.verbs.Verb.TheVariants.{Replay, Serve, Format, Inject, Order, Boot, Ping, Dump, Migrate, Trial, Wrap, Check, Receive, Drip, Base}
 
 -- the largest number of 32 bits
 abbrev pub most_number : ℕ
@@ -21,10 +21,9 @@ number_option name low high = record (new_rule name) { long = Some name; require
 abbrev pub text_option : Text → Rule
 text_option name = record (new_rule name) { long = Some name; required = true; action = Some Set }
 
--- an image, a version and a seed
--- an image that a network names, or golden
-abbrev pub image_option : Rule
-image_option = number_option (codes "image") 0 network_images
+-- the form in which a chip is written, which may be left out
+abbrev pub form_option : Rule
+form_option = record (new_rule (codes "form")) { long = Some (codes "form"); action = Some Set; parser = Some (vp.Signed (pos old_form) (pos new_form)) }
 
 -- an image that a chip has a slot for
 abbrev pub slot_option : Rule
@@ -54,12 +53,13 @@ flash_words = record (new_rule (codes "FLASH")) { action = Some Append }
 abbrev pub rules_of : Verb → List Rule
 rules_of Replay = flash_words ∷ []
 rules_of Serve = number_option (codes "turns") 1 most_turns ∷ seed_option ∷ flash_words ∷ []
-rules_of Format = text_option (codes "name") ∷ number_option (codes "used") 0 most_room ∷ flash_word ∷ []
+rules_of Format = text_option (codes "name") ∷ number_option (codes "used") 0 most_room ∷ form_option ∷ flash_word ∷ []
 rules_of Inject = slot_option ∷ version_option ∷ text_option (codes "name") ∷ flash_word ∷ []
-rules_of Order = number_option (codes "number") 1 most_number ∷ image_option ∷ version_option ∷ flash_word ∷ []
+rules_of Order = number_option (codes "number") 1 most_number ∷ slot_option ∷ version_option ∷ flash_word ∷ []
 rules_of Boot = flash_word ∷ []
 rules_of Ping = flash_word ∷ []
 rules_of Dump = slot_option ∷ flash_word ∷ []
+rules_of Migrate = flash_word ∷ []
 rules_of Trial =
     number_option (codes "motes") least_motes most_motes ∷ number_option (codes "pages") least_pages most_pages ∷ seed_option ∷ []
 rules_of Wrap = []

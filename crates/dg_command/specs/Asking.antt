@@ -5,7 +5,7 @@ use Rattle.clap.specs.Words.{Kinds, Row, Text, fault_of, matches_of}
 use Rattle.clap.specs.declared.error.kind.ErrorKind.{ErrorKind}
 use Rattle.clap.specs.declared.error.kind.ErrorKind.TheVariants.{DisplayHelp, DisplayVersion}
 use Rattle.dg_command.specs.Apps.{app_for}
-use Rattle.dg_command.specs.Values.{number_at, text_at, texts_at}
+use Rattle.dg_command.specs.Values.{number_at, form_of, text_at, texts_at}
 use Rattle.dg_command.specs.Roots.{spells_root}
 use Rattle.dg_command.specs.Verbs.{verb_in}
 use Rattle.dg_command.specs.declared.verbs.Verb.{Verb}
@@ -19,12 +19,13 @@ use Rattle.dg_command.specs.declared.command.Asked.TheVariants as asked
 pub data Said : Type 0 where
   Replay : (flashes : List Text) → Said
   Serve : (turns seed : ℕ) → (flashes : List Text) → Said
-  Format : (name : Text) → (used : ℕ) → (flash : Text) → Said
+  Format : (name : Text) → (used form : ℕ) → (flash : Text) → Said
   Inject : (image version : ℕ) → (name flash : Text) → Said
   Order : (number image version : ℕ) → (flash : Text) → Said
   Boot : (flash : Text) → Said
   Ping : (flash : Text) → Said
   Dump : (image : ℕ) → (flash : Text) → Said
+  Migrate : (flash : Text) → Said
   Trial : (motes pages seed : ℕ) → Said
   Wrap : Said
   Check : (image : ℕ) → (root flash : Text) → Said
@@ -43,12 +44,13 @@ pub data Asking : Type 0 where
 abbrev pub said_by : Command → Said
 said_by (command.Replay flashes) = Replay (map string_bytes flashes.items)
 said_by (command.Serve turns seed flashes) = Serve turns seed (map string_bytes flashes.items)
-said_by (command.Format name used flash) = Format (string_bytes name) used (string_bytes flash)
+said_by (command.Format name used form flash) = Format (string_bytes name) used form (string_bytes flash)
 said_by (command.Inject image version name flash) = Inject image version (string_bytes name) (string_bytes flash)
 said_by (command.Order number image version flash) = Order number image version (string_bytes flash)
 said_by (command.Boot flash) = Boot (string_bytes flash)
 said_by (command.Ping flash) = Ping (string_bytes flash)
 said_by (command.Dump image flash) = Dump image (string_bytes flash)
+said_by (command.Migrate flash) = Migrate (string_bytes flash)
 said_by (command.Trial motes pages seed) = Trial motes pages seed
 said_by command.Wrap = Wrap
 said_by (command.Check image root flash) = Check image (string_bytes root) (string_bytes flash)
@@ -67,12 +69,13 @@ asking asked.Usage = Misuses
 abbrev pub said_at : Verb → List Row → Said
 said_at verb.Replay rows = Replay (texts_at (codes "FLASH") rows)
 said_at verb.Serve rows = Serve (number_at 32 (codes "turns") rows) (number_at 32 (codes "seed") rows) (texts_at (codes "FLASH") rows)
-said_at verb.Format rows = Format (text_at (codes "name") rows) (number_at 32 (codes "used") rows) (text_at (codes "FLASH") rows)
+said_at verb.Format rows = Format (text_at (codes "name") rows) (number_at 32 (codes "used") rows) (form_of (number_at 8 (codes "form") rows)) (text_at (codes "FLASH") rows)
 said_at verb.Inject rows = Inject (number_at 8 (codes "image") rows) (number_at 32 (codes "ver") rows) (text_at (codes "name") rows) (text_at (codes "FLASH") rows)
 said_at verb.Order rows = Order (number_at 32 (codes "number") rows) (number_at 8 (codes "image") rows) (number_at 32 (codes "ver") rows) (text_at (codes "FLASH") rows)
 said_at verb.Boot rows = Boot (text_at (codes "FLASH") rows)
 said_at verb.Ping rows = Ping (text_at (codes "FLASH") rows)
 said_at verb.Dump rows = Dump (number_at 8 (codes "image") rows) (text_at (codes "FLASH") rows)
+said_at verb.Migrate rows = Migrate (text_at (codes "FLASH") rows)
 said_at verb.Trial rows = Trial (number_at 8 (codes "motes") rows) (number_at 8 (codes "pages") rows) (number_at 32 (codes "seed") rows)
 said_at verb.Wrap rows = Wrap
 said_at verb.Check rows = Check (number_at 8 (codes "image") rows) (text_at (codes "root") rows) (text_at (codes "FLASH") rows)
@@ -83,7 +86,7 @@ said_at verb.Base rows = Base (number_at 16 (codes "id") rows) (number_at 32 (co
 
 -- whether the texts of a command have their form: the name that it gives an image is one, and so is a root
 abbrev pub is_well_formed : Said → Bool
-is_well_formed (Format name used flash) = spells_name name
+is_well_formed (Format name used form flash) = spells_name name
 is_well_formed (Inject image version name flash) = spells_name name
 is_well_formed (Check image root flash) = spells_root root
 is_well_formed (Receive image version name root flash) = spells_name name && spells_root root
@@ -114,23 +117,24 @@ answer_for verb words = by_fault (fault_of (app_for verb) words) (taken_by verb 
 unfoldable pub asked_of : List Text → Asking
 asked_of words = answer_for (verb_in words) words
 
--- ---- the files that they name; those of a service, which is still to come, are not opened
+-- ---- the files that they name
 
 abbrev pub flashes_said : Said → List Text
 flashes_said (Replay flashes) = flashes
-flashes_said (Serve turns seed flashes) = []
-flashes_said (Format name used flash) = flash ∷ []
+flashes_said (Serve turns seed flashes) = flashes
+flashes_said (Format name used form flash) = flash ∷ []
 flashes_said (Inject image version name flash) = flash ∷ []
 flashes_said (Order number image version flash) = flash ∷ []
 flashes_said (Boot flash) = flash ∷ []
 flashes_said (Ping flash) = flash ∷ []
 flashes_said (Dump image flash) = flash ∷ []
+flashes_said (Migrate flash) = flash ∷ []
 flashes_said (Trial motes pages seed) = []
 flashes_said Wrap = []
 flashes_said (Check image root flash) = flash ∷ []
 flashes_said (Receive image version name root flash) = flash ∷ []
 flashes_said Drip = []
-flashes_said (Base id step seed flash) = []
+flashes_said (Base id step seed flash) = flash ∷ []
 
 abbrev pub flashes_of : Asking → List Text
 flashes_of (Asks said) = flashes_said said

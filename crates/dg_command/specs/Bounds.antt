@@ -1,17 +1,18 @@
 -- The ranges of a command's values.
-use Rattle.std.specs.Prelude.{◌≡◌, ◌≤◌, ⊤, true}
-use Rattle.dg_command.specs.Asking.{Said, Replay, Serve, Format, Inject, Order, Boot, Ping, Dump, Trial, Wrap, Check, Receive, Drip, Base, Asking, Asks, Helps, Misuses, is_well_formed}
-use Rattle.dg_command.specs.Sizes.{network_images, last_slot, most_turns, most_room, least_motes, most_motes, least_pages, most_pages, most_step, most_id}
+use Rattle.std.specs.Prelude.{◌≡◌, ◌⊎◌, ◌≤◌, ⊤, true}
+use Rattle.dg_command.specs.Asking.{Said, Replay, Serve, Format, Inject, Order, Boot, Ping, Dump, Migrate, Trial, Wrap, Check, Receive, Drip, Base, Asking, Asks, Helps, Misuses, is_well_formed}
+use Rattle.dg_command.specs.Sizes.{last_slot, most_turns, most_room, least_motes, most_motes, least_pages, most_pages, most_step, most_id, old_form, new_form}
 
 abbrev pub IsInRange : Said → Type 0
 IsInRange (Replay flashes) = ⊤
 IsInRange (Serve turns seed flashes) = (1 ≤ turns) × (turns ≤ most_turns)
-IsInRange (Format name used flash) = used ≤ most_room
+IsInRange (Format name used form flash) = (used ≤ most_room) × ((form ≡ old_form) ⊎ (form ≡ new_form))
 IsInRange (Inject image version name flash) = (image ≤ last_slot) × (1 ≤ version)
-IsInRange (Order number image version flash) = (1 ≤ number) × (image ≤ network_images) × (1 ≤ version)
+IsInRange (Order number image version flash) = (1 ≤ number) × (image ≤ last_slot) × (1 ≤ version)
 IsInRange (Boot flash) = ⊤
 IsInRange (Ping flash) = ⊤
 IsInRange (Dump image flash) = image ≤ last_slot
+IsInRange (Migrate flash) = ⊤
 IsInRange (Trial motes pages seed) = (least_motes ≤ motes) × (motes ≤ most_motes) × (least_pages ≤ pages) × (pages ≤ most_pages)
 IsInRange Wrap = ⊤
 IsInRange (Check image root flash) = image ≤ last_slot

@@ -1,8 +1,8 @@
 -- The ranges of a command's numbers. Those of this profile that stand here are the program's own.
 use Rattle.std.specs.Prelude.{ℕ, ◌-◌, ◌*◌}
-pub use Rattle.dg_base.specs.Sizes.{most_motes, network_images}
+pub use Rattle.dg_base.specs.Sizes.{most_motes}
 pub use Rattle.dg_object.specs.Sizes.{slots, most_pages}
-pub use Rattle.dg_control.specs.Sizes.{most_room}
+pub use Rattle.dg_control.specs.Sizes.{most_room, old_form, new_form}
 
 -- the last slot of a chip: images are put into one, and read from one, by its number
 abbrev pub last_slot : ℕ

@@ -1,7 +1,8 @@
 -- The values of a command that `clap` read, by the names of its options.
-use Rattle.std.specs.Prelude.{ℕ, ◌^◌, ◌&&◌, nat_lt, if◌then◌else◌, List, [], Option, Some, None, option_and_then, unwrap_or}
+use Rattle.std.specs.Prelude.{ℕ, ◌^◌, ◌==◌, ◌&&◌, nat_lt, if◌then◌else◌, List, [], Option, Some, None, option_and_then, unwrap_or}
 use Rattle.std.specs.Str.Parse.{digits_value, without_leading_plus}
 use Rattle.clap.specs.ValueTests.{is_numeral}
+use Rattle.dg_command.specs.Sizes.{old_form, new_form}
 use Rattle.clap.specs.Words.{Row, Text, all_of, first_of, one_of}
 
 -- the number that a text writes, below 2 ^ bits: decimal digits, before which a plus may stand
@@ -13,6 +14,10 @@ number_in bits text =
 -- the number under a name, or 0 where there is none
 unfoldable pub number_at : ℕ → Text → List Row → ℕ
 number_at bits name rows = unwrap_or (option_and_then (number_in bits) (one_of name rows)) 0
+
+-- the form of a chip: the older one where it is asked for, and today's where none is
+abbrev pub form_of : ℕ → ℕ
+form_of n = if n == old_form then old_form else new_form
 
 -- the text under a name, or the empty one
 unfoldable pub text_at : Text → List Row → Text

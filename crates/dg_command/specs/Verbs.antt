@@ -1,7 +1,7 @@
 -- The verbs of the program, and their words.
 use Rattle.std.specs.Prelude.{ℕ, if◌then◌else◌, List, [], ◌∷◌, codes, bytes_eq, Option, Some, None}
 use Rattle.dg_command.specs.declared.verbs.Verb.{Verb}
-use Rattle.dg_command.specs.declared.verbs.Verb.TheVariants.{Replay, Serve, Format, Inject, Order, Boot, Ping, Dump, Trial, Wrap, Check, Receive, Drip, Base}
+use Rattle.dg_command.specs.declared.verbs.Verb.TheVariants.{Replay, Serve, Format, Inject, Order, Boot, Ping, Dump, Migrate, Trial, Wrap, Check, Receive, Drip, Base}
 
 abbrev pub word_of : Verb → List ℕ
 word_of Replay = codes "replay"
@@ -12,6 +12,7 @@ word_of Order = codes "order"
 word_of Boot = codes "boot"
 word_of Ping = codes "ping"
 word_of Dump = codes "dump"
+word_of Migrate = codes "migrate"
 word_of Trial = codes "trial"
 word_of Wrap = codes "wrap"
 word_of Check = codes "check"
@@ -30,6 +31,7 @@ verb_of word =
     else if bytes_eq word (codes "boot") then Some Boot
     else if bytes_eq word (codes "ping") then Some Ping
     else if bytes_eq word (codes "dump") then Some Dump
+    else if bytes_eq word (codes "migrate") then Some Migrate
     else if bytes_eq word (codes "trial") then Some Trial
     else if bytes_eq word (codes "wrap") then Some Wrap
     else if bytes_eq word (codes "check") then Some Check

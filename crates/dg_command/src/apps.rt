@@ -1,33 +1,36 @@
 //! The commands of `clap`, one for each verb, and the one for words without a verb.
 ghost use Rattle.std.specs.Prelude.{◌≡◌, false, IfOk, map, Some};
 ghost use Rattle.clap.specs.Words.{app_of, rule_of};
-ghost use Rattle.dg_command.specs.Apps.{app_for, app_of_verb, flash_word, flash_words, image_option, number_option, other_slot_option, root_option, rules_of, seed_option, slot_option, text_option, top_app, version_option};
+ghost use Rattle.dg_command.specs.Apps.{app_for, app_of_verb, flash_word, flash_words, form_option, number_option, other_slot_option, root_option, rules_of, seed_option, slot_option, text_option, top_app, version_option};
 
 use crate::ranges::{LEAST_MOTES, LEAST_PAGES, MOST_STEP, MOST_TURNS};
 use crate::verbs::Verb;
 use clap::{Arg, ArgAction, Command, value_parser};
-use dg_base::{MOST_MOTES, NETWORK_IMAGES};
-use dg_control::MOST_ROOM;
+use dg_base::MOST_MOTES;
+use dg_control::{FORM, MOST_ROOM, OLD_FORM};
 use dg_object::{MOST_PAGES, SLOTS};
 use std::alloc::{AllocError, Global};
 
 const VERSION: &str = "0.9";
 
-const IMAGE: &str = "The image, 0 to 3; 0 is golden";
+const IMAGE: &str = "The image, 0 to 6; 0 is golden";
 
 const VERBS: &str = "Commands:
   replay [FLASH]..                                        replay a script over boards
-  format --name NAME --used U FLASH                       make a chip with a golden image
+  serve --turns T --seed S [FLASH]..                      run the motes of a network profile
+  format --name NAME --used U [--form F] FLASH            make a chip with a golden image
   inject --image I --ver V --name NAME FLASH              put an image into a chip
   order --number K --image I --ver V FLASH                keep an order in a chip
   boot FLASH                                              start a chip
   ping FLASH                                              tell what a chip keeps
   dump --image I FLASH                                    write an image of a chip
+  migrate FLASH                                           write a chip of form 1 in form 2
   trial --motes N --pages P --seed S                      play a schedule that a seed makes
   wrap                                                    make a hash-chained image
   check --image I --root HEX FLASH                        test an image of a chip against its root
   receive --image I --ver V --name NAME --root HEX FLASH  put a hash-chained image into a chip
-  drip                                                    replay a script of small values";
+  drip                                                    replay a script of small values
+  base --id I --step D --seed S FLASH                     run a mote on a serial line";
 
 /// An option that must be there, whose value is a number within bounds.
 fn number<'a>(alloc: Global, name: &'a str, help: &'a str, low: u32, high: u32) -> Arg<'a>
@@ -71,11 +74,15 @@ fn flashes<'a>(alloc: Global) -> Arg<'a>
         .action(ArgAction::Append)
 }
 
-/// The number of an image that a network names.
-fn image<'a>(alloc: Global) -> Arg<'a>
-    ensures { rule_of result ≡ image_option }
+/// The form in which a chip is written.
+fn form<'a>(alloc: Global) -> Arg<'a>
+    ensures { rule_of result ≡ form_option }
 {
-    number(alloc, "image", IMAGE, 0, u32::from(NETWORK_IMAGES))
+    Arg::new(alloc, "form")
+        .long("form")
+        .help("The form in which the chip is written, 1 or 2; 2 where none is given")
+        .action(ArgAction::Set)
+        .value_parser(value_parser!(u32).range(i64::from(OLD_FORM)..=i64::from(FORM)))
 }
 
 /// The number of an image that a chip has a slot for.
@@ -89,7 +96,7 @@ fn slot<'a>(alloc: Global) -> Arg<'a>
 fn other_slot<'a>(alloc: Global) -> Arg<'a>
     ensures { rule_of result ≡ other_slot_option }
 {
-    number(alloc, "image", "The image, 1 to 3", 1, u32::from(SLOTS - 1))
+    number(alloc, "image", "The image, 1 to 6", 1, u32::from(SLOTS - 1))
 }
 
 /// The root of a chain.
@@ -133,7 +140,7 @@ fn arguments<'a>(alloc: Global, verb: Verb) -> Result<Vec<Arg<'a>>, AllocError>
         Verb::Format => format_arguments(alloc),
         Verb::Inject => inject_arguments(alloc),
         Verb::Order => order_arguments(alloc),
-        Verb::Boot | Verb::Ping => Ok(vec![in alloc; flash(alloc)]?),
+        Verb::Boot | Verb::Ping | Verb::Migrate => Ok(vec![in alloc; flash(alloc)]?),
         Verb::Dump => Ok(vec![in alloc; slot(alloc), flash(alloc)]?),
         Verb::Trial => trial_arguments(alloc),
         Verb::Wrap | Verb::Drip => Ok(Vec::new(alloc)),
@@ -165,7 +172,7 @@ fn format_arguments<'a>(alloc: Global) -> Result<Vec<Arg<'a>>, AllocError>
         0,
         MOST_ROOM,
     );
-    Ok(vec![in alloc; name, used, flash(alloc)]?)
+    Ok(vec![in alloc; name, used, form(alloc), flash(alloc)]?)
 }
 
 fn inject_arguments<'a>(alloc: Global) -> Result<Vec<Arg<'a>>, AllocError>
@@ -189,7 +196,7 @@ fn order_arguments<'a>(alloc: Global) -> Result<Vec<Arg<'a>>, AllocError>
         1,
         u32::MAX,
     );
-    Ok(vec![in alloc; order, image(alloc), version(alloc), flash(alloc)]?)
+    Ok(vec![in alloc; order, slot(alloc), version(alloc), flash(alloc)]?)
 }
 
 fn trial_arguments<'a>(alloc: Global) -> Result<Vec<Arg<'a>>, AllocError>
@@ -260,6 +267,7 @@ fn description<'a>(verb: Verb) -> (&'a str, &'a str) {
         Verb::Boot => ("deluge boot", "Starts a chip, as a power-on does"),
         Verb::Ping => ("deluge ping", "Tells what a chip keeps"),
         Verb::Dump => ("deluge dump", "Writes an image of a chip as Intel HEX"),
+        Verb::Migrate => ("deluge migrate", "Writes a chip of form 1 in form 2"),
         Verb::Trial => ("deluge trial", "Plays a schedule that a seed makes"),
         Verb::Wrap => ("deluge wrap", "Makes a hash-chained image of a payload"),
         Verb::Check => ("deluge check", "Tests an image of a chip against its root"),

@@ -18,6 +18,8 @@ pub enum Command {
         name: String,
         /// The commits that are told as spent.
         used: u32,
+        /// The form in which the chip is written, 1 or 2.
+        form: u8,
         flash: String,
     },
     /// Puts an image into a chip.
@@ -45,6 +47,10 @@ pub enum Command {
     /// Writes an image of a chip.
     Dump {
         image: u8,
+        flash: String,
+    },
+    /// Writes a chip of form 1 in form 2.
+    Migrate {
         flash: String,
     },
     /// Replays a schedule that a seed makes.

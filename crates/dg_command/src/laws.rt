@@ -3,7 +3,7 @@ ghost use Rattle.std.specs.Prelude.{◌≡◌, ◌≢◌, ℕ, true, List, [], �
 ghost use Rattle.clap.specs.Words.{fault_of, matches_of};
 ghost use Rattle.dg_command.specs.Apps.{app_of_verb};
 ghost use Rattle.dg_command.specs.Asking.{Asking, Asks, Helps, Misuses, Said, asked_of, is_well_formed, said_at};
-ghost use Rattle.dg_command.specs.Asking.{Replay, Serve, Format, Inject, Order, Boot, Ping, Dump, Trial, Wrap, Check, Receive, Drip, Base};
+ghost use Rattle.dg_command.specs.Asking.{Replay, Serve, Format, Inject, Order, Boot, Ping, Dump, Migrate, Trial, Wrap, Check, Receive, Drip, Base};
 ghost use Rattle.dg_command.specs.Laws.{line};
 ghost use Rattle.dg_command.specs.Verbs.{verb_in};
 ghost use Rattle.dg_command.specs.declared.verbs.Verb.{Verb};
@@ -13,7 +13,10 @@ pub fn lines_are_commands()
     ensures replay { asked_of (line (codes "replay a b")) ≡ Asks (Replay (codes "a" ∷ codes "b" ∷ [])) }
     ensures in_memory { asked_of (line (codes "replay")) ≡ Asks (Replay []) }
     ensures serve { asked_of (line (codes "serve --turns 50 --seed 7 a")) ≡ Asks (Serve 50 7 (codes "a" ∷ [])) }
-    ensures format { asked_of (line (codes "format --name base --used 0 f")) ≡ Asks (Format (codes "base") 0 (codes "f")) }
+    ensures format { asked_of (line (codes "format --name base --used 0 f")) ≡ Asks (Format (codes "base") 0 2 (codes "f")) }
+    ensures old_form { asked_of (line (codes "format --name base --used 0 --form 1 f")) ≡ Asks (Format (codes "base") 0 1 (codes "f")) }
+    ensures last_image { asked_of (line (codes "order --number 1 --image 6 --ver 1 f")) ≡ Asks (Order 1 6 1 (codes "f")) }
+    ensures migrate { asked_of (line (codes "migrate f")) ≡ Asks (Migrate (codes "f")) }
     ensures inject { asked_of (line (codes "inject --image 1 --ver 2 --name app f")) ≡ Asks (Inject 1 2 (codes "app") (codes "f")) }
     ensures order { asked_of (line (codes "order --number 1 --image 1 --ver 1 f")) ≡ Asks (Order 1 1 1 (codes "f")) }
     ensures boot { asked_of (line (codes "boot f")) ≡ Asks (Boot (codes "f")) }
@@ -55,7 +58,8 @@ pub fn misused_words()
     ensures unknown { asked_of (line (codes "fly")) ≡ Misuses }
     ensures missing { asked_of (line (codes "order --number 1 --image 1 --ver 1")) ≡ Misuses }
     ensures twice { asked_of (line (codes "order --number 1 --number 1 --image 1 --ver 1 f")) ≡ Misuses }
-    ensures too_high { asked_of (line (codes "dump --image 4 f")) ≡ Misuses }
+    ensures too_high { asked_of (line (codes "dump --image 7 f")) ≡ Misuses }
+    ensures no_form { asked_of (line (codes "format --name base --used 0 --form 3 f")) ≡ Misuses }
     ensures too_low { asked_of (line (codes "order --number 0 --image 1 --ver 1 f")) ≡ Misuses }
     ensures name { asked_of (line (codes "format --name a/b --used 0 f")) ≡ Misuses }
     ensures short_root { asked_of (line (codes "check --image 1 --root 58e5 f")) ≡ Misuses }

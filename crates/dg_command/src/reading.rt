@@ -7,7 +7,7 @@ ghost use Rattle.dg_command.specs.Asking.{asked_of, asking, flashes_of, flashes_
 use crate::apps::command_for;
 use crate::command::{Asked, Command};
 use crate::roots::is_root;
-use crate::values::{number, short_number, small_number, text, texts};
+use crate::values::{form, number, short_number, small_number, text, texts};
 use crate::verbs::Verb;
 use clap::error::ErrorKind;
 use clap::{ArgMatches, Error};
@@ -50,11 +50,12 @@ fn flashes(alloc: Global, command: Command) -> Result<Vec<String>, AllocError>
         Command::Serve {
             turns: _turns,
             seed: _seed,
-            flashes: _flashes,
-        } => Ok(Vec::new(alloc)),
+            flashes,
+        } => Ok(flashes),
         Command::Format {
             name: _name,
             used: _used,
+            form: _form,
             flash,
         } => one(alloc, flash),
         Command::Inject {
@@ -71,6 +72,7 @@ fn flashes(alloc: Global, command: Command) -> Result<Vec<String>, AllocError>
         } => one(alloc, flash),
         Command::Boot { flash } => one(alloc, flash),
         Command::Ping { flash } => one(alloc, flash),
+        Command::Migrate { flash } => one(alloc, flash),
         Command::Dump {
             image: _image,
             flash,
@@ -98,8 +100,8 @@ fn flashes(alloc: Global, command: Command) -> Result<Vec<String>, AllocError>
             id: _id,
             step: _step,
             seed: _seed,
-            flash: _flash,
-        } => Ok(Vec::new(alloc)),
+            flash,
+        } => one(alloc, flash),
     }
 }
 
@@ -175,6 +177,7 @@ fn command_at(alloc: Global, verb: Verb, matches: &ArgMatches<'_>) -> Result<Com
         Verb::Format => Ok(Command::Format {
             name: text(alloc, matches, "name")?,
             used: number(matches, "used"),
+            form: form(matches, "form"),
             flash: text(alloc, matches, "FLASH")?,
         }),
         Verb::Inject => Ok(Command::Inject {
@@ -197,6 +200,9 @@ fn command_at(alloc: Global, verb: Verb, matches: &ArgMatches<'_>) -> Result<Com
         }),
         Verb::Dump => Ok(Command::Dump {
             image: small_number(matches, "image"),
+            flash: text(alloc, matches, "FLASH")?,
+        }),
+        Verb::Migrate => Ok(Command::Migrate {
             flash: text(alloc, matches, "FLASH")?,
         }),
         Verb::Trial => Ok(Command::Trial {

@@ -5,7 +5,7 @@ use std::test::Fail;
 
 // Word lists, with one space between words, and what they ask for: a command's values in the order of
 // its fields and its flash files, `help` or `usage`.
-static COMMANDS: [(&str, &str); 27] = [
+static COMMANDS: [(&str, &str); 31] = [
     ("replay", "replay []"),
     ("replay a", "replay [\"a\"]"),
     ("replay b a b", "replay [\"b\", \"a\", \"b\"]"),
@@ -16,24 +16,32 @@ static COMMANDS: [(&str, &str); 27] = [
     ("serve --turns 1 --seed 0", "serve 1 0 []"),
     (
         "serve --seed 4294967295 a --turns 1000000 b",
-        "serve 1000000 4294967295 []",
+        "serve 1000000 4294967295 [\"a\", \"b\"]",
     ),
-    ("format --name base --used 0 f", "format base 0 [\"f\"]"),
+    ("format --name base --used 0 f", "format base 0 2 [\"f\"]"),
     (
         "format --used=520223 --name=A-b_9.z f",
-        "format A-b_9.z 520223 [\"f\"]",
+        "format A-b_9.z 520223 2 [\"f\"]",
     ),
     (
         "format --name 0123456789abcdef --used 1 f",
-        "format 0123456789abcdef 1 [\"f\"]",
+        "format 0123456789abcdef 1 2 [\"f\"]",
+    ),
+    (
+        "format --form 1 --name base --used 0 f",
+        "format base 0 1 [\"f\"]",
+    ),
+    (
+        "format --name base --used 0 f --form=2",
+        "format base 0 2 [\"f\"]",
     ),
     (
         "inject --image 0 --ver 1 --name n f",
         "inject 0 1 n [\"f\"]",
     ),
     (
-        "inject f --name=n --ver=4294967295 --image=3",
-        "inject 3 4294967295 n [\"f\"]",
+        "inject f --name=n --ver=4294967295 --image=6",
+        "inject 6 4294967295 n [\"f\"]",
     ),
     (
         "order --number 1 --image 1 --ver 1 f",
@@ -47,18 +55,23 @@ static COMMANDS: [(&str, &str); 27] = [
         "order --number 1 --image=-0 --ver 1 f",
         "order 1 0 1 [\"f\"]",
     ),
+    (
+        "order --number 1 --image 6 --ver 1 f",
+        "order 1 6 1 [\"f\"]",
+    ),
+    ("migrate f", "migrate [\"f\"]"),
     ("boot f", "boot [\"f\"]"),
     ("boot -- --help", "boot [\"--help\"]"),
     ("ping chip.bin", "ping [\"chip.bin\"]"),
-    ("dump --image 3 f", "dump 3 [\"f\"]"),
+    ("dump --image 6 f", "dump 6 [\"f\"]"),
     ("dump f --image 0", "dump 0 [\"f\"]"),
     ("trial --motes 2 --pages 65 --seed 0", "trial 2 65 0 []"),
     ("trial --seed 7 --pages 2 --motes 16", "trial 16 2 7 []"),
     ("wrap", "wrap []"),
     ("drip", "drip []"),
     (
-        "check --image 3 --root 58E59bcd00000000000000000000000000000000000000000000000000000000 f",
-        "check 3 58E59bcd00000000000000000000000000000000000000000000000000000000 [\"f\"]",
+        "check --image 6 --root 58E59bcd00000000000000000000000000000000000000000000000000000000 f",
+        "check 6 58E59bcd00000000000000000000000000000000000000000000000000000000 [\"f\"]",
     ),
     (
         "receive --image 1 --ver 2 --name n --root 58E59bcd00000000000000000000000000000000000000000000000000000000 f",
@@ -66,12 +79,12 @@ static COMMANDS: [(&str, &str); 27] = [
     ),
     (
         "base --id 65535 --step 60000 --seed 7 f",
-        "base 65535 60000 7 []",
+        "base 65535 60000 7 [\"f\"]",
     ),
-    ("base --id 0 --step 1 --seed 0 f", "base 0 1 0 []"),
+    ("base --id 0 --step 1 --seed 0 f", "base 0 1 0 [\"f\"]"),
 ];
 
-static OTHERS: [(&str, &str); 44] = [
+static OTHERS: [(&str, &str); 49] = [
     ("", "usage"),
     ("fly", "usage"),
     ("Replay", "usage"),
@@ -88,7 +101,7 @@ static OTHERS: [(&str, &str); 44] = [
     ("format --name= --used 0 f", "usage"),
     ("format --name a/b --used 0 f", "usage"),
     ("format --name base f", "usage"),
-    ("inject --image 4 --ver 1 --name n f", "usage"),
+    ("inject --image 7 --ver 1 --name n f", "usage"),
     ("inject --image 1 --ver 0 --name n f", "usage"),
     ("order --number 1 --image 1 --ver 1", "usage"),
     ("order --number 1 --image 1 --ver 1 f g", "usage"),
@@ -96,7 +109,12 @@ static OTHERS: [(&str, &str); 44] = [
     ("order --number 1 --number 1 --image 1 --ver 1 f", "usage"),
     ("order --number 1x --image 1 --ver 1 f", "usage"),
     ("order --number -1 --image 1 --ver 1 f", "usage"),
+    ("order --number 1 --image 7 --ver 1 f", "usage"),
     ("boot", "usage"),
+    ("migrate", "usage"),
+    ("migrate f g", "usage"),
+    ("format --name base --used 0 --form 0 f", "usage"),
+    ("format --name base --used 0 --form 3 f", "usage"),
     ("trial --motes 1 --pages 2 --seed 0", "usage"),
     ("trial --motes 17 --pages 2 --seed 0", "usage"),
     ("trial --motes 2 --pages 66 --seed 0", "usage"),
@@ -104,7 +122,7 @@ static OTHERS: [(&str, &str); 44] = [
     ("wrap f", "usage"),
     ("drip f", "usage"),
     (
-        "check --image 4 --root 58E59bcd00000000000000000000000000000000000000000000000000000000 f",
+        "check --image 7 --root 58E59bcd00000000000000000000000000000000000000000000000000000000 f",
         "usage",
     ),
     (
@@ -146,7 +164,12 @@ fn values(rt: &HostRuntime, command: &Command) -> Result<String, Fail> {
     match command {
         Command::Replay { .. } => Ok(String::from_str(alloc, "replay")?),
         Command::Serve { turns, seed, .. } => Ok(format!(in alloc; "serve {turns} {seed}")?),
-        Command::Format { name, used, .. } => Ok(format!(in alloc; "format {name} {used}")?),
+        Command::Format {
+            name,
+            used,
+            form,
+            ..
+        } => Ok(format!(in alloc; "format {name} {used} {form}")?),
         Command::Inject {
             image,
             version,
@@ -162,6 +185,7 @@ fn values(rt: &HostRuntime, command: &Command) -> Result<String, Fail> {
         Command::Boot { .. } => Ok(String::from_str(alloc, "boot")?),
         Command::Ping { .. } => Ok(String::from_str(alloc, "ping")?),
         Command::Dump { image, .. } => Ok(format!(in alloc; "dump {image}")?),
+        Command::Migrate { .. } => Ok(String::from_str(alloc, "migrate")?),
         Command::Trial { motes, pages, seed } => {
             Ok(format!(in alloc; "trial {motes} {pages} {seed}")?)
         }

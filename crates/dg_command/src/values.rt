@@ -1,9 +1,10 @@
 //! The values of a command that `clap` read.
 ghost use Rattle.std.specs.Prelude.{◌≡◌, IfOk, map, string_bytes};
 ghost use Rattle.clap.specs.Words.{found_of, rows_of};
-ghost use Rattle.dg_command.specs.Values.{number_at, text_at, texts_at};
+ghost use Rattle.dg_command.specs.Values.{number_at, form_of, text_at, texts_at};
 
 use clap::ArgMatches;
+use dg_control::{FORM, OLD_FORM};
 use std::alloc::{AllocError, Global};
 
 /// The number under a name.
@@ -25,6 +26,17 @@ pub fn small_number(matches: &ArgMatches<'_>, name: &str) -> u8
     ensures { result ≡ number_at 8 name.now (rows_of (found_of matches.now)) }
 {
     matches.get_one::<u8>(name).unwrap_or(0)
+}
+
+/// The form of a chip under a name: form 1 where it is asked for, and else form 2.
+pub fn form(matches: &ArgMatches<'_>, name: &str) -> u8
+    ensures { result ≡ form_of (number_at 8 name.now (rows_of (found_of matches.now))) }
+{
+    if small_number(matches, name) == OLD_FORM {
+        OLD_FORM
+    } else {
+        FORM
+    }
 }
 
 /// The text under a name.

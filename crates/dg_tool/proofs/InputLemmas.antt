@@ -170,14 +170,13 @@ pub reads_spelled : {T : Type 0} (view : T → List ℕ) (r : Result T Stop) (in
 reads_spelled view (Ok x) input at_end failed h e = (h, e)
 reads_spelled view (Err stop) input at_end failed h e = none_spelled stop input at_end failed h e
 
--- the same of a text that was read as it stands in memory
-pub image_read : {T : Type 0} (view : T → List ℕ) (r : Result T Stop) (shown text input : List ℕ) (before after : Option (List ℕ)) (reads_before reads_after : ℕ) → shown ≡ text → text ≡ input → Takes before after input → length input ≤ most_input + 1 → (AtEnd after ⊎ (most_input < length text)) → Spells view r shown → reads_after ≡ reads_before
+pub image_read : {T : Type 0} (view : T → List ℕ) (r : Result T Stop) (input : List ℕ) (before after : Option (List ℕ)) (reads_before reads_after : ℕ) → Takes before after input → length input ≤ most_input + 1 → (AtEnd after ⊎ (most_input < length input)) → Spells view r input → reads_after ≡ reads_before
     → ImageRead view r before after reads_before reads_after
-image_read view r shown text input before after reads_before reads_after alike same taken few enough spells calm = record {
+image_read view r input before after reads_before reads_after taken few enough spells calm = record {
   input = input;
   taken = taken;
   few_bytes = few;
-  reads = reads_spelled view r input (AtEnd after) (Rose reads_before reads_after) (subst (λ (x : List ℕ). Spells view r x) (alike ∙ same) spells) (subst (λ (x : List ℕ). AtEnd after ⊎ (most_input < length x)) same enough);
+  reads = reads_spelled view r input (AtEnd after) (Rose reads_before reads_after) spells enough;
   read_faults = λ _. calm;
 }
 

@@ -6,3 +6,4 @@ pub mod PageLemmas
 pub mod TextLemmas
 pub mod VerbLemmas
 pub mod KeptLemmas
+pub mod MigrateLemmas

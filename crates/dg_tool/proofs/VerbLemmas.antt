@@ -119,7 +119,7 @@ module _ {T : Type 0} (view : T → List ℕ) (used : ℕ) (golden : List ℕ) (
 
 -- ---- a trail of the board's store
 
-went : (t : Trail Store) (a b : Device) (v : Volume) → Acted t a b v → Went t a b
+pub went : (t : Trail Store) (a b : Device) (v : Volume) → Acted t a b v → Went t a b
 went t a b v h = record { ran = h.ran; stands = h.mounted.stands }
 
 pub went_looked : (t : Trail Store) (a m b : Device) → Looked a m → Went t m b → Went t a b

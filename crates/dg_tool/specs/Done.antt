@@ -8,10 +8,13 @@ use Rattle.dg_base.specs.declared.answers.Status.TheVariants.{Done, Memory, Usag
 use Rattle.dg_nor.specs.Device.{Device, Ran, Halted}
 use Rattle.dg_nor.specs.Reads.{Looked, ReadStopped}
 use Rattle.dg_nor.specs.Trail.{Trail, operations, last}
+use Rattle.dg_control.specs.Store.{HasForm}
 use Rattle.dg_slot.specs.Pages.{program}
 use Rattle.dg_volume.specs.Acts.{Stops}
 use Rattle.dg_volume.specs.Formatting.{format_operations, GoldenFirst}
 use Rattle.dg_volume.specs.Start.{Boot}
+use Rattle.dg_volume.specs.Sizes.{new_form}
+use Rattle.dg_volume.specs.Trails.{migrate_trail}
 use Rattle.dg_volume.specs.Store.{Store, fresh, golden_row}
 use Rattle.dg_volume.specs.Stands.{Stands}
 use Rattle.dg_tool.specs.Endings.{Ending, Ends, NoBoards, Over, FaultAt, Unfit, NoVolume, Refuses, Breaks, LacksImage, status_of, text_of}
@@ -33,10 +36,20 @@ abbrev pub StopsOn : (Store → Trail Store) → Option Store → Device → Dev
 StopsOn trail None a b = ReadStopped a b
 StopsOn trail (Some s) a b = Stops (trail s) a b
 
--- the board is a volume that keeps golden alone
-pub record IsFormatted (name golden : List ℕ) (used : ℕ) (a b : Device) : Type 0 where
+-- the board was migrated, and its last commit is written in today's form
+pub record Migrated (form : ℕ) (s : Store) (a b : Device) : Type 0 where
+  pub went : Went (migrate_trail form s) a b
+  pub written : HasForm b.image new_form
+
+abbrev pub MigratedOn : ℕ → Option Store → Device → Device → Type 0
+MigratedOn form None a b = ⊥
+MigratedOn form (Some s) a b = Migrated form s a b
+
+-- the board is a volume that keeps golden alone, in this form
+pub record IsFormatted (name golden : List ℕ) (used form : ℕ) (a b : Device) : Type 0 where
   pub ran : Ran (format_operations (length golden) used) a b
   pub stands : Stands b.image (fresh name golden used)
+  pub written : HasForm b.image form
 
 -- Formatting was stopped. Golden stands whole in its slot, or nothing but that slot was touched.
 pub record FormatStops (name golden : List ℕ) (used : ℕ) (a b : Device) : Type 0 where

@@ -8,8 +8,9 @@ use Rattle.dg_ihex.specs.Causes.{cause_text}
 use Rattle.dg_ihex.specs.Files.{hex_file}
 use Rattle.dg_ihex.specs.declared.faults.HexFileFault.{HexFileFault}
 use Rattle.dg_nor.specs.Device.{Device}
+use Rattle.dg_control.specs.Store.{HasForm}
 use Rattle.dg_volume.specs.Store.{Store}
-use Rattle.dg_volume.specs.Stands.{Stands, IsNoVolume}
+use Rattle.dg_volume.specs.Stands.{Stands, IsVolume, IsNoVolume}
 use Rattle.dg_tool.specs.declared.refusal.Refusal.{Refusal}
 use Rattle.dg_tool.specs.declared.refusal.Refusal.TheVariants as refusals
 use Rattle.dg_tool.specs.Texts.{numbers, line}
@@ -117,3 +118,8 @@ StandsAs image (Some s) = Stands image s
 abbrev pub FirstAs : List Device → Option Store → Type 0
 FirstAs [] chip = Unit {0}
 FirstAs (board ∷ boards) chip = StandsAs board.image chip
+
+-- where the first board is a volume, its last commit is written in this form
+abbrev pub FirstInForm : ℕ → List Device → Type 0
+FirstInForm form [] = Unit {0}
+FirstInForm form (board ∷ boards) = IsVolume board.image → HasForm board.image form

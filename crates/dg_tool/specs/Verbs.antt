@@ -1,12 +1,12 @@
 -- What the verbs over the first board do, by the bytes of the input and by what the board stands for.
-use Rattle.std.specs.Prelude.{ℕ, ◌==◌, ◌-◌, nat_lt, Bool, true, false, if◌then◌else◌, List, [], ◌∷◌, ◌++◌, length, codes, ◌/◌, ◌%◌, Option, Some, None}
+use Rattle.std.specs.Prelude.{ℕ, ◌==◌, ◌&&◌, ◌-◌, nat_lt, Bool, true, false, if◌then◌else◌, List, [], ◌∷◌, ◌++◌, length, codes, ◌/◌, ◌%◌, Option, Some, None}
 use Rattle.std.specs.List.{flat_map, range_with_len}
 use Rattle.dg_base.specs.Hexadecimal.{hex_text}
 use Rattle.dg_object.specs.Object.{Row, pages_for}
 use Rattle.dg_control.specs.declared.snapshot.Order.{Order}
 use Rattle.dg_slot.specs.Kept.{Held}
 use Rattle.dg_slot.specs.Layout.{most_bytes}
-use Rattle.dg_volume.specs.Sizes.{images, most_room}
+use Rattle.dg_volume.specs.Sizes.{images, most_room, old_form, new_form}
 use Rattle.dg_volume.specs.Store.{Store, App, held}
 use Rattle.dg_volume.specs.Start.{Boot, Runs, boot, length_in, runs_length, runs_crc}
 use Rattle.dg_volume.specs.Changes.{inject_refusal, order_refusal}
@@ -106,6 +106,21 @@ boot_on chip = by_store chip (λ s. boot_by (power_boot s).runs)
 
 abbrev pub boot_ending : (boards : ℕ) → Option Store → Ending
 boot_ending boards chip = by_boards boards (boot_on chip)
+
+-- ---- migrate
+
+abbrev pub form_told : List ℕ
+form_told = line (codes "form" ++ numbers (new_form ∷ []))
+
+-- a chip of the older form takes one commit
+abbrev pub migrate_by : (form : ℕ) → Store → Ending
+migrate_by form s = if (form == old_form) && (s.room == 0) then Refuses (refusals.Worn s.room) else Ends form_told
+
+abbrev pub migrate_on : (form : ℕ) → Option Store → Ending
+migrate_on form chip = by_store chip (migrate_by form)
+
+abbrev pub migrate_ending : (boards form : ℕ) → Option Store → Ending
+migrate_ending boards form chip = by_boards boards (migrate_on form chip)
 
 -- ---- ping
 

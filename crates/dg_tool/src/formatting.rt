@@ -1,7 +1,7 @@
 //! The verb `format`.
-ghost use Rattle.std.specs.Prelude.{◌≡◌, ◌≤◌, ◌<◌, ℕ, List, map, length, IsTrue};
+ghost use Rattle.std.specs.Prelude.{◌≡◌, ◌⊎◌, ◌≤◌, ◌<◌, ℕ, List, map, length, IsTrue};
 ghost use Rattle.dg_base.specs.Texts.{spells_name};
-ghost use Rattle.dg_volume.specs.Sizes.{most_room};
+ghost use Rattle.dg_volume.specs.Sizes.{most_room, old_form, new_form};
 ghost use Rattle.dg_tool.specs.Endings.{content_in};
 ghost use Rattle.dg_tool.specs.Verbs.{format_sized, format_ending};
 ghost use Rattle.dg_tool.specs.Done.{InputRead, IsFormatted, FormatStops};
@@ -22,15 +22,17 @@ fn format_on<N: Nor>(
     alloc: Global,
     name: &[u8],
     used: u32,
+    form: u8,
     golden: &[u8],
     nor: &mut N,
 ) -> Result<Vec<u8>, Stop>
     requires named { IsTrue (spells_name name.now) }
     requires few { used ≤ most_room }
-    ensures { OnBoard (told_status result) (λ chip. Unit {0}) (λ chip. format_sized used golden.now) (λ chip. IsFormatted name.now golden.now used) (λ chip. FormatStops name.now golden.now used)
+    requires known_form { (form ≡ old_form) ⊎ (form ≡ new_form) }
+    ensures { OnBoard (told_status result) (λ chip. Unit {0}) (λ chip. format_sized used golden.now) (λ chip. IsFormatted name.now golden.now used form) (λ chip. FormatStops name.now golden.now used)
         (told_text (λ text. text.items) result) (N.device nor.old) (N.device nor.new) }
 {
-    match Volume::format(nor, golden, name, used) {
+    match Volume::format(nor, golden, name, used, form) {
         Ok(()) => or_memory(line_of(alloc, b"room", &[MOST_ROOM - used])),
         Err(FormatFault::Stopped) => Err(Stop::FlashFault),
         Err(FormatFault::Empty) => Err(Stop::Refused(Refusal::Empty)),
@@ -45,14 +47,16 @@ fn format_first<S: Source, N: Nor>(
     alloc: Global,
     name: &[u8],
     used: u32,
+    form: u8,
     input: &mut S,
     boards: &mut [N],
 ) -> Result<Vec<u8>, Stop>
     requires named { IsTrue (spells_name name.now) }
     requires few { used ≤ most_room }
+    requires known_form { (form ≡ old_form) ⊎ (form ≡ new_form) }
     ensures done { (bytes : List ℕ) × InputRead (told_status result) (length boards.old) bytes (S.left input.old) (S.left input.new) (S.faults input.old) (S.faults input.new)
         × InputFails (told_status result) (S.faults input.old) (S.faults input.new)
-        × OnBoards (told_status result) (λ chip. Unit {0}) (format_ending (length boards.old) used bytes) (λ chip. IsFormatted name.now (content_in bytes) used) (λ chip. FormatStops name.now (content_in bytes) used)
+        × OnBoards (told_status result) (λ chip. Unit {0}) (format_ending (length boards.old) used bytes) (λ chip. IsFormatted name.now (content_in bytes) used form) (λ chip. FormatStops name.now (content_in bytes) used)
         (told_text (λ text. text.items) result) (map N.device boards.old) (map N.device boards.new) }
     ensures reads { S.faults input.old ≤ S.faults input.new }
 {
@@ -60,7 +64,7 @@ fn format_first<S: Source, N: Nor>(
         return Err(Stop::NoBoard);
     }
     match read_image(alloc, input) {
-        Ok(golden) => format_on(alloc, name, used, &golden, &mut boards[0]),
+        Ok(golden) => format_on(alloc, name, used, form, &golden, &mut boards[0]),
         Err(stop) => Err(stop),
     }
 }
@@ -70,16 +74,18 @@ pub(crate) fn format_boards<S: Source, N: Nor>(
     alloc: Global,
     name: &[u8],
     used: u32,
+    form: u8,
     input: &mut S,
     boards: &mut Vec<N>,
 ) -> Result<Vec<u8>, Stop>
     requires named { IsTrue (spells_name name.now) }
     requires few { used ≤ most_room }
+    requires known_form { (form ≡ old_form) ⊎ (form ≡ new_form) }
     ensures done { (bytes : List ℕ) × InputRead (told_status result) (length boards.old.items) bytes (S.left input.old) (S.left input.new) (S.faults input.old) (S.faults input.new)
         × InputFails (told_status result) (S.faults input.old) (S.faults input.new)
-        × OnBoards (told_status result) (λ chip. Unit {0}) (format_ending (length boards.old.items) used bytes) (λ chip. IsFormatted name.now (content_in bytes) used) (λ chip. FormatStops name.now (content_in bytes) used)
+        × OnBoards (told_status result) (λ chip. Unit {0}) (format_ending (length boards.old.items) used bytes) (λ chip. IsFormatted name.now (content_in bytes) used form) (λ chip. FormatStops name.now (content_in bytes) used)
         (told_text (λ text. text.items) result) (map N.device boards.old.items) (map N.device boards.new.items) }
     ensures reads { S.faults input.old ≤ S.faults input.new }
 {
-    format_first(alloc, name, used, input, boards.as_mut_slice())
+    format_first(alloc, name, used, form, input, boards.as_mut_slice())
 }

@@ -1,21 +1,22 @@
 //! The image that the input of a verb spells.
-ghost use Rattle.std.specs.Prelude.{◌≡◌, ◌≤◌};
+ghost use Rattle.std.specs.Prelude.{◌≡◌, ◌≤◌, ℕ, List};
+ghost use Rattle.dg_ihex.specs.Streams.{Fed};
 ghost use Rattle.dg_tool.specs.Input.{Spells, ImageRead, stop_of};
 
 use crate::stop::Stop;
 use dg_base::Source;
-use dg_ihex::{HexCause, HexFileFault, MOST_TEXT, read_ihex};
+use dg_ihex::{HexCause, HexFileFault, HexReader, MOST_TEXT};
 use dg_input::{ReadStop, read_input};
 use std::alloc::Global;
 
-/// The image of a HEX file. A file that is too long is refused whatever its lines are.
-fn image_of(alloc: Global, text: &[u8]) -> Result<Vec<u8>, Stop>
-    ensures { Spells (λ image. image.items) result text.now }
+/// The image of the HEX file that a reader was given. A file that is too long is refused whatever its lines are.
+fn image_of(alloc: Global, reader: &mut HexReader) -> Result<Vec<u8>, Stop>
+    ensures { (text : List ℕ) → Fed reader.old text → Spells (λ image. image.items) result text }
 {
-    if text.len() > MOST_TEXT {
+    if reader.count() > MOST_TEXT {
         return Err(Stop::TooLong);
     }
-    match read_ihex(alloc, text) {
+    match reader.finish(alloc) {
         Ok(image) => Ok(image),
         Err(fault) => Err(stop_at(fault)),
     }
@@ -37,7 +38,7 @@ pub fn read_image<S: Source>(alloc: Global, input: &mut S) -> Result<Vec<u8>, St
     ensures counts { S.faults input.old ≤ S.faults input.new }
 {
     match read_input(alloc, input) {
-        Ok(text) => image_of(alloc, &text),
+        Ok(mut reader) => image_of(alloc, &mut reader),
         Err(ReadStop::Memory) => Err(Stop::Memory),
         Err(ReadStop::ReadFault) => Err(Stop::ReadFault),
     }

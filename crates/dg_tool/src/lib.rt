@@ -1,4 +1,4 @@
-//! The verbs over one board: format, inject, order, boot, ping and dump.
+//! The verbs over one board: format, inject, order, boot, ping, dump and migrate.
 //!
 //! Each works on the first of the boards that it is given, looks for what ends it in one order, first whether there is
 //! a board, then what the input spells, and then what the board holds, and writes once, at its end. The parts that
@@ -12,6 +12,7 @@ mod formatting;
 mod injecting;
 mod input;
 mod laws;
+mod migrating;
 mod ordering;
 mod pages;
 mod pinging;
@@ -20,16 +21,16 @@ mod starting;
 mod stop;
 mod text;
 
-ghost use Rattle.std.specs.Prelude.{◌≡◌, ◌<◌, ◌≤◌, ℕ, List, length, map, IsTrue};
+ghost use Rattle.std.specs.Prelude.{◌≡◌, ◌⊎◌, ◌<◌, ◌≤◌, ℕ, List, length, map, IsTrue};
 ghost use Rattle.dg_words.specs.Counts.{Rose};
 ghost use Rattle.dg_base.specs.Texts.{spells_name};
 ghost use Rattle.dg_nor.specs.Reads.{Looked, ReadStopped};
 ghost use Rattle.dg_object.specs.Object.{row_of};
-ghost use Rattle.dg_volume.specs.Sizes.{images, most_room};
-ghost use Rattle.dg_volume.specs.Trails.{inject_trail, order_trail};
-ghost use Rattle.dg_tool.specs.Endings.{FirstAs, content_in};
-ghost use Rattle.dg_tool.specs.Verbs.{format_ending, inject_ending, order_ending, power_boot, boot_ending, ping_ending, dump_ending};
-ghost use Rattle.dg_tool.specs.Done.{ToolDone, InputRead, IsFormatted, FormatStops, WentOn, StopsOn, BootedOn};
+ghost use Rattle.dg_volume.specs.Sizes.{images, most_room, old_form, new_form};
+ghost use Rattle.dg_volume.specs.Trails.{inject_trail, order_trail, migrate_trail};
+ghost use Rattle.dg_tool.specs.Endings.{FirstAs, FirstInForm, content_in};
+ghost use Rattle.dg_tool.specs.Verbs.{format_ending, inject_ending, order_ending, power_boot, boot_ending, ping_ending, dump_ending, migrate_ending};
+ghost use Rattle.dg_tool.specs.Done.{ToolDone, InputRead, IsFormatted, FormatStops, MigratedOn, WentOn, StopsOn, BootedOn};
 
 pub use crate::board::mount;
 use crate::dumping::dump_boards;
@@ -39,6 +40,7 @@ use crate::injecting::inject_boards;
 pub use crate::injecting::{have_line, stop_at};
 pub use crate::input::read_image;
 pub use crate::laws::a_whole_image_tells_its_row;
+use crate::migrating::migrate_boards;
 use crate::ordering::order_boards;
 use crate::pinging::ping_boards;
 pub use crate::refusal::Refusal;
@@ -51,26 +53,28 @@ use dg_volume::Order;
 use std::alloc::Global;
 
 /// Makes the first board a volume that keeps golden alone: the image of the HEX file that `input` spells, with this
-/// name. `used` commits, at most 520,223, are told as spent. Writes `room R`.
+/// name. `used` commits, at most 520,223, are told as spent. The snapshot is written in form 1 or 2. Writes `room R`.
 pub fn format<S: Source, K: Sink, N: Nor>(
     alloc: Global,
     name: &[u8],
     used: u32,
+    form: u8,
     input: &mut S,
     out: &mut K,
     boards: &mut Vec<N>,
 ) -> Status
     requires named { IsTrue (spells_name name.now) }
     requires few { used ≤ most_room }
+    requires known_form { (form ≡ old_form) ⊎ (form ≡ new_form) }
     ensures done { (bytes : List ℕ) × InputRead result (length boards.old.items) bytes (S.left input.old) (S.left input.new) (S.faults input.old) (S.faults input.new)
         × ToolDone result (λ chip. Unit {0}) (format_ending (length boards.old.items) used bytes)
-        (λ chip. IsFormatted name.now (content_in bytes) used) (λ chip. FormatStops name.now (content_in bytes) used)
+        (λ chip. IsFormatted name.now (content_in bytes) used form) (λ chip. FormatStops name.now (content_in bytes) used)
         (Rose (S.faults input.old) (S.faults input.new)) (K.written out.old) (K.written out.new) (K.faults out.old) (K.faults out.new)
         (map N.device boards.old.items) (map N.device boards.new.items) }
     ensures reads { S.faults input.old ≤ S.faults input.new }
     ensures writes { K.faults out.old ≤ K.faults out.new }
 {
-    let told = format_boards(alloc, name, used, input, boards);
+    let told = format_boards(alloc, name, used, form, input, boards);
     end(alloc, out, told)
 }
 
@@ -156,5 +160,18 @@ pub fn dump<K: Sink, N: Nor>(alloc: Global, image: u8, out: &mut K, boards: &mut
     ensures writes { K.faults out.old ≤ K.faults out.new }
 {
     let told = dump_boards(alloc, image, boards);
+    end(alloc, out, told)
+}
+
+/// Writes the first board's snapshot in form 2, where it is written in form 1. Writes `form 2`.
+pub fn migrate<K: Sink, N: Nor>(alloc: Global, out: &mut K, boards: &mut Vec<N>) -> Status
+    ensures done { (form : ℕ) → FirstInForm form (map N.device boards.old.items)
+        → ToolDone result (FirstAs (map N.device boards.old.items)) (migrate_ending (length boards.old.items) form)
+        (MigratedOn form) (StopsOn (migrate_trail form))
+        ⊥ (K.written out.old) (K.written out.new) (K.faults out.old) (K.faults out.new)
+        (map N.device boards.old.items) (map N.device boards.new.items) }
+    ensures writes { K.faults out.old ≤ K.faults out.new }
+{
+    let told = migrate_boards(alloc, boards);
     end(alloc, out, told)
 }

@@ -5,76 +5,87 @@ use Rattle.dg_cli.proofs.DripLemmas.{no_link_of_nodes}
 use Rattle.dg_cli.proofs.carrying.carry_out.Goals as goal
 
 pub returns-in-Replay-clause-done : goal.returns-in-Replay-clause-done
-returns-in-Replay-clause-done g c =
-    let e = c.replay.ensures in
-    said_done c.args.command _ c.in-Replay.is _ _ _ (record { replayed = e.replayed; golden = λ table alone. e.golden table (e.replayed table) alone; never = e.never.1 })
+returns-in-Replay-clause-done g c = said_done c.args.command _ c.in-Replay.is _ _ _ c.replay.ensures.done
 
-pub returns-in-Replay-clause-complete : goal.returns-in-Replay-clause-complete
-returns-in-Replay-clause-complete g c = λ flashes bytes is told limits reads writes stops alone. c.replay.ensures.complete bytes told limits reads writes stops alone
+pub returns-in-Replay-clause-link_fault : goal.returns-in-Replay-clause-link_fault
+returns-in-Replay-clause-link_fault g c = λ e. absurd (c.replay.ensures.done.never.2 e)
 
-pub returns-in-Replay-clause-complete_boards : goal.returns-in-Replay-clause-complete_boards
-returns-in-Replay-clause-complete_boards g c = λ flashes bytes is told limits reads writes stops volumes. c.replay.ensures.complete_boards bytes told limits reads writes stops volumes
+pub returns-in-Serve-clause-done : goal.returns-in-Serve-clause-done
+returns-in-Serve-clause-done g c =
+    let rules = c.services_keep_the_rules.ensures in
+    said_done c.args.command _ c.in-Serve.is _ _ _ (record {
+      served = c.serve_network.ensures.served;
+      keeps = λ profile allowed x table stores fits shaped. rules.kept _ profile _ _ _ _ allowed x table stores fits shaped;
+      script = λ profile allowed x stores fits. rules.script _ profile _ _ _ _ allowed x stores fits;
+    })
+
+pub returns-in-Serve-clause-link_fault : goal.returns-in-Serve-clause-link_fault
+returns-in-Serve-clause-link_fault g c = c.serve_network.ensures.link_fault
 
 pub returns-in-Format-clause-done : goal.returns-in-Format-clause-done
 returns-in-Format-clause-done g c =
-    said_done c.args.command _ c.in-Format.is _ _ _ (format_done _ _ _ c.in-Format.used _ _ _ (sym (length-map c.args.boards.now.items g.N.Nor.device)) c.as_bytes.ensures.value c.format.ensures.done)
+    said_done c.args.command _ c.in-Format.is _ _ _ (format_done _ _ _ c.in-Format.used c.in-Format.form _ _ _ (sym (length-map c.args.boards.now.items g.N.Nor.device)) c.as_bytes.ensures.value c.format.ensures.done)
 
-pub returns-in-Format-clause-link : goal.returns-in-Format-clause-link
-returns-in-Format-clause-link g c = no_link _ _ _ _ _ c.format.ensures.done.2.faulted
+pub returns-in-Format-clause-link_fault : goal.returns-in-Format-clause-link_fault
+returns-in-Format-clause-link_fault g c = λ e. absurd (no_link _ _ _ _ _ c.format.ensures.done.2.faulted e)
 
 pub returns-in-Inject-clause-done : goal.returns-in-Inject-clause-done
 returns-in-Inject-clause-done g c =
     said_done c.args.command _ c.in-Inject.is _ _ _ (inject_done _ c.in-Inject.image c.in-Inject.version _ _ _ _ _ (sym (length-map c.args.boards.now.items g.N.Nor.device)) c.as_bytes-in-Inject.ensures.value c.inject.ensures.done)
 
-pub returns-in-Inject-clause-link : goal.returns-in-Inject-clause-link
-returns-in-Inject-clause-link g c = no_link _ _ _ _ _ c.inject.ensures.done.2.faulted
+pub returns-in-Inject-clause-link_fault : goal.returns-in-Inject-clause-link_fault
+returns-in-Inject-clause-link_fault g c = λ e. absurd (no_link _ _ _ _ _ c.inject.ensures.done.2.faulted e)
 
 pub returns-in-Order-clause-done : goal.returns-in-Order-clause-done
 returns-in-Order-clause-done g c =
     said_done c.args.command _ c.in-Order.is _ _ _ (order_done _ (record { number = c.in-Order.number; image = c.in-Order.image; version = c.in-Order.version }) _ _ _ (sym (length-map c.args.boards.now.items g.N.Nor.device)) refl refl c.order.ensures.done)
 
-pub returns-in-Order-clause-link : goal.returns-in-Order-clause-link
-returns-in-Order-clause-link g c = no_link _ _ _ _ _ c.order.ensures.done.faulted
+pub returns-in-Order-clause-link_fault : goal.returns-in-Order-clause-link_fault
+returns-in-Order-clause-link_fault g c = λ e. absurd (no_link _ _ _ _ _ c.order.ensures.done.faulted e)
 
 pub returns-in-Boot-clause-done : goal.returns-in-Boot-clause-done
 returns-in-Boot-clause-done g c =
     said_done c.args.command _ c.in-Boot.is _ _ _ (boot_done _ _ _ _ (sym (length-map c.args.boards.now.items g.N.Nor.device)) refl refl c.boot.ensures.done)
 
-pub returns-in-Boot-clause-link : goal.returns-in-Boot-clause-link
-returns-in-Boot-clause-link g c = no_link _ _ _ _ _ c.boot.ensures.done.faulted
+pub returns-in-Boot-clause-link_fault : goal.returns-in-Boot-clause-link_fault
+returns-in-Boot-clause-link_fault g c = λ e. absurd (no_link _ _ _ _ _ c.boot.ensures.done.faulted e)
 
-pub returns-in-Ping-clause-link : goal.returns-in-Ping-clause-link
-returns-in-Ping-clause-link g c = no_link _ _ _ _ _ c.ping.ensures.done.faulted
+pub returns-in-Ping-clause-link_fault : goal.returns-in-Ping-clause-link_fault
+returns-in-Ping-clause-link_fault g c = λ e. absurd (no_link _ _ _ _ _ c.ping.ensures.done.faulted e)
 
-pub returns-in-Dump-clause-link : goal.returns-in-Dump-clause-link
-returns-in-Dump-clause-link g c = no_link _ _ _ _ _ c.dump.ensures.done.faulted
+pub returns-in-Dump-clause-link_fault : goal.returns-in-Dump-clause-link_fault
+returns-in-Dump-clause-link_fault g c = λ e. absurd (no_link _ _ _ _ _ c.dump.ensures.done.faulted e)
+
+pub returns-in-Migrate-clause-done : goal.returns-in-Migrate-clause-done
+returns-in-Migrate-clause-done g c =
+    said_done c.args.command _ c.in-Migrate.is _ _ _ ((refl, refl), c.migrate.ensures.done)
 
 pub returns-in-Trial-clause-done : goal.returns-in-Trial-clause-done
 returns-in-Trial-clause-done g c =
     said_done c.args.command _ c.in-Trial.is _ _ _ ((refl, refl), c.trial.ensures.ends, c.trial.ensures.cause, c.trial.ensures.unfailed)
 
-pub returns-in-Trial-clause-link : goal.returns-in-Trial-clause-link
-returns-in-Trial-clause-link g c = no_link_of_a_trial _ c.in-Trial.motes c.in-Trial.pages c.in-Trial.seed _ _ _ _ c.trial.ensures.ends
+pub returns-in-Trial-clause-link_fault : goal.returns-in-Trial-clause-link_fault
+returns-in-Trial-clause-link_fault g c = λ e. absurd (no_link_of_a_trial _ c.in-Trial.motes c.in-Trial.pages c.in-Trial.seed _ _ _ _ c.trial.ensures.ends e)
 
 pub returns-in-Wrap-clause-done : goal.returns-in-Wrap-clause-done
 returns-in-Wrap-clause-done g c = said_done c.args.command _ c.in-Wrap.is _ _ _ (c.wrap.ensures.done, refl)
 
-pub returns-in-Wrap-clause-link : goal.returns-in-Wrap-clause-link
-returns-in-Wrap-clause-link g c = no_link _ _ _ _ _ c.wrap.ensures.done.2.faulted
+pub returns-in-Wrap-clause-link_fault : goal.returns-in-Wrap-clause-link_fault
+returns-in-Wrap-clause-link_fault g c = λ e. absurd (no_link _ _ _ _ _ c.wrap.ensures.done.2.faulted e)
 
 pub returns-in-Check-clause-done : goal.returns-in-Check-clause-done
 returns-in-Check-clause-done g c =
     said_done c.args.command _ c.in-Check.is _ _ _ (check_said _ c.in-Check.image _ _ _ _ c.as_bytes-in-Check.ensures.value ((refl, refl), c.check.ensures.done))
 
-pub returns-in-Check-clause-link : goal.returns-in-Check-clause-link
-returns-in-Check-clause-link g c = no_link _ _ _ _ _ c.check.ensures.done.done.faulted
+pub returns-in-Check-clause-link_fault : goal.returns-in-Check-clause-link_fault
+returns-in-Check-clause-link_fault g c = λ e. absurd (no_link _ _ _ _ _ c.check.ensures.done.done.faulted e)
 
 pub returns-in-Receive-clause-done : goal.returns-in-Receive-clause-done
 returns-in-Receive-clause-done g c =
     said_done c.args.command _ c.in-Receive.is _ _ _ (received_said _ c.in-Receive.image c.in-Receive.version _ _ _ _ _ _ c.as_bytes-named.ensures.value c.as_bytes-digits.ensures.value c.receive.ensures.done)
 
-pub returns-in-Receive-clause-link : goal.returns-in-Receive-clause-link
-returns-in-Receive-clause-link g c = no_link _ _ _ _ _ c.receive.ensures.done.2.faulted
+pub returns-in-Receive-clause-link_fault : goal.returns-in-Receive-clause-link_fault
+returns-in-Receive-clause-link_fault g c = λ e. absurd (no_link _ _ _ _ _ c.receive.ensures.done.2.faulted e)
 
 pub returns-in-Drip-clause-done : goal.returns-in-Drip-clause-done
 returns-in-Drip-clause-done g c =
@@ -89,5 +100,11 @@ returns-in-Drip-clause-done g c =
       sweeps = e.sweeps e.replayed;
     })
 
-pub returns-in-Drip-clause-link : goal.returns-in-Drip-clause-link
-returns-in-Drip-clause-link g c = no_link_of_nodes _ _ _ _ _ _ _ c.drip.ensures.replayed
+pub returns-in-Drip-clause-link_fault : goal.returns-in-Drip-clause-link_fault
+returns-in-Drip-clause-link_fault g c = λ e. absurd (no_link_of_nodes _ _ _ _ _ _ _ c.drip.ensures.replayed e)
+
+pub returns-in-Base-clause-done : goal.returns-in-Base-clause-done
+returns-in-Base-clause-done g c = said_done c.args.command _ c.in-Base.is _ _ _ c.base.ensures.done
+
+pub returns-in-Base-clause-link_fault : goal.returns-in-Base-clause-link_fault
+returns-in-Base-clause-link_fault g c = λ e. absurd (c.base.ensures.link e)

@@ -65,3 +65,15 @@ returns-clause-check c = refl
 pub returns-clause-receive : goal.returns-clause-receive
 unfolding clap_on_literals app_of_verb top_app asked_of line number_at text_at texts_at
 returns-clause-receive c = refl
+
+pub returns-clause-old_form : goal.returns-clause-old_form
+unfolding clap_on_literals app_of_verb top_app asked_of line number_at text_at texts_at
+returns-clause-old_form c = refl
+
+pub returns-clause-last_image : goal.returns-clause-last_image
+unfolding clap_on_literals app_of_verb top_app asked_of line number_at text_at texts_at
+returns-clause-last_image c = refl
+
+pub returns-clause-migrate : goal.returns-clause-migrate
+unfolding clap_on_literals app_of_verb top_app asked_of line number_at text_at texts_at
+returns-clause-migrate c = refl

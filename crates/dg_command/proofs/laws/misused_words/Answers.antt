@@ -53,3 +53,7 @@ returns-clause-long_step c = refl
 pub returns-clause-file_of_a_script : goal.returns-clause-file_of_a_script
 unfolding clap_on_literals app_of_verb top_app asked_of line number_at text_at texts_at
 returns-clause-file_of_a_script c = refl
+
+pub returns-clause-no_form : goal.returns-clause-no_form
+unfolding clap_on_literals app_of_verb top_app asked_of line number_at text_at texts_at
+returns-clause-no_form c = refl

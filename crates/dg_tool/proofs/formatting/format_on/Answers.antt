@@ -10,17 +10,17 @@ use Rattle.dg_tool.proofs.formatting.format_on.Goals as goal
 
 pub returns-in-Ok : goal.returns-in-Ok
 returns-in-Ok g c =
-    let acted = IsFormatted c.args.name.now c.args.golden.now c.args.used in
+    let acted = IsFormatted c.args.name.now c.args.golden.now c.args.used c.args.form in
     let may = FormatStops c.args.name.now c.args.golden.now c.args.used in
     any_board _ c.or_memory.result (format_sized c.args.used c.args.golden.now) acted may _ _
     (formatted _ c.args.used c.args.golden.now acted may _ _ c.or_memory.result
     (λ e. ok_not _ _ _ c.in-Ok.is (c.format.ensures.empty.1 e)) (λ e. ok_not _ _ _ c.in-Ok.is (c.format.ensures.too_large.1 e))
     (makes_or _ c.line_of.result c.or_memory.result _ c.line_of.ensures c.or_memory.ensures)
-    (record { ran = c.in-Ok.ensures.ran; stands = c.in-Ok.ensures.formatted }))
+    (record { ran = c.in-Ok.ensures.ran; stands = c.in-Ok.ensures.formatted; written = c.in-Ok.ensures.form }))
 
 pub returns-in-Err-Stopped : goal.returns-in-Err-Stopped
 returns-in-Err-Stopped g c =
-    let acted = IsFormatted c.args.name.now c.args.golden.now c.args.used in
+    let acted = IsFormatted c.args.name.now c.args.golden.now c.args.used c.args.form in
     let may = FormatStops c.args.name.now c.args.golden.now c.args.used in
     let x = c.in-Err-Stopped in
     let here = ap (λ (e : FormatFault). Err e) x.field-0-is in
@@ -33,7 +33,7 @@ returns-in-Err-Stopped g c =
 
 pub returns-in-Err-Empty : goal.returns-in-Err-Empty
 returns-in-Err-Empty g c =
-    let acted = IsFormatted c.args.name.now c.args.golden.now c.args.used in
+    let acted = IsFormatted c.args.name.now c.args.golden.now c.args.used c.args.form in
     let may = FormatStops c.args.name.now c.args.golden.now c.args.used in
     let x = c.in-Err-Empty in
     let here = ap (λ (e : FormatFault). Err e) x.field-0-is in
@@ -41,7 +41,7 @@ returns-in-Err-Empty g c =
 
 pub returns-in-Err-TooLarge : goal.returns-in-Err-TooLarge
 returns-in-Err-TooLarge g c =
-    let acted = IsFormatted c.args.name.now c.args.golden.now c.args.used in
+    let acted = IsFormatted c.args.name.now c.args.golden.now c.args.used c.args.form in
     let may = FormatStops c.args.name.now c.args.golden.now c.args.used in
     let x = c.in-Err-TooLarge in
     let here = ap (λ (e : FormatFault). Err e) x.field-0-is in

@@ -7,7 +7,7 @@ use Rattle.dg_tool.proofs.input.read_image.Goals as goal
 pub returns-in-Ok-clause-read : goal.returns-in-Ok-clause-read
 returns-in-Ok-clause-read g c =
     let t = c.in-Ok.ensures.taken in
-    image_read _ c.image_of.result c.deref.result.now c.in-Ok.text.items t.0 _ _ _ _ c.deref.ensures.value t.3 t.1 t.2 c.in-Ok.ensures.ended c.image_of.ensures (c.read_input.ensures.unfailed (λ e. ok_not _ _ _ c.in-Ok.is e))
+    image_read _ c.image_of.result t.0 _ _ _ _ t.1 t.2 t.3.1 (c.image_of.ensures t.0 t.3.0) (c.read_input.ensures.unfailed (λ e. ok_not _ _ _ c.in-Ok.is e))
 
 pub returns-in-Err-Memory-clause-read : goal.returns-in-Err-Memory-clause-read
 returns-in-Err-Memory-clause-read g c =
