@@ -1,12 +1,12 @@
 //! The boards that are stopped, and what an operation leaves that is interrupted.
-ghost use Rattle.std.specs.Prelude.{◌≤◌, IfOk};
+ghost use Rattle.std.specs.Prelude.{◌≡◌, ◌⊎◌, ◌≤◌, IfOk};
 ghost use Rattle.dg_nor.specs.Board.{board_image};
-ghost use Rattle.dg_volume.specs.Sizes.{most_room};
+ghost use Rattle.dg_volume.specs.Sizes.{most_room, old_form, new_form};
 ghost use Rattle.dg_volume.specs.Stands.{IsMounted, NothingLent};
 
 use dg_control::PLACE_SIZE;
 use dg_nor::{Board, Counted};
-use dg_volume::{Injected, Volume};
+use dg_volume::{FORM, Injected, Volume};
 use std::test::Fail;
 
 /// The content of golden.
@@ -24,10 +24,10 @@ pub(crate) const VERSION: u32 = 1;
 /// A committed place by which program memory is Set to version 9 of image 3: slot 0 is Live with version 1, the others
 /// are Dirty, and there is no order. Left in a sector by an erase that is interrupted, it stands there 32 times.
 pub(crate) const FORGED: [u8; PLACE_SIZE] = [
-    0x7F, 0x01, 0x01, 0x00, 0x00, 0x00, 0x01, 0x00, 0x00, 0x00, 0x00, 0x00, 0x00, 0x00, 0x00, 0x00,
-    0x00, 0x00, 0x00, 0x00, 0x00, 0x00, 0x01, 0x03, 0x00, 0x00, 0x00, 0x09, 0x00, 0x00, 0x00, 0x00,
-    0x00, 0x00, 0x00, 0x00, 0x00, 0x00, 0x00, 0xFF, 0xFF, 0xFF, 0xFF, 0xFF, 0xFF, 0xFF, 0xFF, 0xFF,
-    0xFF, 0xFF, 0xFF, 0xFF, 0xFF, 0xFF, 0xFF, 0xFF, 0xFF, 0xFF, 0xFF, 0xFF, 0xFF, 0xFF, 0xFF, 0xFF,
+    0x7F, 0x02, 0x01, 0x00, 0x00, 0x00, 0x01, 0x00, 0x00, 0x00, 0x00, 0x00, 0x00, 0x00, 0x00, 0x00,
+    0x00, 0x00, 0x00, 0x00, 0x00, 0x00, 0x00, 0x00, 0x00, 0x00, 0x00, 0x00, 0x00, 0x00, 0x00, 0x00,
+    0x00, 0x00, 0x00, 0x00, 0x00, 0x01, 0x03, 0x00, 0x00, 0x00, 0x09, 0x00, 0x00, 0x00, 0x00, 0x00,
+    0x00, 0x00, 0x00, 0x00, 0x00, 0x00, 0xFF, 0xFF, 0xFF, 0xFF, 0xFF, 0xFF, 0xFF, 0xFF, 0xFF, 0xFF,
 ];
 
 /// What interrupted operations leave: the finished bytes, the old ones, some bits of each, and a place that was never
@@ -43,8 +43,16 @@ pub(crate) const MASKS: [[u8; PLACE_SIZE]; 4] = [
 pub(crate) fn formatted(rt: &HostRuntime, used: u32) -> Result<Board, Fail>
     requires { used ≤ most_room }
 {
+    formatted_in(rt, used, FORM)
+}
+
+/// The same, whose snapshot is written in the form of that number.
+pub(crate) fn formatted_in(rt: &HostRuntime, used: u32, form: u8) -> Result<Board, Fail>
+    requires few { used ≤ most_room }
+    requires known_form { (form ≡ old_form) ⊎ (form ≡ new_form) }
+{
     let mut board = Board::memory(rt.alloc())?;
-    if Volume::format(&mut board, GOLDEN, b"base", used).is_err() {
+    if Volume::format(&mut board, GOLDEN, b"base", used, form).is_err() {
         return Err("the board is not formatted".into());
     }
     Ok(board)

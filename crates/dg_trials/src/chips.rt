@@ -51,43 +51,45 @@ const CHIPS: [(u32, u8, bool); 20] = [
 ];
 
 /// Which bytes stand where on a chip with golden alone, each with a bit that was clear, and whether it is a volume then.
-const SET_CHIPS: [(&[(u32, u8)], bool); 20] = [
+const SET_CHIPS: [(&[(u32, u8)], bool); 22] = [
     // The text.
     (&[(LEDGER, 0x45)], false),
     (&[(LEDGER + 15, 0x33)], false),
-    // No place is committed; the form; the tag and the version of slot 0.
+    // No place is committed; no form, and the old one, whose fields end before; the tag and the version of slot 0.
     (&[(CONTROL, 0xFF)], false),
     (&[(CONTROL + 1, 0x03)], false),
+    (&[(CONTROL + 1, 0x01)], false),
     (&[(CONTROL + 2, 0x03)], false),
     (&[(CONTROL + 6, 0x03)], false),
-    // Slot 1 is Live with version 0, Dirty with version 1, and Live with version 1 but without a header.
+    // Slot 1 is Live with version 0, Dirty with version 1, and Live with version 1 but without a header. So is slot 6.
     (&[(CONTROL + 7, 0x01)], false),
     (&[(CONTROL + 11, 0x01)], false),
     (&[(CONTROL + 7, 0x01), (CONTROL + 11, 0x01)], false),
+    (&[(CONTROL + 32, 0x01), (CONTROL + 36, 0x01)], false),
     // Program memory is Set to golden, and has no page.
-    (&[(CONTROL + 22, 0x01), (CONTROL + 27, 0x01)], false),
+    (&[(CONTROL + 37, 0x01), (CONTROL + 42, 0x01)], false),
     // Order 1 is image 1 in version 1, which nothing keeps; so it is, and is waived; no order is waived.
     (
         &[
-            (CONTROL + 31, 0x01),
-            (CONTROL + 32, 0x01),
-            (CONTROL + 36, 0x01),
+            (CONTROL + 46, 0x01),
+            (CONTROL + 47, 0x01),
+            (CONTROL + 51, 0x01),
         ],
         true,
     ),
     (
         &[
-            (CONTROL + 31, 0x01),
-            (CONTROL + 32, 0x01),
-            (CONTROL + 36, 0x01),
-            (CONTROL + 38, 0x01),
+            (CONTROL + 46, 0x01),
+            (CONTROL + 47, 0x01),
+            (CONTROL + 51, 0x01),
+            (CONTROL + 53, 0x01),
         ],
         true,
     ),
-    (&[(CONTROL + 38, 0x01)], false),
+    (&[(CONTROL + 53, 0x01)], false),
     // Three short starts in a row, and four.
-    (&[(CONTROL + 37, 0x03)], true),
-    (&[(CONTROL + 37, 0x04)], false),
+    (&[(CONTROL + 52, 0x03)], true),
+    (&[(CONTROL + 52, 0x04)], false),
     // The tag, a page more, and gates of which the first is not cleared.
     (&[(HEADER, 0x57)], false),
     (&[(HEADER + 3, 0x03)], false),

@@ -5,16 +5,10 @@ ghost use Rattle.std.specs.Prelude.{◌≤◌, ◌≡◌, true, IfOk};
 ghost use Rattle.dg_script.specs.Sizes.{most_motes};
 ghost use Rattle.dg_script.specs.Spelling.{IsShort};
 
-use dg_base::next_line;
-use dg_script::{Line, LineFault, Place, read_line, write_line};
+use dg_base::{MOST_MOTES, next_line};
+use dg_script::{Line, LineFault, MOST_WRITTEN, Place, read_line, write_line};
 use std::alloc::Global;
 use std::test::Fail;
-
-/// The most motes of a script.
-const MOST_MOTES: u8 = 16;
-
-/// The most bytes of a content that is written.
-const LONGEST_WRITTEN: usize = 149_000;
 
 /// Places, by the lines before them.
 const FIRST: [&str; 0] = [];
@@ -24,6 +18,8 @@ const SECOND: [&str; 1] = ["motes 4"];
 const LATER: [&str; 2] = ["motes 4", "golden base 0 hex:41"];
 
 const LINKED: [&str; 3] = ["motes 4", "golden base 0 hex:41", "link 0 1"];
+
+const NARROWED: [&str; 3] = ["motes 4", "golden base 0 hex:41", "narrow 2"];
 
 const EVENTS: [&str; 3] = ["motes 4", "golden base 0 hex:41", "reset 0 0 0"];
 
@@ -36,7 +32,7 @@ const CUT: [&str; 3] = ["motes 4", "golden base 0 hex:41", "cut 1 ff"];
 const EVENTS_CUT: [&str; 4] = ["motes 4", "golden base 0 hex:41", "reset 0 0 0", "cut 1 ff"];
 
 /// Texts, and what each says: the line as it is written, or the name of its fault.
-const FIRST_LINES: [(&str, &str); 29] = [
+const FIRST_LINES: [(&str, &str); 31] = [
     ("", ""),
     ("     ", ""),
     ("  # x", ""),
@@ -66,9 +62,11 @@ const FIRST_LINES: [(&str, &str); 29] = [
     ("inject 0 1 2 3 4", "place"),
     ("order 0 1 2 3 4 5", "place"),
     ("cut 1 ff", "place"),
+    ("narrow 0", "place"),
+    ("narrow", "few"),
 ];
 
-const SECOND_LINES: [(&str, &str); 31] = [
+const SECOND_LINES: [(&str, &str); 33] = [
     ("motes 4", "place"),
     ("motes 4 1", "many"),
     ("golden base 0 hex:41", "golden base 0 hex:41"),
@@ -103,20 +101,22 @@ const SECOND_LINES: [(&str, &str); 31] = [
     ("tick 0 1 2 1", "many"),
     ("tick 0 1 2", "place"),
     ("cut 1 ff", "place"),
+    ("narrow 0", "place"),
+    ("narrow x", "place"),
 ];
 
 const LATER_LINES: [(&str, &str); 70] = [
     ("image 1 1 blink hex:41", "image 1 1 blink hex:41"),
     (
-        "  image   3   4294967295   a   hex:   ",
-        "image 3 4294967295 a hex:",
+        "  image   6   4294967295   a   hex:   ",
+        "image 6 4294967295 a hex:",
     ),
     ("image 1 1 a gen:1048576:0", "big"),
     ("image 1 1 blink", "few"),
     ("image 1 1 blink hex:41 1", "many"),
     ("IMAGE 1 1 blink hex:41", "verb"),
     ("image 0 0 a/b x", "image"),
-    ("image 4 1 blink hex:41", "image"),
+    ("image 7 1 blink hex:41", "image"),
     ("image 4294967296 1 blink hex:41", "number"),
     ("image 00 1 blink hex:41", "number"),
     ("image 1 0 a/b x", "version"),
@@ -146,13 +146,13 @@ const LATER_LINES: [(&str, &str); 70] = [
     ("reset 0 1 00", "number"),
     ("inject 3 0 1 0 4294967295", "inject 3 0 1 0 4294967295"),
     (
-        "inject 0 3 4294967295 4294967295 0",
-        "inject 0 3 4294967295 4294967295 0",
+        "inject 0 6 4294967295 4294967295 0",
+        "inject 0 6 4294967295 4294967295 0",
     ),
     ("inject 0 1 2 3", "few"),
     ("inject 0 1 2 3 4 1", "many"),
-    ("inject 4 4 0 x x", "mote"),
-    ("inject 0 4 0 x x", "image"),
+    ("inject 4 7 0 x x", "mote"),
+    ("inject 0 7 0 x x", "image"),
     ("inject 0 1 0 x x", "version"),
     ("inject 0 00 2 3 4", "number"),
     ("inject 0 1 4294967296 3 4", "number"),
@@ -160,14 +160,14 @@ const LATER_LINES: [(&str, &str); 70] = [
     ("inject 0 1 2 3 4294967296", "number"),
     ("order 3 1 0 1 0 4294967295", "order 3 1 0 1 0 4294967295"),
     (
-        "order 0 4294967295 3 4294967295 4294967295 0",
-        "order 0 4294967295 3 4294967295 4294967295 0",
+        "order 0 4294967295 6 4294967295 4294967295 0",
+        "order 0 4294967295 6 4294967295 4294967295 0",
     ),
     ("order 0 1 2 3 4", "few"),
     ("order 0 1 2 3 4 5 1", "many"),
-    ("order 4 0 4 0 x x", "mote"),
-    ("order 0 0 4 0 x x", "version"),
-    ("order 0 1 4 0 x x", "image"),
+    ("order 4 0 7 0 x x", "mote"),
+    ("order 0 0 7 0 x x", "version"),
+    ("order 0 1 7 0 x x", "image"),
     ("order 0 1 2 0 x x", "version"),
     ("order 0 4294967296 2 3 4 5", "number"),
     ("order 0 1 2 4294967296 4 5", "number"),
@@ -187,15 +187,18 @@ const LATER_LINES: [(&str, &str); 70] = [
     ("golden base 0 hex:41", "place"),
 ];
 
-const EVENTS_LINES: [(&str, &str); 5] = [
+const EVENTS_LINES: [(&str, &str); 8] = [
     ("motes 4", "place"),
     ("golden base 0 hex:41", "place"),
     ("image 1 1 blink hex:41", "image 1 1 blink hex:41"),
     ("order 0 1 2 3 4 5", "order 0 1 2 3 4 5"),
     ("cut 1 ff", "cut 1 ff"),
+    ("narrow 0", "place"),
+    ("narrow x", "place"),
+    ("narrow 0 1", "many"),
 ];
 
-const CUT_LINES: [(&str, &str); 17] = [
+const CUT_LINES: [(&str, &str); 20] = [
     ("  # x", ""),
     ("tick 0 1 2", "tick 0 1 2"),
     ("reset 0 1 2", "reset 0 1 2"),
@@ -213,14 +216,18 @@ const CUT_LINES: [(&str, &str); 17] = [
     ("motes 4", "place"),
     ("golden x x x", "place"),
     ("rese", "verb"),
+    ("narrow 0", "cut"),
+    ("narrow x", "cut"),
+    ("narrow", "few"),
 ];
 
-const EVENTS_CUT_LINES: [(&str, &str); 5] = [
+const EVENTS_CUT_LINES: [(&str, &str); 6] = [
     ("tick 0 1 2", "tick 0 1 2"),
     ("cut x x", "cut"),
     ("image x x x x", "cut"),
     ("motes x", "place"),
     ("golden x x x", "place"),
+    ("narrow 0", "place"),
 ];
 
 /// Links, frames that are heard, and frames from outside.
@@ -265,6 +272,24 @@ const RADIO_LINES: [(&str, &str); 35] = [
     ),
 ];
 
+/// Motes that are narrow. One of them is.
+const NARROW_LINES: [(&str, &str); 14] = [
+    ("narrow 3", "narrow 3"),
+    ("  narrow   0  ", "narrow 0"),
+    ("narrow", "few"),
+    ("narrow 1 2", "many"),
+    ("NARROW 1", "verb"),
+    ("narrow 4", "mote"),
+    ("narrow 4294967295", "mote"),
+    ("narrow 4294967296", "number"),
+    ("narrow x", "number"),
+    ("narrow 00", "number"),
+    ("narrow -1", "number"),
+    ("narrow 2", "place"),
+    ("  narrow   2  ", "place"),
+    ("link 2 3", "link 2 3"),
+];
+
 /// Rounds and sweeps, and lines that are not played yet.
 const ROUND_LINES: [(&str, &str); 17] = [
     ("round 0 1", "round 0 1"),
@@ -287,10 +312,11 @@ const ROUND_LINES: [(&str, &str); 17] = [
 ];
 
 /// Lines behind a round or a sweep.
-const BEHIND_ROUND_LINES: [(&str, &str); 3] = [
+const BEHIND_ROUND_LINES: [(&str, &str); 4] = [
     ("link 0 1", "place"),
     ("tick 0 1 2", "tick 0 1 2"),
     ("sweeps 1", "sweeps 1"),
+    ("narrow 0", "place"),
 ];
 
 /// Inputs, and what their first line says.
@@ -325,7 +351,7 @@ fn is_short(line: &Line) -> bool
     ensures { result ≡ true → IsShort line.now }
 {
     match line {
-        Line::Image { content, .. } => content.as_slice().len() <= LONGEST_WRITTEN,
+        Line::Image { content, .. } => content.as_slice().len() <= MOST_WRITTEN,
         _ => true,
     }
 }
@@ -366,11 +392,12 @@ fn place_behind(alloc: Global, lines: &[&str]) -> Result<Place, Fail>
 
 #[test]
 fn lines_say_what_they_spell_at_their_place(rt: HostRuntime) -> Result<(), Fail> {
-    let tables: [(&[&str], Option<LineFault>, &[(&str, &str)]); 10] = [
+    let tables: [(&[&str], Option<LineFault>, &[(&str, &str)]); 11] = [
         (&FIRST, Some(LineFault::Place), &FIRST_LINES),
         (&SECOND, Some(LineFault::Place), &SECOND_LINES),
         (&LATER, None, &LATER_LINES),
         (&LINKED, None, &RADIO_LINES),
+        (&NARROWED, None, &NARROW_LINES),
         (&LATER, None, &ROUND_LINES),
         (&ROUND, None, &BEHIND_ROUND_LINES),
         (&SWEEP, None, &BEHIND_ROUND_LINES),

@@ -1,9 +1,10 @@
 //! Frames from outside that are not honest: they tell of an image that nobody injected.
 
-use dg_base::{MemSink, MemSource, Status};
+use dg_base::{MemSink, MemSource, Status, StepClock};
 use dg_cli::run;
 use dg_control::Order;
 use dg_frame::{Entry, Message, NARROW_IMAGES, in_range, write};
+use dg_link::MemLink;
 use dg_nor::Board;
 use dg_object::{PACKET_SIZE, PACKETS};
 use std::alloc::Global;
@@ -94,7 +95,17 @@ fn a_page_that_is_no_descriptor_is_not_kept(rt: HostRuntime) -> Result<(), Fail>
         boards.push(Board::memory(alloc)?)?;
         let mut input = MemSource::new(script_of(alloc, crc)?, Vec::new(alloc));
         let mut out = MemSink::new(alloc, 4096, Vec::new(alloc))?;
-        let status = run(alloc, &words, &mut input, &mut out, &mut boards);
+        let mut link = MemLink::new(alloc, 1);
+        let mut clock = StepClock::new(1);
+        let status = run(
+            alloc,
+            &words,
+            &mut input,
+            &mut out,
+            &mut boards,
+            &mut link,
+            &mut clock,
+        );
         assert_eq!(rt; status, Status::Done);
         assert_eq!(rt; out.bytes(), REPORT);
     }

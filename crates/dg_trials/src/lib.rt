@@ -10,11 +10,15 @@ mod faults;
 #[cfg(test)]
 mod frames;
 #[cfg(test)]
+mod known;
+#[cfg(test)]
 mod motes;
 #[cfg(test)]
 mod reports;
 #[cfg(test)]
 mod runs;
+#[cfg(test)]
+mod services;
 #[cfg(test)]
 mod shapes;
 #[cfg(test)]

@@ -34,7 +34,7 @@ struct Node {
 }
 
 impl Node {
-    /// A mote that was started at moment 0, on a board that keeps golden alone.
+    /// A wide mote that was started at moment 0, on a board that keeps golden alone.
     fn started(rt: &HostRuntime, id: u16) -> Result<Node, Fail>
         ensures { IfOk result (λ node. Runs (board_image node.board) node.mote node.now) }
     {
@@ -44,7 +44,7 @@ impl Node {
         }
         let volume = mounted(&mut board)?;
         a_mote_stays_timely();
-        let mote = Mote::new(volume, id, 0, 0);
+        let mote = Mote::new(volume, id, true, 0, 0);
         Ok(Node {
             board,
             mote,
@@ -129,17 +129,17 @@ fn sent(told: (Did, Option<Frame>)) -> Result<Frame, Fail> {
     }
 }
 
-/// Whether a frame is an advert of a mote.
+/// Whether a frame is an advert of a mote, which is wide.
 fn is_advert(frame: &Frame, mote: u16) -> bool {
-    match read(frame.as_slice(), false) {
-        Ok(Message::Advert { source, .. }) => source == mote,
+    match read(frame.as_slice(), true) {
+        Ok(Message::Wide { source, .. }) => source == mote,
         _ => false,
     }
 }
 
 /// Whether a frame is a packet of page 0 of the image, from mote 0.
 fn is_packet(frame: &Frame, number: u8) -> bool {
-    match read(frame.as_slice(), false) {
+    match read(frame.as_slice(), true) {
         Ok(
             Message::Packet {
                 source: 0,
@@ -181,7 +181,7 @@ fn single_events_with_suppression_and_a_served_request(rt: HostRuntime) -> Resul
     assert_eq!(rt; one.hear(500, &advert)?, Heard::Asks { image: 1, page: 0 });
     assert_eq!(rt; one.kept(), Some((1, 0)));
     let asked = sent(one.tick(501)?)?;
-    assert_eq!(rt; read(asked.as_slice(), false), Ok(request()));
+    assert_eq!(rt; read(asked.as_slice(), true), Ok(request()));
     assert_eq!(rt;
         zero.hear(501, &asked)?,
         Heard::Serves { image: 1, page: 0 }

@@ -1,7 +1,8 @@
 //! Runs of the program: scripts with the reports that they must have, and the ways in which a run fails.
 
-use dg_base::{MemSink, MemSource, Source, Status};
+use dg_base::{MemSink, MemSource, Source, Status, StepClock};
 use dg_cli::run;
+use dg_link::MemLink;
 use dg_nor::Board;
 use std::alloc::{AllocError, Global};
 use std::test::Fail;
@@ -81,7 +82,17 @@ fn answer(
     let mut boards = new_boards(alloc, boards)?;
     let mut input = MemSource::new(Vec::from_slice(alloc, script)?, outside.reads);
     let mut out = MemSink::new(alloc, outside.room, outside.writes)?;
-    let status = run(alloc, &words, &mut input, &mut out, &mut boards);
+    let mut link = MemLink::new(alloc, 1);
+    let mut clock = StepClock::new(1);
+    let status = run(
+        alloc,
+        &words,
+        &mut input,
+        &mut out,
+        &mut boards,
+        &mut link,
+        &mut clock,
+    );
     let written = Vec::from_slice(alloc, out.bytes())?;
     Ok(Told { status, written })
 }
@@ -180,10 +191,18 @@ fn no_more_is_taken_than_is_needed(rt: HostRuntime) -> Result<(), Fail> {
         let mut boards = new_boards(alloc, 1)?;
         let mut input = MemSource::new(script, outside.reads);
         let mut out = MemSink::new(alloc, outside.room, outside.writes)?;
-        assert_eq!(rt;
-            run(alloc, &words, &mut input, &mut out, &mut boards),
-            status
+        let mut link = MemLink::new(alloc, 1);
+        let mut clock = StepClock::new(1);
+        let answered = run(
+            alloc,
+            &words,
+            &mut input,
+            &mut out,
+            &mut boards,
+            &mut link,
+            &mut clock,
         );
+        assert_eq!(rt; answered, status);
         assert_eq!(rt; out.bytes(), report);
         let rest = left(&mut input);
         assert!(rt; rest >= 699_998, "{rest}");

@@ -10,14 +10,15 @@ use dg_boot::{BootFault, Kind, start};
 use dg_control::PLACE_SIZE;
 use dg_nor::{Board, Fused, Nor, SECTOR_SIZE, SECTORS, Stopped, erase_sector, program_in, read_in};
 use dg_object::{PACKET_SIZE, PACKETS, PAGE_SIZE, page_of};
-use dg_volume::{InjectFault, Volume};
+use dg_volume::{FORM, InjectFault, Volume};
 use std::test::Fail;
 
-/// The place of a fresh volume: committed, form 1, golden Live with version 1, and all else empty.
+/// The place of a fresh volume: committed, form 2, golden Live with version 1, and all else empty.
 const FRESH: [u8; PLACE_SIZE] = [
-    0x7F, 0x01, 0x01, 0, 0, 0, 1, 0, 0, 0, 0, 0, 0, 0, 0, 0, 0, 0, 0, 0, 0, 0, 0, 0, 0, 0, 0, 0, 0,
-    0, 0, 0, 0, 0, 0, 0, 0, 0, 0, 0xFF, 0xFF, 0xFF, 0xFF, 0xFF, 0xFF, 0xFF, 0xFF, 0xFF, 0xFF, 0xFF,
-    0xFF, 0xFF, 0xFF, 0xFF, 0xFF, 0xFF, 0xFF, 0xFF, 0xFF, 0xFF, 0xFF, 0xFF, 0xFF, 0xFF,
+    0x7F, 0x02, 0x01, 0x00, 0x00, 0x00, 0x01, 0x00, 0x00, 0x00, 0x00, 0x00, 0x00, 0x00, 0x00, 0x00,
+    0x00, 0x00, 0x00, 0x00, 0x00, 0x00, 0x00, 0x00, 0x00, 0x00, 0x00, 0x00, 0x00, 0x00, 0x00, 0x00,
+    0x00, 0x00, 0x00, 0x00, 0x00, 0x00, 0x00, 0x00, 0x00, 0x00, 0x00, 0x00, 0x00, 0x00, 0x00, 0x00,
+    0x00, 0x00, 0x00, 0x00, 0x00, 0x00, 0xFF, 0xFF, 0xFF, 0xFF, 0xFF, 0xFF, 0xFF, 0xFF, 0xFF, 0xFF,
 ];
 
 /// The name of golden.
@@ -66,7 +67,7 @@ fn image_pages() -> Pages {
 /// A volume that keeps golden alone.
 fn formatted(rt: &HostRuntime) -> Result<Board, Fail> {
     let mut board = Board::memory(rt.alloc())?;
-    if Volume::format(&mut board, &content(), BASE, 0).is_err() {
+    if Volume::format(&mut board, &content(), BASE, 0, FORM).is_err() {
         return Err("the board is not formatted".into());
     }
     Ok(board)
@@ -122,10 +123,10 @@ fn fill<N: Nor>(nor: &mut N, to: u32, page: &[u8; PAGE_SIZE], gate: u8) -> Resul
 /// The operations of a first start: it is counted, golden is copied, and program memory is set to it.
 fn start_listed<N: Nor>(nor: &mut N, pages: &Pages) -> Result<(), Stopped> {
     let mut counted = FRESH;
-    counted[37] = 1;
+    counted[52] = 1;
     let mut set = counted;
-    set[22] = 1;
-    set[27] = 1;
+    set[37] = 1;
+    set[42] = 1;
     commit(nor, 1, &counted)?;
     copy(nor, 3, &pages.descriptor)?;
     copy(nor, 4, &pages.data)?;

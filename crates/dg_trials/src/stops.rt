@@ -1,11 +1,11 @@
-//! Acts of a volume that are stopped at each of their operations: an order, and an injection that is made again. What is
+//! Acts of a volume that are stopped at each of their operations: an order, a migration, and an injection that is made again. What is
 //! expected is worked out by hand: a program that is interrupted leaves finished OR (old AND mask).
 ghost use Rattle.std.specs.Prelude.{◌≤◌};
 
-use crate::boards::{CONTENT, IMAGE, MASKS, NAME, VERSION, formatted, mounted};
-use dg_control::{MOST_ROOM, Order, PLACE_SIZE, PLACES};
+use crate::boards::{CONTENT, IMAGE, MASKS, NAME, VERSION, formatted, formatted_in, mounted};
+use dg_control::{CommitFault, MOST_ROOM, Order, PLACE_SIZE, PLACES};
 use dg_nor::{Board, Fused};
-use dg_volume::{InjectFault, Injected, OrderFault};
+use dg_volume::{FORM, InjectFault, Injected, OLD_FORM, OrderFault};
 use std::test::Fail;
 
 /// With so many commits spent no place is free, so that the next one hands over to the other sector.
@@ -51,13 +51,46 @@ fn order(
     Ok(volume.order(&mut fused, ORDER.number, ORDER.image, ORDER.version))
 }
 
-/// What a hand-over leaves that is stopped at `after`: the old order and its room, unless the ledger's bit was cleared.
+/// Whether a hand-over that is stopped at `after` cleared the ledger's bit.
+fn is_over(after: u32, mask: &[u8; PLACE_SIZE]) -> bool {
+    after == HAND_OVER && mask[0] & 0x80 == 0
+}
+
+/// What an order leaves that is stopped in its hand-over: the old order and its room, unless the ledger's bit was cleared.
 fn left_at(after: u32, mask: &[u8; PLACE_SIZE]) -> (Order, u32) {
-    if after == HAND_OVER && mask[0] & 0x80 == 0 {
+    if is_over(after, mask) {
         (ORDER, MOST_ROOM - SPENT - 1)
     } else {
         (NO_ORDER, MOST_ROOM - SPENT)
     }
+}
+
+/// The form and the room that a migration leaves.
+fn form_at(after: u32, mask: &[u8; PLACE_SIZE]) -> (u8, u32) {
+    if is_over(after, mask) {
+        (FORM, MOST_ROOM - SPENT - 1)
+    } else {
+        (OLD_FORM, MOST_ROOM - SPENT)
+    }
+}
+
+/// Takes a chip over to the new form, where operation `after` is interrupted, if there is one.
+fn migrate(
+    board: &mut Board,
+    after: u32,
+    mask: &[u8; PLACE_SIZE],
+) -> Result<Result<(), CommitFault>, Fail>
+    requires { 1 ≤ after }
+{
+    let mut volume = mounted(board)?;
+    let mut fused = Fused::new(board, Some(after), mask);
+    Ok(volume.migrate(&mut fused))
+}
+
+/// The form of a board, and its room.
+fn kept_form(board: &mut Board) -> Result<(u8, u32), Fail> {
+    let volume = mounted(board)?;
+    Ok((volume.form(), volume.room()))
 }
 
 /// The order that a board keeps, and its room.
@@ -128,6 +161,29 @@ fn a_stopped_order_is_kept_or_not(rt: HostRuntime) -> Result<(), Fail> {
         let mut copy = board.copy(rt.alloc())?;
         assert_eq!(rt; order(&mut copy, HAND_OVER + 1, mask)?, Ok(()));
         assert_eq!(rt; kept_order(&mut copy)?, left_at(HAND_OVER, &MASKS[0]));
+    }
+    Ok(())
+}
+
+#[test]
+fn a_stopped_migration_leaves_the_old_form_or_the_new_one(rt: HostRuntime) -> Result<(), Fail> {
+    let mut board = formatted_in(&rt, SPENT, OLD_FORM)?;
+    let snapshot = mounted(&mut board)?.snapshot();
+    for mask in &MASKS {
+        for after in 1..=HAND_OVER {
+            let mut copy = board.copy(rt.alloc())?;
+            let stopped = migrate(&mut copy, after, mask)?;
+            assert_eq!(rt; stopped, Err(CommitFault::Stopped), "{after}");
+            let left = mounted(&mut copy)?.snapshot();
+            assert!(rt; left == snapshot, "{after}, {mask:?}");
+            let form = kept_form(&mut copy)?;
+            assert_eq!(rt; form, form_at(after, mask), "{after}, {mask:?}");
+        }
+        let mut copy = board.copy(rt.alloc())?;
+        assert_eq!(rt; migrate(&mut copy, HAND_OVER + 1, mask)?, Ok(()));
+        // a chip of the new form is left as it is: no operation is made
+        assert_eq!(rt; migrate(&mut copy, 1, mask)?, Ok(()));
+        assert_eq!(rt; kept_form(&mut copy)?, form_at(HAND_OVER, &MASKS[0]));
     }
     Ok(())
 }
