@@ -15,7 +15,7 @@ use crate::layout::PROGRAM;
 use crate::volume::{Kept, MountFault, Volume};
 use dg_control::{Control, GOLDEN_VERSION, IMAGES, Program, SlotState, Snapshot};
 use dg_nor::Nor;
-use dg_slot::{OpenSlot, read_descriptor};
+use dg_slot::{OpenSlot, find_descriptor};
 
 impl Volume {
     /// Mounts a chip, whatever its bytes are.
@@ -125,10 +125,10 @@ fn mount_program<N: Nor>(nor: &mut N, program: Program) -> Result<(), MountFault
     let Program::Set { image, version } = program else {
         return Ok(());
     };
-    let Some(first) = read_descriptor(nor, PROGRAM)? else {
+    let Some(descriptor) = find_descriptor(nor, PROGRAM)? else {
         return Err(MountFault::NotAVolume);
     };
-    if first.descriptor.image == image && first.descriptor.version == version {
+    if descriptor.image == image && descriptor.version == version {
         Ok(())
     } else {
         Err(MountFault::NotAVolume)
