@@ -3,13 +3,19 @@ use Rattle.std.proofs.Common.{◌≡◌, ◌≢◌, ℕ, ◌+◌, ◌-◌, ◌*�
 use Rattle.std.proofs.lemmas.Bool.{eqb-true}
 use Rattle.std.proofs.lemmas.Bool.Decides.{nat_tests}
 use Rattle.std.specs.Prelude.{◌==◌, ◌&&◌, ◌||◌, not, nat_lt, nat_le, is_some, if◌then◌else◌}
+use Rattle.dg_base.specs.Crc.{crc_of}
 use Rattle.dg_nor.specs.Trail.{Trail, last, joined, resting}
 use Rattle.dg_nor.proofs.TrailLemmas.{joined-assoc, last-joined, last-resting, last-stepping}
 use Rattle.dg_control.specs.Store.{commit_operations}
+use Rattle.dg_slot.specs.Layout.{page_sector}
+use Rattle.dg_slot.specs.Pages.{page_in}
 use Rattle.dg_slot.specs.Kept.{Held, KeepsImage}
 use Rattle.dg_volume.specs.Sizes.{images, golden_version, short_starts, copy_operations}
 use Rattle.dg_volume.specs.Store.{App, Store, held, KeepsGolden}
-use Rattle.dg_volume.specs.Stands.{Stands, HoldsApp}
+use Rattle.dg_volume.specs.Told.{told, told_held}
+use Rattle.dg_volume.specs.Stands.{Stands, HoldsApp, kept_at, Mounted}
+use Rattle.dg_volume.specs.declared.volume.Kept.{Kept}
+use Rattle.dg_volume.specs.declared.volume.Volume.{Volume}
 use Rattle.dg_volume.specs.Changes.{spent}
 use Rattle.dg_volume.specs.Trails.{committing}
 use Rattle.dg_volume.specs.Start.{behind, complete_pages, is_whole, is_set_to, order_waits, by_gesture, blank_by, blank_trail, copy_trail, app_of, kept_runs, order_boot, finish_trail, golden_copied, golden_stays, golden_by, golden_boot, kept_by, kept_boot, waived_once, boot_counted, sound}
@@ -114,6 +120,15 @@ pub order_version : (s : Store) (i v : ℕ) (h : Held) → order_waits s ≡ tru
 order_version s i v h waits image version here =
     let w = order_facts s waits in
     ap (λ (g : Held). g.version) (same_some (held s i) h w.found here (ap (held s) image ∙ w.here)) ∙ w.version ∙ sym version
+
+-- page 0 of an image that is kept whole has the CRC that is told of it
+pub first_crc : (c : List ℕ) (v : Volume) (s : Store) (i : ℕ) (k : Kept) → i < images → Mounted c v s → HoldsWhole s i → kept_at v i ≡ Some k → crc_of (page_in c (page_sector i 0)) ≡ k.crc
+first_crc c v s i k known m x is =
+    let stands = keeps_found c s i x.found known m.stands x.here in
+    let some : 0 < length x.found.complete = omega (arith, x.whole, stands.header.some) in
+    let e : Some (told_held x.found) ≡ Some k = sym (ap told x.here) ∙ sym (m.tells.kept i known (λ h. h)) ∙ is in
+    let same : told_held x.found ≡ k = cc in
+    (stands.first some).same_crc ∙ ap (λ (q : Kept). q.crc) same
 
 -- ---- the trail of an ordered start
 

@@ -1,6 +1,6 @@
 -- The checksums that a descriptor keeps, and what makes pages sound.
-use Rattle.std.proofs.Common.{◌≡◌, ◌≢◌, ℕ, zero, suc, ◌+◌, ◌-◌, ◌*◌, ◌<◌, ◌≤◌, Bool, true, false, List, [], map, length, get_or, refl, sym, ap, ◌∙◌, ⊎_elim, arith}
-use Rattle.std.proofs.lemmas.Bool.{cases_lt, eq-eqb, ne_eqb}
+use Rattle.std.proofs.Common.{◌≡◌, ℕ, zero, suc, ◌+◌, ◌-◌, ◌*◌, ◌<◌, ◌≤◌, Bool, true, false, List, [], map, length, get_or, refl, sym, ap, ◌∙◌, ⊎_elim, arith}
+use Rattle.std.proofs.lemmas.Bool.{cases_lt, eq-eqb}
 use Rattle.std.specs.Prelude.{◌==◌, ◌&&◌}
 use Rattle.std.specs.List.{list_all, range_with_len}
 use Rattle.dg_words.specs.Lists.{tabulate}
@@ -90,15 +90,9 @@ sound_fails crc n f p b page first low high e t same start =
     let here : is_sound_at f p ≡ false = ap (λ x. crc_of x == crc_in (f 0) p) (sym same) ∙ ap (λ x. crc_of page == crc_in x p) (sym start) ∙ sym e ∙ t in
     sym (pages_sound-tabulate crc n f (omega arith) ∙ ap (λ b. (crc_of (f 0) == crc) && b) (all_fails (is_sound_at f) 1 (n - 1) p low (omega arith) here) ∙ and_false (crc_of (f 0) == crc))
 
--- page 0 has another CRC
-pub sound_first : (crc n found : ℕ) (f : ℕ → List ℕ) (first : List ℕ) → 1 ≤ n → found ≡ crc_of first → found ≢ crc → first ≡ f 0 → false ≡ pages_sound crc (tabulate n f)
-sound_first crc n found f first low e ne same =
-    let other : (crc_of (f 0) == crc) ≡ false = ne_eqb (crc_of (f 0)) crc (λ h. ne (e ∙ ap crc_of same ∙ h)) in
-    sym (pages_sound-tabulate crc n f low ∙ ap (λ b. b && list_all (is_sound_at f) (range_with_len 1 (n - 1))) other)
-
 -- all are
-pub sound_all : (crc n found p : ℕ) (f : ℕ → List ℕ) (first : List ℕ) → 1 ≤ n → found ≡ crc_of first → found ≡ crc → first ≡ f 0 → p ≡ n
+pub sound_all : (crc n p : ℕ) (f : ℕ → List ℕ) → 1 ≤ n → crc_of (f 0) ≡ crc → p ≡ n
     → list_all (is_sound_at f) (range_with_len 1 (p - 1)) ≡ true → true ≡ pages_sound crc (tabulate n f)
-sound_all crc n found p f first low e same start end h =
-    let here : (crc_of (f 0) == crc) ≡ true = eq-eqb (crc_of (f 0)) crc (ap crc_of (sym start) ∙ sym e ∙ same) in
+sound_all crc n p f low first end h =
+    let here : (crc_of (f 0) == crc) ≡ true = eq-eqb (crc_of (f 0)) crc first in
     sym (pages_sound-tabulate crc n f low ∙ ap (λ b. b && list_all (is_sound_at f) (range_with_len 1 (n - 1))) here ∙ ap (λ m. list_all (is_sound_at f) (range_with_len 1 (m - 1))) (sym end) ∙ h)

@@ -48,17 +48,16 @@ fn is_page_sound<N: Nor>(nor: &mut N, image: u8, page: u8) -> Result<bool, Stopp
     Ok(found == kept)
 }
 
-/// Whether page 0 of a slot has the CRC of its header, and each data page the CRC that page 0 keeps of it.
+/// Whether the pages of a slot are sound, where page 0 is known to have the CRC of its header: whether each data page
+/// has the CRC that page 0 keeps of it.
 pub(crate) fn is_sound<N: Nor>(nor: &mut N, image: u8, kept: &Kept) -> Result<bool, Stopped>
     requires known_image { image < images }
     requires some_pages { 1 ≤ kept.now.pages }
     requires most_pages { kept.now.pages ≤ most_pages }
+    requires first { crc_of (page_in (N.device nor.old).image (page_sector image 0)) ≡ kept.now.crc }
     ensures sound { IfOk result (λ b. b ≡ pages_sound kept.now.crc (slot_pages (N.device nor.old).image image kept.now.pages)) }
     ensures ends { ReadEnds result (N.device nor.old) (N.device nor.new) }
 {
-    if read_page_crc(nor, image, 0)? != kept.crc {
-        return Ok(false);
-    }
     for p in 1..kept.pages {
         if !is_page_sound(nor, image, p)? {
             return Ok(false);

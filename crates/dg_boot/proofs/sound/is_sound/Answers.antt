@@ -1,4 +1,4 @@
-use Rattle.std.proofs.Common.{ℕ, List, refl, ap, arith}
+use Rattle.std.proofs.Common.{ℕ, List, ap, arith}
 use Rattle.dg_slot.specs.Layout.{page_sector}
 use Rattle.dg_slot.specs.Pages.{page_in}
 use Rattle.dg_boot.proofs.ReadLemmas.{Looked_then}
@@ -28,5 +28,4 @@ pub returns-clause-sound : goal.returns-clause-sound
 returns-clause-sound g c =
     let image = (g.N.Nor.device c.args.nor.now).image in
     let i = c.args.image in
-    sound_all c.args.kept.now.crc c.args.kept.now.pages c.in_ok-read_page_crc.field-0 c.loop-p.p (λ p. page_in image (page_sector i p)) (page_in image (page_sector i 0)) (omega arith) c.in_ok-read_page_crc.ensures.crc c.if-branch-kept.false
-    refl (omega arith) c.loop-p.invariant.sound
+    sound_all c.args.kept.now.crc c.args.kept.now.pages c.loop-p.p (λ p. page_in image (page_sector i p)) (omega arith) c.requires.first (omega arith) c.loop-p.invariant.sound
