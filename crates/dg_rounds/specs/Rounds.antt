@@ -3,10 +3,18 @@ use Rattle.std.specs.Prelude.{ℕ, zero, suc, List, [], ◌∷◌, ◌++◌, rep
 use Rattle.std.specs.List.{flat_map}
 use Rattle.dg_base.specs.declared.events.Event.{Event}
 use Rattle.dg_base.specs.declared.events.Event.TheVariants.{Tick, Last}
+use Rattle.dg_object.specs.Sizes.{packets}
 
 -- the milliseconds between the ticks of a round, by this project's own profile. They are more than any window of a mote
 abbrev pub pace : ℕ
 pace = 131072
+
+-- the ticks that bring a mote to rest, and those in which it tells what it keeps, by the same profile
+abbrev pub drain_ticks : ℕ
+drain_ticks = 50
+
+abbrev pub advert_ticks : ℕ
+advert_ticks = 3
 
 -- these events n times
 unfoldable pub times : {A : Type 0} → ℕ → List A → List A
@@ -19,11 +27,11 @@ paced m = Tick m pace 0
 abbrev pub passed : (from to : ℕ) → Event
 passed from to = Last from to 0 0
 
--- Both motes come to rest. Then a tells b what it has, b asks a, and a sends the 48 packets of a page.
+-- Both motes come to rest. Then a tells b what it has, b asks a, and a sends the packets of a page.
 unfoldable pub round : (a b : ℕ) → List Event
 round a b =
-    replicate 50 (paced a) ++ (replicate 50 (paced b) ++ (replicate 3 (paced a) ++ (passed a b ∷ paced b ∷ passed b a
-    ∷ times 48 (paced a ∷ passed a b ∷ []))))
+    replicate drain_ticks (paced a) ++ (replicate drain_ticks (paced b) ++ (replicate advert_ticks (paced a) ++ (passed a b ∷ paced b ∷ passed b a
+    ∷ times packets (paced a ∷ passed a b ∷ []))))
 
 -- the rounds of a sweep: for each link one from its first mote to its second, and one back
 abbrev pub rounds_of : List (ℕ × ℕ) → List (ℕ × ℕ)

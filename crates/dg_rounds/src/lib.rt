@@ -9,7 +9,9 @@ mod rounds;
 mod sweeps;
 
 pub use distances::{enough, levels};
-pub use rounds::{PACE, ROUND_EVENTS, RoundEvents, a_round_has_this_pace, round};
+pub use rounds::{
+    PACE, ROUND_EVENTS, RoundEvents, a_round_has_these_ticks, a_round_has_this_pace, round,
+};
 pub use sweeps::{SweepEvents, sweep};
 
 #[cfg(test)]

@@ -1,7 +1,8 @@
 //! The events of a round.
-ghost use Rattle.std.specs.Prelude.{◌≡◌, ◌<◌, [], ◌∷◌, length, slice_index_or};
+ghost use Rattle.std.specs.Prelude.{◌≡◌, ◌+◌, ◌*◌, ◌<◌, [], ◌∷◌, length, slice_index_or};
 ghost use Rattle.dg_base.specs.declared.events.Event.{Event};
-ghost use Rattle.dg_rounds.specs.Rounds.{pace, round, paced, passed};
+ghost use Rattle.dg_object.specs.Sizes.{packets};
+ghost use Rattle.dg_rounds.specs.Rounds.{pace, drain_ticks, advert_ticks, round, paced, passed};
 ghost use Rattle.dg_rounds.specs.Left.{left_of_round};
 
 use dg_base::Event;
@@ -24,6 +25,13 @@ pub const ROUND_EVENTS: u8 = 202;
 /// The ticks of a round are 131,072 ms apart.
 pub fn a_round_has_this_pace()
     ensures { PACE ≡ pace }
+{}
+
+/// 50 ticks bring a mote to rest, three more make it advertise, and for each of the 48 packets of a page there are two events.
+pub fn a_round_has_these_ticks()
+    ensures drain { REST ≡ drain_ticks }
+    ensures advert { ADVERT ≡ advert_ticks }
+    ensures events { ROUND_EVENTS ≡ 2 * drain_ticks + advert_ticks + 3 + 2 * packets }
 {}
 
 /// The events of one round, from first to last.
