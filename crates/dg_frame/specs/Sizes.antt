@@ -1,6 +1,6 @@
 -- The bounds of frames. They are the frames' own: a chip may have more slots, and a volume more images. The format is of this profile.
 use Rattle.std.specs.Prelude.{ℕ, zero, suc, ◌+◌, ◌-◌, ◌*◌, Bool, if◌then◌else◌, List, [], ◌∷◌}
-pub use Rattle.dg_object.specs.Sizes.{packets, packet_size, most_pages}
+pub use Rattle.dg_object.specs.Sizes.{packets, packet_size, fewest_pages, most_pages}
 
 -- the bytes of a frame, at most
 abbrev pub frame_bytes : ℕ
@@ -44,10 +44,6 @@ last_packet = packets - 1
 -- the bytes of a packet set: a bit for each packet of a page
 abbrev pub set_bytes : ℕ
 set_bytes = 6
-
--- the fewest pages that an entry may tell: a descriptor, and one page of the image
-abbrev pub fewest_pages : ℕ
-fewest_pages = 2
 
 -- the bytes of an entry, and of an order
 abbrev pub entry_size : ℕ

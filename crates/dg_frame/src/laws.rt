@@ -10,9 +10,9 @@ ghost use Rattle.dg_frame.specs.Ranges.{IsInRange};
 ghost use Rattle.dg_frame.specs.Readings.{IsReading};
 
 use crate::kind::{ADVERT_BYTES, PACKET_FRAME_BYTES, REQUEST_BYTES, WIDE_BYTES};
-use crate::ranges::FEWEST_PAGES;
 use crate::reading::SHORTEST;
 use crate::{FRAME_BYTES, NARROW_IMAGES, SET_BYTES, WIDE_IMAGES};
+use dg_object::FEWEST_PAGES;
 
 /// The sizes are those of this profile: frames of 5 to 64 bytes, adverts of 38, requests of 19, packets of 35 and wide
 /// adverts of 62, entries of three images or of six, packet sets of 6 bytes, and objects of 2 pages or more.

@@ -7,10 +7,7 @@ ghost use Rattle.dg_frame.specs.Grammar.{entry_fits, order_in_frame, page_fits, 
 
 use crate::{Entry, Message, NARROW_IMAGES, WIDE_IMAGES};
 use dg_control::Order;
-use dg_object::{MOST_PAGES, PACKETS};
-
-/// The fewest pages that an entry may tell: a descriptor, and one page of the image.
-pub(crate) const FEWEST_PAGES: u8 = 2;
+use dg_object::{FEWEST_PAGES, MOST_PAGES, PACKETS};
 
 /// Whether each field is in its range, so that a reader that is wide or narrow takes the message. Sources and
 /// destinations are any.
