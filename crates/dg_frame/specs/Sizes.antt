@@ -1,10 +1,11 @@
 -- The bounds of frames. They are the frames' own: a chip may have more slots, and a volume more images. The format is of this profile.
 use Rattle.std.specs.Prelude.{ℕ, zero, suc, ◌+◌, ◌-◌, ◌*◌, Bool, if◌then◌else◌, List, [], ◌∷◌}
+use Rattle.dg_base.specs.Sizes.{longest_frame}
 pub use Rattle.dg_object.specs.Sizes.{packets, packet_size, fewest_pages, most_pages}
 
--- the bytes of a frame, at most
+-- the bytes of a frame, at most, as of what comes from outside
 abbrev pub frame_bytes : ℕ
-frame_bytes = 64
+frame_bytes = longest_frame
 
 -- the first byte of a frame names its kind
 abbrev pub advert_kind : ℕ

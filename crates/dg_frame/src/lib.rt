@@ -14,6 +14,7 @@ mod reading;
 mod writing;
 
 use arrayvec::ArrayVec;
+use dg_base::LONGEST_FRAME;
 use dg_bits::PageBits;
 use dg_control::Order;
 use dg_object::{PACKET_SIZE, PACKETS};
@@ -22,8 +23,8 @@ pub use ranges::in_range;
 pub use reading::read;
 pub use writing::write;
 
-/// The most bytes of a frame.
-pub const FRAME_BYTES: usize = 64;
+/// The most bytes of a frame, as of what comes from outside.
+pub const FRAME_BYTES: usize = LONGEST_FRAME;
 
 /// A narrow reader knows the images from 1 to this number, and an advert speaks of these.
 pub const NARROW_IMAGES: usize = 3;
