@@ -11,6 +11,7 @@ use Rattle.dg_volume.specs.Store.{Store, held, fresh}
 use Rattle.dg_volume.specs.Changes.{paged}
 use Rattle.dg_volume.specs.Table.{row_at, IsTable}
 use Rattle.dg_volume.specs.Agreement.{Agrees}
+pub use Rattle.dg_rounds.specs.Rounds.{drain_ticks, advert_ticks}
 use Rattle.dg_frame.specs.declared.Message.{Message}
 use Rattle.dg_frame.specs.declared.Message.TheVariants.{Request, Packet}
 use Rattle.dg_mote.specs.Model.{Receive, Receiving, begun, maintains}
@@ -20,13 +21,6 @@ use Rattle.dg_mote.specs.Spots.{Spot, SpotIsWell, pace, ticked, tick_at, after_t
 use Rattle.dg_mote.specs.Drained.{Drained, SameKept, KeptBut, HasRoom}
 
 -- ---- draining
-
--- the ticks of a round that drain a mote, and those in which it tells what it keeps
-abbrev pub drain_ticks : ℕ
-drain_ticks = 50
-
-abbrev pub advert_ticks : ℕ
-advert_ticks = 3
 
 -- it is drained then, keeps what it kept, and has the same id and width
 pub record IsDrained (table : List Row) (x : Spot) (now : ℕ) : Type 0 where

@@ -28,12 +28,9 @@ use dg_order::better;
 use dg_recv::Asking;
 use dg_slot::{OpenSlot, PageJob};
 use dg_volume::{
-    Kept, OrderFault, TakeFault, Volume, a_lent_slot_is_filled, acts_end, trails_begin,
-    what_stands_behind_the_commits,
+    Kept, OrderFault, TAKE_COMMITS, TakeFault, Volume, a_lent_slot_is_filled, acts_end,
+    trails_begin, what_stands_behind_the_commits,
 };
-
-/// The commits of a taking.
-const TAKE_COMMITS: u32 = 2;
 
 impl Mote {
     /// An advert of another mote was heard.
