@@ -74,7 +74,7 @@ pub fn run<S: Source, K: Sink, N: Nor, L: Link, C: Clock>(
         (surroundings (around (S.left input.new) (S.faults input.new) (K.written out.new) (K.faults out.new) (map N.device boards.new.items))
         (L.inboxes link.new) (L.faults link.new) (C.told clock.new)) }
     // The arrays of bytes that a mote and its calls name have 214 bytes, and those that are named together in one call no
-    // more than 256. A mote's value has at most 400 bytes of memory, and its outbox 80.
+    // more than 256. A mote's value has at most 464 bytes of memory, and its outbox 80.
     ensures buffers { (buffered_bytes ≡ 214) × BuffersFit × ValuesAreSmall }
     // A command that reads no input leaves it untouched. None but `serve` uses the link and the clock.
     ensures untouched { (ReadsInput (asked_of (map string_bytes words.now.items)) → ⊥) → input.new ≡ input.old }
