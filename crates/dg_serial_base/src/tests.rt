@@ -1,16 +1,16 @@
 //! A base mote over a chip in memory.
 use crate::base;
-use dg_base::{MemSink, MemSource, Status, crc16};
+use dg_base::{MemSink, MemSource, Status};
 use dg_nor::Board;
 use dg_serial::stuff;
-use dg_volume::Volume;
+use dg_volume::{FORM, Volume};
 use std::alloc::Global;
 use std::test::Fail;
 
 /// What a base mote with number 0 writes for this input, 500 milliseconds from event to event, and with the words of seed 0.
 fn written(alloc: Global, input: &[u8]) -> Result<Vec<u8>, Fail> {
     let mut board = Board::memory(alloc)?;
-    Volume::format(&mut board, b"A", b"base", 0)?;
+    Volume::format(&mut board, b"A", b"base", 0, FORM)?;
     let mut bytes = Vec::new(alloc);
     bytes.extend_from_slice(input)?;
     let mut source = MemSource::new(bytes, Vec::new(alloc));
@@ -27,11 +27,10 @@ fn written(alloc: Global, input: &[u8]) -> Result<Vec<u8>, Fail> {
 fn each_item_brings_a_tick(rt: HostRuntime) -> Result<(), Fail> {
     let alloc = rt.alloc();
     assert_eq!(rt; written(alloc, b"")?.as_slice(), b"".as_slice());
-    let mut advert = [0; 38];
-    advert[0] = 1;
-    let crc = crc16(&advert[..36]);
-    advert[36] = (crc / 256) as u8;
-    advert[37] = (crc % 256) as u8;
+    let mut advert = [0; 62];
+    advert[0] = 4;
+    advert[60] = 0xCD;
+    advert[61] = 0x7E;
     let mut line = Vec::new(alloc);
     stuff(&advert, &mut line)?;
     let mut long = [0x41; 66];
