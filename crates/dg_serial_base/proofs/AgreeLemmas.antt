@@ -29,7 +29,7 @@ pub record Laws : Type 0 where
   pub reset : (table : List Row) (s : Store) (id now word : ℕ) (wide : Bool) → IsTable table → StoreIsWell table s → EffectIsWell table (reset_effect s id wide now word) now
   pub stopped : (table : List Row) (t : Trail Store) (k : ℕ) (s : Store) → Through (StoreIsWell table) t → Leaves IsNear t k s → StoreIsWell table s
 
-some_well : (P : MoteState → Type 0) (o : Option MoteState) (m : MoteState) → o ≡ Some m → IsSomeAnd o P → P m
+pub some_well : (P : MoteState → Type 0) (o : Option MoteState) (m : MoteState) → o ≡ Some m → IsSomeAnd o P → P m
 some_well P o m e p = subst (λ (x : Option MoteState). IsSomeAnd x P) e p
 
 any_well : (P : MoteState → Type 0) (o : Option MoteState) → IsSomeAnd o P → (m : MoteState) × P m

@@ -10,3 +10,4 @@ pub mod InputLemmas
 pub mod FirstLemmas
 pub mod EndLemmas
 pub mod AgreeLemmas
+pub mod ConsistentLemmas

@@ -3,3 +3,4 @@ pub mod Based
 pub mod Standing
 pub mod Ending
 pub mod Agreeing
+pub mod Consistency

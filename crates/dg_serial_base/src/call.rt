@@ -1,12 +1,14 @@
 //! The call of a base mote.
 ghost use Rattle.std.specs.Prelude.{◌≡◌, ◌≤◌, List};
-ghost use Rattle.dg_object.specs.Object.{Row};
+ghost use Rattle.dg_object.specs.Object.{Row, IsRow};
 ghost use Rattle.dg_volume.specs.Store.{Store};
 ghost use Rattle.dg_volume.specs.Stands.{Stands, IsNoVolume};
 ghost use Rattle.dg_volume.specs.Table.{IsTable};
 ghost use Rattle.dg_mote.specs.Well.{StoreIsWell};
+ghost use Rattle.dg_mote.specs.Consistency.{StoreIsConsistent};
 ghost use Rattle.dg_serial_base.specs.Agreeing.{HonestLine, ChipAgrees};
 ghost use Rattle.dg_serial_base.specs.Based.{Based, Refused, Causes};
+ghost use Rattle.dg_serial_base.specs.Consistency.{StaysConsistent};
 ghost use Rattle.dg_serial_base.specs.Ending.{Tells, TellsStop, TellsResult, LineEnds, LineRefused};
 ghost use Rattle.dg_serial_base.specs.Standing.{Counts, WriteCounts, ReadCounts};
 
@@ -15,9 +17,11 @@ use crate::reading::PIECE;
 use crate::running::Running;
 use crate::stop::Stop;
 use dg_base::{Sink, Source, Status, WriteFailed};
-use dg_mote::a_mote_stays_well;
+use dg_boot::golden_can_be_started;
+use dg_mote::{a_mote_keeps_consistency, a_mote_stays_well};
 use dg_nor::Nor;
 use dg_serial::Unstuff;
+use dg_volume::{a_start_ends, a_whole_image_is_sound, trails_keep_consistency};
 use std::alloc::Global;
 
 /// Writes the last line of a status, and answers the status, unless the line cannot be written.
@@ -124,8 +128,19 @@ pub fn base<S: Source, K: Sink, N: Nor>(
         (record { left = S.left input.old; reads = S.faults input.old; written = K.written out.old; writes = K.faults out.old; chip = N.device nor.old })
         (record { left = S.left input.new; reads = S.faults input.new; written = K.written out.new; writes = K.faults out.new; chip = N.device nor.new }))
         → IsTable table → StoreIsWell table s → HonestLine table x.input → ChipAgrees table (N.device nor.new).image }
+    // Whatever bytes come as frames, a consistent chip stays so, however the line ended: golden is whole. No start lacks an
+    // image, and what starts is golden byte for byte, or pages that fit the descriptor before them.
+    ensures consistent { (s : Store) (golden : Row) (x : Based result (record { id = id; step = step; seed = seed }) s
+        (record { left = S.left input.old; reads = S.faults input.old; written = K.written out.old; writes = K.faults out.old; chip = N.device nor.old })
+        (record { left = S.left input.new; reads = S.faults input.new; written = K.written out.new; writes = K.faults out.new; chip = N.device nor.new }))
+        → IsRow golden → StoreIsConsistent golden s → StaysConsistent golden result (record { id = id; step = step; seed = seed }) s x.input (N.device nor.new).image }
 {
     a_mote_stays_well();
+    a_mote_keeps_consistency();
+    trails_keep_consistency();
+    a_start_ends();
+    a_whole_image_is_sound();
+    golden_can_be_started();
     let ended = play_line(alloc, nor, id, step, seed, input, out);
     tell(ended, out)
 }

@@ -1,5 +1,6 @@
 use Rattle.dg_serial_base.proofs.EndLemmas.{line_ends, line_causes, line_refused}
 use Rattle.dg_serial_base.proofs.AgreeLemmas.{Laws, based_agrees}
+use Rattle.dg_serial_base.proofs.ConsistentLemmas.{Laws as ConsistentLaws, based_consistent}
 use Rattle.dg_serial_base.proofs.call.base.Goals as goal
 
 pub returns-clause-based : goal.returns-clause-based
@@ -21,3 +22,20 @@ returns-clause-agrees g c = λ s table x.
     let w = c.a_mote_stays_well.ensures in
     let laws : Laws = record { later = w.later; ticked = w.tick_effect; heard = w.frame_effect; reset = w.reset_effect; stopped = w.stopped } in
     based_agrees laws c.tell.result _ s _ _ x table
+
+pub returns-clause-consistent : goal.returns-clause-consistent
+returns-clause-consistent g c = λ s golden x row.
+    let keep = c.trails_keep_consistency.ensures in
+    let mote = c.a_mote_keeps_consistency.ensures in
+    let laws : ConsistentLaws golden =
+    record {
+      boots = keep.boot golden;
+      starts = keep.starts golden;
+      ends = c.a_start_ends.ensures;
+      row = c.a_whole_image_is_sound.ensures golden row;
+      found = c.golden_can_be_started.ensures.sound;
+      ticked = mote.ticked golden;
+      heard = mote.heard golden;
+      stopped = mote.stopped golden;
+    } in
+    based_consistent golden laws c.tell.result _ s _ _ x

@@ -1,0 +1,191 @@
+-- Whatever bytes its line brings, a base mote over a consistent chip leaves it consistent, however it ends.
+use Rattle.std.proofs.Common.{◌≡◌, ◌≢◌, ℕ, Bool, true, List, [], ◌∷◌, length, take, Option, Some, None, IfSome, sym, ap, subst, ◌∙◌}
+use Rattle.std.specs.Prelude.{IsSome, IsSomeAnd}
+use Rattle.dg_base.specs.Sizes.{most_input}
+use Rattle.dg_base.specs.declared.answers.Status.{Status}
+use Rattle.dg_base.specs.declared.answers.Status.TheVariants as status
+use Rattle.dg_nor.specs.Device.{Device}
+use Rattle.dg_nor.specs.Trail.{Trail, Leaves, last, joined}
+use Rattle.dg_nor.specs.Through.{Through}
+use Rattle.dg_nor.proofs.ThroughLemmas.{Through-joined, Through-last}
+use Rattle.dg_object.specs.Object.{Row}
+use Rattle.dg_volume.specs.Sizes.{images}
+use Rattle.dg_volume.specs.Store.{Store, IsNear}
+use Rattle.dg_volume.specs.Stands.{Stands}
+use Rattle.dg_volume.specs.Acts.{Stops}
+use Rattle.dg_volume.specs.Start.{Runs, boot, sound, app_of}
+use Rattle.dg_volume.specs.Ends.{OnTheWay, Boots}
+use Rattle.dg_volume.specs.RowLaws.{RowLaws}
+use Rattle.dg_volume.specs.Consistent.{Consistent, IsSoundApp}
+use Rattle.dg_volume.specs.declared.volume.Kind.{Kind}
+use Rattle.dg_volume.specs.declared.volume.Kind.TheVariants as kind
+use Rattle.dg_mote.specs.Model.{MoteState, Turn}
+use Rattle.dg_mote.specs.Ticks.{tick_of}
+use Rattle.dg_mote.specs.Hears.{heard_of}
+use Rattle.dg_mote.specs.Effects.{Effect, boot_by, boots, reset_effect, silent, tick_by, tick_effect, frame_effect}
+use Rattle.dg_mote.specs.Consistency.{AsksForKnown, StoreIsConsistent, TurnIsConsistent, ChipIsConsistent}
+use Rattle.dg_mote.specs.declared.mote.Did.{Did}
+use Rattle.dg_mote.specs.declared.mote.Did.TheVariants.{Sent, Idle, Restart}
+use Rattle.dg_mote.proofs.KeepLemmas.{through_then, through_both}
+use Rattle.dg_serial_base.specs.Deeds.{Base, At, Deed, Hears, Ticks, moment_at, word_at, powered, power_effect, effect_of, after, deeds_of, Runs as RunsTo}
+use Rattle.dg_serial_base.specs.Based.{Outside, Came, FlashStopped, AtPower, Later, EndsBy, Based}
+use Rattle.dg_serial_base.specs.Consistency.{StartsSound, AllStartSound, StaysConsistent}
+use Rattle.dg_serial_base.proofs.AgreeLemmas.{some_well}
+
+-- what is known of volumes, of starts and of motes
+pub record Laws (golden : Row) : Type 0 where
+  pub boots : (kind : Kind) (s : Store) → Consistent golden s → Through (Consistent golden) (boot kind s).trail
+  pub starts : (kind : Kind) (s : Store) → Consistent golden s → IfSome (boot kind s).runs (λ r. IsSoundApp golden (app_of r))
+  pub ends : (kind : Kind) (s : Store) → Boots s (boot kind s)
+  pub row : RowLaws golden
+  pub found : (kind : Kind) (s : Store) → sound s 0 ≡ true → IsSome (boot kind s).runs
+  pub ticked : (m : MoteState) (s : Store) (now word : ℕ) → StoreIsConsistent golden s → AsksForKnown m.mode → TurnIsConsistent golden (tick_of m s now word)
+  pub heard : (m : MoteState) (s : Store) (now word : ℕ) (bytes : List ℕ) → StoreIsConsistent golden s → AsksForKnown m.mode → TurnIsConsistent golden (heard_of m s now word bytes)
+  pub stopped : (t : Trail Store) (k : ℕ) (s : Store) → Through (StoreIsConsistent golden) t → Leaves IsNear t k s → StoreIsConsistent golden s
+
+module _ (golden : Row) (laws : Laws golden) where
+  abbrev P : Store → Type 0
+  P = StoreIsConsistent golden
+
+  abbrev HasPlaces : Store → Type 0
+  HasPlaces s = length s.kept ≡ images
+
+  -- an event goes through consistent stores, starts what is sound, and leaves a mote that asks for a known image, if for any
+  record Holds (e : Effect) : Type 0 where
+    pub way : Through P e.trail
+    pub starts : StartsSound golden e
+    pub mote : IsSomeAnd e.mote (λ m. AsksForKnown m.mode)
+
+  -- ---- starts
+
+  boot_way : (k : Kind) (s : Store) → P s → Through P (boot k s).trail
+  boot_way k s p =
+      let b = boot k s in
+      through_then (λ x. Consistent golden x × HasPlaces x) P (λ x h. record { places = h.1; consistent = h.0 }) b.trail
+      (through_both (Consistent golden) HasPlaces b.trail (laws.boots k s p.consistent)
+      (through_then (OnTheWay s b.runs) HasPlaces (λ x on. ap length on.kept ∙ p.places) b.trail (laws.ends k s).way))
+
+  boot_by_holds : (o : Option Runs) (t : Trail Store) (id : ℕ) (wide : Bool) (now word : ℕ) → IsSome o → IfSome o (λ r. IsSoundApp golden (app_of r)) → Through P t → Holds (boot_by o t id wide now word)
+  boot_by_holds None t id wide now word some starts way = absurd cc
+  boot_by_holds (Some r) t id wide now word some starts way = record { way = way; starts = starts; mote = tt }
+
+  boots_hold : (k : Kind) (s : Store) (id : ℕ) (wide : Bool) (now word : ℕ) → P s → Holds (boots k s id wide now word)
+  boots_hold k s id wide now word p =
+      let b = boot k s in
+      boot_by_holds b.runs b.trail id wide now word (laws.found k s (laws.row.is_sound s 0 p.consistent.golden)) (laws.starts k s p.consistent) (boot_way k s p)
+
+  reset_holds : (s : Store) (id : ℕ) (wide : Bool) (now word : ℕ) → P s → Holds (reset_effect s id wide now word)
+  unfolding reset_effect
+  reset_holds s id wide now word p = boots_hold kind.Power s id wide now word p
+
+  -- ---- ticks and frames
+
+  joined_holds : (t : Trail Store) (e : Effect) → Through P t → Holds e → Holds (record e { trail = joined t e.trail })
+  joined_holds t e way h = record { way = Through-joined P t e.trail way h.way; starts = h.starts; mote = h.mote }
+
+  tick_by_holds : (a : Did) (step : Turn Did) (now word : ℕ) → TurnIsConsistent golden step → Holds (tick_by a step now word)
+  tick_by_holds Restart step now word h =
+      let s = last step.trail in
+      joined_holds step.trail (boots kind.Order s step.mote.id step.mote.wide now word) h.way
+      (boots_hold kind.Order s step.mote.id step.mote.wide now word (Through-last P step.trail h.way))
+  tick_by_holds Sent step now word h = record { way = h.way; starts = tt; mote = h.asks }
+  tick_by_holds Idle step now word h = record { way = h.way; starts = tt; mote = h.asks }
+
+  tick_holds : (m : MoteState) (s : Store) (now word : ℕ) → P s → AsksForKnown m.mode → Holds (tick_effect m s now word)
+  unfolding tick_effect
+  tick_holds m s now word p asks = tick_by_holds (tick_of m s now word).answer (tick_of m s now word) now word (laws.ticked m s now word p asks)
+
+  silent_holds : {A : Type 0} (step : Turn A) → TurnIsConsistent golden step → Holds (silent step)
+  silent_holds step h = record { way = h.way; starts = tt; mote = h.asks }
+
+  frame_holds : (m : MoteState) (s : Store) (now word : ℕ) (bytes : List ℕ) → P s → AsksForKnown m.mode → Holds (frame_effect m s now word bytes)
+  unfolding frame_effect
+  frame_holds m s now word bytes p asks = silent_holds (heard_of m s now word bytes) (laws.heard m s now word bytes p asks)
+
+  -- ---- the deeds of a line
+
+  module _ (b : Base) where
+    -- the mote is on, asks for a known image, if for any, and its chip is consistent
+    record IsKnown (a : At) : Type 0 where
+      pub store : P a.store
+      pub mote : IsSomeAnd a.mote (λ m. AsksForKnown m.mode)
+
+    deed_holds : (a : At) (m : MoteState) (d : Deed) → P a.store → AsksForKnown m.mode → Holds (effect_of b m a d)
+    deed_holds a m (Hears bytes) p asks = frame_holds m a.store (moment_at b a.events) (word_at b a.events) bytes p asks
+    deed_holds a m Ticks p asks = tick_holds m a.store (moment_at b a.events) (word_at b a.events) p asks
+
+    asks_of : (a : At) (m : MoteState) → IsKnown a → a.mote ≡ Some m → AsksForKnown m.mode
+    asks_of a m known e = some_well (λ m. AsksForKnown m.mode) a.mote m e known.mote
+
+    deed_of : (a : At) (m : MoteState) (d : Deed) → IsKnown a → a.mote ≡ Some m → Holds (effect_of b m a d)
+    deed_of a m d known e = deed_holds a m d known.store (asks_of a m known e)
+
+    after_known : (a : At) (m : MoteState) (d : Deed) → Holds (effect_of b m a d) → IsKnown (after b m a d)
+    after_known a m d h = record { store = Through-last P (effect_of b m a d).trail h.way; mote = h.mote }
+
+    run_known : (ds : List Deed) (a z : At) → IsKnown a → RunsTo b a ds z → IsKnown z
+    unfolding RunsTo
+    run_known [] a z known r = subst IsKnown (sym r) known
+    run_known (d ∷ ds) a z known r = run_known ds (after b r.0 a d) z (after_known a r.0 d (deed_of a r.0 d known r.1)) r.2
+
+    all_sound : (ds : List Deed) (a : At) → IsKnown a → AllStartSound golden b a ds
+    unfolding AllStartSound
+    all_sound [] a known = tt
+    all_sound (d ∷ ds) a known = λ m e.
+        let h = deed_of a m d known e in
+        (h.starts, all_sound ds (after b m a d) (after_known a m d h))
+
+    module _ (s : Store) (p : P s) where
+      power_holds : Holds (power_effect b s)
+      power_holds = reset_holds s b.id true (moment_at b 0) (word_at b 0) p
+
+      powered_known : IsKnown (powered b s)
+      powered_known = record { store = Through-last P (power_effect b s).trail power_holds.way; mote = power_holds.mote }
+
+      module _ (input : List ℕ) where
+        came_known : (c : Came b s input) → IsKnown c.there
+        came_known c = run_known c.done (powered b s) c.there powered_known c.run
+
+        came_chip : (c : Came b s input) (image : List ℕ) → Stands image c.there.store → ChipIsConsistent golden image
+        came_chip c image stands = record { store = c.there.store; stands = stands; consistent = (came_known c).store }
+
+        stop_chip : (t : Trail Store) (old new : Device) → Through P t → Stops t old new → ChipIsConsistent golden new.image
+        stop_chip t old new way x = record { store = x.leaves.store; stands = x.leaves.stands_for; consistent = laws.stopped t x.done x.leaves.store way x.leaves.allowed }
+
+        flash_chip : (text : List ℕ) (old new : Device) → FlashStopped b s input text old new → ChipIsConsistent golden new.image
+        flash_chip text old new (AtPower between none stands stops) = stop_chip (power_effect b s).trail between new power_holds.way stops
+        flash_chip text old new (Later c between m d more on rest same stands stops) =
+            stop_chip (effect_of b m c.there d).trail between new (deed_of c.there m d (came_known c) on).way stops
+
+        ends_chip : (answer : Status) (text : List ℕ) (left : Option (List ℕ)) (old new : Device) → EndsBy answer b s input text left old new → ChipIsConsistent golden new.image
+        ends_chip status.FlashFault text left old new e = flash_chip text old new e
+        ends_chip status.Done text left old new e = came_chip e.0 new.image e.2
+        ends_chip status.Memory text left old new e = came_chip e.0 new.image e.2
+        ends_chip status.Usage text left old new e = came_chip e.0 new.image e.2
+        ends_chip status.BadInput text left old new e = came_chip e.0 new.image e.2
+        ends_chip status.ReadFault text left old new e = came_chip e.0 new.image e.2
+        ends_chip status.WriteFault text left old new e = came_chip e.0 new.image e.2
+        ends_chip status.NotAVolume text left old new e = came_chip e.0 new.image e.2
+        ends_chip status.Refused text left old new e = came_chip e.0 new.image e.2
+        ends_chip status.LinkFault text left old new e = came_chip e.0 new.image e.2
+        ends_chip status.TooLong text left old new e = came_chip e.0 new.image e.2
+        ends_chip status.TooMany text left old new e = came_chip e.0 new.image e.2
+        ends_chip status.NoBoard text left old new e = came_chip e.0 new.image e.2
+        ends_chip status.NoImage text left old new e = came_chip e.0 new.image e.2
+
+        is_on : (o : Option MoteState) → IsSomeAnd o (λ m. AsksForKnown m.mode) → o ≡ None → ⊥
+        is_on None some e = some
+        is_on (Some m) some e = absurd cc
+
+        never_none : (answer : Status) (text : List ℕ) (left : Option (List ℕ)) (old new : Device) → EndsBy answer b s input text left old new → answer ≢ status.NoImage
+        never_none answer text left old new e is =
+            let x = subst (λ (t : Status). EndsBy t b s input text left old new) is e in
+            is_on x.0.there.mote (came_known x.0).mote x.1.0
+
+pub based_consistent : (golden : Row) → Laws golden → (answer : Status) (b : Base) (s : Store) (before now : Outside) (x : Based answer b s before now) → StoreIsConsistent golden s → StaysConsistent golden answer b s x.input now.chip.image
+based_consistent golden laws answer b s before now x p = record {
+  power = (power_holds golden laws b s p).starts;
+  deeds = all_sound golden laws b (deeds_of (take most_input x.input)) (powered b s) (powered_known golden laws b s p);
+  found = never_none golden laws b s p x.input answer x.text now.left before.chip now.chip x.ends;
+  chip = ends_chip golden laws b s p x.input answer x.text now.left before.chip now.chip x.ends;
+}

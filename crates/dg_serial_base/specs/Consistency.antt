@@ -1,0 +1,30 @@
+-- Base motes over consistent chips, whatever bytes their lines bring.
+use Rattle.std.specs.Prelude.{◌≡◌, ◌≢◌, List, [], ◌∷◌, take, ℕ, Some, IfSome}
+use Rattle.dg_base.specs.Sizes.{most_input}
+use Rattle.dg_base.specs.declared.answers.Status.{Status}
+use Rattle.dg_base.specs.declared.answers.Status.TheVariants as status
+use Rattle.dg_object.specs.Object.{Row}
+use Rattle.dg_volume.specs.Start.{app_of}
+use Rattle.dg_volume.specs.Consistent.{IsSoundApp}
+use Rattle.dg_volume.specs.Store.{Store}
+use Rattle.dg_mote.specs.Model.{MoteState}
+use Rattle.dg_mote.specs.Effects.{Effect}
+use Rattle.dg_mote.specs.Consistency.{ChipIsConsistent}
+use Rattle.dg_serial_base.specs.Deeds.{Base, At, Deed, deeds_of, powered, power_effect, effect_of, after}
+
+-- what an event starts, if anything, is golden byte for byte, or pages that fit the descriptor before them
+abbrev pub StartsSound : Row → Effect → Type 0
+StartsSound golden e = IfSome e.started (λ r. IsSoundApp golden (app_of r))
+
+-- so does each of these deeds, one behind the other
+unfoldable pub AllStartSound : Row → Base → At → List Deed → Type 0
+AllStartSound golden b a [] = Unit {0}
+AllStartSound golden b a (d ∷ ds) = (m : MoteState) → a.mote ≡ Some m → StartsSound golden (effect_of b m a d) × AllStartSound golden b (after b m a d) ds
+
+-- From a chip that stood for s, however the line ended: what the power and the deeds of the input start is sound, no start
+-- lacked an image, and the chip stands for a consistent store.
+pub record StaysConsistent (golden : Row) (answer : Status) (b : Base) (s : Store) (input image : List ℕ) : Type 0 where
+  pub power : StartsSound golden (power_effect b s)
+  pub deeds : AllStartSound golden b (powered b s) (deeds_of (take most_input input))
+  pub found : answer ≢ status.NoImage
+  pub chip : ChipIsConsistent golden image
