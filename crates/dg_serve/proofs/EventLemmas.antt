@@ -29,7 +29,7 @@ use Rattle.dg_world.specs.declared.telling.Fault.TheVariants as fault
 use Rattle.dg_world.specs.declared.world.RunningMote.{RunningMote}
 use Rattle.dg_world.proofs.PlaceLemmas.{is_or}
 use Rattle.dg_serve.specs.Services.{Moment, Steps, new_frames, handed, neighbours_by}
-use Rattle.dg_serve.specs.Endings.{BoardStands, BoardsStandBut, BoardsStand, StopsIn, FindsNoVolume, FindsNoImage, EventEnds, PartlyHanded, LinkLeft}
+use Rattle.dg_serve.specs.Endings.{BoardStands, BoardsStandBut, BoardsStand, StopsIn, FindsNoVolume, FindsNoImage, EventEnds}
 use Rattle.dg_serve.specs.Standings.{Standing, StandsFor, BoardsAreUsed, BoardsAreCalm, PlayedAt, handed_by, HandedToSome, stop_by}
 use Rattle.dg_serve.specs.declared.stop.Stop.{Stop}
 use Rattle.dg_serve.specs.declared.stop.Stop.TheVariants as stop

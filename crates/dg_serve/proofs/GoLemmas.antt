@@ -5,18 +5,18 @@ use Rattle.std.specs.List.{flat_map}
 use Rattle.std.proofs.lemmas.List.{map-append}
 use Rattle.std.proofs.lemmas.Bool.{cases_lt}
 use Rattle.std.proofs.lemmas.Grind.{flat_map-append}
-use Rattle.std.proofs.Math.Seq.{take-append-add}
 use Rattle.dg_words.specs.Counts.{Rose}
 use Rattle.dg_base.specs.Outside.{Puts}
 use Rattle.dg_base.proofs.OutsideLemmas.{Puts-join}
 use Rattle.dg_base.specs.declared.events.Event.{Event}
+use Rattle.dg_link.specs.Inboxes.{Inboxes}
 use Rattle.dg_nor.specs.Device.{Device}
 use Rattle.dg_volume.specs.Stands.{IsVolume}
 use Rattle.dg_script.specs.Spelling.{line_text}
 use Rattle.dg_script.specs.declared.line.Line.TheVariants.{Happens}
 use Rattle.dg_serve.specs.Services.{Part, Moment, PartDone, Serves}
-use Rattle.dg_serve.specs.Traces.{event_lines}
-use Rattle.dg_serve.specs.Endings.{EndsInNext, BoardsLeft}
+use Rattle.dg_serve.specs.Traces.{UntoldLast, event_lines}
+use Rattle.dg_serve.specs.Endings.{EndsInNext, BoardsLeft, FoundBy, PartlyHanded, LinkLeft}
 use Rattle.dg_serve.specs.Standings.{Standing, StandsFor, Ready, BoardsAreUsed, BoardsAreCalm, Went, Leaves, CountsBy, Halted, GoesOn}
 use Rattle.dg_serve.specs.declared.stop.Stop.{Stop}
 use Rattle.dg_serve.specs.declared.stop.Stop.TheVariants as stop
@@ -153,6 +153,46 @@ counts_then why p q r faults failures reached c = record {
   reached = omega (arith, reached, c.reached);
 }
 
+-- what the last event found, also where others came before
+found_then : (motes : ℕ) (s t u : Moment) (ps qs : List Part) (es fs : List Event) (found : Option Inboxes) → Serves motes s ps es t → FoundBy motes t qs fs u found → FoundBy motes s (ps ++ qs) (es ++ fs) u found
+found_then motes s t u ps qs es fs found first n = record {
+  earlier = ps ++ n.earlier;
+  part = n.part;
+  parts_are = ap (λ l. ps ++ l) n.parts_are ∙ sym (append_assoc ps n.earlier (n.part ∷ []));
+  told = es ++ n.told;
+  event = n.event;
+  events_are = ap (λ l. es ++ l) n.events_are ∙ sym (append_assoc es n.told (n.event ∷ []));
+  before = n.before;
+  serves = serves_then motes s t n.before ps n.earlier es n.told first n.serves;
+  happened = n.happened;
+  takes = n.takes;
+}
+
+partly_then : (motes : ℕ) (s t u : Moment) (ps qs : List Part) (es fs : List Event) (after : Option Inboxes) → Serves motes s ps es t → PartlyHanded motes t qs fs u after → PartlyHanded motes s (ps ++ qs) (es ++ fs) u after
+unfolding found_then
+partly_then motes s t u ps qs es fs after first h = record { found = h.found; by = found_then motes s t u ps qs es fs h.found first h.by; first = h.first }
+
+link_then : (why : Stop) (motes : ℕ) (s t u : Moment) (ps qs : List Part) (es fs : List Event) (after : Option Inboxes) → Serves motes s ps es t → LinkLeft why motes t qs fs u after → LinkLeft why motes s (ps ++ qs) (es ++ fs) u after
+link_then stop.Memory motes s t u ps qs es fs after first left = left
+link_then stop.Write motes s t u ps qs es fs after first left = found_then motes s t u ps qs es fs after first left
+link_then stop.Link motes s t u ps qs es fs after first (inl same) = inl same
+link_then stop.Link motes s t u ps qs es fs after first (inr partly) = inr (partly_then motes s t u ps qs es fs after first partly)
+link_then stop.Flash motes s t u ps qs es fs after first left = left
+link_then stop.NotAVolume motes s t u ps qs es fs after first left = left
+link_then stop.NoImage motes s t u ps qs es fs after first left = left
+
+-- the lines of all events but the last were written, also where others came before
+untold_then : (es fs : List Event) (text : List ℕ) → UntoldLast [] fs text → UntoldLast [] (es ++ fs) (event_lines es ++ text)
+untold_then es fs text u =
+    let line = take u.n (event_lines (u.event ∷ [])) in
+    record {
+      told = es ++ u.told;
+      event = u.event;
+      events_are = ap (λ l. es ++ l) u.events_are ∙ sym (append_assoc es u.told (u.event ∷ []));
+      n = u.n;
+      text_is = ap (λ l. event_lines es ++ l) u.text_is ∙ sym (append_assoc (event_lines es) (event_lines u.told) line) ∙ ap (λ l. l ++ line) (sym (lines_then es u.told));
+    }
+
 -- some parts were done, and then a stop came in others
 pub went_halts : (why : Stop) (motes begun mid : ℕ) (links : List (ℕ × ℕ)) (ps qs : List Part) (p q r : Standing) → mid ≤ motes → Went motes begun mid links ps p q → Halted why motes mid links qs q r → Halted why motes begun links (ps ++ qs) p r
 went_halts why motes begun mid links ps qs p q r order a h = record {
@@ -162,15 +202,15 @@ went_halts why motes begun mid links ps qs p q r order a h = record {
   all = append_assoc ps h.done h.left ∙ ap (λ l. ps ++ l) h.all;
   text = event_lines a.events ++ h.text;
   put = Puts-join p.written q.written r.written (event_lines a.events) h.text a.put h.put;
-  front = (
-    length (event_lines a.events) + h.front.0,
-    ap (λ l. event_lines a.events ++ l) h.front.1 ∙ sym (take-append-add (event_lines a.events) (event_lines h.events) h.front.0) ∙ ap (take (length (event_lines a.events) + h.front.0)) (sym (lines_then a.events h.events)),
-  );
+  front = λ is. untold_then a.events h.events h.text (h.front is);
   whole = λ is. ap (λ l. event_lines a.events ++ l) (h.whole is) ∙ sym (lines_then a.events h.events);
   run = λ first s stands.
       let x = a.run first s stands in
-      let y = h.run first x.0 x.2 in
-      (y.0, serves_then motes s x.0 y.0 ps h.done a.events h.events x.1 y.1, y.2);
+      let y = h.run first x.0 x.2 in (
+        y.0,
+        serves_then motes s x.0 y.0 ps h.done a.events h.events x.1 y.1,
+        record { boards = y.2.boards; link = link_then why motes s x.0 y.0 ps h.done a.events h.events r.inboxes x.1 y.2.link; clock = y.2.clock },
+      );
   boards = used_then motes p.boards q.boards r.boards (used_more mid motes p.boards q.boards order a.boards) h.boards;
   calm = λ is. calm_all_then p.boards q.boards r.boards a.calm (h.calm is);
   counts = counts_then why p q r a.faults a.failures a.reached h.counts;

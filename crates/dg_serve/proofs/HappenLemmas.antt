@@ -36,7 +36,7 @@ use Rattle.dg_serve.specs.declared.stop.Stop.{Stop}
 use Rattle.dg_serve.specs.declared.stop.Stop.TheVariants as stop
 use Rattle.dg_serve.proofs.BoardLemmas.{used_same, used_one, all_calm, calm_one}
 use Rattle.dg_serve.proofs.EventLemmas.{same_of, stands_boards}
-use Rattle.dg_serve.proofs.PlayLemmas.{KeepsTime, ran_at, Setting, ForSome, kept, then, steps_then, stands_behind, boards_behind, inboxes_behind, none_handed, some_handed, failed_run}
+use Rattle.dg_serve.proofs.PlayLemmas.{KeepsTime, ran_at, Setting, ForSome, kept, then, steps_then, stands_behind, boards_behind, frames_behind, some_handed, failed_run}
 
 -- ---- the line of an event
 
@@ -190,13 +190,12 @@ module _ (motes : ℕ) (links : List (ℕ × ℕ)) (event : Event) (out : Outbox
     put = front.2;
     front = (front.0, refl);
     whole = λ other. absurd (other refl);
-    run = λ first s st.
-        let all = inboxes_behind links motes event out p q h.alone h.set h.time h.fits first s st in (
-          then links motes event out p q h.alone h.set h.time h.fits first s st,
-          steps_then links motes event out p q h.alone h.set h.time h.fits first s st,
-          boards_behind links motes event out p q h.alone h.set h.time h.fits first s st,
-          none_handed motes (mote_of event) (then links motes event out p q h.alone h.set h.time h.fits first s st) (sent_in out) s.inboxes q.inboxes all.0 (link ∙ st.inboxes),
-        );
+    run = λ first s st. (
+      then links motes event out p q h.alone h.set h.time h.fits first s st,
+      steps_then links motes event out p q h.alone h.set h.time h.fits first s st,
+      boards_behind links motes event out p q h.alone h.set h.time h.fits first s st,
+      link,
+    );
     boards = boards_are motes h.set.known;
     calm = calm_is;
     counts = record {
@@ -218,12 +217,11 @@ module _ (motes : ℕ) (links : List (ℕ × ℕ)) (event : Event) (out : Outbox
     front = (length (event_lines (event ∷ [])), sym (take_all (length (event_lines (event ∷ []))) (event_lines (event ∷ [])) (omega arith)));
     whole = λ other. refl;
     run = λ first s st.
-        let all = inboxes_behind links motes event out p q h.alone h.set h.time h.fits first s st in (
+        let all = frames_behind links motes event out p q h.alone h.set h.time h.fits first s st in (
           then links motes event out p q h.alone h.set h.time h.fits first s st,
           steps_then links motes event out p q h.alone h.set h.time h.fits first s st,
           boards_behind links motes event out p q h.alone h.set h.time h.fits first s st,
-          some_handed links motes (mote_of event) (then links motes event out p q h.alone h.set h.time h.fits first s st) (sent_in out) s.inboxes q.inboxes all.0 all.1
-              (subst (λ (o : Option Inboxes). HandedToSome links motes (mote_of event) (sent_in out) o q.inboxes) st.inboxes some),
+          some_handed links motes (mote_of event) s (then links motes event out p q h.alone h.set h.time h.fits first s st) (sent_in out) p.inboxes q.inboxes all.0 all.1 some,
         );
     boards = boards_are motes h.set.known;
     calm = calm_is;

@@ -16,3 +16,4 @@ pub mod OpenLemmas
 pub mod NetworkLemmas
 pub mod RunLemmas
 pub mod ScriptLemmas
+pub mod AnyLemmas

@@ -24,8 +24,8 @@ use Rattle.dg_world.specs.declared.telling.Fault.TheVariants as fault
 use Rattle.dg_world.specs.declared.world.RunningMote.{RunningMote}
 use Rattle.dg_link.specs.Inboxes.{Inboxes}
 use Rattle.dg_world.specs.Airs.{sent_now}
-use Rattle.dg_serve.specs.Services.{Moment, Steps, handed, handed_to, neighbours_by}
-use Rattle.dg_serve.specs.Endings.{BoardsStand, EventEnds, PartlyHanded}
+use Rattle.dg_serve.specs.Services.{Moment, Steps, new_frames, handed_to, neighbours_by}
+use Rattle.dg_serve.specs.Endings.{BoardsStand, EventEnds, HandedToFirst}
 use Rattle.dg_serve.specs.Standings.{Standing, StandsFor, Ready, BoardsAreUsed, BoardsAreCalm, PlayedAt, begun_before, begun_behind, handed_by, HandedToSome, stop_by}
 use Rattle.dg_serve.specs.declared.stop.Stop.{Stop}
 use Rattle.dg_serve.specs.declared.stop.Stop.TheVariants as stop
@@ -201,31 +201,26 @@ module _ (links : List (ℕ × ℕ)) (motes : ℕ) (event : Event) (out : Outbox
       boards_then links motes (begun_before motes event) (begun_behind motes event) (dt_of event) event first s p q x.played.before x.played.after (ran_at p (mote_of event)) (ran_at q (mote_of event))
       (is_here links motes event (Ok out) first s p q alone x st) (sent_in out) done_at.told done_at.done volume timely_then st.moment
 
-  -- what waits then, where all was handed on
-  pub inboxes_behind : (then.inboxes ≡ option_map (handed then.world motes (sent_now (mote_of event) (sent_in out))) s.inboxes) × (then.world.links ≡ links)
+  -- the frame that it sent, if it sent one
+  pub frames_behind : (new_frames s.world then.world ≡ sent_now (mote_of event) (sent_in out)) × (then.world.links ≡ links)
   unfolding then
-  inboxes_behind = (
-    ap (λ fs. option_map (handed done_at.done.world motes fs) s.inboxes) (frames_of s event (ran_at q (mote_of event)) (sent_in out) x.played.after done_at.told done_at.done),
+  frames_behind = (
+    frames_of s event (ran_at q (mote_of event)) (sent_in out) x.played.after done_at.told done_at.done,
     done_at.done.links ∙ st.linked,
   )
 
 -- ---- what was handed on of a frame
 
-same_map : (o : Option Inboxes) → option_map (λ boxes. boxes) o ≡ o
-same_map None = refl
-same_map (Some boxes) = refl
-
--- nothing was
-pub none_handed : (motes mote : ℕ) (t : Moment) (frame : Option (List ℕ)) (before after : Option Inboxes) → t.inboxes ≡ option_map (handed t.world motes (sent_now mote frame)) before → after ≡ before → (after ≡ t.inboxes) ⊎ PartlyHanded motes t after
-none_handed motes mote t None before after all same = inl (same ∙ sym (all ∙ same_map before))
-none_handed motes mote t (Some bytes) before after all same = inr (record { before = before; frame = record { by = mote; bytes = bytes }; k = 0; all = all; some = same ∙ sym (same_map before) })
-
 -- some of the neighbours have it
-pub some_handed : (links : List (ℕ × ℕ)) (motes mote : ℕ) (t : Moment) (frame : Option (List ℕ)) (before after : Option Inboxes) → t.inboxes ≡ option_map (handed t.world motes (sent_now mote frame)) before → t.world.links ≡ links → HandedToSome links motes mote frame before after
-    → (after ≡ t.inboxes) ⊎ PartlyHanded motes t after
-some_handed links motes mote t None before after all linked some = absurd some
-some_handed links motes mote t (Some bytes) before after all linked some =
-    inr (record { before = before; frame = record { by = mote; bytes = bytes }; k = some.0; all = all; some = subst (λ (l : List (ℕ × ℕ)). after ≡ option_map (handed_to (take some.0 (neighbours_by l motes mote)) bytes) before) (sym linked) some.1 })
+pub some_handed : (links : List (ℕ × ℕ)) (motes mote : ℕ) (s t : Moment) (frame : Option (List ℕ)) (before after : Option Inboxes) → new_frames s.world t.world ≡ sent_now mote frame → t.world.links ≡ links → HandedToSome links motes mote frame before after
+    → HandedToFirst motes s.world t.world before after
+some_handed links motes mote s t None before after sent linked some = absurd some
+some_handed links motes mote s t (Some bytes) before after sent linked some = record {
+  frame = record { by = mote; bytes = bytes };
+  sent = sent;
+  k = some.0;
+  some = subst (λ (l : List (ℕ × ℕ)). after ≡ option_map (handed_to (take some.0 (neighbours_by l motes mote)) bytes) before) (sym linked) some.1;
+}
 
 -- ---- it was not done
 

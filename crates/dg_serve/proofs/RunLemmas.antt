@@ -32,6 +32,10 @@ all_front : {A : Type 0} (P : A → Type 0) (xs ys : List A) → AllByRecursion 
 all_front P [] ys h = tt
 all_front P (x ∷ xs) ys h = (h.0, all_front P xs ys h.1)
 
+all_back : {A : Type 0} (P : A → Type 0) (xs ys : List A) → AllByRecursion P (xs ++ ys) → AllByRecursion P ys
+all_back P [] ys h = h
+all_back P (x ∷ xs) ys h = all_back P xs ys h.1
+
 pub all_both : {A : Type 0} (P : A → Type 0) (xs ys : List A) → AllByRecursion P xs → AllByRecursion P ys → AllByRecursion P (xs ++ ys)
 all_both P [] ys h k = k
 all_both P (x ∷ xs) ys h k = (h.0, all_both P xs ys h.1 k)
@@ -54,6 +58,9 @@ plan_fits motes turns =
 
 pub done_fits : (motes turns : ℕ) (done left : List Part) → done ++ left ≡ plan motes turns → AllByRecursion (PartFits motes) done
 done_fits motes turns done left parts = all_front (PartFits motes) done left (subst (AllByRecursion (PartFits motes)) (sym parts) (plan_fits motes turns))
+
+pub left_fits : (motes turns : ℕ) (done left : List Part) → done ++ left ≡ plan motes turns → AllByRecursion (PartFits motes) left
+left_fits motes turns done left parts = all_back (PartFits motes) done left (subst (AllByRecursion (PartFits motes)) (sym parts) (plan_fits motes turns))
 
 -- ---- runs that follow one another
 

@@ -1,7 +1,6 @@
 -- A service from its first line to its last.
 use Rattle.std.proofs.Common.{◌≡◌, ◌≢◌, ◌⊎◌, ℕ, ◌+◌, ◌-◌, ◌*◌, ◌^◌, ◌<◌, ◌≤◌, List, [], ◌∷◌, ◌++◌, length, take, append-nil, append_assoc, refl, ap, sym, ◌∙◌, subst, ⊎_elim, inl, inr, arith}
 use Rattle.std.specs.Prelude.{slice_get, slice_index_or, Option, Some, None, option_map, Result, Ok, Err, IsErrAnd}
-use Rattle.std.proofs.Math.Seq.{take-append-add}
 use Rattle.std.proofs.lemmas.Option.{same_Some}
 use Rattle.dg_words.specs.Counts.{Rose}
 use Rattle.dg_base.specs.Clock.{Answers}
@@ -18,7 +17,7 @@ use Rattle.dg_object.specs.Object.{Row}
 use Rattle.dg_volume.specs.Store.{Store}
 use Rattle.dg_serve.specs.Services.{Part, Moment, plan, words_of_seed}
 use Rattle.dg_serve.specs.Endings.{StoresOf, begins, BoardsStand}
-use Rattle.dg_serve.specs.Traces.{trace, written, head_lines, event_lines, last_line}
+use Rattle.dg_serve.specs.Traces.{UntoldLast, trace, written, head_lines, event_lines, last_line}
 use Rattle.dg_serve.specs.Standings.{Standing, StandsFor, Ready, BoardEndures, BoardIsCalm, BoardsAreUsed, BoardsAreCalm, Went, Halted, GoesOn}
 use Rattle.dg_serve.specs.Served.{Outside, LeftBy, Came, Wrote, WroteLast, BoardsEndure, Causes, Began, Hindered, DidNotBegin, Served, TooFewBoards}
 use Rattle.dg_serve.specs.Ran.{status_of, IsOpened, Opens, WroteBy, CountedBy, Ran, WasHindered, RanTo, Tells, TellsStop, TellsTooFew}
@@ -48,13 +47,15 @@ boards_endure motes old new u = record { count = u.count; others = u.others; end
 
 -- ---- from the opening to where it ended
 
-wrote_by : (why : Stop) (head lines text : List ℕ) → (n : ℕ) × (text ≡ take n lines) → (why ≢ stop.Write → text ≡ lines) → WroteBy (Some why) (head ++ lines) (head ++ text)
-wrote_by stop.Memory head lines text front whole = ap (λ l. head ++ l) (whole (λ x. absurd cc))
-wrote_by stop.Write head lines text front whole = (length head + front.0, ap (λ l. head ++ l) front.1 ∙ sym (take-append-add head lines front.0))
-wrote_by stop.Link head lines text front whole = ap (λ l. head ++ l) (whole (λ x. absurd cc))
-wrote_by stop.Flash head lines text front whole = ap (λ l. head ++ l) (whole (λ x. absurd cc))
-wrote_by stop.NotAVolume head lines text front whole = ap (λ l. head ++ l) (whole (λ x. absurd cc))
-wrote_by stop.NoImage head lines text front whole = ap (λ l. head ++ l) (whole (λ x. absurd cc))
+wrote_by : (why : Stop) (head : List ℕ) (events : List Event) (text : List ℕ) → (why ≡ stop.Write → UntoldLast [] events text) → (why ≢ stop.Write → text ≡ event_lines events) → WroteBy (Some why) head events (head ++ text)
+wrote_by stop.Memory head events text front whole = ap (λ l. head ++ l) (whole (λ x. absurd cc))
+wrote_by stop.Write head events text front whole =
+    let u = front refl in
+    record { told = u.told; event = u.event; events_are = u.events_are; n = u.n; text_is = ap (λ l. head ++ l) u.text_is ∙ sym (append_assoc head (event_lines u.told) (take u.n (event_lines (u.event ∷ [])))) }
+wrote_by stop.Link head events text front whole = ap (λ l. head ++ l) (whole (λ x. absurd cc))
+wrote_by stop.Flash head events text front whole = ap (λ l. head ++ l) (whole (λ x. absurd cc))
+wrote_by stop.NotAVolume head events text front whole = ap (λ l. head ++ l) (whole (λ x. absurd cc))
+wrote_by stop.NoImage head events text front whole = ap (λ l. head ++ l) (whole (λ x. absurd cc))
 
 module _ (profile : NetProfile) (seed turns : ℕ) (b : Outside) (p q : Standing) (o : IsOpened profile seed (record b { boards = p.boards }) p.service p.addressees p.reached (outside_of p)) where
   stands_opened : (table : List Row) (stores : List Store) → StoresOf profile.motes p.boards stores → StandsFor profile.motes 0 profile.links 0 p.boards (begins table profile.links stores p.service.timeline.reading p.clock seed (option_map (emptied profile.motes) b.inboxes)) p
@@ -103,7 +104,7 @@ module _ (profile : NetProfile) (seed turns : ℕ) (b : Outside) (p q : Standing
         record { last = x.0; serves = x.1; ends = (x.2.boards, x.2.link, x.2.clock) };
     text = written (head_lines profile) ++ h.text;
     put = Puts-join b.written p.written q.written (written (head_lines profile)) h.text o.put h.put;
-    wrote = wrote_by why (written (head_lines profile)) (event_lines h.events) h.text h.front h.whole;
+    wrote = wrote_by why (written (head_lines profile)) h.events h.text h.front h.whole;
     boards = boards_endure profile.motes p.boards q.boards h.boards;
     counts = record {
       wrote = λ is. subst (λ n. Rose n q.faults) o.faults (h.counts.wrote (same_Some why stop.Write is));
@@ -135,11 +136,11 @@ hindered_to (Err e) why profile seed turns before after is boards h =
 abbrev told_after : Outside → Option (List ℕ) → ℕ → Outside
 told_after mid v g = record mid { written = v; faults = g }
 
-left_same : (why : Option Stop) (motes : ℕ) (s : Moment) (left : List Part) (first : List Device) (mid : Outside) (v : Option (List ℕ)) (g : ℕ) → LeftBy why motes s left first mid → LeftBy why motes s left first (told_after mid v g)
-left_same None motes s left first mid v g l = l
-left_same (Some why) motes s left first mid v g l = l
+left_same : (why : Option Stop) (motes : ℕ) (s : Moment) (done : List Part) (events : List Event) (last : Moment) (left : List Part) (first : List Device) (mid : Outside) (v : Option (List ℕ)) (g : ℕ) → LeftBy why motes s done events last left first mid → LeftBy why motes s done events last left first (told_after mid v g)
+left_same None motes s done events last left first mid v g l = l
+left_same (Some why) motes s done events last left first mid v g l = l
 
-began : (why : Option Stop) (answer : Status) (profile : NetProfile) (seed turns : ℕ) (before mid : Outside) (v : Option (List ℕ)) (g : ℕ) (text : List ℕ) (r : Ran why profile seed turns before mid) → Puts before.written v text → Wrote why answer profile.motes (length before.boards) (trace profile r.events) text → Causes answer before (told_after mid v g)
+began : (why : Option Stop) (answer : Status) (profile : NetProfile) (seed turns : ℕ) (before mid : Outside) (v : Option (List ℕ)) (g : ℕ) (text : List ℕ) (r : Ran why profile seed turns before mid) → Puts before.written v text → Wrote why answer profile (length before.boards) r.events text → Causes answer before (told_after mid v g)
     → Began answer profile seed turns before (told_after mid v g)
 began why answer profile seed turns before mid v g text r put wrote causes = record {
   origin = r.origin;
@@ -153,7 +154,7 @@ began why answer profile seed turns before mid v g text r put wrote causes = rec
   all = r.all;
   came = λ table stores of.
       let x = r.came table stores of in
-      record { last = x.last; serves = x.serves; ends = left_same why profile.motes x.last r.left before.boards mid v g x.ends };
+      record { last = x.last; serves = x.serves; ends = left_same why profile.motes _ r.done r.events x.last r.left before.boards mid v g x.ends };
   text = text;
   put = put;
   wrote = wrote;
@@ -227,9 +228,6 @@ module _ (profile : NetProfile) (seed turns : ℕ) (before mid : Outside) where
   last_written : (line whole text : List ℕ) → text ≡ whole → text ++ line ≡ whole ++ line
   last_written line whole text e = ap (λ l. l ++ line) e
 
-  last_partly : (line whole text : List ℕ) (n : ℕ) → text ≡ whole → text ++ take n line ≡ take (length whole + n) (whole ++ line)
-  last_partly line whole text n e = ap (λ l. l ++ take n line) e ∙ sym (take-append-add whole line n)
-
   calm_told : (why : Stop) (answer : Status) (v : Option (List ℕ)) (g : ℕ) → Ran (Some why) profile seed turns before mid → why ≢ stop.Write → why ≢ stop.Link → why ≢ stop.Flash → answer ≢ status.WriteFault → answer ≢ status.LinkFault → answer ≢ status.Done → g ≡ mid.faults → Causes answer before (told_after mid v g)
   calm_told why answer v g r writes sends stops a b c same = record {
     write_fault = λ is. absurd (a is);
@@ -261,7 +259,7 @@ module _ (profile : NetProfile) (seed turns : ℕ) (before mid : Outside) where
   ends_no_volume answer v g r (inr t) =
       subst (λ (a : Status). Began a profile seed turns before (told_after mid v g)) (sym t.0)
       (began (Some stop.NotAVolume) status.WriteFault profile seed turns before mid v g (r.text ++ take t.1.0 (last_line status.NotAVolume 0 0)) r (Puts-join before.written mid.written v r.text (take t.1.0 (last_line status.NotAVolume 0 0)) r.put t.1.1)
-      (inr (refl, (length (trace profile r.events) + t.1.0, last_partly (last_line status.NotAVolume 0 0) (trace profile r.events) r.text t.1.0 r.wrote)))
+      (inr (refl, (t.1.0, last_written (take t.1.0 (last_line status.NotAVolume 0 0)) (trace profile r.events) r.text r.wrote)))
       (failed_told stop.NotAVolume v g r (λ x. absurd cc) (λ x. absurd cc) t.2 t.3))
 
   ends_no_image : (answer : Status) (v : Option (List ℕ)) (g : ℕ) → Ran (Some stop.NoImage) profile seed turns before mid → Tells answer status.NoImage (last_line status.NoImage 0 0) mid.written v mid.faults g → Began answer profile seed turns before (told_after mid v g)
@@ -273,7 +271,7 @@ module _ (profile : NetProfile) (seed turns : ℕ) (before mid : Outside) where
   ends_no_image answer v g r (inr t) =
       subst (λ (a : Status). Began a profile seed turns before (told_after mid v g)) (sym t.0)
       (began (Some stop.NoImage) status.WriteFault profile seed turns before mid v g (r.text ++ take t.1.0 (last_line status.NoImage 0 0)) r (Puts-join before.written mid.written v r.text (take t.1.0 (last_line status.NoImage 0 0)) r.put t.1.1)
-      (inr (refl, (length (trace profile r.events) + t.1.0, last_partly (last_line status.NoImage 0 0) (trace profile r.events) r.text t.1.0 r.wrote)))
+      (inr (refl, (t.1.0, last_written (take t.1.0 (last_line status.NoImage 0 0)) (trace profile r.events) r.text r.wrote)))
       (failed_told stop.NoImage v g r (λ x. absurd cc) (λ x. absurd cc) t.2 t.3))
 
   nothing_more : (answer of : Status) (v : Option (List ℕ)) (g : ℕ) → answer ≡ of → v ≡ mid.written → g ≡ mid.faults → Served of profile seed turns before mid → Served answer profile seed turns before (told_after mid v g)

@@ -21,8 +21,8 @@ use Rattle.dg_world.specs.Worlds.{MayRun, MoteStands}
 use Rattle.dg_world.specs.declared.world.RunningMote.{RunningMote}
 use Rattle.dg_serve.specs.Services.{Part, Begins, Looks, Ticks, Moment, Reads, Steps, Happened, PartDone}
 use Rattle.dg_serve.specs.Traces.{event_lines}
-use Rattle.dg_serve.specs.Endings.{BoardsStand, FindsNoImage, FindsNoVolume, EventEnds, EndsInNext, BoardsLeft, LinkLeft, ClockLeft, OneTaken, event_of}
-use Rattle.dg_serve.specs.Standings.{Standing, StandsFor, StandsForSome, Ready, BoardsAreUsed, BoardsAreCalm, Went, Leaves, Halted, CountsBy, GoesOn, HappensAt, DoesNotHappen, HappensPartly, HappenEnds, ReceivedAt, FailuresBy, begun_before, begun_behind}
+use Rattle.dg_serve.specs.Endings.{BoardsStand, FindsNoImage, FindsNoVolume, EventEnds, EndsInNext, BoardsLeft, TakesFor, FoundBy, HandedToFirst, PartlyHanded, LinkLeft, ClockLeft, OneTaken, event_of}
+use Rattle.dg_serve.specs.Standings.{Standing, StandsFor, StandsForSome, Ready, BoardsAreUsed, BoardsAreCalm, Went, Leaves, Halted, CountsBy, GoesOn, HappensAt, DoesNotHappen, HandedThen, HappensPartly, HappenEnds, ReceivedAt, FailuresBy, begun_before, begun_behind}
 use Rattle.dg_serve.specs.declared.stop.Stop.{Stop}
 use Rattle.dg_serve.specs.declared.stop.Stop.TheVariants as stop
 use Rattle.dg_serve.proofs.BoardLemmas.{used_same, all_calm, got_within}
@@ -63,6 +63,7 @@ pub record IsPart (motes begun on : ℕ) (part : Part) (event : (dt word : ℕ) 
   pub rises : begun ≤ on
   pub done : (s t : Moment) (es : List Event) → s.inboxes ≡ before → Happened motes (looked s taken) event es t → PartDone motes part s es t
   pub link : (taken ≡ before) ⊎ ((mote : ℕ) × Takes mote bytes before taken)
+  pub takes_for : (dt word : ℕ) → TakesFor (event dt word) before taken
   -- where a frame was taken, its mote had begun, and starts nothing
   pub untaken : (dt word : ℕ) (w : World) (old new : List Device) → FindsNoVolume w (event dt word) old new ⊎ FindsNoImage w (event dt word) old new → ((m : ℕ) (a : Device) → mote_of (event dt word) ≡ m → m < begun → slice_get old m ≡ Some a → IsVolume a.image) → taken ≡ before
   pub new_volumes : (dt word : ℕ) (boards : List Device) → ((a : Device) → IsReset (event dt word) → slice_get boards (mote_of (event dt word)) ≡ Some a → IsVolume a.image) → (m : ℕ) (a : Device) → begun ≤ m → m < on → slice_get boards m ≡ Some a → IsVolume a.image
@@ -180,7 +181,7 @@ module _ (motes begun on : ℕ) (links : List (ℕ × ℕ)) (part : Part) (event
       (st.on k a b.0 within was b.1).0
 
   untold_halts : (why : Stop) → Ready motes begun p → DoesNotHappen why motes links (event dt word) m q → (why ≢ stop.Write) → (why ≢ stop.Link) → q.reached ≡ m.reached → q.clock ≡ m.clock
-      → ((first : List Device) (s : Moment) → StandsFor motes begun links 0 first s p → BoardsLeft why s (part ∷ []) first q.boards × LinkLeft why motes s q.inboxes) → Halted why motes begun links (part ∷ []) p q
+      → ((first : List Device) (s : Moment) → StandsFor motes begun links 0 first s p → BoardsLeft why s (part ∷ []) first q.boards × LinkLeft why motes s [] [] s q.inboxes) → Halted why motes begun links (part ∷ []) p q
   untold_halts why ready e writes sends reached clock left = record {
     events = [];
     done = [];
@@ -188,7 +189,7 @@ module _ (motes begun on : ℕ) (links : List (ℕ × ℕ)) (part : Part) (event
     all = refl;
     text = [];
     put = puts_none p.written q.written (e.untold ∙ d.written);
-    front = (0, refl);
+    front = λ is. absurd (writes is);
     whole = λ other. refl;
     run = λ first s st. (s, no_part motes s, record { boards = (left first s st).0; link = (left first s st).1; clock = clock_read first s st clock });
     boards = subst (λ bs. BoardsAreUsed motes bs q.boards) d.boards e.boards;
@@ -205,19 +206,22 @@ module _ (motes begun on : ℕ) (links : List (ℕ × ℕ)) (part : Part) (event
   }
 
   -- the event happened, and its line was not written, or what it sent not handed to all
-  partly_halts : (why : Stop) → HappensPartly why motes links (event dt word) m q → q.clock ≡ m.clock → ((s : Moment) (first : List Device) → BoardsStand s.world first q.boards → BoardsLeft why s [] first q.boards) → Halted why motes begun links (part ∷ []) p q
-  partly_halts why e clock boards_left = record {
+  partly_halts : (why : Stop) → HappensPartly why motes links (event dt word) m q → q.clock ≡ m.clock → ((s : Moment) (first : List Device) → BoardsStand s.world first q.boards → BoardsLeft why s [] first q.boards)
+      → ((first : List Device) (s t : Moment) → StandsFor motes begun links 0 first s p → PartDone motes part s (event dt word ∷ []) t → HandedThen why motes s.world t.world m.inboxes q.inboxes → LinkLeft why motes s (part ∷ []) (event dt word ∷ []) t q.inboxes)
+      → Halted why motes begun links (part ∷ []) p q
+  partly_halts why e clock boards_left link_left = record {
     events = event dt word ∷ [];
     done = part ∷ [];
     left = [];
     all = refl;
     text = e.text;
     put = subst (λ (o : Option (List ℕ)). Puts o q.written e.text) d.written e.put;
-    front = e.front;
+    front = λ is. record { told = []; event = event dt word; events_are = refl; n = e.front.0; text_is = e.front.1 };
     whole = e.whole;
     run = λ first s st.
         let x = e.run first (drawn (looked s m.inboxes) m.service.timeline m.clock) (stands_before first s st) in
-        (x.0, one_part motes s x.0 part (event dt word ∷ []) (happened_at first s x.0 st x.1), record { boards = boards_left x.0 first x.2; link = x.3; clock = inl (clock ∙ sym x.1.same_clock) });
+        let done = happened_at first s x.0 st x.1 in
+        (x.0, one_part motes s x.0 part (event dt word ∷ []) done, record { boards = boards_left x.0 first x.2; link = link_left first s x.0 st done x.3; clock = inl (clock ∙ sym x.1.same_clock) });
     boards = subst (λ bs. BoardsAreUsed motes bs q.boards) d.boards e.boards;
     calm = λ other. subst (λ bs. BoardsAreCalm bs q.boards) d.boards e.calm;
     counts = record {
@@ -231,6 +235,26 @@ module _ (motes begun on : ℕ) (links : List (ℕ × ℕ)) (part : Part) (event
     };
   }
 
+  -- what its event found
+  found_by : (first : List Device) (s t : Moment) (found : Option Inboxes) → StandsFor motes begun links 0 first s p → PartDone motes part s (event dt word ∷ []) t → found ≡ m.inboxes → FoundBy motes s (part ∷ []) (event dt word ∷ []) t found
+  found_by first s t found st happened same = record {
+    earlier = [];
+    part = part;
+    parts_are = refl;
+    told = [];
+    event = event dt word;
+    events_are = refl;
+    before = s;
+    serves = no_part motes s;
+    happened = happened;
+    takes = subst (λ (o : Option Inboxes). TakesFor (event dt word) s.inboxes o) (sym same) (subst (λ (o : Option Inboxes). TakesFor (event dt word) o m.inboxes) st.inboxes (h.takes_for dt word));
+  }
+
+  -- its frame was not handed to all
+  partly_by : (first : List Device) (s t : Moment) → StandsFor motes begun links 0 first s p → PartDone motes part s (event dt word ∷ []) t → HandedToFirst motes s.world t.world m.inboxes q.inboxes → PartlyHanded motes s (part ∷ []) (event dt word ∷ []) t q.inboxes
+  unfolding found_by
+  partly_by first s t st happened handed = record { found = m.inboxes; by = found_by first s t m.inboxes st happened refl; first = handed }
+
   -- ---- however the event ended
 
   pub part_ends : (r : Result (Unit {0}) Stop) → Ready motes begun p → HappenEnds r motes links (event dt word) m q → q.reached ≡ m.reached → q.clock ≡ m.clock → GoesOn r motes begun on links (part ∷ []) p q
@@ -238,8 +262,9 @@ module _ (motes begun on : ℕ) (links : List (ℕ × ℕ)) (part : Part) (event
   part_ends (Err stop.Memory) ready e reached clock =
       untold_halts stop.Memory ready e (λ x. absurd cc) (λ x. absurd cc) reached clock
       (λ first s st. (e.run first (drawn (looked s m.inboxes) m.service.timeline m.clock) (stands_before first s st), taken_left first s st e.link))
-  part_ends (Err stop.Write) ready e reached clock = partly_halts stop.Write e clock (λ s first x. x)
+  part_ends (Err stop.Write) ready e reached clock = partly_halts stop.Write e clock (λ s first x. x) (λ first s t st happened same. found_by first s t q.inboxes st happened same)
   part_ends (Err stop.Link) ready e reached clock = partly_halts stop.Link e clock (λ s first x. x)
+      (λ first s t st happened handed. inr (partly_by first s t st happened handed))
   part_ends (Err stop.Flash) ready e reached clock =
       untold_halts stop.Flash ready e (λ x. absurd cc) (λ x. absurd cc) reached clock
       (λ first s st. (next_ends stop.Flash first s st (e.run first (drawn (looked s m.inboxes) m.service.timeline m.clock) (stands_before first s st)), taken_left first s st e.link))
@@ -266,6 +291,7 @@ begins_part motes mote boxes known = record {
   rises = omega arith;
   done = λ s t es same x. subst (λ (o : Option Inboxes). Happened motes (looked s o) (λ dt word. Reset mote dt word) es t) (sym same) x;
   link = inl refl;
+  takes_for = λ dt word. refl;
   untaken = λ dt word w old new ends volumes. refl;
   new_volumes = λ dt word boards told m a low high was.
       let same : m ≡ mote = omega arith in
@@ -282,6 +308,7 @@ ticks_part motes mote boxes = record {
   rises = omega arith;
   done = λ s t es same x. subst (λ (o : Option Inboxes). Happened motes (looked s o) (λ dt word. Tick mote dt word) es t) (sym same) x;
   link = inl refl;
+  takes_for = λ dt word. refl;
   untaken = λ dt word w old new ends volumes. refl;
   new_volumes = λ dt word boards told m a low high was. absurd (omega (arith, low, high));
 }
@@ -299,7 +326,7 @@ unfolding frame_effect runs_in
 heard_runs w m dt word bytes deed None e none = absurd cc
 heard_runs w m dt word bytes deed (Some r) e none = some_left deed.runs _ (ap runs_in e) none
 
-frame_runs : (w : World) (m dt word : ℕ) (bytes : List ℕ) (deed : Deed) → does w (Frame m dt word bytes) ≡ Goes deed → deed.runs ≡ None → ⊥
+pub frame_runs : (w : World) (m dt word : ℕ) (bytes : List ℕ) (deed : Deed) → does w (Frame m dt word bytes) ≡ Goes deed → deed.runs ≡ None → ⊥
 unfolding does
 frame_runs w m dt word bytes deed e none = heard_runs w m dt word bytes deed (site w m).runs e none
 
@@ -313,6 +340,7 @@ looks_part motes mote bytes before taken known takes fits = record {
   rises = omega arith;
   done = λ s t es same x. inr (record { bytes = bytes; fits = fits; taken = taken; takes = subst (λ (o : Option Inboxes). Takes mote bytes o taken) (sym same) takes; heard = x });
   link = inr (mote, takes);
+  takes_for = λ dt word. takes;
   untaken = λ dt word w old new ends volumes.
       ⊎_elim
       (λ no_volume. let v = volumes mote no_volume.board refl known no_volume.was in absurd (no_volume.no_volume v.0 v.1))
@@ -352,7 +380,7 @@ none_came motes mote links p i a n e f h ready none = none_came_at motes mote li
 -- ---- a look that failed
 
 module _ (motes mote : ℕ) (links : List (ℕ × ℕ)) (p q : Standing) (boards : q.boards ≡ p.boards) (written : q.written ≡ p.written) (faults : q.faults ≡ p.faults) (clock : q.clock ≡ p.clock) (reached : q.reached ≡ p.reached) where
-  unlooked : (why : Stop) → why ≢ stop.Write → ((first : List Device) (s : Moment) → BoardsStand s.world first q.boards → BoardsLeft why s (Looks mote ∷ []) first q.boards) → ((s : Moment) → p.inboxes ≡ s.inboxes → LinkLeft why motes s q.inboxes)
+  unlooked : (why : Stop) → why ≢ stop.Write → ((first : List Device) (s : Moment) → BoardsStand s.world first q.boards → BoardsLeft why s (Looks mote ∷ []) first q.boards) → ((s : Moment) → p.inboxes ≡ s.inboxes → LinkLeft why motes s [] [] s q.inboxes)
       → (why ≡ stop.Link → Rose p.failures q.failures) → (why ≢ stop.Link → q.failures ≡ p.failures) → p.failures ≤ q.failures → Halted why motes motes links (Looks mote ∷ []) p q
   unlooked why writes boards_left link_left sent failures rise = record {
     events = [];
@@ -361,7 +389,7 @@ module _ (motes mote : ℕ) (links : List (ℕ × ℕ)) (p q : Standing) (boards
     all = refl;
     text = [];
     put = puts_none p.written q.written written;
-    front = (0, refl);
+    front = λ is. absurd (writes is);
     whole = λ other. refl;
     run = λ first s st. (
       s,

@@ -1,5 +1,5 @@
 -- How a service leaves its boards, its link and its clock, where it ends.
-use Rattle.std.specs.Prelude.{◌≡◌, ◌⊎◌, ℕ, ◌<◌, ◌≤◌, true, List, [], ◌∷◌, length, take, slice_get, slice_index_or, Option, Some, None, option_map}
+use Rattle.std.specs.Prelude.{◌≡◌, ◌⊎◌, ℕ, ◌<◌, ◌≤◌, true, List, [], ◌∷◌, ◌++◌, length, take, slice_get, slice_index_or, Option, Some, None, option_map}
 use Rattle.dg_words.specs.Counts.{Rose}
 use Rattle.dg_base.specs.Clock.{Answers, Answered}
 use Rattle.dg_base.specs.declared.events.Event.{Event}
@@ -16,7 +16,7 @@ use Rattle.dg_rules.specs.World.{World, Sent, first_world, store_at, no_site}
 use Rattle.dg_rules.specs.Events.{does, mote_of, trail_of}
 use Rattle.dg_rules.specs.Steps.{EndsRun}
 use Rattle.dg_world.specs.Alone.{uncut}
-use Rattle.dg_serve.specs.Services.{Part, Begins, Looks, Ticks, Moment, Reads, handed, handed_to, neighbours, words_of_seed}
+use Rattle.dg_serve.specs.Services.{Part, Begins, Looks, Ticks, Moment, Reads, PartDone, Serves, new_frames, handed_to, neighbours, words_of_seed}
 use Rattle.dg_serve.specs.declared.stop.Stop.{Stop}
 use Rattle.dg_serve.specs.declared.stop.Stop.TheVariants.{Memory, Write, Link, Flash, NotAVolume, NoImage}
 
@@ -115,26 +115,50 @@ BoardsLeft NoImage s left old new = EndsInNext NoImage s left old new
 
 -- ---- the link
 
--- The last event's frame was handed to the first k neighbours alone.
-pub record PartlyHanded (motes : ℕ) (s : Moment) (after : Option Inboxes) : Type 0 where
-  pub before : Option Inboxes
-  pub frame : Sent
-  pub k : ℕ
-  pub all : s.inboxes ≡ option_map (handed s.world motes (frame ∷ [])) before
-  pub some : after ≡ option_map (handed_to (take k (neighbours s.world motes frame.by)) frame.bytes) before
-
 -- A frame was taken for an event that did not happen.
 abbrev pub OneTaken : Moment → Option Inboxes → Type 0
 OneTaken s after = (mote : ℕ) × (bytes : List ℕ) × Takes mote bytes s.inboxes after
 
--- how the link is left
-abbrev pub LinkLeft : Stop → (motes : ℕ) → Moment → Option Inboxes → Type 0
-LinkLeft Memory motes s after = (after ≡ s.inboxes) ⊎ OneTaken s after
-LinkLeft Write motes s after = (after ≡ s.inboxes) ⊎ PartlyHanded motes s after
-LinkLeft Link motes s after = (after ≡ s.inboxes) ⊎ PartlyHanded motes s after
-LinkLeft Flash motes s after = (after ≡ s.inboxes) ⊎ OneTaken s after
-LinkLeft NotAVolume motes s after = after ≡ s.inboxes
-LinkLeft NoImage motes s after = after ≡ s.inboxes
+-- what an event takes from the link before it happens: the frame that is heard, and else nothing
+abbrev pub TakesFor : Event → Option Inboxes → Option Inboxes → Type 0
+TakesFor (Frame mote dt word bytes) before after = Takes mote bytes before after
+TakesFor event before after = after ≡ before
+
+-- The last event found the link like this: all that the events before it sent was handed on, and the frame that it hears is taken.
+pub record FoundBy (motes : ℕ) (s : Moment) (done : List Part) (events : List Event) (last : Moment) (found : Option Inboxes) : Type 0 where
+  pub earlier : List Part
+  pub part : Part
+  pub parts_are : done ≡ earlier ++ part ∷ []
+  pub told : List Event
+  pub event : Event
+  pub events_are : events ≡ told ++ event ∷ []
+  pub before : Moment
+  pub serves : Serves motes s earlier told before
+  pub happened : PartDone motes part before (event ∷ []) last
+  pub takes : TakesFor event before.inboxes found
+
+-- The frame of the event between these worlds was handed to the first k neighbours alone.
+pub record HandedToFirst (motes : ℕ) (before after : World) (old new : Option Inboxes) : Type 0 where
+  pub frame : Sent
+  pub sent : new_frames before after ≡ frame ∷ []
+  pub k : ℕ
+  pub some : new ≡ option_map (handed_to (take k (neighbours after motes frame.by)) frame.bytes) old
+
+-- So was the last event's.
+pub record PartlyHanded (motes : ℕ) (s : Moment) (done : List Part) (events : List Event) (last : Moment) (after : Option Inboxes) : Type 0 where
+  pub found : Option Inboxes
+  pub by : FoundBy motes s done events last found
+  pub first : HandedToFirst motes by.before.world last.world found after
+
+-- How the link is left where these parts were done from this moment on, and gave these events. Where a line could not be
+-- written, nothing of its event was handed on.
+abbrev pub LinkLeft : Stop → (motes : ℕ) → Moment → List Part → List Event → (last : Moment) → Option Inboxes → Type 0
+LinkLeft Memory motes s done events last after = (after ≡ last.inboxes) ⊎ OneTaken last after
+LinkLeft Write motes s done events last after = FoundBy motes s done events last after
+LinkLeft Link motes s done events last after = (after ≡ last.inboxes) ⊎ PartlyHanded motes s done events last after
+LinkLeft Flash motes s done events last after = (after ≡ last.inboxes) ⊎ OneTaken last after
+LinkLeft NotAVolume motes s done events last after = after ≡ last.inboxes
+LinkLeft NoImage motes s done events last after = after ≡ last.inboxes
 
 -- ---- the clock
 

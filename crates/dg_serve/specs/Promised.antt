@@ -1,5 +1,5 @@
 -- What is promised of what a service did, each with its premises.
-use Rattle.std.specs.Prelude.{◌≡◌, ℕ, true, List, [], map}
+use Rattle.std.specs.Prelude.{◌≡◌, ℕ, ◌<◌, true, List, [], ◌∷◌, length, map}
 use Rattle.std.specs.List.{AllByRecursion}
 use Rattle.dg_base.specs.declared.events.Event.{Event}
 use Rattle.dg_object.specs.Object.{Row}
@@ -7,12 +7,19 @@ use Rattle.dg_volume.specs.Store.{Store}
 use Rattle.dg_rules.specs.World.{World, first_world}
 use Rattle.dg_rules.specs.Runs.{Played, Plays, EachAfter}
 use Rattle.dg_rules.specs.Ranges.{EventFits}
-use Rattle.dg_rules.specs.Begins.{StoresAgree, HoldsTo, HoldsToThen}
+use Rattle.dg_rules.specs.Begins.{store_of, StoresAgree, HoldsTo, HoldsToThen}
 use Rattle.dg_rules.specs.Premises.{IsInRange, LeavesAgreement, WorldAgrees}
 use Rattle.dg_rules.specs.Promises.{IsLegal, KeepsAll, StartsRow, StopsAgree}
-use Rattle.dg_script.specs.Places.{none_narrow}
-use Rattle.dg_script.specs.Items.{Item, Happens}
+use Rattle.dg_rules.specs.Events.{does}
+use Rattle.dg_rules.specs.Consistency.{WorldConsistent, LeavesConsistent, StartsSound, StopsConsistent}
+use Rattle.dg_rules.specs.Golden.{KeepsGoldenRow, WorldKeepsGolden, FindsImage}
+use Rattle.dg_mote.specs.Consistency.{StoreIsConsistent}
+use Rattle.dg_script.specs.Places.{first_place, none_narrow}
+use Rattle.dg_script.specs.Items.{Item, Happens, items_of, place_behind}
+use Rattle.dg_script.specs.declared.line.Line.{Line}
+use Rattle.dg_script.specs.declared.line.Line.TheVariants.{Motes, Boards}
 use Rattle.dg_world.specs.Alone.{uncut}
+use Rattle.dg_serve.specs.Traces.{IsScript}
 
 -- an event of a service as an item of a run: no power is cut in it
 abbrev pub item_by : Event → Item
@@ -33,6 +40,38 @@ pub record FramesAreHonest (table : List Row) (stores : List Store) (played : Li
   pub agree : StoresAgree table stores
   pub hold : AllByRecursion (HoldsToThen table) played
 
+-- ---- whatever bytes the frames carry
+
+-- What each board stands for is consistent: golden is whole, and what else is kept fits its own descriptor.
+abbrev pub StoresConsistent : Row → List Store → Type 0
+StoresConsistent golden stores = (m : ℕ) → m < length stores → StoreIsConsistent golden (store_of stores m)
+
+-- every board keeps golden whole
+abbrev pub StoresKeepGolden : List Store → Type 0
+StoresKeepGolden stores = (m : ℕ) → m < length stores → KeepsGoldenRow (store_of stores m)
+
+-- What was played of so many motes from such boards, up to this world.
+pub record StaysConsistent (golden : Row) (motes : ℕ) (played : List Played) (v : World) : Type 0 where
+  -- every store is consistent, behind each event and in the last world
+  pub stores : AllByRecursion (LeavesConsistent golden) played
+  pub ends : WorldConsistent golden v
+  -- what starts is golden byte for byte, or an object that fits its own descriptor
+  pub starts : AllByRecursion (StartsSound golden) played
+  -- wherever a stop comes in the next event, each store that the chip may then stand for is consistent
+  pub halves : (e : Event) → EventFits motes e → StopsConsistent golden v e
+
+abbrev pub LeavesGolden : Played → Type 0
+LeavesGolden p = WorldKeepsGolden p.after
+
+pub record StaysGolden (motes : ℕ) (played : List Played) (v : World) : Type 0 where
+  -- every mote keeps golden whole and asks for other images, behind each event and in the last world
+  pub kept : AllByRecursion LeavesGolden played
+  pub ends : WorldKeepsGolden v
+  -- the next event finds an image to start, golden if no other
+  pub found : (e : Event) → EventFits motes e → FindsImage (does v e)
+
+-- ---- what a service keeps
+
 -- The events are those of a run of wide motes, of which there holds what is promised of a script over boards as they are.
 pub record KeepsRules (table : List Row) (stores : List Store) (links : List (ℕ × ℕ)) (motes : ℕ) (events : List Event) (v : World) : Type 0 where
   pub run : RunOf motes (first_world table links none_narrow stores) events v
@@ -46,3 +85,25 @@ pub record KeepsRules (table : List Row) (stores : List Store) (links : List (�
   pub agrees : FramesAreHonest table stores run.played → AllByRecursion LeavesAgreement run.played × WorldAgrees v
   -- there each store that the chip may stand for, wherever a stop comes in the next event, agrees with the table, where that event is honest too
   pub halves : (e : Event) → FramesAreHonest table stores run.played → EventFits motes e → HoldsTo table v e → StopsAgree v e
+  -- with any frames at all, over consistent boards: each store stays consistent, and what starts is golden or fits its own descriptor
+  pub consistent : (golden : Row) → StoresConsistent golden stores → StaysConsistent golden motes run.played v
+  -- with any frames at all, over boards that keep golden whole: they still do, and a start finds it
+  pub golden : StoresKeepGolden stores → StaysGolden motes run.played v
+
+-- ---- what a replay of its trace comes to
+
+-- the world in which the run of these lines begins, over boards as they are that stand for these stores
+abbrev pub world_by : List Line → List Row → List Store → World
+world_by lines table stores = first_world table (place_behind first_place lines).links (place_behind first_place lines).narrow stores
+
+-- The bytes are a script over so many boards as they are. Where these stand for these stores, a run of the rules over its items
+-- leads to this world, and no run over them to another.
+pub record ReplaysTo (bytes : List ℕ) (motes : ℕ) (table : List Row) (stores : List Store) (v : World) : Type 0 where
+  pub lines : List Line
+  pub script : IsScript bytes lines
+  pub rest : List Line
+  pub over_boards : lines ≡ Motes motes ∷ Boards ∷ rest
+  pub played : List Played
+  pub items : map item_played played ≡ items_of lines
+  pub plays : Plays (world_by lines table stores) played v
+  pub only : (others : List Played) (w : World) → map item_played others ≡ items_of lines → Plays (world_by lines table stores) others w → w ≡ v

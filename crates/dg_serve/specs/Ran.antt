@@ -15,7 +15,7 @@ use Rattle.dg_world.specs.declared.world.RunningMote.{RunningMote}
 use Rattle.dg_serve.specs.Services.{Part, plan, words_of_seed}
 use Rattle.dg_serve.specs.Endings.{StoresOf, begins}
 use Rattle.dg_serve.specs.Served.{Outside, Came, BoardsEndure, Hindered, DidNotBegin}
-use Rattle.dg_serve.specs.Traces.{trace, written, head_lines, last_line}
+use Rattle.dg_serve.specs.Traces.{UntoldLast, written, head_lines, event_lines, last_line}
 use Rattle.dg_serve.specs.declared.service.Service.{Service}
 use Rattle.dg_serve.specs.declared.stop.Stop.{Stop}
 use Rattle.dg_serve.specs.declared.stop.Stop.TheVariants as stop
@@ -48,14 +48,14 @@ Opens (Ok v) profile seed before addressees reached after = IsOpened profile see
 Opens (Err why) profile seed before addressees reached after = Hindered (status_of why) profile before after × (after.clock ≡ before.clock)
 
 -- what was written of a trace, by why the service ended before its turns were over, if it did
-abbrev pub WroteBy : Option Stop → (whole text : List ℕ) → Type 0
-WroteBy None whole text = text ≡ whole
-WroteBy (Some stop.Memory) whole text = text ≡ whole
-WroteBy (Some stop.Write) whole text = (n : ℕ) × (text ≡ take n whole)
-WroteBy (Some stop.Link) whole text = text ≡ whole
-WroteBy (Some stop.Flash) whole text = text ≡ whole
-WroteBy (Some stop.NotAVolume) whole text = text ≡ whole
-WroteBy (Some stop.NoImage) whole text = text ≡ whole
+abbrev pub WroteBy : Option Stop → (head : List ℕ) → List Event → (text : List ℕ) → Type 0
+WroteBy None head events text = text ≡ head ++ event_lines events
+WroteBy (Some stop.Memory) head events text = text ≡ head ++ event_lines events
+WroteBy (Some stop.Write) head events text = UntoldLast head events text
+WroteBy (Some stop.Link) head events text = text ≡ head ++ event_lines events
+WroteBy (Some stop.Flash) head events text = text ≡ head ++ event_lines events
+WroteBy (Some stop.NotAVolume) head events text = text ≡ head ++ event_lines events
+WroteBy (Some stop.NoImage) head events text = text ≡ head ++ event_lines events
 
 -- the counts, by the same
 pub record CountedBy (why : Option Stop) (before after : Outside) : Type 0 where
@@ -81,7 +81,7 @@ pub record Ran (why : Option Stop) (profile : NetProfile) (seed turns : ℕ) (be
       → Came why profile.motes (begins table profile.links stores origin clock seed (option_map (emptied profile.motes) before.inboxes)) done events left before.boards after
   pub text : List ℕ
   pub put : Puts before.written after.written text
-  pub wrote : WroteBy why (trace profile events) text
+  pub wrote : WroteBy why (written (head_lines profile)) events text
   pub boards : BoardsEndure profile.motes before.boards after.boards
   pub counts : CountedBy why before after
 

@@ -14,7 +14,7 @@ use Rattle.dg_object.specs.Object.{Row}
 use Rattle.dg_volume.specs.Store.{Store}
 use Rattle.dg_serve.specs.Services.{Part, Moment, Serves, plan}
 use Rattle.dg_serve.specs.Endings.{StoresOf, begins, BoardsStand, BoardsLeft, LinkLeft, ClockLeft}
-use Rattle.dg_serve.specs.Traces.{trace, written, head_lines, last_line}
+use Rattle.dg_serve.specs.Traces.{UntoldLast, trace, written, head_lines, last_line}
 use Rattle.dg_serve.specs.declared.stop.Stop.{Stop}
 use Rattle.dg_serve.specs.declared.stop.Stop.TheVariants as stop
 
@@ -29,28 +29,31 @@ pub record Outside : Type 0 where
   pub boards : List Device
 
 -- how the boards, the link and the clock are left, by why the service ended before its turns were over, if it did
-abbrev pub LeftBy : Option Stop → (motes : ℕ) → Moment → List Part → List Device → Outside → Type 0
-LeftBy None motes s left first after = BoardsStand s.world first after.boards × (after.inboxes ≡ s.inboxes) × (after.clock ≡ s.clock)
-LeftBy (Some why) motes s left first after = BoardsLeft why s left first after.boards × LinkLeft why motes s after.inboxes × ClockLeft s.clock after.clock
+abbrev pub LeftBy : Option Stop → (motes : ℕ) → Moment → List Part → List Event → (last : Moment) → List Part → List Device → Outside → Type 0
+LeftBy None motes s done events last left first after = BoardsStand last.world first after.boards × (after.inboxes ≡ last.inboxes) × (after.clock ≡ last.clock)
+LeftBy (Some why) motes s done events last left first after =
+    BoardsLeft why last left first after.boards × LinkLeft why motes s done events last after.inboxes × ClockLeft last.clock after.clock
 
 -- From this moment on the service came as far as this.
 pub record Came (why : Option Stop) (motes : ℕ) (s : Moment) (done : List Part) (events : List Event) (left : List Part) (first : List Device) (after : Outside) : Type 0 where
   pub last : Moment
   pub serves : Serves motes s done events last
-  pub ends : LeftBy why motes last left first after
+  pub ends : LeftBy why motes s done events last left first after
 
--- the bytes are the trace and the last line of the status. Only where they could not be written they are some front of these.
+-- The bytes are the trace and the last line of the status. Only where that line could not be written they are the trace and a
+-- front of it.
 abbrev pub WroteLast : Status → Status → (whole line text : List ℕ) → Type 0
-WroteLast answer of whole line text = ((answer ≡ of) × (text ≡ whole ++ line)) ⊎ ((answer ≡ status.WriteFault) × ((n : ℕ) × (text ≡ take n (whole ++ line))))
+WroteLast answer of whole line text = ((answer ≡ of) × (text ≡ whole ++ line)) ⊎ ((answer ≡ status.WriteFault) × ((n : ℕ) × (text ≡ whole ++ take n line)))
 
-abbrev pub Wrote : Option Stop → Status → (motes boards : ℕ) → (whole text : List ℕ) → Type 0
-Wrote None answer motes boards whole text = (answer ≡ status.Done) × (text ≡ whole)
-Wrote (Some stop.Memory) answer motes boards whole text = (answer ≡ status.Memory) × (text ≡ whole)
-Wrote (Some stop.Write) answer motes boards whole text = (answer ≡ status.WriteFault) × ((n : ℕ) × (text ≡ take n whole))
-Wrote (Some stop.Link) answer motes boards whole text = (answer ≡ status.LinkFault) × (text ≡ whole)
-Wrote (Some stop.Flash) answer motes boards whole text = (answer ≡ status.FlashFault) × (text ≡ whole)
-Wrote (Some stop.NotAVolume) answer motes boards whole text = WroteLast answer status.NotAVolume whole (last_line status.NotAVolume motes boards) text
-Wrote (Some stop.NoImage) answer motes boards whole text = WroteLast answer status.NoImage whole (last_line status.NoImage motes boards) text
+-- What was written of the trace of these events. Where a line of it could not be written, it is that of the last event.
+abbrev pub Wrote : Option Stop → Status → NetProfile → (boards : ℕ) → List Event → (text : List ℕ) → Type 0
+Wrote None answer profile boards events text = (answer ≡ status.Done) × (text ≡ trace profile events)
+Wrote (Some stop.Memory) answer profile boards events text = (answer ≡ status.Memory) × (text ≡ trace profile events)
+Wrote (Some stop.Write) answer profile boards events text = (answer ≡ status.WriteFault) × UntoldLast (written (head_lines profile)) events text
+Wrote (Some stop.Link) answer profile boards events text = (answer ≡ status.LinkFault) × (text ≡ trace profile events)
+Wrote (Some stop.Flash) answer profile boards events text = (answer ≡ status.FlashFault) × (text ≡ trace profile events)
+Wrote (Some stop.NotAVolume) answer profile boards events text = WroteLast answer status.NotAVolume (trace profile events) (last_line status.NotAVolume profile.motes boards) text
+Wrote (Some stop.NoImage) answer profile boards events text = WroteLast answer status.NoImage (trace profile events) (last_line status.NoImage profile.motes boards) text
 
 -- No board but those of the motes was used. No count fell, and a board is stopped only where it was, or where its count rose.
 pub record BoardsEndure (motes : ℕ) (old new : List Device) : Type 0 where
@@ -85,7 +88,7 @@ pub record Began (answer : Status) (profile : NetProfile) (seed turns : ℕ) (be
       → Came why profile.motes (begins table profile.links stores origin clock seed (option_map (emptied profile.motes) before.inboxes)) done events left before.boards after
   pub text : List ℕ
   pub put : Puts before.written after.written text
-  pub wrote : Wrote why answer profile.motes (length before.boards) (trace profile events) text
+  pub wrote : Wrote why answer profile (length before.boards) events text
   pub boards : BoardsEndure profile.motes before.boards after.boards
   pub causes : Causes answer before after
 

@@ -21,8 +21,8 @@ use Rattle.dg_world.specs.declared.telling.Fault.{Fault}
 use Rattle.dg_world.specs.declared.telling.Fault.TheVariants as fault
 use Rattle.dg_world.specs.declared.world.RunningMote.{RunningMote}
 use Rattle.dg_serve.specs.Services.{Part, Moment, Serves, Steps, handed_to, neighbours_by}
-use Rattle.dg_serve.specs.Traces.{event_lines}
-use Rattle.dg_serve.specs.Endings.{BoardsStand, EventEnds, BoardsLeft, LinkLeft, ClockLeft}
+use Rattle.dg_serve.specs.Traces.{UntoldLast, event_lines}
+use Rattle.dg_serve.specs.Endings.{BoardsStand, EventEnds, BoardsLeft, HandedToFirst, LinkLeft, ClockLeft}
 use Rattle.dg_serve.specs.declared.service.Service.{Service}
 use Rattle.dg_serve.specs.declared.stop.Stop.{Stop}
 use Rattle.dg_serve.specs.declared.stop.Stop.TheVariants as stop
@@ -109,13 +109,13 @@ pub record Went (motes begun on : ℕ) (links : List (ℕ × ℕ)) (parts : List
   pub reached : p.reached ≤ q.reached
 
 -- how a stop leaves what is outside
-pub record Leaves (why : Stop) (motes : ℕ) (s : Moment) (left : List Part) (first : List Device) (q : Standing) : Type 0 where
-  pub boards : BoardsLeft why s left first q.boards
-  pub link : LinkLeft why motes s q.inboxes
-  pub clock : ClockLeft s.clock q.clock
+pub record Leaves (why : Stop) (motes : ℕ) (s : Moment) (done : List Part) (events : List Event) (last : Moment) (left : List Part) (first : List Device) (q : Standing) : Type 0 where
+  pub boards : BoardsLeft why last left first q.boards
+  pub link : LinkLeft why motes s done events last q.inboxes
+  pub clock : ClockLeft last.clock q.clock
 
 abbrev pub GivesThen : Stop → (motes : ℕ) → List Device → Moment → (done : List Part) → List Event → (left : List Part) → Standing → Type 0
-GivesThen why motes first s done events left q = (t : Moment) × Serves motes s done events t × Leaves why motes t left first q
+GivesThen why motes first s done events left q = (t : Moment) × Serves motes s done events t × Leaves why motes s done events t left first q
 
 -- the counts of the sink and of the link, by why a service stopped
 pub record CountsBy (why : Stop) (p q : Standing) : Type 0 where
@@ -135,7 +135,7 @@ pub record Halted (why : Stop) (motes begun : ℕ) (links : List (ℕ × ℕ)) (
   pub all : done ++ left ≡ parts
   pub text : List ℕ
   pub put : Puts p.written q.written text
-  pub front : (n : ℕ) × (text ≡ take n (event_lines events))
+  pub front : why ≡ stop.Write → UntoldLast [] events text
   pub whole : why ≢ stop.Write → text ≡ event_lines events
   pub run : (first : List Device) (s : Moment) → StandsFor motes begun links 0 first s p → GivesThen why motes first s done events left q
   pub boards : BoardsAreUsed motes p.boards q.boards
@@ -204,6 +204,11 @@ pub record DoesNotHappen (why : Stop) (motes : ℕ) (links : List (ℕ × ℕ)) 
   pub failures : q.failures ≡ p.failures
   pub faults : q.faults ≡ p.faults
 
+-- what was handed on of an event that happened, by why the service stopped: nothing before its line is written
+abbrev pub HandedThen : Stop → (motes : ℕ) → (w v : World) → (before after : Option Inboxes) → Type 0
+HandedThen stop.Link motes w v before after = HandedToFirst motes w v before after
+HandedThen why motes w v before after = after ≡ before
+
 -- The event happened, but its line was not written, or what it sent not handed to all.
 pub record HappensPartly (why : Stop) (motes : ℕ) (links : List (ℕ × ℕ)) (event : Event) (p q : Standing) : Type 0 where
   pub text : List ℕ
@@ -211,7 +216,7 @@ pub record HappensPartly (why : Stop) (motes : ℕ) (links : List (ℕ × ℕ)) 
   pub front : (n : ℕ) × (text ≡ take n (event_lines (event ∷ [])))
   pub whole : why ≢ stop.Write → text ≡ event_lines (event ∷ [])
   pub run : (first : List Device) (s : Moment) → StandsFor motes (begun_before motes event) links (dt_of event) first s p
-      → (t : Moment) × Steps motes s event t × BoardsStand t.world first q.boards × LinkLeft why motes t q.inboxes
+      → (t : Moment) × Steps motes s event t × BoardsStand t.world first q.boards × HandedThen why motes s.world t.world p.inboxes q.inboxes
   pub boards : BoardsAreUsed motes p.boards q.boards
   pub calm : BoardsAreCalm p.boards q.boards
   pub counts : CountsBy why p q

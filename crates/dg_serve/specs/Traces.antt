@@ -1,5 +1,5 @@
 -- The trace of a service: a script that tells what happened.
-use Rattle.std.specs.Prelude.{◌≡◌, ℕ, true, List, [], ◌∷◌, ◌++◌, map, codes, None}
+use Rattle.std.specs.Prelude.{◌≡◌, ℕ, true, List, [], ◌∷◌, ◌++◌, map, take, codes, None}
 use Rattle.std.specs.List.{flat_map}
 use Rattle.std.specs.Fmt.{decimal}
 use Rattle.std.specs.Str.Lines.{lines}
@@ -27,6 +27,14 @@ event_lines events = written (map Happens events)
 
 abbrev pub trace : NetProfile → List Event → List ℕ
 trace p events = written (head_lines p) ++ event_lines events
+
+-- Behind this head the lines of all events but the last were written, and of its line a front.
+pub record UntoldLast (head : List ℕ) (events : List Event) (text : List ℕ) : Type 0 where
+  pub told : List Event
+  pub event : Event
+  pub events_are : events ≡ told ++ event ∷ []
+  pub n : ℕ
+  pub text_is : text ≡ head ++ event_lines told ++ take n (event_lines (event ∷ []))
 
 -- the last line of a status
 abbrev pub last_line : Status → (motes boards : ℕ) → List ℕ

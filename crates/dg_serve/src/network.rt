@@ -2,6 +2,7 @@
 ghost use Rattle.std.specs.Prelude.{◌≡◌, ◌≤◌, map, IfOk};
 ghost use Rattle.dg_words.specs.Counts.{Rose};
 ghost use Rattle.dg_base.specs.declared.answers.Status.TheVariants.{BadInput};
+ghost use Rattle.dg_mote.specs.Sizes.{BuffersFit, ValuesAreSmall};
 ghost use Rattle.dg_netcfg.specs.Readings.{IsAllowed};
 ghost use Rattle.dg_serve.specs.Networks.{NetworkServed, fault_line};
 ghost use Rattle.dg_serve.specs.Spelled.{NetworkRead, Spells, TellsNone, TellsLine, none_of};
@@ -10,6 +11,7 @@ use crate::serving::{serve, tell_last};
 use dg_base::{Clock, Sink, Source, Status};
 use dg_input::{ReadStop, read_whole};
 use dg_link::Link;
+use dg_mote::a_mote_buffers_little;
 use dg_netcfg::{NetProfile, ProfileFault, read_profile};
 use dg_nor::Nor;
 use dg_script::USED;
@@ -45,11 +47,15 @@ pub fn serve_network<S: Source, K: Sink, N: Nor, L: Link, C: Clock>(
     ensures served { NetworkServed result seed turns (S.left input.old) (S.left input.new) (S.faults input.old) (S.faults input.new)
         (record { written = K.written out.old; faults = K.faults out.old; clock = C.told clock.old; inboxes = L.inboxes link.old; failures = L.faults link.old; boards = map N.device boards.old.items })
         (record { written = K.written out.new; faults = K.faults out.new; clock = C.told clock.new; inboxes = L.inboxes link.new; failures = L.faults link.new; boards = map N.device boards.new.items }) }
+    // All arrays of bytes that are alive at once in a mote's call have no more than 256, and beside the outbox and its sets
+    // none lies in the value of a mote.
+    ensures buffers { BuffersFit × ValuesAreSmall }
     ensures link_fault { result ≡ Status.LinkFault → Rose (L.faults link.old) (L.faults link.new) }
     ensures reads { S.faults input.old ≤ S.faults input.new }
     ensures writes { K.faults out.old ≤ K.faults out.new }
     ensures sends { L.faults link.old ≤ L.faults link.new }
 {
+    a_mote_buffers_little();
     match read_network(alloc, input) {
         Ok(profile) => serve(alloc, &profile, boards, link, clock, seed, turns, out),
         Err(why) => tell_none(alloc, why, out),

@@ -2,6 +2,7 @@
 ghost use Rattle.std.specs.Prelude.{◌≡◌, ◌^◌, ◌<◌, ◌≤◌, List, [], ◌++◌, length, map, codes, replicate, None, IfOk, vec_len};
 ghost use Rattle.dg_base.specs.declared.answers.Status.TheVariants.{NoBoard};
 ghost use Rattle.dg_link.specs.Inboxes.{emptied};
+ghost use Rattle.dg_mote.specs.Sizes.{BuffersFit, ValuesAreSmall};
 ghost use Rattle.dg_netcfg.specs.Readings.{IsAllowed};
 ghost use Rattle.dg_nor.specs.Device.{Device};
 ghost use Rattle.dg_serve.specs.Traces.{last_line};
@@ -14,6 +15,7 @@ use crate::telling::{put, write_head};
 use crate::timeline::Timeline;
 use dg_base::{Clock, Sink, Status, WriteFailed, push_u32};
 use dg_link::{Link, OpenFault};
+use dg_mote::a_mote_buffers_little;
 use dg_netcfg::NetProfile;
 use dg_nor::Nor;
 use dg_world::RunningMote;
@@ -39,7 +41,11 @@ pub fn serve<K: Sink, N: Nor, L: Link, C: Clock>(
     ensures too_few { vec_len boards.old < profile.now.motes → TooFewBoards result profile.now
         (record { written = K.written out.old; faults = K.faults out.old; clock = C.told clock.old; inboxes = L.inboxes link.old; failures = L.faults link.old; boards = map N.device boards.old.items })
         (record { written = K.written out.new; faults = K.faults out.new; clock = C.told clock.new; inboxes = L.inboxes link.new; failures = L.faults link.new; boards = map N.device boards.new.items }) }
+    // All arrays of bytes that are alive at once in a mote's call have no more than 256, and beside the outbox and its sets
+    // none lies in the value of a mote.
+    ensures buffers { BuffersFit × ValuesAreSmall }
 {
+    a_mote_buffers_little();
     if boards.len() < usize::from(profile.motes) {
         return tell_too_few(alloc, profile.motes, boards.len(), out);
     }

@@ -28,3 +28,9 @@ returns-in-Err-clause-link_fault g c = network_linked _ _ _ _ _ _ _ _ _ (returns
 
 pub returns-in-Err-clause-writes : goal.returns-in-Err-clause-writes
 returns-in-Err-clause-writes g c = (network_rises _ _ _ _ _ _ _ _ _ (returns-in-Err-clause-served g c)).0
+
+pub returns-in-Ok-clause-buffers : goal.returns-in-Ok-clause-buffers
+returns-in-Ok-clause-buffers g c = let b = c.a_mote_buffers_little.ensures in (b.alive, b.values)
+
+pub returns-in-Err-clause-buffers : goal.returns-in-Err-clause-buffers
+returns-in-Err-clause-buffers g c = let b = c.a_mote_buffers_little.ensures in (b.alive, b.values)

@@ -50,3 +50,12 @@ returns-in-Err-clause-served g c = λ enough.
 
 pub returns-in-Err-clause-too_few : goal.returns-in-Err-clause-too_few
 returns-in-Err-clause-too_few g c = λ few. absurd (omega (arith, few))
+
+pub returns-then-len-from-clause-buffers : goal.returns-then-len-from-clause-buffers
+returns-then-len-from-clause-buffers g c = let b = c.a_mote_buffers_little.ensures in (b.alive, b.values)
+
+pub returns-in-Ok-clause-buffers : goal.returns-in-Ok-clause-buffers
+returns-in-Ok-clause-buffers g c = let b = c.a_mote_buffers_little.ensures in (b.alive, b.values)
+
+pub returns-in-Err-clause-buffers : goal.returns-in-Err-clause-buffers
+returns-in-Err-clause-buffers g c = let b = c.a_mote_buffers_little.ensures in (b.alive, b.values)
