@@ -22,10 +22,11 @@ use Rattle.dg_replay.specs.Boards.{WorldStands, StoppedIn, ItemStops, LineStops}
 use Rattle.dg_replay.specs.Items.{Ground, no_ground, Beginning, begin_by, motes_in, lacking_by, is_boards}
 use Rattle.dg_replay.specs.Playing.{Seated, InWorld, Stood, Ready, ItemsPlayedAs, StopsInItem, PlayedAs}
 use Rattle.dg_replay.specs.declared.player.Player.{Player}
+use Rattle.dg_replay.specs.declared.player.Stage.TheVariants.{Playing}
 use Rattle.dg_replay.specs.declared.stop.Stop.{Stop}
 use Rattle.dg_replay.specs.declared.stop.Stop.TheVariants.{Memory, BadInput, WriteFault, FlashFault, TooMany, NoBoard, NoImage, NotAVolume}
-use Rattle.dg_replay.proofs.ItemLemmas.{some_is, items_run_counts}
-use Rattle.dg_replay.proofs.PlayLemmas.{false_not, event_at, round_at, sweeps_at, seated_as}
+use Rattle.dg_replay.proofs.ItemLemmas.{items_run_counts}
+use Rattle.dg_replay.proofs.PlayLemmas.{playing_is, false_not, event_at, round_at, sweeps_at, seated_as}
 use Rattle.dg_replay.proofs.GoldenLemmas.{event_fits, cut_fits_too}
 use Rattle.dg_replay.proofs.StandLemmas.{joined_next, stood_next, busy_runs, line_begun}
 
@@ -137,7 +138,7 @@ stopped_in motes done line items left w initial now has count s =
     }
 
 busy_as : (table : List Row) (r : Result (Unit {0}) Stop) (p q : Player) (done : List Line) (w : World) (line : Line) (items : List Item) (kept : KeptWorld) (told_before told : List ℕ) (initial old now : List Device)
-    → HasItems done line items → StandsAt p.place line → FitsLine p.place.motes line → q.place ≡ place_after p.place line → q.cut ≡ cut_by p.cut line → q.world ≡ Some kept
+    → HasItems done line items → StandsAt p.place line → FitsLine p.place.motes line → q.place ≡ place_after p.place line → q.cut ≡ cut_by p.cut line → q.stage ≡ Playing kept
     → Stood p done (Some w) initial old → ItemsPlayedAs r w items kept initial now told_before told → PlayedAs table r q done (Some w) line told_before told initial old now
 busy_as table (Ok u) p q done w line items kept told_before told initial old now has stands fits place cut world s x =
     let motes : q.place.motes ≡ p.place.motes = ap (λ (at : Place). at.motes) place ∙ has.motes p.place in
@@ -171,24 +172,24 @@ busy_as table (Err WriteFault) p q done w line items kept told_before told initi
 
 -- the same where some world is kept
 pub busy_in : (table : List Row) (r : Result (Unit {0}) Stop) (p q : Player) (done : List Line) (w : Option World) (line : Line) (items : List Item) (v kept : KeptWorld) (told_before told : List ℕ) (initial old now : List Device)
-    → HasItems done line items → StandsAt p.place line → FitsLine p.place.motes line → p.place.ready ≡ true → p.world ≡ Some v → q.place ≡ place_after p.place line → q.cut ≡ cut_by p.cut line → q.world ≡ Some kept
+    → HasItems done line items → StandsAt p.place line → FitsLine p.place.motes line → p.place.ready ≡ true → p.stage ≡ Playing v → q.place ≡ place_after p.place line → q.cut ≡ cut_by p.cut line → q.stage ≡ Playing kept
     → Stood p done w initial old → ((u : World) → IsWorld v old u → WorldStands u initial old → ItemsPlayedAs r u items kept initial now told_before told) → PlayedAs table r q done w line told_before told initial old now
 busy_in table r p q done None line items v kept told_before told initial old now has stands fits ready was place cut world s play = false_not p.place.ready ready s.world.1
 busy_in table r p q done (Some w) line items v kept told_before told initial old now has stands fits ready was place cut world s play =
     let k = s.world in
-    busy_as table r p q done w line items kept told_before told initial old now has stands fits place cut world s (play w (subst (λ (x : KeptWorld). IsWorld x old w) (some_is k.0 v (sym k.1 ∙ was)) k.2) s.boards)
+    busy_as table r p q done w line items kept told_before told initial old now has stands fits place cut world s (play w (subst (λ (x : KeptWorld). IsWorld x old w) (playing_is k.0 v (sym k.1 ∙ was)) k.2) s.boards)
 
 -- ---- what they ask
 
 -- the world that is kept stands for one of the motes of its place
-pub kept_for : (p : Player) (v : KeptWorld) (boards : List Device) → Ready p boards → p.place.ready ≡ true → p.world ≡ Some v → (u : World) × IsWorld v boards u × (length u.sites ≡ p.place.motes)
+pub kept_for : (p : Player) (v : KeptWorld) (boards : List Device) → Ready p boards → p.place.ready ≡ true → p.stage ≡ Playing v → (u : World) × IsWorld v boards u × (length u.sites ≡ p.place.motes)
 kept_for p v boards r ready was = from r.world r.kept
   where
     from : (w : Option World) → InWorld p w boards → (u : World) × IsWorld v boards u × (length u.sites ≡ p.place.motes)
     from None k = false_not p.place.ready ready k.1
-    from (Some w) k = (w, subst (λ (x : KeptWorld). IsWorld x boards w) (some_is k.0 v (sym k.1 ∙ was)) k.2, k.3)
+    from (Some w) k = (w, subst (λ (x : KeptWorld). IsWorld x boards w) (playing_is k.0 v (sym k.1 ∙ was)) k.2, k.3)
 
-pub step_asked : (p : Player) (v : KeptWorld) (boards : List Device) (event : Event) (cut : Option CutOfPower) → Ready p boards → StandsAt p.place (Happens event) → FitsLine p.place.motes (Happens event) → IsPlayed (Happens event) → p.world ≡ Some v → cut ≡ p.cut
+pub step_asked : (p : Player) (v : KeptWorld) (boards : List Device) (event : Event) (cut : Option CutOfPower) → Ready p boards → StandsAt p.place (Happens event) → FitsLine p.place.motes (Happens event) → IsPlayed (Happens event) → p.stage ≡ Playing v → cut ≡ p.cut
     → (u : World) × IsWorld v boards u × StepFits (length u.sites) (record { event = event; cut = cut })
 step_asked p v boards event cut r stands fits played was waits =
     let k = kept_for p v boards r (event_at p.place event stands).0 was in (
@@ -200,12 +201,12 @@ step_asked p v boards event cut r stands fits played was waits =
       },
     )
 
-pub round_asked : (p : Player) (v : KeptWorld) (boards : List Device) (a b : ℕ) → Ready p boards → StandsAt p.place (Round a b) → FitsLine p.place.motes (Round a b) → p.world ≡ Some v → (u : World) × IsWorld v boards u × LinkFits (length u.sites) (a, b)
+pub round_asked : (p : Player) (v : KeptWorld) (boards : List Device) (a b : ℕ) → Ready p boards → StandsAt p.place (Round a b) → FitsLine p.place.motes (Round a b) → p.stage ≡ Playing v → (u : World) × IsWorld v boards u × LinkFits (length u.sites) (a, b)
 round_asked p v boards a b r stands fits was =
     let k = kept_for p v boards r (round_at p.place a b stands).0 was in
     (k.0, k.1, subst (λ (n : ℕ). LinkFits n (a, b)) (sym k.2) (record { first = fits.first; second = fits.second; two = λ same. fits.other (sym same) }))
 
-pub sweeps_asked : (p : Player) (v : KeptWorld) (boards : List Device) (n : ℕ) (links : List (ℕ × ℕ)) → Ready p boards → StandsAt p.place (Sweeps n) → p.world ≡ Some v → links ≡ p.place.links → (u : World) × IsWorld v boards u × AllByRecursion (LinkFits (length u.sites)) links
+pub sweeps_asked : (p : Player) (v : KeptWorld) (boards : List Device) (n : ℕ) (links : List (ℕ × ℕ)) → Ready p boards → StandsAt p.place (Sweeps n) → p.stage ≡ Playing v → links ≡ p.place.links → (u : World) × IsWorld v boards u × AllByRecursion (LinkFits (length u.sites)) links
 sweeps_asked p v boards n links r stands was known =
     let k = kept_for p v boards r (sweeps_at p.place n stands).0 was in
     (k.0, k.1, subst (λ (m : ℕ). AllByRecursion (LinkFits m) links) (sym k.2) (subst (λ (ls : List (ℕ × ℕ)). AllByRecursion (LinkFits p.place.motes) ls) (sym known) r.links))

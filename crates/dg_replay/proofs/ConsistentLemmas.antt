@@ -1,13 +1,11 @@
 -- Stores stay consistent in what was played of a script, whatever frames it brings.
-use Rattle.std.proofs.Common.{◌≡◌, ℕ, Bool, List, [], ◌∷◌, ◌++◌, map, get_or, sym, ap, ◌∙◌, subst}
-use Rattle.std.specs.Prelude.{Option, Some, None}
+use Rattle.std.proofs.Common.{◌≡◌, ℕ, Bool, List, [], ◌∷◌, get_or, sym, ap, ◌∙◌, subst}
+use Rattle.std.specs.Prelude.{Some, None}
 use Rattle.std.specs.List.{AllByRecursion}
 use Rattle.dg_object.specs.Object.{Row}
 use Rattle.dg_volume.specs.Store.{golden_row}
 use Rattle.dg_base.specs.declared.events.Event.{Event}
-use Rattle.dg_script.specs.Places.{first_place}
-use Rattle.dg_script.specs.Items.{Item, Happens, items_of}
-use Rattle.dg_script.specs.declared.line.Line.{Line}
+use Rattle.dg_script.specs.Items.{Item, Happens}
 use Rattle.dg_rules.specs.World.{World}
 use Rattle.dg_rules.specs.Ranges.{EventFits}
 use Rattle.dg_rules.specs.Premises.{ItemInRange}
@@ -16,9 +14,9 @@ use Rattle.dg_rules.specs.Golden.{PlaysGolden}
 use Rattle.dg_rules.specs.Consistency.{WorldConsistent, LeavesConsistent, StartsSound, StopsConsistent}
 use Rattle.dg_replay.specs.Items.{UsesBoards, Beginning, beginning_of}
 use Rattle.dg_replay.specs.Ending.{script_of}
-use Rattle.dg_replay.specs.Outcome.{Progress, RunsTo, item_played}
+use Rattle.dg_replay.specs.Outcome.{Progress}
 use Rattle.dg_replay.specs.Promised.{StaysConsistent}
-use Rattle.dg_replay.proofs.ItemLemmas.{some_is, runs_from_none}
+use Rattle.dg_replay.proofs.ItemLemmas.{some_is}
 use Rattle.dg_replay.proofs.GoldenLemmas.{GoldenRun, golden_at_end, nothing_or}
 
 -- what is known of all that plays golden

@@ -22,6 +22,7 @@ use Rattle.dg_replay.specs.Playing.{InWorld}
 use Rattle.dg_script.specs.Places.{first_place, place_after, fault_at_end}
 use Rattle.dg_script.specs.Script.{Script, script_from, end_fault, numbered}
 use Rattle.dg_script.specs.declared.fault.LineFault.{LineFault}
+use Rattle.dg_script.specs.declared.fault.LineFault.TheVariants as line_fault
 use Rattle.dg_script.specs.Report.{report_text}
 use Rattle.dg_rules.specs.World.{World}
 use Rattle.dg_replay.specs.Boards.{EventNext, InSome, LacksImage, WorldStands, BoardsStand, BoardStopped, StoppedIn}
@@ -29,9 +30,10 @@ use Rattle.dg_replay.specs.Ending.{Ending, Ends, NoBoards, TooManyEvents, FaultA
 use Rattle.dg_replay.specs.Near.{behind_lines, IsNear}
 use Rattle.dg_replay.specs.Outcome.{Progress, item_played, played_text, AtTooMany, ReachesEnding, closing, IsWholeReport, StopsAt, Wrote, BoardsLeft, IsCaused, RunsTo, IsSettled, NextIsWhole, DoneIsWhole, ReadEnough, EndsNear, ReadsNear, BoardsEndIt, NoVolumeThere, NoImageThere, no_volume_line, no_image_line}
 use Rattle.dg_world.specs.Mounted.{StandFor}
-use Rattle.dg_replay.specs.Replaying.{ToldBefore, EndsWritten, StopEnds, Reached, HasFew, StopsAtText, StopsIn, ByRules, ReadyToEnd, EndsWith, FinishesWith, ScriptReplayed}
+use Rattle.dg_replay.specs.Replaying.{ToldBefore, StopEnds, Reached, HasFew, StopsAtText, StopsIn, ByRules, ReadyToEnd, EndsWith, FinishesWith, ScriptReplayed}
 use Rattle.dg_base.specs.declared.events.Step.{Step}
 use Rattle.dg_replay.specs.declared.player.Player.{Player}
+use Rattle.dg_replay.specs.declared.player.Stage.TheVariants.{Waiting, Playing}
 use Rattle.dg_script.specs.declared.line.Line.{Line}
 use Rattle.dg_script.specs.declared.line.Line.TheVariants.{Nothing, Motes, Golden, Boards as BoardsLine, Link, Narrow, Image, Cut, Happens, Round, Sweeps}
 use Rattle.dg_replay.specs.declared.stop.Stop.{Stop}
@@ -446,15 +448,20 @@ finish_as {table} result script input w n p initial now new before mid after fai
     } in
     subst (λ (s : Status). ScriptReplayed table s script Ends input ⊤ initial new before after reads worse) (sym same) made
 
-kept_world : (p : Player) (v : KeptWorld) (last : Option World) (initial now : List Device) → p.world ≡ Some v → InWorld p last now → BoardsStand last initial now → (w : World) × (last ≡ Some w) × IsWorld v now w × WorldStands w initial now × (length w.sites ≡ p.place.motes)
-kept_world p v None initial now is kept stands = absurd (let e : Some v ≡ None = sym is ∙ kept.0 in cc)
+kept_world : (p : Player) (v : KeptWorld) (last : Option World) (initial now : List Device) → p.stage ≡ Playing v → InWorld p last now → BoardsStand last initial now → (w : World) × (last ≡ Some w) × IsWorld v now w × WorldStands w initial now × (length w.sites ≡ p.place.motes)
+kept_world p v None initial now is kept stands = absurd (let e : Playing v ≡ Waiting = sym is ∙ kept.0 in cc)
 kept_world p v (Some w) initial now is kept stands = (w, refl, subst (λ (x : KeptWorld). IsWorld x now w) (same_kept kept.0 v (sym kept.1 ∙ is)) kept.2, stands, kept.3)
   where
-    same_kept : (a b : KeptWorld) → Some a ≡ Some b → a ≡ b
+    same_kept : (a b : KeptWorld) → Playing a ≡ Playing b → a ≡ b
     same_kept a b e = cc
 
+-- a script that ended before its second line
+pub waiting_ends : (p : Player) (last : Option World) (now : List Device) → p.stage ≡ Waiting → InWorld p last now → fault_at_end p.place ≡ Some line_fault.Place
+waiting_ends p None now is kept = ap (λ (b : Bool). if not b then Some line_fault.Place else if p.place.cut then Some line_fault.Cut else None) kept.1
+waiting_ends p (Some w) now is kept = absurd (let e : Playing kept.0 ≡ Waiting = sym kept.1 ∙ is in cc)
+
 -- a script that ended
-pub script_ends : {table : List Row} (result : Status) (script : Script) (input : List ℕ) (n : ℕ) (p : Player) (v : KeptWorld) (initial now new : List Device) (before mid after : Option (List ℕ)) (failed reads worse : Type 0) → (failed → worse) → fault_at_end p.place ≡ None → p.world ≡ Some v
+pub script_ends : {table : List Row} (result : Status) (script : Script) (input : List ℕ) (n : ℕ) (p : Player) (v : KeptWorld) (initial now new : List Device) (before mid after : Option (List ℕ)) (failed reads worse : Type 0) → (failed → worse) → fault_at_end p.place ≡ None → p.stage ≡ Playing v
     → (r : Reached table true script [] n p initial now before mid) → ((w : World) → IsWorld v now w → WorldStands w initial now → FinishesWith result w initial new mid after failed)
     → ScriptReplayed table result script (ending_from (length initial) false script) input ⊤ initial new before after reads worse
 script_ends {table} result script input n p v initial now new before mid after failed reads worse spread none has r finishes =

@@ -42,7 +42,7 @@ use Rattle.dg_replay.specs.Playing.{LineBegun, RunsFrom}
 use Rattle.dg_replay.specs.Replaying.{Reached, TextRead}
 use Rattle.dg_replay.specs.declared.player.Player.{Player}
 use Rattle.dg_replay.proofs.ItemLemmas.{some_is, motes_same, runs_append, runs_from_none}
-use Rattle.dg_replay.proofs.PlayLemmas.{unplayed, false_not, later_at, second_at, link_at, narrow_at, event_at}
+use Rattle.dg_replay.proofs.PlayLemmas.{false_not, later_at, second_at, link_at, narrow_at, event_at}
 use Rattle.dg_nor.specs.Device.{Device}
 
 -- lines stand where they may, are in their ranges, and are played

@@ -26,6 +26,7 @@ use Rattle.dg_replay.specs.Replaying.{TextAnswer, Reached, PlayedUpTo, StopsAtTe
 use Rattle.dg_replay.specs.declared.halt.Halt.{Halt}
 use Rattle.dg_replay.specs.declared.halt.Halt.TheVariants.{ReadFault, TooLong, Stopped}
 use Rattle.dg_replay.specs.declared.player.Player.{Player}
+use Rattle.dg_replay.specs.declared.player.Stage.TheVariants.{Waiting}
 use Rattle.dg_replay.specs.declared.stop.Stop.{Stop}
 use Rattle.dg_replay.specs.declared.stop.Stop.TheVariants.{Memory, BadInput, WriteFault, FlashFault, TooMany, NoBoard, NoImage, NotAVolume}
 use Rattle.dg_replay.proofs.EndLemmas.{script_all, script_over, stop_ending, bounds_done}
@@ -51,7 +52,7 @@ pub record LinesRead (left_old left_now : Option (List ℕ)) (reader : Reading) 
   pub played : FrontPlayed front given p initial now before after
 
 -- nothing was read
-pub lines_first : (left : Option (List ℕ)) (reader : Reading) (p : Player) (initial : List Device) (before : Option (List ℕ)) → reader.ahead ≡ [] → reader.passed ≡ 0 → reader.number ≡ 0 → p.place ≡ first_place → p.cut ≡ None → p.world ≡ None
+pub lines_first : (left : Option (List ℕ)) (reader : Reading) (p : Player) (initial : List Device) (before : Option (List ℕ)) → reader.ahead ≡ [] → reader.passed ≡ 0 → reader.number ≡ 0 → p.place ≡ first_place → p.cut ≡ None → p.stage ≡ Waiting
     → LinesRead left left reader 1 p initial initial before before
 lines_first left reader p initial before none unread first place cut world = record {
   front = [];

@@ -16,6 +16,7 @@ use Rattle.dg_replay.specs.Playing.{Stood}
 use Rattle.dg_replay.specs.Near.{behind_line, behind_lines}
 use Rattle.dg_replay.specs.Replaying.{TextTold, TextAnswer, Reached, StopsThere}
 use Rattle.dg_replay.specs.declared.player.Player.{Player}
+use Rattle.dg_replay.specs.declared.player.Stage.TheVariants.{Waiting}
 use Rattle.dg_replay.specs.declared.stop.Stop.{Stop}
 use Rattle.dg_replay.proofs.FrontLemmas.{lines_front}
 use Rattle.dg_replay.proofs.GoldenLemmas.{ImageIsFound, image_found, script_fits}
@@ -29,7 +30,7 @@ pub record FrontPlayed (front : List ℕ) (given : ℕ) (p : Player) (initial no
   pub reached : (table : List Row) (ends : Bool) (more : List (List ℕ)) → Reached table ends (script_from ends first_place 1 (lines front ++ more)) more (given + 1) p initial now before after
 
 -- nothing was read
-pub front_first : (p : Player) (initial : List Device) (before : Option (List ℕ)) → p.place ≡ first_place → p.cut ≡ None → p.world ≡ None → FrontPlayed [] 0 p initial initial before before
+pub front_first : (p : Player) (initial : List Device) (before : Option (List ℕ)) → p.place ≡ first_place → p.cut ≡ None → p.stage ≡ Waiting → FrontPlayed [] 0 p initial initial before before
 front_first p initial before place cut world = record { is = inl refl; behind = λ more. behind_none more; reached = λ table ends more. reached_first ends more p initial before place cut world }
 
 not_feed : (bytes : List ℕ) → HasNoEnd bytes → All (λ b. (b == 10) ≡ false) bytes

@@ -27,6 +27,7 @@ use Rattle.dg_replay.specs.Outcome.{Progress, AtTooMany, NoImageThere, BoardStop
 use Rattle.dg_replay.specs.Playing.{InWorld, Stood, Ready, Joined, RunsOn, RunsFrom, LineBegun, IsOneTooMany}
 use Rattle.dg_replay.specs.Replaying.{TextPlayed, TextTold, TextCut, TextRead, NothingDone, TextAnswer, CutAtStop, CutAtTooMany, CutAtImage, Reached, PlayedFront, PlayedUpTo, HasFew, ToldBefore, StopsThere}
 use Rattle.dg_replay.specs.declared.player.Player.{Player}
+use Rattle.dg_replay.specs.declared.player.Stage.TheVariants.{Waiting}
 use Rattle.dg_replay.specs.declared.stop.Stop.{Stop}
 use Rattle.dg_replay.specs.declared.stop.Stop.TheVariants.{Memory, BadInput, WriteFault, FlashFault, TooMany, NoBoard, NoImage, NotAVolume}
 use Rattle.dg_replay.proofs.ItemLemmas.{some_is, items_next, begin_next, plays_append, played_more, runs_from_none, run_counts}
@@ -672,7 +673,7 @@ stopped_at NotAVolume ends script texts text n p q initial old now before mid af
     )
 
 -- the first line of the script is reached at once
-pub reached_first : {table : List Row} (ends : Bool) (texts : List (List ℕ)) (p : Player) (initial : List Device) (before : Option (List ℕ)) → p.place ≡ first_place → p.cut ≡ None → p.world ≡ None
+pub reached_first : {table : List Row} (ends : Bool) (texts : List (List ℕ)) (p : Player) (initial : List Device) (before : Option (List ℕ)) → p.place ≡ first_place → p.cut ≡ None → p.stage ≡ Waiting
     → Reached table ends (script_from ends first_place 1 texts) texts 1 p initial initial before before
 unfolding cut_behind place_behind items_behind begin_behind lacking
 reached_first {table} ends texts p initial before place cut world =

@@ -32,11 +32,11 @@ use Rattle.dg_replay.specs.Items.{motes_in, golden_world, with_link, with_narrow
 use Rattle.dg_replay.specs.Boards.{BoardsEndure, StoppedIn}
 use Rattle.dg_replay.specs.Playing.{Counted, InWorld, Passed, Stood, PlayedLine, LacksBoards, LinkedAs, PlayedAs, mount_stop}
 use Rattle.dg_replay.specs.declared.player.Player.{Player}
+use Rattle.dg_replay.specs.declared.player.Stage.TheVariants.{Playing}
 use Rattle.dg_replay.specs.declared.stop.Stop.{Stop}
 use Rattle.dg_replay.specs.declared.stop.Stop.TheVariants.{Memory, FlashFault, NoBoard, NotAVolume}
-use Rattle.dg_replay.proofs.ItemLemmas.{some_is}
 use Rattle.dg_replay.proofs.BoardLemmas.{there}
-use Rattle.dg_replay.proofs.PlayLemmas.{false_not, no_world, in_world_as, seated_as}
+use Rattle.dg_replay.proofs.PlayLemmas.{playing_is, false_not, no_world, in_world_as, seated_as}
 use Rattle.dg_replay.proofs.StandLemmas.{joined_next, stood_next, grounded_next, grounded_motes, silent_runs, golden_runs, boards_runs, link_runs, narrow_runs, none_begun}
 
 -- memory ran out before anything of a line was done
@@ -55,7 +55,7 @@ nothing_played p q done w told initial now at s =
       told_now = sym (append-nil told);
       runs = silent_runs done Nothing w refl (λ g. refl) (λ g played r before. grounded_next g done Nothing refl (λ b. refl) before);
       stood = stood_next p q done Nothing w w initial now now s.links s at.place (seated_as p.place q.place (length now) motes s.seats) (at.cut ∙ s.cut)
-          (subst (λ (o : Option CutOfPower). IfSome o FitsCut) (sym at.cut) s.cut_fits) (in_world_as p q w now at.world motes ready s.world) s.boards;
+          (subst (λ (o : Option CutOfPower). IfSome o FitsCut) (sym at.cut) s.cut_fits) (in_world_as p q w now at.stage motes ready s.world) s.boards;
       boards_enough = refl;
     }
 
@@ -84,7 +84,7 @@ motes_played {table} p q done w motes told initial now stands at counted s =
           told_now = sym (append-nil told);
           runs = silent_runs done (Motes motes) None refl (λ g. refl) (λ g played r before. grounded_motes g done motes played r);
           stood = stood_next p q done (Motes motes) None None initial now now (joined_next p.place (Motes motes) stands (counted.0, counted.1) s.links) s at.place (λ some. subst (λ (n : ℕ). Counted n (length now)) (sym many) counted) (at.cut ∙ s.cut)
-              (subst (λ (o : Option CutOfPower). IfSome o FitsCut) (sym at.cut) s.cut_fits) (at.world ∙ s.world.0, ready ∙ unready) s.boards;
+              (subst (λ (o : Option CutOfPower). IfSome o FitsCut) (sym at.cut) s.cut_fits) (at.stage ∙ s.world.0, ready ∙ unready) s.boards;
           boards_enough = ap (λ (b : Bool). if b then Some motes else None) (not_below (length initial) motes (subst (λ (ds : List Device). motes ≤ length ds) s.boards counted.2));
         } in
         subst (λ (o : Option World). PlayedLine table q done o (Motes motes) told told initial now) e made
@@ -102,7 +102,7 @@ motes_as table (Err stop) p q done w motes boards told initial now stands at fit
     let P : Stop → Type 0 = λ x. PlayedAs table (Err x) q done w (Motes motes) told told initial now now in
     subst P (sym m.0) (lacking_boards p done w motes boards initial now (eqb-true p.place.motes 0 stands.fits) count m.1 s)
 
-pub cut_played : {table : List Row} (p q : Player) (done : List Line) (w : Option World) (cut : CutOfPower) (told : List ℕ) (initial now : List Device) → FitsCut cut → q.place ≡ place_after p.place (Cut cut) → q.cut ≡ Some cut → q.world ≡ p.world → Stood p done w initial now
+pub cut_played : {table : List Row} (p q : Player) (done : List Line) (w : Option World) (cut : CutOfPower) (told : List ℕ) (initial now : List Device) → FitsCut cut → q.place ≡ place_after p.place (Cut cut) → q.cut ≡ Some cut → q.stage ≡ p.stage → Stood p done w initial now
     → PlayedLine table q done w (Cut cut) told told initial now
 cut_played p q done w cut told initial now fits place has world s =
     let motes = ap (λ (x : Place). x.motes) place in
@@ -141,7 +141,7 @@ endured_same initial old new first same =
     }
 
 pub golden_played : {table : List Row} (p q : Player) (done : List Line) (w : Option World) (name : List ℕ) (used : ℕ) (content : List ℕ) (motes : ℕ) (v : KeptWorld) (told : List ℕ) (initial old new : List Device)
-    → p.place.ready ≡ false → motes ≡ p.place.motes → Counted motes (length old) → q.place ≡ place_after p.place (Golden name used content) → q.cut ≡ p.cut → q.world ≡ Some v
+    → p.place.ready ≡ false → motes ≡ p.place.motes → Counted motes (length old) → q.place ≡ place_after p.place (Golden name used content) → q.cut ≡ p.cut → q.stage ≡ Playing v
     → ((m : ℕ) (d : Device) → m < motes → slice_get new m ≡ Some d → Stands d.image (fresh name content used))
     → ((m : ℕ) (d : Device) → m < motes → slice_get old m ≡ Some d → d.stopped ≡ false) → NoneRose old new → FirstBoards motes old new
     → ((boards : List Device) (stores : List Store) (table : List Row) → length stores ≡ motes → motes ≤ length boards
@@ -220,7 +220,7 @@ shaped_stores law (Ok u) motes new enough (stores, stand) = (
 
 -- they were mounted
 pub boards_played : (table : List Row) (p q : Player) (done : List Line) (w : Option World) (motes : ℕ) (v : KeptWorld) (told : List ℕ) (initial old new : List Device)
-    → p.place.ready ≡ false → motes ≡ p.place.motes → Counted motes (length old) → q.place ≡ place_after p.place Boards → q.cut ≡ p.cut → q.world ≡ Some v
+    → p.place.ready ≡ false → motes ≡ p.place.motes → Counted motes (length old) → q.place ≡ place_after p.place Boards → q.cut ≡ p.cut → q.stage ≡ Playing v
     → ((stores : List Store) × StandFor motes stores new × ((m : ℕ) → m < motes → IsShaped (store_of stores m)))
     → ((m : ℕ) (d : Device) → m < motes → slice_get old m ≡ Some d → d.stopped ≡ false) → NoneRose old new → SameBoards old new → ((m : ℕ) → motes ≤ m → slice_get new m ≡ slice_get old m)
     → ((boards : List Device) (stores : List Store) (table : List Row) → length stores ≡ motes → motes ≤ length boards
@@ -307,12 +307,12 @@ boards_ended table p q done w motes (NoVolume board) stop told initial old new i
 -- ---- links and narrow motes
 
 pub link_played : (table : List Row) (r : Result (Unit {0}) Stop) (p q : Player) (done : List Line) (w : Option World) (a b : ℕ) (v v2 : KeptWorld) (told : List ℕ) (initial now : List Device)
-    → StandsAt p.place (Link a b) → FitsLine p.place.motes (Link a b) → p.place.ready ≡ true → p.place.events ≡ false → p.world ≡ Some v → q.place ≡ place_after p.place (Link a b) → q.cut ≡ p.cut → q.world ≡ Some v2
+    → StandsAt p.place (Link a b) → FitsLine p.place.motes (Link a b) → p.place.ready ≡ true → p.place.events ≡ false → p.stage ≡ Playing v → q.place ≡ place_after p.place (Link a b) → q.cut ≡ p.cut → q.stage ≡ Playing v2
     → LinkedAs r v v2 (a, b) → Stood p done w initial now → PlayedAs table r q done w (Link a b) told told initial now now
 link_played table r p q done None a b v v2 told initial now stands fits later early has place cut world linked s = false_not p.place.ready later s.world.1
 link_played table (Ok u) p q done (Some w) a b v v2 told initial now stands fits later early has place cut world linked s =
     let k = s.world in
-    let kept : IsWorld v now w = subst (λ (x : KeptWorld). IsWorld x now w) (some_is k.0 v (sym k.1 ∙ has)) k.2 in
+    let kept : IsWorld v now w = subst (λ (x : KeptWorld). IsWorld x now w) (playing_is k.0 v (sym k.1 ∙ has)) k.2 in
     let motes : q.place.motes ≡ p.place.motes = ap (λ (x : Place). x.motes) place in
     let b2 = s.boards in
     record {
@@ -336,12 +336,12 @@ link_played table (Err stop) p q done (Some w) a b v v2 told initial now stands 
     err_is x y e = cc
 
 pub narrow_played : {table : List Row} (p q : Player) (done : List Line) (w : Option World) (m : ℕ) (v v2 : KeptWorld) (told : List ℕ) (initial now : List Device)
-    → StandsAt p.place (Narrow m) → FitsLine p.place.motes (Narrow m) → p.place.ready ≡ true → p.place.events ≡ false → p.world ≡ Some v → q.place ≡ place_after p.place (Narrow m) → q.cut ≡ p.cut → q.world ≡ Some v2
+    → StandsAt p.place (Narrow m) → FitsLine p.place.motes (Narrow m) → p.place.ready ≡ true → p.place.events ≡ false → p.stage ≡ Playing v → q.place ≡ place_after p.place (Narrow m) → q.cut ≡ p.cut → q.stage ≡ Playing v2
     → ((boards : List Device) (u : World) → IsWorld v boards u → IsWorld v2 boards (with_narrow m u)) → Stood p done w initial now → PlayedLine table q done w (Narrow m) told told initial now
 narrow_played p q done None m v v2 told initial now stands fits later early has place cut world narrowed s = false_not p.place.ready later s.world.1
 narrow_played p q done (Some w) m v v2 told initial now stands fits later early has place cut world narrowed s =
     let k = s.world in
-    let kept : IsWorld v now w = subst (λ (x : KeptWorld). IsWorld x now w) (some_is k.0 v (sym k.1 ∙ has)) k.2 in
+    let kept : IsWorld v now w = subst (λ (x : KeptWorld). IsWorld x now w) (playing_is k.0 v (sym k.1 ∙ has)) k.2 in
     let motes : q.place.motes ≡ p.place.motes = ap (λ (x : Place). x.motes) place in
     let b = s.boards in
     record {

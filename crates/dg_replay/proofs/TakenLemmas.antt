@@ -17,7 +17,7 @@ use Rattle.dg_replay.specs.Ending.{whole_lines, used, is_over, script_of, ending
 use Rattle.dg_replay.specs.Outcome.{IsSettled, AreWhole, DoneIsWhole}
 use Rattle.dg_replay.proofs.EndLemmas.{is_over-true, over_more}
 use Rattle.dg_replay.proofs.GoldenLemmas.{LinesFit, front_fits, not_first, script_of_fits}
-use Rattle.dg_replay.proofs.PlayLemmas.{unplayed, second_at, later_at, link_at, narrow_at, event_at}
+use Rattle.dg_replay.proofs.PlayLemmas.{second_at, later_at, link_at, narrow_at, event_at}
 
 -- ---- more bytes than are used
 

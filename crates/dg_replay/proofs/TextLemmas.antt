@@ -10,9 +10,10 @@ use Rattle.dg_script.specs.Items.{Item}
 use Rattle.dg_script.specs.declared.fault.LineFault.{LineFault}
 use Rattle.dg_script.specs.declared.fault.LineFault.TheVariants as line_fault
 use Rattle.dg_script.specs.declared.line.Line.{Line}
+use Rattle.dg_script.specs.declared.place.Place.{Place}
 use Rattle.dg_rules.specs.World.{World}
 use Rattle.dg_replay.specs.Playing.{PlayedLine, PlayedAs, LineBegun}
-use Rattle.dg_replay.specs.Replaying.{StopsAtLine, TextPlayed, TextAnswer, BegunWritten}
+use Rattle.dg_replay.specs.Replaying.{NotFound, StopsAtLine, TextPlayed, TextAnswer, BegunWritten}
 use Rattle.dg_replay.specs.declared.player.Player.{Player}
 use Rattle.dg_replay.specs.declared.stop.Stop.{Stop}
 use Rattle.dg_replay.specs.declared.stop.Stop.TheVariants.{Memory, BadInput, WriteFault, FlashFault, TooMany, NoBoard, NoImage, NotAVolume}
@@ -103,15 +104,21 @@ begun_as table TooMany result text number p q done w initial old new before afte
 begun_as table (BadInput n f) result text number p q done w initial old new before after failed line told spelled played written = absurd played
 begun_as table WriteFault result text number p q done w initial old new before after failed line told spelled played written = absurd played
 
+-- no line was found
+pub not_found_as : (table : List Row) (stop : Stop) (text : List ℕ) (number : ℕ) (p q : Player) (done : List Line) (w : Option World) (initial now : List Device) (before : Option (List ℕ)) (failed : Type 0)
+    → NotFound p.place text number stop → TextAnswer table (Err stop) text number p q done w initial now now before before failed
+not_found_as table stop text number p q done w initial now before failed (inl memory) =
+    let P : Stop → Type 0 = λ x. TextAnswer table (Err x) text number p q done w initial now now before before failed in
+    subst P (sym memory) (inl (record { boards = refl; told = refl }))
+not_found_as table stop text number p q done w initial now before failed (inr (fault, is, read)) =
+    let P : Stop → Type 0 = λ x. TextAnswer table (Err x) text number p q done w initial now now before before failed in
+    subst P (sym is) (refl, read, record { boards = refl; told = refl })
+
 -- a line was not read
-pub not_read_as : (table : List Row) (stop : Stop) (text : List ℕ) (number : ℕ) (fault : LineFault) (p q : Player) (done : List Line) (w : Option World) (initial now : List Device) (before : Option (List ℕ)) (failed : Type 0)
-    → (known : (fault ≡ line_fault.Memory) ⊎ (fault ≢ line_fault.Memory)) → StopsAtLine stop number fault → (fault ≢ line_fault.Memory → line_of p.place text ≡ Err fault) → TextAnswer table (Err stop) text number p q done w initial now now before before failed
-not_read_as table stop text number fault p q done w initial now before failed (inl memory) at read =
-    let P : Stop → Type 0 = λ x. TextAnswer table (Err x) text number p q done w initial now now before before failed in
-    subst P (sym (at.memory memory)) (inl (record { boards = refl; told = refl }))
-not_read_as table stop text number fault p q done w initial now before failed (inr other) at read =
-    let P : Stop → Type 0 = λ x. TextAnswer table (Err x) text number p q done w initial now now before before failed in
-    subst P (sym (at.other other)) (refl, read other, record { boards = refl; told = refl })
+pub not_read : (place : Place) (text : List ℕ) (number : ℕ) (stop : Stop) (fault : LineFault) → (known : (fault ≡ line_fault.Memory) ⊎ (fault ≢ line_fault.Memory)) → StopsAtLine stop number fault → (fault ≢ line_fault.Memory → line_of place text ≡ Err fault)
+    → NotFound place text number stop
+not_read place text number stop fault (inl memory) at read = inl (at.memory memory)
+not_read place text number stop fault (inr other) at read = inr (fault, at.other other, read other)
 
 pub memory_or : (fault : LineFault) → (fault ≡ line_fault.Memory) ⊎ (fault ≢ line_fault.Memory)
 memory_or line_fault.Memory = inl refl
@@ -128,10 +135,3 @@ memory_or line_fault.Mask = inr (λ e. cc)
 memory_or line_fault.Place = inr (λ e. cc)
 memory_or line_fault.Cut = inr (λ e. cc)
 memory_or line_fault.Long = inr (λ e. cc)
-
--- memory ran out before a line was played
-pub memory_as : (table : List Row) (stop : Stop) (text : List ℕ) (number : ℕ) (p q : Player) (done : List Line) (w : Option World) (initial now : List Device) (before : Option (List ℕ)) (failed : Type 0)
-    → ◌≡◌ {A = Result (Unit {0}) Stop} (Err stop) (Err Memory) → TextAnswer table (Err stop) text number p q done w initial now now before before failed
-memory_as table stop text number p q done w initial now before failed is =
-    let P : Stop → Type 0 = λ x. TextAnswer table (Err x) text number p q done w initial now now before before failed in
-    subst P (sym (same_stop stop Memory is)) (inl (record { boards = refl; told = refl }))

@@ -30,6 +30,7 @@ use Rattle.dg_script.specs.Items.{Item, Declares, Happens as Happened, item_by, 
 use Rattle.dg_replay.specs.Items.{Ground, UsesBoards, beginning_of, motes_in, lacking_by, with_link}
 use Rattle.dg_replay.specs.Outcome.{IsGround, item_played, played_text, RunsTo}
 use Rattle.dg_replay.specs.declared.player.Player.{Player}
+use Rattle.dg_replay.specs.declared.player.Stage.TheVariants.{Waiting, Playing}
 use Rattle.dg_replay.specs.declared.stop.Stop.{Stop}
 use Rattle.dg_replay.specs.declared.stop.Stop.TheVariants.{Memory, BadInput, WriteFault, FlashFault, TooMany, NoBoard, NoImage, NotAVolume}
 
@@ -100,8 +101,8 @@ Seated place boards = 0 < place.motes → Counted place.motes boards
 
 -- the world that is kept is this one, None before the boards are formatted
 abbrev pub InWorld : Player → Option World → List Device → Type 0
-InWorld p None boards = (p.world ≡ None) × (p.place.ready ≡ false)
-InWorld p (Some w) boards = (v : KeptWorld) × (p.world ≡ Some v) × IsWorld v boards w × (length w.sites ≡ p.place.motes) × (p.place.ready ≡ true) × (0 < p.place.motes)
+InWorld p None boards = (p.stage ≡ Waiting) × (p.place.ready ≡ false)
+InWorld p (Some w) boards = (v : KeptWorld) × (p.stage ≡ Playing v) × IsWorld v boards w × (length w.sites ≡ p.place.motes) × (p.place.ready ≡ true) × (0 < p.place.motes)
 
 -- every link joins two motes
 abbrev pub Joined : Place → Type 0
@@ -137,7 +138,7 @@ pub record Ready (p : Player) (boards : List Device) : Type 0 where
 pub record Passed (p q : Player) (line : Line) : Type 0 where
   pub place : q.place ≡ place_after p.place line
   pub cut : q.cut ≡ p.cut
-  pub world : q.world ≡ p.world
+  pub stage : q.stage ≡ p.stage
 
 -- A line may be played, behind which the place went on already.
 pub record MayPlay (line : Line) (q : Player) (boards : List Device) : Type 0 where

@@ -2,7 +2,8 @@
 use Rattle.std.specs.Prelude.{◌≡◌, ◌≢◌, ◌⊎◌, ℕ, ◌+◌, ◌<◌, ◌≤◌, Bool, true, false, List, [], ◌∷◌, ◌++◌, length, map, Option, Some, None, Result, Ok, Err}
 use Rattle.dg_base.specs.Outside.{Puts, PutsFront}
 use Rattle.dg_nor.specs.Device.{Device}
-use Rattle.dg_script.specs.Fitting.{UsesBoard}
+use Rattle.dg_script.specs.Fitting.{StandsAt, FitsLine, IsPlayed, UsesBoard}
+use Rattle.dg_script.specs.declared.place.Place.{Place}
 use Rattle.dg_script.specs.Lines.{line_of}
 use Rattle.dg_script.specs.Places.{place_after}
 use Rattle.dg_script.specs.Sizes.{most_used_bytes}
@@ -21,8 +22,8 @@ use Rattle.dg_replay.specs.Boards.{BoardsStand, BoardStopped, StoppedIn, InSome,
 use Rattle.dg_replay.specs.Items.{Ground, UsesBoards, beginning_of, motes_in, lacking}
 use Rattle.dg_replay.specs.Ending.{Ending, NoBoards, TooManyEvents, FaultAt, script_of, events_in, InBounds, ending_line}
 use Rattle.dg_replay.specs.Near.{behind_lines, IsNear}
-use Rattle.dg_replay.specs.Outcome.{IsGround, Progress, ReachesEnding, AtTooMany, closing, Wrote, BoardsLeft, BoardStoppedThere, IsCaused, RunsTo, item_played, played_text, told_of, IsSettled, AreWhole, AllWhole, NextIsWhole, DoneIsWhole, ReadEnough, ReadsNear, NoVolumeThere, NoImageThere, no_volume_line, no_image_line}
-use Rattle.dg_replay.specs.Playing.{Stood, PlayedLine, LineBegun, IsOneTooMany, LacksBoards, Grounded}
+use Rattle.dg_replay.specs.Outcome.{Progress, ReachesEnding, AtTooMany, closing, Wrote, BoardsLeft, BoardStoppedThere, IsCaused, RunsTo, item_played, played_text, told_of, IsSettled, AreWhole, AllWhole, NextIsWhole, DoneIsWhole, ReadEnough, ReadsNear, NoVolumeThere, NoImageThere, no_volume_line, no_image_line}
+use Rattle.dg_replay.specs.Playing.{Passed, Stood, PlayedLine, LineBegun, IsOneTooMany, LacksBoards, Grounded}
 use Rattle.dg_replay.specs.declared.player.Player.{Player}
 use Rattle.dg_script.specs.declared.line.Line.{Line}
 use Rattle.dg_script.specs.declared.line.Line.TheVariants.{Motes, Boards}
@@ -66,6 +67,18 @@ pub record TextRead (text : List ℕ) (p : Player) (P : Line → Type 0) : Type 
 pub record StopsAtLine (stop : Stop) (line : ℕ) (fault : LineFault) : Type 0 where
   pub memory : fault ≡ line_fault.Memory → stop ≡ Memory
   pub other : fault ≢ line_fault.Memory → stop ≡ BadInput line fault
+
+-- A text spells a line that may stand there, behind which the player's place went on.
+pub record LineFound (p q : Player) (text : List ℕ) (line : Line) : Type 0 where
+  pub spelled : line_of p.place text ≡ Ok line
+  pub stands : StandsAt p.place line
+  pub fits : FitsLine p.place.motes line
+  pub played : IsPlayed line
+  pub passed : Passed p q line
+
+-- no line was found: there was no memory, or the text spells none
+abbrev pub NotFound : Place → (text : List ℕ) → ℕ → Stop → Type 0
+NotFound place text number stop = (stop ≡ Memory) ⊎ ((fault : LineFault) × (stop ≡ BadInput number fault) × (line_of place text ≡ Err fault))
 
 -- a board stopped within a line of which these items are left, and what is told of the others, which is something, was not all written
 abbrev pub CutAtStop : (done : List Line) → Line → Option World → (left : List Item) → (text : List ℕ) → (initial new : List Device) → (before after : Option (List ℕ)) → Type 0

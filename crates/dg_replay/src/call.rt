@@ -1,9 +1,7 @@
 //! The call that replays a script.
-ghost use Rattle.std.specs.Prelude.{◌≤◌, List, map};
+ghost use Rattle.std.specs.Prelude.{◌≤◌, map};
 ghost use Rattle.dg_mote.specs.Sizes.{BuffersFit, ValuesAreSmall};
-ghost use Rattle.dg_object.specs.Object.{Row};
 ghost use Rattle.dg_replay.specs.Around.{around};
-ghost use Rattle.dg_replay.specs.Outcome.{Replayed};
 ghost use Rattle.dg_replay.specs.Done.{ReplayDone};
 
 use crate::ends::replay_lines;
@@ -13,25 +11,6 @@ use dg_mote::a_mote_buffers_little;
 use dg_nor::Nor;
 use dg_script::LineReader;
 use std::alloc::{AllocError, Global};
-
-/// Reads the script that `input` spells line by line, and replays it.
-fn read_and_replay<S: Source, K: Sink, N: Nor>(
-    alloc: Global,
-    input: &mut S,
-    out: &mut K,
-    boards: &mut Vec<N>,
-) -> Status
-    ensures replayed { (table : List Row) → Replayed table result
-        (around (S.left input.old) (S.faults input.old) (K.written out.old) (K.faults out.old) (map N.device boards.old.items))
-        (around (S.left input.new) (S.faults input.new) (K.written out.new) (K.faults out.new) (map N.device boards.new.items)) }
-    ensures reads { S.faults input.old ≤ S.faults input.new }
-    ensures writes { K.faults out.old ≤ K.faults out.new }
-{
-    match LineReader::new(alloc) {
-        Ok(mut reader) => replay_lines(alloc, &mut reader, input, boards, out),
-        Err(AllocError) => Status::Memory,
-    }
-}
 
 /// Replays the script that `input` spells over the boards, and writes the report to `out`. A status other than
 /// [`Status::Done`] writes its line last, where it has one.
@@ -57,5 +36,8 @@ pub fn replay<S: Source, K: Sink, N: Nor>(
 {
     replays_keep_the_rules();
     a_mote_buffers_little();
-    read_and_replay(alloc, input, out, boards)
+    match LineReader::new(alloc) {
+        Ok(mut reader) => replay_lines(alloc, &mut reader, input, boards, out),
+        Err(AllocError) => Status::Memory,
+    }
 }

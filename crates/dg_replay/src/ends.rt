@@ -14,11 +14,11 @@ ghost use Rattle.dg_replay.specs.Replaying.{StopEnds, Reached, ScriptReplayed};
 use crate::finish::{end_at_line, end_with, end_without_boards, finish};
 use crate::following::play_lines;
 use crate::halt::Halt;
-use crate::player::Player;
+use crate::player::{Player, Stage};
 use crate::stop::Stop;
 use dg_base::{Sink, Source, Status};
 use dg_nor::Nor;
-use dg_script::LineReader;
+use dg_script::{LineFault, LineReader};
 use std::alloc::Global;
 
 /// The status of a replay that stopped, whose last line is written where it has one.
@@ -55,11 +55,12 @@ fn end_script<K: Sink, N: Nor>(
     ensures counts { K.faults out.old ≤ K.faults out.new }
     ensures unfailed { result ≢ Status.WriteFault → K.faults out.new ≡ K.faults out.old }
 {
-    match player.place.end_fault() {
-        Some(fault) => end_at_line(alloc, out, number, fault),
-        None => match &player.world {
-            Some(world) => finish(alloc, world, boards, out),
-            None => unreachable!(),
+    match &player.stage {
+        // the second line is missing
+        Stage::Waiting => end_at_line(alloc, out, number, LineFault::Place),
+        Stage::Playing(world) => match player.place.end_fault() {
+            Some(fault) => end_at_line(alloc, out, number, fault),
+            None => finish(alloc, world, boards, out),
         },
     }
 }

@@ -6,14 +6,14 @@ ghost use Rattle.dg_nor.specs.Device.{Device};
 ghost use Rattle.dg_rules.specs.World.{World};
 ghost use Rattle.dg_object.specs.Object.{Row};
 ghost use Rattle.dg_script.specs.declared.line.Line.{Line};
-ghost use Rattle.dg_replay.specs.Following.{GivenPlayed, HaltedAs, NextPlayed, AllAsBefore};
+ghost use Rattle.dg_replay.specs.Following.{HaltedAs, NextPlayed, AllAsBefore};
 ghost use Rattle.dg_replay.specs.Playing.{Stood, Ready};
 ghost use Rattle.dg_replay.specs.Replaying.{TextAnswer, InputAnswer};
 
 use crate::halt::Halt;
 use crate::items::Told;
 use crate::lines::play_text;
-use crate::player::Player;
+use crate::player::{Player, Stage};
 use crate::stop::Stop;
 use dg_base::{Sink, Source};
 use dg_nor::Nor;
@@ -32,29 +32,6 @@ fn halted(stop: ReadStop) -> Halt
             line,
             fault: LineFault::Long,
         }),
-    }
-}
-
-/// Plays a line that was given, and writes what it reports.
-fn play_given<K: Sink, N: Nor>(
-    alloc: Global,
-    text: &[u8],
-    number: u32,
-    player: &mut Player,
-    boards: &mut Vec<N>,
-    out: &mut K,
-    told: &mut Told,
-) -> Result<bool, Halt>
-    requires { Ready player.old (map N.device boards.old.items) }
-    ensures played { GivenPlayed result (λ r. (done : List Line) (w : Option World) (initial : List Device) (table : List Row) → Stood player.old done w initial (map N.device boards.old.items)
-        → TextAnswer table r text.now number player.old player.new done w initial (map N.device boards.old.items) (map N.device boards.new.items)
-        (K.written out.old) (K.written out.new) (Rose (K.faults out.old) (K.faults out.new))) }
-    ensures counts { K.faults out.old ≤ K.faults out.new }
-    ensures unfailed { result ≢ Err (Halt.Stopped Stop.WriteFault) → K.faults out.new ≡ K.faults out.old }
-{
-    match play_text(alloc, text, number, player, boards, out, told) {
-        Ok(()) => Ok(true),
-        Err(stop) => Err(Halt::Stopped(stop)),
     }
 }
 
@@ -81,7 +58,12 @@ fn play_next<S: Source, K: Sink, N: Nor>(
     ensures unfailed { result ≢ Err (Halt.Stopped Stop.WriteFault) → K.faults out.new ≡ K.faults out.old }
 {
     match reader.next(input) {
-        Ok(Some(number)) => play_given(alloc, reader.text(), number, player, boards, out, told),
+        Ok(Some(number)) => {
+            match play_text(alloc, reader.text(), number, player, boards, out, told) {
+                Ok(()) => Ok(true),
+                Err(stop) => Err(Halt::Stopped(stop)),
+            }
+        }
         Ok(None) => Ok(false),
         Err(stop) => Err(halted(stop)),
     }
@@ -111,7 +93,7 @@ pub fn play_lines<S: Source, K: Sink, N: Nor>(
     let mut player = Player {
         place: Place::first(alloc),
         cut: None,
-        world: None,
+        stage: Stage::Waiting,
     };
     let mut told = Told {
         reports: Vec::new(alloc),

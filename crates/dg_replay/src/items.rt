@@ -104,7 +104,7 @@ pub fn play_step<N: Nor>(
         Err(WorldFault::Memory) => Err(Stop::Memory),
         Err(WorldFault::Flash { .. }) => Err(Stop::FlashFault),
         Err(WorldFault::TooMany) => Err(Stop::TooMany),
-        Err(WorldFault::NotAVolume) => unreachable!(),
+        Err(WorldFault::NotAVolume) => Err(Stop::NotAVolume),
         Err(WorldFault::NoImage) => Err(Stop::NoImage),
     }
 }

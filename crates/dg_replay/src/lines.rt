@@ -1,14 +1,12 @@
 //! Plays a line and writes what it reports.
-ghost use Rattle.std.specs.Prelude.{◌≡◌, ◌≢◌, ◌⊎◌, ◌+◌, ◌≤◌, [], ℕ, Bool, List, Option, Ok, map, length, OnOk, OnErr, Err};
+ghost use Rattle.std.specs.Prelude.{◌≡◌, ◌≢◌, ◌≤◌, [], List, Option, map, OnOk, OnErr, MatchResult, Err};
 ghost use Rattle.dg_words.specs.Counts.{Rose};
 ghost use Rattle.dg_base.specs.Outside.{Puts, PutsFront};
 ghost use Rattle.dg_nor.specs.Device.{Device};
 ghost use Rattle.dg_object.specs.Object.{Row};
-ghost use Rattle.dg_script.specs.Fitting.{StandsAt, FitsLine, IsPlayed};
-ghost use Rattle.dg_script.specs.Lines.{line_of};
 ghost use Rattle.dg_rules.specs.World.{World};
-ghost use Rattle.dg_replay.specs.Playing.{Stood, Ready, Passed, MayPlay};
-ghost use Rattle.dg_replay.specs.Replaying.{StopsAtLine, BegunWritten, TextAnswer};
+ghost use Rattle.dg_replay.specs.Playing.{Stood, Ready};
+ghost use Rattle.dg_replay.specs.Replaying.{LineFound, NotFound, StopsAtLine, BegunWritten, TextAnswer};
 ghost use Rattle.dg_script.specs.declared.line.Line.{Line};
 
 use crate::items::Told;
@@ -63,67 +61,6 @@ fn write_begun<K: Sink>(out: &mut K, text: &[u8], stop: Stop) -> Stop
     }
 }
 
-/// The player's place goes on behind a line.
-fn go_on(player: &mut Player, line: &Line) -> Result<(), Stop>
-    ensures ok { OnOk result (Passed player.old player.new line.now) }
-    ensures err { OnErr result (result ≡ Err Stop.Memory) }
-{
-    match player.place.pass(line) {
-        Ok(()) => Ok(()),
-        Err(AllocError) => Err(Stop::Memory),
-    }
-}
-
-/// Plays a line behind which the player's place went on, and writes what it reports.
-fn play_passed<K: Sink, N: Nor>(
-    alloc: Global,
-    line: Line,
-    player: &mut Player,
-    boards: &mut Vec<N>,
-    out: &mut K,
-    told: &mut Told,
-) -> Result<(), Stop>
-    requires may { MayPlay line player.old (map N.device boards.old.items) }
-    ensures played { (p : Player) (done : List Line) (w : Option World) (initial : List Device) (table : List Row) (text : List ℕ) (number : ℕ) → line_of p.place text ≡ Ok line
-        → Passed p player.old line → StandsAt p.place line → FitsLine p.place.motes line → Stood p done w initial (map N.device boards.old.items)
-        → TextAnswer table result text number p player.new done w initial (map N.device boards.old.items) (map N.device boards.new.items)
-        (K.written out.old) (K.written out.new) (Rose (K.faults out.old) (K.faults out.new)) }
-    ensures counts { K.faults out.old ≤ K.faults out.new }
-    ensures unfailed { result ≢ Err Stop.WriteFault → K.faults out.new ≡ K.faults out.old }
-{
-    told.text.clear();
-    match play_line(alloc, line, player, boards, told) {
-        Ok(()) => write_told(out, &told.text),
-        Err(stop) => Err(write_begun(out, &told.text, stop)),
-    }
-}
-
-/// Plays a line that was read, and writes what it reports.
-fn play_read<K: Sink, N: Nor>(
-    alloc: Global,
-    line: Line,
-    player: &mut Player,
-    boards: &mut Vec<N>,
-    out: &mut K,
-    told: &mut Told,
-) -> Result<(), Stop>
-    requires ready { Ready player.old (map N.device boards.old.items) }
-    requires stands { StandsAt player.old.place line }
-    requires fits { FitsLine player.old.place.motes line }
-    requires may { IsPlayed line }
-    ensures played { (done : List Line) (w : Option World) (initial : List Device) (table : List Row) (text : List ℕ) (number : ℕ) → line_of player.old.place text ≡ Ok line
-        → Stood player.old done w initial (map N.device boards.old.items)
-        → TextAnswer table result text number player.old player.new done w initial (map N.device boards.old.items) (map N.device boards.new.items)
-        (K.written out.old) (K.written out.new) (Rose (K.faults out.old) (K.faults out.new)) }
-    ensures counts { K.faults out.old ≤ K.faults out.new }
-    ensures unfailed { result ≢ Err Stop.WriteFault → K.faults out.new ≡ K.faults out.old }
-{
-    match go_on(player, &line) {
-        Ok(()) => play_passed(alloc, line, player, boards, out, told),
-        Err(stop) => Err(stop),
-    }
-}
-
 /// Why a replay ends at a line that was not read.
 fn stop_at(line: u32, fault: LineFault) -> Stop
     ensures { StopsAtLine result line fault }
@@ -132,6 +69,19 @@ fn stop_at(line: u32, fault: LineFault) -> Stop
         return Stop::Memory;
     }
     Stop::BadInput { line, fault }
+}
+
+/// Reads the text of a line. The player's place goes on behind it.
+fn next_line(alloc: Global, text: &[u8], number: u32, player: &mut Player) -> Result<Line, Stop>
+    ensures { MatchResult result (LineFound player.old player.new text.now) (NotFound player.old.place text.now number) }
+{
+    match read_line(alloc, text, &player.place) {
+        Ok(line) => match player.place.pass(&line) {
+            Ok(()) => Ok(line),
+            Err(AllocError) => Err(Stop::Memory),
+        },
+        Err(fault) => Err(stop_at(number, fault)),
+    }
 }
 
 /// Reads the text of line `number`, plays it and writes what it reports.
@@ -151,8 +101,10 @@ pub fn play_text<K: Sink, N: Nor>(
     ensures counts { K.faults out.old ≤ K.faults out.new }
     ensures unfailed { result ≢ Err Stop.WriteFault → K.faults out.new ≡ K.faults out.old }
 {
-    match read_line(alloc, text, &player.place) {
-        Ok(line) => play_read(alloc, line, player, boards, out, told),
-        Err(fault) => Err(stop_at(number, fault)),
+    told.text.clear();
+    let line = next_line(alloc, text, number, player)?;
+    match play_line(alloc, line, number, player, boards, told) {
+        Ok(()) => write_told(out, &told.text),
+        Err(stop) => Err(write_begun(out, &told.text, stop)),
     }
 }

@@ -11,7 +11,7 @@ use crate::items::{Told, play_image, play_round, play_step, play_sweeps};
 use crate::stop::Stop;
 use dg_base::{Bytes, Cut, Key, Step};
 use dg_nor::Nor;
-use dg_script::{Line, Place};
+use dg_script::{Line, LineFault, Place};
 use dg_volume::a_chip_stands_for_a_shaped_store;
 use dg_world::{FormatStopped, MountStopped, World, format_boards, mount_boards};
 use std::alloc::{AllocError, Global};
@@ -22,8 +22,16 @@ pub struct Player {
     pub place: Place,
     /// The cut that waits for its event.
     pub cut: Option<Cut>,
-    /// None before the boards are formatted.
-    pub world: Option<World>,
+    pub stage: Stage,
+}
+
+/// Whether the boards are used yet.
+#[derive(Drop)]
+pub enum Stage {
+    /// They are not: the second line is still to come.
+    Waiting,
+    /// They are, by the motes of this world.
+    Playing(World),
 }
 
 /// There are so many motes, for which boards are needed.
@@ -96,7 +104,7 @@ fn play_golden<N: Nor>(
     };
     match format(boards, motes, name, used, content) {
         Ok(()) => {
-            player.world = Some(world);
+            player.stage = Stage::Playing(world);
             Ok(())
         }
         Err(FormatStopped { .. }) => Err(Stop::FlashFault),
@@ -145,7 +153,7 @@ fn play_boards<N: Nor>(alloc: Global, player: &mut Player, boards: &mut Vec<N>) 
     };
     match mount(boards, motes) {
         Ok(()) => {
-            player.world = Some(world);
+            player.stage = Stage::Playing(world);
             Ok(())
         }
         Err(stopped) => Err(mount_stop(stopped)),
@@ -162,10 +170,47 @@ fn play_link(world: &mut World, a: u8, b: u8) -> Result<(), Stop>
     }
 }
 
+/// The stop at a line that may not stand where it does. The reader lets none come.
+fn misplaced(line: u32) -> Stop {
+    Stop::BadInput {
+        line,
+        fault: LineFault::Place,
+    }
+}
+
+/// Plays a line before the boards are used.
+fn play_early<N: Nor>(
+    alloc: Global,
+    line: &Line,
+    number: u32,
+    player: &mut Player,
+    boards: &mut Vec<N>,
+) -> Result<(), Stop>
+    requires may { MayPlay line.now player.old (map N.device boards.old.items) }
+    requires waits { player.old.stage ≡ Stage.Waiting }
+    ensures played { (p : Player) (done : List Line) (w : Option RuleWorld) (initial : List Device) (table : List Row) (told : List ℕ) → Passed p player.old line.now → StandsAt p.place line.now → FitsLine p.place.motes line.now
+        → Stood p done w initial (map N.device boards.old.items)
+        → PlayedAs table result player.new done w line.now told told initial (map N.device boards.old.items) (map N.device boards.new.items) }
+    ensures place { player.new.place ≡ player.old.place }
+{
+    match line {
+        Line::Nothing => Ok(()),
+        Line::Motes(motes) => play_motes(*motes, boards),
+        Line::Golden {
+            name,
+            used,
+            content,
+        } => play_golden(alloc, player, name, *used, content, boards),
+        Line::Boards => play_boards(alloc, player, boards),
+        _ => Err(misplaced(number)),
+    }
+}
+
 /// Plays a line that was read, behind which the player's place went on. What is told of it is appended.
 pub fn play_line<N: Nor>(
     alloc: Global,
     line: Line,
+    number: u32,
     player: &mut Player,
     boards: &mut Vec<N>,
     told: &mut Told,
@@ -175,53 +220,40 @@ pub fn play_line<N: Nor>(
         → PlayedAs table result player.new done w line told.old.text.items told.new.text.items initial (map N.device boards.old.items) (map N.device boards.new.items) }
     ensures place { player.new.place ≡ player.old.place }
 {
-    match line {
-        Line::Nothing => Ok(()),
-        Line::Motes(motes) => play_motes(motes, boards),
-        Line::Golden {
-            name,
-            used,
-            content,
-        } => play_golden(alloc, player, &name, used, &content, boards),
-        Line::Image {
-            image,
-            version,
-            name,
-            content,
-        } => match &mut player.world {
-            Some(world) => play_image(world, Key { image, version }, name, content, told),
-            None => unreachable!(),
-        },
-        Line::Cut(cut) => {
-            player.cut = Some(cut);
-            Ok(())
-        }
-        Line::Happens(event) => {
-            let cut = player.cut.take();
-            match &mut player.world {
-                Some(world) => play_step(world, &Step { event, cut }, true, boards, told),
-                None => unreachable!(),
+    match &mut player.stage {
+        Stage::Waiting => play_early(alloc, &line, number, player, boards),
+        Stage::Playing(world) => match line {
+            Line::Nothing => Ok(()),
+            Line::Image {
+                image,
+                version,
+                name,
+                content,
+            } => play_image(world, Key { image, version }, name, content, told),
+            Line::Cut(cut) => {
+                player.cut = Some(cut);
+                Ok(())
             }
-        }
-        Line::Link(a, b) => match &mut player.world {
-            Some(world) => play_link(world, a, b),
-            None => unreachable!(),
-        },
-        Line::Narrow(mote) => match &mut player.world {
-            Some(world) => {
+            Line::Happens(event) => {
+                let cut = player.cut.take();
+                play_step(world, &Step { event, cut }, true, boards, told)
+            }
+            Line::Link(a, b) => play_link(world, a, b),
+            Line::Narrow(mote) => {
                 world.narrow(mote);
                 Ok(())
             }
-            None => unreachable!(),
-        },
-        Line::Boards => play_boards(alloc, player, boards),
-        Line::Round(a, b) => match &mut player.world {
-            Some(world) => play_round(world, a, b, boards, told),
-            None => unreachable!(),
-        },
-        Line::Sweeps(count) => match &mut player.world {
-            Some(world) => play_sweeps(world, player.place.links.as_slice(), count, boards, told),
-            None => unreachable!(),
+            Line::Round(a, b) => play_round(world, a, b, boards, told),
+            Line::Sweeps(count) => {
+                play_sweeps(world, player.place.links.as_slice(), count, boards, told)
+            }
+            Line::Motes(_) => Err(misplaced(number)),
+            Line::Golden {
+                name: _name,
+                used: _used,
+                content: _content,
+            } => Err(misplaced(number)),
+            Line::Boards => Err(misplaced(number)),
         },
     }
 }

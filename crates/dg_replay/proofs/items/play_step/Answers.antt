@@ -29,3 +29,6 @@ returns-in-Err-TooMany-clause-played g c = λ w initial is stands.
 pub returns-in-Err-NoImage-clause-played : goal.returns-in-Err-NoImage-clause-played
 returns-in-Err-NoImage-clause-played g c = λ w initial is stands.
     ended_in w c.args.step.now c.args.loud c.args.world.now initial _ _ c.args.told.now.text.items c.requires is (c.in-Err-NoImage.ensures.no_image (ap Err c.in-Err-NoImage.field-0-is) w is) stands
+
+pub returns-in-Err-NotAVolume-clause-played : goal.returns-in-Err-NotAVolume-clause-played
+returns-in-Err-NotAVolume-clause-played g c = λ w initial is stands. c.in-Err-NotAVolume.ensures.a_volume (ap Err c.in-Err-NotAVolume.field-0-is)
