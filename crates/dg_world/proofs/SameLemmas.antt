@@ -1,4 +1,4 @@
--- An advert that equals what a mote would say changes neither what is kept nor the order.
+-- A frame whose answer is quiet changes neither what is kept nor the order.
 use Rattle.std.proofs.Common.{◌≡◌, ℕ, Bool, true, false, cond, List, refl, ap, sym, subst, arith}
 use Rattle.std.specs.Prelude.{◌≤◌, ◌&&◌, ◌||◌, ◌==◌, nat_le, Option, Some, None, Result, Ok, Err}
 use Rattle.std.proofs.lemmas.Bool.{cond_both, le-ltb, and_parts, eqb-true}
@@ -31,19 +31,19 @@ use Rattle.dg_mote.specs.Requests.{overheard, to_it, on_request}
 use Rattle.dg_mote.specs.Packets.{is_wanted, accepted, seal_by, takes, on_packet}
 use Rattle.dg_mote.specs.Hears.{source_of, on_message, by_message, heard_of}
 use Rattle.dg_mote.specs.declared.mote.Heard.{Heard}
-use Rattle.dg_mote.specs.declared.mote.Heard.TheVariants.{Same, Asks, Sealed, Bad}
-use Rattle.dg_world.specs.Turns.{SameShown}
+use Rattle.dg_mote.specs.declared.mote.Heard.TheVariants.{Asks, Sealed, Bad}
+use Rattle.dg_world.specs.Turns.{SameShown, IsQuiet}
 use Rattle.dg_world.proofs.StartLemmas.{same_shown}
 
-asks_other : (i : ℕ) (answer : Heard) {p : ℕ} → answer ≡ Asks i p → answer ≡ Same → ⊥
-asks_other i answer e is = cc
+asks_other : (i : ℕ) (answer : Heard) {p : ℕ} → answer ≡ Asks i p → IsQuiet answer → ⊥
+asks_other i answer e is = subst IsQuiet e is
 
-sealed_other : (i p : ℕ) → Sealed i p ≡ Same → ⊥
-sealed_other i p is = cc
+sealed_other : (i p : ℕ) → IsQuiet (Sealed i p) → ⊥
+sealed_other i p is = is
 
--- an answer that is `Same` comes with a trail of stores that all show the same
+-- an answer that is quiet comes with a trail of stores that all show the same
 abbrev IsCalm : Store → Turn Heard → Type 0
-IsCalm s turn = turn.answer ≡ Same → Through (SameShown s) turn.trail
+IsCalm s turn = IsQuiet turn.answer → Through (SameShown s) turn.trail
 
 module _ (s : Store) where
   rests : (n : ℕ) → Through (SameShown s) (resting s n)
@@ -73,11 +73,11 @@ module _ (s : Store) where
 
   -- what is said of an advert that is heard behind this
   abbrev IsOwn : Store → Bool → Turn Heard → Type 0
-  IsOwn x own turn = turn.answer ≡ Same → (own ≡ true) × (turn.trail ≡ resting x 0)
+  IsOwn x own turn = IsQuiet turn.answer → (own ≡ true) × (turn.trail ≡ resting x 0)
 
   noting_own : (m : MoteState) (timer : Timer) (x : Store) (now word : ℕ) (own : Bool) → IsOwn x own (noting m timer x now word own)
   noting_own m timer x now word true = λ is. (refl, refl)
-  noting_own m timer x now word false = λ is. absurd cc
+  noting_own m timer x now word false = λ is. absurd is
 
   ahead_own : (o : Option ℕ) (m : MoteState) (timer : Timer) (x : Store) (now word source : ℕ) (entries : List Entry) (own : Bool) → IsOwn x own (by_ahead o m timer x now word source entries own)
   ahead_own None m timer x now word source entries own = noting_own m timer x now word own

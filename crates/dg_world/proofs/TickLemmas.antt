@@ -39,7 +39,6 @@ use Rattle.dg_mote.specs.Motes.{Done, IsRead}
 use Rattle.dg_mote.specs.declared.mote.Did.{Did}
 use Rattle.dg_mote.specs.declared.mote.Did.TheVariants as did
 use Rattle.dg_mote.specs.declared.mote.Heard.{Heard}
-use Rattle.dg_mote.specs.declared.mote.Heard.TheVariants as heard_as
 use Rattle.dg_rules.specs.World.{World as RuleWorld, Running, store_at}
 use Rattle.dg_rules.specs.Events.{Does, Refuses, trail_of, key_of, of_effect}
 use Rattle.dg_rules.specs.Changes.{changes, start_line, sent_line}
@@ -49,7 +48,7 @@ use Rattle.dg_script.specs.declared.report.Report.{Report}
 use Rattle.dg_script.specs.declared.report.Report.TheVariants.{Start}
 use Rattle.dg_world.specs.Shown.{Shows}
 use Rattle.dg_world.specs.Worlds.{MoteStands}
-use Rattle.dg_world.specs.Turns.{SameShown, BeginsOver, turn_frame, turn_sent, turn_lines, sent_shown, Went, Lacked, TurnEnds}
+use Rattle.dg_world.specs.Turns.{SameShown, IsQuiet, BeginsOver, turn_frame, turn_sent, turn_lines, sent_shown, Went, Lacked, TurnEnds}
 use Rattle.dg_world.specs.declared.happening.Begun.{Begun}
 use Rattle.dg_world.specs.declared.shown.Shown.{Shown}
 use Rattle.dg_world.specs.declared.telling.StartLine.{StartLine}
@@ -343,10 +342,10 @@ module _ (w : RuleWorld) (m : ℕ) (r : Running) (now word : ℕ) (bytes : List 
   }
 
   -- nothing changed that is reported
-  pub hear_rests : (v u : RunningMote) (a b : Device) (d : Heard) → v.key ≡ r.key → u.key ≡ v.key → Done heard a b u.mote d → d ≡ heard_as.Same → TurnEnds (Ok Rests) w m hears (Some v) (Some u) a b
+  pub hear_rests : (v u : RunningMote) (a b : Device) (d : Heard) → v.key ≡ r.key → u.key ≡ v.key → Done heard a b u.mote d → IsQuiet d → TurnEnds (Ok Rests) w m hears (Some v) (Some u) a b
   unfolding frame_effect
   hear_rests v u a b d key same done is =
-      let through = heard_calm (store_at w m) r.mote now word bytes (sym done.answers ∙ is) in
+      let through = heard_calm (store_at w m) r.mote now word bytes (subst IsQuiet done.answers is) in
       let e : changes m (store_at w m) (last heard.trail) ≡ [] = changes_same m (store_at w m) (last heard.trail) (Through-last (SameShown (store_at w m)) heard.trail through) in
       record {
         deed = record { trail = heard.trail; table = w.table; started = None; sent = None; runs = Some (Some (record { key = r.key; mote = heard.mote })) };

@@ -13,6 +13,8 @@ use Rattle.dg_frame.specs.declared.FrameFault.{FrameFault}
 use Rattle.dg_boot.specs.declared.Started.{Started}
 use Rattle.dg_mote.specs.Model.{begun}
 use Rattle.dg_mote.specs.Motes.{IsMote}
+use Rattle.dg_mote.specs.declared.mote.Heard.{Heard}
+use Rattle.dg_mote.specs.declared.mote.Heard.TheVariants.{Other, Asks, Sealed}
 use Rattle.dg_rules.specs.World.{World as RuleWorld, Running, store_at}
 use Rattle.dg_rules.specs.Changes.{sent_line}
 use Rattle.dg_rules.specs.Events.{Deed, Does, Refuses, Goes, trail_of}
@@ -79,6 +81,13 @@ pub record Went (w : RuleWorld) (m : ℕ) (does : Does) (u : Option RunningMote)
 pub record SameShown (s t : Store) : Type 0 where
   pub kept : t.kept ≡ s.kept
   pub order : t.order ≡ s.order
+
+-- an answer to a frame with which neither is another: an order may be kept with the others, and a slot taken, or a page sealed
+abbrev pub IsQuiet : Heard → Type 0
+IsQuiet Other = ⊥
+IsQuiet (Asks image page) = ⊥
+IsQuiet (Sealed image page) = ⊥
+IsQuiet answer = Unit {0}
 
 -- What is reported of a chip that stood for s is this, or it is the same wherever a stop leaves the trail.
 abbrev pub BeforeShows : Option Shown → Trail Store → Store → Type 0

@@ -21,7 +21,7 @@ ghost use Rattle.dg_world.specs.Images.{Declares, row_of_image};
 ghost use Rattle.dg_world.specs.Shareds.{IsShared};
 ghost use Rattle.dg_world.specs.Worlds.{MoteStands, SiteStands, IsTimelyMote, MayRun};
 ghost use Rattle.dg_world.specs.Turn.{Starts, Changes};
-ghost use Rattle.dg_world.specs.Turns.{BeginsOver, TurnEnds};
+ghost use Rattle.dg_world.specs.Turns.{BeginsOver, IsQuiet, TurnEnds};
 ghost use Rattle.dg_world.specs.Unseen.{RefusesUnseen};
 ghost use Rattle.dg_world.specs.Alone.{Powers};
 ghost use Rattle.dg_world.specs.Tellings.{IsNothing, halt_of, turned, turn_of};
@@ -291,13 +291,31 @@ fn hear_on<N: Nor>(
 {
     telling.before = Some(show(running.mote.volume()));
     match running.mote.hear(board, now, word, bytes) {
-        // What it keeps is what it heard, and stays.
-        Ok(Heard::Same) => Ok(()),
-        Ok(_) => {
+        Ok(heard) => {
+            if is_quiet(heard) {
+                return Ok(());
+            }
             telling.after = Some(show(running.mote.volume()));
             Ok(())
         }
         Err(Stopped) => Err(Fault::Stopped),
+    }
+}
+
+/// Whether what a chip keeps, and its order, are surely as they were before such an answer.
+fn is_quiet(heard: Heard) -> bool
+    ensures { IsTrue result → IsQuiet heard }
+{
+    match heard {
+        Heard::Refused(_)
+        | Heard::Dropped
+        | Heard::Noted
+        | Heard::Same
+        | Heard::Serves { .. }
+        | Heard::Merged
+        | Heard::Took { .. }
+        | Heard::Bad { .. } => true,
+        Heard::Other | Heard::Asks { .. } | Heard::Sealed { .. } => false,
     }
 }
 
