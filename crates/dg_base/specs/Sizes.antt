@@ -13,11 +13,6 @@ longest_mask = 2048
 abbrev pub most_motes : ℕ
 most_motes = 16
 
--- the images that frames and scripts name: those from 1 to this number. Image 0 is golden, and a chip may have slots
--- for more images than a network names
-abbrev pub network_images : ℕ
-network_images = 3
-
 -- the greatest port of the first mote of a network. The others have those that follow, so it leaves room for them
 abbrev pub greatest_port : ℕ
 greatest_port = 65500

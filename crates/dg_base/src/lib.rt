@@ -23,9 +23,7 @@ pub use hexadecimal::{HexFault, hex_reads_back, parse_hex, push_hex};
 pub use memory::{MemSink, MemSource};
 pub use numbers::{parse_u32, push_u32, reads_what_is_printed};
 pub use outside::{ReadFailed, Sink, Source, WriteFailed};
-pub use sizes::{
-    GREATEST_PORT, MOST_CONTENT, MOST_INPUT, MOST_MOTES, NETWORK_IMAGES, the_sizes_are_these,
-};
+pub use sizes::{GREATEST_PORT, MOST_CONTENT, MOST_INPUT, MOST_MOTES, the_sizes_are_these};
 pub use standard::{StdSink, StdSource};
 pub use texts::{Bytes, is_name, next_line};
 
