@@ -5,14 +5,16 @@ use Rattle.dg_base.specs.Outside.{Puts, PutsFront}
 use Rattle.dg_base.specs.declared.answers.Status.{Status}
 use Rattle.dg_base.specs.declared.answers.Status.TheVariants.{WriteFault, NoBoard}
 use Rattle.dg_nor.specs.Device.{Device}
-use Rattle.dg_object.specs.Object.{Row}
+use Rattle.dg_object.specs.Object.{Row, IsRow}
 use Rattle.dg_volume.specs.Store.{Store}
 use Rattle.dg_volume.specs.Stands.{Stands, IsNoVolume}
 use Rattle.dg_volume.specs.Table.{IsTable}
 use Rattle.dg_mote.specs.Well.{StoreIsWell}
+use Rattle.dg_mote.specs.Consistency.{StoreIsConsistent}
 use Rattle.dg_serial_base.specs.Deeds.{Base}
 use Rattle.dg_serial_base.specs.Based.{Outside, Based, Refused, Causes}
 use Rattle.dg_serial_base.specs.Agreeing.{HonestLine, ChipAgrees}
+use Rattle.dg_serial_base.specs.Consistency.{StaysConsistent}
 use Rattle.dg_replay.specs.Around.{Around}
 
 -- what a base mote over this chip has outside of it
@@ -28,6 +30,8 @@ pub record BasedOn (b : Base) (status : Status) (before now : Outside) : Type 0 
   pub causes : Causes status before now
   -- with honest frames a chip that agrees with a table of images agrees with it behind the line, however it ended
   pub agrees : (s : Store) (table : List Row) (x : Based status b s before now) → IsTable table → StoreIsWell table s → HonestLine table x.input → ChipAgrees table now.chip.image
+  -- whatever bytes came as frames, a consistent chip stays so, however the line ended; no start lacks an image, and what starts is sound
+  pub consistent : (s : Store) (golden : Row) (x : Based status b s before now) → IsRow golden → StoreIsConsistent golden s → StaysConsistent golden status b s x.input now.chip.image
 
 -- the line that is written where there is no board
 abbrev pub no_board_line : List ℕ

@@ -17,7 +17,7 @@ use Rattle.dg_netcfg.specs.declared.profile.NetProfile.{NetProfile}
 use Rattle.dg_serve.specs.Endings.{StoresOf}
 use Rattle.dg_serve.specs.Served.{Began}
 use Rattle.dg_serve.specs.Traces.{IsScript, trace, trace_lines}
-use Rattle.dg_serve.specs.Promised.{KeepsRules}
+use Rattle.dg_serve.specs.Promised.{KeepsRules, ReplaysTo}
 use Rattle.dg_serve.specs.Networks.{NetworkServed}
 use Rattle.dg_trial.specs.Trials.{TrialEnds}
 use Rattle.dg_drip_run.specs.Outcome.{Dripped, played}
@@ -37,12 +37,15 @@ use Rattle.dg_cli.specs.Chained.{root_in, Checked, WrappedDone, ReceivedDone}
 -- The network that the input spells was served over the link, by the clock, with the words of the seed.
 pub record ServeDone (turns seed : ℕ) (status : Status) (a b : Surroundings) : Type 0 where
   pub served : NetworkServed status seed turns a.here.left b.here.left a.here.reads b.here.reads (outside_of a) (outside_of b)
-  -- whichever table its boards are held against: what agrees stays so where the frames that came are honest
+  -- whichever table its boards are held against: what agrees stays so where the frames that came are honest, and what is consistent with any frames at all
   pub keeps : (profile : NetProfile) → IsAllowed profile → (x : Began status profile seed turns (outside_of a) (outside_of b)) (table : List Row) (stores : List Store)
       → (fits : StoresOf profile.motes a.here.boards stores) → AreShaped stores → KeepsRules table stores profile.links profile.motes x.events (x.came table stores fits).last.world
   -- the trace of its events is a script of them
   pub script : (profile : NetProfile) → IsAllowed profile → (x : Began status profile seed turns (outside_of a) (outside_of b)) (stores : List Store)
       → StoresOf profile.motes a.here.boards stores → IsScript (trace profile x.events) (trace_lines profile x.events)
+  -- and its replay over boards that stand for the same stores leads to the same world
+  pub replayed : (profile : NetProfile) → IsAllowed profile → (x : Began status profile seed turns (outside_of a) (outside_of b)) (table : List Row) (stores : List Store)
+      → (fits : StoresOf profile.motes a.here.boards stores) → ReplaysTo (trace profile x.events) profile.motes table stores (x.came table stores fits).last.world
 
 -- ---- the verbs over the first board
 

@@ -22,6 +22,7 @@ returns-clause-done g c =
       refused = c.base.ensures.refused;
       causes = c.base.ensures.causes;
       agrees = c.base.ensures.agrees;
+      consistent = c.base.ensures.consistent;
     })
 
 pub returns-clause-link : goal.returns-clause-link
@@ -31,4 +32,5 @@ returns-clause-link g c =
       refused = c.base.ensures.refused;
       causes = c.base.ensures.causes;
       agrees = c.base.ensures.agrees;
+      consistent = c.base.ensures.consistent;
     })
