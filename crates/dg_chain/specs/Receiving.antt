@@ -1,9 +1,10 @@
 -- A data page that is received: it is filled packet by packet, and then sealed where it is the expected one.
-use Rattle.std.specs.Prelude.{◌≡◌, ◌≢◌, ◌&&◌, true, ℕ, if◌then◌else◌, List}
+use Rattle.std.specs.Prelude.{◌≡◌, ◌≢◌, ◌+◌, ◌&&◌, true, ℕ, if◌then◌else◌, List}
 use Rattle.sha2.specs.Sha256.{sha256}
 use Rattle.dg_base.specs.Crc.{crc_of}
 use Rattle.dg_nor.specs.Device.{Device, Ran}
 use Rattle.dg_nor.specs.Trail.{Trail, resting, stepping}
+use Rattle.dg_object.specs.Sizes.{packets}
 use Rattle.dg_slot.specs.Kept.{Held, with_page, kept_crc}
 use Rattle.dg_slot.specs.Fits.{may_seal}
 use Rattle.dg_slot.specs.Jobs.{IsOpen}
@@ -13,16 +14,20 @@ use Rattle.dg_chain.specs.declared.sealing.ChainSealing.TheVariants.{Sealed, For
 
 -- a page is filled by an erase and its packets
 abbrev pub fill_operations : ℕ
-fill_operations = 49
+fill_operations = packets + 1
+
+-- and with the one of its gate
+abbrev pub seal_operations : ℕ
+seal_operations = fill_operations + 1
 
 -- The page is filled, and one operation more makes it complete where it is the expected one and fits.
 abbrev pub receive_trail : (expected : List ℕ) → ℕ → Held → List ℕ → Trail Held
 receive_trail expected image h page =
-    if is_same (sha256 page) expected && may_seal image h page then stepping h 50 (with_page h page) else resting h fill_operations
+    if is_same (sha256 page) expected && may_seal image h page then stepping h seal_operations (with_page h page) else resting h fill_operations
 
 -- what is answered to a data page that is received
 abbrev pub Receives : (expected : List ℕ) → ℕ → Held → List ℕ → Device → Device → ChainSealing → Type 0
-Receives expected image h page old new (Sealed o next) = (sha256 page ≡ expected) × (next ≡ field_of page) × (may_seal image h page ≡ true) × IsOpen new.image o (with_page h page) × Ran 50 old new
+Receives expected image h page old new (Sealed o next) = (sha256 page ≡ expected) × (next ≡ field_of page) × (may_seal image h page ≡ true) × IsOpen new.image o (with_page h page) × Ran seal_operations old new
 Receives expected image h page old new (Foreign found o) = (found ≡ sha256 page) × (found ≢ expected) × IsOpen new.image o h × Ran fill_operations old new
 Receives expected image h page old new (Bad kept found o) =
     (sha256 page ≡ expected) × (kept ≡ kept_crc h) × (found ≡ crc_of page) × (found ≢ kept) × IsOpen new.image o h × Ran fill_operations old new

@@ -16,13 +16,11 @@ ghost use Rattle.dg_volume.specs.declared.volume.InjectFault.TheVariants as inje
 ghost use Rattle.dg_chain_tool.specs.Filling.{new_row};
 
 use crate::new_image::NewImage;
+use dg_control::GOLDEN;
 use dg_nor::{Nor, Stopped, read_in};
 use dg_object::{PAGE_SIZE, SizeFault, check_size};
 use dg_slot::page_sector;
 use dg_volume::{InjectFault, Kept};
-
-/// The image number of golden.
-const GOLDEN: u8 = 0;
 
 /// Why an image is refused, wherever its version is not the one that is kept.
 pub(crate) fn injection_fault(

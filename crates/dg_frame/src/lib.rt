@@ -20,7 +20,7 @@ use dg_control::Order;
 use dg_object::{PACKET_SIZE, PACKETS};
 pub use laws::{one_reading, one_spelling, the_sizes_are_these};
 pub use ranges::in_range;
-pub use reading::read;
+pub use reading::{SHORTEST, read};
 pub use writing::write;
 
 /// The most bytes of a frame, as of what comes from outside.

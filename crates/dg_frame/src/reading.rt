@@ -14,8 +14,8 @@ use crate::{Entry, FrameFault, Message, NARROW_IMAGES, WIDE_IMAGES};
 use dg_base::crc16;
 use dg_object::PACKET_SIZE;
 
-/// A kind, a source and a CRC take so many bytes.
-pub(crate) const SHORTEST: usize = 5;
+/// The bytes of the shortest frame: a kind, a source and a CRC.
+pub const SHORTEST: usize = 5;
 
 /// The message that bytes spell for a reader that is wide or narrow, or the first cause why they spell none. Any bytes
 /// may be handed in.

@@ -1,6 +1,7 @@
 -- How a report is read.
 use Rattle.std.specs.Prelude.{◌≡◌, ◌≢◌, ◌⊎◌, ℕ, ◌+◌, ◌≤◌, List, [], ◌∷◌, ◌++◌, length}
 use Rattle.std.specs.List.{AllByRecursion}
+use Rattle.dg_base.specs.Sizes.{most_motes}
 use Rattle.dg_script.specs.Sizes.{most_image}
 use Rattle.dg_script.specs.Report.{report_line, report_text}
 use Rattle.dg_script.specs.LineReading.{HasNoEnd}
@@ -28,7 +29,7 @@ image_of _ = 0
 
 -- a line of a replay: of a mote from 0 to 15, and of an image from 0 on for which a chip has a slot
 abbrev pub IsOfReplay : Report → Type 0
-IsOfReplay report = (motes_of report ≤ 16) × (image_of report ≤ most_image)
+IsOfReplay report = (motes_of report ≤ most_motes) × (image_of report ≤ most_image)
 
 -- bytes up to their first LF, with it; or to their end, where they have none
 abbrev pub IsFirstLine : (line rest : List ℕ) → Type 0

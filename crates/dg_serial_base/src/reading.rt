@@ -8,11 +8,8 @@ ghost use Rattle.dg_serial_base.specs.Standing.{Counts, WriteCounts, ReadCounts,
 
 use crate::playing::Player;
 use crate::stop::Stop;
-use dg_base::{ReadFailed, Sink, Source};
+use dg_base::{MOST_INPUT, ReadFailed, Sink, Source};
 use dg_nor::Nor;
-
-/// Bytes of the input that are used.
-const USED: usize = 16_777_216;
 
 /// Bytes that are asked for at once.
 pub(crate) const PIECE: usize = 4_096;
@@ -97,8 +94,8 @@ impl Player {
         ensures reads { ReadCounts result (S.faults input.old) (S.faults input.new) }
     {
         let mut used = 0;
-        while used < USED {
-            let count = self.play_piece(piece, USED - used, input, nor, out)?;
+        while used < MOST_INPUT {
+            let count = self.play_piece(piece, MOST_INPUT - used, input, nor, out)?;
             if count == 0 {
                 return Ok(());
             }

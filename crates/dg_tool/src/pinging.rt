@@ -17,14 +17,11 @@ use crate::pages::read_first;
 use crate::stop::{Stop, or_memory};
 use crate::text::{push_line, push_numbers, push_words};
 use dg_base::Status;
-use dg_control::{IMAGES, Order, Program};
+use dg_control::{GOLDEN, IMAGES, Order, Program};
 use dg_nor::Nor;
 use dg_object::Descriptor;
 use dg_volume::{Kept, Volume};
 use std::alloc::{AllocError, Global};
-
-/// The image number of golden.
-const GOLDEN: u8 = 0;
 
 /// Appends the line of golden.
 fn push_golden(text: &mut Vec<u8>, golden: &Descriptor) -> Result<(), AllocError>

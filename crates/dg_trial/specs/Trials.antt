@@ -9,6 +9,7 @@ use Rattle.dg_nor.specs.Device.{Device}
 use Rattle.dg_object.specs.Object.{Row}
 use Rattle.dg_volume.specs.Store.{held, held_whole}
 use Rattle.dg_volume.specs.Stands.{Stands}
+use Rattle.dg_object.specs.Sizes.{most_pages}
 use Rattle.dg_rules.specs.Sizes.{most_motes}
 use Rattle.dg_rules.specs.World.{World, Site, store_at}
 use Rattle.dg_completion.specs.Completion.{page_count, pages_of}
@@ -46,7 +47,7 @@ AllKeep motes row w = (m : ℕ) → m < motes → held (store_at w m) row.image 
 
 -- Where a trial leads, every mote keeps the image whole, and so many are counted.
 abbrev pub WholeLaw : Type 0
-WholeLaw = (motes pages seed : ℕ) (v : World) → 2 ≤ motes → motes ≤ most_motes → 2 ≤ pages → pages ≤ 65 → TrialRun motes pages seed v
+WholeLaw = (motes pages seed : ℕ) (v : World) → 2 ≤ motes → motes ≤ most_motes → 2 ≤ pages → pages ≤ most_pages → TrialRun motes pages seed v
     → AllKeep motes (row_of_seed pages seed) v × (wholes (row_of_seed pages seed) v ≡ motes)
 
 -- ---- what is told

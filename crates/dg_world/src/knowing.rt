@@ -15,8 +15,9 @@ ghost use Rattle.dg_world.specs.Worlds.{IsWorld};
 ghost use Rattle.dg_world.specs.Known.{known_of, MakesKnown, KnownAfter};
 
 use crate::happening::knows;
+use crate::links::MOST_MOTES;
 use crate::shared::Shared;
-use crate::world::{MOST_MOTES, RunningMote, World};
+use crate::world::{RunningMote, World};
 use dg_bits::PageBits;
 use dg_rules::{Event, Key};
 

@@ -1,4 +1,5 @@
 //! The world as the code keeps it.
+use crate::links::MOST_MOTES;
 use crate::shared::Shared;
 use dg_bits::PageBits;
 use dg_mote::Mote;
@@ -10,9 +11,6 @@ pub struct RunningMote {
     pub(crate) key: Key,
     pub(crate) mote: Mote,
 }
-
-/// The most motes of a world.
-pub(crate) const MOST_MOTES: usize = 16;
 
 /// A world of 1 to 16 motes. Their boards stand beside it.
 #[derive(Drop)]
