@@ -1,7 +1,7 @@
 //! How much a replay reads of a board: one that the world knows is mounted again by halving.
 
-use dg_base::{MemSink, MemSource, Status, StepClock};
-use dg_cli::run;
+use crate::playing::{ample, play};
+use dg_base::{MemSource, Status};
 use dg_link::MemLink;
 use dg_nor::{Board, Counted};
 use std::test::Fail;
@@ -24,25 +24,21 @@ const ORDER_READS: u64 = 1_032;
 /// The bytes that a replay of the script reads of its board.
 fn taken(rt: &HostRuntime, script: &[u8]) -> Result<u64, Fail> {
     let alloc = rt.alloc();
-    let mut words = Vec::new(alloc);
-    words.push(String::from_str(alloc, "replay")?)?;
     let mut board = Board::memory(alloc)?;
     let mut boards = Vec::new(alloc);
     boards.push(Counted::new(&mut board))?;
     let mut input = MemSource::new(Vec::from_slice(alloc, script)?, Vec::new(alloc));
-    let mut out = MemSink::new(alloc, 4096, Vec::new(alloc))?;
+    let mut out = ample(alloc)?;
     let mut link = MemLink::new(alloc, 1);
-    let mut clock = StepClock::new(1);
-    let status = run(
+    let told = play(
         alloc,
-        &words,
+        &["replay"],
         &mut input,
         &mut out,
         &mut boards,
         &mut link,
-        &mut clock,
-    );
-    if status != Status::Done {
+    )?;
+    if told.status != Status::Done {
         return Err("the replay is not done".into());
     }
     if boards.is_empty() {

@@ -12,7 +12,11 @@ mod frames;
 #[cfg(test)]
 mod known;
 #[cfg(test)]
+mod links;
+#[cfg(test)]
 mod motes;
+#[cfg(test)]
+mod playing;
 #[cfg(test)]
 mod reports;
 #[cfg(test)]
@@ -26,4 +30,8 @@ mod slots;
 #[cfg(test)]
 mod starts;
 #[cfg(test)]
+mod stopped_runs;
+#[cfg(test)]
 mod stops;
+#[cfg(test)]
+mod streams;

@@ -1,7 +1,7 @@
 //! Runs of the program: scripts with the reports that they must have, and the ways in which a run fails.
 
-use dg_base::{MemSink, MemSource, Source, Status, StepClock};
-use dg_cli::run;
+use crate::playing::{AMPLE, Told, play};
+use dg_base::{MemSink, MemSource, Source, Status};
 use dg_link::MemLink;
 use dg_nor::Board;
 use std::alloc::{AllocError, Global};
@@ -32,16 +32,6 @@ const NOT_HEARD: &[u8] =
 
 const NOT_HEARD_REPORT: &[u8] =
     b"start 0 0 1 1 58e5\nno 0 link\nno 0 frame\nno 1 off\nend 4\nmote 0 on 0 1\nmote 1 off\n";
-
-/// More room than a report of this module needs, in bytes.
-const AMPLE: usize = 4096;
-
-/// What a run answers and writes.
-#[derive(Drop)]
-struct Told {
-    status: Status,
-    written: Vec<u8>,
-}
 
 /// What goes wrong outside: the reads and the writes that fail, by their numbers, and the bytes that the output takes.
 #[derive(Drop)]
@@ -76,25 +66,12 @@ fn answer(
     script: &[u8],
     outside: Outside,
     boards: usize,
-) -> Result<Told, AllocError> {
-    let mut words = Vec::new(alloc);
-    words.push(String::from_str(alloc, word)?)?;
+) -> Result<Told, Fail> {
     let mut boards = new_boards(alloc, boards)?;
     let mut input = MemSource::new(Vec::from_slice(alloc, script)?, outside.reads);
     let mut out = MemSink::new(alloc, outside.room, outside.writes)?;
     let mut link = MemLink::new(alloc, 1);
-    let mut clock = StepClock::new(1);
-    let status = run(
-        alloc,
-        &words,
-        &mut input,
-        &mut out,
-        &mut boards,
-        &mut link,
-        &mut clock,
-    );
-    let written = Vec::from_slice(alloc, out.bytes())?;
-    Ok(Told { status, written })
+    play(alloc, &[word], &mut input, &mut out, &mut boards, &mut link)
 }
 
 #[test]
@@ -186,24 +163,20 @@ fn no_more_is_taken_than_is_needed(rt: HostRuntime) -> Result<(), Fail> {
         if let Some(number) = write {
             outside.writes.push(number)?;
         }
-        let mut words = Vec::new(alloc);
-        words.push(String::from_str(alloc, "replay")?)?;
         let mut boards = new_boards(alloc, 1)?;
         let mut input = MemSource::new(script, outside.reads);
         let mut out = MemSink::new(alloc, outside.room, outside.writes)?;
         let mut link = MemLink::new(alloc, 1);
-        let mut clock = StepClock::new(1);
-        let answered = run(
+        let told = play(
             alloc,
-            &words,
+            &["replay"],
             &mut input,
             &mut out,
             &mut boards,
             &mut link,
-            &mut clock,
-        );
-        assert_eq!(rt; answered, status);
-        assert_eq!(rt; out.bytes(), report);
+        )?;
+        assert_eq!(rt; told.status, status);
+        assert_eq!(rt; told.written.as_slice(), report);
         let rest = left(&mut input);
         assert!(rt; rest >= 699_998, "{rest}");
     }

@@ -1,8 +1,8 @@
 //! Services over datagrams between sockets of this machine, and the replay of what they wrote.
 ghost use Rattle.std.specs.Prelude.{◌<◌};
 
-use dg_base::{MemSink, MemSource, Status, StepClock};
-use dg_cli::run;
+use crate::playing::{Told, ample, play};
+use dg_base::{MemSource, Status};
 use dg_link::Link;
 use dg_net::UdpLink;
 use dg_nor::Board;
@@ -16,38 +16,6 @@ const GOLDEN: &[u8] = b":0100000041BE\n:00000001FF\n";
 
 const BLINK: &[u8] = b":090000003132333435363738391A\n:00000001FF\n";
 
-/// More room than a trace of these tests needs, in bytes.
-const AMPLE: usize = 100_000;
-
-/// What a run answers and writes.
-#[derive(Drop)]
-struct Told {
-    status: Status,
-    written: Vec<u8>,
-}
-
-/// Runs a command over boards and a link, by a clock of 100 ms a reading.
-fn run_over<L: Link>(
-    alloc: Global,
-    words: &[&str],
-    input: &[u8],
-    boards: &mut Vec<Board>,
-    link: &mut L,
-) -> Result<Told, Fail> {
-    let mut owned = Vec::new(alloc);
-    for word in words {
-        owned.push(String::from_str(alloc, word)?)?;
-    }
-    let mut input = MemSource::new(Vec::from_slice(alloc, input)?, Vec::new(alloc));
-    let mut out = MemSink::new(alloc, AMPLE, Vec::new(alloc))?;
-    let mut clock = StepClock::new(100);
-    let status = run(
-        alloc, &owned, &mut input, &mut out, boards, link, &mut clock,
-    );
-    let written = Vec::from_slice(alloc, out.bytes())?;
-    Ok(Told { status, written })
-}
-
 /// A port from which two are free, as far as can be told. Each process looks elsewhere first.
 fn free_port<R: Net>(rt: &R, alloc: Global, process: u32) -> u16
     ensures { result < 65000 }
@@ -59,6 +27,18 @@ fn free_port<R: Net>(rt: &R, alloc: Global, process: u32) -> u16
         }
     }
     20_001
+}
+
+/// Runs a command over boards and a link.
+fn run_over<L: Link>(
+    alloc: Global,
+    words: &[&str],
+    input: &[u8],
+    boards: &mut Vec<Board>,
+    link: &mut L,
+) -> Result<Told, Fail> {
+    let mut input = MemSource::new(Vec::from_slice(alloc, input)?, Vec::new(alloc));
+    play(alloc, words, &mut input, &mut ample(alloc)?, boards, link)
 }
 
 /// The profile of two neighbours.

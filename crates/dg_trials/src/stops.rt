@@ -9,7 +9,7 @@ use dg_volume::{FORM, InjectFault, Injected, OLD_FORM, OrderFault};
 use std::test::Fail;
 
 /// With so many commits spent no place is free, so that the next one hands over to the other sector.
-const SPENT: u32 = PLACES as u32 - 1;
+pub(crate) const SPENT: u32 = PLACES as u32 - 1;
 
 /// The operations of a commit that is a hand-over. The last one clears a bit of the ledger.
 const HAND_OVER: u32 = 4;
@@ -26,13 +26,13 @@ const PAGES: u8 = 2;
 /// The operations of an injection of the image.
 const INJECTION: u32 = TAKE + PAGE * PAGES as u32;
 
-const NO_ORDER: Order = Order {
+pub(crate) const NO_ORDER: Order = Order {
     number: 0,
     image: 0,
     version: 0,
 };
 
-const ORDER: Order = Order {
+pub(crate) const ORDER: Order = Order {
     number: 1,
     image: IMAGE,
     version: VERSION,
