@@ -1,7 +1,8 @@
 -- The exit status of each answer of a command.
 use Rattle.std.specs.Prelude.{ℕ}
 use Rattle.dg_base.specs.declared.answers.Status.{Status}
-use Rattle.dg_base.specs.declared.answers.Status.TheVariants.{Done, Memory, Usage, BadInput, ReadFault, WriteFault, FlashFault, NotAVolume, Refused, LinkFault, TooLong, TooMany, NoBoard, NoImage}
+use Rattle.dg_base.specs.declared.answers.Status.TheVariants.{Done, Memory, Usage, BadInput, ReadFault, WriteFault, FlashFault}
+use Rattle.dg_base.specs.declared.answers.Status.TheVariants.{NotAVolume, Refused, LinkFault, TooLong, TooMany, NoBoard, NoImage}
 
 abbrev pub code_of : Status → ℕ
 code_of Done = 0

@@ -1,5 +1,6 @@
 //! Bytes as hex digits, two a byte.
-ghost use Rattle.std.specs.Prelude.{◌≡◌, ℕ, ◌+◌, ◌*◌, ◌%◌, ◌<◌, ◌↔◌, List, ◌++◌, ◌⊎◌, length, Some, None, OnOk, OnErr, IfOk, All, Any, true, false, unwrap_or};
+ghost use Rattle.std.specs.Prelude.{◌≡◌, ℕ, ◌+◌, ◌*◌, ◌%◌, ◌<◌, ◌↔◌, List, ◌++◌, ◌⊎◌, length, Some, None, OnOk, OnErr, IfOk, All};
+ghost use Rattle.std.specs.Prelude.{Any, true, false, unwrap_or};
 ghost use Rattle.std.specs.Bool.{OnTrue, OnFalse};
 ghost use Rattle.dg_base.specs.Hexadecimal.{hex_bytes, hex_digit, hex_text, hex_value, is_hex_digit};
 

@@ -2,7 +2,8 @@
 //!
 //! Each trait counts its faults. A call answers its failure only where the count rose in that call,
 //! and a call that answers Ok leaves the count as it is. At the end of a `u64` the count stands still.
-ghost use Rattle.std.specs.Prelude.{◌≡◌, ℕ, Option, ◌<◌, ◌≤◌, List, length, take, Ok, Some, IfOk, OnOk, OnErr, MatchResult, codes};
+ghost use Rattle.std.specs.Prelude.{◌≡◌, ℕ, Option, ◌<◌, ◌≤◌, List, length, take, Ok, Some, IfOk, OnOk, OnErr, MatchResult};
+ghost use Rattle.std.specs.Prelude.{codes};
 ghost use Rattle.dg_words.specs.Counts.{Rose};
 ghost use Rattle.dg_base.specs.Outside.{Takes, Puts, PutsFront, AtEnd};
 

@@ -79,7 +79,8 @@ impl<W: Write> Sink for StdSink<W> {
 
         // What the writer tells of its bytes.
         ensures whole { OnOk result (Appends (W.contents (writer_of self.old)) (W.contents (writer_of self.new)) bytes.now) }
-        ensures front { OnErr result (AppendsFront (W.contents (writer_of self.old)) (W.contents (writer_of self.new)) bytes.now) }
+        ensures front { OnErr result (AppendsFront (W.contents (writer_of self.old)) (W.contents (writer_of self.new))
+            bytes.now) }
         ensures unfailed { OnOk result (faults_written self.new ≡ faults_written self.old) }
     {
         if write_whole(&mut self.writer, bytes) {

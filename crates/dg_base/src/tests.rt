@@ -14,7 +14,7 @@ fn checksums(rt: HostRuntime) {
 }
 
 #[test]
-fn reads_texts(rt: HostRuntime) -> Result<(), Fail> {
+fn reads_numbers(rt: HostRuntime) {
     for (text, number) in [
         ("0", Some(0)),
         ("7", Some(7)),
@@ -29,6 +29,10 @@ fn reads_texts(rt: HostRuntime) -> Result<(), Fail> {
     ] {
         assert_eq!(rt; parse_u32(text.as_bytes()), number, "{text}");
     }
+}
+
+#[test]
+fn tells_names(rt: HostRuntime) {
     for (text, name) in [
         ("base", true),
         ("a-Z_0.9", true),
@@ -40,6 +44,10 @@ fn reads_texts(rt: HostRuntime) -> Result<(), Fail> {
     ] {
         assert_eq!(rt; is_name(text.as_bytes()), name, "{text}");
     }
+}
+
+#[test]
+fn reads_hex_digits(rt: HostRuntime) -> Result<(), Fail> {
     let alloc = rt.alloc();
     let read = parse_hex(alloc, b"004aF9")?;
     assert_eq!(rt; read.as_slice(), [0x00, 0x4a, 0xf9].as_slice());

@@ -14,7 +14,7 @@ use Rattle.dg_ihex.specs.Sizes.{most_image}
 use Rattle.dg_ihex.specs.Blocks.{Block, overlaps, span_of}
 use Rattle.dg_ihex.specs.Files.{base_behind, base_of, block_of, blocks_over, blocks_of, is_end, has_end, first_cause, cause_of_blocks, cause_behind, record_in, records_of, judged, to_list, cause_of}
 use Rattle.dg_ihex.specs.Records.{record_of}
-use Rattle.dg_ihex.specs.Reading.{Refuses, RefusesLine, Steps}
+use Rattle.dg_ihex.specs.Reading.{Refuses, RefusesLine, ReaderSteps}
 
 -- ---- one record more
 
@@ -131,13 +131,13 @@ pub refused_line : (before : List (List ℕ)) (text : List ℕ) (cause : HexCaus
 refused_line before text Memory some h = tt
 refused_line before text cause some h = (judged_line before text some).0 ∙ ap (judged (records_of before)) h
 
-pub steps_moved : {A : Type 0} (r : Result A HexCause) (d e : Option HexCause) (P Q : Type 0) → e ≡ d → (P → Q) → Steps r d P → Steps r e Q
+pub steps_moved : {A : Type 0} (r : Result A HexCause) (d e : Option HexCause) (P Q : Type 0) → e ≡ d → (P → Q) → ReaderSteps r d P → ReaderSteps r e Q
 steps_moved (Ok x) d e P Q same move h = (same ∙ h.0, move h.1)
 steps_moved (Err cause) d e P Q same move h = subst (RefusesLine cause) (sym same) h
 
 -- what a record that gives no byte leaves
 pub steps_open : {A : Type 0} (r : Result A HexCause) (before : List Record) (next : Record) (end : Bool) (After : Type 0) → block_of (base_of before) next ≡ [] → span_of (blocks_of before) ≤ most_image → has_end before ≡ end
-    → After → Steps r (first_cause false false end) ⊤ → Steps r (cause_behind before next) After
+    → After → ReaderSteps r (first_cause false false end) ⊤ → ReaderSteps r (cause_behind before next) After
 steps_open r before next end After none close h after s = steps_moved r (first_cause false false end) (cause_behind before next) ⊤ After (no_byte before next end none close h) (λ _. after) s
 
 -- the refusal of a record behind the end

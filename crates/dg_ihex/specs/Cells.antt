@@ -4,8 +4,10 @@ use Rattle.dg_ihex.specs.Sizes.{most_image}
 
 -- Each byte stands in its cell, and each byte in a cell stands there for an address. A cell that is not there has no byte.
 pub record Keeps (shift : ℕ) (cells : List (Option ℕ)) (bytes : ℕ → Option ℕ) : Type 0 where
-  pub there : (address byte : ℕ) → bytes address ≡ Some byte → slice_index_or cells ((address + shift) % most_image) None ≡ Some byte
-  pub only : (cell byte : ℕ) → slice_index_or cells cell None ≡ Some byte → (address : ℕ) × ((address + shift) % most_image ≡ cell) × (bytes address ≡ Some byte)
+  pub there : (address byte : ℕ) → bytes address ≡ Some byte
+      → slice_index_or cells ((address + shift) % most_image) None ≡ Some byte
+  pub only : (cell byte : ℕ) → slice_index_or cells cell None ≡ Some byte → (address : ℕ)
+      × ((address + shift) % most_image ≡ cell) × (bytes address ≡ Some byte)
 
 -- cells with bytes, the first of which stands in the cell of this number
 unfoldable pub written : List (Option ℕ) → ℕ → List ℕ → List (Option ℕ)

@@ -1,5 +1,6 @@
 -- HEX files: their records, their first fault, and their image.
-use Rattle.std.specs.Prelude.{ℕ, ◌+◌, ◌*◌, nat_lt, Bool, true, false, if◌then◌else◌, List, [], ◌∷◌, ◌++◌, length, fold, Option, Some, None, Result, Ok, Err}
+use Rattle.std.specs.Prelude.{ℕ, ◌+◌, ◌*◌, nat_lt, Bool, true, false, if◌then◌else◌, List, [], ◌∷◌, ◌++◌, length, fold, Option}
+use Rattle.std.specs.Prelude.{Some, None, Result, Ok, Err}
 use Rattle.std.specs.List.{list_any, flat_map}
 use Rattle.std.specs.Str.Lines.{lines}
 use Rattle.dg_ihex.specs.declared.faults.HexCause.{HexCause}
@@ -58,7 +59,8 @@ has_end all = list_any is_end all
 abbrev pub first_cause : Bool → Bool → Bool → Option HexCause
 first_cause overlap span end = if overlap then Some Overlap else if span then Some Span else if end then Some End else None
 
--- What is wrong with blocks behind those that are given: an address was given before; the highest address less the lowest, and 1, is more than an image has bytes; or the end came before.
+-- What is wrong with blocks behind those that are given: an address was given before; the highest address less the lowest,
+-- and 1, is more than an image has bytes; or the end came before.
 abbrev pub cause_of_blocks : List Block → List Block → Bool → Option HexCause
 cause_of_blocks given own end = first_cause (list_any (overlaps given) own) (nat_lt most_image (span_of (given ++ own))) end
 

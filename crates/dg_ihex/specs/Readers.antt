@@ -19,8 +19,10 @@ pub record Behind (numbered : Numbered) (before : List (List ℕ)) : Type 0 wher
   pub number : numbered.line ≡ length before + 1
   pub stands : Stands numbered.reader (records_of before)
 
--- what was told of a line behind others: nothing is wrong, and a fact holds behind it; or this is what a file gives that goes on with it
+-- what was told of a line behind others: nothing is wrong, and a fact holds behind it;
+-- or this is what a file gives that goes on with it
 abbrev pub Judges : {A : Type 0} → Result A HexFileFault → List (List ℕ) → List ℕ → (After : Type 0) → Type 0
 Judges (Ok x) before text After = (cause_of before text ≡ None) × After
 Judges (Err fault) before text After =
-    (fault.cause ≢ Memory → (later : Result (List ℕ) HexFileFault) → unless (cause_of before text) before later ≡ Err fault) × (fault.cause ≡ Memory → fault.line ≡ 0)
+    (fault.cause ≢ Memory → (later : Result (List ℕ) HexFileFault) → unless (cause_of before text) before later ≡ Err fault)
+    × (fault.cause ≡ Memory → fault.line ≡ 0)

@@ -26,9 +26,9 @@ RefusesLine Memory defined = Unit {0}
 RefusesLine cause defined = defined ≡ Some cause
 
 -- what a step answered: nothing is wrong, and a fact holds behind it; or what is wrong
-abbrev pub Steps : {A : Type 0} → Result A HexCause → Option HexCause → Type 0 → Type 0
-Steps (Ok done) defined After = (defined ≡ None) × After
-Steps (Err cause) defined After = RefusesLine cause defined
+abbrev pub ReaderSteps : {A : Type 0} → Result A HexCause → Option HexCause → Type 0 → Type 0
+ReaderSteps (Ok done) defined After = (defined ≡ None) × After
+ReaderSteps (Err cause) defined After = RefusesLine cause defined
 
 -- what the reader of a file answered is what the file gives; nothing is claimed where memory ran out
 abbrev pub ReadsFile : {A : Type 0} → (A → List ℕ) → Result A HexFileFault → Result (List ℕ) HexFileFault → Type 0

@@ -1,5 +1,6 @@
 -- Records, and the lines that spell them.
-use Rattle.std.specs.Prelude.{ℕ, ◌+◌, ◌-◌, ◌*◌, ◌%◌, ◌==◌, nat_lt, if◌then◌else◌, List, [], ◌∷◌, length, sum, slice_index, slice_range, Option, Some, None, Result, Ok, Err}
+use Rattle.std.specs.Prelude.{ℕ, ◌+◌, ◌-◌, ◌*◌, ◌%◌, ◌==◌, nat_lt, if◌then◌else◌, List, [], ◌∷◌, length, sum, slice_index}
+use Rattle.std.specs.Prelude.{slice_range, Option, Some, None, Result, Ok, Err}
 use Rattle.dg_base.specs.Hexadecimal.{hex_bytes}
 use Rattle.dg_ihex.specs.declared.faults.HexCause.{HexCause}
 use Rattle.dg_ihex.specs.declared.faults.HexCause.TheVariants.{Start, Hex, Count, Check, Kind, Shape}
@@ -28,7 +29,8 @@ segment_record bytes = if length bytes == 2 then Ok (records.Segment (word_of by
 unfoldable pub linear_record : List ℕ → Result Record HexCause
 linear_record bytes = if length bytes == 2 then Ok (records.Linear (word_of bytes)) else Err Shape
 
--- The types: 00 bytes, 01 end, 02 extended segment address, 03 start segment address, 04 extended linear address, 05 start linear address.
+-- The types: 00 bytes, 01 end, 02 extended segment address, 03 start segment address, 04 extended linear address,
+-- 05 start linear address.
 unfoldable pub typed_record : ℕ → ℕ → List ℕ → Result Record HexCause
 typed_record kind offset bytes =
     if kind == 0 then data_record offset bytes
@@ -39,12 +41,14 @@ typed_record kind offset bytes =
     else if kind == 5 then marker 4 records.Start bytes
     else Err Kind
 
--- A record's bytes: the count of its data, its offset, the high byte first, its type, its data, and a checksum that makes the sum of all 0 modulo 256.
+-- A record's bytes: the count of its data, its offset, the high byte first, its type, its data,
+-- and a checksum that makes the sum of all 0 modulo 256.
 unfoldable pub record_of_bytes : List ℕ → Result Record HexCause
 record_of_bytes bytes =
     if nat_lt (length bytes) record_fields then Err Count
     else if length bytes == slice_index bytes 0 + record_fields then
-    if sum bytes % 256 == 0 then typed_record (slice_index bytes 3) (slice_index bytes 1 * 256 + slice_index bytes 2) (slice_range bytes 4 (length bytes - 1))
+    if sum bytes % 256 == 0 then typed_record (slice_index bytes 3) (slice_index bytes 1 * 256 + slice_index bytes 2)
+    (slice_range bytes 4 (length bytes - 1))
     else Err Check
     else Err Count
 

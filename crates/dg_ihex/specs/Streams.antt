@@ -30,7 +30,8 @@ pub record Stays (kept line : List ℕ) : Type 0 where
 
 -- ---- what came
 
--- A stream of an input in which nothing is wrong so far: with whatever comes behind, the file has these lines and then those of what comes behind the open line.
+-- A stream of an input in which nothing is wrong so far: with whatever comes behind,
+-- the file has these lines and then those of what comes behind the open line.
 pub record Going (stream : Stream) (input : List ℕ) : Type 0 where
   pub before : List (List ℕ)
   pub line : List ℕ

@@ -6,7 +6,8 @@ ghost use Rattle.dg_ihex.specs.Files.{blocks_of, hex_file, records_of};
 ghost use Rattle.dg_ihex.specs.Laws.{IsFirstFault, fault_behind_lines};
 ghost use Rattle.dg_ihex.specs.Written.{written_file};
 ghost use Rattle.dg_ihex.specs.declared.faults.HexFileFault.{HexFileFault};
-ghost use Rattle.dg_ihex.specs.Sizes.{most_image, most_text, paragraph, segment, record_fields, longest_record, piece_bytes, gap_byte, addresses, highest_base};
+ghost use Rattle.dg_ihex.specs.Sizes.{most_image, most_text, paragraph, segment, record_fields, longest_record, piece_bytes};
+ghost use Rattle.dg_ihex.specs.Sizes.{gap_byte, addresses, highest_base};
 
 use crate::reader::{HIGHEST_BASE, MOST_TEXT, PARAGRAPH};
 use crate::record::{FIELDS, SEGMENT};

@@ -2,7 +2,7 @@
 ghost use Rattle.std.specs.Prelude.{◌≡◌, ℕ, ◌≤◌, ◌≢◌, List, [], ◌∷◌, ◌++◌, length, take, IfErr, false, ⊤};
 ghost use Rattle.std.specs.Str.Lines.{strip_carriage_return};
 ghost use Rattle.dg_ihex.specs.Files.{cause_behind, cause_of, ended, first_cause, records_of};
-ghost use Rattle.dg_ihex.specs.Reading.{ReadsFile, Steps};
+ghost use Rattle.dg_ihex.specs.Reading.{ReadsFile, ReaderSteps};
 ghost use Rattle.dg_ihex.specs.Causes.{out_of_memory};
 ghost use Rattle.dg_ihex.specs.Sizes.{most_text, highest_base};
 
@@ -50,7 +50,7 @@ impl Reader {
     // The next record.
     fn take(&mut self, next: Record) -> Result<(), HexCause>
         ensures { (before : List Record) → Stands self.old before
-            → Steps result (cause_behind before next) (Stands self.new (before ++ next ∷ [])) }
+            → ReaderSteps result (cause_behind before next) (Stands self.new (before ++ next ∷ [])) }
     {
         match next {
             Record::Data { offset, bytes } => self.take_data(offset, bytes.as_slice()),
@@ -63,7 +63,8 @@ impl Reader {
 
     fn take_data(&mut self, offset: u16, bytes: &[u8]) -> Result<(), HexCause>
         ensures { (before : List Record) → Stands self.old before
-            → Steps result (cause_behind before (records.Data offset bytes.now)) (Stands self.new (before ++ records.Data offset bytes.now ∷ [])) }
+            → ReaderSteps result (cause_behind before (records.Data offset bytes.now))
+            (Stands self.new (before ++ records.Data offset bytes.now ∷ [])) }
     {
         if bytes.is_empty() {
             // Data of no bytes has no address.
@@ -83,7 +84,7 @@ impl Reader {
 
     // What is wrong with any record behind the end.
     fn check_open(&self) -> Result<(), HexCause>
-        ensures { Steps result (first_cause false false self.now.has_ended) ⊤ }
+        ensures { ReaderSteps result (first_cause false false self.now.has_ended) ⊤ }
     {
         if self.has_ended {
             return Err(HexCause::End);
@@ -93,7 +94,7 @@ impl Reader {
 
     fn take_end(&mut self) -> Result<(), HexCause>
         ensures { (before : List Record) → Stands self.old before
-            → Steps result (cause_behind before records.End) (Stands self.new (before ++ records.End ∷ [])) }
+            → ReaderSteps result (cause_behind before records.End) (Stands self.new (before ++ records.End ∷ [])) }
     {
         self.check_open()?;
         self.has_ended = true;
@@ -102,7 +103,8 @@ impl Reader {
 
     fn take_segment(&mut self, units: u16) -> Result<(), HexCause>
         ensures { (before : List Record) → Stands self.old before
-            → Steps result (cause_behind before (records.Segment units)) (Stands self.new (before ++ records.Segment units ∷ [])) }
+            → ReaderSteps result (cause_behind before (records.Segment units))
+            (Stands self.new (before ++ records.Segment units ∷ [])) }
     {
         self.check_open()?;
         self.base = usize::from(units) * PARAGRAPH;
@@ -111,7 +113,8 @@ impl Reader {
 
     fn take_linear(&mut self, units: u16) -> Result<(), HexCause>
         ensures { (before : List Record) → Stands self.old before
-            → Steps result (cause_behind before (records.Linear units)) (Stands self.new (before ++ records.Linear units ∷ [])) }
+            → ReaderSteps result (cause_behind before (records.Linear units))
+            (Stands self.new (before ++ records.Linear units ∷ [])) }
     {
         self.check_open()?;
         self.base = usize::from(units) * SEGMENT;
@@ -120,7 +123,7 @@ impl Reader {
 
     fn take_start(&self) -> Result<(), HexCause>
         ensures { (before : List Record) → Stands self.now before
-            → Steps result (cause_behind before records.Start) (Stands self.now (before ++ records.Start ∷ [])) }
+            → ReaderSteps result (cause_behind before records.Start) (Stands self.now (before ++ records.Start ∷ [])) }
     {
         self.check_open()
     }
@@ -128,7 +131,7 @@ impl Reader {
     // The next line.
     fn take_line(&mut self, alloc: Global, text: &[u8]) -> Result<(), HexCause>
         ensures { (before : List (List ℕ)) → Stands self.old (records_of before)
-            → Steps result (cause_of before text.now) (Stands self.new (records_of (before ++ text.now ∷ []))) }
+            → ReaderSteps result (cause_of before text.now) (Stands self.new (records_of (before ++ text.now ∷ []))) }
     {
         if text.is_empty() {
             return Ok(());
@@ -174,14 +177,16 @@ impl Numbered {
     /// The next line as it stands before its LF.
     pub fn take_ended(&mut self, alloc: Global, line: &[u8]) -> Result<(), HexFileFault>
         ensures { (before : List (List ℕ)) → Behind self.old before → length before ≤ most_text
-            → Judges result before (strip_carriage_return line.now) (Behind self.new (before ++ strip_carriage_return line.now ∷ [])) }
+            → Judges result before (strip_carriage_return line.now)
+            (Behind self.new (before ++ strip_carriage_return line.now ∷ [])) }
     {
         self.take_line(alloc, &line[..text_end(line)])
     }
 
     /// The image behind the last line.
     pub fn image(&self, alloc: Global) -> Result<Vec<u8>, HexFileFault>
-        ensures read { (before : List (List ℕ)) → Behind self.now before → ReadsFile (λ image. image.items) result (ended before) }
+        ensures read { (before : List (List ℕ)) → Behind self.now before
+            → ReadsFile (λ image. image.items) result (ended before) }
         ensures memory { IfErr result (λ fault. fault.cause ≡ HexCause.Memory → fault.line ≡ 0) }
     {
         if !self.reader.has_ended {

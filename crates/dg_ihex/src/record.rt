@@ -1,6 +1,7 @@
 //! Records, and the lines that spell them.
 ghost use Rattle.std.specs.Prelude.{◌≡◌, ◌+◌, ◌*◌, ◌%◌, ◌<◌, ◌≤◌, ◌==◌, length, slice_range, sum, Some, IfOk, IfErr};
-ghost use Rattle.dg_ihex.specs.Records.{data_record, linear_record, marker, record_of, record_of_bytes, segment_record, typed_record};
+ghost use Rattle.dg_ihex.specs.Records.{data_record, linear_record, marker, record_of, record_of_bytes, segment_record};
+ghost use Rattle.dg_ihex.specs.Records.{typed_record};
 ghost use Rattle.dg_base.specs.Hexadecimal.{hex_bytes};
 ghost use Rattle.dg_ihex.specs.Reading.{Reads, RefusesDigits};
 

@@ -1,5 +1,6 @@
 //! Reads HEX files that come by pieces.
-ghost use Rattle.std.specs.Prelude.{◌≡◌, ◌≢◌, ℕ, ◌+◌, ◌≤◌, ◌<◌, ◌%◌, ◌==◌, ◌↔◌, List, [], ◌∷◌, ◌++◌, length, take, All, IfOk, IfErr, OnOk, false};
+ghost use Rattle.std.specs.Prelude.{◌≡◌, ◌≢◌, ℕ, ◌+◌, ◌≤◌, ◌<◌, ◌%◌, ◌==◌, ◌↔◌, List, [], ◌∷◌, ◌++◌, length, take, All, IfOk};
+ghost use Rattle.std.specs.Prelude.{IfErr, OnOk, false};
 ghost use Rattle.std.specs.List.{list_all};
 ghost use Rattle.dg_base.specs.Hexadecimal.{is_hex_digit};
 ghost use Rattle.dg_ihex.specs.Files.{hex_file};
@@ -58,7 +59,8 @@ impl Stream {
     fn take_from(&mut self, alloc: Global, piece: &[u8], from: usize) -> Result<usize, HexFileFault>
         requires { from < length piece.now }
         ensures on { IfOk result (λ next. (from < next) × (next ≤ length piece.now)) }
-        ensures goes { (input : List ℕ) → Going self.old (input ++ take from piece.now) → length input + length piece.now ≤ most_text + 1
+        ensures goes { (input : List ℕ) → Going self.old (input ++ take from piece.now)
+            → length input + length piece.now ≤ most_text + 1
             → AdvancesTo result input piece.now (λ next. Going self.new (input ++ take next piece.now)) }
     {
         let (end, next) = next_line(piece, from);

@@ -1,5 +1,6 @@
 //! The bytes that records gave, by their addresses.
-ghost use Rattle.std.specs.Prelude.{◌≡◌, ℕ, None, slice_index_or, ◌+◌, ◌-◌, ◌≤◌, ◌<◌, ◌%◌, ◌^◌, List, ◌++◌, [], ◌∷◌, false, length, min, max, IfOk, OnOk};
+ghost use Rattle.std.specs.Prelude.{◌≡◌, ℕ, None, slice_index_or, ◌+◌, ◌-◌, ◌≤◌, ◌<◌, ◌%◌, ◌^◌, List, ◌++◌, [], ◌∷◌, false};
+ghost use Rattle.std.specs.Prelude.{length, min, max, IfOk, OnOk};
 ghost use Rattle.dg_ihex.specs.Blocks.{Block, byte_at, image_of, overlaps, span_of};
 ghost use Rattle.dg_ihex.specs.Cells.{written};
 ghost use Rattle.dg_ihex.specs.Sizes.{most_image, addresses};
@@ -150,7 +151,8 @@ impl Window {
 
     // Writes the bytes from the lowest address on.
     fn fill(&self, image: &mut [u8])
-        ensures { (blocks : List Block) → Holds self.now blocks → length image.old ≡ span_of blocks → image.new ≡ image_of blocks }
+        ensures { (blocks : List Block) → Holds self.now blocks → length image.old ≡ span_of blocks
+            → image.new ≡ image_of blocks }
     {
         for at in 0..image.len() {
             image[at] = self.byte_at(self.lowest + at).unwrap_or(GAP_BYTE);

@@ -3,7 +3,8 @@ ghost use Rattle.std.specs.Prelude.{◌≡◌, ◌+◌, ◌*◌, ◌<◌, ◌≤
 ghost use Rattle.std.specs.Char.{to_ascii_uppercase};
 ghost use Rattle.std.specs.List.{flat_map};
 ghost use Rattle.dg_ihex.specs.Sizes.{most_image, piece_bytes};
-ghost use Rattle.dg_ihex.specs.Written.{base_lines, checksum_of, ended_by_feed, fields_of, line_of, lines_at, upper_hex, written_file};
+ghost use Rattle.dg_ihex.specs.Written.{base_lines, checksum_of, ended_by_feed, fields_of, line_of, lines_at, upper_hex};
+ghost use Rattle.dg_ihex.specs.Written.{written_file};
 
 use crate::record::{SEGMENT, sum_of};
 use dg_base::push_hex;

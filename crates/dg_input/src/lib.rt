@@ -7,10 +7,12 @@ ghost use Rattle.dg_base.specs.Outside.{Takes, AtEnd};
 ghost use Rattle.dg_base.specs.Sizes.{most_input};
 ghost use Rattle.dg_ihex.specs.Streams.{Fed};
 
+mod piece;
 mod whole;
 
 use dg_base::{MOST_INPUT, ReadFailed, Source};
 use dg_ihex::HexReader;
+pub use piece::read_piece;
 use std::alloc::{AllocError, Global};
 pub use whole::read_whole;
 
@@ -25,7 +27,7 @@ pub enum ReadStop {
 }
 
 // Gives a reader the next piece, of at most so many bytes, and answers how many came.
-fn read_piece<S: Source>(
+fn feed_piece<S: Source>(
     alloc: Global,
     source: &mut S,
     piece: &mut [u8],
@@ -36,14 +38,14 @@ fn read_piece<S: Source>(
     requires some { 0 < most }
     ensures taken { (more : List ℕ) × Takes (S.left source.old) (S.left source.new) more × (length more ≤ most)
         × IfOk result (λ n. n ≡ length more)
-        × ((input : List ℕ) → Fed reader.old input → length input + most ≤ most_input + 1 → OnOk result (Fed reader.new (input ++ more))) }
+        × ((input : List ℕ) → Fed reader.old input → length input + most ≤ most_input + 1
+        → OnOk result (Fed reader.new (input ++ more))) }
     ensures ended { result ≡ Ok 0 → AtEnd (S.left source.new) }
     ensures counts { S.faults source.old ≤ S.faults source.new }
     ensures failed { result ≡ Err ReadStop.ReadFault → Rose (S.faults source.old) (S.faults source.new) }
     ensures unfailed { result ≢ Err ReadStop.ReadFault → S.faults source.new ≡ S.faults source.old }
 {
-    let most = piece.len().min(most);
-    match source.read(&mut piece[..most]) {
+    match read_piece(source, piece, most) {
         Ok(count) => match reader.feed(alloc, &piece[..count]) {
             Ok(()) => Ok(count),
             Err(AllocError) => Err(ReadStop::Memory),
@@ -68,7 +70,7 @@ fn read_pieces<S: Source>(
     let mut reader = HexReader::new(alloc);
     let mut count = 0;
     while count <= MOST_INPUT {
-        let came = read_piece(alloc, source, piece, MOST_INPUT + 1 - count, &mut reader)?;
+        let came = feed_piece(alloc, source, piece, MOST_INPUT + 1 - count, &mut reader)?;
         if came == 0 {
             return Ok(reader);
         }

@@ -4,20 +4,21 @@ ghost use Rattle.dg_words.specs.Counts.{Rose};
 ghost use Rattle.dg_base.specs.Outside.{Takes, AtEnd};
 ghost use Rattle.dg_base.specs.Sizes.{most_input};
 
-use crate::{PIECE, ReadStop};
+use crate::{PIECE, ReadStop, read_piece};
 use dg_base::{MOST_INPUT, ReadFailed, Source};
 use std::alloc::{AllocError, Global};
 
 // Reads a piece behind the bytes, up to one byte past those that are used, and answers how many
 // bytes came.
-fn read_piece<S: Source>(
+fn keep_piece<S: Source>(
     source: &mut S,
     piece: &mut [u8],
     bytes: &mut Vec<u8>,
 ) -> Result<usize, ReadStop>
     requires piece { 0 < length piece.old }
     requires room { vec_len bytes.old ≤ most_input }
-    ensures taken { (more : List ℕ) × Takes (S.left source.old) (S.left source.new) more × (vec_len bytes.old + length more ≤ most_input + 1)
+    ensures taken { (more : List ℕ) × Takes (S.left source.old) (S.left source.new) more
+        × (vec_len bytes.old + length more ≤ most_input + 1)
         × IfOk result (λ n. (n ≡ length more) × (bytes.new.items ≡ bytes.old.items ++ more)) }
     ensures bound { OnOk result (vec_len bytes.new ≤ most_input + 1) }
     ensures ended { result ≡ Ok 0 → AtEnd (S.left source.new) }
@@ -25,8 +26,7 @@ fn read_piece<S: Source>(
     ensures failed { result ≡ Err ReadStop.ReadFault → Rose (S.faults source.old) (S.faults source.new) }
     ensures unfailed { result ≢ Err ReadStop.ReadFault → S.faults source.new ≡ S.faults source.old }
 {
-    let most = piece.len().min(MOST_INPUT + 1 - bytes.len());
-    match source.read(&mut piece[..most]) {
+    match read_piece(source, piece, MOST_INPUT + 1 - bytes.len()) {
         Ok(count) => match bytes.extend_from_slice(&piece[..count]) {
             Ok(()) => Ok(count),
             Err(AllocError) => Err(ReadStop::Memory),
@@ -42,7 +42,8 @@ fn read_pieces<S: Source>(
     piece: &mut [u8],
 ) -> Result<Vec<u8>, ReadStop>
     requires { 0 < length piece.old }
-    ensures taken { (bytes : List ℕ) × Takes (S.left source.old) (S.left source.new) bytes × (length bytes ≤ most_input + 1) × IfOk result (λ v. v.items ≡ bytes) }
+    ensures taken { (bytes : List ℕ) × Takes (S.left source.old) (S.left source.new) bytes × (length bytes ≤ most_input + 1)
+        × IfOk result (λ v. v.items ≡ bytes) }
     ensures ended { IfOk result (λ v. AtEnd (S.left source.new) ⊎ (most_input < length v.items)) }
     ensures bound { IfOk result (λ v. length v.items ≤ most_input + 1) }
     ensures counts { S.faults source.old ≤ S.faults source.new }
@@ -51,7 +52,7 @@ fn read_pieces<S: Source>(
 {
     let mut bytes = Vec::new(alloc);
     while bytes.len() <= MOST_INPUT {
-        if read_piece(source, piece, &mut bytes)? == 0 {
+        if keep_piece(source, piece, &mut bytes)? == 0 {
             break;
         }
     }
@@ -63,7 +64,8 @@ fn read_pieces<S: Source>(
 /// Whatever it answers, some bytes were taken from the source, in their order and no more than that; after Ok they
 /// are those of the answer.
 pub fn read_whole<S: Source>(alloc: Global, source: &mut S) -> Result<Vec<u8>, ReadStop>
-    ensures taken { (bytes : List ℕ) × Takes (S.left source.old) (S.left source.new) bytes × (length bytes ≤ most_input + 1) × IfOk result (λ v. v.items ≡ bytes) }
+    ensures taken { (bytes : List ℕ) × Takes (S.left source.old) (S.left source.new) bytes × (length bytes ≤ most_input + 1)
+        × IfOk result (λ v. v.items ≡ bytes) }
     ensures ended { IfOk result (λ v. AtEnd (S.left source.new) ⊎ (most_input < length v.items)) }
     ensures bound { IfOk result (λ v. length v.items ≤ most_input + 1) }
     ensures counts { S.faults source.old ≤ S.faults source.new }

@@ -12,7 +12,7 @@ use Rattle.std.proofs.lemmas.List.Kept.{AllPairs-cons}
 use Rattle.toml.specs.Data.{Data, string, integer, float, boolean, datetime, array, table, Items, no_items, item, Members, as_integer, as_array, get_member}
 use Rattle.toml.specs.Parse.{parse_document}
 use Rattle.dg_netcfg.specs.Document.{document_of, keys_of, list_of, integer_at, array_at, within, two_of, all_of}
-use Rattle.dg_netcfg.specs.Profile.{is_key, three, fields_of, mote_of, joined, link_of, is_same_link, has_repeat, once, links_of, with_port, with_links, with_motes, with_fields, with_document, netprofile}
+use Rattle.dg_netcfg.specs.Profile.{is_key, three, fields_of, mote_of, link_between, link_of, is_same_link, has_repeat, once, links_of, with_port, with_links, with_motes, with_fields, with_document, netprofile}
 use Rattle.dg_netcfg.specs.Readings.{Reads, IsDocument, IsKey, HasFields, IsWithin, IsLink, IsSameLink, AreLinks, IsAllowed, IsReading}
 use Rattle.dg_netcfg.specs.declared.profile.NetProfile.{NetProfile}
 use Rattle.dg_netcfg.specs.declared.profile.ProfileFault.{ProfileFault}
@@ -155,14 +155,14 @@ not_equal a b false l is e =
     let second : b ≡ l.1 = ap (λ x. x.1) same in
     (first, second, λ h. not_from_Decides (a == b) (Decides-eqb a b) is (first ∙ h ∙ sym second))
 
-joined-some : (x y : Option ℕ) (l : ℕ × ℕ) → joined x y ≡ Some l → (x ≡ Some l.0) × (y ≡ Some l.1) × (l.0 ≢ l.1)
+joined-some : (x y : Option ℕ) (l : ℕ × ℕ) → link_between x y ≡ Some l → (x ≡ Some l.0) × (y ≡ Some l.1) × (l.0 ≢ l.1)
 joined-some (Some a) (Some b) l e = let (p, q, apart) = not_equal a b (a == b) l refl e in (ap Some p, ap Some q, apart)
 joined-some (Some a) None l e = absurd cc
 joined-some None y l e = absurd cc
 
 a_link : (motes : ℕ) (entry : Data) (l : ℕ × ℕ) → 1 ≤ motes → link_of motes entry ≡ Some l → IsLink motes entry l
 a_link motes entry l enough e =
-    let (p, pair, ends) = and_then-some (λ p. joined (mote_of motes p.0) (mote_of motes p.1)) (option_and_then two_of (as_array entry)) l e in
+    let (p, pair, ends) = and_then-some (λ p. link_between (mote_of motes p.0) (mote_of motes p.1)) (option_and_then two_of (as_array entry)) l e in
     let (items, whole, two) = and_then-some two_of (as_array entry) p pair in
     let (a, b, apart) = joined-some (mote_of motes p.0) (mote_of motes p.1) l ends in
     let (first, below_first) = a_mote motes p.0 l.0 enough a in
@@ -173,8 +173,8 @@ a_link motes entry l enough e =
 
 link_from : (motes : ℕ) (entry : Data) (l : ℕ × ℕ) → IsLink motes entry l → link_of motes entry ≡ Some l
 link_from motes entry l h =
-    ap (link_of motes) h.0 ∙ ap (λ o. joined o (mote_of motes (integer (pos l.1)))) (mote_from motes l.0 h.1)
-    ∙ ap (joined (Some l.0)) (mote_from motes l.1 h.2) ∙ ap (λ t. cond t None (Some (l.0, l.1))) (ne_eqb l.0 l.1 h.3)
+    ap (link_of motes) h.0 ∙ ap (λ o. link_between o (mote_of motes (integer (pos l.1)))) (mote_from motes l.0 h.1)
+    ∙ ap (link_between (Some l.0)) (mote_from motes l.1 h.2) ∙ ap (λ t. cond t None (Some (l.0, l.1))) (ne_eqb l.0 l.1 h.3)
 
 map-some : {A B : Type 0} (f : A → B) (o : Option A) (y : B) → option_map f o ≡ Some y → (x : A) × (o ≡ Some x) × (y ≡ f x)
 map-some f None y e = absurd cc

@@ -1,5 +1,6 @@
 -- The network profile that a TOML document is, or why it is none.
-use Rattle.std.specs.Prelude.{ℕ, ◌-◌, ◌==◌, ◌&&◌, ◌||◌, Bool, false, if◌then◌else◌, codes, ℤ, List, [], ◌∷◌, map, Option, Some, None, option_and_then, Result, Ok, Err, bytes_eq}
+use Rattle.std.specs.Prelude.{ℕ, ◌-◌, ◌==◌, ◌&&◌, ◌||◌, Bool, false, if◌then◌else◌, codes, ℤ, List, [], ◌∷◌, map, Option, Some}
+use Rattle.std.specs.Prelude.{None, option_and_then, Result, Ok, Err, bytes_eq}
 use Rattle.std.specs.List.{list_all, list_any}
 use Rattle.toml.specs.Data.{Data, Items, Members, as_integer, as_array}
 use Rattle.dg_netcfg.specs.Document.{document_of, keys_of, list_of, integer_at, array_at, within, two_of, all_of}
@@ -17,7 +18,8 @@ three (Some motes) (Some port) None = None
 three (Some motes) None links = None
 three None port links = None
 
--- the number of motes, the port and the entries of `links`, where the keys are exactly these, two with a whole number and one with an array
+-- the number of motes, the port and the entries of `links`, where the keys are exactly these,
+-- two with a whole number and one with an array
 abbrev pub fields_of : Members → Option (ℤ × ℤ × Items)
 fields_of document =
     if list_all is_key (keys_of document)
@@ -28,14 +30,15 @@ fields_of document =
 abbrev pub mote_of : ℕ → Data → Option ℕ
 mote_of motes value = option_and_then (within 0 (motes - 1)) (as_integer value)
 
-abbrev pub joined : Option ℕ → Option ℕ → Option (ℕ × ℕ)
-joined (Some a) (Some b) = if a == b then None else Some (a, b)
-joined (Some a) None = None
-joined None b = None
+abbrev pub link_between : Option ℕ → Option ℕ → Option (ℕ × ℕ)
+link_between (Some a) (Some b) = if a == b then None else Some (a, b)
+link_between (Some a) None = None
+link_between None b = None
 
 -- the link that an entry is: an array of exactly two motes, which differ
 abbrev pub link_of : ℕ → Data → Option (ℕ × ℕ)
-link_of motes entry = option_and_then (λ ends. joined (mote_of motes ends.0) (mote_of motes ends.1)) (option_and_then two_of (as_array entry))
+link_of motes entry =
+    option_and_then (λ ends. link_between (mote_of motes ends.0) (mote_of motes ends.1)) (option_and_then two_of (as_array entry))
 
 -- the two links join the same motes, in either order
 abbrev pub is_same_link : ℕ × ℕ → ℕ × ℕ → Bool

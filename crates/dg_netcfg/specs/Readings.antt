@@ -36,7 +36,8 @@ IsWithin least most z n = (z ≡ pos n) × (least ≤ n) × (n ≤ most)
 
 -- the entry is an array of exactly two whole numbers, those of two different motes
 abbrev pub IsLink : ℕ → Data → ℕ × ℕ → Type 0
-IsLink motes entry l = (entry ≡ array (item (integer (pos l.0)) (item (integer (pos l.1)) no_items))) × (l.0 < motes) × (l.1 < motes) × (l.0 ≢ l.1)
+IsLink motes entry l =
+    (entry ≡ array (item (integer (pos l.0)) (item (integer (pos l.1)) no_items))) × (l.0 < motes) × (l.1 < motes) × (l.0 ≢ l.1)
 
 -- two links join the same motes, in either order
 abbrev pub IsSameLink : ℕ × ℕ → ℕ × ℕ → Type 0
@@ -57,12 +58,17 @@ pub record IsAllowed (p : NetProfile) : Type 0 where
 -- Nothing is said where memory ran out.
 abbrev pub IsReading : List ℕ → Result NetProfile ProfileFault → Type 0
 IsReading b (Err NotToml) = (document : Members) → IsDocument b document → ⊥
-IsReading b (Err Key) = (document : Members) × IsDocument b document × ((motes port : ℤ) (entries : Items) → HasFields b motes port entries → ⊥)
-IsReading b (Err Id) = (motes : ℤ) × (port : ℤ) × (entries : Items) × HasFields b motes port entries × ((n : ℕ) → IsWithin 1 most_motes motes n → ⊥)
-IsReading b (Err Link) = (motes : ℤ) × (port : ℤ) × (entries : Items) × (n : ℕ) × HasFields b motes port entries × IsWithin 1 most_motes motes n
+IsReading b (Err Key) =
+    (document : Members) × IsDocument b document × ((motes port : ℤ) (entries : Items) → HasFields b motes port entries → ⊥)
+IsReading b (Err Id) =
+    (motes : ℤ) × (port : ℤ) × (entries : Items) × HasFields b motes port entries × ((n : ℕ) → IsWithin 1 most_motes motes n → ⊥)
+IsReading b (Err Link) = (motes : ℤ) × (port : ℤ) × (entries : Items) × (n : ℕ) × HasFields b motes port entries
+    × IsWithin 1 most_motes motes n
     × ((links : List (ℕ × ℕ)) → AreLinks n entries links → ⊥)
-IsReading b (Err Port) = (motes : ℤ) × (port : ℤ) × (entries : Items) × (n : ℕ) × (links : List (ℕ × ℕ)) × HasFields b motes port entries × IsWithin 1 most_motes motes n
+IsReading b (Err Port) = (motes : ℤ) × (port : ℤ) × (entries : Items) × (n : ℕ) × (links : List (ℕ × ℕ))
+    × HasFields b motes port entries × IsWithin 1 most_motes motes n
     × AreLinks n entries links × ((k : ℕ) → IsWithin least_port greatest_port port k → ⊥)
 IsReading b (Err Memory) = Unit {0}
-IsReading b (Ok p) = (motes : ℤ) × (port : ℤ) × (entries : Items) × HasFields b motes port entries × IsWithin 1 most_motes motes p.motes
+IsReading b (Ok p) = (motes : ℤ) × (port : ℤ) × (entries : Items) × HasFields b motes port entries
+    × IsWithin 1 most_motes motes p.motes
     × AreLinks p.motes entries p.links × IsWithin least_port greatest_port port p.port

@@ -8,9 +8,13 @@ use Rattle.dg_seed.specs.declared.Words.{Words}
 abbrev pub generator_of : Words → Lcg
 generator_of w = w.generator
 
+-- the generator before the first word of a seed
+abbrev pub first_generator : ℕ → Lcg
+first_generator seed = pcg32_of_seed (pcg32_seed 16 seed)
+
 -- the generator behind n words
 unfoldable pub generator_after : (seed n : ℕ) → Lcg
-generator_after seed zero = pcg32_of_seed (pcg32_seed 16 seed)
+generator_after seed zero = first_generator seed
 generator_after seed (suc n) = (pcg32 (generator_after seed n)).1
 
 -- word n of a seed, from 0 on

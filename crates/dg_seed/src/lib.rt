@@ -3,7 +3,7 @@
 
 ghost use Rattle.std.specs.Prelude.{◌≡◌, ℕ, suc};
 ghost use Rattle.rand_pcg.specs.Pcg.{pcg32};
-ghost use Rattle.dg_seed.specs.Words.{generator_of, generator_after, word_of};
+ghost use Rattle.dg_seed.specs.Words.{generator_of, first_generator, generator_after, word_of};
 
 use rand_core::SeedableRng;
 use rand_core::utils::NextWord;
@@ -19,7 +19,8 @@ pub struct Words {
 impl Words {
     /// All words of a seed.
     pub fn of_seed(seed: u32) -> Words
-        ensures { generator_of result ≡ generator_after seed 0 }
+        ensures first { generator_of result ≡ first_generator seed }
+        ensures undrawn { generator_of result ≡ generator_after seed 0 }
     {
         Words {
             generator: Lcg64Xsh32::seed_from_u64(u64::from(seed)),
@@ -30,7 +31,8 @@ impl Words {
     pub fn next(&mut self) -> u32
         ensures step { (result, generator_of self.new) ≡ pcg32 (generator_of self.old) }
         ensures word { (seed n : ℕ) → generator_of self.old ≡ generator_after seed n → result ≡ word_of seed n }
-        ensures behind { (seed n : ℕ) → generator_of self.old ≡ generator_after seed n → generator_of self.new ≡ generator_after seed (suc n) }
+        ensures behind { (seed n : ℕ) → generator_of self.old ≡ generator_after seed n
+            → generator_of self.new ≡ generator_after seed (suc n) }
     {
         self.generator.next_word()
     }

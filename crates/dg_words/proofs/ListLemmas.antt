@@ -7,7 +7,7 @@ use Rattle.std.proofs.Math.Nat.{sub-zero}
 use Rattle.std.proofs.lemmas.List.{length-replicate, get_or-replicate, get_or_append_left, get_or-append_right, take_at, drop_at, drop-replicate, append-nil, take-append-le, take_all, drop_all, drop-drop}
 use Rattle.std.proofs.lemmas.List.FromFn.{length-map-range_with_len, get_or-map-range_with_len}
 use borrow.Rule.Slice.PartMut.{put_mid, post_of}
-use Rattle.dg_words.specs.Lists.{tabulate, padded, joined}
+use Rattle.dg_words.specs.Lists.{tabulate, padded, concatenated}
 
 pub length-padded : (n x : ℕ) (xs : List ℕ) → length xs ≤ n → length (padded n x xs) ≡ n
 unfolding padded
@@ -118,11 +118,11 @@ chunk_step s x a bytes chunk rest low is behind =
 
 -- Bytes in chunks of s: joined, and without the filling, they are the bytes again.
 pub joined_chunks : (s x : ℕ) (f : ℕ → List ℕ) (bytes : List ℕ) (a m : ℕ) → ((p : ℕ) → 1 ≤ p → f p ≡ padded s x (take s (drop ((p - 1) * s) bytes)))
-    → 1 ≤ a → length bytes ≤ (a - 1 + m) * s → take (length bytes - (a - 1) * s) (joined (map f (range_with_len a m))) ≡ drop ((a - 1) * s) bytes
+    → 1 ≤ a → length bytes ≤ (a - 1 + m) * s → take (length bytes - (a - 1) * s) (concatenated (map f (range_with_len a m))) ≡ drop ((a - 1) * s) bytes
 joined_chunks s x f bytes a zero each low room =
     take_all (length bytes - (a - 1) * s) [] (omega arith) ∙ sym (drop_all ((a - 1) * s) bytes (omega arith))
 joined_chunks s x f bytes a (suc m) each low room =
-    chunk_step s x a bytes (f a) (joined (map f (range_with_len (a + 1) m))) low (each a low)
+    chunk_step s x a bytes (f a) (concatenated (map f (range_with_len (a + 1) m))) low (each a low)
     (joined_chunks s x f bytes (a + 1) m each (omega arith) (subst P (ap (λ (n : ℕ). n * s) count) room))
   where
     P : ℕ → Type 0

@@ -11,5 +11,5 @@ unfoldable pub padded : ℕ → ℕ → List ℕ → List ℕ
 padded n x xs = xs ++ replicate (n - length xs) x
 
 -- the lists one after the other
-abbrev pub joined : List (List ℕ) → List ℕ
-joined xss = flat_map (λ xs. xs) xss
+abbrev pub concatenated : List (List ℕ) → List ℕ
+concatenated xss = flat_map (λ xs. xs) xss

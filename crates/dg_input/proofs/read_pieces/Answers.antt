@@ -12,7 +12,7 @@ returns-in_err-came-clause-taken g c =
     let before = c.loop-count.invariant.0 in
     let piece = c.in_err-came.ensures.taken in (
       before.0 ++ piece.0,
-      Takes-join (left c.args.source.now) (left c.loop-count.source) (left c.read_piece.new.source) before.0 piece.0 before.1 piece.1,
+      Takes-join (left c.args.source.now) (left c.loop-count.source) (left c.feed_piece.new.source) before.0 piece.0 before.1 piece.1,
       omega (arith, length-append before.0 piece.0, before.2, piece.2, c.loop-count.invariant.2),
       IfOk-from_err c.from_residual.result _ c.from_residual.ensures.0,
     )
@@ -24,7 +24,7 @@ loop-count-preserved g c =
     let piece = c.in_ok-came.ensures.taken in (
       (
         before.0 ++ piece.0,
-        Takes-join (left c.args.source.now) (left c.loop-count.source) (left c.read_piece.new.source) before.0 piece.0 before.1 piece.1,
+        Takes-join (left c.args.source.now) (left c.loop-count.source) (left c.feed_piece.new.source) before.0 piece.0 before.1 piece.1,
         omega (arith, length-append before.0 piece.0, before.2, piece.3),
         piece.4 before.0 before.3 (omega (arith, before.2, c.loop-count.invariant.2)),
       ),

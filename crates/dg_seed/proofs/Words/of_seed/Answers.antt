@@ -1,7 +1,10 @@
-use Rattle.std.proofs.Common.{ℕ, ap, ◌∙◌}
-use Rattle.dg_seed.specs.Words.{generator_after}
+use Rattle.std.proofs.Common.{ap, ◌∙◌}
+use Rattle.dg_seed.specs.Words.{first_generator, generator_after}
 use Rattle.dg_seed.proofs.Words.of_seed.Goals as goal
 
-pub returns : goal.returns
+pub returns-clause-first : goal.returns-clause-first
+returns-clause-first c = c.seed_from_u64.ensures ∙ ap first_generator c.from.ensures
+
+pub returns-clause-undrawn : goal.returns-clause-undrawn
 unfolding generator_after
-returns c = c.seed_from_u64.ensures ∙ ap (λ (n : ℕ). generator_after n 0) c.from.ensures
+returns-clause-undrawn c = c.seed_from_u64.ensures ∙ ap first_generator c.from.ensures
