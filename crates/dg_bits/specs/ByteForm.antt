@@ -1,5 +1,6 @@
 -- A set of numbers as bytes: number n is bit 7 − (n mod 8) of byte n / 8, so the first bit is the highest of the first byte.
-use Rattle.std.specs.Prelude.{◌≡◌, ℕ, ◌+◌, ◌-◌, ◌*◌, ◌/◌, ◌%◌, ◌≤◌, ◌<◌, Bool, false, ◌==◌, if◌then◌else◌, List, map, filter, length, slice_index}
+use Rattle.std.specs.Prelude.{◌≡◌, ℕ, ◌+◌, ◌-◌, ◌*◌, ◌/◌, ◌%◌, ◌≤◌, ◌<◌, Bool, false, ◌==◌, if◌then◌else◌, List, map, filter}
+use Rattle.std.specs.Prelude.{length, slice_index}
 use Rattle.std.specs.List.{range_with_len}
 use Rattle.std.specs.Int.{bit_at}
 use Rattle.std.specs.FinSet as set

@@ -1,5 +1,6 @@
 -- What the models of sets owe: sets with the same numbers are equal, and bytes are the byte form of the set that they make.
-use Rattle.std.proofs.Common.{◌≡◌, ℕ, zero, suc, ◌+◌, ◌-◌, ◌*◌, ◌/◌, ◌%◌, ◌<◌, ◌≤◌, Bool, true, false, Decides, ◌&&◌, ◌||◌, cond, List, length, get_or, eqb, leb, ltb, refl, sym, ap, ◌∙◌, inl, inr, arith}
+use Rattle.std.proofs.Common.{◌≡◌, ℕ, zero, suc, ◌+◌, ◌-◌, ◌*◌, ◌/◌, ◌%◌, ◌<◌, ◌≤◌, Bool, true, false, Decides, ◌&&◌, ◌||◌, cond}
+use Rattle.std.proofs.Common.{List, length, get_or, eqb, leb, ltb, refl, sym, ap, ◌∙◌, inl, inr, arith}
 use Rattle.std.proofs.lemmas.Bool.{and_parts, and_from, cases_lt, eqb-true, false≢true}
 use Rattle.std.proofs.lemmas.Bool.Decides.{nat_tests}
 use Rattle.std.proofs.lemmas.List.{get_or_past}
@@ -23,7 +24,8 @@ unfolding same
 same_decides s t = (
   λ is.
       let parts = and_parts _ _ is in
-      same_numbers s t (λ q. same_tests _ _ (set.is_subset-contains nat_cmp_total s t parts.0 q) (set.is_subset-contains nat_cmp_total t s parts.1 q)),
+      same_numbers s t (λ q. same_tests _ _ (set.is_subset-contains nat_cmp_total s t parts.0 q)
+      (set.is_subset-contains nat_cmp_total t s parts.1 q)),
   λ e.
       and_from _ _
       (set.contains-is_subset nat_cmp_total s t (λ q in_s. ap (λ u. set.contains u q) (sym e) ∙ in_s))
@@ -60,7 +62,8 @@ unfolding is_marked
 unmarked_past bytes n h = no_bit _ _ (get_or_past bytes (n / 8) 0 (omega arith))
 
 within_length : (len n : ℕ) (m : Bool) → (len ≤ n → m ≡ false) → (m && (leb 0 n && ltb n (0 + len))) ≡ m
-within_length len n true past = elim (cases_lt n len) [ inl h ↦ grind (arith, nat_tests) | inr h ↦ absurd (false≢true (sym (past h))) ]
+within_length len n true past = elim (cases_lt n len)
+    [ inl h ↦ grind (arith, nat_tests) | inr h ↦ absurd (false≢true (sym (past h))) ]
 within_length len n false past = refl
 
 -- a number is in the set of some bytes exactly where its bit is set
@@ -72,17 +75,18 @@ contains-numbers_of bytes n =
     ∙ ap (λ b. is_marked bytes n && b) (any_in_range 0 (8 * length bytes) n)
     ∙ within_length (8 * length bytes) n (is_marked bytes n) (unmarked_past bytes n)
 
--- the bits of a sum of eight weights
-abbrev pub weights : ℕ → ℕ → ℕ → ℕ → ℕ → ℕ → ℕ → ℕ → ℕ
-weights a b c d e f g h = 128 * a + 64 * b + 32 * c + 16 * d + 8 * e + 4 * f + 2 * g + h
+-- eight bits as a number, the highest first
+abbrev pub weights : (ℕ → ℕ) → ℕ
+weights bit = 128 * bit 0 + 64 * bit 1 + 32 * bit 2 + 16 * bit 3 + 8 * bit 4 + 4 * bit 5 + 2 * bit 6 + bit 7
 
-eight_bits : (b : ℕ) → b < 256 → b ≡ weights (bit_at b 7) (bit_at b 6) (bit_at b 5) (bit_at b 4) (bit_at b 3) (bit_at b 2) (bit_at b 1) (bit_at b 0)
+eight_bits : (b : ℕ) → b < 256 → b ≡ weights (λ r. bit_at b (7 - r))
 eight_bits b h = omega arith
 
 bit_back : (x : ℕ) → x < 2 → cond (eqb x 1) 1 0 ≡ x
 bit_back x h = grind (arith, nat_tests)
 
-bit_of-placed : (bytes : List ℕ) (n k r : ℕ) → n / 8 ≡ k → n % 8 ≡ r → bit_of (numbers_of bytes) n ≡ bit_at (get_or bytes k 0) (7 - r)
+bit_of-placed : (bytes : List ℕ) (n k r : ℕ) → n / 8 ≡ k → n % 8 ≡ r
+    → bit_of (numbers_of bytes) n ≡ bit_at (get_or bytes k 0) (7 - r)
 unfolding is_marked
 bit_of-placed bytes n k r place at =
     ap (λ b. cond b 1 0) (contains-numbers_of bytes n)
@@ -103,12 +107,16 @@ byte_of-numbers_of bytes k h =
     let e5 = bit_of-numbers_of bytes k 5 (omega arith) in
     let e6 = bit_of-numbers_of bytes k 6 (omega arith) in
     let e7 = bit_of-numbers_of bytes k 7 (omega arith) in
-    eight_bits (get_or bytes k 0) h ∙ sym (λ i. weights ((ap (bit_of (numbers_of bytes)) first ∙ e0) i) (e1 i) (e2 i) (e3 i) (e4 i) (e5 i) (e6 i) (e7 i))
+    eight_bits (get_or bytes k 0) h
+    ∙ sym (λ i. 128 * (ap (bit_of (numbers_of bytes)) first ∙ e0) i + 64 * e1 i + 32 * e2 i + 16 * e3 i + 8 * e4 i + 4 * e5
+    i + 2 * e6 i + e7 i)
   where
     first : 8 * k ≡ 8 * k + 0
     first = omega arith
 
 -- bytes are the byte form of the set that they make
-pub byte_form-numbers_of : (bytes : List ℕ) (width : ℕ) → length bytes ≡ width → ((k : ℕ) → k < width → get_or bytes k 0 < 256) → byte_form width (numbers_of bytes) ≡ bytes
+pub byte_form-numbers_of : (bytes : List ℕ) (width : ℕ) → length bytes ≡ width
+    → ((k : ℕ) → k < width → get_or bytes k 0 < 256) → byte_form width (numbers_of bytes) ≡ bytes
 unfolding byte_form
-byte_form-numbers_of bytes width e fit = sym (fill_by_all (byte_of (numbers_of bytes)) bytes width 0 e (λ k h. byte_of-numbers_of bytes k (fit k h)))
+byte_form-numbers_of bytes width e fit = sym (fill_by_all (byte_of (numbers_of bytes)) bytes width 0 e
+    (λ k h. byte_of-numbers_of bytes k (fit k h)))

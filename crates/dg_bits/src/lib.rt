@@ -4,7 +4,8 @@
 //! headers carry: number n is bit 7 − (n mod 8) of byte n / 8.
 #![tactic(auto)]
 
-ghost use Rattle.std.specs.Prelude.{◌≡◌, ◌≢◌, ℕ, ◌+◌, ◌-◌, ◌*◌, ◌/◌, ◌%◌, ◌<◌, ◌≤◌, ◌↔◌, true, List, Some, length, IsNone, IfSome, IsTrue, MatchOption, slice_index, bit_or};
+ghost use Rattle.std.specs.Prelude.{◌≡◌, ◌≢◌, ℕ, ◌+◌, ◌-◌, ◌*◌, ◌/◌, ◌%◌, ◌<◌, ◌≤◌, ◌↔◌, true, List, Some, length, IsNone};
+ghost use Rattle.std.specs.Prelude.{IfSome, IsTrue, MatchOption, slice_index, bit_or};
 ghost use Rattle.std.specs.FinSet as set;
 ghost use Rattle.std.specs.Int.{bit_at};
 ghost use Rattle.dg_bits.specs.Sets.{Numbers, below, AllBelow, IsLeast, least};

@@ -16,8 +16,8 @@ use Rattle.dg_bits.specs.ByteForm.{byte_form, byte_of, numbers_of}
 use Rattle.dg_bits.proofs.ByteFormLaws.{unmarked_past, AllBelow-packed, length-byte_form, numbers_of-byte_form, byte_form-numbers_of, byte_of-fits}
 use Rattle.dg_control.specs.Snapshot.{order_bytes}
 use Rattle.dg_control.specs.declared.snapshot.Order.{Order}
-use Rattle.dg_frame.specs.Sizes.{advert_kind, request_kind, packet_kind, wide_kind, shortest, narrow_images, wide_images, known_images, places, first_entry, order_place, entry_size, order_size, set_bytes, packet_size, last_packet, advert_frame_size, request_frame_size, packet_frame_size, wide_frame_size}
-use Rattle.dg_frame.specs.Grammar.{half_at, word_at, entry_at, order_at, entries_in, advert_in, request_in, packet_in, wide_in, kind_of, in_range, entry_fits, order_in_frame, page_fits}
+use Rattle.dg_frame.specs.Sizes.{advert_kind, request_kind, packet_kind, wide_kind, shortest, narrow_images, wide_images, known_images, entry_places, first_entry, order_place, entry_size, order_size, set_bytes, packet_size, last_packet, advert_frame_size, request_frame_size, packet_frame_size, wide_frame_size}
+use Rattle.dg_frame.specs.Grammar.{half_at, word_at, entry_in_frame, order_at, entries_in, advert_in, request_in, packet_in, wide_in, kind_of, in_range, entry_fits, order_in_frame, page_fits}
 use Rattle.dg_frame.specs.Ranges.{TellsVersion, NamesImage, OrderInRange, IsInRange}
 use Rattle.dg_frame.specs.Readings.{IsChecked, IsReading}
 use Rattle.dg_frame.specs.Spelling.{entry_bytes, advert_bytes, unchecked, frame_of, EntryFitsTypes, AdvertFits, FitsTypes}
@@ -58,7 +58,7 @@ part_behind : (b xs ys : List ℕ) (p m q n k : ℕ) → xs ≡ part b p m → y
 part_behind b xs ys p m q n k x y e f l =
     ap (λ zs. zs ++ ys) x ∙ ap (λ zs. part b p m ++ zs) (y ∙ ap (λ r. part b r n) (sym e)) ∙ part-append-part b p m n (omega arith) ∙ ap (part b p) f
 
-entry_part : (b : List ℕ) (p : ℕ) → AreBytes b → p + 8 ≤ length b → entry_bytes (entry_at b p) ≡ part b p 8
+entry_part : (b : List ℕ) (p : ℕ) → AreBytes b → p + 8 ≤ length b → entry_bytes (entry_in_frame b p) ≡ part b p 8
 entry_part b p h l =
     part_behind b _ _ p 4 (p + 4) 4 8 (word_part b p h (omega arith))
     (byte_before b _ (p + 4) (p + 5) 3 (omega arith) (omega arith) (byte_before b _ (p + 5) (p + 6) 2 (omega arith) (omega arith) (half_part b (p + 6) h (omega arith))))
@@ -74,7 +74,7 @@ no_part : (b : List ℕ) (p : ℕ) → [] ≡ part b p 0
 unfolding part
 no_part b p = refl
 
-entries_part : (b : List ℕ) (p n : ℕ) → AreBytes b → p + 8 * n ≤ length b → flat_map entry_bytes (map (entry_at b) (places p n)) ≡ part b p (8 * n)
+entries_part : (b : List ℕ) (p n : ℕ) → AreBytes b → p + 8 * n ≤ length b → flat_map entry_bytes (map (entry_in_frame b) (entry_places p n)) ≡ part b p (8 * n)
 entries_part b p zero h l = no_part b p
 entries_part b p (suc n) h l =
     part_behind b _ _ p 8 (p + 8) (8 * n) (8 * suc n) (entry_part b p h (omega arith)) (entries_part b (p + 8) n h (omega arith)) refl (omega arith) l
@@ -146,11 +146,11 @@ spelled b wide m h r =
 
 -- ---- what was read fits the types
 
-length_places : (at n : ℕ) → length (places at n) ≡ n
+length_places : (at n : ℕ) → length (entry_places at n) ≡ n
 length_places at zero = refl
 length_places at (suc n) = ap suc (length_places (at + entry_size) n)
 
-entries_fit : (b ps : List ℕ) → AreBytes b → AllByRecursion EntryFitsTypes (map (entry_at b) ps)
+entries_fit : (b ps : List ℕ) → AreBytes b → AllByRecursion EntryFitsTypes (map (entry_in_frame b) ps)
 entries_fit b [] h = tt
 entries_fit b (p ∷ ps) h = (record { version = word_small b p h; crc = half_small b (p + 6) h }, entries_fit b ps h)
 
@@ -163,7 +163,7 @@ FitsAgain b k = length b ≡ k.0 → FitsTypes (k.1 b)
 advert_fits : (b : List ℕ) (n : ℕ) → AreBytes b → AdvertFits n (half_at b 1) (entries_in n b) (order_at b (order_place n))
 unfolding entries_in
 advert_fits b n h =
-    (half_small b 1 h, length-map (places first_entry n) (entry_at b) ∙ length_places first_entry n, entries_fit b (places first_entry n) h, word_small b (order_place n) h, word_small b (order_place n + 5) h)
+    (half_small b 1 h, length-map (entry_places first_entry n) (entry_in_frame b) ∙ length_places first_entry n, entries_fit b (entry_places first_entry n) h, word_small b (order_place n) h, word_small b (order_place n + 5) h)
 
 read_fits : (b : List ℕ) (wide : Bool) (k : ℕ × (List ℕ → Message)) → AreBytes b → kind_of wide (slice_index b 0) ≡ Some k → FitsAgain b k
 read_fits b wide k h =
@@ -256,7 +256,7 @@ checked u h =
     let back : drop (length (u ++ to_be_bytes w16 crc) - 2) (u ++ to_be_bytes w16 crc) ≡ to_be_bytes w16 crc = ap (λ n. drop n (u ++ to_be_bytes w16 crc)) at ∙ drop_at u (to_be_bytes w16 crc) (length u) refl in
     ap (λ xs. from_be_bytes w16 (take 2 xs)) back ∙ from_be_bytes-to_be_bytes_2 crc small ∙ sym (ap crc_of front)
 
-entry_read : (b rest : List ℕ) (p : ℕ) (e : Entry) → EntryFitsTypes e → drop p b ≡ entry_bytes e ++ rest → entry_at b p ≡ e
+entry_read : (b rest : List ℕ) (p : ℕ) (e : Entry) → EntryFitsTypes e → drop p b ≡ entry_bytes e ++ rest → entry_in_frame b p ≡ e
 entry_read b rest p e f d =
     let version : word_at b p ≡ e.version = ap (λ xs. from_be_bytes w32 (take 4 xs)) d ∙ from_be_bytes-to_be_bytes_4 e.version f.version in
     let pages : slice_index b (p + 4) ≡ e.pages = sym (get_or-drop p b 4 0) ∙ ap (λ xs. get_or xs 4 0) d in
@@ -275,7 +275,7 @@ length_entries : (es : List Entry) → length (flat_map entry_bytes es) ≡ 8 * 
 length_entries [] = refl
 length_entries (e ∷ es) = length-append (entry_bytes e) (flat_map entry_bytes es) ∙ omega (arith, length_entries es)
 
-entries_read : (b rest : List ℕ) (p : ℕ) (es : List Entry) → AllByRecursion EntryFitsTypes es → drop p b ≡ flat_map entry_bytes es ++ rest → map (entry_at b) (places p (length es)) ≡ es
+entries_read : (b rest : List ℕ) (p : ℕ) (es : List Entry) → AllByRecursion EntryFitsTypes es → drop p b ≡ flat_map entry_bytes es ++ rest → map (entry_in_frame b) (entry_places p (length es)) ≡ es
 entries_read b rest p [] f d = refl
 entries_read b rest p (e ∷ es) f d =
     let here : drop p b ≡ entry_bytes e ++ (flat_map entry_bytes es ++ rest) = d ∙ append_assoc (entry_bytes e) (flat_map entry_bytes es) rest in
@@ -308,7 +308,7 @@ advert_fields kind n source entries order rest f =
     record {
       long = omega (arith, many, length-append (head ++ flat_map entry_bytes entries) (order_bytes order), length-append head (flat_map entry_bytes entries));
       from = from_be_bytes-to_be_bytes_2 source f.0;
-      told = ap (λ k. map (entry_at (u ++ rest)) (places first_entry k)) (sym f.1) ∙ entries_read (u ++ rest) (order_bytes order ++ rest) 3 entries f.2 d;
+      told = ap (λ k. map (entry_in_frame (u ++ rest)) (entry_places first_entry k)) (sym f.1) ∙ entries_read (u ++ rest) (order_bytes order ++ rest) 3 entries f.2 d;
       of = order_read (u ++ rest) rest (order_place n) order f.3 f.4 last;
     }
 

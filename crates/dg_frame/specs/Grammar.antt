@@ -1,13 +1,17 @@
--- The message that bytes spell for a reader that is wide or narrow, or why they spell none: by their length, their kind, that kind's length, the CRC, and the
--- ranges of the fields.
-use Rattle.std.specs.Prelude.{ℕ, ◌+◌, ◌-◌, ◌==◌, ◌&&◌, ◌||◌, not, nat_le, nat_lt, Bool, if◌then◌else◌, List, length, take, drop, map, slice_index, Option, Some, None, Result, Ok, Err}
+-- The message that bytes spell for a reader that is wide or narrow, or why they spell none: by their length, their kind,
+-- that kind's length, the CRC, and the ranges of the fields.
+use Rattle.std.specs.Prelude.{ℕ, ◌+◌, ◌-◌, ◌==◌, ◌&&◌, ◌||◌, not, nat_le, nat_lt, Bool, if◌then◌else◌, List, length, take, drop}
+use Rattle.std.specs.Prelude.{map, slice_index, Option, Some, None, Result, Ok, Err}
 use Rattle.std.specs.List.{list_all}
 use Rattle.std.specs.Int.{from_be_bytes, w16, w32}
 use Rattle.std.specs.FinSet as set
 use Rattle.dg_base.specs.Crc.{crc_of}
 use Rattle.dg_bits.specs.ByteForm.{numbers_of}
 use Rattle.dg_control.specs.declared.snapshot.Order.{Order}
-use Rattle.dg_frame.specs.Sizes.{advert_kind, request_kind, packet_kind, wide_kind, shortest, narrow_images, wide_images, known_images, places, first_entry, order_place, last_page, last_packet, packet_size, set_bytes, fewest_pages, most_pages, advert_frame_size, request_frame_size, packet_frame_size, wide_frame_size}
+use Rattle.dg_frame.specs.Sizes.{advert_kind, request_kind, packet_kind, wide_kind, shortest, narrow_images, wide_images}
+use Rattle.dg_frame.specs.Sizes.{known_images, entry_places, first_entry, order_place, last_page, last_packet, packet_size}
+use Rattle.dg_frame.specs.Sizes.{set_bytes, fewest_pages, most_pages, advert_frame_size, request_frame_size, packet_frame_size}
+use Rattle.dg_frame.specs.Sizes.{wide_frame_size}
 use Rattle.dg_frame.specs.declared.Entry.{Entry}
 use Rattle.dg_frame.specs.declared.Message.{Message}
 use Rattle.dg_frame.specs.declared.Message.TheVariants.{Advert, Request, Packet, Wide}
@@ -22,24 +26,31 @@ half_at b at = from_be_bytes w16 (take 2 (drop at b))
 abbrev pub word_at : List ℕ → ℕ → ℕ
 word_at b at = from_be_bytes w32 (take 4 (drop at b))
 
-abbrev pub entry_at : List ℕ → ℕ → Entry
-entry_at b at = record { version = word_at b at; pages = slice_index b (at + 4); have = slice_index b (at + 5); crc = half_at b (at + 6) }
+abbrev pub entry_in_frame : List ℕ → ℕ → Entry
+entry_in_frame b at = record {
+  version = word_at b at;
+  pages = slice_index b (at + 4);
+  have = slice_index b (at + 5);
+  crc = half_at b (at + 6);
+}
 
 abbrev pub order_at : List ℕ → ℕ → Order
 order_at b at = record { number = word_at b at; image = slice_index b (at + 4); version = word_at b (at + 5) }
 
 -- so many entries
 unfoldable pub entries_in : (count : ℕ) → List ℕ → List Entry
-entries_in n b = map (entry_at b) (places first_entry n)
+entries_in n b = map (entry_in_frame b) (entry_places first_entry n)
 
 abbrev pub advert_in : List ℕ → Message
 advert_in b = Advert (half_at b 1) (entries_in narrow_images b) (order_at b (order_place narrow_images))
 
 abbrev pub request_in : List ℕ → Message
-request_in b = Request (half_at b 1) (half_at b 3) (slice_index b 5) (word_at b 6) (slice_index b 10) (numbers_of (take set_bytes (drop 11 b)))
+request_in b = Request (half_at b 1) (half_at b 3) (slice_index b 5) (word_at b 6) (slice_index b 10)
+    (numbers_of (take set_bytes (drop 11 b)))
 
 abbrev pub packet_in : List ℕ → Message
-packet_in b = Packet (half_at b 1) (slice_index b 3) (word_at b 4) (slice_index b 8) (slice_index b 9) (take packet_size (drop 10 b))
+packet_in b = Packet (half_at b 1) (slice_index b 3) (word_at b 4) (slice_index b 8) (slice_index b 9)
+    (take packet_size (drop 10 b))
 
 abbrev pub wide_in : List ℕ → Message
 wide_in b = Wide (half_at b 1) (entries_in wide_images b) (order_at b (order_place wide_images))
@@ -63,8 +74,10 @@ page_fits images image version page = nat_le 1 image && nat_le image images && n
 -- a narrow reader has no wide adverts
 unfoldable pub in_range : (wide : Bool) → Message → Bool
 in_range wide (Advert source entries order) = list_all entry_fits entries && order_in_frame narrow_images order
-in_range wide (Request source to image version page want) = page_fits (known_images wide) image version page && not (set.len want == 0)
-in_range wide (Packet source image version page packet bytes) = page_fits (known_images wide) image version page && nat_le packet last_packet
+in_range wide (Request source to image version page want) =
+    page_fits (known_images wide) image version page && not (set.len want == 0)
+in_range wide (Packet source image version page packet bytes) =
+    page_fits (known_images wide) image version page && nat_le packet last_packet
 in_range wide (Wide source entries order) = wide && (list_all entry_fits entries && order_in_frame wide_images order)
 
 -- ---- the grammar

@@ -43,6 +43,8 @@ pub record PageInRange (images image version page : ℕ) : Type 0 where
 -- each field is in its range for a reader that is wide or narrow. Sources and destinations are any
 abbrev pub IsInRange : (wide : Bool) → Message → Type 0
 IsInRange wide (Advert source entries order) = All EntryInRange entries × OrderInRange narrow_images order
-IsInRange wide (Request source to image version page want) = PageInRange (known_images wide) image version page × (want ≢ set.empty)
-IsInRange wide (Packet source image version page packet bytes) = PageInRange (known_images wide) image version page × (packet ≤ last_packet)
+IsInRange wide (Request source to image version page want) = PageInRange (known_images wide) image version page
+    × (want ≢ set.empty)
+IsInRange wide (Packet source image version page packet bytes) = PageInRange (known_images wide) image version page
+    × (packet ≤ last_packet)
 IsInRange wide (Wide source entries order) = (wide ≡ true) × (All EntryInRange entries × OrderInRange wide_images order)

@@ -21,6 +21,9 @@ abbrev pub IsReading : List ℕ → (wide : Bool) → Result Message FrameFault 
 IsReading b wide (Err Short) = length b < shortest
 IsReading b wide (Err Kind) = (shortest ≤ length b) × (kind_of wide (slice_index b 0) ≡ None)
 IsReading b wide (Err Length) = (size : ℕ) × (fields : List ℕ → Message) × IsOfKind b wide size fields × (length b ≢ size)
-IsReading b wide (Err Check) = (size : ℕ) × (fields : List ℕ → Message) × IsOfKind b wide size fields × (length b ≡ size) × ¬ IsChecked b
-IsReading b wide (Err Range) = (size : ℕ) × (fields : List ℕ → Message) × IsOfKind b wide size fields × (length b ≡ size) × IsChecked b × ¬ IsInRange wide (fields b)
-IsReading b wide (Ok m) = (size : ℕ) × (fields : List ℕ → Message) × IsOfKind b wide size fields × (length b ≡ size) × IsChecked b × IsInRange wide m × (m ≡ fields b)
+IsReading b wide (Err Check) = (size : ℕ) × (fields : List ℕ → Message) × IsOfKind b wide size fields × (length b ≡ size)
+    × ¬ IsChecked b
+IsReading b wide (Err Range) = (size : ℕ) × (fields : List ℕ → Message) × IsOfKind b wide size fields × (length b ≡ size)
+    × IsChecked b × ¬ IsInRange wide (fields b)
+IsReading b wide (Ok m) = (size : ℕ) × (fields : List ℕ → Message) × IsOfKind b wide size fields × (length b ≡ size)
+    × IsChecked b × IsInRange wide m × (m ≡ fields b)

@@ -1,4 +1,5 @@
--- The bounds of frames. They are the frames' own: a chip may have more slots, and a volume more images. The format is of this profile.
+-- The bounds of frames. They are the frames' own: a chip may have more slots, and a volume more images.
+-- The format is of this profile.
 use Rattle.std.specs.Prelude.{ℕ, zero, suc, ◌+◌, ◌-◌, ◌*◌, Bool, if◌then◌else◌, List, [], ◌∷◌}
 use Rattle.dg_base.specs.Sizes.{longest_frame}
 pub use Rattle.dg_object.specs.Sizes.{packets, packet_size, fewest_pages, most_pages}
@@ -54,9 +55,9 @@ abbrev pub order_size : ℕ
 order_size = 9
 
 -- where so many entries begin, one behind the other, the first at this place
-abbrev pub places : (at count : ℕ) → List ℕ
-places at zero = []
-places at (suc n) = at ∷ places (at + entry_size) n
+abbrev pub entry_places : (at count : ℕ) → List ℕ
+entry_places at zero = []
+entry_places at (suc n) = at ∷ entry_places (at + entry_size) n
 
 -- the entries of an advert begin behind its kind and its source, and its order behind so many entries
 abbrev pub first_entry : ℕ

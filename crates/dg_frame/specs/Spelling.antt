@@ -7,7 +7,8 @@ use Rattle.dg_base.specs.Crc.{crc_of}
 use Rattle.dg_bits.specs.Sets.{AllBelow}
 use Rattle.dg_bits.specs.ByteForm.{byte_form}
 use Rattle.dg_control.specs.Snapshot.{order_bytes}
-use Rattle.dg_frame.specs.Sizes.{advert_kind, request_kind, packet_kind, wide_kind, narrow_images, wide_images, packet_size, set_bytes, last_packet}
+use Rattle.dg_frame.specs.Sizes.{advert_kind, request_kind, packet_kind, wide_kind, narrow_images, wide_images, packet_size}
+use Rattle.dg_frame.specs.Sizes.{set_bytes, last_packet}
 use Rattle.dg_control.specs.declared.snapshot.Order.{Order}
 use Rattle.dg_frame.specs.declared.Entry.{Entry}
 use Rattle.dg_frame.specs.declared.Message.{Message}
@@ -24,7 +25,8 @@ advert_bytes kind source entries order = kind ∷ to_be_bytes w16 source ++ flat
 abbrev pub unchecked : Message → List ℕ
 unchecked (Advert source entries order) = advert_bytes advert_kind source entries order
 unchecked (Request source to image version page want) =
-    request_kind ∷ to_be_bytes w16 source ++ to_be_bytes w16 to ++ image ∷ to_be_bytes w32 version ++ page ∷ byte_form set_bytes want
+    request_kind ∷ to_be_bytes w16 source ++ to_be_bytes w16 to ++ image ∷ to_be_bytes w32 version ++ page
+    ∷ byte_form set_bytes want
 unchecked (Packet source image version page packet bytes) =
     packet_kind ∷ to_be_bytes w16 source ++ image ∷ to_be_bytes w32 version ++ page ∷ packet ∷ bytes
 unchecked (Wide source entries order) = advert_bytes wide_kind source entries order
@@ -42,10 +44,13 @@ pub record EntryFitsTypes (e : Entry) : Type 0 where
 -- so many entries, and the order behind them
 abbrev pub AdvertFits : (count source : ℕ) → List Entry → Order → Type 0
 AdvertFits count source entries order =
-    (source < 2 ^ 16) × (length entries ≡ count) × AllByRecursion EntryFitsTypes entries × (order.number < 2 ^ 32) × (order.version < 2 ^ 32)
+    (source < 2 ^ 16) × (length entries ≡ count) × AllByRecursion EntryFitsTypes entries × (order.number < 2 ^ 32)
+    × (order.version < 2 ^ 32)
 
 abbrev pub FitsTypes : Message → Type 0
 FitsTypes (Advert source entries order) = AdvertFits narrow_images source entries order
-FitsTypes (Request source to image version page want) = (source < 2 ^ 16) × (to < 2 ^ 16) × (version < 2 ^ 32) × AllBelow (last_packet + 1) want
-FitsTypes (Packet source image version page packet bytes) = (source < 2 ^ 16) × (version < 2 ^ 32) × (length bytes ≡ packet_size) × AreBytes bytes
+FitsTypes (Request source to image version page want) = (source < 2 ^ 16) × (to < 2 ^ 16) × (version < 2 ^ 32)
+    × AllBelow (last_packet + 1) want
+FitsTypes (Packet source image version page packet bytes) = (source < 2 ^ 16) × (version < 2 ^ 32)
+    × (length bytes ≡ packet_size) × AreBytes bytes
 FitsTypes (Wide source entries order) = AdvertFits wide_images source entries order

@@ -7,7 +7,7 @@ ghost use Rattle.dg_control.specs.Snapshot.{order_bytes};
 ghost use Rattle.dg_bits.specs.Sets.{AllBelow};
 ghost use Rattle.dg_bits.specs.ByteForm.{numbers_of, byte_form};
 ghost use Rattle.dg_frame.specs.Sizes.{frame_bytes, packets, entry_size, order_size, set_bytes};
-ghost use Rattle.dg_frame.specs.Grammar.{half_at, word_at, entry_at, order_at};
+ghost use Rattle.dg_frame.specs.Grammar.{half_at, word_at, entry_in_frame, order_at};
 ghost use Rattle.dg_frame.specs.Spelling.{entry_bytes, EntryFitsTypes};
 
 use crate::{Entry, Frame, SET_BYTES};
@@ -32,7 +32,7 @@ pub(crate) fn word_at(bytes: &[u8], at: usize) -> u32
 
 pub(crate) fn entry_at(bytes: &[u8], at: usize) -> Entry
     requires { at + entry_size ≤ length bytes.now }
-    ensures { result ≡ entry_at bytes.now at }
+    ensures { result ≡ entry_in_frame bytes.now at }
 {
     Entry {
         version: word_at(bytes, at),

@@ -2,7 +2,7 @@
 ghost use Rattle.std.specs.Prelude.{◌≡◌};
 ghost use Rattle.std.specs.Option.{option_map};
 ghost use Rattle.dg_frame.specs.Grammar.{kind_of};
-ghost use Rattle.dg_frame.specs.Kinds.{number_of, row_of};
+ghost use Rattle.dg_frame.specs.Kinds.{kind_number, kind_row};
 
 /// The bytes of each kind of frame.
 pub(crate) const ADVERT_BYTES: usize = 38;
@@ -25,7 +25,7 @@ pub(crate) enum Kind {
 impl Kind {
     /// The kind with this number, for a reader that is wide or narrow.
     pub(crate) fn of(number: u8, wide: bool) -> Option<Kind>
-        ensures { option_map row_of result ≡ kind_of wide number }
+        ensures { option_map kind_row result ≡ kind_of wide number }
     {
         match number {
             1 => Some(Kind::Advert),
@@ -38,14 +38,14 @@ impl Kind {
 
     /// The first byte of its frames.
     pub(crate) fn number(self) -> u8
-        ensures { result ≡ number_of self }
+        ensures { result ≡ kind_number self }
     {
         self as u8
     }
 
     /// The bytes of its frames.
     pub(crate) fn size(self) -> usize
-        ensures { result ≡ (row_of self).0 }
+        ensures { result ≡ (kind_row self).0 }
     {
         match self {
             Kind::Advert => ADVERT_BYTES,

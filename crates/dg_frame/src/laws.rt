@@ -1,7 +1,8 @@
 //! What holds of messages and frames. These functions do nothing: their contracts are the laws.
 ghost use Rattle.std.specs.Prelude.{◌≡◌, ◌↔◌, ℕ, Bool, true, false, List, Result, Ok};
 ghost use Rattle.dg_words.specs.Cells.{AreBytes};
-ghost use Rattle.dg_frame.specs.Sizes.{frame_bytes, narrow_images, wide_images, set_bytes, fewest_pages, shortest, advert_frame_size, request_frame_size, packet_frame_size, wide_frame_size};
+ghost use Rattle.dg_frame.specs.Sizes.{frame_bytes, narrow_images, wide_images, set_bytes, fewest_pages, shortest};
+ghost use Rattle.dg_frame.specs.Sizes.{advert_frame_size, request_frame_size, packet_frame_size, wide_frame_size};
 ghost use Rattle.dg_frame.specs.declared.Message.{Message};
 ghost use Rattle.dg_frame.specs.declared.FrameFault.{FrameFault};
 ghost use Rattle.dg_frame.specs.Spelling.{frame_of, FitsTypes};

@@ -1,8 +1,9 @@
 //! From bytes to messages.
 ghost use Rattle.std.specs.Prelude.{◌≡◌, ◌==◌, ◌+◌, ◌-◌, ◌≤◌, length, take, IfOk};
 ghost use Rattle.dg_base.specs.Crc.{crc_of};
-ghost use Rattle.dg_frame.specs.Sizes.{advert_frame_size, request_frame_size, packet_frame_size, wide_frame_size, narrow_images, wide_images};
-ghost use Rattle.dg_frame.specs.Kinds.{row_of};
+ghost use Rattle.dg_frame.specs.Sizes.{advert_frame_size, request_frame_size, packet_frame_size, wide_frame_size, narrow_images};
+ghost use Rattle.dg_frame.specs.Sizes.{wide_images};
+ghost use Rattle.dg_frame.specs.Kinds.{kind_row};
 ghost use Rattle.dg_frame.specs.Spelling.{frame_of};
 ghost use Rattle.dg_frame.specs.Readings.{IsReading};
 ghost use Rattle.dg_frame.specs.Grammar.{half_at, entries_in, advert_in, request_in, packet_in, wide_in, message_of};
@@ -46,7 +47,7 @@ pub fn read(bytes: &[u8], wide: bool) -> Result<Message, FrameFault>
 
 /// Whether the last two bytes of a frame of a kind are the CRC of those before them.
 fn is_checked(kind: Kind, bytes: &[u8]) -> bool
-    requires { length bytes.now ≡ (row_of kind).0 }
+    requires { length bytes.now ≡ (kind_row kind).0 }
     ensures { result ≡ (half_at bytes.now (length bytes.now - 2) == crc_of (take (length bytes.now - 2) bytes.now)) }
 {
     match kind {
@@ -69,8 +70,8 @@ fn has_crc_at(bytes: &[u8], at: usize) -> bool
 
 /// The fields of a frame of a kind.
 fn fields(kind: Kind, bytes: &[u8]) -> Message
-    requires { length bytes.now ≡ (row_of kind).0 }
-    ensures { result ≡ (row_of kind).1 bytes.now }
+    requires { length bytes.now ≡ (kind_row kind).0 }
+    ensures { result ≡ (kind_row kind).1 bytes.now }
 {
     match kind {
         Kind::Advert => advert(bytes),

@@ -33,6 +33,50 @@ const WIDE: [u8; 62] = [
     6, 0, 0, 0, 7, 0x0B, 0xA0,
 ];
 
+/// A frame, a place in it, a byte that is put there, and whether the reader is wide: each is read.
+const FITTING: [(&[u8], usize, u8, bool); 8] = [
+    (&REQUEST, 16, 0, false),
+    (&REQUEST, 5, 6, true),
+    (&PACKET, 9, 0, false),
+    (&PACKET, 3, 6, true),
+    (&ADVERT, 16, 3, true),
+    (&ADVERT, 32, 7, false),
+    (&WIDE, 16, 3, true),
+    (&WIDE, 55, 0, true),
+];
+
+/// And each of these is out of its range.
+const UNFIT: [(&[u8], usize, u8, bool); 28] = [
+    (&REQUEST, 5, 0, true),
+    (&REQUEST, 5, 4, false),
+    (&REQUEST, 5, 7, true),
+    (&REQUEST, 9, 0, true),
+    (&REQUEST, 10, 65, false),
+    (&PACKET, 3, 0, true),
+    (&PACKET, 3, 4, false),
+    (&PACKET, 3, 7, true),
+    (&PACKET, 7, 0, false),
+    (&PACKET, 8, 65, true),
+    (&PACKET, 9, 48, false),
+    (&ADVERT, 3, 1, true),
+    (&ADVERT, 8, 1, false),
+    (&ADVERT, 9, 1, true),
+    (&ADVERT, 10, 1, false),
+    (&ADVERT, 15, 1, true),
+    (&ADVERT, 15, 66, false),
+    (&ADVERT, 16, 4, true),
+    (&ADVERT, 30, 0, false),
+    (&ADVERT, 31, 4, true),
+    (&ADVERT, 31, 4, false),
+    (&ADVERT, 35, 0, true),
+    (&WIDE, 3, 1, true),
+    (&WIDE, 47, 66, true),
+    (&WIDE, 48, 66, true),
+    (&WIDE, 54, 0, true),
+    (&WIDE, 55, 7, true),
+    (&WIDE, 59, 0, true),
+];
+
 /// A frame with one byte changed and the CRC made anew: whether a reader that is wide or narrow reads it.
 fn with_change(frame: &[u8], at: usize, byte: u8, wide: bool) -> Result<(), FrameFault> {
     let mut changed = Frame::new();
@@ -95,15 +139,15 @@ fn an_advert_is_read(rt: HostRuntime) {
     assert!(rt; read(&ADVERT, false) == read(&ADVERT, true));
 }
 
-#[test]
-fn a_wide_advert_is_read_by_wide_readers(rt: HostRuntime) {
+/// What `WIDE` spells.
+fn wide_advert() -> Message {
     let unused = Entry {
         version: 0,
         pages: 0,
         have: 0,
         crc: 0,
     };
-    let advert = Message::Wide {
+    Message::Wide {
         source: 2,
         entries: [
             unused,
@@ -128,8 +172,12 @@ fn a_wide_advert_is_read_by_wide_readers(rt: HostRuntime) {
             image: 6,
             version: 7,
         },
-    };
-    assert!(rt; read(&WIDE, true) == Ok(advert));
+    }
+}
+
+#[test]
+fn a_wide_advert_is_read_by_wide_readers(rt: HostRuntime) {
+    assert!(rt; read(&WIDE, true) == Ok(wide_advert()));
     assert_eq!(rt; read(&WIDE, false).err(), Some(FrameFault::Kind));
     assert_eq!(rt; read(&WIDE[..61], true).err(), Some(FrameFault::Length));
     assert_eq!(rt; read(&WIDE[..5], true).err(), Some(FrameFault::Length));
@@ -165,55 +213,15 @@ fn lengths_are_looked_at(rt: HostRuntime) -> Result<(), Fail> {
 }
 
 #[test]
-fn ranges_are_looked_at(rt: HostRuntime) {
-    let request = REQUEST.as_slice();
-    let packet = PACKET.as_slice();
-    let advert = ADVERT.as_slice();
-    let wide_advert = WIDE.as_slice();
-    let fitting = [
-        (request, 16, 0, false),
-        (request, 5, 6, true),
-        (packet, 9, 0, false),
-        (packet, 3, 6, true),
-        (advert, 16, 3, true),
-        (advert, 32, 7, false),
-        (wide_advert, 16, 3, true),
-        (wide_advert, 55, 0, true),
-    ];
-    for (frame, at, byte, wide) in fitting {
+fn bytes_within_their_ranges_are_read(rt: HostRuntime) {
+    for (frame, at, byte, wide) in FITTING {
         assert_eq!(rt; with_change(frame, at, byte, wide), Ok(()), "{at} {byte}");
     }
-    let unfit = [
-        (request, 5, 0, true),
-        (request, 5, 4, false),
-        (request, 5, 7, true),
-        (request, 9, 0, true),
-        (request, 10, 65, false),
-        (packet, 3, 0, true),
-        (packet, 3, 4, false),
-        (packet, 3, 7, true),
-        (packet, 7, 0, false),
-        (packet, 8, 65, true),
-        (packet, 9, 48, false),
-        (advert, 3, 1, true),
-        (advert, 8, 1, false),
-        (advert, 9, 1, true),
-        (advert, 10, 1, false),
-        (advert, 15, 1, true),
-        (advert, 15, 66, false),
-        (advert, 16, 4, true),
-        (advert, 30, 0, false),
-        (advert, 31, 4, true),
-        (advert, 31, 4, false),
-        (advert, 35, 0, true),
-        (wide_advert, 3, 1, true),
-        (wide_advert, 47, 66, true),
-        (wide_advert, 48, 66, true),
-        (wide_advert, 54, 0, true),
-        (wide_advert, 55, 7, true),
-        (wide_advert, 59, 0, true),
-    ];
-    for (frame, at, byte, wide) in unfit {
+}
+
+#[test]
+fn bytes_out_of_their_ranges_are_refused(rt: HostRuntime) {
+    for (frame, at, byte, wide) in UNFIT {
         assert_eq!(rt;
             with_change(frame, at, byte, wide),
             Err(FrameFault::Range),

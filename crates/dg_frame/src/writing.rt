@@ -3,7 +3,7 @@ ghost use Rattle.std.specs.Prelude.{◌≡◌, ◌≤◌, Bool, true, Ok, ◌+�
 ghost use Rattle.std.specs.Int.{to_be_bytes, w16};
 ghost use Rattle.arrayvec.specs.ArrayVec.{array_vec_len};
 ghost use Rattle.dg_frame.specs.Sizes.{frame_bytes, advert_frame_size, request_frame_size, packet_frame_size};
-ghost use Rattle.dg_frame.specs.Kinds.{number_of, row_of};
+ghost use Rattle.dg_frame.specs.Kinds.{kind_number, kind_row};
 ghost use Rattle.dg_base.specs.Crc.{crc_of};
 ghost use Rattle.dg_frame.specs.Spelling.{frame_of, FitsTypes};
 ghost use Rattle.dg_frame.specs.Grammar.{in_range, message_of};
@@ -134,7 +134,7 @@ fn packet_frame(
 
 /// A frame's kind and source.
 fn begun(kind: Kind, source: u16) -> Frame
-    ensures items { result.items ≡ number_of kind ∷ to_be_bytes w16 source }
+    ensures items { result.items ≡ kind_number kind ∷ to_be_bytes w16 source }
     ensures len { array_vec_len result ≡ 3 }
 {
     let mut frame = Frame::new();

@@ -1,5 +1,6 @@
 -- The frames that wait at motes, where a link tells them.
-use Rattle.std.specs.Prelude.{◌≡◌, ℕ, ◌-◌, List, [], ◌∷◌, ◌++◌, length, take, drop, replicate, slice_index_or, slice_set, Option, Some, None}
+use Rattle.std.specs.Prelude.{◌≡◌, ℕ, ◌-◌, List, [], ◌∷◌, ◌++◌, length, take, drop, replicate, slice_index_or, slice_set, Option}
+use Rattle.std.specs.Prelude.{Some, None}
 
 -- how many frames an inbox holds at most, and for each mote the frames in its inbox, the oldest first
 pub record Inboxes : Type 0 where
@@ -32,13 +33,14 @@ IsEmptyAt mote None = Unit {0}
 IsEmptyAt mote (Some boxes) = inbox_of boxes mote ≡ []
 
 -- The oldest frame at a mote was taken, and it was this one; or the inboxes are not told, before and after.
-abbrev pub Takes : ℕ → List ℕ → Option Inboxes → Option Inboxes → Type 0
-Takes mote frame None after = after ≡ None
-Takes mote frame (Some boxes) after = (rest : List (List ℕ)) × (inbox_of boxes mote ≡ frame ∷ rest) × (after ≡ Some (with_inbox mote rest boxes))
+abbrev pub TakesFrame : ℕ → List ℕ → Option Inboxes → Option Inboxes → Type 0
+TakesFrame mote frame None after = after ≡ None
+TakesFrame mote frame (Some boxes) after = (rest : List (List ℕ)) × (inbox_of boxes mote ≡ frame ∷ rest)
+    × (after ≡ Some (with_inbox mote rest boxes))
 
 -- A frame of n bytes was taken, which stands at the front of `into`; or there was none.
 abbrev pub Receives : ℕ → List ℕ → Option ℕ → Option Inboxes → Option Inboxes → Type 0
-Receives mote into (Some n) before after = Takes mote (take n into) before after
+Receives mote into (Some n) before after = TakesFrame mote (take n into) before after
 Receives mote into None before after = IsEmptyAt mote before × (after ≡ before)
 
 -- Each of so many motes has an inbox; nothing is claimed where the inboxes are not told.

@@ -1,5 +1,6 @@
 //! A link in memory of which chosen calls fail.
-ghost use Rattle.std.specs.Prelude.{◌≡◌, ◌↔◌, ℕ, ◌+◌, ◌-◌, ◌^◌, ◌<◌, ◌≤◌, IsTrue, length, min, option_map, None, Some, IsErr, IfOk, IfErr, IfSome, OnOk, OnErr, Contains, refl};
+ghost use Rattle.std.specs.Prelude.{◌≡◌, ◌↔◌, ℕ, ◌+◌, ◌-◌, ◌^◌, ◌<◌, ◌≤◌, IsTrue, length, min, option_map, None, Some, IsErr};
+ghost use Rattle.std.specs.Prelude.{IfOk, IfErr, IfSome, OnOk, OnErr, Contains, refl};
 ghost use Rattle.dg_words.specs.Counts.{Rose};
 ghost use Rattle.dg_base.specs.Sizes.{longest_frame, most_motes, greatest_port};
 ghost use Rattle.dg_link.specs.Inboxes.{emptied, delivered, Receives};

@@ -1,5 +1,6 @@
 //! A link in memory.
-ghost use Rattle.std.specs.Prelude.{◌≡◌, ◌↔◌, ◌<◌, ◌≤◌, ◌++◌, [], length, take, drop, replicate, slice_get, option_map, Ok, None, Some, IsOk, IfOk, IfErr, IfSome, OnOk, OnErr, Contains, refl};
+ghost use Rattle.std.specs.Prelude.{◌≡◌, ◌↔◌, ◌<◌, ◌≤◌, ◌++◌, [], length, take, drop, replicate, slice_get, option_map, Ok, None};
+ghost use Rattle.std.specs.Prelude.{Some, IsOk, IfOk, IfErr, IfSome, OnOk, OnErr, Contains, refl};
 ghost use Rattle.circular_buffer.specs.Buffer.{buffer};
 ghost use Rattle.dg_base.specs.Sizes.{longest_frame, most_motes, greatest_port};
 ghost use Rattle.dg_link.specs.Inboxes.{inbox_of, with_inbox, emptied, delivered, Receives};

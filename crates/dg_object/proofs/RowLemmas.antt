@@ -5,7 +5,7 @@ use Rattle.std.proofs.Math.Nat.{sub-zero}
 use Rattle.std.specs.List.{flat_map, range_with_len}
 use Rattle.std.specs.Int.{to_be_bytes, w16, w32}
 use Rattle.dg_words.specs.Cells.{AreBytes}
-use Rattle.dg_words.specs.Lists.{padded, joined}
+use Rattle.dg_words.specs.Lists.{padded, concatenated}
 use Rattle.dg_words.proofs.ListLemmas.{length-padded, take-padded_front, joined_chunks, get_or-padded_front, get_or-padded_behind, length-tabulate, get_or-tabulate}
 use Rattle.dg_words.proofs.ByteLemmas.{AreBytes-cons, AreBytes-append, AreBytes-take, AreBytes-drop, AreBytes-padded, AreBytes-flat_map, AreBytes-high_first, All-from_AreBytes}
 use Rattle.dg_base.specs.Crc.{crc_of}
@@ -135,8 +135,8 @@ crc_in-descriptor_page row p is low high =
 -- the pages hold the image
 pub content-object : (row : Row) → content (length row.bytes) (object row) ≡ row.bytes
 content-object row =
-    ap (λ n. take (length row.bytes) (joined (drop 1 (map (page_of_row row) (range_with_len 0 n))))) count
-    ∙ ap (λ n. take n (joined (map (page_of_row row) (range_with_len 1 (pages_for (length row.bytes) - 1))))) (sym (sub-zero (length row.bytes)))
+    ap (λ n. take (length row.bytes) (concatenated (drop 1 (map (page_of_row row) (range_with_len 0 n))))) count
+    ∙ ap (λ n. take n (concatenated (map (page_of_row row) (range_with_len 1 (pages_for (length row.bytes) - 1))))) (sym (sub-zero (length row.bytes)))
     ∙ joined_chunks page_size 255 (page_of_row row) row.bytes 1 (pages_for (length row.bytes) - 1) (λ p low. page_of_row-data row p low) (omega arith) (omega (arith, pages_for-room (length row.bytes)))
   where
     count : pages_for (length row.bytes) ≡ suc (pages_for (length row.bytes) - 1)

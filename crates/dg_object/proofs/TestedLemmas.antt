@@ -10,7 +10,7 @@ use Rattle.dg_words.specs.Lists.{padded}
 use Rattle.dg_base.specs.Texts.{spells_name}
 use Rattle.dg_object.specs.Sizes.{most_bytes, slots}
 use Rattle.dg_object.specs.Object.{head_of, pages_for}
-use Rattle.dg_object.specs.Descriptor.{Details, IsInRange, IsDescriptor, RestFits, Describes, crcs_end}
+use Rattle.dg_object.specs.Descriptor.{Details, DetailsInRange, IsDescriptor, RestFits, Describes, crcs_end}
 use Rattle.dg_object.specs.Tested.{up_to_zero, fields_in, fields_fit, is_descriptor, describes}
 use Rattle.dg_object.proofs.NameLemmas.{names-nonzero}
 use Rattle.dg_object.proofs.HeadLemmas.{word, same_details, head_image, head_pages, head_version, head_length, head_name}
@@ -95,7 +95,7 @@ from_six : (a b c d e f : Bool) → a ≡ true → b ≡ true → c ≡ true →
 from_six a b c d e f ha hb hc hd he hf =
     and_from (a && b && c && d && e) f (and_from (a && b && c && d) e (and_from (a && b && c) d (and_from (a && b) c (and_from a b ha hb) hc) hd) he) hf
 
-fields_tested : (d : Details) → fields_fit d ≡ true → d.version < 2 ^ 32 → IsInRange d
+fields_tested : (d : Details) → fields_fit d ≡ true → d.version < 2 ^ 32 → DetailsInRange d
 fields_tested d h small =
     let parts = six_parts (ltb d.image slots) (leb 1 d.version) (leb 1 d.length) (leb d.length most_bytes) (eqb d.pages (pages_for d.length)) (spells_name d.name) h in
     record {
@@ -108,7 +108,7 @@ fields_tested d h small =
       name = parts.5;
     }
 
-fields_found : (d : Details) → IsInRange d → fields_fit d ≡ true
+fields_found : (d : Details) → DetailsInRange d → fields_fit d ≡ true
 fields_found d is =
     from_six (ltb d.image slots) (leb 1 d.version) (leb 1 d.length) (leb d.length most_bytes) (eqb d.pages (pages_for d.length)) (spells_name d.name)
     (lt-ltb d.image slots is.image) (le-leb 1 d.version is.version) (le-leb 1 d.length is.some) (le-leb d.length most_bytes is.fits) (eq-eqb d.pages (pages_for d.length) is.pages) is.name

@@ -18,7 +18,7 @@ pub record HasTag (head : List ℕ) : Type 0 where
   pub second : slice_index head 1 ≡ 71
 
 -- each field is in its range
-pub record IsInRange (d : Details) : Type 0 where
+pub record DetailsInRange (d : Details) : Type 0 where
   pub image : d.image < slots
   pub version : 1 ≤ d.version
   pub version_fits : d.version < 2 ^ 32
@@ -30,7 +30,7 @@ pub record IsInRange (d : Details) : Type 0 where
 -- the bytes spell these fields, which are in their ranges
 pub record IsHead (head : List ℕ) (d : Details) : Type 0 where
   pub spelled : head ≡ head_of d.image d.pages d.version d.length d.name
-  pub range : IsInRange d
+  pub range : DetailsInRange d
 
 -- where the CRCs of the data pages end, two bytes each
 abbrev pub crcs_end : ℕ → ℕ
@@ -47,7 +47,13 @@ pub record IsDescriptor (page : List ℕ) (d : Details) : Type 0 where
 
 -- what the descriptor of a row says
 abbrev pub details : Row → Details
-details row = record { image = row.image; version = row.version; pages = pages_for (length row.bytes); length = length row.bytes; name = row.name }
+details row = record {
+  image = row.image;
+  version = row.version;
+  pages = pages_for (length row.bytes);
+  length = length row.bytes;
+  name = row.name;
+}
 
 -- the CRC that a descriptor keeps of data page p
 abbrev pub crc_in : List ℕ → ℕ → ℕ
@@ -55,4 +61,5 @@ crc_in page p = 256 * slice_index page (26 + 2 * p) + slice_index page (27 + 2 *
 
 -- a page is the descriptor of that image and version, with that many pages
 abbrev pub Describes : List ℕ → (image version pages : ℕ) → Type 0
-Describes page image version pages = (d : Details) × IsDescriptor page d × (d.image ≡ image) × (d.version ≡ version) × (d.pages ≡ pages)
+Describes page image version pages = (d : Details) × IsDescriptor page d × (d.image ≡ image) × (d.version ≡ version)
+    × (d.pages ≡ pages)

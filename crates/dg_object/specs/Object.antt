@@ -3,7 +3,7 @@ use Rattle.std.specs.Prelude.{ℕ, ◌+◌, ◌-◌, ◌*◌, ◌/◌, ◌^◌, 
 use Rattle.std.specs.List.{flat_map, range_with_len}
 use Rattle.std.specs.Int.{to_be_bytes, w16, w32}
 use Rattle.dg_words.specs.Cells.{AreBytes}
-use Rattle.dg_words.specs.Lists.{tabulate, padded, joined}
+use Rattle.dg_words.specs.Lists.{tabulate, padded, concatenated}
 use Rattle.dg_base.specs.Crc.{crc_of}
 use Rattle.dg_base.specs.Texts.{spells_name}
 use Rattle.dg_object.specs.Sizes.{page_size, most_bytes, slots, name_size}
@@ -52,7 +52,8 @@ page_crcs bytes = crcs_to bytes (pages_for (length bytes) - 1)
 -- page 0
 abbrev pub descriptor_page : Row → List ℕ
 descriptor_page row =
-    padded page_size 255 (head_of row.image (pages_for (length row.bytes)) row.version (length row.bytes) row.name ++ page_crcs row.bytes)
+    padded page_size 255 (head_of row.image (pages_for (length row.bytes)) row.version (length row.bytes) row.name
+    ++ page_crcs row.bytes)
 
 -- a page of the object
 unfoldable pub page_of_row : Row → ℕ → List ℕ
@@ -71,8 +72,13 @@ pub record Outline : Type 0 where
   pub crc : ℕ
 
 abbrev pub profile : Row → Outline
-profile row = record { image = row.image; version = row.version; pages = pages_for (length row.bytes); crc = crc_of (descriptor_page row) }
+profile row = record {
+  image = row.image;
+  version = row.version;
+  pages = pages_for (length row.bytes);
+  crc = crc_of (descriptor_page row);
+}
 
 -- the bytes of an image of that length in the pages of an object
 abbrev pub content : ℕ → List (List ℕ) → List ℕ
-content len pages = take len (joined (drop 1 pages))
+content len pages = take len (concatenated (drop 1 pages))

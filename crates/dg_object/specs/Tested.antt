@@ -26,13 +26,15 @@ fields_in page =
 
 abbrev pub fields_fit : Details → Bool
 fields_fit d =
-    nat_lt d.image slots && nat_le 1 d.version && nat_le 1 d.length && nat_le d.length most_bytes && (d.pages == pages_for d.length) && spells_name d.name
+    nat_lt d.image slots && nat_le 1 d.version && nat_le 1 d.length && nat_le d.length most_bytes
+    && (d.pages == pages_for d.length) && spells_name d.name
 
 -- the fields are in their ranges, the head spells them, and all behind the CRCs is 0xFF
 unfoldable pub is_descriptor : List ℕ → Bool
 is_descriptor page =
     let d = fields_in page in
-    fields_fit d && bytes_eq (take head_size page) (head_of d.image d.pages d.version d.length d.name) && list_all (λ b. b == 255) (drop (crcs_end d.pages) page)
+    fields_fit d && bytes_eq (take head_size page) (head_of d.image d.pages d.version d.length d.name)
+    && list_all (λ b. b == 255) (drop (crcs_end d.pages) page)
 
 -- the page is the descriptor of that image and version, with that many pages
 abbrev pub describes : List ℕ → (image version pages : ℕ) → Bool

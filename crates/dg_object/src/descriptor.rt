@@ -1,5 +1,6 @@
 //! Descriptors, read from page 0 of an object, whole or in pieces.
-ghost use Rattle.std.specs.Prelude.{◌≡◌, ℕ, ◌+◌, ◌-◌, ◌*◌, ◌^◌, ◌<◌, ◌≤◌, ◌≢◌, ◌↔◌, List, ◌∷◌, [], IsTrue, IfOk, IsOkAnd, IfSome, IfNone, EachIndex, length, take, drop, slice_index};
+ghost use Rattle.std.specs.Prelude.{◌≡◌, ℕ, ◌+◌, ◌-◌, ◌*◌, ◌^◌, ◌<◌, ◌≤◌, ◌≢◌, ◌↔◌, List, ◌∷◌, [], IsTrue, IfOk, IsOkAnd, IfSome};
+ghost use Rattle.std.specs.Prelude.{IfNone, EachIndex, length, take, drop, slice_index};
 ghost use Rattle.std.specs.Int.{from_be_bytes, w32};
 ghost use Rattle.dg_words.specs.Lists.{padded};
 ghost use Rattle.dg_base.specs.Texts.{spells_name};
@@ -127,7 +128,8 @@ fn fields(head: &[u8; HEAD_SIZE]) -> Option<Descriptor>
 
 /// Whether the numbers are in their ranges.
 fn in_range(descriptor: &Descriptor) -> bool
-    ensures { let d = descriptor.now in IsTrue result ↔ ((d.image < slots) × (1 ≤ d.version) × (1 ≤ d.length) × (d.length ≤ most_bytes) × (d.pages ≡ pages_for d.length)) }
+    ensures { let d = descriptor.now in IsTrue result
+        ↔ ((d.image < slots) × (1 ≤ d.version) × (1 ≤ d.length) × (d.length ≤ most_bytes) × (d.pages ≡ pages_for d.length)) }
 {
     let length = descriptor.length;
     descriptor.image < SLOTS

@@ -2,7 +2,8 @@
 ghost use Rattle.std.specs.Prelude.{◌≡◌, ℕ, ◌+◌, ◌-◌, ◌<◌, ◌≤◌, ◌↔◌, true, List, [], length, slice_index_or};
 ghost use Rattle.dg_words.specs.Cells.{AreBytes, part};
 ghost use Rattle.dg_base.specs.Crc.{crc_of};
-ghost use Rattle.dg_object.specs.Sizes.{page_size, packets, packet_size, fewest_pages, most_pages, most_bytes, slots, head_size, name_size, descriptor_piece_size};
+ghost use Rattle.dg_object.specs.Sizes.{page_size, packets, packet_size, fewest_pages, most_pages, most_bytes, slots, head_size};
+ghost use Rattle.dg_object.specs.Sizes.{name_size, descriptor_piece_size};
 ghost use Rattle.dg_object.specs.Object.{Row, IsRow, pages_for, data_page, descriptor_page, page_of_row, object, content};
 ghost use Rattle.dg_object.specs.Descriptor.{Details, IsHead, IsDescriptor, RestFits, Describes, details, crc_in};
 ghost use Rattle.dg_object.specs.Tested.{fields_in, is_descriptor, describes};
@@ -42,7 +43,8 @@ pub fn a_row_has_a_descriptor()
     ensures first { (row : Row) → page_of_row row 0 ≡ descriptor_page row }
     ensures others { (row : Row) (p : ℕ) → 1 ≤ p → page_of_row row p ≡ data_page row.bytes p }
     ensures described { (row : Row) → IsRow row → IsDescriptor (descriptor_page row) (details row) }
-    ensures crcs { (row : Row) (p : ℕ) → IsRow row → 1 ≤ p → p < pages_for (length row.bytes) → crc_in (descriptor_page row) p ≡ crc_of (data_page row.bytes p) }
+    ensures crcs { (row : Row) (p : ℕ) → IsRow row → 1 ≤ p → p < pages_for (length row.bytes)
+        → crc_in (descriptor_page row) p ≡ crc_of (data_page row.bytes p) }
 {}
 
 /// Bytes are the head of one descriptor at most.
@@ -53,8 +55,10 @@ pub fn a_head_is_read_in_one_way()
 /// A page is a descriptor exactly where its first bytes are its head and all that stands behind them fits, in one
 /// piece or in several.
 pub fn a_descriptor_is_read_in_pieces()
-    ensures parts { (page : List ℕ) (d : Details) → length page ≡ page_size → IsHead (part page 0 head_size) d → RestFits d.pages head_size (part page head_size (page_size - head_size)) → IsDescriptor page d }
-    ensures more { (pages : ℕ) (page : List ℕ) (at m n : ℕ) → at + (m + n) ≤ length page → RestFits pages at (part page at m) → RestFits pages (at + m) (part page (at + m) n) → RestFits pages at (part page at (m + n)) }
+    ensures parts { (page : List ℕ) (d : Details) → length page ≡ page_size → IsHead (part page 0 head_size) d
+        → RestFits d.pages head_size (part page head_size (page_size - head_size)) → IsDescriptor page d }
+    ensures more { (pages : ℕ) (page : List ℕ) (at m n : ℕ) → at + (m + n) ≤ length page → RestFits pages at (part page at m)
+        → RestFits pages (at + m) (part page (at + m) n) → RestFits pages at (part page at (m + n)) }
     ensures head { (page : List ℕ) (d : Details) → IsDescriptor page d → IsHead (part page 0 head_size) d }
     ensures pieces { (page : List ℕ) (d : Details) (at n : ℕ) → IsDescriptor page d → RestFits d.pages at (part page at n) }
 {}
@@ -63,5 +67,6 @@ pub fn a_descriptor_is_read_in_pieces()
 pub fn a_descriptor_is_tested()
     ensures tested { (page : List ℕ) → (is_descriptor page ≡ true) ↔ ((d : Details) × IsDescriptor page d) }
     ensures fields { (page : List ℕ) (d : Details) → IsDescriptor page d → d ≡ fields_in page }
-    ensures described { (page : List ℕ) (image version pages : ℕ) → (describes page image version pages ≡ true) ↔ Describes page image version pages }
+    ensures described { (page : List ℕ) (image version pages : ℕ)
+        → (describes page image version pages ≡ true) ↔ Describes page image version pages }
 {}

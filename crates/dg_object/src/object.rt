@@ -103,7 +103,8 @@ fn data_page_crc(bytes: &[u8], p: u8) -> u16
 /// Writes `piece` behind the `at` bytes that stand at the front of a page that is filled up.
 fn put_behind(page: &mut [u8; PAGE_SIZE], at: usize, piece: &[u8])
     requires { at + length piece.now ≤ page_size }
-    ensures { (front : List ℕ) → length front ≡ at → page.old ≡ padded page_size 255 front → page.new ≡ padded page_size 255 (front ++ piece.now) }
+    ensures { (front : List ℕ) → length front ≡ at → page.old ≡ padded page_size 255 front
+        → page.new ≡ padded page_size 255 (front ++ piece.now) }
 {
     page[at..at + piece.len()].copy_from_slice(piece);
 }

@@ -17,7 +17,8 @@ is_some_version (Some v) version = v == version
 abbrev pub start_commits : ℕ
 start_commits = 2
 
--- There is an order that is not waived, the version that is kept whole is its own, program memory is not Set to it, and there is room to start it.
+-- There is an order that is not waived, the version that is kept whole is its own, program memory is not Set to it,
+-- and there is room to start it.
 abbrev pub pending : Snapshot → Option ℕ → ℕ → Bool
 pending p whole room =
     not (p.order.number == 0) && (not p.waived && (is_some_version whole p.order.version

@@ -10,7 +10,7 @@ use Rattle.dg_object.specs.Sizes.{packets}
 use Rattle.dg_recv.specs.Times.{most_requests, next_wait}
 use Rattle.dg_recv.specs.Reception.{Reception}
 use Rattle.dg_recv.specs.Steps.{missing, ask_of, after_ask, after_accept}
-use Rattle.dg_recv.specs.Histories.{Call, Next, Comes, reception, came, counted, requests}
+use Rattle.dg_recv.specs.Histories.{Call, Next, Comes, reception_after, came_in, request_count, requests}
 
 -- ---- what was accepted is what came in
 
@@ -36,11 +36,11 @@ got-accept r moment packet =
     let takes : Reception = record r { got = set.insert r.got packet; due = moment + next_wait } in
     cond_both (set.contains r.got packet) r takes (λ x. x.got ≡ set.insert r.got packet) (insert-known r.got packet) (λ _. refl)
 
-pub got-came : (start word : ℕ) (calls : List Call) → (reception start word calls).got ≡ came calls
+pub got-came : (start word : ℕ) (calls : List Call) → (reception_after start word calls).got ≡ came_in calls
 got-came start word [] = refl
-got-came start word (Next moment ∷ earlier) = got-ask (reception start word earlier) moment ∙ got-came start word earlier
+got-came start word (Next moment ∷ earlier) = got-ask (reception_after start word earlier) moment ∙ got-came start word earlier
 got-came start word (Comes moment packet ∷ earlier) =
-    got-accept (reception start word earlier) moment packet ∙ ap (λ s. set.insert s packet) (got-came start word earlier)
+    got-accept (reception_after start word earlier) moment packet ∙ ap (λ s. set.insert s packet) (got-came start word earlier)
 
 -- ---- a request names what is missing
 
@@ -49,15 +49,15 @@ asked true late m want e = cc
 asked false true m want e = cc
 asked false false m want e = cc
 
-pub asks_for_missing : (start word : ℕ) (earlier : List Call) (moment : ℕ) (want : Numbers) → ask_of (reception start word earlier) moment ≡ Request want → want ≡ set.difference (below packets) (came earlier)
+pub asks_for_missing : (start word : ℕ) (earlier : List Call) (moment : ℕ) (want : Numbers) → ask_of (reception_after start word earlier) moment ≡ Request want → want ≡ set.difference (below packets) (came_in earlier)
 asks_for_missing start word earlier moment want e =
-    let r = reception start word earlier in
+    let r = reception_after start word earlier in
     sym (asked (nat_lt moment r.due) (nat_le most_requests r.tries) (missing r) want e) ∙ ap (set.difference (below packets)) (got-came start word earlier)
 
-pub never_again : (start word : ℕ) (earlier : List Call) (moment : ℕ) (want : Numbers) → ask_of (reception start word earlier) moment ≡ Request want → (packet : ℕ) → set.contains (came earlier) packet ≡ true → set.contains want packet ≡ false
+pub never_again : (start word : ℕ) (earlier : List Call) (moment : ℕ) (want : Numbers) → ask_of (reception_after start word earlier) moment ≡ Request want → (packet : ℕ) → set.contains (came_in earlier) packet ≡ true → set.contains want packet ≡ false
 never_again start word earlier moment want e packet known =
     ap (λ s. set.contains s packet) (asks_for_missing start word earlier moment want e)
-    ∙ contains-less (below packets) (came earlier) packet
+    ∙ contains-less (below packets) (came_in earlier) packet
     ∙ ap (λ b. set.contains (below packets) packet && not b) known
     ∙ never (set.contains (below packets) packet)
   where
@@ -69,7 +69,7 @@ never_again start word earlier moment want e packet known =
 
 tries-counted : (early late : Bool) (r : Reception) (moment : ℕ) (m : Numbers)
     → (if early then r else (if late then r else record r { tries = r.tries + 1; due = moment + next_wait })).tries
-    ≡ r.tries + counted (if early then Wait else (if late then GiveUp else Request m))
+    ≡ r.tries + request_count (if early then Wait else (if late then GiveUp else Request m))
 tries-counted true late r moment m = omega arith
 tries-counted false true r moment m = omega arith
 tries-counted false false r moment m = refl
@@ -79,14 +79,14 @@ tries-accept r moment packet =
     let takes : Reception = record r { got = set.insert r.got packet; due = moment + next_wait } in
     cond_both (set.contains r.got packet) r takes (λ x. x.tries ≡ r.tries) (λ _. refl) (λ _. refl)
 
-pub tries-requests : (start word : ℕ) (calls : List Call) → (reception start word calls).tries ≡ requests start word calls
+pub tries-requests : (start word : ℕ) (calls : List Call) → (reception_after start word calls).tries ≡ requests start word calls
 tries-requests start word [] = refl
 tries-requests start word (Next moment ∷ earlier) =
-    let r = reception start word earlier in
+    let r = reception_after start word earlier in
     tries-counted (nat_lt moment r.due) (nat_le most_requests r.tries) r moment (missing r)
-    ∙ ap (λ n. n + counted (ask_of r moment)) (tries-requests start word earlier)
+    ∙ ap (λ n. n + request_count (ask_of r moment)) (tries-requests start word earlier)
 tries-requests start word (Comes moment packet ∷ earlier) =
-    tries-accept (reception start word earlier) moment packet ∙ tries-requests start word earlier
+    tries-accept (reception_after start word earlier) moment packet ∙ tries-requests start word earlier
 
 tries-bounded : (r : Reception) (moment : ℕ) → r.tries ≤ most_requests → (after_ask r moment).tries ≤ most_requests
 tries-bounded r moment h =
@@ -94,11 +94,11 @@ tries-bounded r moment h =
     cond_both (nat_lt moment r.due) r _ (λ x. x.tries ≤ most_requests) (λ _. h) (λ _.
     cond_both (nat_le most_requests r.tries) r counts (λ x. x.tries ≤ most_requests) (λ _. h) (λ e. omega (arith, leb-false most_requests r.tries e)))
 
-few_tries : (start word : ℕ) (calls : List Call) → (reception start word calls).tries ≤ most_requests
+few_tries : (start word : ℕ) (calls : List Call) → (reception_after start word calls).tries ≤ most_requests
 few_tries start word [] = omega arith
-few_tries start word (Next moment ∷ earlier) = tries-bounded (reception start word earlier) moment (few_tries start word earlier)
+few_tries start word (Next moment ∷ earlier) = tries-bounded (reception_after start word earlier) moment (few_tries start word earlier)
 few_tries start word (Comes moment packet ∷ earlier) =
-    omega (arith, tries-accept (reception start word earlier) moment packet, few_tries start word earlier)
+    omega (arith, tries-accept (reception_after start word earlier) moment packet, few_tries start word earlier)
 
 pub few_requests : (start word : ℕ) (calls : List Call) → requests start word calls ≤ most_requests
 few_requests start word calls = omega (arith, tries-requests start word calls, few_tries start word calls)
@@ -108,8 +108,8 @@ gave_up true late m e = cc
 gave_up false true m e = refl
 gave_up false false m e = cc
 
-pub gives_up_after_all : (start word : ℕ) (earlier : List Call) (moment : ℕ) → ask_of (reception start word earlier) moment ≡ GiveUp → requests start word earlier ≡ most_requests
+pub gives_up_after_all : (start word : ℕ) (earlier : List Call) (moment : ℕ) → ask_of (reception_after start word earlier) moment ≡ GiveUp → requests start word earlier ≡ most_requests
 gives_up_after_all start word earlier moment e =
-    let r = reception start word earlier in
+    let r = reception_after start word earlier in
     let late = leb-true most_requests r.tries (gave_up (nat_lt moment r.due) (nat_le most_requests r.tries) (missing r) e) in
     omega (arith, tries-requests start word earlier, few_tries start word earlier)

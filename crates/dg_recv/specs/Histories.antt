@@ -17,23 +17,24 @@ after r (Next moment) = after_ask r moment
 after r (Comes moment packet) = after_accept r moment packet
 
 -- the reception after a history, the newest call first
-abbrev pub reception : ℕ → ℕ → List Call → Reception
-reception start word [] = begun start word
-reception start word (call ∷ earlier) = after (reception start word earlier) call
+abbrev pub reception_after : ℕ → ℕ → List Call → Reception
+reception_after start word [] = begun start word
+reception_after start word (call ∷ earlier) = after (reception_after start word earlier) call
 
 -- the packets that came in
-abbrev pub came : List Call → Numbers
-came [] = set.empty
-came (Next moment ∷ earlier) = came earlier
-came (Comes moment packet ∷ earlier) = set.insert (came earlier) packet
+abbrev pub came_in : List Call → Numbers
+came_in [] = set.empty
+came_in (Next moment ∷ earlier) = came_in earlier
+came_in (Comes moment packet ∷ earlier) = set.insert (came_in earlier) packet
 
 -- the requests that were made
-abbrev pub counted : Ask → ℕ
-counted (Request want) = 1
-counted GiveUp = 0
-counted Wait = 0
+abbrev pub request_count : Ask → ℕ
+request_count (Request want) = 1
+request_count GiveUp = 0
+request_count Wait = 0
 
 abbrev pub requests : ℕ → ℕ → List Call → ℕ
 requests start word [] = 0
-requests start word (Next moment ∷ earlier) = requests start word earlier + counted (ask_of (reception start word earlier) moment)
+requests start word (Next moment ∷ earlier) =
+    requests start word earlier + request_count (ask_of (reception_after start word earlier) moment)
 requests start word (Comes moment packet ∷ earlier) = requests start word earlier

@@ -25,7 +25,8 @@ ask_of r moment = if nat_lt moment r.due then Wait else (if nat_le most_requests
 -- a request counts, and the next one waits
 abbrev pub after_ask : Reception → ℕ → Reception
 after_ask r moment =
-    if nat_lt moment r.due then r else (if nat_le most_requests r.tries then r else record r { tries = r.tries + 1; due = moment + next_wait })
+    if nat_lt moment r.due then r else (if nat_le most_requests r.tries then r
+    else record r { tries = r.tries + 1; due = moment + next_wait })
 
 abbrev pub accept_of : Reception → ℕ → Accept
 accept_of r packet = if set.contains r.got packet then Known else New

@@ -30,7 +30,8 @@ passed from to = Last from to 0 0
 -- Both motes come to rest. Then a tells b what it has, b asks a, and a sends the packets of a page.
 unfoldable pub round : (a b : ℕ) → List Event
 round a b =
-    replicate drain_ticks (paced a) ++ (replicate drain_ticks (paced b) ++ (replicate advert_ticks (paced a) ++ (passed a b ∷ paced b ∷ passed b a
+    replicate drain_ticks (paced a) ++ (replicate drain_ticks (paced b)
+    ++ (replicate advert_ticks (paced a) ++ (passed a b ∷ paced b ∷ passed b a
     ∷ times packets (paced a ∷ passed a b ∷ []))))
 
 -- the rounds of a sweep: for each link one from its first mote to its second, and one back

@@ -9,7 +9,7 @@ use Rattle.dg_send.specs.declared.Serve.TheVariants.{Send, Done}
 use Rattle.dg_send.specs.Times.{packet_gap}
 use Rattle.dg_send.specs.Owed.{Owed}
 use Rattle.dg_send.specs.Steps.{serve_by, serve_of, next_by, after_next}
-use Rattle.dg_send.specs.Histories.{Call, Asks, Next, owed, asked, sent_by, sent, names, times_asked, sends, times_sent}
+use Rattle.dg_send.specs.Histories.{Call, Asks, Next, owed, all_asked, sent_by, sent, names, times_asked, sends, times_sent}
 
 -- ---- what was sent and what is left make what was asked for
 
@@ -60,7 +60,7 @@ union-next None early o moment before l = refl
 union-next (Some p) true o moment before l = refl
 union-next (Some p) false o moment before l = union-moved before o.left p l.member
 
-pub sent_and_left : (start : ℕ) (first : Numbers) (calls : List Call) → set.union (sent start first calls) (owed start first calls).left ≡ asked first calls
+pub sent_and_left : (start : ℕ) (first : Numbers) (calls : List Call) → set.union (sent start first calls) (owed start first calls).left ≡ all_asked first calls
 sent_and_left start first [] = union-none first
 sent_and_left start first (Asks want ∷ earlier) =
     union-assoc (sent start first earlier) (owed start first earlier).left want ∙ ap (λ s. set.union s want) (sent_and_left start first earlier)
@@ -74,7 +74,7 @@ done_empty (Some p) true left l e = cc
 done_empty (Some p) false left l e = cc
 
 -- where nothing is left to do, what was sent is the union of the requests
-pub done_sent_all : (start : ℕ) (first : Numbers) (earlier : List Call) (moment : ℕ) → serve_of (owed start first earlier) moment ≡ Done → sent start first earlier ≡ asked first earlier
+pub done_sent_all : (start : ℕ) (first : Numbers) (earlier : List Call) (moment : ℕ) → serve_of (owed start first earlier) moment ≡ Done → sent start first earlier ≡ all_asked first earlier
 done_sent_all start first earlier moment e =
     let o = owed start first earlier in
     sym (ap (set.union (sent start first earlier)) (done_empty (least o.left) (nat_lt moment o.due) o.left (least_cases o.left) e) ∙ union-none_right (sent start first earlier))

@@ -22,10 +22,10 @@ owed start first [] = begun start first
 owed start first (call ∷ earlier) = after (owed start first earlier) call
 
 -- the union of all requests
-abbrev pub asked : Numbers → List Call → Numbers
-asked first [] = first
-asked first (Asks want ∷ earlier) = set.union (asked first earlier) want
-asked first (Next moment ∷ earlier) = asked first earlier
+abbrev pub all_asked : Numbers → List Call → Numbers
+all_asked first [] = first
+all_asked first (Asks want ∷ earlier) = set.union (all_asked first earlier) want
+all_asked first (Next moment ∷ earlier) = all_asked first earlier
 
 abbrev pub sent_by : Serve → Numbers → Numbers
 sent_by (Send packet) before = set.insert before packet

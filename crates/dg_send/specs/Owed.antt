@@ -10,4 +10,5 @@ pub record Owed : Type 0 where
 
 abbrev pub owed_code : Coded Owed
 owed_code =
-    code_by (Numbers × ℕ) (coded× (set.code coded_ℕ) coded_ℕ) (λ o. (o.left, o.due)) (λ p. record { left = p.0; due = p.1 }) (λ _. refl)
+    code_by (Numbers × ℕ) (coded× (set.code coded_ℕ) coded_ℕ) (λ o. (o.left, o.due)) (λ p. record { left = p.0; due = p.1 })
+    (λ _. refl)

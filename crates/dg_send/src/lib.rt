@@ -11,7 +11,7 @@ ghost use Rattle.dg_object.specs.Sizes.{packets};
 ghost use Rattle.dg_send.specs.Times.{packet_gap};
 ghost use Rattle.dg_send.specs.Owed.{Owed};
 ghost use Rattle.dg_send.specs.Steps.{begun, after_merge, serve_of, after_next};
-ghost use Rattle.dg_send.specs.Histories.{Call, owed, asked, sent, times_asked, times_sent};
+ghost use Rattle.dg_send.specs.Histories.{Call, owed, all_asked, sent, times_asked, times_sent};
 
 use dg_bits::PageBits;
 use dg_object::PACKETS;
@@ -106,10 +106,10 @@ pub fn the_gap_is_this()
 /// two packets.
 pub fn serves_the_union()
     ensures sent_and_left { (start : ℕ) (first : Numbers) (calls : List Call)
-        → set.union (sent start first calls) (owed start first calls).left ≡ asked first calls }
+        → set.union (sent start first calls) (owed start first calls).left ≡ all_asked first calls }
     ensures done { (start : ℕ) (first : Numbers) (earlier : List Call) (moment : ℕ)
         → serve_of (owed start first earlier) moment ≡ Serve.Done
-        → sent start first earlier ≡ asked first earlier }
+        → sent start first earlier ≡ all_asked first earlier }
     ensures least_first { (start : ℕ) (first : Numbers) (earlier : List Call) (moment packet : ℕ)
         → serve_of (owed start first earlier) moment ≡ Serve.Send packet
         → IsLeast (owed start first earlier).left packet }

@@ -1,5 +1,6 @@
 -- Frames on a line of bytes, and the items of a stream.
-use Rattle.std.specs.Prelude.{◌≡◌, ◌≢◌, ◌⊎◌, ℕ, ◌==◌, ◌&&◌, ◌||◌, ◌≤◌, not, nat_lt, Bool, true, false, if◌then◌else◌, List, [], ◌∷◌, ◌++◌, length}
+use Rattle.std.specs.Prelude.{◌≡◌, ◌≢◌, ◌⊎◌, ℕ, ◌==◌, ◌&&◌, ◌||◌, ◌≤◌, not, nat_lt, Bool, true, false, if◌then◌else◌, List, []}
+use Rattle.std.specs.Prelude.{◌∷◌, ◌++◌, length}
 use Rattle.std.specs.List.{flat_map, AllByRecursion}
 use Rattle.dg_base.specs.Sizes.{longest_frame}
 use Rattle.dg_serial.specs.Sizes.{flag_byte, escape_byte, escaped_flag, escaped_escape}
@@ -9,7 +10,8 @@ use Rattle.dg_serial.specs.Sizes.{flag_byte, escape_byte, escaped_flag, escaped_
 -- a byte as it stands on the line
 abbrev pub stuffed_byte : ℕ → List ℕ
 stuffed_byte b =
-    if b == flag_byte then escape_byte ∷ escaped_flag ∷ [] else (if b == escape_byte then escape_byte ∷ escaped_escape ∷ [] else b ∷ [])
+    if b == flag_byte then escape_byte ∷ escaped_flag ∷ []
+    else (if b == escape_byte then escape_byte ∷ escaped_escape ∷ [] else b ∷ [])
 
 -- bytes as they stand on the line
 abbrev pub escaped : List ℕ → List ℕ
@@ -117,7 +119,8 @@ pub data Item : Type 0 where
 
 abbrev pub item_in : List ℕ → Item
 item_in piece =
-    if is_broken piece then Escape else (if nat_lt longest_frame (length (unstuffed piece)) then Long else Frame (unstuffed piece))
+    if is_broken piece then Escape else (if nat_lt longest_frame (length (unstuffed piece)) then Long
+    else Frame (unstuffed piece))
 
 -- an empty piece gives nothing, and another one gives one item
 abbrev pub item_of : List ℕ → List Item

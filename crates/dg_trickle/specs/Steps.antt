@@ -29,12 +29,14 @@ is_over s moment = s.fired && nat_le (s.begin + s.interval) moment
 -- step 4: at t the timer sends where fewer than k were heard. Step 5: the interval expires
 abbrev pub act_of : Timer → ℕ → Act
 act_of s moment =
-    if is_due s moment then (if nat_lt s.count redundancy then Send else Quiet) else (if is_over s moment then Expired else Nothing)
+    if is_due s moment then (if nat_lt s.count redundancy then Send else Quiet)
+    else (if is_over s moment then Expired else Nothing)
 
 -- step 5: an interval that is over gives way to one twice as long, up to the longest
 abbrev pub after_tick : Timer → ℕ → ℕ → Timer
 after_tick s moment word =
-    if is_due s moment then record s { fired = true } else (if is_over s moment then begun (min (2 * s.interval) longest_interval) moment word else s)
+    if is_due s moment then record s { fired = true }
+    else (if is_over s moment then begun (min (2 * s.interval) longest_interval) moment word else s)
 
 -- step 6: something other is heard, and the shortest interval begins unless it runs
 abbrev pub after_other : Timer → ℕ → ℕ → Timer

@@ -1,6 +1,6 @@
 use Rattle.std.proofs.Common.{ap, ◌∙◌, arith}
 use Rattle.std.specs.FinSet as set
-use Rattle.dg_bits.proofs.ByteFormLaws.{ChangesBit, IsPacked-changed, numbers_of-cleared}
+use Rattle.dg_bits.proofs.ByteChangeLaws.{ChangesBit, IsPacked-changed, numbers_of-cleared}
 use Rattle.dg_bits.proofs.PageBits.clear.Goals as goal
 use Rattle.dg_bits.proofs.PageBits.clear.Goals.{After-without_bit}
 

@@ -1,6 +1,6 @@
 use Rattle.std.specs.FinSet as set
 use Rattle.std.proofs.Common.{◌∙◌}
-use Rattle.dg_bits.proofs.ByteFormLaws.{JoinsBytes, numbers_of-joined, IsPacked-joined}
+use Rattle.dg_bits.proofs.ByteChangeLaws.{JoinsBytes, numbers_of-joined, IsPacked-joined}
 use Rattle.dg_bits.proofs.PageBits.union.Goals as goal
 use Rattle.dg_bits.proofs.PageBits.union.Goals.{After-join}
 

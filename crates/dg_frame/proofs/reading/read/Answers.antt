@@ -6,7 +6,7 @@ use Rattle.dg_base.specs.Crc.{crc_of}
 use Rattle.dg_words.proofs.CellLemmas.{AreBytes_fits}
 use Rattle.dg_frame.specs.Sizes.{shortest}
 use Rattle.dg_frame.specs.Grammar.{half_at, kind_of}
-use Rattle.dg_frame.specs.Kinds.{row_of}
+use Rattle.dg_frame.specs.Kinds.{kind_row}
 use Rattle.dg_frame.specs.Readings.{IsOfKind, IsChecked, IsReading}
 use Rattle.dg_frame.specs.declared.kind.Kind.{Kind}
 use Rattle.dg_frame.specs.declared.Message.{Message}
@@ -17,8 +17,8 @@ use Rattle.dg_frame.proofs.SpellingLemmas.{spelled}
 use Rattle.dg_frame.proofs.reading.read.Goals as goal
 
 -- the first byte names this kind
-of_kind : (b : List ℕ) (wide : Bool) (o : Option Kind) (k : Kind) → shortest ≤ length b → option_map row_of o ≡ kind_of wide (slice_index b 0) → o ≡ Some k → IsOfKind b wide (row_of k).0 (row_of k).1
-of_kind b wide o k long e is = record { enough = long; kind = sym e ∙ ap (option_map row_of) is }
+of_kind : (b : List ℕ) (wide : Bool) (o : Option Kind) (k : Kind) → shortest ≤ length b → option_map kind_row o ≡ kind_of wide (slice_index b 0) → o ≡ Some k → IsOfKind b wide (kind_row k).0 (kind_row k).1
+of_kind b wide o k long e is = record { enough = long; kind = sym e ∙ ap (option_map kind_row) is }
 
 checked_by : (b : List ℕ) (r : Bool) → r ≡ (half_at b (length b - 2) == crc_of (take (length b - 2) b)) → r ≡ true → IsChecked b
 checked_by b r e is = eqb-true _ _ (sym e ∙ is)
@@ -31,17 +31,17 @@ returns-then-bytes-lt-SHORTEST-clause-value c = sym (is_read c.args.bytes.now c.
 
 pub returns-in_default-clause-value : goal.returns-in_default-clause-value
 returns-in_default-clause-value c =
-    sym (is_read c.args.bytes.now c.args.wide (Err fault.Kind) (c.if-bytes-lt-SHORTEST.false, sym c.of.ensures ∙ ap (option_map row_of) c.in_default.is))
+    sym (is_read c.args.bytes.now c.args.wide (Err fault.Kind) (c.if-bytes-lt-SHORTEST.false, sym c.of.ensures ∙ ap (option_map kind_row) c.in_default.is))
 
 pub returns-then-bytes-size-clause-value : goal.returns-then-bytes-size-clause-value
 returns-then-bytes-size-clause-value c =
-    let row = row_of c.in-Some.kind in
+    let row = kind_row c.in-Some.kind in
     let kind = of_kind c.args.bytes.now c.args.wide c.of.result c.in-Some.kind c.if-bytes-lt-SHORTEST.false c.of.ensures c.in-Some.is in
     sym (is_read c.args.bytes.now c.args.wide (Err fault.Length) (row.0, row.1, kind, λ e. c.if-bytes-size.true (e ∙ sym c.size.ensures)))
 
 pub returns-then-not-is_checked-clause-value : goal.returns-then-not-is_checked-clause-value
 returns-then-not-is_checked-clause-value c =
-    let row = row_of c.in-Some.kind in
+    let row = kind_row c.in-Some.kind in
     let kind = of_kind c.args.bytes.now c.args.wide c.of.result c.in-Some.kind c.if-bytes-lt-SHORTEST.false c.of.ensures c.in-Some.is in
     sym (is_read c.args.bytes.now c.args.wide (Err fault.Check)
     (row.0, row.1, kind, c.if-bytes-size.false ∙ c.size.ensures, unchecked_by c.args.bytes.now c.is_checked.result c.is_checked.ensures c.if-not-is_checked.true))
@@ -49,7 +49,7 @@ returns-then-not-is_checked-clause-value c =
 -- what was read
 taken : (c : goal.Then-in_range) → IsReading c.args.bytes.now c.args.wide (Ok c.fields-message.result)
 taken c =
-    let row = row_of c.in-Some.kind in
+    let row = kind_row c.in-Some.kind in
     let kind = of_kind c.args.bytes.now c.args.wide c.of.result c.in-Some.kind c.if-bytes-lt-SHORTEST.false c.of.ensures c.in-Some.is in (
       row.0,
       row.1,
@@ -72,7 +72,7 @@ returns-then-in_range-clause-spelled c = spelled c.args.bytes.now c.args.wide c.
 -- what is out of its range
 refused : (c : goal.Else-in_range) → IsReading c.args.bytes.now c.args.wide (Err fault.Range)
 refused c =
-    let row = row_of c.in-Some.kind in
+    let row = kind_row c.in-Some.kind in
     let kind = of_kind c.args.bytes.now c.args.wide c.of.result c.in-Some.kind c.if-bytes-lt-SHORTEST.false c.of.ensures c.in-Some.is in (
       row.0,
       row.1,

@@ -3,7 +3,6 @@ use Rattle.std.proofs.Math.ListN.{set as put}
 use Rattle.dg_quiet.specs.Noted.{with_request, moments_of}
 use Rattle.dg_quiet.proofs.NotedLaws.{moments_of-put}
 use Rattle.dg_quiet.proofs.Windows.note_request.Goals as goal
-use Rattle.dg_quiet.proofs.Windows.note_request.Goals.{After-place-k}
 
 pub returns : goal.returns
 returns c =
