@@ -23,7 +23,7 @@ use Rattle.dg_volume.proofs.ActLemmas.{acted_then, stops_then}
 use Rattle.dg_volume.proofs.BehindLemmas.{memory_free}
 use Rattle.dg_boot.specs.Loads.{Measures}
 use Rattle.dg_boot.specs.Started.{Lacks}
-use Rattle.dg_boot.specs.Ends.{Went, Boots}
+use Rattle.dg_boot.specs.Ends.{TrailWent, BootOutcome}
 use Rattle.dg_boot.specs.declared.Started.{Started}
 use Rattle.dg_boot.specs.declared.loaded.Loaded.{Loaded}
 use Rattle.dg_boot.specs.declared.BootFault.{BootFault}
@@ -43,7 +43,7 @@ on_err_map (Err e) p f = f p
 
 -- ---- an act, and what comes behind it
 
-pub boots_then : (r : Result Started BootFault) (t : Trail Store) (b : Boot) (x y z : Device) (v : Volume) → last t ≡ b.trail.first → Went t x y v → Boots r b y z → Boots r (behind t b) x z
+pub boots_then : (r : Result Started BootFault) (t : Trail Store) (b : Boot) (x y z : Device) (v : Volume) → last t ≡ b.trail.first → TrailWent t x y v → BootOutcome r b y z → BootOutcome r (behind t b) x z
 boots_then (Ok told) t b x y z v same went h =
     let s = h.0 in (
       record {
@@ -69,7 +69,7 @@ boots_then (Err faults.NotAVolume) t b x y z v same went h = h
 
 -- ---- a read before it
 
-pub went_looked : (t : Trail Store) (x y z : Device) (v : Volume) → Looked x y → Went t y z v → Went t x z v
+pub went_looked : (t : Trail Store) (x y z : Device) (v : Volume) → Looked x y → TrailWent t y z v → TrailWent t x z v
 went_looked t x y z v looked went = record {
   acted = record { ran = ran_after looked.ran went.acted.ran; mounted = went.acted.mounted };
   idle = λ none. went.idle none ∙ looked.same_image;
@@ -78,7 +78,7 @@ went_looked t x y z v looked went = record {
 pub mounted_looked : (s : Store) (x y : Device) (v : Volume) → Looked x y → Mounted x.image v s → Mounted y.image v s
 mounted_looked s x y v looked m = subst (λ (c : List ℕ). Mounted c v s) (sym looked.same_image) m
 
-pub went_read : (s : Store) (x y : Device) (v : Volume) → Looked x y → Mounted x.image v s → Went (resting s 0) x y v
+pub went_read : (s : Store) (x y : Device) (v : Volume) → Looked x y → Mounted x.image v s → TrailWent (resting s 0) x y v
 went_read s x y v looked m = record {
   acted = record {
     ran = subst (λ (n : ℕ). Ran n x y) (sym (operations-resting s 0)) looked.ran;
@@ -90,7 +90,7 @@ went_read s x y v looked m = record {
 pub stops_looked : (t : Trail Store) (x y z : Device) → Looked x y → Stops t y z → Stops t x z
 stops_looked t x y z looked h = record { done = h.done; halts = halts_after looked.ran h.halts; leaves = h.leaves }
 
-pub boots_looked : (r : Result Started BootFault) (b : Boot) (x y z : Device) → Looked x y → Boots r b y z → Boots r b x z
+pub boots_looked : (r : Result Started BootFault) (b : Boot) (x y z : Device) → Looked x y → BootOutcome r b y z → BootOutcome r b x z
 boots_looked (Ok told) b x y z looked h =
     let s = h.0 in (
       record {
@@ -133,7 +133,7 @@ read_stops s t x y b stands h = record {
 
 -- ---- a copy, which no store tells
 
-pub copy_went : (s : Store) (pages : List (List ℕ)) (a b : Device) (v : Volume) → s.app ≡ None → 0 < length pages → Mounted a.image v s → Touches (program_sector 0) program_end a.image b.image → Ran (copy_operations * length pages) a b → Went (copy_trail s pages) a b v
+pub copy_went : (s : Store) (pages : List (List ℕ)) (a b : Device) (v : Volume) → s.app ≡ None → 0 < length pages → Mounted a.image v s → Touches (program_sector 0) program_end a.image b.image → Ran (copy_operations * length pages) a b → TrailWent (copy_trail s pages) a b v
 copy_went s pages a b v none some m touches ran =
     let n = copy_operations * length pages in
     record {
@@ -195,8 +195,8 @@ pub record Tells (told : Started) (v : Volume) (image version : ℕ) (l : Loaded
   pub bytes : told.length ≡ l.length
   pub crc : told.crc ≡ l.crc
 
-pub started_is : (b : Boot) (r : Runs) (a c d : Device) (v : Volume) (l : Loaded) (told : Started) → b.runs ≡ Some r → Went b.trail a d v → NothingLent v → Tells told v r.image r.version l → Measures r.pages l → program c.image l.pages ≡ r.pages
-    → length r.pages ≤ most_pages → Touches 0 control_sectors c.image d.image → Boots (Ok told) b a d
+pub started_is : (b : Boot) (r : Runs) (a c d : Device) (v : Volume) (l : Loaded) (told : Started) → b.runs ≡ Some r → TrailWent b.trail a d v → NothingLent v → Tells told v r.image r.version l → Measures r.pages l → program c.image l.pages ≡ r.pages
+    → length r.pages ≤ most_pages → Touches 0 control_sectors c.image d.image → BootOutcome (Ok told) b a d
 started_is b r a c d v l told chosen went free tells measures memory most touches =
     let count : l.pages ≤ most_pages = omega (arith, measures.pages, most) in (
       record {
@@ -216,9 +216,9 @@ started_is b r a c d v l told chosen went free tells measures memory most touche
 
 -- ---- a stop that is handed on, and no image
 
-pub stopped_boots : (r : Result Started BootFault) (b : Boot) (x y : Device) → IsErrAnd r (λ e. e ≡ faults.Stopped) → Stops b.trail x y → Boots r b x y
+pub stopped_boots : (r : Result Started BootFault) (b : Boot) (x y : Device) → IsErrAnd r (λ e. e ≡ faults.Stopped) → Stops b.trail x y → BootOutcome r b x y
 stopped_boots (Ok told) b x y h stops = absurd h
-stopped_boots (Err e) b x y h stops = subst (λ (f : BootFault). Boots (Err f) b x y) (sym h) stops
+stopped_boots (Err e) b x y h stops = subst (λ (f : BootFault). BootOutcome (Err f) b x y) (sym h) stops
 
 pub lacks_read : (s : Store) (x y : Device) (v : Volume) → Looked x y → Mounted x.image v s → Lacks (record { runs = None; trail = resting s 0 }) x y
 lacks_read s x y v looked m = let went = went_read s x y v looked m in record { none = refl; ran = went.acted.ran; stands = went.acted.mounted.stands }

@@ -21,7 +21,7 @@ use Rattle.dg_volume.specs.declared.volume.Kind.{Kind}
 use Rattle.dg_volume.specs.declared.volume.Kind.TheVariants.{Power, Order}
 use Rattle.dg_volume.proofs.ActLemmas.{acted_none, acted_then}
 use Rattle.dg_boot.specs.Loads.{IsApp}
-use Rattle.dg_boot.specs.Ends.{Went, finishes}
+use Rattle.dg_boot.specs.Ends.{TrailWent, finishes}
 
 both : (a b : Bool) → a && b ≡ true → (a ≡ true) × (b ≡ true)
 both true b h = (refl, h)
@@ -29,10 +29,10 @@ both false b h = absurd cc
 
 -- ---- acts
 
-pub went_none : (s : Store) (a : Device) (v : Volume) → Mounted a.image v s → Went (resting s 0) a a v
+pub went_none : (s : Store) (a : Device) (v : Volume) → Mounted a.image v s → TrailWent (resting s 0) a a v
 went_none s a v mounted = record { acted = acted_none s a v mounted; idle = λ _. refl }
 
-pub went_then : (t u : Trail Store) (a b c : Device) (v w : Volume) → last t ≡ u.first → Went t a b v → Went u b c w → Went (joined t u) a c w
+pub went_then : (t u : Trail Store) (a b c : Device) (v w : Volume) → last t ≡ u.first → TrailWent t a b v → TrailWent u b c w → TrailWent (joined t u) a c w
 went_then t u a b c v w same p q = record {
   acted = acted_then t u a b c v w same p.acted q.acted;
   idle = λ none.
@@ -43,7 +43,7 @@ went_then t u a b c v w same p q = record {
 commit_works : (room : ℕ) → 0 < commit_operations room
 commit_works room = cond_both (room % 32 == 0) 4 2 (λ n. 0 < n) (λ _. omega arith) (λ _. omega arith)
 
-pub commit_went : (s next : Store) (a b : Device) (v : Volume) → Acted (committing s next) a b v → Went (committing s next) a b v
+pub commit_went : (s next : Store) (a b : Device) (v : Volume) → Acted (committing s next) a b v → TrailWent (committing s next) a b v
 commit_went s next a b v acted = record {
   acted = acted;
   idle = λ none.

@@ -12,7 +12,7 @@ use Rattle.dg_volume.specs.Stands.{Stands}
 use Rattle.dg_volume.specs.Start.{Boot, Runs, app_of}
 use Rattle.dg_volume.specs.Consistent.{Consistent, IsSoundApp}
 use Rattle.dg_boot.specs.Started.{Starts}
-use Rattle.dg_boot.specs.Ends.{Boots}
+use Rattle.dg_boot.specs.Ends.{BootOutcome}
 use Rattle.dg_boot.specs.declared.Started.{Started}
 use Rattle.dg_boot.specs.declared.BootFault.{BootFault}
 use Rattle.dg_boot.specs.declared.BootFault.TheVariants as faults
@@ -36,7 +36,7 @@ left golden t k s way h = Leaves-through IsNear (Consistent golden) (near golden
 ends : (golden : Row) (t : Trail Store) (c : List ℕ) → Through (Consistent golden) t → Stands c (last t) → Stays golden c
 ends golden t c way stands = (last t, stands, Through-last (Consistent golden) t way)
 
-pub boots_consistent : (golden : Row) (r : Result Started BootFault) (b : Boot) (x y : Device) → Through (Consistent golden) b.trail → Boots r b x y → Stays golden y.image
+pub boots_consistent : (golden : Row) (r : Result Started BootFault) (b : Boot) (x y : Device) → Through (Consistent golden) b.trail → BootOutcome r b x y → Stays golden y.image
 boots_consistent golden (Ok told) b x y way h = ends golden b.trail y.image way h.0.acted.mounted.stands
 boots_consistent golden (Err faults.NoImage) b x y way h = ends golden b.trail y.image way h.stands
 boots_consistent golden (Err faults.Stopped) b x y way h = (h.leaves.store, h.leaves.stands_for, left golden b.trail h.done h.leaves.store way h.leaves.allowed)
@@ -67,7 +67,7 @@ starts_sound golden b x y told sound h =
 
 -- whatever store the chip stands for
 pub all_sound : (r : Result Started BootFault) (b : Store → Boot) (x y : Device) → ((golden : Row) (s : Store) → Consistent golden s → IfSome (b s).runs (λ r. IsSoundApp golden (app_of r)))
-    → ((s : Store) → Stands x.image s → Boots r (b s) x y)
+    → ((s : Store) → Stands x.image s → BootOutcome r (b s) x y)
     → IfOk r (λ told. (golden : Row) (s : Store) → Stands x.image s → Consistent golden s → IsSoundApp golden (app_told y.image told))
 all_sound (Ok told) b x y sound h = λ golden s stands c. starts_sound golden (b s) x y told (sound golden s c) (h s stands).0
 all_sound (Err e) b x y sound h = tt

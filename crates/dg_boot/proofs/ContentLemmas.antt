@@ -4,7 +4,7 @@ use Rattle.std.specs.List.{range_with_len}
 use Rattle.std.proofs.lemmas.Bool.{cases_lt}
 use Rattle.std.proofs.lemmas.List.{take-append-le, take-take, take_all}
 use Rattle.std.proofs.Math.Seq.{take-append-add}
-use Rattle.dg_words.specs.Lists.{joined, tabulate}
+use Rattle.dg_words.specs.Lists.{concatenated, tabulate}
 use Rattle.dg_words.specs.Cells.{part}
 use Rattle.dg_words.proofs.CellLemmas.{length-part}
 use Rattle.dg_base.specs.Crc.{crc_more}
@@ -19,9 +19,9 @@ take-part cells n m h = take-take n m (drop 0 cells) h
 
 -- a page more is summed
 pub page_summed : (f : ℕ → List ℕ) (cells : List ℕ) (left count a m crc more total : ℕ) → f a ≡ part cells 0 page_size → page_size ≤ length cells → count ≡ min left page_size → more ≡ crc_more crc (part cells 0 count)
-    → crc_more crc (take left (joined (map f (range_with_len a (suc m))))) ≡ total → crc_more more (take (left - page_size) (joined (map f (range_with_len (a + 1) m)))) ≡ total
+    → crc_more crc (take left (concatenated (map f (range_with_len a (suc m))))) ≡ total → crc_more more (take (left - page_size) (concatenated (map f (range_with_len (a + 1) m)))) ≡ total
 page_summed f cells left count a m crc more total page whole counted e before =
-    let rest = joined (map f (range_with_len (a + 1) m)) in
+    let rest = concatenated (map f (range_with_len (a + 1) m)) in
     let long : length (f a) ≡ page_size = ap length page ∙ length-part cells 0 page_size (omega arith) in
     ⊎_elim
     (λ last.
@@ -39,13 +39,13 @@ page_summed f cells left count a m crc more total page whole counted e before =
 
 -- ---- the image's bytes in a table of pages
 
-pub content-tabulate : (len n m : ℕ) (f : ℕ → List ℕ) → n ≡ suc m → content len (tabulate n f) ≡ take len (joined (map f (range_with_len 1 m)))
+pub content-tabulate : (len n m : ℕ) (f : ℕ → List ℕ) → n ≡ suc m → content len (tabulate n f) ≡ take len (concatenated (map f (range_with_len 1 m)))
 content-tabulate len n m f e = ap (λ (k : ℕ). content len (tabulate k f)) e
 
 -- nothing is left
-pub all_summed : (f : ℕ → List ℕ) (left a m crc total : ℕ) → m ≡ 0 → crc_more crc (take left (joined (map f (range_with_len a m)))) ≡ total → crc ≡ total
+pub all_summed : (f : ℕ → List ℕ) (left a m crc total : ℕ) → m ≡ 0 → crc_more crc (take left (concatenated (map f (range_with_len a m)))) ≡ total → crc ≡ total
 all_summed f left a m crc total none e =
-    let empty : take left (joined (map f (range_with_len a m))) ≡ [] = ap (λ (k : ℕ). take left (joined (map f (range_with_len a k)))) none ∙ take_nothing left in
+    let empty : take left (concatenated (map f (range_with_len a m))) ≡ [] = ap (λ (k : ℕ). take left (concatenated (map f (range_with_len a k)))) none ∙ take_nothing left in
     sym (crc_more-nil crc) ∙ ap (crc_more crc) (sym empty) ∙ e
   where
     take_nothing : (n : ℕ) → take {A = ℕ} n [] ≡ []

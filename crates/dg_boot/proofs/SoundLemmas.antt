@@ -1,30 +1,13 @@
 -- The checksums that a descriptor keeps, and what makes pages sound.
-use Rattle.std.proofs.Common.{◌≡◌, ℕ, zero, suc, ◌+◌, ◌-◌, ◌*◌, ◌<◌, ◌≤◌, Bool, true, false, List, [], map, length, get_or, refl, sym, ap, ◌∙◌, ⊎_elim, arith}
+use Rattle.std.proofs.Common.{◌≡◌, ℕ, zero, suc, ◌+◌, ◌-◌, ◌<◌, ◌≤◌, Bool, true, false, List, [], map, length, get_or, refl, sym, ap, ◌∙◌, ⊎_elim, arith}
 use Rattle.std.proofs.lemmas.Bool.{cases_lt, eq-eqb}
 use Rattle.std.specs.Prelude.{◌==◌, ◌&&◌}
 use Rattle.std.specs.List.{list_all, range_with_len}
 use Rattle.dg_words.specs.Lists.{tabulate}
 use Rattle.dg_words.proofs.ListLemmas.{length-tabulate, get_or-tabulate}
-use Rattle.dg_words.specs.Cells.{part}
-use Rattle.dg_words.proofs.CellLemmas.{get_or-part}
 use Rattle.dg_base.specs.Crc.{crc_of}
 use Rattle.dg_object.specs.Descriptor.{crc_in}
-use Rattle.dg_object.specs.Sizes.{head_size}
-use Rattle.dg_slot.specs.Layout.{page_size, most_pages}
 use Rattle.dg_volume.specs.Start.{pages_sound}
-
--- the two bytes of a data page's CRC
-pub crc_two : (cells two : List ℕ) (p at : ℕ) → 1 ≤ p → p < most_pages → at ≡ head_size + 2 * (p - 1) → two ≡ part cells at 2 → get_or two 0 0 * 256 + get_or two 1 0 ≡ crc_in (part cells 0 page_size) p
-crc_two cells two p at low high place e =
-    let h : get_or two 0 0 ≡ get_or cells (at + 0) 0 = ap (λ x. get_or x 0 0) e ∙ get_or-part cells at 2 0 0 (omega arith) in
-    let l : get_or two 1 0 ≡ get_or cells (at + 1) 0 = ap (λ x. get_or x 1 0) e ∙ get_or-part cells at 2 1 0 (omega arith) in
-    let i : at + 0 ≡ 0 + (26 + 2 * p) = omega arith in
-    let j : at + 1 ≡ 0 + (27 + 2 * p) = omega arith in
-    let a : get_or (part cells 0 page_size) (26 + 2 * p) 0 ≡ get_or cells (0 + (26 + 2 * p)) 0 = get_or-part cells 0 page_size (26 + 2 * p) 0 (omega arith) in
-    let b : get_or (part cells 0 page_size) (27 + 2 * p) 0 ≡ get_or cells (0 + (27 + 2 * p)) 0 = get_or-part cells 0 page_size (27 + 2 * p) 0 (omega arith) in
-    let hh : get_or two 0 0 ≡ get_or (part cells 0 page_size) (26 + 2 * p) 0 = h ∙ ap (λ x. get_or cells x 0) i ∙ sym a in
-    let ll : get_or two 1 0 ≡ get_or (part cells 0 page_size) (27 + 2 * p) 0 = l ∙ ap (λ x. get_or cells x 0) j ∙ sym b in
-    omega (arith, hh, ll)
 
 -- ---- the pages of a slot, told by a function of the place
 

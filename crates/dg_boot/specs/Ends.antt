@@ -9,7 +9,8 @@ use Rattle.dg_volume.specs.Sizes.{golden_version, short_starts}
 use Rattle.dg_volume.specs.Store.{Store, held}
 use Rattle.dg_volume.specs.Stands.{HoldsApp}
 use Rattle.dg_volume.specs.Trails.{committing}
-use Rattle.dg_volume.specs.Start.{Boot, behind, is_set_to, sound, complete_pages, kept_runs, blank_trail, copy_trail, finish_trail, order_boot, kept_boot, waived_once}
+use Rattle.dg_volume.specs.Start.{Boot, behind, is_set_to, sound, complete_pages, kept_runs, blank_trail, copy_trail}
+use Rattle.dg_volume.specs.Start.{finish_trail, order_boot, kept_boot, waived_once}
 use Rattle.dg_volume.specs.Acts.{Acted, Stops}
 use Rattle.dg_volume.specs.declared.volume.Volume.{Volume}
 use Rattle.dg_boot.specs.Loads.{IsWhole, app_from, Measures}
@@ -20,21 +21,21 @@ use Rattle.dg_boot.specs.declared.BootFault.{BootFault}
 use Rattle.dg_boot.specs.declared.BootFault.TheVariants as faults
 
 -- The whole trail was gone. Where it has no operation, no byte changed.
-pub record Went (t : Trail Store) (old new : Device) (v : Volume) : Type 0 where
+pub record TrailWent (t : Trail Store) (old new : Device) (v : Volume) : Type 0 where
   pub acted : Acted t old new v
   pub idle : operations t ≡ 0 → new.image ≡ old.image
 
 -- an act on a volume went this trail, or was stopped on it
 abbrev pub Goes : {T : Type 0} → Result T Stopped → Trail Store → Device → Device → Volume → Type 0
-Goes (Ok x) t old new v = Went t old new v
+Goes (Ok x) t old new v = TrailWent t old new v
 Goes (Err e) t old new v = Stops t old new
 
 -- a start of a volume went this way, or was stopped on it
-abbrev pub Boots : Result Started BootFault → Boot → Device → Device → Type 0
-Boots (Ok told) b old new = Starts b old new told × (operations b.trail ≡ 0 → new.image ≡ old.image)
-Boots (Err faults.NoImage) b old new = Lacks b old new
-Boots (Err faults.Stopped) b old new = Stops b.trail old new
-Boots (Err faults.NotAVolume) b old new = ⊥
+abbrev pub BootOutcome : Result Started BootFault → Boot → Device → Device → Type 0
+BootOutcome (Ok told) b old new = Starts b old new told × (operations b.trail ≡ 0 → new.image ≡ old.image)
+BootOutcome (Err faults.NoImage) b old new = Lacks b old new
+BootOutcome (Err faults.Stopped) b old new = Stops b.trail old new
+BootOutcome (Err faults.NotAVolume) b old new = ⊥
 
 -- there is room for the start of golden, or it needs none
 abbrev pub golden_fits : Store → Bool
@@ -58,7 +59,7 @@ copied_trail s image = joined (blank_trail s) (copy_trail (last (blank_trail s))
 
 -- so it was, and this is told of them
 pub record CopiedIn (s : Store) (image : ℕ) (old new : Device) (v : Volume) (told : Loaded) : Type 0 where
-  pub went : Went (copied_trail s image) old new v
+  pub went : TrailWent (copied_trail s image) old new v
   pub found : Held
   pub here : held s image ≡ Some found
   pub holds : HoldsApp new.image (app_from image found)

@@ -32,7 +32,8 @@ pub(crate) fn commit<N: Nor>(
     requires waives { waived ≡ true → (snapshot_of volume.old).order.number ≢ 0 }
     requires holds { (app : Option App) × (program ≡ program_told app) × IfSome app (HoldsApp (N.device nor.old).image) }
     ensures goes { (s : Store) (app : Option App) → Mounted (N.device nor.old).image volume.old s → program ≡ program_told app
-        → IfSome app (HoldsApp (N.device nor.old).image) → Goes result (advance_trail s app gesture waived) (N.device nor.old) (N.device nor.new) volume.new }
+        → IfSome app (HoldsApp (N.device nor.old).image)
+        → Goes result (advance_trail s app gesture waived) (N.device nor.old) (N.device nor.new) volume.new }
     ensures free { OnOk result (NothingLent volume.new) }
     ensures touches { Touches 0 control_sectors (N.device nor.old).image (N.device nor.new).image }
 {
@@ -129,7 +130,8 @@ pub(crate) fn finish<N: Nor>(nor: &mut N, volume: &mut Volume, three: bool) -> R
     requires free { NothingLent volume.old }
     requires holds { (app : App) × IsApp app 0 golden_version × HoldsApp (N.device nor.old).image app }
     ensures goes { (s : Store) (r : Runs) → Mounted (N.device nor.old).image volume.old s → IsApp (app_of r) 0 golden_version
-        → HoldsApp (N.device nor.old).image (app_of r) → Goes result (finish_trail s r three) (N.device nor.old) (N.device nor.new) volume.new }
+        → HoldsApp (N.device nor.old).image (app_of r)
+        → Goes result (finish_trail s r three) (N.device nor.old) (N.device nor.new) volume.new }
     ensures free { OnOk result (NothingLent volume.new) }
     ensures touches { Touches 0 control_sectors (N.device nor.old).image (N.device nor.new).image }
 {

@@ -28,7 +28,8 @@ pub fn three_short_starts_start_golden()
 
 /// A waived order is not started: golden runs, or what program memory was set to.
 pub fn a_waived_order_is_not_started()
-    ensures { (kind : Kind) (s : Store) → s.waived ≡ true → IfSome (boot kind s).runs (λ r. IsGolden r ⊎ (s.app ≡ Some (app_of r))) }
+    ensures { (kind : Kind) (s : Store) → s.waived ≡ true
+        → IfSome (boot kind s).runs (λ r. IsGolden r ⊎ (s.app ≡ Some (app_of r))) }
 {}
 
 /// Program memory is set to what was copied with the last operation of a start, and not before: a stop in any earlier

@@ -82,7 +82,8 @@ pub fn start<N: Nor>(nor: &mut N, kind: Kind) -> Result<Started, BootFault>
     ensures no_image { IsErrOf result BootFault.NoImage → (s : Store) → Stands (N.device nor.old).image s
         → Lacks (boot kind s) (N.device nor.old) (N.device nor.new) }
     ensures of_a_volume { IsErrOf result BootFault.NoImage → (s : Store) × Stands (N.device nor.old).image s }
-    ensures not_a_volume { IsErrOf result BootFault.NotAVolume → IsNoVolume (N.device nor.old).image × Looked (N.device nor.old) (N.device nor.new) }
+    ensures not_a_volume { IsErrOf result BootFault.NotAVolume → IsNoVolume (N.device nor.old).image
+        × Looked (N.device nor.old) (N.device nor.new) }
     ensures stopped { IsErrOf result BootFault.Stopped → (s : Store) → Stands (N.device nor.old).image s
         → Stops (boot kind s).trail (N.device nor.old) (N.device nor.new) }
     // a chip that is no volume keeps its bytes
@@ -91,7 +92,11 @@ pub fn start<N: Nor>(nor: &mut N, kind: Kind) -> Result<Started, BootFault>
     ensures cause { IsErrOf result BootFault.Stopped → ActStopped (N.device nor.old) (N.device nor.new) }
     // whatever frames made its store: golden runs byte for byte, or pages that fit the descriptor before them
     ensures sound { IfOk result (λ told. (golden : Row) (s : Store) → Stands (N.device nor.old).image s → Consistent golden s
-        → IsSoundApp golden (record { image = told.image; version = told.version; pages = program (N.device nor.new).image told.pages })) }
+        → IsSoundApp golden (record {
+          image = told.image;
+          version = told.version;
+          pages = program (N.device nor.new).image told.pages;
+        })) }
     // and a consistent chip stays so, however the start ends, also where it stops
     ensures consistent { (golden : Row) (s : Store) → Stands (N.device nor.old).image s → Consistent golden s
         → (t : Store) × Stands (N.device nor.new).image t × Consistent golden t }

@@ -17,10 +17,10 @@ ghost use Rattle.dg_volume.specs.Stands.{HoldsApp};
 ghost use Rattle.dg_boot.specs.Loads.{Measures, IsWhole, app_from};
 
 use crate::loaded::Loaded;
-use crate::pieces::{copy_page, front_crc};
+use crate::pieces::copy_page;
 use dg_nor::{Nor, Stopped, read_in};
 use dg_object::{Descriptor, HEAD_SIZE, PAGE_SIZE};
-use dg_slot::{PROGRAM_SECTOR, page_sector};
+use dg_slot::{PROGRAM_SECTOR, front_crc, page_sector};
 
 /// The bytes of a page.
 const PAGE: u32 = PAGE_SIZE as u32;
@@ -74,10 +74,12 @@ fn copy_pages<N: Nor>(nor: &mut N, image: u8, length: u32) -> Result<u16, Stoppe
     requires fits { length ≤ most_bytes }
     ensures pages { OnOk result ((p : ℕ) → p < pages_for length
         → page_in (N.device nor.new).image (program_sector p) ≡ page_in (N.device nor.old).image (page_sector image p)) }
-    ensures crc { IfOk result (λ crc. crc ≡ crc_of (content length (slot_pages (N.device nor.old).image image (pages_for length)))) }
+    ensures crc { IfOk result (λ crc. crc ≡ crc_of
+        (content length (slot_pages (N.device nor.old).image image (pages_for length)))) }
     ensures touches { Touches (program_sector 0) program_end (N.device nor.old).image (N.device nor.new).image }
     ensures ran { OnOk result (Ran (copy_operations * pages_for length) (N.device nor.old) (N.device nor.new)) }
-    ensures stopped { OnErr result (Halted (copy_operations * pages_for length) (λ _ _. ⊤) (N.device nor.old) (N.device nor.new)) }
+    ensures stopped { OnErr result (Halted (copy_operations * pages_for length) (λ _ _. ⊤) (N.device nor.old)
+        (N.device nor.new)) }
 {
     let first = page_sector(image, 0);
     copy_page(nor, first, PROGRAM_SECTOR, 0, 0)?;
@@ -94,7 +96,8 @@ pub(crate) fn load<N: Nor>(nor: &mut N, image: u8) -> Result<Loaded, Stopped>
     requires known_image { image < images }
     requires kept { (h : Held) × KeepsImage (N.device nor.old).image image h × IsWhole h }
     ensures loaded { IfOk result (λ told. (h : Held) → KeepsImage (N.device nor.old).image image h → IsWhole h
-        → HoldsApp (N.device nor.new).image (app_from image h) × Measures h.complete told × (program (N.device nor.new).image told.pages ≡ h.complete)) }
+        → HoldsApp (N.device nor.new).image (app_from image h) × Measures h.complete told
+        × (program (N.device nor.new).image told.pages ≡ h.complete)) }
     ensures touches { Touches (program_sector 0) program_end (N.device nor.old).image (N.device nor.new).image }
     ensures ran { OnOk result ((h : Held) → KeepsImage (N.device nor.old).image image h → IsWhole h
         → Ran (copy_operations * length h.complete) (N.device nor.old) (N.device nor.new)) }

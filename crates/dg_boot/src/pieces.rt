@@ -1,11 +1,10 @@
-//! Pages that are read and copied piece by piece, with their checksums.
-ghost use Rattle.std.specs.Prelude.{◌≡◌, ◌≢◌, ℕ, ◌+◌, ◌-◌, ◌*◌, ◌<◌, ◌≤◌, ⊤, length, min, IfOk, OnOk, OnErr};
+//! Pages that are copied piece by piece, with their checksums.
+ghost use Rattle.std.specs.Prelude.{◌≡◌, ◌≢◌, ℕ, ◌+◌, ◌-◌, ◌*◌, ◌<◌, ◌≤◌, ⊤, min, IfOk, OnOk, OnErr};
 ghost use Rattle.dg_words.specs.Cells.{part};
 ghost use Rattle.dg_base.specs.Crc.{crc_more};
 ghost use Rattle.dg_nor.specs.Sizes.{sectors};
 ghost use Rattle.dg_nor.specs.Chip.{sector, programmed, Touches};
 ghost use Rattle.dg_nor.specs.Device.{Ran, Halts, Halted};
-ghost use Rattle.dg_nor.specs.Reads.{ReadEnds};
 ghost use Rattle.dg_slot.specs.Layout.{page_size};
 ghost use Rattle.dg_slot.specs.Pages.{page_in};
 ghost use Rattle.dg_volume.specs.Sizes.{copy_operations};
@@ -19,46 +18,6 @@ pub const COPY_PIECE: u32 = 138;
 
 /// The pieces of a page, each of which is one program.
 pub const COPY_PIECES: u32 = 8;
-
-/// Reads the bytes of a sector from `at` on into `piece`, and gives their checksum behind `before`.
-fn piece_crc<N: Nor>(
-    nor: &mut N,
-    index: u32,
-    at: u32,
-    piece: &mut [u8],
-    before: u16,
-) -> Result<u16, Stopped>
-    requires in_chip { index < sectors }
-    requires in_page { at + length piece.old ≤ page_size }
-    ensures crc { IfOk result (λ crc. crc ≡ crc_more before (part (sector (N.device nor.old).image index) at (length piece.old))) }
-    ensures ends { ReadEnds result (N.device nor.old) (N.device nor.new) }
-{
-    read_in(nor, index, at, piece)?;
-    Ok(crc16_more(before, piece))
-}
-
-/// The checksum of the first `count` bytes of a sector behind `before`.
-pub(crate) fn front_crc<N: Nor>(
-    nor: &mut N,
-    index: u32,
-    count: u32,
-    before: u16,
-) -> Result<u16, Stopped>
-    requires in_chip { index < sectors }
-    requires in_page { count ≤ page_size }
-    ensures crc { IfOk result (λ crc. crc ≡ crc_more before (part (sector (N.device nor.old).image index) 0 count)) }
-    ensures ends { ReadEnds result (N.device nor.old) (N.device nor.new) }
-{
-    let mut piece = [0; COPY_PIECE as usize];
-    let mut crc = before;
-    let mut at = 0;
-    while at < count {
-        let len = (count - at).min(COPY_PIECE);
-        crc = piece_crc(nor, index, at, &mut piece[..len as usize], crc)?;
-        at += len;
-    }
-    Ok(crc)
-}
 
 /// Copies a piece of one sector into another, where it stands erased, and gives the checksum behind `before` of its
 /// bytes that are among the first `count` of the sector. 1 operation.
@@ -76,7 +35,8 @@ fn copy_piece<N: Nor>(
     requires in_page { at + copy_piece_size ≤ page_size }
     ensures cells { OnOk result (sector (N.device nor.new).image to
         ≡ programmed (sector (N.device nor.old).image to) at (part (sector (N.device nor.old).image from) at copy_piece_size)) }
-    ensures crc { IfOk result (λ crc. crc ≡ crc_more before (part (sector (N.device nor.old).image from) at (min (count - at) copy_piece_size))) }
+    ensures crc { IfOk result (λ crc. crc ≡ crc_more before
+        (part (sector (N.device nor.old).image from) at (min (count - at) copy_piece_size))) }
     ensures touches { Touches to (to + 1) (N.device nor.old).image (N.device nor.new).image }
     ensures ran { OnOk result (Ran 1 (N.device nor.old) (N.device nor.new)) }
     ensures stopped { OnErr result (Halts 1 0 (N.device nor.old) (N.device nor.new)) }

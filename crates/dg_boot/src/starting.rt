@@ -5,10 +5,11 @@ ghost use Rattle.dg_slot.specs.Layout.{program_sector, program_end};
 ghost use Rattle.dg_volume.specs.Sizes.{images, golden_version, short_starts};
 ghost use Rattle.dg_volume.specs.Store.{App, Store};
 ghost use Rattle.dg_volume.specs.Stands.{snapshot_of, room_of, Mounted, IsMounted, NothingLent};
-ghost use Rattle.dg_volume.specs.Start.{behind, boot, is_set_to, order_boot, golden_boot, golden_copied, golden_stays, kept_boot, waived_once, boot_counted, order_waits, sound};
+ghost use Rattle.dg_volume.specs.Start.{behind, boot, is_set_to, order_boot, golden_boot, golden_copied, golden_stays, kept_boot};
+ghost use Rattle.dg_volume.specs.Start.{waived_once, boot_counted, order_waits, sound};
 ghost use Rattle.dg_volume.specs.Trails.{committing};
 ghost use Rattle.dg_volume.specs.Acts.{Stops, TouchesBut};
-ghost use Rattle.dg_boot.specs.Ends.{Boots, golden_fits, copied_trail, golden_loaded, ordered_boot, HoldsWhole, CopiedIn};
+ghost use Rattle.dg_boot.specs.Ends.{BootOutcome, golden_fits, copied_trail, golden_loaded, ordered_boot, HoldsWhole, CopiedIn};
 
 use crate::choosing::{GOLDEN, chooses_golden, has_three, is_golden, waits};
 use crate::committing::{blank, count_start, finish, set, waive};
@@ -63,7 +64,7 @@ fn start_ordered<N: Nor>(nor: &mut N, mut volume: Volume) -> Result<Started, Boo
     requires free { NothingLent volume }
     requires waits { (s : Store) → Mounted (N.device nor.old).image volume s → order_waits s ≡ true }
     ensures boots { (s : Store) → Mounted (N.device nor.old).image volume s
-        → Boots result (order_boot s) (N.device nor.old) (N.device nor.new) }
+        → BootOutcome result (order_boot s) (N.device nor.old) (N.device nor.new) }
     ensures touches { TouchesBut (program_sector 0) program_end (N.device nor.old).image (N.device nor.new).image }
 {
     let order = volume.snapshot().order;
@@ -78,7 +79,7 @@ fn load_golden<N: Nor>(nor: &mut N, mut volume: Volume, three: bool) -> Result<S
     requires free { NothingLent volume }
     requires room { (snapshot_of volume).program ≢ Program.Blank → 1 ≤ room_of volume }
     ensures boots { (s : Store) → Mounted (N.device nor.old).image volume s
-        → Boots result (golden_loaded s three) (N.device nor.old) (N.device nor.new) }
+        → BootOutcome result (golden_loaded s three) (N.device nor.old) (N.device nor.new) }
     ensures touches { TouchesBut (program_sector 0) program_end (N.device nor.old).image (N.device nor.new).image }
 {
     let loaded = copy_in(nor, &mut volume, GOLDEN)?;
@@ -108,7 +109,7 @@ fn start_golden_copied<N: Nor>(
     requires free { NothingLent volume }
     requires room { (snapshot_of volume).program ≢ Program.Blank → 1 ≤ room_of volume }
     ensures boots { (s : Store) → Mounted (N.device nor.old).image volume s
-        → Boots result (golden_copied s three) (N.device nor.old) (N.device nor.new) }
+        → BootOutcome result (golden_copied s three) (N.device nor.old) (N.device nor.new) }
     ensures touches { TouchesBut (program_sector 0) program_end (N.device nor.old).image (N.device nor.new).image }
 {
     if !is_image_sound(nor, &volume, GOLDEN)? {
@@ -127,7 +128,7 @@ fn start_golden_kept<N: Nor>(
     requires free { NothingLent volume }
     requires golden { (s : Store) → Mounted (N.device nor.old).image volume s → is_set_to s.app 0 golden_version ≡ true }
     ensures boots { (s : Store) (app : App) → Mounted (N.device nor.old).image volume s → s.app ≡ Some app
-        → Boots result (golden_stays s app three) (N.device nor.old) (N.device nor.new) }
+        → BootOutcome result (golden_stays s app three) (N.device nor.old) (N.device nor.new) }
     ensures touches { TouchesBut (program_sector 0) program_end (N.device nor.old).image (N.device nor.new).image }
 {
     let loaded = measure(nor)?;
@@ -141,7 +142,7 @@ fn start_golden<N: Nor>(nor: &mut N, volume: Volume, three: bool) -> Result<Star
     requires free { NothingLent volume }
     requires fits { (s : Store) → Mounted (N.device nor.old).image volume s → golden_fits s ≡ true }
     ensures boots { (s : Store) → Mounted (N.device nor.old).image volume s
-        → Boots result (golden_boot s three) (N.device nor.old) (N.device nor.new) }
+        → BootOutcome result (golden_boot s three) (N.device nor.old) (N.device nor.new) }
     ensures touches { TouchesBut (program_sector 0) program_end (N.device nor.old).image (N.device nor.new).image }
 {
     if is_golden(volume.snapshot().program) {
@@ -162,7 +163,7 @@ fn run_on<N: Nor>(
     requires free { NothingLent volume }
     requires set { (snapshot_of volume).program ≡ Program.Set image version }
     ensures boots { (s : Store) (three : Bool) → Mounted (N.device nor.old).image volume s
-        → Boots result (kept_boot s three) (N.device nor.old) (N.device nor.new) }
+        → BootOutcome result (kept_boot s three) (N.device nor.old) (N.device nor.new) }
     ensures touches { TouchesBut (program_sector 0) program_end (N.device nor.old).image (N.device nor.new).image }
 {
     let loaded = measure(nor)?;
@@ -174,7 +175,7 @@ fn start_kept<N: Nor>(nor: &mut N, volume: Volume) -> Result<Started, BootFault>
     requires mounted { IsMounted (N.device nor.old).image volume }
     requires free { NothingLent volume }
     ensures boots { (s : Store) → Mounted (N.device nor.old).image volume s
-        → Boots result (kept_boot s (s.gesture == short_starts)) (N.device nor.old) (N.device nor.new) }
+        → BootOutcome result (kept_boot s (s.gesture == short_starts)) (N.device nor.old) (N.device nor.new) }
     ensures touches { TouchesBut (program_sector 0) program_end (N.device nor.old).image (N.device nor.new).image }
 {
     match volume.snapshot().program {
@@ -192,7 +193,8 @@ fn start_waived<N: Nor>(nor: &mut N, mut volume: Volume) -> Result<Started, Boot
     requires free { NothingLent volume }
     requires waits { (s : Store) → Mounted (N.device nor.old).image volume s → order_waits s ≡ true }
     ensures boots { (s : Store) → Mounted (N.device nor.old).image volume s
-        → Boots result (behind (committing s (waived_once s)) (kept_boot (waived_once s) (s.gesture == short_starts))) (N.device nor.old) (N.device nor.new) }
+        → BootOutcome result (behind (committing s (waived_once s)) (kept_boot (waived_once s) (s.gesture == short_starts)))
+        (N.device nor.old) (N.device nor.new) }
     ensures touches { TouchesBut (program_sector 0) program_end (N.device nor.old).image (N.device nor.new).image }
 {
     waive(nor, &mut volume)?;
@@ -205,7 +207,7 @@ fn try_order<N: Nor>(nor: &mut N, volume: Volume) -> Result<Started, BootFault>
     requires free { NothingLent volume }
     requires waits { (s : Store) → Mounted (N.device nor.old).image volume s → order_waits s ≡ true }
     ensures boots { (s : Store) → Mounted (N.device nor.old).image volume s
-        → Boots result (ordered_boot s) (N.device nor.old) (N.device nor.new) }
+        → BootOutcome result (ordered_boot s) (N.device nor.old) (N.device nor.new) }
     ensures touches { TouchesBut (program_sector 0) program_end (N.device nor.old).image (N.device nor.new).image }
 {
     if is_image_sound(nor, &volume, volume.snapshot().order.image)? {
@@ -220,7 +222,7 @@ fn start_counted<N: Nor>(nor: &mut N, volume: Volume) -> Result<Started, BootFau
     requires mounted { IsMounted (N.device nor.old).image volume }
     requires free { NothingLent volume }
     ensures boots { (s : Store) → Mounted (N.device nor.old).image volume s
-        → Boots result (boot_counted s) (N.device nor.old) (N.device nor.new) }
+        → BootOutcome result (boot_counted s) (N.device nor.old) (N.device nor.new) }
     ensures touches { TouchesBut (program_sector 0) program_end (N.device nor.old).image (N.device nor.new).image }
 {
     if chooses_golden(&volume) {
@@ -241,7 +243,7 @@ pub(crate) fn start_mounted<N: Nor>(
     requires mounted { IsMounted (N.device nor.old).image volume }
     requires free { NothingLent volume }
     ensures boots { (s : Store) → Mounted (N.device nor.old).image volume s
-        → Boots result (boot kind s) (N.device nor.old) (N.device nor.new) }
+        → BootOutcome result (boot kind s) (N.device nor.old) (N.device nor.new) }
     ensures touches { TouchesBut (program_sector 0) program_end (N.device nor.old).image (N.device nor.new).image }
 {
     count_start(nor, &mut volume, kind)?;

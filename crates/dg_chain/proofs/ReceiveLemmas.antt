@@ -11,7 +11,7 @@ use Rattle.dg_slot.specs.Fits.{may_seal}
 use Rattle.dg_slot.specs.Jobs.{SlotStops}
 use Rattle.dg_chain.specs.Checking.{is_same}
 use Rattle.dg_chain.specs.Answers.{chained_trail, SealsChained}
-use Rattle.dg_chain.specs.Receiving.{fill_operations, receive_trail, Receives}
+use Rattle.dg_chain.specs.Receiving.{fill_operations, receive_page_trail, Receives}
 use Rattle.dg_chain.specs.declared.sealing.ChainSealing.{ChainSealing}
 use Rattle.dg_chain.specs.declared.sealing.ChainSealing.TheVariants.{Sealed, Foreign, Bad}
 
@@ -39,7 +39,7 @@ filling_by true image h g a c keeps halted =
 filling_by false image h g a c keeps halted =
     Halted-weaker {may' = May image (resting h fill_operations)} (λ k within x. record { store = h; stands_for = keeps; allowed = refl }) halted
 
-pub filling_stops : (expected : List ℕ) (image : ℕ) (h : Held) (page : List ℕ) (a c : Device) → KeepsImage c.image image h → Halted fill_operations (λ _ _. ⊤) a c → SlotStops image (receive_trail expected image h page) a c
+pub filling_stops : (expected : List ℕ) (image : ℕ) (h : Held) (page : List ℕ) (a c : Device) → KeepsImage c.image image h → Halted fill_operations (λ _ _. ⊤) a c → SlotStops image (receive_page_trail expected image h page) a c
 filling_stops expected image h page a c keeps halted = filling_by (is_same (sha256 page) expected && may_seal image h page) image h (with_page h page) a c keeps halted
 
 -- at the gate
@@ -63,7 +63,7 @@ sealing_by true true image h g a b c ran stops =
 sealing_by true false image h g a b c ran stops = unsealed_stops image h a b c ran stops
 sealing_by false m image h g a b c ran stops = unsealed_stops image h a b c ran stops
 
-pub sealing_stops : (expected : List ℕ) (image i : ℕ) (h : Held) (page made : List ℕ) (a b c : Device) → i ≡ image → made ≡ page → Ran 49 a b → SlotStops i (chained_trail expected i h made) b c → SlotStops image (receive_trail expected image h page) a c
+pub sealing_stops : (expected : List ℕ) (image i : ℕ) (h : Held) (page made : List ℕ) (a b c : Device) → i ≡ image → made ≡ page → Ran 49 a b → SlotStops i (chained_trail expected i h made) b c → SlotStops image (receive_page_trail expected image h page) a c
 sealing_stops expected image i h page made a b c e f ran stops =
     let first : SlotStops image (chained_trail expected image h made) b c = subst (λ (n : ℕ). SlotStops n (chained_trail expected n h made) b c) e stops in
     let here : SlotStops image (chained_trail expected image h page) b c = subst (λ (l : List ℕ). SlotStops image (chained_trail expected image h l) b c) f first in

@@ -15,7 +15,7 @@ use Rattle.dg_slot.proofs.HeaderLemmas.{done_read}
 use Rattle.dg_slot.proofs.DescriptorLemmas.{one_descriptor, descriptor_head}
 use Rattle.dg_chain.specs.Chain.{IsPayload, chain, root_of, most_payload, pages_of_size, no_digest}
 use Rattle.dg_chain.specs.Checking.{field_of, is_same, Break, first_break, length_in, last_field, has_shape, pages_on, data_pages, Answer, Fine, Broken, Misshapen, by_break, answer_of, Collision}
-use Rattle.dg_chain.specs.Answers.{Answers, Walks}
+use Rattle.dg_chain.specs.Answers.{ChainAnswers, Walks}
 use Rattle.dg_chain.specs.declared.checking.ChainFault.{ChainFault}
 use Rattle.dg_chain.specs.declared.checking.ChainFault.TheVariants as fault
 use Rattle.dg_chain.proofs.WalkLemmas.{named, own}
@@ -111,15 +111,15 @@ last_ended c image n m kept whole none e = ap (λ (j : ℕ). last_or kept (pages
 
 -- ---- the answer
 
-answer_fault : (root : List ℕ) (pages : List (List ℕ)) (e : ChainFault) → Walks root 1 pages (Err e) → Answers (Err e) (answer_of root pages)
+answer_fault : (root : List ℕ) (pages : List (List ℕ)) (e : ChainFault) → Walks root 1 pages (Err e) → ChainAnswers (Err e) (answer_of root pages)
 unfolding answer_of
 answer_fault root pages fault.Stopped walks = tt
 answer_fault root pages (fault.Broken page found other) walks = ap (λ (o : Option Break). by_break o pages) walks
 answer_fault root pages fault.Shape walks = absurd walks
 
-pub answer_stops : (root : List ℕ) (pages : List (List ℕ)) (e : ChainFault) (r : Result ℕ ChainFault) → IsErrAnd r (λ f. f ≡ e) → Walks root 1 pages (Err e) → Answers r (answer_of root pages)
+pub answer_stops : (root : List ℕ) (pages : List (List ℕ)) (e : ChainFault) (r : Result ℕ ChainFault) → IsErrAnd r (λ f. f ≡ e) → Walks root 1 pages (Err e) → ChainAnswers r (answer_of root pages)
 answer_stops root pages e (Ok x) is walks = absurd is
-answer_stops root pages e (Err f) is walks = subst (λ (g : ChainFault). Answers (Err g) (answer_of root pages)) (sym is) (answer_fault root pages e walks)
+answer_stops root pages e (Err f) is walks = subst (λ (g : ChainFault). ChainAnswers (Err g) (answer_of root pages)) (sym is) (answer_fault root pages e walks)
 
 length_pages : (c : List ℕ) (image n : ℕ) → length (data_pages c image n) ≡ n
 length_pages c image n = length-map-range_with_len (λ (p : ℕ). page_in c (page_sector image p)) 1 n
@@ -170,16 +170,16 @@ pages_kept c i n h keeps e =
 
 -- ---- what a root says
 
-pub answer_named : (x : List ℕ) (pages : List (List ℕ)) (root : List ℕ) (r : Result ℕ ChainFault) → IsPayload x → root ≡ root_of x → Answers r (answer_of root pages) → OnOk r ((pages ≡ chain x) ⊎ Collision pages (chain x))
+pub answer_named : (x : List ℕ) (pages : List (List ℕ)) (root : List ℕ) (r : Result ℕ ChainFault) → IsPayload x → root ≡ root_of x → ChainAnswers r (answer_of root pages) → OnOk r ((pages ≡ chain x) ⊎ Collision pages (chain x))
 answer_named x pages root (Ok n) payload e a = named x pages n payload (sym (ap (λ (k : List ℕ). answer_of k pages) e) ∙ a)
 answer_named x pages root (Err f) payload e a = tt
 
-answer_own_fine : (len : ℕ) (answer : Answer) (r : Result ℕ ChainFault) → answer ≡ Fine len → Answers r answer → (r ≡ Ok len) ⊎ (r ≡ Err fault.Stopped)
+answer_own_fine : (len : ℕ) (answer : Answer) (r : Result ℕ ChainFault) → answer ≡ Fine len → ChainAnswers r answer → (r ≡ Ok len) ⊎ (r ≡ Err fault.Stopped)
 answer_own_fine len answer (Ok n) e a = let h : Fine n ≡ Fine len = sym a ∙ e in let k : n ≡ len = cc in inl (ap (λ (m : ℕ). Ok m) k)
 answer_own_fine len answer (Err fault.Stopped) e a = inr refl
 answer_own_fine len answer (Err (fault.Broken page kept found)) e a = let h : Broken (record { page = page; kept = kept; found = found }) ≡ Fine len = sym a ∙ e in cc
 answer_own_fine len answer (Err fault.Shape) e a = let h : Misshapen ≡ Fine len = sym a ∙ e in cc
 
-pub answer_own : (x : List ℕ) (pages : List (List ℕ)) (root : List ℕ) (r : Result ℕ ChainFault) → IsPayload x → root ≡ root_of x → pages ≡ chain x → Answers r (answer_of root pages) → (r ≡ Ok (length x)) ⊎ (r ≡ Err fault.Stopped)
+pub answer_own : (x : List ℕ) (pages : List (List ℕ)) (root : List ℕ) (r : Result ℕ ChainFault) → IsPayload x → root ≡ root_of x → pages ≡ chain x → ChainAnswers r (answer_of root pages) → (r ≡ Ok (length x)) ⊎ (r ≡ Err fault.Stopped)
 answer_own x pages root r payload e same a =
     answer_own_fine (length x) (answer_of root pages) r (ap (λ (k : List ℕ). answer_of k pages) e ∙ ap (answer_of (root_of x)) same ∙ own x payload) a

@@ -19,17 +19,18 @@ abbrev pub IsWhole : List ℕ → ℕ → Type 0
 IsWhole c image = (h : Held) × KeepsImage c image h × (length h.complete ≡ h.pages)
 
 -- the code's answer is this one, but for a stop
-abbrev pub Answers : Result ℕ ChainFault → Answer → Type 0
-Answers (Ok n) answer = answer ≡ Fine n
-Answers (Err fault.Stopped) answer = ⊤
-Answers (Err (fault.Broken page kept found)) answer = answer ≡ Broken (record { page = page; kept = kept; found = found })
-Answers (Err fault.Shape) answer = answer ≡ Misshapen
+abbrev pub ChainAnswers : Result ℕ ChainFault → Answer → Type 0
+ChainAnswers (Ok n) answer = answer ≡ Fine n
+ChainAnswers (Err fault.Stopped) answer = ⊤
+ChainAnswers (Err (fault.Broken page kept found)) answer = answer ≡ Broken (record { page = page; kept = kept; found = found })
+ChainAnswers (Err fault.Shape) answer = answer ≡ Misshapen
 
 -- No page of these is broken, from page number n on, and the last one carries this digest; or one is.
 abbrev pub Walks : (kept : List ℕ) → ℕ → List (List ℕ) → Result (List ℕ) ChainFault → Type 0
 Walks kept n pages (Ok field) = (first_break kept n pages ≡ None) × (field ≡ last_field pages)
 Walks kept n pages (Err fault.Stopped) = ⊤
-Walks kept n pages (Err (fault.Broken page named found)) = first_break kept n pages ≡ Some (record { page = page; kept = named; found = found })
+Walks kept n pages (Err (fault.Broken page named found)) =
+    first_break kept n pages ≡ Some (record { page = page; kept = named; found = found })
 Walks kept n pages (Err fault.Shape) = ⊥
 
 -- Nothing but reads were made, whatever was found, or the chip stopped.
@@ -44,13 +45,16 @@ abbrev pub chained_trail : (expected : List ℕ) → ℕ → Held → List ℕ �
 chained_trail expected image h page = if is_same (sha256 page) expected then seal_trail image h page else resting h 0
 
 -- the slot that a sealing hands on
-abbrev pub slot_in : ChainSealing → OpenSlot
-slot_in (Sealed o next) = o
-slot_in (Foreign found o) = o
-slot_in (Bad kept found o) = o
+abbrev pub chained_slot : ChainSealing → OpenSlot
+chained_slot (Sealed o next) = o
+chained_slot (Foreign found o) = o
+chained_slot (Bad kept found o) = o
 
 -- what a seal answers, over a chip on which the packets of a data page stood
 abbrev pub SealsChained : (expected : List ℕ) → ℕ → Held → List ℕ → Device → Device → ChainSealing → Type 0
-SealsChained expected image h page old new (Sealed o next) = (sha256 page ≡ expected) × (next ≡ field_of page) × Seals image h page old new (sealing.Sealed o)
-SealsChained expected image h page old new (Foreign found o) = (found ≡ sha256 page) × (found ≢ expected) × IsOpen new.image o h × Looked old new
-SealsChained expected image h page old new (Bad kept found o) = (sha256 page ≡ expected) × Seals image h page old new (sealing.Bad kept found o)
+SealsChained expected image h page old new (Sealed o next) =
+    (sha256 page ≡ expected) × (next ≡ field_of page) × Seals image h page old new (sealing.Sealed o)
+SealsChained expected image h page old new (Foreign found o) =
+    (found ≡ sha256 page) × (found ≢ expected) × IsOpen new.image o h × Looked old new
+SealsChained expected image h page old new (Bad kept found o) =
+    (sha256 page ≡ expected) × Seals image h page old new (sealing.Bad kept found o)

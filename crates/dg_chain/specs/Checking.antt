@@ -1,5 +1,7 @@
--- What the pages of a slot say of a root: the payload's length, the first page that isn't the one named before it, or that they have another shape.
-use Rattle.std.specs.Prelude.{◌≡◌, ◌≢◌, ℕ, ◌+◌, ◌<◌, ◌==◌, ◌&&◌, nat_le, nat_eq, Bool, if◌then◌else◌, List, [], ◌∷◌, length, map, take, drop, slice_index_or, Option, Some, None}
+-- What the pages of a slot say of a root: the payload's length, the first page that isn't the one named before it,
+-- or that they have another shape.
+use Rattle.std.specs.Prelude.{◌≡◌, ◌≢◌, ℕ, ◌+◌, ◌<◌, ◌==◌, ◌&&◌, nat_le, nat_eq, Bool, if◌then◌else◌, List, [], ◌∷◌, length, map}
+use Rattle.std.specs.Prelude.{take, drop, slice_index_or, Option, Some, None}
 use Rattle.std.specs.List.{range_with_len}
 use Rattle.std.specs.Cmp.Lexicographic.{pointwise}
 use Rattle.std.specs.Int.{from_be_bytes, w32}
@@ -34,7 +36,8 @@ pub record Break : Type 0 where
 abbrev pub first_break : (kept : List ℕ) → ℕ → List (List ℕ) → Option Break
 first_break kept n [] = None
 first_break kept n (page ∷ pages) =
-    if is_same (sha256 page) kept then first_break (field_of page) (n + 1) pages else Some (record { page = n; kept = kept; found = sha256 page })
+    if is_same (sha256 page) kept then first_break (field_of page) (n + 1) pages
+    else Some (record { page = n; kept = kept; found = sha256 page })
 
 -- the length that the first page tells
 abbrev pub length_in : List (List ℕ) → ℕ
@@ -49,7 +52,8 @@ last_field (page ∷ next ∷ pages) = last_field (next ∷ pages)
 
 abbrev pub has_shape : List (List ℕ) → Bool
 has_shape pages =
-    nat_le 1 (length_in pages) && (nat_le (length_in pages) most_payload && ((length pages == pages_of_size (length_in pages)) && is_same (last_field pages) no_digest))
+    nat_le 1 (length_in pages) && (nat_le (length_in pages) most_payload
+    && ((length pages == pages_of_size (length_in pages)) && is_same (last_field pages) no_digest))
 
 pub data Answer : Type 0 where
   Fine : (length : ℕ) → Answer

@@ -21,13 +21,17 @@ abbrev pub seal_operations : ℕ
 seal_operations = fill_operations + 1
 
 -- The page is filled, and one operation more makes it complete where it is the expected one and fits.
-abbrev pub receive_trail : (expected : List ℕ) → ℕ → Held → List ℕ → Trail Held
-receive_trail expected image h page =
-    if is_same (sha256 page) expected && may_seal image h page then stepping h seal_operations (with_page h page) else resting h fill_operations
+abbrev pub receive_page_trail : (expected : List ℕ) → ℕ → Held → List ℕ → Trail Held
+receive_page_trail expected image h page =
+    if is_same (sha256 page) expected && may_seal image h page then stepping h seal_operations (with_page h page)
+    else resting h fill_operations
 
 -- what is answered to a data page that is received
 abbrev pub Receives : (expected : List ℕ) → ℕ → Held → List ℕ → Device → Device → ChainSealing → Type 0
-Receives expected image h page old new (Sealed o next) = (sha256 page ≡ expected) × (next ≡ field_of page) × (may_seal image h page ≡ true) × IsOpen new.image o (with_page h page) × Ran seal_operations old new
-Receives expected image h page old new (Foreign found o) = (found ≡ sha256 page) × (found ≢ expected) × IsOpen new.image o h × Ran fill_operations old new
+Receives expected image h page old new (Sealed o next) = (sha256 page ≡ expected) × (next ≡ field_of page)
+    × (may_seal image h page ≡ true) × IsOpen new.image o (with_page h page) × Ran seal_operations old new
+Receives expected image h page old new (Foreign found o) =
+    (found ≡ sha256 page) × (found ≢ expected) × IsOpen new.image o h × Ran fill_operations old new
 Receives expected image h page old new (Bad kept found o) =
-    (sha256 page ≡ expected) × (kept ≡ kept_crc h) × (found ≡ crc_of page) × (found ≢ kept) × IsOpen new.image o h × Ran fill_operations old new
+    (sha256 page ≡ expected) × (kept ≡ kept_crc h) × (found ≡ crc_of page) × (found ≢ kept) × IsOpen new.image o h
+    × Ran fill_operations old new

@@ -13,5 +13,6 @@ wrap_fault_text (wrap_fault.TooLarge n) = codes "the payload is too large: it ha
 
 abbrev pub chain_fault_text : ChainFault → List ℕ
 chain_fault_text chain_fault.Stopped = codes "the flash chip is stopped"
-chain_fault_text (chain_fault.Broken page kept found) = codes "page " ++ (decimal page ++ codes " is not the one that is named before it")
+chain_fault_text (chain_fault.Broken page kept found) =
+    codes "page " ++ (decimal page ++ codes " is not the one that is named before it")
 chain_fault_text chain_fault.Shape = codes "the pages are not those of a payload"

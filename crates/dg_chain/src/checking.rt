@@ -1,12 +1,13 @@
 //! The pages of a slot are compared with a root.
-ghost use Rattle.std.specs.Prelude.{◌≡◌, ◌≢◌, ◌⊎◌, ℕ, ◌+◌, ◌<◌, ◌≤◌, ◌==◌, ◌&&◌, nat_le, false, List, Ok, Err, length, drop, IfOk, OnOk, [], ◌∷◌};
+ghost use Rattle.std.specs.Prelude.{◌≡◌, ◌≢◌, ◌⊎◌, ℕ, ◌+◌, ◌<◌, ◌≤◌, ◌==◌, ◌&&◌, nat_le, false, List, Ok, Err, length, drop};
+ghost use Rattle.std.specs.Prelude.{IfOk, OnOk, [], ◌∷◌};
 ghost use Rattle.dg_nor.specs.Reads.{ReadEnds};
 ghost use Rattle.dg_slot.specs.Layout.{slots, most_pages, page_sector};
 ghost use Rattle.dg_slot.specs.Pages.{page_in};
 ghost use Rattle.dg_slot.specs.Kept.{Held, KeepsImage};
 ghost use Rattle.dg_chain.specs.Chain.{IsPayload, chain, root_of, most_payload, pages_of_size, no_digest};
 ghost use Rattle.dg_chain.specs.Checking.{answer_of, Collision, data_pages, is_same};
-ghost use Rattle.dg_chain.specs.Answers.{IsWhole, Answers, Walks, ChainEnds};
+ghost use Rattle.dg_chain.specs.Answers.{IsWhole, ChainAnswers, Walks, ChainEnds};
 
 use crate::pages::{field_of, read_page, told_length};
 use crate::wrapping::pages_of_size;
@@ -106,7 +107,8 @@ fn walk<N: Nor>(
 
 // Whether so many pages, of which the last carries this digest, are those of a payload of that length.
 fn is_shape(length: u32, count: u8, last: &[u8; DIGEST_SIZE]) -> bool
-    ensures { result ≡ (nat_le 1 length && (nat_le length most_payload && ((count == pages_of_size length) && is_same last.now no_digest))) }
+    ensures { result ≡ (nat_le 1 length && (nat_le length most_payload
+        && ((count == pages_of_size length) && is_same last.now no_digest))) }
 {
     if length == 0 || length as usize > MOST_PAYLOAD {
         return false;
@@ -124,7 +126,7 @@ fn check_pages<N: Nor>(
     requires known_image { image < slots }
     requires some { 1 ≤ count }
     requires few { count < most_pages }
-    ensures answer { Answers result (answer_of root.now (data_pages (N.device nor.old).image image count)) }
+    ensures answer { ChainAnswers result (answer_of root.now (data_pages (N.device nor.old).image image count)) }
     ensures ends { ChainEnds result (N.device nor.old) (N.device nor.new) }
 {
     let last = walk(nor, image, count, root)?;
@@ -139,12 +141,14 @@ fn check_pages<N: Nor>(
 pub fn check<N: Nor>(nor: &mut N, image: u8, root: &[u8; DIGEST_SIZE]) -> Result<u32, ChainFault>
     requires known_image { image < slots }
     requires whole { IsWhole (N.device nor.old).image image }
-    ensures answer { (h : Held) → KeepsImage (N.device nor.old).image image h → Answers result (answer_of root.now (drop 1 h.complete)) }
+    ensures answer { (h : Held) → KeepsImage (N.device nor.old).image image h
+        → ChainAnswers result (answer_of root.now (drop 1 h.complete)) }
     // Pages that answer the root of a payload are its pages, or two that differ at one place have one digest.
     ensures named { (x : List ℕ) (h : Held) → IsPayload x → root.now ≡ root_of x → KeepsImage (N.device nor.old).image image h
         → OnOk result ((drop 1 h.complete ≡ chain x) ⊎ Collision (drop 1 h.complete) (chain x)) }
     // Its own pages answer with its length.
-    ensures own { (x : List ℕ) (h : Held) → IsPayload x → root.now ≡ root_of x → KeepsImage (N.device nor.old).image image h → drop 1 h.complete ≡ chain x
+    ensures own { (x : List ℕ) (h : Held) → IsPayload x → root.now ≡ root_of x → KeepsImage (N.device nor.old).image image h
+        → drop 1 h.complete ≡ chain x
         → (result ≡ Ok (length x)) ⊎ (result ≡ Err ChainFault.Stopped) }
     ensures awake { result ≢ Err ChainFault.Stopped → (N.device nor.old).stopped ≡ false }
     ensures ends { ChainEnds result (N.device nor.old) (N.device nor.new) }

@@ -4,8 +4,8 @@ ghost use Rattle.dg_nor.specs.Chip.{Touches};
 ghost use Rattle.dg_slot.specs.Layout.{header_sector, slot_end};
 ghost use Rattle.dg_slot.specs.Kept.{Held};
 ghost use Rattle.dg_slot.specs.Jobs.{IsOpen, outline_told, SlotStops};
-ghost use Rattle.dg_chain.specs.Answers.{slot_in};
-ghost use Rattle.dg_chain.specs.Receiving.{receive_trail, Receives};
+ghost use Rattle.dg_chain.specs.Answers.{chained_slot};
+ghost use Rattle.dg_chain.specs.Receiving.{receive_page_trail, Receives};
 
 use crate::DIGEST_SIZE;
 use crate::sealing::{ChainSealing, seal_chained};
@@ -21,17 +21,19 @@ pub fn receive_page<N: Nor>(
     page: &[u8; PAGE_SIZE],
     expected: &[u8; DIGEST_SIZE],
 ) -> Result<ChainSealing, Stopped>
-    requires fits { (h : Held) × IsOpen (N.device nor.old).image slot h × (length h.complete < h.pages) × (1 ≤ length h.complete) }
+    requires fits { (h : Held) × IsOpen (N.device nor.old).image slot h × (length h.complete < h.pages)
+        × (1 ≤ length h.complete) }
     ensures received { IfOk result (λ answer. (h : Held) → IsOpen (N.device nor.old).image slot h
         → Receives expected.now (outline_told slot).image h page.now (N.device nor.old) (N.device nor.new) answer) }
     // the slot that is handed on is this one
-    ensures same { IfOk result (λ answer. outline_told (slot_in answer) ≡ outline_told slot) }
+    ensures same { IfOk result (λ answer. outline_told (chained_slot answer) ≡ outline_told slot) }
     ensures same_reference { (N.device nor.new).references ≡ (N.device nor.old).references }
     ensures touches { Touches (header_sector (outline_told slot).image) (slot_end (outline_told slot).image)
         (N.device nor.old).image (N.device nor.new).image }
     ensures awake { OnOk result ((N.device nor.old).stopped ≡ false) }
     ensures stopped { OnErr result ((h : Held) → IsOpen (N.device nor.old).image slot h
-        → SlotStops (outline_told slot).image (receive_trail expected.now (outline_told slot).image h page.now) (N.device nor.old) (N.device nor.new)) }
+        → SlotStops (outline_told slot).image (receive_page_trail expected.now (outline_told slot).image h page.now)
+        (N.device nor.old) (N.device nor.new)) }
 {
     let mut job = slot.begin_page(nor)?;
     job.put_all(nor, page)?;

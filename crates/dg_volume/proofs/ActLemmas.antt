@@ -1,33 +1,13 @@
 -- Acts that follow one another.
-use Rattle.std.proofs.Common.{◌≡◌, ℕ, List, [], ◌∷◌, refl, sym, ap, subst, ◌∙◌, arith}
+use Rattle.std.proofs.Common.{◌≡◌, ℕ, sym, subst}
 use Rattle.dg_nor.specs.Device.{Device, Ran}
-use Rattle.dg_nor.specs.Trail.{Stage, Trail, last, EachWorks, delayed, rest_of, joined, resting}
+use Rattle.dg_nor.specs.Trail.{Trail, last, EachWorks, joined, resting}
 use Rattle.dg_nor.proofs.DeviceLemmas.{Ran-none}
 use Rattle.dg_nor.proofs.TrailLemmas.{Ran-joined, Halted-joined_first, Halted-joined_second, last-joined, operations-resting, last-resting}
 use Rattle.dg_volume.specs.Store.{Store, IsNear}
 use Rattle.dg_volume.specs.Stands.{Stands, Mounted}
 use Rattle.dg_volume.specs.Acts.{Acted, Stops}
 use Rattle.dg_volume.specs.declared.volume.Volume.{Volume}
-
--- ---- nothing before a trail
-
-delayed_none : {S : Type 0} (ys : List (Stage S)) → delayed 0 ys ≡ ys
-unfolding delayed
-delayed_none [] = refl
-delayed_none (y ∷ ys) = ap (λ n. record { operations = n; after = y.after } ∷ ys) (omega arith)
-
-rest_none : {S : Type 0} (ys : List (Stage S)) (rest : ℕ) → rest_of 0 ys rest ≡ rest
-unfolding rest_of
-rest_none [] rest = omega arith
-rest_none (y ∷ ys) rest = refl
-
-pub joined_none : {S : Type 0} (t : Trail S) → joined (resting t.first 0) t ≡ t
-unfolding joined
-joined_none {S} t =
-    let P : List (Stage S) → ℕ → Trail S = λ l r. record { first = t.first; stages = l; rest = r } in
-    ap (λ l. P l (rest_of 0 t.stages t.rest)) (delayed_none t.stages) ∙ ap (P t.stages) (rest_none t.stages t.rest)
-
--- ---- acts
 
 pub acted_none : (s : Store) (a : Device) (v : Volume) → Mounted a.image v s → Acted (resting s 0) a a v
 acted_none s a v mounted = record {

@@ -5,7 +5,7 @@ use Rattle.std.proofs.Math.Seq.{take-append_seam}
 use Rattle.std.proofs.lemmas.Bool.{cond_both, cases_eq, eqb-true}
 use Rattle.std.proofs.lemmas.Option.{same_Some}
 use Rattle.std.proofs.lemmas.List.{append_assoc, take-append-drop, get_or-set_other, get_or-set_same}
-use Rattle.std.specs.Prelude.{◌==◌, nat_lt, nat_le, option_map}
+use Rattle.std.specs.Prelude.{◌==◌, nat_lt, option_map}
 use Rattle.dg_nor.specs.Trail.{Trail, last, joined, resting, stepping}
 use Rattle.dg_nor.proofs.TrailLemmas.{last-joined, last-resting, last-stepping}
 use Rattle.std.proofs.lemmas.Bool.Decides.{nat_tests}

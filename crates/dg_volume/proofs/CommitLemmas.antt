@@ -9,7 +9,7 @@ use Rattle.dg_nor.proofs.DeviceLemmas.{Halted-weaker}
 use Rattle.dg_nor.proofs.TrailLemmas.{operations-stepping, Leaves-stepping, last-stepping}
 use Rattle.dg_object.specs.Descriptor.{IsDescriptor}
 use Rattle.dg_object.proofs.RowLemmas.{pages_for-most}
-use Rattle.dg_control.specs.Store.{ControlStore, Controls, ControlStands, IsNear as IsNearControl, commit_operations, committed, commit_trail, MayCommit}
+use Rattle.dg_control.specs.Store.{ControlStore, Controls, ControlStands, IsNearControl, commit_operations, committed, commit_trail, MayCommit}
 use Rattle.dg_control.specs.Mounted.{control_snapshot, control_room, control_store, IsControlOf}
 use Rattle.dg_control.specs.declared.snapshot.Snapshot.{Snapshot}
 use Rattle.dg_control.specs.declared.control.Control.{Control}

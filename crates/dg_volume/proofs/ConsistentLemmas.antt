@@ -5,7 +5,7 @@ use Rattle.std.proofs.lemmas.Bool.Decides.{nat_tests}
 use Rattle.std.proofs.lemmas.Option.{same_Some}
 use Rattle.std.proofs.lemmas.Bool.{cond_both, cases_eq, cases_lt, eqb-true}
 use Rattle.std.proofs.lemmas.List.{get_or-set_other, get_or-set_same, get_or_append_left, get_or_push, length-append}
-use Rattle.std.specs.Prelude.{◌==◌, if◌then◌else◌, nat_lt, nat_le, option_map}
+use Rattle.std.specs.Prelude.{◌==◌, if◌then◌else◌, nat_lt, option_map}
 use Rattle.dg_base.specs.Crc.{crc_of}
 use Rattle.dg_nor.specs.Trail.{Trail, last, joined, resting, stepping}
 use Rattle.dg_nor.proofs.TrailLemmas.{last-joined, last-resting, last-stepping}

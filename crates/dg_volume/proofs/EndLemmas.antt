@@ -14,7 +14,7 @@ use Rattle.dg_volume.specs.Store.{Store, App, held}
 use Rattle.dg_volume.specs.Changes.{spent}
 use Rattle.dg_volume.specs.Trails.{committing}
 use Rattle.dg_volume.specs.Start.{Runs, Boot, behind, counts, count_trail, by_gesture, order_waits, complete_pages, is_whole, is_set_to, blank_by, blank_trail, copy_trail, app_of, kept_runs, order_boot, golden_done, finish_trail, golden_copied, golden_stays, golden_by, golden_boot, kept_by, kept_boot, waived_once, boot_counted, boot, sound}
-use Rattle.dg_volume.specs.Ends.{IsGolden, IsOrdered, MayRun, OnTheWay, Boots}
+use Rattle.dg_volume.specs.Ends.{IsGolden, IsOrdered, MayBoot, OnTheWay, Boots}
 use Rattle.dg_volume.specs.declared.volume.Kind.{Kind}
 use Rattle.dg_volume.proofs.BeginLemmas.{finish_begins, kept_begins, counted_begins}
 
@@ -226,14 +226,14 @@ ordered_from s t r e is =
       pages = is.pages ∙ ap (λ ks. pages_in ks t.order) e.kept ∙ ap (pages_in s.kept) e.order;
     }
 
-run_from : (s t : Store) (r : Runs) → Same s t → MayRun t r → MayRun s r
+run_from : (s t : Store) (r : Runs) → Same s t → MayBoot t r → MayBoot s r
 run_from s t r e may =
     ⊎_elim
     (λ golden. inl golden)
     (λ other. inr (⊎_elim (λ here. inl (sym e.app ∙ here)) (λ is. inr (ordered_from s t r e is)) other))
     may
 
-chosen_from : (s t : Store) (o : Option Runs) → Same s t → IfSome o (MayRun t) → IfSome o (MayRun s)
+chosen_from : (s t : Store) (o : Option Runs) → Same s t → IfSome o (MayBoot t) → IfSome o (MayBoot s)
 chosen_from s t None e chosen = tt
 chosen_from s t (Some r) e chosen = run_from s t r e chosen
 

@@ -6,7 +6,7 @@ use Rattle.dg_words.proofs.ListLemmas.{length-tabulate, get_or-tabulate}
 use Rattle.dg_object.specs.Object.{Row, pages_for, page_of_row, object}
 use Rattle.dg_nor.specs.Device.{Device}
 use Rattle.dg_nor.specs.Trail.{Trail, last, EachWorks, joined, resting, stepping}
-use Rattle.dg_nor.proofs.TrailLemmas.{EachWorks-resting, EachWorks-stepping, EachWorks-joined, last-joined, last-stepping, last-resting, joined-assoc}
+use Rattle.dg_nor.proofs.TrailLemmas.{EachWorks-resting, EachWorks-stepping, EachWorks-joined, last-joined, last-stepping, last-resting, joined-assoc, joined_none}
 use Rattle.dg_slot.specs.Layout.{page_operations}
 use Rattle.dg_volume.specs.Store.{Store}
 use Rattle.dg_volume.specs.Stands.{Mounted}
@@ -14,7 +14,7 @@ use Rattle.dg_volume.specs.Changes.{paged, FitsNext, FitAll}
 use Rattle.dg_volume.specs.Trails.{fill_trail}
 use Rattle.dg_volume.specs.Acts.{Acted, Stops}
 use Rattle.dg_volume.specs.declared.volume.Volume.{Volume}
-use Rattle.dg_volume.proofs.ActLemmas.{joined_none, acted_none, acted_then, stops_first, stops_then}
+use Rattle.dg_volume.proofs.ActLemmas.{acted_none, acted_then, stops_first, stops_then}
 
 pub fill_first : (s : Store) (image : ℕ) (pages : List (List ℕ)) → (fill_trail s image pages).first ≡ s
 unfolding fill_trail joined

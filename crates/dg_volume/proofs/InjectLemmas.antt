@@ -1,5 +1,5 @@
 -- An injection is refused, resumed, or begun anew.
-use Rattle.std.proofs.Common.{◌≡◌, ◌⊎◌, ℕ, ◌+◌, ◌<◌, ◌≤◌, Bool, true, false, cond, List, [], ◌∷◌, length, drop, Option, Some, None, Result, Ok, Err, IsErrAnd, refl, sym, ap, subst, ◌∙◌, inl, inr, arith}
+use Rattle.std.proofs.Common.{◌≡◌, ◌≢◌, ◌⊎◌, ℕ, ◌+◌, ◌<◌, ◌≤◌, Bool, true, false, cond, List, [], ◌∷◌, length, drop, Option, Some, None, Result, Ok, Err, IsErrAnd, refl, sym, ap, subst, ◌∙◌, inl, inr, arith}
 use Rattle.std.specs.Prelude.{◌==◌, ◌||◌, not, nat_lt}
 use Rattle.std.proofs.Math.ListN.{length-set}
 use Rattle.std.proofs.lemmas.Bool.Decides.{nat_tests}
@@ -18,7 +18,7 @@ use Rattle.dg_volume.specs.Store.{Store, held, IsNear}
 use Rattle.dg_volume.specs.Told.{told, told_held}
 use Rattle.dg_volume.specs.Stands.{Stands, Mounted, MountedBut, Tells, kept_at}
 use Rattle.dg_volume.specs.declared.volume.Kept.{Kept}
-use Rattle.dg_volume.specs.Changes.{spent, keeping, is_version, is_other, other_profile, refusal_by, inject_refusal, SameProfile, FitAll}
+use Rattle.dg_volume.specs.Changes.{spent, keeping, is_version, is_other, other_profile, refusal_by, inject_refusal, UnlessInjectRefused, SameProfile, FitAll}
 use Rattle.dg_volume.specs.Trails.{BeginsAt, committing, drop_trail, take_trail, fill_trail, inject_by, inject_trail, done_of}
 use Rattle.dg_volume.specs.Acts.{Acted, Stops}
 use Rattle.dg_volume.specs.Injecting.{InjectEnds}
@@ -55,6 +55,17 @@ ends_taken s row a b v refusal = record { acted = tt; allowed = tt; refused = λ
 
     no : ◌≡◌ {A = Result Injected InjectFault} (Err Taken) (Err Stopped) → ⊥
     no e = cc
+
+-- refused before anything is read
+pub ends_refused : (fault : InjectFault) (s : Store) (row : Row) (a b : Device) (v : Volume) → inject_refusal s row ≡ Some fault → fault ≢ Stopped → InjectEnds (Err fault) s row a b v
+ends_refused fault s row a b v refusal other = record { acted = tt; allowed = allowed fault other; refused = λ e is other. refusal ∙ ap Some (same e is); stopped = λ is. absurd (other (same Stopped is)); unread = λ is. absurd (other (same Stopped is)) }
+  where
+    same : (e : InjectFault) → ◌≡◌ {A = Result Injected InjectFault} (Err fault) (Err e) → fault ≡ e
+    same e is = cc
+
+    allowed : (f : InjectFault) → f ≢ Stopped → UnlessInjectRefused {T = Injected} (Err f) (inject_refusal s row)
+    allowed Stopped differs = absurd (differs refl)
+    allowed f differs = tt
 
 pub ends_worn : (s : Store) (row : Row) (a b : Device) (v : Volume) (room : ℕ) → inject_refusal s row ≡ Some (Worn room) → InjectEnds (Err (Worn room)) s row a b v
 ends_worn s row a b v room refusal = record { acted = tt; allowed = tt; refused = λ e is other. refusal ∙ ap Some (same e is); stopped = λ is. absurd (no is); unread = λ is. absurd (no is) }

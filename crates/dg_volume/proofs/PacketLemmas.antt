@@ -6,7 +6,7 @@ use Rattle.std.proofs.Math.ListN.{length-set}
 use Rattle.std.proofs.lemmas.Bool.{cases_lt, cases_eq}
 use Rattle.std.proofs.lemmas.Bool.Decides.{nat_tests}
 use Rattle.std.proofs.lemmas.List.{same_lists}
-use Rattle.dg_words.specs.Lists.{tabulate, joined}
+use Rattle.dg_words.specs.Lists.{tabulate, concatenated}
 use Rattle.dg_words.specs.Cells.{part}
 use Rattle.dg_words.proofs.ListLemmas.{length-tabulate, get_or-tabulate}
 use Rattle.dg_words.proofs.CellLemmas.{part-append-part, part_whole}
@@ -59,11 +59,11 @@ first_more page n h =
 
 -- ---- the page that they make
 
-pieces : (page : List ℕ) (a n : ℕ) → packet_size * (a + n) ≤ length page → joined (map (packet_of page) (range_with_len a n)) ≡ part page (packet_size * a) (packet_size * n)
+pieces : (page : List ℕ) (a n : ℕ) → packet_size * (a + n) ≤ length page → concatenated (map (packet_of page) (range_with_len a n)) ≡ part page (packet_size * a) (packet_size * n)
 unfolding part
 pieces page a zero h = refl
 pieces page a (suc n) h =
-    let rest : joined (map (packet_of page) (range_with_len (a + 1) n)) ≡ part page (packet_size * (a + 1)) (packet_size * n) = pieces page (a + 1) n (omega arith) in
+    let rest : concatenated (map (packet_of page) (range_with_len (a + 1) n)) ≡ part page (packet_size * (a + 1)) (packet_size * n) = pieces page (a + 1) n (omega arith) in
     let place : packet_size * (a + 1) ≡ packet_size * a + packet_size = omega arith in
     let sum : packet_size + packet_size * n ≡ packet_size * suc n = omega arith in
     ap (λ (xs : List ℕ). packet_of page a ++ xs) (rest ∙ ap (λ (k : ℕ). part page k (packet_size * n)) place)
@@ -75,4 +75,4 @@ page_first page long =
     let each : tabulate packets (λ q. bytes_of (packet (first_packets page packets) q)) ≡ tabulate packets (packet_of page) =
     same_tables packets (λ q. bytes_of (packet (first_packets page packets) q)) (packet_of page)
     (λ q h. ap bytes_of (get_or-tabulate packets q (one page packets) None h ∙ one_here page packets q h)) in
-    ap joined each ∙ pieces page 0 packets (omega arith) ∙ part_whole page page_size long
+    ap concatenated each ∙ pieces page 0 packets (omega arith) ∙ part_whole page page_size long

@@ -6,7 +6,7 @@ use Rattle.dg_nor.specs.Device.{Device, Took}
 use Rattle.dg_nor.proofs.TakenLemmas.{Took_then, Took-more}
 use Rattle.dg_control.specs.Sizes.{places, place_size}
 use Rattle.dg_control.specs.Store.{ControlStore, Controls, current, HasTorn, IsOrderlyChip, StaysOrderly, remount_most, commit_operations, committed, commit_trail, MayCommit}
-use Rattle.dg_control.specs.Store.{IsNear as IsNearControl}
+use Rattle.dg_control.specs.Store.{IsNearControl}
 use Rattle.dg_control.specs.Mounted.{control_snapshot, control_room, control_store, IsControlOf}
 use Rattle.dg_control.specs.declared.control.Control.{Control}
 use Rattle.dg_control.proofs.RemountLemmas.{orderly_again, one_mounted, torn_here}

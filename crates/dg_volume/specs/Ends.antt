@@ -1,5 +1,6 @@
 -- Where acts and starts end, and what they leave as it is.
-use Rattle.std.specs.Prelude.{◌≡◌, ◌≢◌, ◌⊎◌, ℕ, ◌+◌, ◌-◌, ◌<◌, ◌≤◌, ◌&&◌, ◌||◌, not, nat_lt, if◌then◌else◌, Bool, true, List, [], ◌++◌, length, slice_index_or, Option, Some, None, IfSome}
+use Rattle.std.specs.Prelude.{◌≡◌, ◌≢◌, ◌⊎◌, ℕ, ◌+◌, ◌-◌, ◌<◌, ◌≤◌, ◌&&◌, ◌||◌, not, nat_lt, if◌then◌else◌, Bool, true, List, []}
+use Rattle.std.specs.Prelude.{◌++◌, length, slice_index_or, Option, Some, None, IfSome}
 use Rattle.dg_nor.specs.Trail.{last}
 use Rattle.dg_nor.specs.Through.{Through}
 use Rattle.dg_object.specs.Object.{Row, Outline, page_of_row, object, profile}
@@ -32,7 +33,8 @@ inject_commits o version = if is_version o version then 0 else take_commits o
 
 -- the image is kept whole
 abbrev pub injected : Store → Row → Store
-injected s row = keeping row.image (Some (held_whole row)) (record s { room = s.room - inject_commits (held s row.image) row.version })
+injected s row = keeping row.image (Some (held_whole row))
+    (record s { room = s.room - inject_commits (held s row.image) row.version })
 
 -- where this version is kept, the pages that are complete are the row's
 abbrev pub KeepsPagesOf : Row → Held → Type 0
@@ -64,7 +66,8 @@ order_started s = record s { app = Some (app_of (ordered_runs s)); room = s.room
 
 -- golden runs: the last commit is made where there is room, unless it would change nothing
 abbrev pub golden_started : Store → Runs → Bool → Store
-golden_started s r three = if nat_lt 0 s.room && (not (is_set_to s.app 0 golden_version) || three) then golden_done s r three else s
+golden_started s r three = if nat_lt 0 s.room && (not (is_set_to s.app 0 golden_version) || three) then golden_done s r three
+    else s
 
 -- what is in program memory runs on
 abbrev pub app_runs : App → Runs
@@ -92,8 +95,8 @@ pub record IsOrdered (s : Store) (r : Runs) : Type 0 where
   pub pages : r.pages ≡ complete_pages (held s s.order.image)
 
 -- golden runs, or what program memory was Set to, or the ordered image
-abbrev pub MayRun : Store → Runs → Type 0
-MayRun s r = IsGolden r ⊎ ((s.app ≡ Some (app_of r)) ⊎ IsOrdered s r)
+abbrev pub MayBoot : Store → Runs → Type 0
+MayBoot s r = IsGolden r ⊎ ((s.app ≡ Some (app_of r)) ⊎ IsOrdered s r)
 
 -- Kept images and the order stay, and program memory stays, or is blank, or is Set to what runs.
 pub record OnTheWay (s : Store) (runs : Option Runs) (t : Store) : Type 0 where
@@ -104,6 +107,6 @@ pub record OnTheWay (s : Store) (runs : Option Runs) (t : Store) : Type 0 where
 -- A start of this store.
 pub record Boots (s : Store) (b : Boot) : Type 0 where
   pub way : Through (OnTheWay s b.runs) b.trail
-  pub chosen : IfSome b.runs (MayRun s)
+  pub chosen : IfSome b.runs (MayBoot s)
   -- program memory is Set to what runs, or blank where golden runs
   pub memory : IfSome b.runs (λ r. ((last b.trail).app ≡ Some (app_of r)) ⊎ (((last b.trail).app ≡ None) × IsGolden r))

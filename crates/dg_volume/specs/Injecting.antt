@@ -11,8 +11,10 @@ use Rattle.dg_volume.specs.declared.volume.InjectFault.TheVariants.{Stopped}
 use Rattle.dg_volume.specs.declared.volume.Injected.{Injected}
 use Rattle.dg_volume.specs.declared.volume.Volume.{Volume}
 
--- the injection of a row into a chip that stood for this store
-pub record InjectEnds (result : Result Injected InjectFault) (s : Store) (row : Row) (old new : Device) (v : Volume) : Type 0 where
+-- The injection of a row into a chip that stood for this store. What it answers is what the rules refuse, and nothing
+-- else. Where another profile is kept of this version, no page is read, and nothing stops.
+pub record InjectEnds (result : Result Injected InjectFault) (s : Store) (row : Row) (old new : Device) (v : Volume) : Type
+    0 where
   pub acted : OnOk result (Acted (inject_trail s row) old new v)
   pub allowed : UnlessInjectRefused result (inject_refusal s row)
   pub refused : (e : InjectFault) → result ≡ Err e → e ≢ Stopped → inject_refusal s row ≡ Some e

@@ -29,6 +29,6 @@ MountEnds (Err mount.NotAVolume) old new = Looked old new
 MountEnds (Err mount.Stopped) old new = ReadStopped old new
 
 -- a chip whose control could not be mounted
-abbrev pub mount_fault_of : ControlFault → MountFault
-mount_fault_of control.Stopped = mount.Stopped
-mount_fault_of control.NotAVolume = mount.NotAVolume
+abbrev pub volume_mount_fault : ControlFault → MountFault
+volume_mount_fault control.Stopped = mount.Stopped
+volume_mount_fault control.NotAVolume = mount.NotAVolume

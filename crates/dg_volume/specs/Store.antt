@@ -1,5 +1,6 @@
 -- Stores: what a chip stands for, without sectors or bits.
-use Rattle.std.specs.Prelude.{◌≡◌, ◌⊎◌, ℕ, ◌+◌, ◌-◌, Bool, false, List, ◌∷◌, length, replicate, take, slice_index_or, Option, Some, None, IsSomeAnd}
+use Rattle.std.specs.Prelude.{◌≡◌, ◌⊎◌, ℕ, ◌+◌, ◌-◌, Bool, false, List, ◌∷◌, length, replicate, take, slice_index_or, Option}
+use Rattle.std.specs.Prelude.{Some, None, IsSomeAnd}
 use Rattle.dg_object.specs.Object.{Row, object, profile}
 use Rattle.dg_control.specs.declared.snapshot.Order.{Order}
 use Rattle.dg_slot.specs.Kept.{Held}
@@ -31,7 +32,12 @@ pub record KeepsGolden (s : Store) : Type 0 where
 
 -- an image of which the first n pages are kept
 abbrev pub held_to : Row → ℕ → Held
-held_to row n = record { version = row.version; pages = (profile row).pages; crc = (profile row).crc; complete = take n (object row) }
+held_to row n = record {
+  version = row.version;
+  pages = (profile row).pages;
+  crc = (profile row).crc;
+  complete = take n (object row);
+}
 
 -- an image that is kept whole
 abbrev pub held_whole : Row → Held

@@ -22,9 +22,9 @@ format_fault_text format_fault.Stopped = stopped_text
 format_fault_text format_fault.Empty = codes "the golden image is empty"
 format_fault_text format_fault.TooLarge = codes "the golden image is too large"
 
-abbrev pub mount_fault_text : MountFault → List ℕ
-mount_fault_text mount_fault.Stopped = stopped_text
-mount_fault_text mount_fault.NotAVolume = codes "the flash chip holds no volume"
+abbrev pub volume_mount_text : MountFault → List ℕ
+volume_mount_text mount_fault.Stopped = stopped_text
+volume_mount_text mount_fault.NotAVolume = codes "the flash chip holds no volume"
 
 abbrev pub take_fault_text : TakeFault → List ℕ
 take_fault_text take_fault.Stopped = stopped_text

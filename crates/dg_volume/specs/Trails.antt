@@ -48,7 +48,8 @@ take_trail s p = joined (drop_trail s p.image) (open_trail (last (drop_trail s p
 -- each page is an erase, its packets and its gate
 unfoldable pub fill_trail : Store → ℕ → List (List ℕ) → Trail Store
 fill_trail s image [] = resting s 0
-fill_trail s image (page ∷ pages) = joined (stepping s page_operations (paged image page s)) (fill_trail (paged image page s) image pages)
+fill_trail s image (page ∷ pages) = joined (stepping s page_operations (paged image page s))
+    (fill_trail (paged image page s) image pages)
 
 -- a page is made complete where it fits, by one operation
 abbrev pub sealing_trail : Store → ℕ → Held → List ℕ → Trail Store
@@ -64,7 +65,8 @@ inject_by None s row =
     if is_version (held s row.image) row.version then fill_trail s row.image (drop (done_of (held s row.image)) (object row))
     else joined (take_trail s (profile row)) (fill_trail (last (take_trail s (profile row))) row.image (object row))
 
--- A row is injected: its slot is taken unless this version is kept, and then each page that is missing is filled. A refused one does nothing.
+-- A row is injected: its slot is taken unless this version is kept, and then each page that is missing is filled.
+-- A refused one does nothing.
 unfoldable pub inject_trail : Store → Row → Trail Store
 inject_trail s row = inject_by (inject_refusal s row) s row
 

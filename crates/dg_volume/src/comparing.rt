@@ -41,7 +41,8 @@ fn is_packet<N: Nor>(
 ) -> Result<bool, Stopped>
     requires known_image { image < images }
     requires known_packet { packet < packets }
-    ensures same { IfOk result (λ same. same ≡ same_bytes (packet_in (N.device nor.old).image (page_sector image 0) packet) (packet_of page.now packet)) }
+    ensures same { IfOk result (λ same. same ≡ same_bytes (packet_in (N.device nor.old).image (page_sector image 0) packet)
+        (packet_of page.now packet)) }
     ensures awake { OnOk result ((N.device nor.old).stopped ≡ false) }
     ensures ends { ReadEnds result (N.device nor.old) (N.device nor.new) }
     ensures took { Took packet_size (N.device nor.old) (N.device nor.new) }

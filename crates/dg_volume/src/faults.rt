@@ -22,9 +22,9 @@ impl fmt::Display for FormatFault {
 
 impl fmt::Display for MountFault {
     ghost use Rattle.std.specs.Prelude.{Some};
-    ghost use Rattle.dg_volume.specs.Texts.{mount_fault_text};
+    ghost use Rattle.dg_volume.specs.Texts.{volume_mount_text};
 
-    ghost output = { λ fault. Some (mount_fault_text fault) };
+    ghost output = { λ fault. Some (volume_mount_text fault) };
 
     fn fmt<W: fmt::Write>(&self, f: &mut fmt::Formatter<W>) -> fmt::Result {
         match self {
@@ -118,9 +118,9 @@ impl From<Stopped> for MountFault {
 
 impl From<ControlFault> for MountFault {
     ghost use Rattle.std.specs.Prelude.{◌≡◌};
-    ghost use Rattle.dg_volume.specs.Reading.{mount_fault_of};
+    ghost use Rattle.dg_volume.specs.Reading.{volume_mount_fault};
 
-    ghost from_gives = { λ fault e. e ≡ mount_fault_of fault };
+    ghost from_gives = { λ fault e. e ≡ volume_mount_fault fault };
 
     fn from(fault: ControlFault) -> MountFault {
         match fault {

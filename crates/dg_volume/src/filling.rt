@@ -62,16 +62,20 @@ impl Volume {
         requires known_image { new.now.image < images }
         requires not_lent { is_lent self.old new.now.image ≡ false }
         requires within { done ≤ pages_for (length new.now.bytes.now) }
-        requires fit { (s : Store) × Mounted (N.device nor.old).image self.old s × FitAll new.now.image (drop done (object (new_row new.now))) s }
+        requires fit { (s : Store) × Mounted (N.device nor.old).image self.old s
+            × FitAll new.now.image (drop done (object (new_row new.now))) s }
         ensures acted { OnOk result ((s : Store) → Mounted (N.device nor.old).image self.old s
-            → Acted (fill_trail s new.now.image (drop done (object (new_row new.now)))) (N.device nor.old) (N.device nor.new) self.new) }
-        ensures none { OnOk result (pages_for (length new.now.bytes.now) ≤ done → (N.device nor.new ≡ N.device nor.old) × (self.new ≡ self.old)) }
+            → Acted (fill_trail s new.now.image (drop done (object (new_row new.now)))) (N.device nor.old) (N.device nor.new)
+            self.new) }
+        ensures none { OnOk result (pages_for (length new.now.bytes.now) ≤ done → (N.device nor.new ≡ N.device nor.old)
+            × (self.new ≡ self.old)) }
         ensures awake { OnOk result (done < pages_for (length new.now.bytes.now) → (N.device nor.old).stopped ≡ false) }
         ensures lent { OnOk result ((i : ℕ) → is_lent self.new i ≡ is_lent self.old i) }
         ensures stopped { OnErr result ((s : Store) → Mounted (N.device nor.old).image self.old s
             → Stops (fill_trail s new.now.image (drop done (object (new_row new.now)))) (N.device nor.old) (N.device nor.new)) }
         ensures same_reference { (N.device nor.new).references ≡ (N.device nor.old).references }
-        ensures touches { Touches (header_sector new.now.image) (slot_end new.now.image) (N.device nor.old).image (N.device nor.new).image }
+        ensures touches { Touches (header_sector new.now.image) (slot_end new.now.image) (N.device nor.old).image
+            (N.device nor.new).image }
     {
         for p in done..new.pages() {
             let mut page = [0; PAGE_SIZE];

@@ -1,5 +1,6 @@
 //! Formatting: a chip becomes a volume that keeps golden alone.
-ghost use Rattle.std.specs.Prelude.{◌≡◌, ◌↔◌, ◌⊎◌, ℕ, ◌+◌, ◌*◌, ◌/◌, ◌%◌, ◌<◌, ◌≤◌, ⊤, false, Err, OnOk, OnErr, IfOk, IsErrOf, IsTrue, length, slice_index};
+ghost use Rattle.std.specs.Prelude.{◌≡◌, ◌↔◌, ◌⊎◌, ℕ, ◌+◌, ◌*◌, ◌/◌, ◌%◌, ◌<◌, ◌≤◌, ⊤, false, Err, OnOk, OnErr, IfOk, IsErrOf};
+ghost use Rattle.std.specs.Prelude.{IsTrue, length, slice_index};
 ghost use Rattle.dg_base.specs.Texts.{spells_name};
 ghost use Rattle.dg_nor.specs.Chip.{sector, Touches};
 ghost use Rattle.dg_nor.specs.Device.{Ran, Halted};
@@ -27,7 +28,8 @@ use dg_slot::{DirtySlot, OpenSlot};
 
 impl Volume {
     /// Makes the chip a volume that keeps golden alone: with this name, of 1 to 70,656 bytes. `used` commits, at most
-    /// 520,223, are told as spent. The snapshot is written in the form of that number. Golden stands in its slot before the control sectors are touched.
+    /// 520,223, are told as spent. The snapshot is written in the form of that number.
+    /// Golden stands in its slot before the control sectors are touched.
     pub fn format<N: Nor>(
         nor: &mut N,
         golden: &[u8],
@@ -50,10 +52,13 @@ impl Volume {
         ensures touches { TouchesBut (header_sector 0) (slot_end 0) (N.device nor.old).image (N.device nor.new).image }
         ensures empty { (result ≡ Err FormatFault.Empty) ↔ (length golden.now ≡ 0) }
         ensures too_large { (result ≡ Err FormatFault.TooLarge) ↔ (most_bytes < length golden.now) }
-        ensures refused { IsErrOf result FormatFault.Empty ⊎ IsErrOf result FormatFault.TooLarge → N.device nor.new ≡ N.device nor.old }
-        ensures golden_first { IsErrOf result FormatFault.Stopped → GoldenFirst (golden_row name.now golden.now) (N.device nor.old).image (N.device nor.new).image }
+        ensures refused { IsErrOf result FormatFault.Empty ⊎ IsErrOf result FormatFault.TooLarge
+            → N.device nor.new ≡ N.device nor.old }
+        ensures golden_first { IsErrOf result FormatFault.Stopped
+            → GoldenFirst (golden_row name.now golden.now) (N.device nor.old).image (N.device nor.new).image }
         ensures stopped { IsErrOf result FormatFault.Stopped → ActStopped (N.device nor.old) (N.device nor.new) }
-        ensures halted { IsErrOf result FormatFault.Stopped → Halted (format_operations (length golden.now) used) (λ _ _. ⊤) (N.device nor.old) (N.device nor.new) }
+        ensures halted { IsErrOf result FormatFault.Stopped
+            → Halted (format_operations (length golden.now) used) (λ _ _. ⊤) (N.device nor.old) (N.device nor.new) }
     {
         match check_size(golden.len()) {
             Ok(()) => {}
@@ -77,7 +82,8 @@ fn write_golden<N: Nor>(nor: &mut N, golden: &[u8], name: &[u8]) -> Result<(), S
     ensures awake { OnOk result ((N.device nor.old).stopped ≡ false) }
     ensures same_reference { (N.device nor.new).references ≡ (N.device nor.old).references }
     ensures touches { Touches (header_sector 0) (slot_end 0) (N.device nor.old).image (N.device nor.new).image }
-    ensures stopped { OnErr result (Halted (2 + page_operations * pages_for (length golden.now)) (λ _ _. ⊤) (N.device nor.old) (N.device nor.new)) }
+    ensures stopped { OnErr result (Halted (2 + page_operations * pages_for (length golden.now)) (λ _ _. ⊤)
+        (N.device nor.old) (N.device nor.new)) }
 {
     let profile = profile_of(golden, GOLDEN, GOLDEN_VERSION, name);
     let slot = DirtySlot::new(GOLDEN).prepare(nor, &profile)?;
@@ -100,7 +106,8 @@ fn fill_golden<N: Nor>(
     ensures ran { OnOk result (Ran (page_operations * pages_for (length golden.now)) (N.device nor.old) (N.device nor.new)) }
     ensures same_reference { (N.device nor.new).references ≡ (N.device nor.old).references }
     ensures touches { Touches (header_sector 0) (slot_end 0) (N.device nor.old).image (N.device nor.new).image }
-    ensures stopped { OnErr result (Halted (page_operations * pages_for (length golden.now)) (λ _ _. ⊤) (N.device nor.old) (N.device nor.new)) }
+    ensures stopped { OnErr result (Halted (page_operations * pages_for (length golden.now)) (λ _ _. ⊤) (N.device nor.old)
+        (N.device nor.new)) }
 {
     let mut open = slot;
     for p in 0..pages_of(golden.len() as u32) {

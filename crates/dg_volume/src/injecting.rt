@@ -1,5 +1,6 @@
 //! Images that are injected, page by page.
-ghost use Rattle.std.specs.Prelude.{◌≡◌, ◌≢◌, ◌⊎◌, ℕ, ◌<◌, ◌≤◌, true, false, List, Some, Ok, Err, OnOk, OnErr, IfOk, IsErrOf, IsNone, IsSomeAnd, IsTrue, length};
+ghost use Rattle.std.specs.Prelude.{◌≡◌, ◌≢◌, ◌⊎◌, ℕ, ◌<◌, ◌≤◌, true, false, List, Some, Ok, Err, OnOk, OnErr, IfOk, IsNone};
+ghost use Rattle.std.specs.Prelude.{IsSomeAnd, IsTrue, length};
 ghost use Rattle.dg_base.specs.Texts.{spells_name};
 ghost use Rattle.dg_nor.specs.Chip.{Touches};
 ghost use Rattle.dg_nor.specs.Device.{Took};
@@ -8,14 +9,13 @@ ghost use Rattle.dg_object.specs.Object.{row_of, pages_for};
 ghost use Rattle.dg_slot.specs.Layout.{page_size, most_bytes, header_sector, slot_end};
 ghost use Rattle.dg_slot.specs.Kept.{Held, KeepsImage};
 ghost use Rattle.dg_volume.specs.Sizes.{images};
-ghost use Rattle.dg_volume.specs.Store.{Store, held};
+ghost use Rattle.dg_volume.specs.Store.{Store};
 ghost use Rattle.dg_volume.specs.Told.{told_held};
 ghost use Rattle.dg_volume.specs.Stands.{kept_at, NothingLent, Mounted, IsMounted, Tells};
-ghost use Rattle.dg_volume.specs.Changes.{inject_refusal, is_other, other_profile, UnlessInjectRefused, SameProfile};
-ghost use Rattle.dg_volume.specs.Trails.{inject_trail};
+ghost use Rattle.dg_volume.specs.Changes.{inject_refusal, is_other, other_profile};
 ghost use Rattle.dg_volume.specs.Filling.{new_row};
 ghost use Rattle.dg_volume.specs.Injecting.{InjectEnds};
-ghost use Rattle.dg_volume.specs.Acts.{Acted, Stops, TouchesBut};
+ghost use Rattle.dg_volume.specs.Acts.{TouchesBut};
 ghost use Rattle.dg_volume.specs.declared.volume.Kept.{Kept};
 ghost use Rattle.dg_volume.specs.declared.volume.Volume.{Volume};
 ghost use Rattle.dg_volume.specs.declared.volume.InjectFault.{InjectFault};
@@ -50,8 +50,8 @@ impl Volume {
         requires known_image { image < images }
         requires some_version { 1 ≤ version }
         requires named { IsTrue (spells_name name.now) }
-        ensures acted { OnOk result ((s : Store) → Mounted (N.device nor.old).image self.old s
-            → Acted (inject_trail s (row_of image version name.now bytes.now)) (N.device nor.old) (N.device nor.new) self.new) }
+        ensures ends { (s : Store) → Mounted (N.device nor.old).image self.old s
+            → InjectEnds result s (row_of image version name.now bytes.now) (N.device nor.old) (N.device nor.new) self.new }
         ensures same_reference { (N.device nor.new).references ≡ (N.device nor.old).references }
         ensures free { OnOk result (NothingLent self.new) }
         ensures pages { IfOk result (λ i. i.pages ≡ pages_for (length bytes.now)) }
@@ -59,21 +59,13 @@ impl Volume {
         ensures again { OnOk result (IsSomeAnd (kept_at self.old image) (λ k. (k.version ≡ version) × (k.done ≡ k.pages))
             → Looked (N.device nor.old) (N.device nor.new) × (self.new ≡ self.old)) }
         ensures awake { OnOk result ((N.device nor.old).stopped ≡ false) }
-        ensures allowed { (s : Store) → Mounted (N.device nor.old).image self.old s
-            → UnlessInjectRefused result (inject_refusal s (row_of image version name.now bytes.now)) }
-        ensures refused { (e : InjectFault) → result ≡ Err e → e ≢ InjectFault.Stopped → (s : Store) → Mounted (N.device nor.old).image self.old s
-            → inject_refusal s (row_of image version name.now bytes.now) ≡ Some e }
         ensures unchanged { (e : InjectFault) → result ≡ Err e → e ≢ InjectFault.Stopped → e ≢ InjectFault.Taken
             → (N.device nor.new ≡ N.device nor.old) × (self.new ≡ self.old) }
         // page 0 may have been read
-        ensures taken { result ≡ Err InjectFault.Taken → Looked (N.device nor.old) (N.device nor.new) × (self.new ≡ self.old) }
+        ensures taken { result ≡ Err InjectFault.Taken
+            → Looked (N.device nor.old) (N.device nor.new) × (self.new ≡ self.old) }
         ensures took { result ≡ Err InjectFault.Taken → Took page_size (N.device nor.old) (N.device nor.new) }
-        // where another profile is kept of this version, no page is read, and nothing stops
-        ensures unread { IsErrOf result InjectFault.Stopped → (s : Store) → Mounted (N.device nor.old).image self.old s
-            → SameProfile (held s image) (row_of image version name.now bytes.now) }
         ensures touches { TouchesBut (header_sector image) (slot_end image) (N.device nor.old).image (N.device nor.new).image }
-        ensures stopped { IsErrOf result InjectFault.Stopped → (s : Store) → Mounted (N.device nor.old).image self.old s
-            → Stops (inject_trail s (row_of image version name.now bytes.now)) (N.device nor.old) (N.device nor.new) }
     {
         match injection_fault(self.kept(image), image, version, bytes) {
             Some(fault) => Err(fault),
@@ -95,18 +87,21 @@ impl Volume {
         requires free { NothingLent self.old }
         requires not_golden { 1 ≤ new.now.image }
         requires newest { (k : Kept) → kept_at self.old new.now.image ≡ Some k → k.version ≤ new.now.version }
-        ensures ends { (s : Store) → Mounted (N.device nor.old).image self.old s → InjectEnds result s (new_row new.now) (N.device nor.old) (N.device nor.new) self.new }
+        ensures ends { (s : Store) → Mounted (N.device nor.old).image self.old s
+            → InjectEnds result s (new_row new.now) (N.device nor.old) (N.device nor.new) self.new }
         ensures same_reference { (N.device nor.new).references ≡ (N.device nor.old).references }
         ensures free { OnOk result (NothingLent self.new) }
         ensures pages { IfOk result (λ i. i.pages ≡ pages_for (length new.now.bytes.now)) }
-        ensures again { OnOk result (IsSomeAnd (kept_at self.old new.now.image) (λ k. (k.version ≡ new.now.version) × (k.done ≡ k.pages))
+        ensures again { OnOk result (IsSomeAnd (kept_at self.old new.now.image) (λ k. (k.version ≡ new.now.version)
+            × (k.done ≡ k.pages))
             → Looked (N.device nor.old) (N.device nor.new) × (self.new ≡ self.old)) }
         ensures awake { OnOk result ((N.device nor.old).stopped ≡ false) }
         ensures unchanged { (e : InjectFault) → result ≡ Err e → e ≢ inject_faults.Stopped → e ≢ inject_faults.Taken
             → (N.device nor.new ≡ N.device nor.old) × (self.new ≡ self.old) }
         ensures taken { result ≡ Err inject_faults.Taken → Looked (N.device nor.old) (N.device nor.new) × (self.new ≡ self.old) }
         ensures took { result ≡ Err inject_faults.Taken → Took page_size (N.device nor.old) (N.device nor.new) }
-        ensures touches { TouchesBut (header_sector new.now.image) (slot_end new.now.image) (N.device nor.old).image (N.device nor.new).image }
+        ensures touches { TouchesBut (header_sector new.now.image) (slot_end new.now.image) (N.device nor.old).image
+            (N.device nor.new).image }
     {
         match self.kept(new.image) {
             Some(kept) if kept.version == new.version => self.resume(nor, new, &kept),
@@ -126,16 +121,19 @@ impl Volume {
         requires not_golden { 1 ≤ new.now.image }
         requires kept { kept_at self.old new.now.image ≡ Some kept.now }
         requires same_version { kept.now.version ≡ new.now.version }
-        ensures ends { (s : Store) → Mounted (N.device nor.old).image self.old s → InjectEnds result s (new_row new.now) (N.device nor.old) (N.device nor.new) self.new }
+        ensures ends { (s : Store) → Mounted (N.device nor.old).image self.old s
+            → InjectEnds result s (new_row new.now) (N.device nor.old) (N.device nor.new) self.new }
         ensures same_reference { (N.device nor.new).references ≡ (N.device nor.old).references }
         ensures free { OnOk result (NothingLent self.new) }
         ensures pages { IfOk result (λ i. i.pages ≡ pages_for (length new.now.bytes.now)) }
-        ensures again { OnOk result (kept.now.done ≡ kept.now.pages → Looked (N.device nor.old) (N.device nor.new) × (self.new ≡ self.old)) }
+        ensures again { OnOk result (kept.now.done ≡ kept.now.pages → Looked (N.device nor.old) (N.device nor.new)
+            × (self.new ≡ self.old)) }
         ensures awake { OnOk result ((N.device nor.old).stopped ≡ false) }
         ensures only { (e : InjectFault) → result ≡ Err e → (e ≡ inject_faults.Stopped) ⊎ (e ≡ inject_faults.Taken) }
         ensures taken { result ≡ Err inject_faults.Taken → Looked (N.device nor.old) (N.device nor.new) × (self.new ≡ self.old) }
         ensures took { result ≡ Err inject_faults.Taken → Took page_size (N.device nor.old) (N.device nor.new) }
-        ensures touches { Touches (header_sector new.now.image) (slot_end new.now.image) (N.device nor.old).image (N.device nor.new).image }
+        ensures touches { Touches (header_sector new.now.image) (slot_end new.now.image) (N.device nor.old).image
+            (N.device nor.new).image }
     {
         if is_other(nor, new, kept)? {
             return Err(InjectFault::Taken);
@@ -155,7 +153,8 @@ impl Volume {
         requires free { NothingLent self.old }
         requires not_golden { 1 ≤ new.now.image }
         requires older { (k : Kept) → kept_at self.old new.now.image ≡ Some k → k.version < new.now.version }
-        ensures ends { (s : Store) → Mounted (N.device nor.old).image self.old s → InjectEnds result s (new_row new.now) (N.device nor.old) (N.device nor.new) self.new }
+        ensures ends { (s : Store) → Mounted (N.device nor.old).image self.old s
+            → InjectEnds result s (new_row new.now) (N.device nor.old) (N.device nor.new) self.new }
         ensures same_reference { (N.device nor.new).references ≡ (N.device nor.old).references }
         ensures free { OnOk result (NothingLent self.new) }
         ensures pages { IfOk result (λ i. i.pages ≡ pages_for (length new.now.bytes.now)) }
@@ -163,7 +162,8 @@ impl Volume {
         ensures not_taken { result ≢ Err inject_faults.Taken }
         ensures unchanged { (e : InjectFault) → result ≡ Err e → e ≢ inject_faults.Stopped
             → (N.device nor.new ≡ N.device nor.old) × (self.new ≡ self.old) }
-        ensures touches { TouchesBut (header_sector new.now.image) (slot_end new.now.image) (N.device nor.old).image (N.device nor.new).image }
+        ensures touches { TouchesBut (header_sector new.now.image) (slot_end new.now.image) (N.device nor.old).image
+            (N.device nor.new).image }
     {
         let room = self.room();
         if room < TAKE_COMMITS {
@@ -181,7 +181,8 @@ impl Volume {
 
 /// Why an image is refused, wherever its version is not the one that is kept.
 fn injection_fault(kept: Option<Kept>, image: u8, version: u32, bytes: &[u8]) -> Option<InjectFault>
-    ensures refusal { (e : InjectFault) → result ≡ Some e → (v : Volume) (s : Store) (name : List ℕ) → Tells v s → kept ≡ kept_at v image → image < images
+    ensures refusal { (e : InjectFault) → result ≡ Some e → (v : Volume) (s : Store) (name : List ℕ) → Tells v s
+        → kept ≡ kept_at v image → image < images
         → inject_refusal s (row_of image version name bytes.now) ≡ Some e }
     ensures other { (e : InjectFault) → result ≡ Some e → (e ≢ inject_faults.Stopped) × (e ≢ inject_faults.Taken) }
     ensures some { IsNone result → 1 ≤ length bytes.now }
@@ -205,7 +206,8 @@ fn injection_fault(kept: Option<Kept>, image: u8, version: u32, bytes: &[u8]) ->
 
 /// Whether what is kept of a version is another image: it has another profile, or another page 0.
 fn is_other<N: Nor>(nor: &mut N, new: &NewImage<'_>, kept: &Kept) -> Result<bool, Stopped>
-    ensures other { IfOk result (λ other. (h : Held) → KeepsImage (N.device nor.old).image new.now.image h → told_held h ≡ kept.now
+    ensures other { IfOk result (λ other. (h : Held) → KeepsImage (N.device nor.old).image new.now.image h
+        → told_held h ≡ kept.now
         → other ≡ is_other h (new_row new.now)) }
     ensures unread { OnErr result ((h : Held) → told_held h ≡ kept.now → other_profile h (new_row new.now) ≡ false) }
     ensures awake { result ≡ Ok false → 1 ≤ kept.now.done → (N.device nor.old).stopped ≡ false }

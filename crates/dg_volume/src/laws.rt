@@ -1,5 +1,6 @@
 //! What holds of volumes. These functions do nothing: their contracts are the laws.
-ghost use Rattle.std.specs.Prelude.{◌≡◌, ◌↔◌, ◌⊎◌, ℕ, ◌+◌, ◌<◌, ◌≤◌, ◌==◌, if◌then◌else◌, Bool, true, false, List, [], Option, Some, None, IfSome, length, drop, slice_index_or};
+ghost use Rattle.std.specs.Prelude.{◌≡◌, ◌↔◌, ◌⊎◌, ℕ, ◌+◌, ◌<◌, ◌≤◌, ◌==◌, if◌then◌else◌, Bool, true, false, List, [], Option};
+ghost use Rattle.std.specs.Prelude.{Some, None, IfSome, length, drop, slice_index_or};
 ghost use Rattle.dg_nor.specs.Chip.{Touches};
 ghost use Rattle.dg_nor.specs.Device.{Device, Ran, Halts};
 ghost use Rattle.dg_nor.specs.Trail.{Trail, operations, last, joined, resting, stepping, EachWorks, Leaves};
@@ -11,16 +12,20 @@ ghost use Rattle.dg_slot.specs.Kept.{Held, KeepsImage, held_begun, with_page};
 ghost use Rattle.dg_slot.specs.Fits.{may_seal};
 ghost use Rattle.dg_slot.specs.Jobs.{seal_trail, SlotStops};
 ghost use Rattle.dg_control.specs.Store.{HasForm};
-ghost use Rattle.dg_volume.specs.Sizes.{images, golden_version, short_starts, control_sectors, most_take_commits, old_form, new_form};
+ghost use Rattle.dg_volume.specs.Sizes.{images, golden_version, short_starts, control_sectors, most_take_commits, old_form};
+ghost use Rattle.dg_volume.specs.Sizes.{new_form};
 ghost use Rattle.dg_volume.specs.Store.{App, Store, IsNear, held, held_to, held_whole, golden_row, fresh};
 ghost use Rattle.dg_volume.specs.Stands.{Stands, IsVolume, Tells, MountedBut, Mounted, IsMounted, control_of, form_of, kept_at};
 ghost use Rattle.dg_volume.specs.Remount.{RemountBytes};
 ghost use Rattle.dg_volume.specs.Shaped.{IsShaped};
 ghost use Rattle.dg_volume.specs.Changes.{spent, keeping, paged, ordered, gesture_cleared, advanced, inject_refusal, FitAll};
-ghost use Rattle.dg_volume.specs.Trails.{BeginsAt, order_trail, clear_trail, advance_trail, migrate_trail, take_trail, fill_trail, inject_trail, sealing_trail};
+ghost use Rattle.dg_volume.specs.Trails.{BeginsAt, order_trail, clear_trail, advance_trail, migrate_trail, take_trail};
+ghost use Rattle.dg_volume.specs.Trails.{fill_trail, inject_trail, sealing_trail};
 ghost use Rattle.dg_volume.specs.Acts.{Acted, Stops};
-ghost use Rattle.dg_volume.specs.Start.{counts, count_trail, by_gesture, order_waits, is_set_to, sound, app_of, kept_runs, golden_boot, boot_counted, boot};
-ghost use Rattle.dg_volume.specs.Ends.{taken, with_pages, injected, KeepsPagesOf, PartOf, blanked, ordered_runs, order_started, golden_started, golden_runs, app_runs, BootEnds, Boots};
+ghost use Rattle.dg_volume.specs.Start.{counts, count_trail, by_gesture, order_waits, is_set_to, sound, app_of, kept_runs};
+ghost use Rattle.dg_volume.specs.Start.{golden_boot, boot_counted, boot};
+ghost use Rattle.dg_volume.specs.Ends.{taken, with_pages, injected, KeepsPagesOf, PartOf, blanked, ordered_runs, order_started};
+ghost use Rattle.dg_volume.specs.Ends.{golden_started, golden_runs, app_runs, BootEnds, Boots};
 ghost use Rattle.dg_volume.specs.Table.{row_at, IsTable};
 ghost use Rattle.dg_volume.specs.Agreement.{Agrees};
 ghost use Rattle.dg_volume.specs.Consistent.{IsSoundApp, Consistent};
@@ -49,7 +54,8 @@ pub fn a_chip_stands_for_one_store()
 /// or not.
 pub fn a_volume_is_mounted_in_one_way()
     ensures control { (c : List ℕ) (v w : Volume) → IsMounted c v → IsMounted c w → control_of v ≡ control_of w }
-    ensures kept { (c : List ℕ) (v w : Volume) → IsMounted c v → IsMounted c w → (i : ℕ) → i < images → kept_at v i ≡ kept_at w i }
+    ensures kept { (c : List ℕ) (v w : Volume) → IsMounted c v → IsMounted c w → (i : ℕ) → i < images
+        → kept_at v i ≡ kept_at w i }
 {}
 
 /// The last commit of a volume is written in one of the two forms.
@@ -75,28 +81,36 @@ pub fn a_chip_stands_for_a_shaped_store()
 /// Trails of stores that follow one another.
 pub fn trails_join()
     ensures operations { (t u : Trail Store) → operations (joined t u) ≡ operations t + operations u }
-    ensures early { (t u : Trail Store) (k : ℕ) (s : Store) → EachWorks u.stages → k < operations t → Leaves IsNear (joined t u) k s ↔ Leaves IsNear t k s }
-    ensures late { (t u : Trail Store) (k : ℕ) (s : Store) → last t ≡ u.first → Leaves IsNear (joined t u) (operations t + k) s ↔ Leaves IsNear u k s }
+    ensures early { (t u : Trail Store) (k : ℕ) (s : Store) → EachWorks u.stages → k < operations t
+        → Leaves IsNear (joined t u) k s ↔ Leaves IsNear t k s }
+    ensures late { (t u : Trail Store) (k : ℕ) (s : Store) → last t ≡ u.first
+        → Leaves IsNear (joined t u) (operations t + k) s ↔ Leaves IsNear u k s }
     ensures begins { (s : Store) (t u : Trail Store) → BeginsAt s t → BeginsAt (last t) u → BeginsAt s (joined t u) }
     ensures ends { (t u : Trail Store) → last t ≡ u.first → last (joined t u) ≡ last u }
-    ensures acted { (t u : Trail Store) (a b c : Device) (v w : Volume) → last t ≡ u.first → Acted t a b v → Acted u b c w → Acted (joined t u) a c w }
-    ensures stopped_first { (t u : Trail Store) (a b : Device) → EachWorks u.stages → last t ≡ u.first → Stops t a b → Stops (joined t u) a b }
-    ensures stopped_second { (t u : Trail Store) (a b c : Device) → last t ≡ u.first → Ran (operations t) a b → Stops u b c → Stops (joined t u) a c }
+    ensures acted { (t u : Trail Store) (a b c : Device) (v w : Volume) → last t ≡ u.first → Acted t a b v → Acted u b c w
+        → Acted (joined t u) a c w }
+    ensures stopped_first { (t u : Trail Store) (a b : Device) → EachWorks u.stages → last t ≡ u.first → Stops t a b
+        → Stops (joined t u) a b }
+    ensures stopped_second { (t u : Trail Store) (a b c : Device) → last t ≡ u.first → Ran (operations t) a b → Stops u b c
+        → Stops (joined t u) a c }
 {}
 
 /// Trails that leave the store as it is, and trails of one stage.
 pub fn trails_of_one_stage()
     ensures resting { (s : Store) (n : ℕ) → (operations (resting s n) ≡ n) × (last (resting s n) ≡ s) × BeginsAt s (resting s n) }
-    ensures stepping { (s next : Store) (n : ℕ) → (operations (stepping s n next) ≡ n) × (last (stepping s n next) ≡ next) × (0 < n → BeginsAt s (stepping s n next)) }
+    ensures stepping { (s next : Store) (n : ℕ) → (operations (stepping s n next) ≡ n) × (last (stepping s n next) ≡ next)
+        × (0 < n → BeginsAt s (stepping s n next)) }
 {}
 
 /// What other crates write stays out of what a chip stands for: blank program memory is free, and the slot of a kept
 /// image counts only by what it keeps.
 pub fn what_stands_behind_the_commits()
-    ensures memory { (c d : List ℕ) (v : Volume) (s : Store) → s.app ≡ None → Touches (program_sector 0) program_end c d → Mounted c v s → Mounted d v s }
+    ensures memory { (c d : List ℕ) (v : Volume) (s : Store) → s.app ≡ None → Touches (program_sector 0) program_end c d
+        → Mounted c v s → Mounted d v s }
     ensures same { (c d : List ℕ) (v : Volume) (s : Store) (i : ℕ) (h : Held) → 1 ≤ i → i < images → held s i ≡ Some h
         → Touches (header_sector i) (slot_end i) c d → KeepsImage d i h → Mounted c v s → Mounted d v s }
-    ensures slot { (c d : List ℕ) (v : Volume) (s : Store) (i : ℕ) (h g : Held) → 1 ≤ i → i < images → held s i ≡ Some h → g.version ≡ h.version
+    ensures slot { (c d : List ℕ) (v : Volume) (s : Store) (i : ℕ) (h g : Held) → 1 ≤ i → i < images → held s i ≡ Some h
+        → g.version ≡ h.version
         → Touches (header_sector i) (slot_end i) c d → KeepsImage d i g → MountedBut (λ j. j ≡ i) c v s
         → MountedBut (λ j. j ≡ i) d v (keeping i (Some g) s) }
 {}
@@ -108,15 +122,20 @@ pub fn what_stands_behind_the_commits()
 pub fn a_lent_slot_is_filled()
     ensures lent { (c : List ℕ) (v : Volume) (s : Store) (i : ℕ) → Mounted c v s → MountedBut (λ j. j ≡ i) c v s }
     ensures filling { (c d : List ℕ) (v : Volume) (s : Store) (i : ℕ) (h : Held) → 1 ≤ i → i < images → held s i ≡ Some h
-        → Touches (header_sector i) (slot_end i) c d → KeepsImage d i h → MountedBut (λ j. j ≡ i) c v s → MountedBut (λ j. j ≡ i) d v s }
-    ensures sealed { (c d : List ℕ) (v : Volume) (s : Store) (i : ℕ) (h : Held) (page : List ℕ) → 1 ≤ i → i < images → held s i ≡ Some h
+        → Touches (header_sector i) (slot_end i) c d → KeepsImage d i h → MountedBut (λ j. j ≡ i) c v s
+        → MountedBut (λ j. j ≡ i) d v s }
+    ensures sealed { (c d : List ℕ) (v : Volume) (s : Store) (i : ℕ) (h : Held) (page : List ℕ) → 1 ≤ i → i < images
+        → held s i ≡ Some h
         → Touches (header_sector i) (slot_end i) c d → KeepsImage d i (with_page h page) → MountedBut (λ j. j ≡ i) c v s
         → MountedBut (λ j. j ≡ i) d v (paged i page s) }
-    ensures held { (s : Store) (i : ℕ) (h : Held) (page : List ℕ) → i < length s.kept → held s i ≡ Some h → held (paged i page s) i ≡ Some (with_page h page) }
-    ensures filling_stopped { (n done : ℕ) (a b : Device) (v : Volume) (s : Store) (i : ℕ) (h : Held) → 1 ≤ i → i < images → held s i ≡ Some h
+    ensures held { (s : Store) (i : ℕ) (h : Held) (page : List ℕ) → i < length s.kept → held s i ≡ Some h
+        → held (paged i page s) i ≡ Some (with_page h page) }
+    ensures filling_stopped { (n done : ℕ) (a b : Device) (v : Volume) (s : Store) (i : ℕ) (h : Held) → 1 ≤ i → i < images
+        → held s i ≡ Some h
         → Touches (header_sector i) (slot_end i) a.image b.image → KeepsImage b.image i h → MountedBut (λ j. j ≡ i) a.image v s
         → Halts n done a b → Stops (resting s n) a b }
-    ensures seal_stopped { (a b : Device) (v : Volume) (s : Store) (i : ℕ) (h : Held) (page : List ℕ) → 1 ≤ i → i < images → held s i ≡ Some h
+    ensures seal_stopped { (a b : Device) (v : Volume) (s : Store) (i : ℕ) (h : Held) (page : List ℕ) → 1 ≤ i → i < images
+        → held s i ≡ Some h
         → Touches (header_sector i) (slot_end i) a.image b.image → MountedBut (λ j. j ≡ i) a.image v s
         → SlotStops i (seal_trail i h page) a b → Stops (sealing_trail s i h page) a b }
 {}
@@ -125,7 +144,8 @@ pub fn a_lent_slot_is_filled()
 pub fn trails_begin()
     ensures order { (s : Store) (order : Order) → BeginsAt s (order_trail s order) }
     ensures clear { (s : Store) → BeginsAt s (clear_trail s) }
-    ensures advance { (s : Store) (app : Option App) (gesture : ℕ) (waived : Bool) → BeginsAt s (advance_trail s app gesture waived) }
+    ensures advance { (s : Store) (app : Option App) (gesture : ℕ) (waived : Bool)
+        → BeginsAt s (advance_trail s app gesture waived) }
     ensures migrate { (form : ℕ) (s : Store) → BeginsAt s (migrate_trail form s) }
     ensures take { (s : Store) (p : Outline) → BeginsAt s (take_trail s p) }
     ensures fill { (s : Store) (image : ℕ) (pages : List (List ℕ)) → BeginsAt s (fill_trail s image pages) }
@@ -136,7 +156,8 @@ pub fn trails_begin()
 /// The trails of acts on a store that agrees with a table go through stores that agree, where what is taken or injected
 /// is the table's row.
 pub fn trails_keep_agreement()
-    ensures order { (table : List Row) (s : Store) (order : Order) → Agrees table s → Through (Agrees table) (order_trail s order) }
+    ensures order { (table : List Row) (s : Store) (order : Order) → Agrees table s
+        → Through (Agrees table) (order_trail s order) }
     ensures clear { (table : List Row) (s : Store) → Agrees table s → Through (Agrees table) (clear_trail s) }
     ensures migrate { (table : List Row) (form : ℕ) (s : Store) → Agrees table s → Through (Agrees table) (migrate_trail form s) }
     ensures take { (table : List Row) (s : Store) (row : Row) → 1 ≤ row.image → row.image < length s.kept
@@ -146,29 +167,41 @@ pub fn trails_keep_agreement()
     ensures boot { (table : List Row) (kind : Kind) (s : Store) → Agrees table s → Through (Agrees table) (boot kind s).trail }
     // one page more of what is kept of a row, after n operations
     ensures page { (table : List Row) (s : Store) (row : Row) (h : Held) (n : ℕ) → 1 ≤ row.image → row.image < length s.kept
-        → row_at table row.image row.version ≡ Some row → held s row.image ≡ Some h → h.version ≡ row.version → length h.complete < length (object row)
-        → Agrees table s → Through (Agrees table) (stepping s n (paged row.image (slice_index_or (object row) (length h.complete) []) s)) }
+        → row_at table row.image row.version ≡ Some row → held s row.image ≡ Some h → h.version ≡ row.version
+        → length h.complete < length (object row)
+        → Agrees table s → Through (Agrees table) (stepping s n
+        (paged row.image (slice_index_or (object row) (length h.complete) []) s)) }
     ensures resting { (table : List Row) (s : Store) (n : ℕ) → Agrees table s → Through (Agrees table) (resting s n) }
-    ensures joined { (table : List Row) (t u : Trail Store) → Through (Agrees table) t → Through (Agrees table) u → Through (Agrees table) (joined t u) }
+    ensures joined { (table : List Row) (t u : Trail Store) → Through (Agrees table) t → Through (Agrees table) u
+        → Through (Agrees table) (joined t u) }
     ensures ends { (table : List Row) (t : Trail Store) → Through (Agrees table) t → Agrees table (last t) }
 {}
 
 /// The trails of acts on a consistent store go through consistent stores, whatever is taken, and whatever page is
 /// sealed that has the CRC that is kept of it. A start runs golden, or pages that fit their own descriptor.
 pub fn trails_keep_consistency()
-    ensures fresh { (name bytes : List ℕ) (used : ℕ) → IsRow (golden_row name bytes) → Consistent (golden_row name bytes) (fresh name bytes used) }
-    ensures order { (golden : Row) (s : Store) (order : Order) → Consistent golden s → Through (Consistent golden) (order_trail s order) }
+    ensures fresh { (name bytes : List ℕ) (used : ℕ) → IsRow (golden_row name bytes)
+        → Consistent (golden_row name bytes) (fresh name bytes used) }
+    ensures order { (golden : Row) (s : Store) (order : Order) → Consistent golden s
+        → Through (Consistent golden) (order_trail s order) }
     ensures clear { (golden : Row) (s : Store) → Consistent golden s → Through (Consistent golden) (clear_trail s) }
-    ensures migrate { (golden : Row) (form : ℕ) (s : Store) → Consistent golden s → Through (Consistent golden) (migrate_trail form s) }
-    ensures take { (golden : Row) (s : Store) (p : Outline) → 1 ≤ p.image → p.image < length s.kept → Consistent golden s → Through (Consistent golden) (take_trail s p) }
-    ensures inject { (golden : Row) (s : Store) (row : Row) → IsRow row → row.image < length s.kept → Consistent golden s → Through (Consistent golden) (inject_trail s row) }
-    ensures boot { (golden : Row) (kind : Kind) (s : Store) → Consistent golden s → Through (Consistent golden) (boot kind s).trail }
-    ensures starts { (golden : Row) (kind : Kind) (s : Store) → Consistent golden s → IfSome (boot kind s).runs (λ r. IsSoundApp golden (app_of r)) }
+    ensures migrate { (golden : Row) (form : ℕ) (s : Store) → Consistent golden s
+        → Through (Consistent golden) (migrate_trail form s) }
+    ensures take { (golden : Row) (s : Store) (p : Outline) → 1 ≤ p.image → p.image < length s.kept → Consistent golden s
+        → Through (Consistent golden) (take_trail s p) }
+    ensures inject { (golden : Row) (s : Store) (row : Row) → IsRow row → row.image < length s.kept → Consistent golden s
+        → Through (Consistent golden) (inject_trail s row) }
+    ensures boot { (golden : Row) (kind : Kind) (s : Store) → Consistent golden s
+        → Through (Consistent golden) (boot kind s).trail }
+    ensures starts { (golden : Row) (kind : Kind) (s : Store) → Consistent golden s
+        → IfSome (boot kind s).runs (λ r. IsSoundApp golden (app_of r)) }
     // one page more that may be sealed, after n operations
-    ensures page { (golden : Row) (s : Store) (image : ℕ) (h : Held) (page : List ℕ) (n : ℕ) → 1 ≤ image → image < length s.kept → held s image ≡ Some h → may_seal image h page ≡ true
+    ensures page { (golden : Row) (s : Store) (image : ℕ) (h : Held) (page : List ℕ) (n : ℕ) → 1 ≤ image
+        → image < length s.kept → held s image ≡ Some h → may_seal image h page ≡ true
         → Consistent golden s → Through (Consistent golden) (stepping s n (paged image page s)) }
     ensures resting { (golden : Row) (s : Store) (n : ℕ) → Consistent golden s → Through (Consistent golden) (resting s n) }
-    ensures joined { (golden : Row) (t u : Trail Store) → Through (Consistent golden) t → Through (Consistent golden) u → Through (Consistent golden) (joined t u) }
+    ensures joined { (golden : Row) (t u : Trail Store) → Through (Consistent golden) t → Through (Consistent golden) u
+        → Through (Consistent golden) (joined t u) }
     ensures ends { (golden : Row) (t : Trail Store) → Through (Consistent golden) t → Consistent golden (last t) }
 {
     a_descriptor_is_tested();
@@ -183,7 +216,8 @@ pub fn an_agreeing_store_keeps_rows()
         → row_at table row.image row.version ≡ Some row → held s row.image ≡ Some (held_to row n) → n < length (object row)
         → Agrees table s → Agrees table (paged row.image (slice_index_or (object row) n []) s) }
     ensures page { (table : List Row) (s : Store) (row : Row) (h : Held) → 1 ≤ row.image → row.image < length s.kept
-        → row_at table row.image row.version ≡ Some row → held s row.image ≡ Some h → h.version ≡ row.version → length h.complete < length (object row)
+        → row_at table row.image row.version ≡ Some row → held s row.image ≡ Some h → h.version ≡ row.version
+        → length h.complete < length (object row)
         → Agrees table s → Agrees table (paged row.image (slice_index_or (object row) (length h.complete) []) s) }
 {}
 
@@ -196,7 +230,8 @@ pub fn a_whole_image_is_sound()
 pub fn acts_end()
     ensures order { (s : Store) (order : Order) → last (order_trail s order) ≡ ordered s order }
     ensures clear { (s : Store) → last (clear_trail s) ≡ gesture_cleared s }
-    ensures advance { (s : Store) (app : Option App) (gesture : ℕ) (waived : Bool) → last (advance_trail s app gesture waived) ≡ advanced s app gesture waived }
+    ensures advance { (s : Store) (app : Option App) (gesture : ℕ) (waived : Bool)
+        → last (advance_trail s app gesture waived) ≡ advanced s app gesture waived }
     ensures migrate { (form : ℕ) (s : Store) → last (migrate_trail form s) ≡ if form == old_form then spent s else s }
     ensures take { (s : Store) (p : Outline) → last (take_trail s p) ≡ taken s p }
     ensures begun { (s : Store) (p : Outline) → p.image < length s.kept → held (taken s p) p.image ≡ Some (held_begun p) }
@@ -209,17 +244,23 @@ pub fn acts_end()
 /// Where a start ends, and what it starts. First it is counted, where it counts. Then it is golden by the gesture, the
 /// ordered image where an order waits, and else what is in program memory, or golden where that is blank.
 pub fn starts_end()
-    ensures count { (kind : Kind) (s : Store) → last (count_trail kind s) ≡ if counts kind s then record (spent s) { gesture = s.gesture + 1 } else s }
+    ensures count { (kind : Kind) (s : Store) → last (count_trail kind s) ≡ if counts kind s
+        then record (spent s) { gesture = s.gesture + 1 } else s }
     ensures counted { (kind : Kind) (s : Store) → ((boot kind s).runs ≡ (boot_counted (last (count_trail kind s))).runs)
         × (last (boot kind s).trail ≡ last (boot_counted (last (count_trail kind s))).trail) }
     ensures by_gesture { (s : Store) → by_gesture s ≡ true → boot_counted s ≡ golden_boot s true }
-    ensures order { (s : Store) → by_gesture s ≡ false → order_waits s ≡ true → sound s s.order.image ≡ true → BootEnds (boot_counted s) (ordered_runs s) (order_started s) }
-    ensures kept { (s : Store) (app : App) → by_gesture s ≡ false → order_waits s ≡ false → s.app ≡ Some app → BootEnds (boot_counted s) (app_runs app) s }
-    ensures blank { (s : Store) → by_gesture s ≡ false → order_waits s ≡ false → s.app ≡ None → boot_counted s ≡ golden_boot s (s.gesture == short_starts) }
+    ensures order { (s : Store) → by_gesture s ≡ false → order_waits s ≡ true → sound s s.order.image ≡ true
+        → BootEnds (boot_counted s) (ordered_runs s) (order_started s) }
+    ensures kept { (s : Store) (app : App) → by_gesture s ≡ false → order_waits s ≡ false → s.app ≡ Some app
+        → BootEnds (boot_counted s) (app_runs app) s }
+    ensures blank { (s : Store) → by_gesture s ≡ false → order_waits s ≡ false → s.app ≡ None
+        → boot_counted s ≡ golden_boot s (s.gesture == short_starts) }
     // golden is copied, or it stands in program memory
     ensures golden_copied { (s : Store) (three : Bool) → is_set_to s.app 0 golden_version ≡ false → sound s 0 ≡ true
-        → BootEnds (golden_boot s three) (kept_runs s 0 golden_version) (golden_started (blanked s) (kept_runs s 0 golden_version) three) }
-    ensures golden_stays { (s : Store) (app : App) (three : Bool) → s.app ≡ Some app → is_set_to (Some app) 0 golden_version ≡ true
+        → BootEnds (golden_boot s three) (kept_runs s 0 golden_version)
+        (golden_started (blanked s) (kept_runs s 0 golden_version) three) }
+    ensures golden_stays { (s : Store) (app : App) (three : Bool) → s.app ≡ Some app
+        → is_set_to (Some app) 0 golden_version ≡ true
         → BootEnds (golden_boot s three) (golden_runs app) (golden_started s (golden_runs app) three) }
 {}
 
@@ -240,7 +281,8 @@ pub fn a_row_is_filled_page_by_page()
     ensures rest { (row : Row) (s : Store) (n : ℕ) → IsRow row → row.image < length s.kept
         → held s row.image ≡ Some (held_to row n) → FitAll row.image (drop n (object row)) s }
     // so may they where the profile is the row's, and page 0, whatever the other pages are
-    ensures part { (row : Row) (h : Held) (s : Store) → IsRow row → PartOf row h → row.image < length s.kept → held s row.image ≡ Some h
+    ensures part { (row : Row) (h : Held) (s : Store) → IsRow row → PartOf row h → row.image < length s.kept
+        → held s row.image ≡ Some h
         → FitAll row.image (drop (length h.complete) (object row)) s }
 {
     a_descriptor_is_tested();
@@ -249,8 +291,10 @@ pub fn a_row_is_filled_page_by_page()
 /// What is found in a table of images is a row with that key, it is sound, and its pages may be sealed one after the
 /// other.
 pub fn a_table_holds_sound_rows()
-    ensures key { (table : List Row) (image version : ℕ) (row : Row) → row_at table image version ≡ Some row → (row.image ≡ image) × (row.version ≡ version) }
-    ensures row { (table : List Row) (image version : ℕ) (row : Row) → IsTable table → row_at table image version ≡ Some row → IsRow row }
+    ensures key { (table : List Row) (image version : ℕ) (row : Row) → row_at table image version ≡ Some row
+        → (row.image ≡ image) × (row.version ≡ version) }
+    ensures row { (table : List Row) (image version : ℕ) (row : Row) → IsTable table → row_at table image version ≡ Some row
+        → IsRow row }
     ensures sound { (table : List Row) → IsTable table → SoundRows table }
     ensures fit { (table : List Row) → IsTable table → RowsFit table }
 {

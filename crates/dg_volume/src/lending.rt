@@ -30,7 +30,8 @@ impl Volume {
         ensures lent { IfSome result (λ o. is_lent self.new image ≡ true) }
         ensures others { (i : ℕ) → i ≢ image → is_lent self.new i ≡ is_lent self.old i }
         ensures mounted { (c : List ℕ) (s : Store) → Mounted c self.old s → Mounted c self.new s }
-        ensures mounted_but { (c : List ℕ) (s : Store) (i : ℕ) → MountedBut (λ j. j ≡ i) c self.old s → MountedBut (λ j. j ≡ i) c self.new s }
+        ensures mounted_but { (c : List ℕ) (s : Store) (i : ℕ) → MountedBut (λ j. j ≡ i) c self.old s
+            → MountedBut (λ j. j ≡ i) c self.new s }
     {
         let index = usize::from(image);
         if self.lent[index] {
@@ -71,7 +72,12 @@ fn open_slot(image: u8, kept: &Kept) -> OpenSlot
     requires some_pages { 2 ≤ kept.now.pages }
     requires most_pages { kept.now.pages ≤ most_pages }
     requires within { kept.now.done ≤ kept.now.pages }
-    ensures told { outline_told result ≡ record { image = image; version = kept.now.version; pages = kept.now.pages; crc = kept.now.crc } }
+    ensures told { outline_told result ≡ record {
+      image = image;
+      version = kept.now.version;
+      pages = kept.now.pages;
+      crc = kept.now.crc;
+    } }
     ensures done { done_told result ≡ kept.now.done }
 {
     let profile = Profile {

@@ -30,7 +30,8 @@ impl Volume {
         ensures unchanged { result ≡ Err CommitFault.Worn → (N.device nor.new ≡ N.device nor.old) × (self.new ≡ self.old) }
         ensures stopped { result ≡ Err CommitFault.Stopped → (s : Store) → Mounted (N.device nor.old).image self.old s
             → Stops (migrate_trail (form_of self.old) s) (N.device nor.old) (N.device nor.new) }
-        ensures either { result ≡ Err CommitFault.Stopped → HasForm (N.device nor.new).image old_form ⊎ HasForm (N.device nor.new).image new_form }
+        ensures either { result ≡ Err CommitFault.Stopped → HasForm (N.device nor.new).image old_form
+            ⊎ HasForm (N.device nor.new).image new_form }
     {
         a_chip_has_one_form();
         if self.control.form() != OLD_FORM {

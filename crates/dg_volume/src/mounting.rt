@@ -1,5 +1,6 @@
 //! A chip is mounted: its control, what its slots keep, and the descriptor in program memory.
-ghost use Rattle.std.specs.Prelude.{◌≡◌, ◌↔◌, ◌<◌, ◌≤◌, ℕ, true, false, Option, None, Ok, OnOk, IfOk, IsErrOf, IsTrue, IsSomeAnd, slice_index_or, length};
+ghost use Rattle.std.specs.Prelude.{◌≡◌, ◌↔◌, ◌<◌, ◌≤◌, ℕ, true, false, Option, None, Ok, OnOk, IfOk, IsErrOf, IsTrue, IsSomeAnd};
+ghost use Rattle.std.specs.Prelude.{slice_index_or, length};
 ghost use Rattle.dg_nor.specs.Reads.{Looked, ReadStopped};
 ghost use Rattle.dg_control.specs.Ranges.{slot_fits};
 ghost use Rattle.dg_slot.specs.Kept.{Held, KeepsImage};
@@ -20,7 +21,8 @@ use dg_slot::{OpenSlot, find_descriptor};
 impl Volume {
     /// Mounts a chip, whatever its bytes are.
     pub fn mount<N: Nor>(nor: &mut N) -> Result<Volume, MountFault>
-        ensures mounted { IfOk result (λ v. (s : Store) → Stands (N.device nor.old).image s → Mounted (N.device nor.old).image v s) }
+        ensures mounted { IfOk result (λ v. (s : Store) → Stands (N.device nor.old).image s
+            → Mounted (N.device nor.old).image v s) }
         ensures volume { IfOk result (λ v. IsMounted (N.device nor.old).image v) }
         ensures free { IfOk result NothingLent }
         ensures not_a_volume { IsErrOf result MountFault.NotAVolume → IsNoVolume (N.device nor.old).image }
@@ -65,7 +67,8 @@ fn mount_slots<N: Nor>(
         × SlotKeeps (N.device nor.old).image i (slice_index_or snapshot.now.slots i slot_states.Dirty) h
         × (slice_index_or kept i None ≡ told h)) }
     ensures none { IsErrOf result MountFault.NotAVolume → (i : ℕ) × (i < images)
-        × ((h : Option Held) → SlotKeeps (N.device nor.old).image i (slice_index_or snapshot.now.slots i slot_states.Dirty) h → ⊥) }
+        × ((h : Option Held) → SlotKeeps (N.device nor.old).image i (slice_index_or snapshot.now.slots i slot_states.Dirty) h
+        → ⊥) }
     ensures ends { MountEnds result (N.device nor.old) (N.device nor.new) }
 {
     let mut kept = [None; IMAGES];
@@ -80,7 +83,8 @@ fn mount_slot<N: Nor>(nor: &mut N, image: u8, slot: SlotState) -> Result<Option<
     requires known_image { image < images }
     requires in_range { IsTrue (slot_fits slot) }
     ensures kept { IfOk result (λ k. (h : Option Held) × SlotKeeps (N.device nor.old).image image slot h × (k ≡ told h)) }
-    ensures none { IsErrOf result MountFault.NotAVolume → (h : Option Held) → SlotKeeps (N.device nor.old).image image slot h → ⊥ }
+    ensures none { IsErrOf result MountFault.NotAVolume → (h : Option Held) → SlotKeeps (N.device nor.old).image image slot h
+        → ⊥ }
     ensures ends { MountEnds result (N.device nor.old) (N.device nor.new) }
 {
     match slot {
@@ -93,8 +97,10 @@ fn mount_slot<N: Nor>(nor: &mut N, image: u8, slot: SlotState) -> Result<Option<
 fn mount_live<N: Nor>(nor: &mut N, image: u8, version: u32) -> Result<Kept, MountFault>
     requires known_image { image < images }
     requires some_version { 1 ≤ version }
-    ensures kept { IfOk result (λ k. (h : Held) × (h.version ≡ version) × KeepsImage (N.device nor.old).image image h × (k ≡ told_held h)) }
-    ensures none { IsErrOf result MountFault.NotAVolume → (h : Held) → h.version ≡ version → KeepsImage (N.device nor.old).image image h → ⊥ }
+    ensures kept { IfOk result (λ k. (h : Held) × (h.version ≡ version) × KeepsImage (N.device nor.old).image image h
+        × (k ≡ told_held h)) }
+    ensures none { IsErrOf result MountFault.NotAVolume → (h : Held) → h.version ≡ version
+        → KeepsImage (N.device nor.old).image image h → ⊥ }
     ensures ends { MountEnds result (N.device nor.old) (N.device nor.new) }
 {
     match OpenSlot::mount(nor, image, version)? {
@@ -119,7 +125,8 @@ pub(crate) fn kept_in(slot: &OpenSlot) -> Kept
 /// Looks whether program memory that is Set begins with its descriptor.
 fn mount_program<N: Nor>(nor: &mut N, program: Program) -> Result<(), MountFault>
     ensures app { OnOk result ((app : Option App) × ProgramHolds (N.device nor.old).image program app) }
-    ensures none { IsErrOf result MountFault.NotAVolume → (app : Option App) → ProgramHolds (N.device nor.old).image program app → ⊥ }
+    ensures none { IsErrOf result MountFault.NotAVolume → (app : Option App)
+        → ProgramHolds (N.device nor.old).image program app → ⊥ }
     ensures ends { MountEnds result (N.device nor.old) (N.device nor.new) }
 {
     let Program::Set { image, version } = program else {

@@ -32,14 +32,16 @@ impl Volume {
         requires known_image { image < images }
         requires some_version { 1 ≤ version }
         ensures acted { OnOk result ((s : Store) → Mounted (N.device nor.old).image self.old s
-            → Acted (order_trail s (record { number = number; image = image; version = version })) (N.device nor.old) (N.device nor.new) self.new) }
+            → Acted (order_trail s (record { number = number; image = image; version = version })) (N.device nor.old)
+            (N.device nor.new) self.new) }
         ensures form { OnOk result (form_of self.new ≡ new_form) }
         ensures awake { OnOk result ((N.device nor.old).stopped ≡ false) }
         ensures same_reference { (N.device nor.new).references ≡ (N.device nor.old).references }
         ensures lent { (i : ℕ) → is_lent self.new i ≡ is_lent self.old i }
         ensures allowed { (s : Store) → Mounted (N.device nor.old).image self.old s
             → UnlessOrderRefused result (order_refusal s (record { number = number; image = image; version = version })) }
-        ensures refused { (e : OrderFault) → result ≡ Err e → e ≢ OrderFault.Stopped → (s : Store) → Mounted (N.device nor.old).image self.old s
+        ensures refused { (e : OrderFault) → result ≡ Err e → e ≢ OrderFault.Stopped → (s : Store)
+            → Mounted (N.device nor.old).image self.old s
             → order_refusal s (record { number = number; image = image; version = version }) ≡ Some e }
         ensures unchanged { (e : OrderFault) → result ≡ Err e → e ≢ OrderFault.Stopped
             → (N.device nor.new ≡ N.device nor.old) × (self.new ≡ self.old) }
@@ -47,9 +49,11 @@ impl Volume {
         // nothing is read, and a chip that may be mounted again by halving stays one: that reads at most one place more
         ensures same_taken { (N.device nor.new).taken ≡ (N.device nor.old).taken }
         ensures orderly { IsOrderlyChip (N.device nor.old).image → IsOrderlyChip (N.device nor.new).image }
-        ensures bytes { (m n : ℕ) → RemountBytes (N.device nor.old).image m → RemountBytes (N.device nor.new).image n → n ≤ m + place_size }
+        ensures bytes { (m n : ℕ) → RemountBytes (N.device nor.old).image m → RemountBytes (N.device nor.new).image n
+            → n ≤ m + place_size }
         ensures stopped { IsErrOf result OrderFault.Stopped → (s : Store) → Mounted (N.device nor.old).image self.old s
-            → Stops (order_trail s (record { number = number; image = image; version = version })) (N.device nor.old) (N.device nor.new) }
+            → Stops (order_trail s (record { number = number; image = image; version = version })) (N.device nor.old)
+            (N.device nor.new) }
     {
         let snapshot = self.control.now();
         let kept = snapshot.order.number;

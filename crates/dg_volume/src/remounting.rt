@@ -1,6 +1,7 @@
 //! A chip that is known to be an orderly volume is mounted again: its control by halving, and of each slot that is
 //! Live the header alone.
-ghost use Rattle.std.specs.Prelude.{◌≡◌, ◌↔◌, ◌*◌, ◌<◌, ◌≤◌, ℕ, List, false, Option, None, OnOk, OnErr, IfOk, IsTrue, slice_index_or};
+ghost use Rattle.std.specs.Prelude.{◌≡◌, ◌↔◌, ◌*◌, ◌<◌, ◌≤◌, ℕ, List, false, Option, None, OnOk, OnErr, IfOk, IsTrue};
+ghost use Rattle.std.specs.Prelude.{slice_index_or};
 ghost use Rattle.dg_nor.specs.Device.{Took};
 ghost use Rattle.dg_nor.specs.Reads.{Looked, ReadStopped, ReadEnds};
 ghost use Rattle.dg_control.specs.Mounted.{IsControlOf};
@@ -27,7 +28,8 @@ impl Volume {
     pub fn remount<N: Nor>(nor: &mut N) -> Result<Volume, Stopped>
         requires volume { IsVolume (N.device nor.old).image }
         requires orderly { IsOrderlyChip (N.device nor.old).image }
-        ensures mounted { IfOk result (λ v. (s : Store) → Stands (N.device nor.old).image s → Mounted (N.device nor.old).image v s) }
+        ensures mounted { IfOk result (λ v. (s : Store) → Stands (N.device nor.old).image s
+            → Mounted (N.device nor.old).image v s) }
         ensures volume { IfOk result (λ v. IsMounted (N.device nor.old).image v) }
         ensures free { IfOk result NothingLent }
         ensures same_image { (N.device nor.new).image ≡ (N.device nor.old).image }
@@ -66,7 +68,8 @@ fn remount_slots<N: Nor>(
     ensures kept { IfOk result (λ kept. (i : ℕ) → i < images → (h : Option Held)
         × SlotKeeps (N.device nor.old).image i (slice_index_or snapshot.now.slots i slot_states.Dirty) h
         × (slice_index_or kept i None ≡ told h)) }
-    ensures awake { OnOk result (1 ≤ live (slice_index_or snapshot.now.slots 0 slot_states.Dirty) → (N.device nor.old).stopped ≡ false) }
+    ensures awake { OnOk result (1 ≤ live (slice_index_or snapshot.now.slots 0 slot_states.Dirty)
+        → (N.device nor.old).stopped ≡ false) }
     ensures ends { ReadEnds result (N.device nor.old) (N.device nor.new) }
     ensures took { Took (header_most * slots_live snapshot.now) (N.device nor.old) (N.device nor.new) }
 {
@@ -98,7 +101,8 @@ fn remount_live<N: Nor>(nor: &mut N, image: u8, version: u32) -> Result<Kept, St
     requires known_image { image < images }
     requires some_version { 1 ≤ version }
     requires keeps { (h : Held) × (h.version ≡ version) × KeepsImage (N.device nor.old).image image h }
-    ensures kept { IfOk result (λ k. (h : Held) × (h.version ≡ version) × KeepsImage (N.device nor.old).image image h × (k ≡ told_held h)) }
+    ensures kept { IfOk result (λ k. (h : Held) × (h.version ≡ version) × KeepsImage (N.device nor.old).image image h
+        × (k ≡ told_held h)) }
     ensures awake { OnOk result ((N.device nor.old).stopped ≡ false) }
     ensures ends { ReadEnds result (N.device nor.old) (N.device nor.new) }
     ensures took { Took header_most (N.device nor.old) (N.device nor.new) }

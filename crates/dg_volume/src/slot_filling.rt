@@ -6,7 +6,8 @@ ghost use Rattle.dg_nor.specs.Device.{Ran, Halted};
 ghost use Rattle.dg_slot.specs.Layout.{packets, page_operations, header_sector, slot_end};
 ghost use Rattle.dg_slot.specs.Kept.{Held, with_page};
 ghost use Rattle.dg_slot.specs.Fits.{may_seal};
-ghost use Rattle.dg_slot.specs.Jobs.{IsOpen, IsJob, Packets, no_packets, put_packet as putting, outline_told, done_told, slot_of, got_told, sector_of, SlotStops};
+ghost use Rattle.dg_slot.specs.Jobs.{IsOpen, IsJob, Packets, no_packets, put_packet as putting, outline_told, done_told, slot_of};
+ghost use Rattle.dg_slot.specs.Jobs.{got_told, sector_of, SlotStops};
 ghost use Rattle.dg_volume.specs.Filling.{packet_of, first_packets, page_trail};
 
 use crate::layout::{PACKET_SIZE, PACKETS, PAGE_SIZE};

@@ -1,5 +1,6 @@
 //! A slot is taken: what was kept there is given up, and an image is begun.
-ghost use Rattle.std.specs.Prelude.{◌≡◌, ◌≢◌, ℕ, ◌+◌, ◌<◌, ◌≤◌, true, false, Option, Some, None, Err, OnOk, OnErr, IfOk, IfSome, IfNone, IsNone, IsErrOf};
+ghost use Rattle.std.specs.Prelude.{◌≡◌, ◌≢◌, ℕ, ◌+◌, ◌<◌, ◌≤◌, true, false, Option, Some, None, Err, OnOk, OnErr, IfOk, IfSome};
+ghost use Rattle.std.specs.Prelude.{IfNone, IsNone, IsErrOf};
 ghost use Rattle.dg_nor.specs.Chip.{Touches};
 ghost use Rattle.dg_object.specs.Object.{Outline};
 ghost use Rattle.dg_object.specs.Records.{outline_of};
@@ -49,8 +50,10 @@ impl Volume {
         ensures awake { OnOk result ((N.device nor.old).stopped ≡ false) }
         ensures others { (i : ℕ) → i ≢ image → is_lent self.new i ≡ is_lent self.old i }
         ensures same_reference { (N.device nor.new).references ≡ (N.device nor.old).references }
-        ensures allowed { (s : Store) → Mounted (N.device nor.old).image self.old s → UnlessTakeRefused result (take_refusal s (outline_of profile.now)) }
-        ensures refused { (e : TakeFault) → result ≡ Err e → e ≢ TakeFault.Stopped → (s : Store) → Mounted (N.device nor.old).image self.old s
+        ensures allowed { (s : Store) → Mounted (N.device nor.old).image self.old s
+            → UnlessTakeRefused result (take_refusal s (outline_of profile.now)) }
+        ensures refused { (e : TakeFault) → result ≡ Err e → e ≢ TakeFault.Stopped → (s : Store)
+            → Mounted (N.device nor.old).image self.old s
             → take_refusal s (outline_of profile.now) ≡ Some e }
         ensures unchanged { (e : TakeFault) → result ≡ Err e → e ≢ TakeFault.Stopped
             → (N.device nor.new ≡ N.device nor.old) × (self.new ≡ self.old) }
@@ -67,7 +70,8 @@ impl Volume {
     /// Why a taking is refused.
     fn take_fault(&self, image: u8, version: u32) -> Option<TakeFault>
         requires known_image { image < images }
-        ensures refusal { (s : Store) (p : Outline) → Tells self.now s → p.image ≡ image → p.version ≡ version → result ≡ take_refusal s p }
+        ensures refusal { (s : Store) (p : Outline) → Tells self.now s → p.image ≡ image → p.version ≡ version
+            → result ≡ take_refusal s p }
         ensures not_stopped { result ≢ Some take_faults.Stopped }
         ensures not_golden { IsNone result → 1 ≤ image }
         ensures room { IsNone result → most_take_commits ≤ room_of self.now }
@@ -100,12 +104,14 @@ impl Volume {
         ensures acted { OnOk result ((s : Store) → Mounted (N.device nor.old).image self.old s
             → Acted (take_trail s (outline_of profile.now)) (N.device nor.old) (N.device nor.new) self.new) }
         ensures open { IfOk result (λ o. (outline_told o ≡ outline_of profile.now)
-            × IsOpen (N.device nor.new).image o (held_begun (outline_of profile.now)) × (is_lent self.new profile.now.image ≡ true)) }
+            × IsOpen (N.device nor.new).image o (held_begun (outline_of profile.now))
+            × (is_lent self.new profile.now.image ≡ true)) }
         ensures form { OnOk result (form_of self.new ≡ new_form) }
         ensures awake { OnOk result ((N.device nor.old).stopped ≡ false) }
         ensures others { (i : ℕ) → i ≢ profile.now.image → is_lent self.new i ≡ is_lent self.old i }
         ensures same_reference { (N.device nor.new).references ≡ (N.device nor.old).references }
-        ensures touches { TouchesBut (header_sector profile.now.image) (slot_end profile.now.image) (N.device nor.old).image (N.device nor.new).image }
+        ensures touches { TouchesBut (header_sector profile.now.image) (slot_end profile.now.image) (N.device nor.old).image
+            (N.device nor.new).image }
         ensures stopped { OnErr result ((s : Store) → Mounted (N.device nor.old).image self.old s
             → Stops (take_trail s (outline_of profile.now)) (N.device nor.old) (N.device nor.new)) }
     {
@@ -146,12 +152,14 @@ impl Volume {
         ensures acted { OnOk result ((s : Store) → Mounted (N.device nor.old).image self.old s
             → Acted (open_trail s (outline_of profile.now)) (N.device nor.old) (N.device nor.new) self.new) }
         ensures open { IfOk result (λ o. (outline_told o ≡ outline_of profile.now)
-            × IsOpen (N.device nor.new).image o (held_begun (outline_of profile.now)) × (is_lent self.new profile.now.image ≡ true)) }
+            × IsOpen (N.device nor.new).image o (held_begun (outline_of profile.now))
+            × (is_lent self.new profile.now.image ≡ true)) }
         ensures form { OnOk result (form_of self.new ≡ new_form) }
         ensures awake { OnOk result ((N.device nor.old).stopped ≡ false) }
         ensures others { (i : ℕ) → i ≢ profile.now.image → is_lent self.new i ≡ is_lent self.old i }
         ensures same_reference { (N.device nor.new).references ≡ (N.device nor.old).references }
-        ensures touches { TouchesBut (header_sector profile.now.image) (slot_end profile.now.image) (N.device nor.old).image (N.device nor.new).image }
+        ensures touches { TouchesBut (header_sector profile.now.image) (slot_end profile.now.image) (N.device nor.old).image
+            (N.device nor.new).image }
         ensures stopped { OnErr result ((s : Store) → Mounted (N.device nor.old).image self.old s
             → Stops (open_trail s (outline_of profile.now)) (N.device nor.old) (N.device nor.new)) }
     {
@@ -185,7 +193,8 @@ impl Volume {
         ensures still { OnOk result ((N.device nor.new).stopped ≡ (N.device nor.old).stopped) }
         ensures same_reference { (N.device nor.new).references ≡ (N.device nor.old).references }
         ensures touches { Touches 0 control_sectors (N.device nor.old).image (N.device nor.new).image }
-        ensures stopped { OnErr result ((s : Store) (h : Option Held) → Mounted (N.device nor.old).image self.old s → told h ≡ kept
+        ensures stopped { OnErr result ((s : Store) (h : Option Held) → Mounted (N.device nor.old).image self.old s
+            → told h ≡ kept
             → IfSome h (KeepsImage (N.device nor.old).image image)
             → Stops (committing s (keeping image h (spent s))) (N.device nor.old) (N.device nor.new)) }
     {

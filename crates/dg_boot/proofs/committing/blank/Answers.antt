@@ -1,7 +1,7 @@
 use Rattle.std.proofs.Common.{None, refl, sym, subst, ap, ◌∙◌}
 use Rattle.dg_nor.specs.Trail.{Trail}
 use Rattle.dg_volume.specs.Store.{Store}
-use Rattle.dg_boot.specs.Ends.{Went, Goes}
+use Rattle.dg_boot.specs.Ends.{TrailWent, Goes}
 use Rattle.dg_boot.proofs.CommitLemmas.{went_none, advance_told, app_none, app_some, blank_none, blank_some}
 use Rattle.dg_boot.proofs.committing.blank.Goals as goal
 
@@ -9,7 +9,7 @@ pub returns-in-Blank-clause-goes : goal.returns-in-Blank-clause-goes
 returns-in-Blank-clause-goes g c s mounted =
     let says = mounted.tells.says in
     let none = app_none s.app (sym c.in-Blank.is ∙ ap (λ p. p.program) c.snapshot-now.ensures ∙ says.program) in
-    let P : Trail Store → Type 0 = λ t. Went t (g.N.Nor.device c.args.nor.now) (g.N.Nor.device c.args.nor.now) c.args.volume.now in
+    let P : Trail Store → Type 0 = λ t. TrailWent t (g.N.Nor.device c.args.nor.now) (g.N.Nor.device c.args.nor.now) c.args.volume.now in
     subst P (sym (blank_none s none)) (went_none s _ c.args.volume.now mounted)
 
 pub returns-in-Set-clause-goes : goal.returns-in-Set-clause-goes

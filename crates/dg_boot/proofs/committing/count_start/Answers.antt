@@ -1,7 +1,7 @@
 use Rattle.std.proofs.Common.{◌+◌, sym, subst, ap, ◌∙◌, arith}
 use Rattle.dg_nor.specs.Trail.{Trail}
 use Rattle.dg_volume.specs.Store.{Store}
-use Rattle.dg_boot.specs.Ends.{Went, Goes}
+use Rattle.dg_boot.specs.Ends.{TrailWent, Goes}
 use Rattle.dg_boot.proofs.CommitLemmas.{went_none, advance_told, counted, not_counted, counts_room}
 use Rattle.dg_boot.proofs.committing.count_start.Goals as goal
 
@@ -9,7 +9,7 @@ pub returns-then-not-counts-clause-goes : goal.returns-then-not-counts-clause-go
 returns-then-not-counts-clause-goes g c s mounted =
     let says = mounted.tells.says in
     let test = c.counts.ensures s (ap (λ p. p.gesture) c.snapshot-now.ensures ∙ says.gesture) (c.room.ensures ∙ mounted.tells.room) in
-    let P : Trail Store → Type 0 = λ t. Went t (g.N.Nor.device c.args.nor.now) (g.N.Nor.device c.args.nor.now) c.args.volume.now in
+    let P : Trail Store → Type 0 = λ t. TrailWent t (g.N.Nor.device c.args.nor.now) (g.N.Nor.device c.args.nor.now) c.args.volume.now in
     subst P (sym (not_counted c.args.kind s (sym test ∙ c.if-not-counts.true))) (went_none s _ c.args.volume.now mounted)
 
 pub commit-requires-clause-room : goal.commit-requires-clause-room

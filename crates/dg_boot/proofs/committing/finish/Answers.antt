@@ -3,13 +3,13 @@ use Rattle.dg_nor.specs.Trail.{Trail}
 use Rattle.dg_volume.specs.Sizes.{golden_version}
 use Rattle.dg_volume.specs.Store.{Store}
 use Rattle.dg_volume.specs.Start.{app_of}
-use Rattle.dg_boot.specs.Ends.{Went, Goes}
+use Rattle.dg_boot.specs.Ends.{TrailWent, Goes}
 use Rattle.dg_boot.proofs.CommitLemmas.{went_none, set_told, finished, not_finished, done_three, done_kept}
 use Rattle.dg_boot.proofs.committing.finish.Goals as goal
 
 pub returns-then-not-finishes-clause-goes : goal.returns-then-not-finishes-clause-goes
 returns-then-not-finishes-clause-goes g c s r mounted is holds =
-    let P : Trail Store → Type 0 = λ t. Went t (g.N.Nor.device c.args.nor.now) (g.N.Nor.device c.args.nor.now) c.args.volume.now in
+    let P : Trail Store → Type 0 = λ t. TrailWent t (g.N.Nor.device c.args.nor.now) (g.N.Nor.device c.args.nor.now) c.args.volume.now in
     subst P (sym (not_finished s r c.args.three (sym (c.finishes.ensures s mounted.tells) ∙ c.if-not-finishes.true))) (went_none s _ c.args.volume.now mounted)
 
 pub commit-requires-clause-holds : goal.commit-requires-clause-holds

@@ -1,6 +1,6 @@
 use Rattle.std.proofs.Common.{◌≡◌, ℕ, suc, ◌+◌, ◌-◌, ◌*◌, ◌<◌, ◌≤◌, List, map, take, length, sym, ap, ◌∙◌, subst, arith, below_more}
 use Rattle.std.specs.List.{range_with_len}
-use Rattle.dg_words.specs.Lists.{joined}
+use Rattle.dg_words.specs.Lists.{concatenated}
 use Rattle.dg_words.specs.Cells.{part}
 use Rattle.dg_base.specs.Crc.{crc_of, crc_more}
 use Rattle.dg_nor.specs.Sizes.{sectors, sector_size}
@@ -33,7 +33,7 @@ loop-p-preserved g c =
     let p = c.loop-p.p in
     let all = c.div_ceil-p-end.result in
     let left = c.args.length - page_size * p in
-    let total = crc_of (take c.args.length (joined (map page (range_with_len 1 all)))) in
+    let total = crc_of (take c.args.length (concatenated (map page (range_with_len 1 all)))) in
     let before = c.loop-p.invariant in
     let done = c.in_ok-crc.ensures in
     let chip = g.met.N.Nor.is_chip c.args.nor.now in
@@ -46,8 +46,8 @@ loop-p-preserved g c =
     let same = before.touches.behind from past known in
     let count : all - p ≡ suc (all - (p + 1)) = omega arith in
     let after : left - page_size ≡ c.args.length - page_size * (p + 1) = omega arith in
-    let now : crc_more c.loop-p.crc (take left (joined (map page (range_with_len (p + 1) (suc (all - (p + 1))))))) ≡ total =
-    ap (λ n. crc_more c.loop-p.crc (take left (joined (map page (range_with_len (p + 1) n))))) (sym count) ∙ before.summed in
+    let now : crc_more c.loop-p.crc (take left (concatenated (map page (range_with_len (p + 1) (suc (all - (p + 1))))))) ≡ total =
+    ap (λ n. crc_more c.loop-p.crc (take left (concatenated (map page (range_with_len (p + 1) n))))) (sym count) ∙ before.summed in
     let read = done.crc ∙ ap (λ (s : List ℕ). crc_more c.loop-p.crc (part s 0 c.min-count.result)) same in
     let next = page_summed page (sector image from) left c.min-count.result (p + 1) (all - (p + 1)) c.loop-p.crc c.in_ok-crc.crc total
     (ap (page_in image) place) (omega arith) c.min-count.ensures read now in
@@ -56,7 +56,7 @@ loop-p-preserved g c =
       copied = below_more _ _
           (λ q h. ap (λ s. part s 0 page_size) (done.touches.before (program_sector q) (omega arith) (omega arith)) ∙ before.copied q h)
           (ap (page_in (g.N.Nor.device c.copy_page-in-loop-p.new.nor).image) to ∙ done.page ∙ ap (λ s. part s 0 page_size) same ∙ ap (page_in image) (sym place));
-      summed = ap (λ n. crc_more c.in_ok-crc.crc (take n (joined (map page (range_with_len (p + 1 + 1) (all - (p + 1))))))) (sym after) ∙ next;
+      summed = ap (λ n. crc_more c.in_ok-crc.crc (take n (concatenated (map page (range_with_len (p + 1 + 1) (all - (p + 1))))))) (sym after) ∙ next;
       touches = Touches_then before.touches (Touches_wider (3 + 1 + p) (3 + 1 + p + 1) (program_sector 0) program_end done.touches (omega arith) (omega arith));
       ran = let e : copy_operations * (p + 1) + copy_operations ≡ copy_operations * (p + 1 + 1) = omega arith in subst (λ (n : ℕ). Ran n old (g.N.Nor.device c.copy_page-in-loop-p.new.nor)) e (Ran_then before.ran done.ran);
     }

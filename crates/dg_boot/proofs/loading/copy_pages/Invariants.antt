@@ -1,6 +1,6 @@
 use Rattle.std.proofs.Common.{◌≡◌, ℕ, ◌+◌, ◌-◌, ◌*◌, ◌<◌, map, take}
 use Rattle.std.specs.List.{range_with_len}
-use Rattle.dg_words.specs.Lists.{joined}
+use Rattle.dg_words.specs.Lists.{concatenated}
 use Rattle.dg_base.specs.Crc.{crc_of, crc_more}
 use Rattle.dg_nor.specs.Chip.{Touches}
 use Rattle.dg_nor.specs.Device.{Ran}
@@ -17,7 +17,7 @@ invariant-loop-p g l =
     let page = λ (q : ℕ). page_in old.image (page_sector l.image q) in
     record {
       copied : (q : ℕ) → q < l.p + 1 → page_in now.image (program_sector q) ≡ page_in old.image (page_sector l.image q);
-      summed : crc_more l.crc (take (l.length - page_size * l.p) (joined (map page (range_with_len (l.p + 1) (l.p-end - l.p))))) ≡ crc_of (take l.length (joined (map page (range_with_len 1 l.p-end))));
+      summed : crc_more l.crc (take (l.length - page_size * l.p) (concatenated (map page (range_with_len (l.p + 1) (l.p-end - l.p))))) ≡ crc_of (take l.length (concatenated (map page (range_with_len 1 l.p-end))));
       touches : Touches (program_sector 0) program_end old.image now.image;
       ran : Ran (copy_operations * (l.p + 1)) old now;
     }

@@ -1,6 +1,6 @@
 use Rattle.std.proofs.Common.{◌≡◌, ℕ, suc, ◌+◌, ◌-◌, ◌*◌, ◌<◌, ◌≤◌, List, map, take, length, sym, ap, ◌∙◌, arith}
 use Rattle.std.specs.List.{range_with_len}
-use Rattle.dg_words.specs.Lists.{joined}
+use Rattle.dg_words.specs.Lists.{concatenated}
 use Rattle.dg_words.specs.Cells.{part}
 use Rattle.dg_base.specs.Crc.{crc_of, crc_more}
 use Rattle.dg_nor.specs.Chip.{sector}
@@ -20,7 +20,7 @@ loop-p-preserved g c =
     let p = c.loop-p.p in
     let all = c.div_ceil-p-end.result in
     let left = c.args.length - page_size * p in
-    let total = crc_of (take c.args.length (joined (map page (range_with_len 1 all)))) in
+    let total = crc_of (take c.args.length (concatenated (map page (range_with_len 1 all)))) in
     let before = c.loop-p.invariant in
     let chip = g.met.N.Nor.is_chip c.args.nor.now in
     let inside : p + 2 ≤ most_pages = page_inside c.args.length all p c.div_ceil-p-end.ensures c.requires (omega arith) in
@@ -29,13 +29,13 @@ loop-p-preserved g c =
     let place : program_sector (p + 1) ≡ 4 + p = omega arith in
     let count : all - p ≡ suc (all - (p + 1)) = omega arith in
     let after : left - page_size ≡ c.args.length - page_size * (p + 1) = omega arith in
-    let now : crc_more c.loop-p.crc (take left (joined (map page (range_with_len (p + 1) (suc (all - (p + 1))))))) ≡ total =
-    ap (λ n. crc_more c.loop-p.crc (take left (joined (map page (range_with_len (p + 1) n))))) (sym count) ∙ before.summed in
+    let now : crc_more c.loop-p.crc (take left (concatenated (map page (range_with_len (p + 1) (suc (all - (p + 1))))))) ≡ total =
+    ap (λ n. crc_more c.loop-p.crc (take left (concatenated (map page (range_with_len (p + 1) n))))) (sym count) ∙ before.summed in
     let read = c.in_ok-crc.ensures.crc ∙ ap (λ (d : List ℕ). crc_more c.loop-p.crc (part (sector d (4 + p)) 0 c.min-count.result)) before.looked.same_image in
     let next = page_summed page (sector image (4 + p)) left c.min-count.result (p + 1) (all - (p + 1)) c.loop-p.crc c.in_ok-crc.crc total
     (ap (page_in image) place) (omega arith) c.min-count.ensures read now in
     record {
-      summed = ap (λ n. crc_more c.in_ok-crc.crc (take n (joined (map page (range_with_len (p + 1 + 1) (all - (p + 1))))))) (sym after) ∙ next;
+      summed = ap (λ n. crc_more c.in_ok-crc.crc (take n (concatenated (map page (range_with_len (p + 1 + 1) (all - (p + 1))))))) (sym after) ∙ next;
       looked = Looked_then before.looked c.in_ok-crc.ensures.ends;
     }
 

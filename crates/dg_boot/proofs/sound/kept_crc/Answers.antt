@@ -3,7 +3,7 @@ use Rattle.dg_object.specs.Descriptor.{crc_in}
 use Rattle.dg_words.specs.Cells.{part}
 use Rattle.dg_nor.specs.Chip.{sector}
 use Rattle.dg_slot.specs.Layout.{page_size, page_sector}
-use Rattle.dg_boot.proofs.SoundLemmas.{crc_two}
+use Rattle.dg_slot.proofs.PageLemmas.{crc_two}
 use Rattle.dg_boot.proofs.sound.kept_crc.Goals as goal
 
 pub returns-clause-crc : goal.returns-clause-crc

@@ -8,7 +8,7 @@ use Rattle.dg_volume.specs.Start.{complete_pages, kept_runs, app_of, finish_trai
 use Rattle.dg_volume.specs.Acts.{Stops}
 use Rattle.dg_volume.proofs.ActLemmas.{stops_first, stops_then}
 use Rattle.dg_boot.specs.Loads.{Measures}
-use Rattle.dg_boot.specs.Ends.{Went, copied_trail, golden_loaded}
+use Rattle.dg_boot.specs.Ends.{TrailWent, copied_trail, golden_loaded}
 use Rattle.dg_boot.proofs.BeginLemmas.{finish_begins}
 use Rattle.dg_boot.proofs.CommitLemmas.{went_then}
 use Rattle.dg_boot.proofs.BootLemmas.{stopped_boots, started_is, app_most, TouchesBut-commit, TouchesBut_then}
@@ -59,7 +59,7 @@ returns-clause-boots g c s m =
     (c.in_ok-finish.ensures.goes l r x.went.acted.mounted (record { image = refl; version = refl }) holds) in
     let told = c.started.ensures in
     started_is (golden_loaded s three) r a b (g.N.Nor.device c.finish.new.nor) c.finish.new.volume c.in_ok-loaded.loaded c.started.result refl
-    (subst (λ (t : Trail Store). Went t a (g.N.Nor.device c.finish.new.nor) c.finish.new.volume) (loaded_trail_is s three) went) c.in_ok-finish.ensures.free
+    (subst (λ (t : Trail Store). TrailWent t a (g.N.Nor.device c.finish.new.nor) c.finish.new.volume) (loaded_trail_is s three) went) c.in_ok-finish.ensures.free
     (record { volume = told.volume; image_is = told.image; version_is = told.version; pages = told.pages; bytes = told.length; crc = told.crc })
     (subst (λ (ps : List (List ℕ)). Measures ps c.in_ok-loaded.loaded) pages x.measures) (x.memory ∙ pages) (app_most b.image (app_of r) holds) c.in_ok-finish.ensures.touches
 

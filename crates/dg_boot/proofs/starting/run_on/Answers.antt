@@ -1,9 +1,9 @@
-use Rattle.std.proofs.Common.{◌≡◌, ℕ, List, Ok, refl, sym, ap, subst, ◌∙◌}
+use Rattle.std.proofs.Common.{Ok, refl, sym, subst, ◌∙◌}
 use Rattle.dg_nor.proofs.ChipLemmas.{Touches-same}
 use Rattle.dg_nor.specs.Trail.{resting}
 use Rattle.dg_volume.specs.Sizes.{control_sectors}
 use Rattle.dg_volume.specs.Start.{Runs, Boot, kept_boot}
-use Rattle.dg_boot.specs.Ends.{Boots}
+use Rattle.dg_boot.specs.Ends.{BootOutcome}
 use Rattle.dg_boot.proofs.BeginLemmas.{kept_begins}
 use Rattle.dg_boot.proofs.CommitLemmas.{app_some}
 use Rattle.dg_boot.proofs.BootLemmas.{stopped_boots, read_stops, went_read, started_is, app_most}
@@ -28,4 +28,4 @@ returns-clause-boots g c s three m =
     let done = started_is b r a a d c.args.volume c.in_ok-loaded.loaded c.started.result refl (went_read s a d c.args.volume looked m) c.requires.free
     (record { volume = told.volume; image_is = told.image ∙ sym app.image; version_is = told.version ∙ sym app.version; pages = told.pages; bytes = told.length; crc = told.crc })
     stood.0 stood.1 (app_most a.image app.app holds) (Touches-same 0 control_sectors a.image d.image looked.same_image) in
-    subst (λ (x : Boot). Boots (Ok c.started.result) x a d) (sym (kept_runs_on s three app.app app.is)) done
+    subst (λ (x : Boot). BootOutcome (Ok c.started.result) x a d) (sym (kept_runs_on s three app.app app.is)) done

@@ -1,7 +1,7 @@
 use Rattle.std.proofs.Common.{sym, subst, ◌∙◌}
 use Rattle.dg_volume.specs.Start.{Boot, golden_copied}
 use Rattle.dg_boot.specs.Started.{Lacks}
-use Rattle.dg_boot.specs.Ends.{Boots}
+use Rattle.dg_boot.specs.Ends.{BootOutcome}
 use Rattle.dg_boot.proofs.BeginLemmas.{copied_begins}
 use Rattle.dg_boot.proofs.BootLemmas.{stopped_boots, read_stops, lacks_read, boots_looked, mounted_looked}
 use Rattle.dg_boot.proofs.CaseLemmas.{copied_sound, copied_lacks}
@@ -22,5 +22,5 @@ returns-clause-boots g c s m =
     let looked = c.in_ok-is_image_sound.ensures.ends in
     let whole = sym (c.in_ok-is_image_sound.ensures.sound s m) ∙ c.if-not-branch.false in
     boots_looked c.load_golden.result (golden_copied s c.args.three) _ _ _ looked
-    (subst (λ (b : Boot). Boots c.load_golden.result b (g.N.Nor.device c.is_image_sound.new.nor) (g.N.Nor.device c.load_golden.new.nor)) (sym (copied_sound s c.args.three whole))
+    (subst (λ (b : Boot). BootOutcome c.load_golden.result b (g.N.Nor.device c.is_image_sound.new.nor) (g.N.Nor.device c.load_golden.new.nor)) (sym (copied_sound s c.args.three whole))
     (c.load_golden.ensures.boots s (mounted_looked s _ _ c.args.volume looked m)))

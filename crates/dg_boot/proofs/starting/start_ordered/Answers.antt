@@ -10,7 +10,7 @@ use Rattle.dg_volume.specs.Acts.{Stops}
 use Rattle.dg_volume.proofs.ActLemmas.{stops_first, stops_then}
 use Rattle.dg_volume.proofs.BeginLemmas.{begins_committing}
 use Rattle.dg_boot.specs.Loads.{Measures, app_from}
-use Rattle.dg_boot.specs.Ends.{Went, copied_trail}
+use Rattle.dg_boot.specs.Ends.{TrailWent, copied_trail}
 use Rattle.dg_boot.proofs.CommitLemmas.{went_then}
 use Rattle.dg_boot.proofs.BootLemmas.{stopped_boots, started_is, app_most, TouchesBut-commit, TouchesBut_then}
 use Rattle.dg_boot.proofs.CaseLemmas.{order_facts, order_whole, order_version, order_trail_is, order_runs, runs_app, last_copied, blank_room}
@@ -90,7 +90,7 @@ returns-clause-boots g c s m =
     let went = went_then (copied_trail s o.image) (committing l next) _ _ _ _ _ refl x.went (c.in_ok-set.ensures.goes l app x.went.acted.mounted (record { image = refl; version = same }) x.holds) in
     let told = c.started.ensures in
     started_is (order_boot s) r a b d c.set.new.volume c.in_ok-loaded.loaded c.started.result (order_runs s o.image o.version image version)
-    (subst (λ (t : Trail Store). Went t a d c.set.new.volume) (order_trail_is s o.image o.version x.found image version x.here same) went) c.in_ok-set.ensures.free
+    (subst (λ (t : Trail Store). TrailWent t a d c.set.new.volume) (order_trail_is s o.image o.version x.found image version x.here same) went) c.in_ok-set.ensures.free
     (record { volume = told.volume; image_is = told.image; version_is = told.version; pages = told.pages; bytes = told.length; crc = told.crc })
     (subst (λ (ps : List (List ℕ)). Measures ps c.in_ok-loaded.loaded) pages x.measures) (x.memory ∙ pages) (app_most b.image (app_of r) holds) c.in_ok-set.ensures.touches
 

@@ -7,7 +7,7 @@ use Rattle.dg_volume.specs.Store.{Store}
 use Rattle.dg_volume.specs.Trails.{committing}
 use Rattle.dg_volume.specs.Start.{behind, kept_boot, waived_once}
 use Rattle.dg_volume.proofs.ActLemmas.{stops_first}
-use Rattle.dg_boot.specs.Ends.{Boots}
+use Rattle.dg_boot.specs.Ends.{BootOutcome}
 use Rattle.dg_boot.proofs.BeginLemmas.{kept_begins}
 use Rattle.dg_boot.proofs.BootLemmas.{stopped_boots, boots_then, TouchesBut-commit, TouchesBut_then}
 use Rattle.dg_boot.proofs.CaseLemmas.{waived_room}
@@ -32,7 +32,7 @@ returns-clause-boots g c s m =
     let b = kept_boot (waived_once s) (s.gesture == short_starts) in
     let k = kept_begins (waived_once s) (s.gesture == short_starts) in
     let went = c.in_ok-waive.ensures.goes s m in
-    let P : Store → Type 0 = λ x. Boots c.start_kept.result (kept_boot x (x.gesture == short_starts)) (g.N.Nor.device c.waive.new.nor) (g.N.Nor.device c.start_kept.new.nor) in
+    let P : Store → Type 0 = λ x. BootOutcome c.start_kept.result (kept_boot x (x.gesture == short_starts)) (g.N.Nor.device c.waive.new.nor) (g.N.Nor.device c.start_kept.new.nor) in
     let there = subst P (waived_room s) (c.start_kept.ensures.boots (last t) went.acted.mounted) in
     boots_then c.start_kept.result t b _ _ _ c.waive.new.volume (waived_room s ∙ sym k.first) went there
 

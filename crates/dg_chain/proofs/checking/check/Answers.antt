@@ -1,6 +1,6 @@
 use Rattle.std.proofs.Common.{◌≡◌, List, ℕ, drop, ◌∙◌, ap, subst}
 use Rattle.dg_chain.specs.Checking.{answer_of, data_pages}
-use Rattle.dg_chain.specs.Answers.{Answers}
+use Rattle.dg_chain.specs.Answers.{ChainAnswers}
 use Rattle.dg_chain.proofs.StepLemmas.{pages_kept, answer_named, answer_own}
 use Rattle.dg_chain.proofs.checking.check.Goals as goal
 
@@ -10,7 +10,7 @@ returns-clause-answer g c h keeps =
     let n = c.in_ok-count.count in
     let same : data_pages (g.N.Nor.device c.count_of.new.nor).image c.args.image n ≡ drop 1 h.complete =
     ap (λ (x : List ℕ). data_pages x c.args.image n) c.in_ok-count.ensures.ends.same_image ∙ pages_kept c0 c.args.image n h keeps (c.in_ok-count.ensures.count h keeps) in
-    subst (λ (pages : List (List ℕ)). Answers c.check_pages.result (answer_of c.args.root.now pages)) same c.check_pages.ensures.answer
+    subst (λ (pages : List (List ℕ)). ChainAnswers c.check_pages.result (answer_of c.args.root.now pages)) same c.check_pages.ensures.answer
 
 pub returns-clause-named : goal.returns-clause-named
 returns-clause-named g c x h payload root keeps =

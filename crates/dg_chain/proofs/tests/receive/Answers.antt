@@ -1,4 +1,4 @@
-use Rattle.std.proofs.Common.{◌≡◌, ◌<◌, ◌≤◌, List, ℕ, length, ap, ◌∙◌, arith}
+use Rattle.std.proofs.Common.{◌≡◌, ◌<◌, ◌≤◌, List, ℕ, length, ap, arith}
 use Rattle.dg_object.specs.Object.{Outline}
 use Rattle.dg_slot.specs.Kept.{Held}
 use Rattle.dg_slot.specs.Jobs.{IsOpen, outline_told, done_told}

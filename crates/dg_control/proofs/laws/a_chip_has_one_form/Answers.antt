@@ -1,5 +1,4 @@
 use Rattle.std.proofs.Common.{inl, inr, ⊎_elim, sym, subst, ◌∙◌}
-use Rattle.dg_control.specs.Mounted.{IsControlOf}
 use Rattle.dg_ledger.specs.Ledger.{count_of}
 use Rattle.dg_nor.specs.Chip.{sector}
 use Rattle.dg_control.specs.Places.{LastTells}

@@ -1,4 +1,4 @@
-use Rattle.std.proofs.Common.{◌≡◌, ℕ, suc, ◌+◌, ◌*◌, length, take, get_or, ◌++◌, append-nil, append_assoc, refl, sym, ap, ◌∙◌, arith}
+use Rattle.std.proofs.Common.{◌≡◌, ◌+◌, ◌*◌, length, take, get_or, ◌++◌, append-nil, append_assoc, refl, sym, ap, ◌∙◌, arith}
 use Rattle.dg_control.specs.Sizes.{slots_at, slot_size}
 use Rattle.dg_control.specs.Snapshot.{slots_bytes, slot_bytes}
 use Rattle.dg_control.specs.declared.snapshot.SlotState.TheVariants.{Dirty}

@@ -1,4 +1,4 @@
-use Rattle.std.proofs.Common.{◌≡◌, ◌≢◌, ℕ, ◌<◌, length, get_or, take, sym, ap, ⊎_elim, ◌∙◌, arith, rules, below_more, get_or-set_other, get_or-set_same}
+use Rattle.std.proofs.Common.{◌≡◌, ◌≢◌, ◌<◌, length, get_or, take, sym, ap, ⊎_elim, ◌∙◌, arith, rules, below_more, get_or-set_other, get_or-set_same}
 use Rattle.dg_control.specs.Sizes.{images}
 use Rattle.std.proofs.Math.ListN.{length-set}
 use Rattle.std.proofs.lemmas.List.{same_lists, get_or_default, get_or-take, length-take-le}

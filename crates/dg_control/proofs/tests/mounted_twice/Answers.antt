@@ -1,4 +1,4 @@
-use Rattle.std.proofs.Common.{◌≡◌, ℕ, List, ap, sym, subst, ◌∙◌}
+use Rattle.std.proofs.Common.{ℕ, List, ap, sym, subst, ◌∙◌}
 use Rattle.dg_nor.specs.Device.{Device}
 use Rattle.dg_control.specs.Store.{Controls}
 use Rattle.dg_control.specs.Mounted.{control_snapshot, control_room}

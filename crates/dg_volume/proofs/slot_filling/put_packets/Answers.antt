@@ -7,7 +7,7 @@ use Rattle.dg_nor.specs.Chip.{Touches}
 use Rattle.dg_nor.proofs.ChipLemmas.{Touches-same, Touches_then}
 use Rattle.dg_nor.proofs.DeviceLemmas.{OnErr_from, Ran-none, Ran_then}
 use Rattle.dg_slot.specs.Layout.{packets}
-use Rattle.dg_slot.specs.Jobs.{IsOpen, IsJob, Packets, got_told, slot_of, sector_of}
+use Rattle.dg_slot.specs.Jobs.{IsOpen, IsJob, got_told, slot_of, sector_of}
 use Rattle.dg_slot.specs.declared.states.OpenSlot.{OpenSlot}
 use Rattle.dg_slot.specs.declared.states.PageJob.{PageJob}
 use Rattle.dg_volume.specs.Filling.{first_packets}

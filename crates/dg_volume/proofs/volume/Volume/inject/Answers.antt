@@ -1,14 +1,13 @@
+use Rattle.dg_object.specs.Object.{row_of}
+use Rattle.dg_volume.proofs.InjectLemmas.{ends_refused}
 use Rattle.dg_volume.proofs.volume.Volume.inject.Goals as goal
 
-pub returns-in-Some-clause-refused : goal.returns-in-Some-clause-refused
-returns-in-Some-clause-refused g c e is other s mounted =
-    let r = c.injection_fault.ensures.refusal c.in-Some.fault c.in-Some.is c.args.self.now s c.args.name.now mounted.tells c.kept.ensures c.requires.known_image in cc
+pub returns-in-Some-clause-ends : goal.returns-in-Some-clause-ends
+returns-in-Some-clause-ends g c = λ s mounted.
+    let row = row_of c.args.image c.args.version c.args.name.now c.args.bytes.now in
+    let told = c.injection_fault.ensures in
+    let refusal = told.refusal c.in-Some.fault c.in-Some.is c.args.self.now s c.args.name.now mounted.tells c.kept.ensures c.requires.known_image in
+    ends_refused c.in-Some.fault s row _ _ c.args.self.now refusal (told.other c.in-Some.fault c.in-Some.is).0
 
-pub returns-in-None-clause-allowed : goal.returns-in-None-clause-allowed
-returns-in-None-clause-allowed g c s mounted = (c.keep.ensures.ends s mounted).allowed
-
-pub returns-in-None-clause-refused : goal.returns-in-None-clause-refused
-returns-in-None-clause-refused g c e is other s mounted = (c.keep.ensures.ends s mounted).refused e is other
-
-pub returns-in-None-clause-unread : goal.returns-in-None-clause-unread
-returns-in-None-clause-unread g c is s mounted = (c.keep.ensures.ends s mounted).unread is
+pub returns-in-None-clause-ends : goal.returns-in-None-clause-ends
+returns-in-None-clause-ends g c = λ s mounted. c.keep.ensures.ends s mounted

@@ -11,7 +11,7 @@ use Rattle.dg_volume.specs.Sizes.{images, golden_version}
 use Rattle.dg_volume.specs.Store.{Store, App, held}
 use Rattle.dg_volume.specs.Told.{told}
 use Rattle.dg_volume.specs.Stands.{Stands, kept_at, IsMounted}
-use Rattle.dg_volume.specs.Reading.{SlotKeeps, ProgramHolds, mount_fault_of}
+use Rattle.dg_volume.specs.Reading.{SlotKeeps, ProgramHolds, volume_mount_fault}
 use Rattle.dg_volume.specs.declared.volume.Kept.{Kept}
 use Rattle.dg_volume.specs.declared.volume.MountFault.{MountFault}
 use Rattle.dg_volume.specs.declared.volume.MountFault.TheVariants.{Stopped, NotAVolume}
@@ -20,7 +20,7 @@ use Rattle.dg_volume.proofs.StoreLemmas.{slot_of, program_of, one_held}
 use Rattle.dg_volume.proofs.MountLemmas.{golden_told, mounted_at, mounted_each}
 use Rattle.dg_volume.proofs.volume.Volume.mount.Goals as goal
 
-fault_back : {T : Type 0} (r : Result T MountFault) (e : MountFault) (f : ControlFault) → r ≡ Err NotAVolume → r ≡ Err e → e ≡ mount_fault_of f → f ≡ control.NotAVolume
+fault_back : {T : Type 0} (r : Result T MountFault) (e : MountFault) (f : ControlFault) → r ≡ Err NotAVolume → r ≡ Err e → e ≡ volume_mount_fault f → f ≡ control.NotAVolume
 fault_back r e control.NotAVolume p q s = refl
 fault_back r e control.Stopped p q s =
     let h : e ≡ NotAVolume = cc in

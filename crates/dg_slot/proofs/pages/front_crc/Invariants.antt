@@ -1,14 +1,15 @@
-use Rattle.std.proofs.Common.{◌≡◌, ◌≤◌, ◌-◌}
+use Rattle.std.proofs.Common.{◌≡◌, ◌<◌, ◌≤◌, ◌-◌, false}
 use Rattle.dg_words.specs.Cells.{part}
 use Rattle.dg_base.specs.Crc.{crc_more}
 use Rattle.dg_nor.specs.Chip.{sector}
 use Rattle.dg_nor.specs.Reads.{Looked}
-use Rattle.dg_boot.proofs.pieces.front_crc.Given as goal
+use Rattle.dg_slot.proofs.pages.front_crc.Given as goal
 
 abbrev pub invariant-loop-at : goal.invariant-loop-at
 invariant-loop-at g l = record {
   within : l.at ≤ l.count;
   summed : l.crc ≡ crc_more l.fn.before (part (sector (g.N.Nor.device l.initial.nor).image l.index) 0 l.at);
+  awake : 0 < l.at → (g.N.Nor.device l.initial.nor).stopped ≡ false;
   looked : Looked (g.N.Nor.device l.initial.nor) (g.N.Nor.device l.nor);
 }
 
