@@ -11,7 +11,7 @@ use Rattle.dg_volume.specs.Sizes.{images}
 use Rattle.dg_volume.specs.Table.{row_at, has_key}
 use Rattle.dg_volume.specs.Agreement.{KeepsRow}
 use Rattle.dg_frame.specs.Sizes.{known_images, narrow_images, wide_images}
-use Rattle.dg_rules.specs.World.{World, wide_in, wide_at, store_at, linked}
+use Rattle.dg_rules.specs.World.{World, is_wide_mote, wide_at, store_at, linked}
 use Rattle.dg_rules.specs.Premises.{WorldAgrees, OneWidth}
 use Rattle.dg_rounds.specs.Rounds.{round, times, rounds_of}
 use Rattle.dg_completion.specs.Rests.{HasRounds}
@@ -95,7 +95,7 @@ abbrev AllAre : (wide : Bool) → World → Type 0
 AllAre wide w = (m : ℕ) → m < length w.sites → wide_at w m ≡ wide
 
 all_on : (wide : Bool) (w v : World) → Grows w v → AllAre wide w → AllAre wide v
-all_on wide w v g all m there = ap (λ narrow. wide_in narrow m) g.narrow ∙ all m (subst (λ n. m < n) g.count there)
+all_on wide w v g all m there = ap (λ narrow. is_wide_mote narrow m) g.narrow ∙ all m (subst (λ n. m < n) g.count there)
 
 -- motes of this width speak of every image that has a row
 abbrev pub Known : Bool → World → Type 0

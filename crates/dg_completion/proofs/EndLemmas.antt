@@ -9,10 +9,10 @@ use Rattle.dg_frame.specs.declared.Message.{Message}
 use Rattle.dg_mote.specs.Sizes.{shared}
 use Rattle.dg_script.specs.Items.{Item, Declares, Happens}
 use Rattle.dg_rules.specs.World.{World, Running, Sent, site, store_at, linked, frame_at, last_frame, counted, with_site}
-use Rattle.dg_rules.specs.Events.{Does, Refuses, Goes, does, mote_of, dt_of, tick_by, hear_by, heard_sent, heard_last, unless_off}
+use Rattle.dg_rules.specs.Events.{Does, Refuses, Goes, does, mote_of, dt_of, tick_does, hear_by, heard_sent, heard_last, unless_off}
 use Rattle.dg_rules.specs.Steps.{WorldStep, StepDoes, and_sent, declared_as}
 use Rattle.dg_rules.specs.Runs.{Played, ItemStep, Plays}
-use Rattle.dg_rules.specs.Premises.{WorldAgrees, IsInRange, IsTrueThen, LeavesAgreement}
+use Rattle.dg_rules.specs.Premises.{WorldAgrees, PlayedInRange, IsTrueThen, LeavesAgreement}
 use Rattle.dg_rules.specs.Begins.{PlaysFrom}
 use Rattle.dg_rounds.specs.Rounds.{round, times, rounds_of, paced}
 use Rattle.dg_base.specs.declared.events.Event.{Event}
@@ -54,7 +54,7 @@ begins_once (p ∷ ps) u w v a b = sym a.0 ∙ b.0
 abbrev declaring : List Row → World → World
 declaring rows w = record w { declared = rows }
 
-tick_same : (rows : List Row) (w : World) (s : Store) (o : Option Running) (now word : ℕ) → tick_by (declaring rows w) s o now word ≡ tick_by w s o now word
+tick_same : (rows : List Row) (w : World) (s : Store) (o : Option Running) (now word : ℕ) → tick_does (declaring rows w) s o now word ≡ tick_does w s o now word
 tick_same rows w s None now word = refl
 tick_same rows w s (Some r) now word = refl
 
@@ -210,7 +210,7 @@ played_front u v w xs ys from plays = record {
   agrees = from.agrees;
   off = from.off;
   plays = plays;
-  ranges = front (IsInRange (length u.sites)) xs ys from.ranges;
+  ranges = front (PlayedInRange (length u.sites)) xs ys from.ranges;
   are_true = front IsTrueThen xs ys from.are_true;
 }
 

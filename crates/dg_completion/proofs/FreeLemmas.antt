@@ -12,19 +12,20 @@ use Rattle.dg_volume.specs.Table.{IsTable}
 use Rattle.dg_volume.specs.Start.{Runs, boot}
 use Rattle.dg_volume.specs.declared.volume.Kind.TheVariants as kind
 use Rattle.dg_frame.specs.declared.Message.{Message}
-use Rattle.dg_mote.specs.Model.{MoteState, begun}
+use Rattle.dg_mote.specs.Model.{MoteState, begun_mote}
 use Rattle.dg_mote.specs.Ticks.{tick_of}
 use Rattle.dg_mote.specs.Hears.{heard_of}
 use Rattle.dg_mote.specs.Changes.{MayClear}
 use Rattle.dg_mote.specs.Agreement.{HonestMessage}
 use Rattle.dg_mote.specs.Well.{IsWell}
 use Rattle.dg_rules.specs.World.{World, Running, Site, Sent, site, wide_at, store_at, with_site, counted, no_site, linked, frame_at, last_frame}
-use Rattle.dg_rules.specs.Events.{Deed, Does, Refuses, Goes, does, mote_of, dt_of, key_of, tick_by, heard_sent, heard_last, unless_off}
+use Rattle.dg_rules.specs.Events.{Deed, Does, Refuses, Goes, does, mote_of, dt_of, key_of, tick_does, heard_sent, heard_last, unless_off}
 use Rattle.dg_rules.specs.Steps.{WorldStep, StepDoes, and_sent}
 use Rattle.dg_rules.specs.Premises.{WorldAgrees, SentIsWell, TrueEvent}
-use Rattle.dg_rules.specs.Ranges.{EventFits, StepFits}
+use Rattle.dg_rules.specs.Ranges.{EventInRange, StepInRange}
 use Rattle.dg_rules.proofs.EventLemmas.{RestartLaws, does_cases, running_by}
-use Rattle.dg_rules.proofs.AgreementLemmas.{same_running, step_within}
+use Rattle.dg_rules.proofs.AgreementLemmas.{same_running}
+use Rattle.dg_rules.proofs.AgreementSteps.{step_within}
 use Rattle.dg_rules.proofs.WiderLemmas.{site_wider, wider_same}
 use Rattle.dg_base.specs.declared.events.Event.{Event}
 use Rattle.dg_base.specs.declared.events.Event.TheVariants.{Tick, Hear, Last, Reset, Inject, Order as OrderEvent, Frame}
@@ -39,7 +40,7 @@ use Rattle.dg_completion.proofs.GrowLemmas.{link_ends}
 
 -- what is known of lower crates
 pub record Laws : Type 0 where
-  pub agrees : (w v : World) (x : Step) (reports : List Report) → WorldAgrees w → StepFits (length w.sites) x → TrueEvent w x.event → WorldStep w x v reports → WorldAgrees v
+  pub agrees : (w v : World) (x : Step) (reports : List Report) → WorldAgrees w → StepInRange (length w.sites) x → TrueEvent w x.event → WorldStep w x v reports → WorldAgrees v
   pub later : (table : List Row) (m : MoteState) (s : Store) (now then : ℕ) → now ≤ then → IsWell table m s now → IsWell table m s then
   pub restarts : RestartLaws
   pub starts : StartLaws
@@ -59,7 +60,7 @@ on_there w m r e = elim (cases_lt m (length w.sites)) [
 -- ---- free events out of their ranges are refused
 
 abbrev pub Ranged : World → Event → Type 0
-Ranged w e = EventFits (length w.sites) e ⊎ ((why : Cause) × (does w e ≡ Refuses why))
+Ranged w e = EventInRange (length w.sites) e ⊎ ((why : Cause) × (does w e ≡ Refuses why))
 
 off_by : (w : World) (m : ℕ) → length w.sites ≤ m → (site w m).runs ≡ None
 off_by w m h = ap (λ (s : Site). s.runs) (get_or_past w.sites m no_site h)
@@ -72,7 +73,7 @@ pub ranged : (w : World) (e : Event) → WorldAgrees w → IsFree e → Ranged w
 unfolding does
 ranged w (Tick m dt word) good free = elim (cases_lt m (length w.sites)) [
   | inl less ↦ inl less
-  | inr past ↦ inr (cause.Off, ap (λ o. tick_by w (store_at w m) o (w.moment + dt) word) (off_by w m past))
+  | inr past ↦ inr (cause.Off, ap (λ o. tick_does w (store_at w m) o (w.moment + dt) word) (off_by w m past))
 ]
 ranged w (Hear m dt word number) good free = elim (cases_lt m (length w.sites)) [
   | inr past ↦ inr (cause.Off, ap (λ o. unless_off o (heard_sent w m (w.moment + dt) word (frame_at w number))) (off_by w m past))
@@ -120,7 +121,7 @@ going_on r runs e = (r, sym (same_running (Some r) runs e))
 
 starting_on : (o : Option Runs) (id : ℕ) (wide : Bool) (now word : ℕ) (runs : Option Running) → running_by o id wide now word ≡ Some runs → (q : Running) × (runs ≡ Some q)
 starting_on None id wide now word runs e = absurd cc
-starting_on (Some r) id wide now word runs e = going_on (record { key = key_of r; mote = begun id wide now word }) runs e
+starting_on (Some r) id wide now word runs e = going_on (record { key = key_of r; mote = begun_mote id wide now word }) runs e
 
 module _ (laws : Laws) (w : World) (good : WorldAgrees w) where
   hear_free : (m dt word : ℕ) (f : Sent) (r : Running) → SentIsWell w.table f
@@ -222,7 +223,7 @@ module _ (laws : Laws) (w : World) (good : WorldAgrees w) where
     abbrev step : Step
     step = record { event = e; cut = None }
 
-    does_grows : (D : Does) → EventFits (length w.sites) e → WorldAgrees v → FreeDoes w (mote_of e) D → StepDoes D w step v reports → Grows w v
+    does_grows : (D : Does) → EventInRange (length w.sites) e → WorldAgrees v → FreeDoes w (mote_of e) D → StepDoes D w step v reports → Grows w v
     does_grows (Refuses why) fits agrees known did = refused_grows v (dt_of e) did.0
     does_grows (Goes d) fits agrees known did =
         let runs = did.0 in

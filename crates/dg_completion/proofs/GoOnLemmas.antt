@@ -5,8 +5,8 @@ use Rattle.dg_script.specs.Items.{Item}
 use Rattle.dg_rules.specs.World.{World}
 use Rattle.dg_rules.specs.Changes.{is_told}
 use Rattle.dg_rules.specs.Runs.{Played, Plays}
-use Rattle.dg_rules.specs.Ranges.{EventFits}
-use Rattle.dg_rules.specs.Premises.{WorldAgrees, IsInRange, IsTrueThen, LeavesAgreement}
+use Rattle.dg_rules.specs.Ranges.{EventInRange}
+use Rattle.dg_rules.specs.Premises.{WorldAgrees, PlayedInRange, IsTrueThen, LeavesAgreement}
 use Rattle.dg_rules.specs.Begins.{PlaysFrom}
 use Rattle.dg_rounds.specs.Rounds.{times, rounds_of}
 use Rattle.dg_base.specs.declared.events.Event.{Event}
@@ -29,11 +29,11 @@ record AsPlayed (motes : ℕ) (loud : Bool) (w v : World) (es : List Event) : Ty
   items : map (λ (p : Played). p.item) rest ≡ map (happening loud) es
   plays : Plays w rest v
   events : events_of rest ≡ es
-  ranges : AllByRecursion (IsInRange motes) rest
+  ranges : AllByRecursion (PlayedInRange motes) rest
   are_true : AllByRecursion IsTrueThen rest
   uncut : AllByRecursion IsUncut rest
 
-as_played : (motes : ℕ) (loud : Bool) (es : List Event) (w v : World) → Follows w es v → AllByRecursion IsFree es → AllByRecursion (EventFits motes) es → AsPlayed motes loud w v es
+as_played : (motes : ℕ) (loud : Bool) (es : List Event) (w v : World) → Follows w es v → AllByRecursion IsFree es → AllByRecursion (EventInRange motes) es → AsPlayed motes loud w v es
 unfolding Plays Follows events_of
 as_played motes loud [] w v f free fits = record { rest = []; items = refl; plays = f; events = refl; ranges = tt; are_true = tt; uncut = tt }
 as_played motes loud (e ∷ es) w v f free fits =
@@ -68,7 +68,7 @@ module _
           agrees = from.agrees;
           off = from.off;
           plays = plays_join before known.rest u w came.v from.plays known.plays;
-          ranges = all_append (IsInRange (length u.sites)) before known.rest from.ranges known.ranges;
+          ranges = all_append (PlayedInRange (length u.sites)) before known.rest from.ranges known.ranges;
           are_true = all_append IsTrueThen before known.rest from.are_true known.are_true;
         };
         ends = record {

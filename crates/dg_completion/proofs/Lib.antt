@@ -7,6 +7,7 @@ pub mod PipelineLemmas
 pub mod RaiseLemmas
 pub mod CompleteLemmas
 pub mod WalkLemmas
+pub mod PairLemmas
 pub mod RoundLemmas
 pub mod EndLemmas
 pub mod HolderLemmas

@@ -14,10 +14,10 @@ use Rattle.dg_rules.specs.World.{World, Running, Site, site, store_at, with_site
 use Rattle.dg_rules.specs.Events.{Deed, Does, Refuses, Goes, does, mote_of, dt_of}
 use Rattle.dg_rules.specs.Steps.{WorldStep, StepDoes, done_world, done_reports}
 use Rattle.dg_rules.specs.Premises.{WorldAgrees, SentIsWell}
-use Rattle.dg_rules.specs.Ranges.{EventFits}
+use Rattle.dg_rules.specs.Ranges.{EventInRange}
 use Rattle.dg_rules.proofs.BootLemmas.{boot_start}
 use Rattle.dg_rules.proofs.EventLemmas.{does_cases, running_by}
-use Rattle.dg_rules.proofs.AgreementLemmas.{step_within}
+use Rattle.dg_rules.proofs.AgreementSteps.{step_within}
 use Rattle.dg_rounds.specs.Rounds.{times, rounds_of}
 use Rattle.dg_base.specs.declared.events.Event.{Event}
 use Rattle.dg_base.specs.declared.events.Step.{Step}
@@ -108,7 +108,7 @@ module _ (laws : Laws) (takes : TakeLaws) (w : World) (good : WorldAgrees w) whe
     refused_spends : v ≡ counted w (dt_of e) → (m : ℕ) → Spends (commits_at m e) (store_at w m) (store_at v m)
     refused_spends is m = omega (arith, ap (λ (u : World). (store_at u m).room) is)
 
-    spends_by : (D : Does) → EventFits (length w.sites) e → FewDoes w (mote_of e) D → StepDoes D w (step e) v reports → (m : ℕ) → Spends (commits_at m e) (store_at w m) (store_at v m)
+    spends_by : (D : Does) → EventInRange (length w.sites) e → FewDoes w (mote_of e) D → StepDoes D w (step e) v reports → (m : ℕ) → Spends (commits_at m e) (store_at w m) (store_at v m)
     spends_by (Refuses why) fits few did = refused_spends did.0
     spends_by (Goes d) fits few did =
         let x : Site = record { store = last d.trail; runs = did.0 } in

@@ -1,10 +1,9 @@
 -- A round brings the mote that is behind one page.
-use Rattle.std.proofs.Common.{◌≡◌, ◌≢◌, ℕ, zero, suc, ◌+◌, ◌-◌, ◌*◌, ◌<◌, ◌≤◌, Bool, true, false, ◌&&◌, ◌||◌, cond, eqb, leb, ltb, List, [], ◌∷◌, ◌++◌, length, map, replicate, get_or, Option, Some, None, option_map, IfSome, Result, Ok, refl, sym, ap, subst, ◌∙◌, inl, inr, arith}
+use Rattle.std.proofs.Common.{◌≡◌, ◌≢◌, ℕ, zero, suc, ◌+◌, ◌-◌, ◌*◌, ◌<◌, ◌≤◌, Bool, true, false, ◌&&◌, ◌||◌, cond, eqb, leb, ltb, List, [], ◌∷◌, ◌++◌, length, map, replicate, get_or, Option, Some, None, option_map, IfSome, refl, sym, ap, subst, ◌∙◌, inl, inr, arith}
 use Rattle.std.specs.List.{AllByRecursion, range_with_len, list_any, find}
 use Rattle.std.proofs.lemmas.Bool.{eq-eqb, ne_eqb, cases_eq, or_cases, or_right}
 use Rattle.std.proofs.lemmas.List.{length-append, get_or-set_same, get_or-set_other, get_or-take}
 use Rattle.std.proofs.lemmas.List.FromFn.{length-map-range_with_len, get_or-map-range_with_len}
-use Rattle.dg_nor.specs.Trail.{last}
 use Rattle.dg_bits.specs.Sets.{below}
 use Rattle.dg_object.specs.Object.{Row, object, profile}
 use Rattle.dg_slot.specs.Kept.{Held, with_page}
@@ -13,139 +12,24 @@ use Rattle.dg_volume.specs.Changes.{paged}
 use Rattle.dg_volume.specs.Table.{row_at}
 use Rattle.dg_volume.specs.Agreement.{Agrees, KeepsRow}
 use Rattle.dg_frame.specs.declared.Message.{Message}
-use Rattle.dg_frame.specs.declared.FrameFault.{FrameFault}
 use Rattle.dg_frame.specs.declared.Message.TheVariants.{Request}
-use Rattle.dg_frame.specs.Spelling.{frame_of}
 use Rattle.dg_mote.specs.Model.{maintains}
-use Rattle.dg_mote.specs.Summary.{advert_of, entries_of, ahead_in, entry_by, ahead_of, entry_for, no_entry}
+use Rattle.dg_mote.specs.Summary.{advert_of, entries_of, ahead_in, entry_by, advertiser_ahead, entry_for, no_entry}
 use Rattle.dg_frame.specs.Sizes.{known_images}
-use Rattle.dg_mote.specs.Hears.{heard_of, by_message}
-use Rattle.dg_mote.specs.Effects.{silent, frame_effect}
 use Rattle.dg_mote.specs.Agreement.{ReceivesRow, ModeAgrees}
 use Rattle.dg_mote.specs.Spots.{Spot, pace, ticked, after_ticks, last_sent, hears, hears_all}
 use Rattle.dg_mote.specs.Drained.{Drained}
 use Rattle.dg_mote.specs.Completing.{SendsEach, AskLaw, RequestLaw, ServeLaw, TakeLaw, DrainLaw, AdvertLaw, packet_message, KeepsNext, Asked}
 use Rattle.dg_rules.specs.World.{World, Site, Sent, site, wide_at, store_at, linked, last_frame}
-use Rattle.dg_rules.specs.Events.{Does, Refuses, does, unless_off, hear_by, of_effect}
-use Rattle.dg_rules.specs.Steps.{WorldStep, StepDoes}
 use Rattle.dg_rules.specs.Premises.{WorldAgrees}
 use Rattle.dg_rounds.specs.Rounds.{round, times, paced, passed}
 use Rattle.dg_base.specs.declared.events.Event.{Event}
-use Rattle.dg_base.specs.declared.events.Step.{Step}
-use Rattle.dg_script.specs.declared.report.Report.{Report}
-use Rattle.dg_script.specs.declared.report.Cause.TheVariants as cause
 use Rattle.dg_completion.specs.Rests.{IsFree}
 use Rattle.dg_completion.specs.Completion.{Follows, Grows, IsOn, HasRoomAt, is_ahead, least_ahead, RoundLaw, Raises, RaisedFrom}
 use Rattle.dg_completion.specs.Played.{DrainedLaw}
 use Rattle.dg_completion.proofs.GrowLemmas.{free_grows, follows_split, all_append, all_replicate, all_times, link_ends}
-use Rattle.dg_completion.proofs.WalkLemmas.{Spelled, WalkLaws, said_at, well_at, IsTold, At, Beside, Walks, mote_wide, wide_on, made, made_site, made_beside, newer_frame, frame_told, tick_walks, ticks_walk}
-
--- ---- a frame is heard
-
-pub hear_walks : (w u : World) (a b : ℕ) (x : Spot) (message : Message) (reports : List Report) → At w b x → linked w a b ≡ true → last_frame w a ≡ frame_told a (Some message)
-    → Spelled x.mote.wide message → WorldStep w (record { event = passed a b; cut = None }) u reports → Walks b w u (hears x w.moment message) None 0
-unfolding WorldStep does frame_told frame_effect heard_of hears
-hear_walks w u a b x message reports at link sent spelled walk =
-    let step : Step = record { event = passed a b; cut = None } in
-    let now : w.moment + 0 ≡ w.moment = omega arith in
-    let f : Sent = record { by = a; bytes = frame_of message } in
-    let d1 = subst (λ (s : Site). StepDoes (unless_off s.runs (cond (linked w a b) (hear_last_by s (last_frame w a)) (Refuses cause.Link))) w step u reports) at.site_is walk in
-    let d2 = subst (λ c. StepDoes (cond c (hear_last_by here (last_frame w a)) (Refuses cause.Link)) w step u reports) link d1 in
-    let d3 = subst (λ o. StepDoes (hear_last_by here o) w step u reports) sent d2 in
-    let d4 = subst (λ (m : Result Message FrameFault). StepDoes (of_effect w (silent (by_message m x.mote x.store (w.moment + 0) 0)) (Some at.key)) w step u reports) spelled d3 in
-    let done = subst (λ n. StepDoes (of_effect w (silent (by_message (Ok message) x.mote x.store n 0)) (Some at.key)) w step u reports) now d4 in
-    let t = by_message (Ok message) x.mote x.store w.moment 0 in
-    let new : Site = record { store = last t.trail; runs = Some (record { key = at.key; mote = t.mote }) } in
-    let runs : Some (record { key = at.key; mote = t.mote }) ≡ done.0 = cc in
-    let same : u ≡ made w b 0 new None = done.2 ∙ ap (λ r. made w b 0 (record { store = last t.trail; runs = r }) None) (sym runs) in
-    subst (λ v. Walks b w v (record { store = last t.trail; mote = t.mote }) None 0) (sym same) (record {
-      at = record { there = subst (λ n. b < n) (sym (made_beside w b 0 new None).count) at.there; key = at.key; site_is = made_site w b 0 new None at.there };
-      beside = made_beside w b 0 new None;
-      frame = refl;
-      moment = refl;
-    })
-  where
-    here : Site
-    here = record { store = x.store; runs = Some (record { key = at.key; mote = x.mote }) }
-
-    hear_last_by : Site → Option Sent → Does
-    hear_last_by s None = Refuses cause.Frame
-    hear_last_by s (Some f) = hear_by w s.store s.runs (w.moment + 0) 0 f.bytes
-
--- ---- two motes
-
-pub at_beside : (m b : ℕ) (w u : World) (x : Spot) → b ≢ m → Beside m w u → At w b x → At u b x
-at_beside m b w u x other beside at =
-    record { there = subst (λ n. b < n) (sym beside.count) at.there; key = at.key; site_is = beside.others b other ∙ at.site_is }
-
-pub linked_beside : (a b : ℕ) (w u : World) → u.links ≡ w.links → linked w a b ≡ true → linked u a b ≡ true
-linked_beside a b w u e l = ap (λ ls. list_any (λ (k : ℕ × ℕ). (eqb k.0 a && eqb k.1 b) || (eqb k.0 b && eqb k.1 a)) ls) e ∙ l
-
--- nothing but motes a and b changed
-pub record Between (a b : ℕ) (w u : World) : Type 0 where
-  pub links : u.links ≡ w.links
-  pub others : (j : ℕ) → j ≢ a → j ≢ b → site u j ≡ site w j
-
-between_none : (a b : ℕ) (w : World) → Between a b w w
-between_none a b w = record { links = refl; others = λ j h l. refl }
-
-between_first : (a b : ℕ) (w u v : World) → Beside a w u → Between a b u v → Between a b w v
-between_first a b w u v x y = record { links = y.links ∙ x.links; others = λ j h l. y.others j h l ∙ x.others j h }
-
-between_second : (a b : ℕ) (w u v : World) → Beside b w u → Between a b u v → Between a b w v
-between_second a b w u v x y = record { links = y.links ∙ x.links; others = λ j h l. y.others j h l ∙ x.others j l }
-
-between_then : (a b : ℕ) (w u v : World) → Between a b w u → Between a b u v → Between a b w v
-between_then a b w u v x y = record { links = y.links ∙ x.links; others = λ j h l. y.others j h l ∙ x.others j h l }
-
-frame_said : (a : ℕ) (m : Message) → Some (record { by = a; bytes = frame_of m }) ≡ frame_told a (Some m)
-unfolding frame_told
-frame_said a m = refl
-
--- two motes are both wide, or both narrow
-abbrev pub Alike : World → (a b : ℕ) → Type 0
-Alike w a b = wide_at w a ≡ wide_at w b
-
-alike_on : (a b : ℕ) (w u : World) → Grows w u → Alike w a b → Alike u a b
-alike_on a b w u g alike = wide_on w u a g ∙ alike ∙ sym (wide_on w u b g)
-
--- what one says, the other reads
-hears_same : (w : World) (a b : ℕ) (x : Spot) (message : Message) → WorldAgrees w → At w b x → Alike w a b → Spelled (wide_at w a) message → Spelled x.mote.wide message
-hears_same w a b x message good at alike said = subst (λ wide. Spelled wide message) (alike ∙ sym (mote_wide w b x good at)) said
-
--- a tick at a that sends, and b hears it: so often
-pub record Paired (ms : List Message) (a b : ℕ) (w v : World) (xa xb : Spot) : Type 0 where
-  pub at_a : At v a (after_ticks (length ms) xa w.moment)
-  pub at_b : At v b (hears_all ms xb w.moment)
-  pub between : Between a b w v
-
-pub pairs_walk : WalkLaws → (ms : List Message) (w v : World) (a b : ℕ) (xa xb : Spot) → WorldAgrees w → At w a xa → At w b xb → a ≢ b → linked w a b ≡ true → Alike w a b → Follows w (times (length ms) (paced a ∷ passed a b ∷ [])) v
-    → SendsEach ms xa w.moment → Paired ms a b w v xa xb
-unfolding Follows times after_ticks hears_all SendsEach
-pairs_walk laws [] w v a b xa xb good at_a at_b other link alike f sends = subst (λ u. Paired [] a b w u xa xb) f (record { at_a = at_a; at_b = at_b; between = between_none a b w })
-pairs_walk laws (m ∷ ms) w v a b xa xb good at_a at_b other link alike f sends =
-    let w1 = f.0 in
-    let one = tick_walks w w1 a xa f.1 at_a f.2 in
-    let rest1 = f.3 in
-    let w2 = rest1.0 in
-    let link1 = linked_beside a b w w1 one.beside.links link in
-    let said : last_frame w1 a ≡ frame_told a (Some m) = one.frame ∙ ap (λ o. newer_frame a o (last_frame w a)) sends.0 ∙ frame_said a m in
-    let g1 = laws.free w w1 (paced a) f.1 good refl f.2 in
-    let alike1 = alike_on a b w w1 g1 alike in
-    let b1 = at_beside a b w w1 xb (λ e. other (sym e)) one.beside at_b in
-    let spelled = hears_same w1 a b xb m g1.good b1 alike1 (subst (λ wide. Spelled wide m) (sym (wide_on w w1 a g1)) (subst (λ o. IfSome o (Spelled (wide_at w a))) sends.0 (said_at laws w a xa good at_a))) in
-    let two = hear_walks w1 w2 a b xb m rest1.1 b1 link1 said spelled rest1.2 in
-    let a2 = at_beside b a w1 w2 (ticked xa (w.moment + pace)) other two.beside one.at in
-    let moment : w2.moment ≡ w.moment + pace = two.moment ∙ ap (λ n. n + 0) one.moment ∙ omega arith in
-    let xb2 : At w2 b (hears xb (w.moment + pace) m) = subst (λ t. At w2 b (hears xb t m)) one.moment two.at in
-    let g2 = laws.free w1 w2 (passed a b) rest1.1 g1.good refl rest1.2 in
-    let more = pairs_walk laws ms w2 v a b (ticked xa (w.moment + pace)) (hears xb (w.moment + pace) m) g2.good a2 xb2 other (linked_beside a b w1 w2 two.beside.links link1) (alike_on a b w1 w2 g2 alike1) rest1.3
-    (subst (λ t. SendsEach ms (ticked xa (w.moment + pace)) t) (sym moment) sends.1) in
-    record {
-      at_a = subst (λ t. At v a (after_ticks (length ms) (ticked xa (w.moment + pace)) t)) moment more.at_a;
-      at_b = subst (λ t. At v b (hears_all ms (hears xb (w.moment + pace) m) t)) moment more.at_b;
-      between = between_first a b w w1 v one.beside (between_second a b w1 w2 v two.beside more.between);
-    }
+use Rattle.dg_completion.proofs.WalkLemmas.{Spelled, WalkLaws, said_at, well_at, IsTold, At, Beside, mote_wide, wide_on, newer_frame, frame_told, tick_walks, ticks_walk}
+use Rattle.dg_completion.proofs.PairLemmas.{hear_walks, at_beside, linked_beside, Between, between_none, between_first, between_second, frame_said, Alike, alike_on, hears_same, pairs_walk}
 
 -- ---- ahead, as adverts tell it
 
@@ -156,7 +40,7 @@ alike table i h g a b e =
     (a.pages ∙ ap (λ r. (profile r).pages) row ∙ sym b.pages, a.crc ∙ ap (λ r. (profile r).crc) row ∙ sym b.crc)
 
 -- the tests of an advert and of the stores are one
-same_ahead : (table : List Row) (i : ℕ) (o p : Option Held) → IfSome o (KeepsRow table i) → IfSome p (KeepsRow table i) → is_ahead o p ≡ ahead_of (entry_by o) p
+same_ahead : (table : List Row) (i : ℕ) (o p : Option Held) → IfSome o (KeepsRow table i) → IfSome p (KeepsRow table i) → is_ahead o p ≡ advertiser_ahead (entry_by o) p
 same_ahead table i None None a b = refl
 same_ahead table i None (Some g) a b = refl
 same_ahead table i (Some h) None a b = refl
@@ -188,9 +72,9 @@ entry_count wide s = length-map-range_with_len (λ j. entry_by (held s j)) 1 (kn
 same_least : (table : List Row) (wide : Bool) (s t : Store) → Agrees table s → Agrees table t → least_ahead wide s t ≡ ahead_in (entries_of wide s) t
 unfolding least_ahead ahead_in
 same_least table wide s t a b =
-    let here : ℕ → Bool = λ i. ahead_of (entry_for (entries_of wide s) i) (held t i) in
+    let here : ℕ → Bool = λ i. advertiser_ahead (entry_for (entries_of wide s) i) (held t i) in
     find_same (λ i. is_ahead (held s i) (held t i)) here (known_images wide) 1
-    (λ i from to. same_ahead table i (held s i) (held t i) (a.kept i) (b.kept i) ∙ ap (λ e. ahead_of e (held t i)) (sym (own_entry wide s i from to)))
+    (λ i from to. same_ahead table i (held s i) (held t i) (a.kept i) (b.kept i) ∙ ap (λ e. advertiser_ahead e (held t i)) (sym (own_entry wide s i from to)))
     ∙ ap (λ n. find here (range_with_len 1 n)) (sym (entry_count wide s))
 
 least_same : (wide : Bool) (s t s2 t2 : Store) → ((i : ℕ) → held s2 i ≡ held s i) → ((i : ℕ) → held t2 i ≡ held t i) → least_ahead wide s2 t2 ≡ least_ahead wide s t

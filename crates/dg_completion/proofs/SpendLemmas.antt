@@ -24,7 +24,7 @@ use Rattle.dg_frame.specs.declared.Message.{Message}
 use Rattle.dg_frame.specs.declared.Message.TheVariants as message
 use Rattle.dg_mote.specs.Model.{MoteState, Mode, Maintain, Receive, Transmit, Turn}
 use Rattle.dg_mote.specs.Summary.{entry_for, advert_by, is_own, ahead_in}
-use Rattle.dg_mote.specs.Adverts.{outline, heed_trail, ask_trail, asks, asking, noting, by_ahead, advert_heard, dropped, on_advert}
+use Rattle.dg_mote.specs.Adverts.{outline, heed_trail, ask_trail, asks, asking, noting, by_ahead, advert_heard, dropped, on_advert, offer}
 use Rattle.dg_mote.specs.Hears.{by_message, heard_of}
 use Rattle.dg_mote.specs.Changes.{MayClear, Completes}
 use Rattle.dg_mote.specs.declared.mote.Heard.{Heard}
@@ -124,18 +124,18 @@ module _ (laws : TakeLaws) (entries : List Entry) where
       let at : last (joined t (resting (last t) 1)) ≡ taken u p = last-joined t (resting (last t) 1) refl ∙ last-resting (last t) 1 ∙ laws.ends u p in
       record { first = (laws.begins u p).first; spends = omega (arith, ap (λ (x : Store). x.room) at, take_few (held u i)) })
 
-  ahead_rests : (o : Option ℕ) (m : MoteState) (timer : Timer) (u : Store) (now word source : ℕ) (own : Bool) → Rest u (by_ahead o m timer u now word source entries own).trail
+  ahead_rests : (o : Option ℕ) (m : MoteState) (timer : Timer) (u : Store) (now word source : ℕ) (own : Bool) → Rest u (by_ahead o m u now word (offer source entries) (noting m timer u now word own)).trail
   ahead_rests None m timer u now word source own = noting_rests own m timer u now word
   ahead_rests (Some i) m timer u now word source own =
       cond_both (asks m u now i (entry_for entries i)) (asking m u now word source i (entry_for entries i)) (noting m timer u now word own) (λ (step : Turn Heard). Rest u step.trail)
       (λ _. ask_rests u i) (λ _. noting_rests own m timer u now word)
 
-  advert_spends : (m : MoteState) (timer : Timer) (s : Store) (now word source : ℕ) (order : Order) → Spends 3 s (last (advert_heard m timer s now word source entries order).trail)
+  advert_spends : (m : MoteState) (timer : Timer) (s : Store) (now word source : ℕ) (order : Order) → Spends 3 s (last (advert_heard m timer s now word (offer source entries) order).trail)
   unfolding advert_heard
   advert_spends m timer s now word source order =
       let t = heed_trail s order in
       let u = last t in
-      let rest = by_ahead (ahead_in entries u) m timer u now word source entries (is_own entries order m.wide s) in
+      let rest = by_ahead (ahead_in entries u) m u now word (offer source entries) (noting m timer u now word (is_own entries order m.wide s)) in
       let r = ahead_rests (ahead_in entries u) m timer u now word source (is_own entries order m.wide s) in
       let at : last (joined t rest.trail) ≡ last rest.trail = last-joined t rest.trail (sym r.first) in
       omega (arith, ap (λ (x : Store). x.room) at, r.spends, heed_spends s order)
@@ -143,15 +143,15 @@ module _ (laws : TakeLaws) (entries : List Entry) where
   dropped_spends : (s : Store) → Spends 3 s (last (resting s 0))
   dropped_spends s = omega (arith, ap (λ (x : Store). x.room) (last-resting s 0))
 
-  on_advert_spends : (mode : Mode) (m : MoteState) (s : Store) (now word source : ℕ) (order : Order) → Spends 3 s (last (on_advert mode m s now word source entries order).trail)
+  on_advert_spends : (mode : Mode) (m : MoteState) (s : Store) (now word source : ℕ) (order : Order) → Spends 3 s (last (on_advert mode m s now word (offer source entries) order).trail)
   on_advert_spends (Maintain timer) m s now word source order = advert_spends m timer s now word source order
   on_advert_spends (Receive r) m s now word source order = dropped_spends s
   on_advert_spends (Transmit t) m s now word source order = dropped_spends s
 
   heard_advert_spends : (m : MoteState) (s : Store) (now word source : ℕ) (order : Order)
-      → Spends 3 s (last (cond (eqb source m.id) (dropped m s) (on_advert m.mode m s now word source entries order)).trail)
+      → Spends 3 s (last (cond (eqb source m.id) (dropped m s) (on_advert m.mode m s now word (offer source entries) order)).trail)
   heard_advert_spends m s now word source order =
-      cond_both (eqb source m.id) (dropped m s) (on_advert m.mode m s now word source entries order) (λ (step : Turn Heard). Spends 3 s (last step.trail))
+      cond_both (eqb source m.id) (dropped m s) (on_advert m.mode m s now word (offer source entries) order) (λ (step : Turn Heard). Spends 3 s (last step.trail))
       (λ _. dropped_spends s) (λ _. on_advert_spends m.mode m s now word source order)
 
   advert_by_spends : (wide : Bool) (m : MoteState) (s : Store) (now word source : ℕ) (order : Order) → Spends 3 s (last (by_message (Ok (advert_by wide source entries order)) m s now word).trail)

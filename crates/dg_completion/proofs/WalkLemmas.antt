@@ -17,10 +17,10 @@ use Rattle.dg_volume.specs.Table.{IsTable}
 use Rattle.dg_volume.specs.Start.{boot}
 use Rattle.dg_volume.specs.declared.volume.Kind.TheVariants as kind
 use Rattle.dg_frame.specs.Grammar.{message_of}
-use Rattle.dg_mote.specs.Effects.{tick_effect, tick_by as tick_went, boot_by}
+use Rattle.dg_mote.specs.Effects.{tick_effect, tick_by, boot_by}
 use Rattle.dg_mote.specs.Spots.{Spot, pace, tick_at, ticked, after_ticks, last_sent, newer_of, mote_or}
-use Rattle.dg_rules.specs.World.{World, Running, Site, Sent, no_site, site, wide_in, wide_at, with_site, counted, last_by, last_frame}
-use Rattle.dg_rules.specs.Events.{does, runs_by, key_of, tick_by}
+use Rattle.dg_rules.specs.World.{World, Running, Site, Sent, no_site, site, is_wide_mote, wide_at, with_site, counted, last_by, last_frame}
+use Rattle.dg_rules.specs.Events.{does, runs_by, key_of, tick_does}
 use Rattle.dg_volume.specs.Start.{Runs}
 use Rattle.dg_rules.specs.Premises.{WorldAgrees, RunsWell, SiteIsWell}
 use Rattle.dg_rules.specs.Steps.{WorldStep, StepDoes, and_sent}
@@ -123,7 +123,7 @@ pub tick_walks : (w u : World) (m : ℕ) (x : Spot) (reports : List Report) → 
 unfolding WorldStep does ticked
 tick_walks w u m x reports at walk =
     let e = tick_at x (w.moment + pace) in
-    let done = subst (λ (s : Site). StepDoes (tick_by w s.store s.runs (w.moment + pace) 0) w (record { event = paced m; cut = None }) u reports) at.site_is walk in
+    let done = subst (λ (s : Site). StepDoes (tick_does w s.store s.runs (w.moment + pace) 0) w (record { event = paced m; cut = None }) u reports) at.site_is walk in
     let next = went e.mote e.started at.key x.mote done.0 done.1 in
     let new : Site = record { store = last e.trail; runs = Some (record { key = next.0; mote = mote_or e.mote x.mote }) } in
     let same : u ≡ made w m pace new e.sent = done.2 ∙ ap (λ r. made w m pace (record { store = last e.trail; runs = r }) e.sent) next.1 in
@@ -157,7 +157,7 @@ boot_silent : (o : Option Runs) (t : Trail Store) (id : ℕ) (wide : Bool) (now 
 boot_silent None t id wide now word P = tt
 boot_silent (Some r) t id wide now word P = tt
 
-effect_said : (wide : Bool) (a : Did) (step : Turn Did) (now word : ℕ) → IfSome step.sent (Spelled wide) → IfSome (tick_went a step now word).sent (Spelled wide)
+effect_said : (wide : Bool) (a : Did) (step : Turn Did) (now word : ℕ) → IfSome step.sent (Spelled wide) → IfSome (tick_by a step now word).sent (Spelled wide)
 effect_said wide did.Sent step now word i = i
 effect_said wide did.Idle step now word i = i
 effect_said wide did.Restart step now word i =
@@ -174,7 +174,7 @@ mote_wide w m x good at = (well_at w m x good at).wide_is
 
 -- which no free event changes
 pub wide_on : (w u : World) (m : ℕ) → Grows w u → wide_at u m ≡ wide_at w m
-wide_on w u m g = ap (λ narrow. wide_in narrow m) g.narrow
+wide_on w u m g = ap (λ narrow. is_wide_mote narrow m) g.narrow
 
 pub said_at : WalkLaws → (w : World) (m : ℕ) (x : Spot) → WorldAgrees w → At w m x → IfSome (tick_at x (w.moment + pace)).sent (Spelled (wide_at w m))
 unfolding tick_effect
@@ -183,7 +183,7 @@ said_at laws w m x good at =
     let now = w.moment + pace in
     let step = tick_of x.mote x.store now 0 in
     let said = if_said x.mote.id x.mote.wide step.sent (laws.said w.table x.mote x.store now 0 good.table (laws.later w.table x.mote x.store w.moment now (omega arith) known.well) known.speaks) in
-    subst (λ wide. IfSome (tick_went step.answer step now 0).sent (Spelled wide)) (mote_wide w m x good at) (effect_said x.mote.wide step.answer step now 0 said)
+    subst (λ wide. IfSome (tick_by step.answer step now 0).sent (Spelled wide)) (mote_wide w m x good at) (effect_said x.mote.wide step.answer step now 0 said)
 
 -- ---- n ticks in a row: an induction on their number
 

@@ -1,5 +1,6 @@
 -- Bounded completion: what free events keep, what a round brings, and how many sweeps bring every page to every mote.
-use Rattle.std.specs.Prelude.{◌≡◌, ◌≢◌, ℕ, zero, suc, ◌+◌, ◌-◌, ◌<◌, ◌≤◌, ◌==◌, ◌&&◌, ◌||◌, nat_le, nat_lt, min, max, Bool, true, false, if◌then◌else◌, List, [], ◌∷◌, length, Option, Some, None}
+use Rattle.std.specs.Prelude.{◌≡◌, ◌≢◌, ℕ, zero, suc, ◌+◌, ◌-◌, ◌<◌, ◌≤◌, ◌==◌, ◌&&◌, ◌||◌, nat_le, nat_lt, min, max, Bool, true}
+use Rattle.std.specs.Prelude.{false, if◌then◌else◌, List, [], ◌∷◌, length, Option, Some, None}
 use Rattle.std.specs.List.{list_any, find}
 use Rattle.dg_object.specs.Object.{Row, pages_for}
 use Rattle.dg_slot.specs.Kept.{Held}
@@ -23,7 +24,8 @@ use Rattle.dg_completion.specs.Rests.{IsFree, IsRest}
 -- from world w these events may lead to world v, with no cut of power
 unfoldable pub Follows : World → List Event → World → Type 0
 Follows w [] v = w ≡ v
-Follows w (e ∷ es) v = (u : World) × (reports : List Report) × WorldStep w (record { event = e; cut = None }) u reports × Follows u es v
+Follows w (e ∷ es) v =
+    (u : World) × (reports : List Report) × WorldStep w (record { event = e; cut = None }) u reports × Follows u es v
 
 -- a mote is on
 pub record IsOn (w : World) (m : ℕ) : Type 0 where
@@ -60,11 +62,13 @@ pub record Grows (w v : World) : Type 0 where
   pub count : length v.sites ≡ length w.sites
   pub on : (m : ℕ) → IsOn w m → IsOn v m
   pub room : (m : ℕ) → (store_at v m).room ≤ (store_at w m).room
-  pub pages : (m : ℕ) (row : Row) → newest w.table row.image ≡ Some row → pages_of (store_at w m) row ≤ pages_of (store_at v m) row
+  pub pages : (m : ℕ) (row : Row) → newest w.table row.image ≡ Some row
+      → pages_of (store_at w m) row ≤ pages_of (store_at v m) row
 
 -- So it is after each tick and each heard frame, at any moment and with any word, refused ones too.
 abbrev pub FreeLaw : Type 0
-FreeLaw = (w v : World) (e : Event) (reports : List Report) → WorldAgrees w → IsFree e → WorldStep w (record { event = e; cut = None }) v reports → Grows w v
+FreeLaw = (w v : World) (e : Event) (reports : List Report) → WorldAgrees w → IsFree e
+    → WorldStep w (record { event = e; cut = None }) v reports → Grows w v
 
 -- ---- a round
 
@@ -73,7 +77,8 @@ abbrev pub is_ahead : Option Held → Option Held → Bool
 is_ahead None b = false
 is_ahead (Some h) None = nat_le 1 (length h.complete)
 is_ahead (Some h) (Some g) =
-    nat_le 1 (length h.complete) && (nat_lt g.version h.version || ((g.version == h.version) && nat_lt (length g.complete) (length h.complete)))
+    nat_le 1 (length h.complete) && (nat_lt g.version h.version
+    || ((g.version == h.version) && nat_lt (length g.complete) (length h.complete)))
 
 -- the least image in which the first store is ahead of the second, of those that wide motes hand on, or narrow ones
 unfoldable pub least_ahead : (wide : Bool) → Store → Store → Option ℕ
@@ -82,7 +87,8 @@ least_ahead wide s t = find (λ i. is_ahead (held s i) (held t i)) (shared wide)
 -- one page more of the version that is ahead, or its first page
 abbrev pub RaisedFrom : Option Held → Held → Held → Type 0
 RaisedFrom None ahead now = (now.version ≡ ahead.version) × (length now.complete ≡ 1)
-RaisedFrom (Some h) ahead now = (now.version ≡ ahead.version) × (length now.complete ≡ (if h.version == ahead.version then length h.complete + 1 else 1))
+RaisedFrom (Some h) ahead now =
+    (now.version ≡ ahead.version) × (length now.complete ≡ (if h.version == ahead.version then length h.complete + 1 else 1))
 
 -- from t to `after` one page more of image i is kept, of the version that s keeps, and what is kept of others stays
 pub record Raises (s t : Store) (i : ℕ) (after : Store) : Type 0 where
@@ -103,7 +109,8 @@ abbrev pub RoundLaw : Type 0
 RoundLaw = (w v : World) (a b i : ℕ) → WorldAgrees w → linked w a b ≡ true → wide_at w a ≡ wide_at w b → IsOn w a → IsOn w b
     → Follows w (round a b) v → HasRoomAt v a → HasRoomAt v b
     → least_ahead (wide_at w a) (store_at w a) (store_at w b) ≡ Some i
-    → Raises (store_at w a) (store_at w b) i (store_at v b) × SameKept (store_at w a) (store_at v a) × ((m : ℕ) → m ≢ a → m ≢ b → site v m ≡ site w m)
+    → Raises (store_at w a) (store_at w b) i (store_at v b) × SameKept (store_at w a) (store_at v a)
+    × ((m : ℕ) → m ≢ a → m ≢ b → site v m ≡ site w m)
 
 -- ---- sweeps
 
@@ -148,15 +155,19 @@ pub record Rests (w : World) (n : ℕ) (es : List Event) (v : World) : Type 0 wh
 
 -- the newest row of every smaller image is whole at every mote
 abbrev pub DoneBelow : World → ℕ → Type 0
-DoneBelow w i = (j : ℕ) (row : Row) (m : ℕ) → 1 ≤ j → j < i → newest w.table j ≡ Some row → m < length w.sites → pages_of (store_at w m) row ≡ page_count row
+DoneBelow w i = (j : ℕ) (row : Row) (m : ℕ) → 1 ≤ j → j < i → newest w.table j ≡ Some row → m < length w.sites
+    → pages_of (store_at w m) row ≡ page_count row
 
 -- Pages go along the links, as in a pipeline: after t sweeps a mote within j links of a whole image has t + 1 - j pages
 -- of it, or all.
 abbrev pub PipelineLaw : Type 0
-PipelineLaw = (w v : World) (t : ℕ) (es : List Event) (i : ℕ) (row : Row) → Rests w t es v → DoneBelow w i → 1 ≤ i → i < images → newest w.table i ≡ Some row
-    → (m j : ℕ) → m < length w.sites → 1 ≤ j → within w row j m ≡ true → min (page_count row) (t + 1 - j) ≤ pages_of (store_at v m) row
+PipelineLaw = (w v : World) (t : ℕ) (es : List Event) (i : ℕ) (row : Row) → Rests w t es v → DoneBelow w i → 1 ≤ i
+    → i < images → newest w.table i ≡ Some row
+    → (m j : ℕ) → m < length w.sites → 1 ≤ j → within w row j m ≡ true
+    → min (page_count row) (t + 1 - j) ≤ pages_of (store_at v m) row
 
 -- After enough sweeps every mote keeps the newest version of each image whole.
 abbrev pub CompletionLaw : Type 0
 CompletionLaw = (w v : World) (n k : ℕ) (es : List Event) → Rests w n es v → IsEnough w k → k ≤ n
-    → (i : ℕ) (row : Row) (m : ℕ) → 1 ≤ i → i < images → newest w.table i ≡ Some row → m < length w.sites → held (store_at v m) i ≡ Some (held_whole row)
+    → (i : ℕ) (row : Row) (m : ℕ) → 1 ≤ i → i < images → newest w.table i ≡ Some row → m < length w.sites
+    → held (store_at v m) i ≡ Some (held_whole row)

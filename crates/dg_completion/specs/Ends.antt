@@ -34,7 +34,8 @@ IsUncut p = IsUncutItem p.item
 -- What was played without cuts, of events that disturb no rest, is a run of its events, from the world that has all rows
 -- which are declared meanwhile.
 abbrev pub PlayedLaw : Type 0
-PlayedLaw = (ps : List Played) (w v : World) → AllByRecursion IsUncut ps → AllByRecursion IsFree (events_of ps) → Plays w ps v → Follows (record w { declared = v.declared }) (events_of ps) v
+PlayedLaw = (ps : List Played) (w v : World) → AllByRecursion IsUncut ps → AllByRecursion IsFree (events_of ps)
+    → Plays w ps v → Follows (record w { declared = v.declared }) (events_of ps) v
 
 -- What was played ends, in world v, with a rest of n sweeps that begins in world w: its events are sweeps, with ticks and
 -- heard frames between their rounds, and no power is cut. Images may be declared meanwhile. Every mote is on when it
@@ -52,19 +53,23 @@ pub record EndsInRest (played : List Played) (w : World) (n : ℕ) (v : World) :
 
 -- every mote keeps the newest version of each image whole
 abbrev pub KeepsNewest : World → Type 0
-KeepsNewest v = (i : ℕ) (row : Row) (m : ℕ) → 1 ≤ i → i < images → newest v.table i ≡ Some row → m < length v.sites → held (store_at v m) i ≡ Some (held_whole row)
+KeepsNewest v = (i : ℕ) (row : Row) (m : ℕ) → 1 ≤ i → i < images → newest v.table i ≡ Some row → m < length v.sites
+    → held (store_at v m) i ≡ Some (held_whole row)
 
 -- What is played from a world that agrees with its table, with true events: where it ends with a rest of enough sweeps,
 -- every mote keeps the newest version of each image whole.
 abbrev pub EndsLaw : Type 0
-EndsLaw = (u : World) (played : List Played) (w v : World) (n k : ℕ) → PlaysFrom u played v → EndsInRest played w n v → IsEnough w k → k ≤ n → KeepsNewest v
+EndsLaw = (u : World) (played : List Played) (w v : World) (n k : ℕ) → PlaysFrom u played v → EndsInRest played w n v
+    → IsEnough w k → k ≤ n → KeepsNewest v
 
 -- From world w pages came along the links as in a pipeline, by t sweeps that lead to world v: of the newest row of an image,
 -- where every smaller image was whole everywhere, a mote within j links of a whole one has t + 1 - j pages, or all.
 abbrev pub PagesCome : (w : World) (t : ℕ) (v : World) → Type 0
 PagesCome w t v = (i : ℕ) (row : Row) → DoneBelow w i → 1 ≤ i → i < images → newest w.table i ≡ Some row
-    → (m j : ℕ) → m < length w.sites → 1 ≤ j → within w row j m ≡ true → min (page_count row) (t + 1 - j) ≤ pages_of (store_at v m) row
+    → (m j : ℕ) → m < length w.sites → 1 ≤ j → within w row j m ≡ true
+    → min (page_count row) (t + 1 - j) ≤ pages_of (store_at v m) row
 
 -- So it is behind a rest, also of fewer sweeps than enough.
 abbrev pub EndsPipelineLaw : Type 0
-EndsPipelineLaw = (u : World) (played : List Played) (w v : World) (t : ℕ) → PlaysFrom u played v → EndsInRest played w t v → PagesCome w t v
+EndsPipelineLaw =
+    (u : World) (played : List Played) (w v : World) (t : ℕ) → PlaysFrom u played v → EndsInRest played w t v → PagesCome w t v

@@ -8,7 +8,7 @@ use Rattle.dg_rules.specs.World.{World, store_at}
 use Rattle.dg_rules.specs.Events.{mote_of}
 use Rattle.dg_rules.specs.Steps.{WorldStep}
 use Rattle.dg_rules.specs.Runs.{Played}
-use Rattle.dg_rules.specs.Ranges.{EventFits}
+use Rattle.dg_rules.specs.Ranges.{EventInRange}
 use Rattle.dg_rules.specs.Premises.{WorldAgrees, OneWidth}
 use Rattle.dg_rules.specs.Begins.{PlaysFrom}
 use Rattle.dg_mote.specs.Drained.{spare_room}
@@ -18,7 +18,8 @@ use Rattle.dg_completion.specs.Ends.{EndsInRest}
 
 -- From a world that agrees with its table a tick or a heard frame leads to a world, also where it is refused.
 abbrev pub HappensLaw : Type 0
-HappensLaw = (w : World) (e : Event) → WorldAgrees w → IsFree e → (v : World) × (reports : List Report) × WorldStep w (record { event = e; cut = None }) v reports
+HappensLaw = (w : World) (e : Event) → WorldAgrees w → IsFree e → (v : World) × (reports : List Report)
+    × WorldStep w (record { event = e; cut = None }) v reports
 
 -- The most commits of a tick or a heard frame: an advert brings an order, which takes one, and a version of an image in
 -- place of an older one, which takes two.
@@ -31,7 +32,8 @@ commits_at m e = if mote_of e == m then most_commits else 0
 
 -- A tick or a heard frame makes no more.
 abbrev pub SpendLaw : Type 0
-SpendLaw = (w v : World) (e : Event) (reports : List Report) → WorldAgrees w → IsFree e → WorldStep w (record { event = e; cut = None }) v reports
+SpendLaw = (w v : World) (e : Event) (reports : List Report) → WorldAgrees w → IsFree e
+    → WorldStep w (record { event = e; cut = None }) v reports
     → (m : ℕ) → (store_at w m).room ≤ (store_at v m).room + commits_at m e
 
 -- Every mote is on, all are of one width, and each has room for whatever these events may commit there.
@@ -56,7 +58,7 @@ happening loud e = Happens (record { event = e; cut = None }) loud
 -- there.
 pub record MayGoOn (motes : ℕ) (w : World) (n : ℕ) (es : List Event) : Type 0 where
   pub rest : IsRest w.links n es
-  pub ranges : AllByRecursion (EventFits motes) es
+  pub ranges : AllByRecursion (EventInRange motes) es
   pub on : (m : ℕ) → m < length w.sites → IsOn w m
   pub widths : OneWidth w
   pub room : (m : ℕ) → m < length w.sites → spare_room + sum_by (commits_at m) es ≤ (store_at w m).room
@@ -71,4 +73,5 @@ pub record GoesOn (u : World) (before : List Played) (w : World) (n : ℕ) (es :
 
 -- Whatever was played from a world that agrees with its table, with true events, goes on so.
 abbrev pub GoesOnLaw : Type 0
-GoesOnLaw = (u : World) (before : List Played) (w : World) (n : ℕ) (es : List Event) (loud : Bool) → PlaysFrom u before w → MayGoOn (length u.sites) w n es → GoesOn u before w n es loud
+GoesOnLaw = (u : World) (before : List Played) (w : World) (n : ℕ) (es : List Event) (loud : Bool) → PlaysFrom u before w
+    → MayGoOn (length u.sites) w n es → GoesOn u before w n es loud

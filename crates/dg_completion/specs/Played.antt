@@ -43,7 +43,8 @@ pub record ComesToRest (w : World) (m : ℕ) (v : World) : Type 0 where
 
 -- So it is from every world that agrees with its table.
 abbrev pub DrainedLaw : Type 0
-DrainedLaw = (w v : World) (m : ℕ) → WorldAgrees w → m < length w.sites → IsOn w m → Follows w (replicate drain_ticks (paced m)) v → HasRoomAt v m → ComesToRest w m v
+DrainedLaw = (w v : World) (m : ℕ) → WorldAgrees w → m < length w.sites → IsOn w m
+    → Follows w (replicate drain_ticks (paced m)) v → HasRoomAt v m → ComesToRest w m v
 
 -- ---- whole rounds
 
@@ -69,7 +70,8 @@ pub record RaisesOne (w : World) (a b i : ℕ) (v : World) : Type 0 where
 -- mote in the least image in which the first one is ahead.
 pub record RoundsBring (played : List Played) : Type 0 where
   pub rests : (w v : World) (m : ℕ) → TicksPlayed played w m v → ComesToRest w m v
-  pub raises : (w v : World) (a b i : ℕ) → RoundPlayed played w a b v → least_ahead (wide_at w a) (store_at w a) (store_at w b) ≡ Some i → RaisesOne w a b i v
+  pub raises : (w v : World) (a b i : ℕ) → RoundPlayed played w a b v
+      → least_ahead (wide_at w a) (store_at w a) (store_at w b) ≡ Some i → RaisesOne w a b i v
 
 -- Whatever was played from a world that agrees with its table, with true events, brought that.
 abbrev pub RoundsLaw : Type 0

@@ -22,7 +22,8 @@ IsFree e = disturbs e ≡ false
 -- the events are these rounds in their order, with ticks and heard frames between them, before them and behind them
 unfoldable pub HasRounds : List (ℕ × ℕ) → List Event → Type 0
 HasRounds [] es = AllByRecursion IsFree es
-HasRounds (r ∷ rs) es = (free more : List Event) × (es ≡ free ++ (round r.0 r.1 ++ more)) × AllByRecursion IsFree free × HasRounds rs more
+HasRounds (r ∷ rs) es =
+    (free more : List Event) × (es ≡ free ++ (round r.0 r.1 ++ more)) × AllByRecursion IsFree free × HasRounds rs more
 
 -- a rest of n sweeps over these links
 abbrev pub IsRest : List (ℕ × ℕ) → ℕ → List Event → Type 0

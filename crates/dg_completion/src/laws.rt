@@ -23,7 +23,8 @@ use dg_volume::{a_start_ends, a_table_holds_sound_rows, acts_end, starts_end, tr
 pub fn sweeps_are_a_rest()
     ensures swept { (links : List (ℕ × ℕ)) (n : ℕ) → IsRest links n (times n (sweep links)) }
     ensures free { (links : List (ℕ × ℕ)) (es : List Event) → AllByRecursion IsFree es → IsRest links 0 es }
-    ensures joined { (links : List (ℕ × ℕ)) (m n : ℕ) (es fs : List Event) → IsRest links m es → IsRest links n fs → IsRest links (m + n) (es ++ fs) }
+    ensures joined { (links : List (ℕ × ℕ)) (m n : ℕ) (es fs : List Event) → IsRest links m es → IsRest links n fs
+        → IsRest links (m + n) (es ++ fs) }
 {}
 
 /// A tick or a heard frame, at any moment and with any word, keeps a world that agrees with its table: it still agrees,

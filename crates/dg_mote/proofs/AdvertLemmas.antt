@@ -28,9 +28,9 @@ use Rattle.dg_volume.specs.Table.{row_at}
 use Rattle.dg_frame.specs.Ranges.{EntryInRange, TellsVersion}
 use Rattle.dg_frame.specs.declared.Entry.{Entry}
 use Rattle.dg_mote.specs.Model.{MoteState, Mode, Maintain, Receive, Transmit, came, Turn}
-use Rattle.dg_mote.specs.Summary.{entry_for, is_own, ahead_of, ahead_in}
+use Rattle.dg_mote.specs.Summary.{entry_for, is_own, advertiser_ahead, ahead_in}
 use Rattle.dg_mote.specs.Agreement.{ModeAgrees, HonestEntry}
-use Rattle.dg_mote.specs.Adverts.{outline, heed_trail, ask_trail, asks, asking, noting, by_ahead, behind, advert_heard, on_advert}
+use Rattle.dg_mote.specs.Adverts.{outline, heed_trail, ask_trail, asks, asking, noting, by_ahead, turn_behind, advert_heard, on_advert, offer}
 use Rattle.dg_mote.specs.Well.{StoreIsWell}
 use Rattle.dg_mote.specs.declared.mote.Heard.{Heard}
 use Rattle.dg_mote.proofs.RowLemmas.{TableLaws, row_own}
@@ -56,20 +56,20 @@ find_in_range p a (suc n) i e =
 pub record IsAhead (entries : List Entry) (s : Store) (i : ℕ) : Type 0 where
   pub low : 1 ≤ i
   pub high : i ≤ length entries
-  pub ahead : ahead_of (entry_for entries i) (held s i) ≡ true
+  pub ahead : advertiser_ahead (entry_for entries i) (held s i) ≡ true
 
 pub is_ahead : (entries : List Entry) (s : Store) (i : ℕ) → ahead_in entries s ≡ Some i → IsAhead entries s i
 unfolding ahead_in
 is_ahead entries s i e =
-    let r = find_in_range (λ j. ahead_of (entry_for entries j) (held s j)) 1 (length entries) i e in
+    let r = find_in_range (λ j. advertiser_ahead (entry_for entries j) (held s j)) 1 (length entries) i e in
     record { low = r.0; high = omega (arith, r.1); ahead = r.2 }
 
 -- it has a page, and where this version is kept here it has more
-pub some_page : (e : Entry) (o : Option Held) → ahead_of e o ≡ true → 1 ≤ e.have
+pub some_page : (e : Entry) (o : Option Held) → advertiser_ahead e o ≡ true → 1 ≤ e.have
 some_page e None is = leb-true 1 e.have is
 some_page e (Some h) is = leb-true 1 e.have (and_parts (nat_le 1 e.have) _ is).0
 
-pub more_pages : (e : Entry) (h : Held) → ahead_of e (Some h) ≡ true → h.version ≡ e.version → (e.pages ≡ h.pages) × (length h.complete < e.have)
+pub more_pages : (e : Entry) (h : Held) → advertiser_ahead e (Some h) ≡ true → h.version ≡ e.version → (e.pages ≡ h.pages) × (length h.complete < e.have)
 more_pages e h is same =
     ⊎_elim
     (λ newer. absurd (omega (arith, same, ltb-true h.version e.version newer)))
@@ -175,7 +175,7 @@ module _ (table : List Row) (laws : TakeLaws table) (now word source : ℕ) wher
       }
 
   -- this version is kept
-  asks_more : (o : Option Held) (s : Store) (i : ℕ) (e : Entry) → StoreIsWell table s → held s i ≡ o → NamesRow table i e → ahead_of e o ≡ true → is_version o e.version ≡ true → is_version (held s i) e.version ≡ true
+  asks_more : (o : Option Held) (s : Store) (i : ℕ) (e : Entry) → StoreIsWell table s → held s i ≡ o → NamesRow table i e → advertiser_ahead e o ≡ true → is_version o e.version ≡ true → is_version (held s i) e.version ≡ true
       → AsksNext table s (last (ask_trail s i e)) i e
   unfolding ask_trail last_of
   asks_more None s i e w here n ahead same is = cc
@@ -192,14 +192,14 @@ module _ (table : List Row) (laws : TakeLaws table) (now word source : ℕ) wher
         way = subst (λ (x : Trail Store). Through (StoreIsWell table) x) (sym trail) (Through-resting (StoreIsWell table) s 1 w);
       }
 
-  asks_next : (s : Store) (i : ℕ) (e : Entry) → StoreIsWell table s → 1 ≤ i → i < images → NamesRow table i e → ahead_of e (held s i) ≡ true → AsksNext table s (last (ask_trail s i e)) i e
+  asks_next : (s : Store) (i : ℕ) (e : Entry) → StoreIsWell table s → 1 ≤ i → i < images → NamesRow table i e → advertiser_ahead e (held s i) ≡ true → AsksNext table s (last (ask_trail s i e)) i e
   asks_next s i e w low high n ahead =
       elim (cases_Bool (is_version (held s i) e.version)) [
         | inl same ↦ asks_more (held s i) s i e w refl n ahead same same
         | inr other ↦ asks_new s i e w low high n other
       ]
 
-  asking_keeps : (m : MoteState) (s : Store) (i : ℕ) (e : Entry) → StoreIsWell table s → 1 ≤ i → i < images → NamesRow table i e → ahead_of e (held s i) ≡ true → Keeps (StoreIsWell table) table (asking m s now word source i e)
+  asking_keeps : (m : MoteState) (s : Store) (i : ℕ) (e : Entry) → StoreIsWell table s → 1 ≤ i → i < images → NamesRow table i e → advertiser_ahead e (held s i) ≡ true → Keeps (StoreIsWell table) table (asking m s now word source i e)
   asking_keeps m s i e w low high n ahead =
       let x = asks_next s i e w low high n ahead in
       record {
@@ -225,7 +225,7 @@ module _ (table : List Row) (laws : TakeLaws table) (now word source : ℕ) wher
   noting_keeps false m timer s w = rests (StoreIsWell table) table (record m { mode = Maintain (after_other timer now word) }) s 0 None _ w tt tt
 
   module _ (entries : List Entry) (few : length entries < images) (ranges : (i : ℕ) → 1 ≤ i → i ≤ length entries → EntryInRange (entry_for entries i)) (honest : (i : ℕ) → 1 ≤ i → i ≤ length entries → HonestEntry table i (entry_for entries i)) where
-    ahead_keeps : (o : Option ℕ) (m : MoteState) (timer : Timer) (s : Store) (own : Bool) → StoreIsWell table s → ahead_in entries s ≡ o → Keeps (StoreIsWell table) table (by_ahead o m timer s now word source entries own)
+    ahead_keeps : (o : Option ℕ) (m : MoteState) (timer : Timer) (s : Store) (own : Bool) → StoreIsWell table s → ahead_in entries s ≡ o → Keeps (StoreIsWell table) table (by_ahead o m s now word (offer source entries) (noting m timer s now word own))
     ahead_keeps None m timer s own w is = noting_keeps own m timer s w
     ahead_keeps (Some i) m timer s own w is =
         let a = is_ahead entries s i is in
@@ -239,7 +239,7 @@ module _ (table : List Row) (laws : TakeLaws table) (now word source : ℕ) wher
     unfolding heed_trail
     heed_well s o w = cond_both (nat_lt s.order.number o.number && nat_le 1 s.room) _ _ (Through (StoreIsWell table)) (λ _. laws.order s o w) (λ _. Through-resting (StoreIsWell table) s 0 w)
 
-    behind_keeps : (s : Store) (t : Trail Store) (step : Turn Heard) → Through (StoreIsWell table) t → BeginsAt (last t) step.trail → Keeps (StoreIsWell table) table step → Keeps (StoreIsWell table) table (behind t step)
+    behind_keeps : (s : Store) (t : Trail Store) (step : Turn Heard) → Through (StoreIsWell table) t → BeginsAt (last t) step.trail → Keeps (StoreIsWell table) table step → Keeps (StoreIsWell table) table (turn_behind t step)
     behind_keeps s t step way begins k =
         record {
           way = Through-joined (StoreIsWell table) t step.trail way k.way;
@@ -247,7 +247,7 @@ module _ (table : List Row) (laws : TakeLaws table) (now word source : ℕ) wher
           sent = k.sent;
         }
 
-    pub advert_keeps : (mode : Mode) (m : MoteState) (s : Store) (order : Order) → StoreIsWell table s → ModeAgrees table s m.mode → Keeps (StoreIsWell table) table (on_advert mode m s now word source entries order)
+    pub advert_keeps : (mode : Mode) (m : MoteState) (s : Store) (order : Order) → StoreIsWell table s → ModeAgrees table s m.mode → Keeps (StoreIsWell table) table (on_advert mode m s now word (offer source entries) order)
     unfolding advert_heard
     advert_keeps (Maintain timer) m s order w own =
         let t = heed_trail s order in

@@ -5,7 +5,7 @@ use Rattle.std.proofs.lemmas.Bool.{cases_eq, cases_lt, and_from}
 use Rattle.dg_frame.specs.declared.Entry.{Entry}
 use Rattle.dg_control.specs.declared.snapshot.Order.{Order}
 use Rattle.dg_volume.specs.Store.{Store, held}
-use Rattle.dg_mote.specs.Summary.{entry_for, entry_by, same_entry, same_order, own_order, is_own, ahead_of, ahead_in}
+use Rattle.dg_mote.specs.Summary.{entry_for, entry_by, same_entry, same_order, own_order, is_own, advertiser_ahead, ahead_in}
 use Rattle.dg_mote.proofs.ServeLemmas.{chosen, passed}
 
 -- what is found of so many numbers from a on
@@ -39,13 +39,13 @@ not_all_from p (suc n) a k low high out = elim (cases_eq a k) [
 
 -- ---- the least image in which an advertiser is ahead
 
-pub ahead_found : (entries : List Entry) (s : Store) (i : ℕ) → 1 ≤ i → i ≤ length entries → ((j : ℕ) → 1 ≤ j → j < i → ahead_of (entry_for entries j) (held s j) ≡ false) → ahead_of (entry_for entries i) (held s i) ≡ true → ahead_in entries s ≡ Some i
+pub ahead_found : (entries : List Entry) (s : Store) (i : ℕ) → 1 ≤ i → i ≤ length entries → ((j : ℕ) → 1 ≤ j → j < i → advertiser_ahead (entry_for entries j) (held s j) ≡ false) → advertiser_ahead (entry_for entries i) (held s i) ≡ true → ahead_in entries s ≡ Some i
 unfolding ahead_in
-ahead_found entries s i low high before is = found_from (λ j. ahead_of (entry_for entries j) (held s j)) (length entries) 1 i low (omega (arith, high)) before is
+ahead_found entries s i low high before is = found_from (λ j. advertiser_ahead (entry_for entries j) (held s j)) (length entries) 1 i low (omega (arith, high)) before is
 
-pub ahead_none : (entries : List Entry) (s : Store) → ((j : ℕ) → 1 ≤ j → j ≤ length entries → ahead_of (entry_for entries j) (held s j) ≡ false) → ahead_in entries s ≡ None
+pub ahead_none : (entries : List Entry) (s : Store) → ((j : ℕ) → 1 ≤ j → j ≤ length entries → advertiser_ahead (entry_for entries j) (held s j) ≡ false) → ahead_in entries s ≡ None
 unfolding ahead_in
-ahead_none entries s out = none_from (λ j. ahead_of (entry_for entries j) (held s j)) (length entries) 1 (λ j from to. out j from (omega (arith, to)))
+ahead_none entries s out = none_from (λ j. advertiser_ahead (entry_for entries j) (held s j)) (length entries) 1 (λ j from to. out j from (omega (arith, to)))
 
 -- ---- whether an advert is what a mote would say
 

@@ -39,8 +39,8 @@ use Rattle.dg_volume.specs.declared.volume.TakeFault.{TakeFault}
 use Rattle.dg_volume.specs.declared.volume.TakeFault.TheVariants as take_fault
 use Rattle.dg_volume.specs.declared.volume.Volume.{Volume}
 use Rattle.dg_mote.specs.Model.{MoteState, Mode, Maintain, came}
-use Rattle.dg_mote.specs.Summary.{no_entry, entry_for, is_own, ahead_of, ahead_in}
-use Rattle.dg_mote.specs.Adverts.{outline, heed_trail, ask_trail, asks, asking, noting, by_ahead, behind, advert_heard}
+use Rattle.dg_mote.specs.Summary.{no_entry, entry_for, is_own, advertiser_ahead, ahead_in}
+use Rattle.dg_mote.specs.Adverts.{outline, heed_trail, ask_trail, asks, asking, noting, by_ahead, turn_behind, advert_heard, offer}
 use Rattle.dg_mote.specs.Motes.{IsMote, ModeStands, Done}
 use Rattle.dg_mote.specs.Hearing.{MayTake, slot_trail, Opened, Begun}
 use Rattle.dg_mote.specs.declared.mote.Heard.TheVariants as heard
@@ -92,7 +92,7 @@ pub record KeepsVersion (s : Store) (i : ℕ) (e : Entry) : Type 0 where
   pub version : kept.version ≡ e.version
   pub more : length kept.complete < kept.pages
 
-more_by : (h : Held) (e : Entry) → h.version ≡ e.version → ahead_of e (Some h) ≡ true → e.have ≤ e.pages → length h.complete < h.pages
+more_by : (h : Held) (e : Entry) → h.version ≡ e.version → advertiser_ahead e (Some h) ≡ true → e.have ≤ e.pages → length h.complete < h.pages
 more_by h e same ahead within =
     let n = length h.complete in
     less h.version e.version h.pages e.pages h.crc e.crc n e.have same within ahead
@@ -100,7 +100,7 @@ more_by h e same ahead within =
     less : (a b x y u v n k : ℕ) → a ≡ b → k ≤ y → nat_le 1 k && (nat_lt a b || ((b == a) && (y == x) && (v == u) && nat_lt n k)) ≡ true → n < x
     less a b x y u v n k same within t = grind (arith, nat_tests)
 
-keeps_by : (s : Store) (i : ℕ) (e : Entry) (o : Option Held) → held s i ≡ o → is_version o e.version ≡ true → ahead_of e o ≡ true → e.have ≤ e.pages → KeepsVersion s i e
+keeps_by : (s : Store) (i : ℕ) (e : Entry) (o : Option Held) → held s i ≡ o → is_version o e.version ≡ true → advertiser_ahead e o ≡ true → e.have ≤ e.pages → KeepsVersion s i e
 keeps_by s i e None here is ahead within = cc
 keeps_by s i e (Some h) here is ahead within =
     let same : h.version ≡ e.version = grind (arith, nat_tests) in
@@ -117,7 +117,7 @@ opened_kept s i e a w o may is m image open_by =
     let Both : Trail Store → Type 0 = λ t. Acted t a a w × Opened a.image (last t) i e o in
     subst Both trail (rest_acted s 0 a a w m (Ran-none a), subst (λ (x : Store). Opened a.image x i e o) (sym (last-resting s 0)) (record { of_image = image; kept = keeps.kept; held_here = keeps.held_here; version = keeps.version; more = keeps.more; stands = open_by keeps.kept keeps.held_here }))
 
-taking_by : (s : Store) (i : ℕ) (e : Entry) (o : Option Held) → is_version o e.version ≡ false → ahead_of e o ≡ true → is_version o e.version || nat_le 2 s.room ≡ true → stale_or_worn o e.version s ≡ None
+taking_by : (s : Store) (i : ℕ) (e : Entry) (o : Option Held) → is_version o e.version ≡ false → advertiser_ahead e o ≡ true → is_version o e.version || nat_le 2 s.room ≡ true → stale_or_worn o e.version s ≡ None
 taking_by s i e None none ahead free =
     let room : nat_lt s.room 2 ≡ false = grind (arith, nat_tests) in
     passed (nat_lt s.room 2) _ _ room
@@ -268,29 +268,29 @@ asking_done a b v w m s timer now word source i page e asks job is mode may high
 
 -- ---- whether it asks
 
-idle_entry : (o : Option Held) → ahead_of unused o ≡ false
+idle_entry : (o : Option Held) → advertiser_ahead unused o ≡ false
 idle_entry None = refl
 idle_entry (Some h) = refl
 
-tells_ahead : (e : Entry) (o : Option Held) → EntryInRange e → ahead_of e o ≡ true → TellsVersion e
-tells_ahead e o range ahead = ⊎_elim (λ is. absurd (false≢true (sym (idle_entry o) ∙ ap (λ x. ahead_of x o) (sym is) ∙ ahead))) (λ tells. tells) range
+tells_ahead : (e : Entry) (o : Option Held) → EntryInRange e → advertiser_ahead e o ≡ true → TellsVersion e
+tells_ahead e o range ahead = ⊎_elim (λ is. absurd (false≢true (sym (idle_entry o) ∙ ap (λ x. advertiser_ahead x o) (sym is) ∙ ahead))) (λ tells. tells) range
 
-pub may_take : (m : MoteState) (s : Store) (entries : List Entry) (now i : ℕ) (e : Entry) → length entries < images → All EntryInRange entries → 1 ≤ i → i ≤ length entries → e ≡ entry_for entries i → ahead_of (entry_for entries i) (held s i) ≡ true → asks m s now i e ≡ true → MayTake s i e
+pub may_take : (m : MoteState) (s : Store) (entries : List Entry) (now i : ℕ) (e : Entry) → length entries < images → All EntryInRange entries → 1 ≤ i → i ≤ length entries → e ≡ entry_for entries i → advertiser_ahead (entry_for entries i) (held s i) ≡ true → asks m s now i e ≡ true → MayTake s i e
 may_take m s entries now i e count range low high is ahead can =
-    let here : ahead_of e (held s i) ≡ true = ap (λ x. ahead_of x (held s i)) is ∙ ahead in
+    let here : advertiser_ahead e (held s i) ≡ true = ap (λ x. advertiser_ahead x (held s i)) is ∙ ahead in
     let fits : EntryInRange e = subst EntryInRange (sym is) (All-get_or EntryInRange entries (i - 1) no_entry (omega (arith, low, high)) range) in
     record { not_golden = low; known = omega (arith, high, count); tells = tells_ahead e (held s i) fits here; ahead = here; free = (and_parts (may_ask m.noted now i) (is_version (held s i) e.version || nat_le 2 s.room) can).1 }
 
-pub follows_none : (m : MoteState) (timer : Timer) (s : Store) (now word source : ℕ) (entries : List Entry) (own : Bool) → ahead_in entries s ≡ None → by_ahead (ahead_in entries s) m timer s now word source entries own ≡ noting m timer s now word own
-follows_none m timer s now word source entries own none = ap (λ (o : Option ℕ). by_ahead o m timer s now word source entries own) none
+pub follows_none : (m : MoteState) (timer : Timer) (s : Store) (now word source : ℕ) (entries : List Entry) (own : Bool) → ahead_in entries s ≡ None → by_ahead (ahead_in entries s) m s now word (offer source entries) (noting m timer s now word own) ≡ noting m timer s now word own
+follows_none m timer s now word source entries own none = ap (λ (o : Option ℕ). by_ahead o m s now word (offer source entries) (noting m timer s now word own)) none
 
-pub follows_noted : (m : MoteState) (timer : Timer) (s : Store) (now word source i : ℕ) (entries : List Entry) (e : Entry) (own : Bool) → ahead_in entries s ≡ Some i → e ≡ entry_for entries i → asks m s now i e ≡ false → by_ahead (ahead_in entries s) m timer s now word source entries own ≡ noting m timer s now word own
+pub follows_noted : (m : MoteState) (timer : Timer) (s : Store) (now word source i : ℕ) (entries : List Entry) (e : Entry) (own : Bool) → ahead_in entries s ≡ Some i → e ≡ entry_for entries i → asks m s now i e ≡ false → by_ahead (ahead_in entries s) m s now word (offer source entries) (noting m timer s now word own) ≡ noting m timer s now word own
 follows_noted m timer s now word source i entries e own found is cannot =
-    ap (λ (o : Option ℕ). by_ahead o m timer s now word source entries own) found ∙ passed (asks m s now i (entry_for entries i)) _ _ (ap (λ x. asks m s now i x) (sym is) ∙ cannot)
+    ap (λ (o : Option ℕ). by_ahead o m s now word (offer source entries) (noting m timer s now word own)) found ∙ passed (asks m s now i (entry_for entries i)) _ _ (ap (λ x. asks m s now i x) (sym is) ∙ cannot)
 
-pub follows_asking : (m : MoteState) (timer : Timer) (s : Store) (now word source i : ℕ) (entries : List Entry) (e : Entry) (own : Bool) → ahead_in entries s ≡ Some i → e ≡ entry_for entries i → asks m s now i e ≡ true → by_ahead (ahead_in entries s) m timer s now word source entries own ≡ asking m s now word source i e
+pub follows_asking : (m : MoteState) (timer : Timer) (s : Store) (now word source i : ℕ) (entries : List Entry) (e : Entry) (own : Bool) → ahead_in entries s ≡ Some i → e ≡ entry_for entries i → asks m s now i e ≡ true → by_ahead (ahead_in entries s) m s now word (offer source entries) (noting m timer s now word own) ≡ asking m s now word source i e
 follows_asking m timer s now word source i entries e own found is can =
-    ap (λ (o : Option ℕ). by_ahead o m timer s now word source entries own) found ∙ chosen (asks m s now i (entry_for entries i)) _ _ (ap (λ x. asks m s now i x) (sym is) ∙ can) ∙ ap (λ x. asking m s now word source i x) (sym is)
+    ap (λ (o : Option ℕ). by_ahead o m s now word (offer source entries) (noting m timer s now word own)) found ∙ chosen (asks m s now i (entry_for entries i)) _ _ (ap (λ x. asks m s now i x) (sym is) ∙ can) ∙ ap (λ x. asking m s now word source i x) (sym is)
 
 -- ---- an advert that is weighed
 
@@ -312,7 +312,7 @@ noting_begins : (m : MoteState) (timer : Timer) (s : Store) (now word : ℕ) (ow
 noting_begins m timer s now word true = resting_begins s 0
 noting_begins m timer s now word false = resting_begins s 0
 
-pub follow_begins : TakeBegins → (o : Option ℕ) (m : MoteState) (timer : Timer) (s : Store) (now word source : ℕ) (entries : List Entry) (own : Bool) → BeginsAt s (by_ahead o m timer s now word source entries own).trail
+pub follow_begins : TakeBegins → (o : Option ℕ) (m : MoteState) (timer : Timer) (s : Store) (now word source : ℕ) (entries : List Entry) (own : Bool) → BeginsAt s (by_ahead o m s now word (offer source entries) (noting m timer s now word own)).trail
 follow_begins takes None m timer s now word source entries own = noting_begins m timer s now word own
 follow_begins takes (Some i) m timer s now word source entries own = by_test (asks m s now i (entry_for entries i))
   where
@@ -338,8 +338,8 @@ pub said_same : (own : Bool) (entries : List Entry) (order : Order) (wide : Bool
 said_same own entries order wide m s alike e = e ∙ ap (λ w. is_own entries order w s) alike
 
 pub advert_is : (m : MoteState) (timer : Timer) (s : Store) (now word source : ℕ) (entries : List Entry) (order : Order) (own : Bool) → own ≡ is_own entries order m.wide s
-    → advert_heard m timer s now word source entries order ≡ behind (heed_trail s order) (by_ahead (ahead_in entries (last (heed_trail s order))) m timer (last (heed_trail s order)) now word source entries own)
+    → advert_heard m timer s now word (offer source entries) order ≡ turn_behind (heed_trail s order) (by_ahead (ahead_in entries (last (heed_trail s order))) m (last (heed_trail s order)) now word (offer source entries) (noting m timer (last (heed_trail s order)) now word own))
 unfolding advert_heard
 advert_is m timer s now word source entries order own e =
     let t = heed_trail s order in
-    ap (λ (b : Bool). behind t (by_ahead (ahead_in entries (last t)) m timer (last t) now word source entries b)) (sym e)
+    ap (λ (b : Bool). turn_behind t (by_ahead (ahead_in entries (last t)) m (last t) now word (offer source entries) (noting m timer (last t) now word b))) (sym e)

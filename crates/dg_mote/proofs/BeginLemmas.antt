@@ -34,9 +34,9 @@ use Rattle.dg_frame.specs.declared.FrameFault.{FrameFault}
 use Rattle.dg_mote.specs.Model.{MoteState, Mode, Maintain, Receive, Transmit, Receiving, Sending, came, reception, Turn}
 use Rattle.dg_mote.specs.Summary.{entry_for, is_own, ahead_in}
 use Rattle.dg_mote.specs.Ticks.{clears, maintain_by, receive_by, transmit_by, mode_tick, tick_of}
-use Rattle.dg_mote.specs.Adverts.{outline, heed_trail, ask_trail, asks, noting, by_ahead, advert_heard, on_advert}
-use Rattle.dg_mote.specs.Requests.{concerns, can_serve, is_served, to_it, on_request}
-use Rattle.dg_mote.specs.Packets.{is_wanted, accepted, seal_by, takes, on_packet}
+use Rattle.dg_mote.specs.Adverts.{outline, heed_trail, ask_trail, asks, noting, by_ahead, advert_heard, on_advert, offer}
+use Rattle.dg_mote.specs.Requests.{concerns, can_serve, is_served, to_it, on_request, page_request}
+use Rattle.dg_mote.specs.Packets.{is_wanted, accepted, seal_by, takes, on_packet, page_packet}
 use Rattle.dg_mote.specs.Hears.{source_of, on_message, by_message, heard_of}
 
 abbrev Begins : {A : Type 0} → Store → Turn A → Type 0
@@ -99,12 +99,12 @@ module _ (order : (s : Store) (o : Order) → BeginsAt s (order_trail s o)) (cle
   noting_begins true m timer s now word = resting_begins s 0
   noting_begins false m timer s now word = resting_begins s 0
 
-  pub ahead_begins : (o : Option ℕ) (m : MoteState) (timer : Timer) (s : Store) (now word source : ℕ) (entries : List Entry) (own : Bool) → Begins s (by_ahead o m timer s now word source entries own)
+  pub ahead_begins : (o : Option ℕ) (m : MoteState) (timer : Timer) (s : Store) (now word source : ℕ) (entries : List Entry) (own : Bool) → Begins s (by_ahead o m s now word (offer source entries) (noting m timer s now word own))
   ahead_begins None m timer s now word source entries own = noting_begins own m timer s now word
   ahead_begins (Some i) m timer s now word source entries own =
       cond_both (asks m s now i (entry_for entries i)) _ _ (Begins s) (λ _. ask_begins s i (entry_for entries i)) (λ _. noting_begins own m timer s now word)
 
-  advert_begins : (mode : Mode) (m : MoteState) (s : Store) (now word source : ℕ) (entries : List Entry) (o : Order) → Begins s (on_advert mode m s now word source entries o)
+  advert_begins : (mode : Mode) (m : MoteState) (s : Store) (now word source : ℕ) (entries : List Entry) (o : Order) → Begins s (on_advert mode m s now word (offer source entries) o)
   unfolding advert_heard
   advert_begins (Maintain timer) m s now word source entries o =
       let t = heed_trail s o in
@@ -114,12 +114,12 @@ module _ (order : (s : Store) (o : Order) → BeginsAt s (order_trail s o)) (cle
 
   -- ---- requests
 
-  to_it_begins : (mode : Mode) (m : MoteState) (s : Store) (now image version page : ℕ) (want : Numbers) → Begins s (to_it mode m s now image version page want)
+  to_it_begins : (mode : Mode) (m : MoteState) (s : Store) (now image version page : ℕ) (want : Numbers) → Begins s (to_it mode m s now (page_request image version page want))
   to_it_begins (Maintain timer) m s now image version page want = cond_both (can_serve s image version page) _ _ (Begins s) (λ _. resting_begins s 0) (λ _. resting_begins s 0)
   to_it_begins (Transmit t) m s now image version page want = cond_both (is_served t image version page) _ _ (Begins s) (λ _. resting_begins s 0) (λ _. resting_begins s 0)
   to_it_begins (Receive r) m s now image version page want = resting_begins s 0
 
-  request_begins : (m : MoteState) (s : Store) (now to image version page : ℕ) (want : Numbers) → Begins s (on_request m s now to image version page want)
+  request_begins : (m : MoteState) (s : Store) (now to image version page : ℕ) (want : Numbers) → Begins s (on_request m s now to (page_request image version page want))
   request_begins m s now to image version page want =
       cond_both (to == m.id) _ _ (Begins s) (λ _. to_it_begins m.mode m s now image version page want)
       (λ _. cond_both (concerns s image version page) _ _ (Begins s) (λ _. resting_begins s 0) (λ _. resting_begins s 0))
@@ -138,7 +138,7 @@ module _ (order : (s : Store) (o : Order) → BeginsAt s (order_trail s o)) (cle
       let a = accepted r now q bytes in
       cond_both (set.len (came a.packets) == packets) _ _ (Begins s) (λ _. seal_begins (held s r.image) m r s now word (page_from a.packets)) (λ _. resting_begins s 1)
 
-  packet_begins : (mode : Mode) (m : MoteState) (s : Store) (now word image version page q : ℕ) (bytes : List ℕ) → Begins s (on_packet mode m s now word image version page q bytes)
+  packet_begins : (mode : Mode) (m : MoteState) (s : Store) (now word image version page q : ℕ) (bytes : List ℕ) → Begins s (on_packet mode m s now word (page_packet image version page q bytes))
   packet_begins (Receive r) m s now word image version page q bytes =
       cond_both (is_wanted r image version page q) _ _ (Begins s) (λ _. takes_begins m r s now word q bytes) (λ _. resting_begins s 0)
   packet_begins (Maintain timer) m s now word image version page q bytes =

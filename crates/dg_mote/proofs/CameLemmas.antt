@@ -6,7 +6,7 @@ use Rattle.std.proofs.lemmas.Map.Views.{any-filter_same}
 use Rattle.std.specs.List.{range_with_len}
 use Rattle.std.specs.Ordering.{nat_cmp}
 use Rattle.std.specs.FinSet as set
-use Rattle.dg_words.specs.Lists.{joined}
+use Rattle.dg_words.specs.Lists.{concatenated}
 use Rattle.dg_bits.specs.Sets.{Numbers, AllBelow}
 use Rattle.dg_bits.proofs.SetLaws.{any_in_range, up_to, up_to-none, up_to-all, len-up_to_in, len-up_to_out}
 use Rattle.dg_slot.specs.Layout.{packets}
@@ -92,4 +92,4 @@ map_same f g a (suc n) e = λ i. e a (omega arith) i ∷ map_same f g (a + 1) n 
 
 pub same_page : (ps qs : Packets) → ((q : ℕ) → q < packets → packet ps q ≡ packet qs q) → page_from ps ≡ page_from qs
 unfolding page_from
-same_page ps qs each = ap joined (map_same (λ q. bytes_of (packet ps q)) (λ q. bytes_of (packet qs q)) 0 packets (λ k h. ap bytes_of (each k (omega (arith, h)))))
+same_page ps qs each = ap concatenated (map_same (λ q. bytes_of (packet ps q)) (λ q. bytes_of (packet qs q)) 0 packets (λ k h. ap bytes_of (each k (omega (arith, h)))))

@@ -37,11 +37,11 @@ use Rattle.dg_frame.specs.declared.FrameFault.{FrameFault}
 use Rattle.dg_frame.specs.declared.Message.{Message}
 use Rattle.dg_frame.specs.declared.Message.TheVariants.{Request, Packet}
 use Rattle.dg_mote.specs.Model.{MoteState, Mode, Maintain, Receive, Transmit, Receiving, Sending, came, reception, Turn}
-use Rattle.dg_mote.specs.Summary.{entry_for, advert_by, is_own, ahead_of, ahead_in}
+use Rattle.dg_mote.specs.Summary.{entry_for, advert_by, is_own, advertiser_ahead, ahead_in}
 use Rattle.dg_mote.specs.Ticks.{clears, maintain_by, receive_by, transmit_by, mode_tick, tick_of}
-use Rattle.dg_mote.specs.Adverts.{outline, heed_trail, ask_trail, asks, noting, by_ahead, advert_heard, on_advert}
-use Rattle.dg_mote.specs.Requests.{concerns, can_serve, is_served, to_it}
-use Rattle.dg_mote.specs.Packets.{is_wanted, seal_by, on_packet}
+use Rattle.dg_mote.specs.Adverts.{outline, heed_trail, ask_trail, asks, noting, by_ahead, advert_heard, on_advert, offer}
+use Rattle.dg_mote.specs.Requests.{concerns, can_serve, is_served, to_it, page_request}
+use Rattle.dg_mote.specs.Packets.{is_wanted, seal_by, on_packet, page_packet}
 use Rattle.dg_mote.specs.Hears.{by_message, heard_of}
 use Rattle.dg_mote.specs.Changes.{MayClear, IsBehind, HeedsAdvert, Completes}
 use Rattle.dg_mote.specs.declared.mote.Did.{Did}
@@ -90,7 +90,7 @@ tick_clears m s now word =
 
 -- ---- requests
 
-to_it_rests : (mode : Mode) (m : MoteState) (s : Store) (now image version page : ℕ) (want : Numbers) → Rests s (to_it mode m s now image version page want)
+to_it_rests : (mode : Mode) (m : MoteState) (s : Store) (now image version page : ℕ) (want : Numbers) → Rests s (to_it mode m s now (page_request image version page want))
 to_it_rests (Maintain timer) m s now image version page want = cond_both (can_serve s image version page) _ _ (λ (step : Turn Heard). Rests s step) (λ _. refl) (λ _. refl)
 to_it_rests (Transmit t) m s now image version page want = cond_both (is_served t image version page) _ _ (λ (step : Turn Heard). Rests s step) (λ _. refl) (λ _. refl)
 to_it_rests (Receive r) m s now image version page want = refl
@@ -130,7 +130,7 @@ module _ (m : MoteState) (s : Store) (image version page q : ℕ) where
       (λ _. Through-joined Turns (resting s 1) (stepping s 1 (paged r.image content s)) (rests_turns 1) (Through-stepping Turns s 1 (paged r.image content s) (inl refl) (inr all)))
       (λ _. rests_turns 1)
 
-  packet_turns : (mode : Mode) (now word : ℕ) (bytes : List ℕ) → m.mode ≡ mode → Through Turns (on_packet mode m s now word image version page q bytes).trail
+  packet_turns : (mode : Mode) (now word : ℕ) (bytes : List ℕ) → m.mode ≡ mode → Through Turns (on_packet mode m s now word (page_packet image version page q bytes)).trail
   packet_turns (Receive r) now word bytes is =
       let ps = put_packet r.packets q bytes in
       cond_both (is_wanted r image version page q) _ _ (λ (step : Turn Heard). Through Turns step.trail)
@@ -285,7 +285,7 @@ module _ (ends : (s : Store) (p : Outline) → last (take_trail s p) ≡ taken s
   noting_goes true m timer u now word h = rests_goes u 0 h
   noting_goes false m timer u now word h = rests_goes u 0 h
 
-  is_behind : (e : Entry) (o : Option Held) → ahead_of e o ≡ true → is_version o e.version ≡ false → IsBehind e o
+  is_behind : (e : Entry) (o : Option Held) → advertiser_ahead e o ≡ true → is_version o e.version ≡ false → IsBehind e o
   is_behind e None ahead other = record { some = leb-true 1 e.have ahead; older = tt }
   is_behind e (Some k) ahead other =
       let parts = and_parts (nat_le 1 e.have) _ ahead in
@@ -300,7 +300,7 @@ module _ (ends : (s : Store) (p : Outline) → last (take_trail s p) ≡ taken s
       either true b e = inl refl
       either false b e = inr e
 
-  ask_goes : (u : Store) (i : ℕ) → Heeded u → 1 ≤ i → ahead_of (entry_for entries i) (held u i) ≡ true → Goes u (ask_trail u i (entry_for entries i))
+  ask_goes : (u : Store) (i : ℕ) → Heeded u → 1 ≤ i → advertiser_ahead (entry_for entries i) (held u i) ≡ true → Goes u (ask_trail u i (entry_for entries i))
   unfolding ask_trail
   ask_goes u i h low ahead =
       let e = entry_for entries i in
@@ -320,7 +320,7 @@ module _ (ends : (s : Store) (p : Outline) → last (take_trail s p) ≡ taken s
       })
 
   ahead_goes : (o : Option ℕ) (m : MoteState) (timer : Timer) (u : Store) (now word source : ℕ) (own : Bool) → Heeded u
-      → ((i : ℕ) → o ≡ Some i → (1 ≤ i) × (ahead_of (entry_for entries i) (held u i) ≡ true)) → Goes u (by_ahead o m timer u now word source entries own).trail
+      → ((i : ℕ) → o ≡ Some i → (1 ≤ i) × (advertiser_ahead (entry_for entries i) (held u i) ≡ true)) → Goes u (by_ahead o m u now word (offer source entries) (noting m timer u now word own)).trail
   ahead_goes None m timer u now word source own h known = noting_goes own m timer u now word h
   ahead_goes (Some i) m timer u now word source own h known =
       let k = known i refl in
@@ -334,18 +334,18 @@ module _ (ends : (s : Store) (p : Outline) → last (take_trail s p) ≡ taken s
   same_both : Through (Heeds true) (resting s 0) × Heeds false (last (resting s 0))
   same_both = let g = rests_goes s 0 (record { order_is = inl refl; kept = refl; app = refl; gesture = refl; room = omega arith }) in (g.way, g.ends_so)
 
-  advert_both : (m : MoteState) (timer : Timer) (now word source : ℕ) → Both (advert_heard m timer s now word source entries order)
+  advert_both : (m : MoteState) (timer : Timer) (now word source : ℕ) → Both (advert_heard m timer s now word (offer source entries) order)
   unfolding advert_heard
   advert_both m timer now word source =
       let t = heed_trail s order in
       let u = last t in
-      let rest = by_ahead (ahead_in entries u) m timer u now word source entries (is_own entries order m.wide s) in
+      let rest = by_ahead (ahead_in entries u) m u now word (offer source entries) (noting m timer u now word (is_own entries order m.wide s)) in
       let g = ahead_goes (ahead_in entries u) m timer u now word source (is_own entries order m.wide s) (Through-last Heeded t heed_way) (λ i e. let a = is_ahead entries u i e in (a.low, a.ahead)) in (
         Through-joined (Heeds true) t rest.trail (through_then Heeded (Heeds true) (heeded_heeds true) t heed_way) g.way,
         subst (Heeds false) (sym (last-joined t rest.trail (sym g.first))) g.ends_so,
       )
 
-  on_advert_both : (mode : Mode) (m : MoteState) (now word source : ℕ) → Both (on_advert mode m s now word source entries order)
+  on_advert_both : (mode : Mode) (m : MoteState) (now word source : ℕ) → Both (on_advert mode m s now word (offer source entries) order)
   on_advert_both (Maintain timer) m now word source = advert_both m timer now word source
   on_advert_both (Receive r) m now word source = same_both
   on_advert_both (Transmit t) m now word source = same_both

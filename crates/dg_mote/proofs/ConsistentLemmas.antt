@@ -42,9 +42,9 @@ use Rattle.dg_frame.specs.declared.FrameFault.{FrameFault}
 use Rattle.dg_mote.specs.Model.{MoteState, Mode, Maintain, Receive, Transmit, Receiving, Sending, came, reception, maintains, Turn}
 use Rattle.dg_mote.specs.Summary.{entry_for, is_own, ahead_in}
 use Rattle.dg_mote.specs.Ticks.{clears, maintain_by, asked, receive_by, serving, transmit_by, mode_tick, tick_of}
-use Rattle.dg_mote.specs.Adverts.{outline, heed_trail, ask_trail, asks, asking, noting, by_ahead, behind, advert_heard, on_advert}
-use Rattle.dg_mote.specs.Requests.{concerns, can_serve, is_served, to_it, on_request}
-use Rattle.dg_mote.specs.Packets.{is_wanted, accepted, seal_by, takes, on_packet}
+use Rattle.dg_mote.specs.Adverts.{outline, heed_trail, ask_trail, asks, asking, noting, by_ahead, turn_behind, advert_heard, on_advert, offer}
+use Rattle.dg_mote.specs.Requests.{concerns, can_serve, is_served, to_it, on_request, page_request}
+use Rattle.dg_mote.specs.Packets.{is_wanted, accepted, seal_by, takes, on_packet, page_packet}
 use Rattle.dg_mote.specs.Hears.{source_of, on_message, by_message, heard_of}
 use Rattle.dg_mote.specs.Consistency.{AsksForKnown, StoreIsConsistent, TurnIsConsistent, ChipIsConsistent, MoteIsConsistent}
 use Rattle.dg_mote.specs.Motes.{IsMote, Done}
@@ -154,7 +154,7 @@ module _ (golden : Row) (laws : ActLaws golden) (now word : ℕ) where
     asking_turns : (m : MoteState) (s : Store) (i : ℕ) (e : Entry) → 1 ≤ i → i < images → P s → Turns (asking m s now word source i e)
     asking_turns m s i e low high p = record { way = ask_way s i e low high p; asks = (low, high) }
 
-    ahead_turns : (o : Option ℕ) (m : MoteState) (timer : Timer) (s : Store) (own : Bool) → P s → ahead_in entries s ≡ o → Turns (by_ahead o m timer s now word source entries own)
+    ahead_turns : (o : Option ℕ) (m : MoteState) (timer : Timer) (s : Store) (own : Bool) → P s → ahead_in entries s ≡ o → Turns (by_ahead o m s now word (offer source entries) (noting m timer s now word own))
     ahead_turns None m timer s own p is = noting_turns own m timer s p
     ahead_turns (Some i) m timer s own p is =
         let a = is_ahead entries s i is in
@@ -163,10 +163,10 @@ module _ (golden : Row) (laws : ActLaws golden) (now word : ℕ) where
         (λ _. asking_turns m s i (entry_for entries i) a.low (omega (arith, high, few)) p)
         (λ _. noting_turns own m timer s p)
 
-    behind_turns : (t : Trail Store) (step : Turn Heard) → Through P t → Turns step → Turns (behind t step)
+    behind_turns : (t : Trail Store) (step : Turn Heard) → Through P t → Turns step → Turns (turn_behind t step)
     behind_turns t step way k = record { way = Through-joined P t step.trail way k.way; asks = k.asks }
 
-    advert_turns : (mode : Mode) (m : MoteState) (s : Store) (order : Order) → P s → AsksForKnown m.mode → Turns (on_advert mode m s now word source entries order)
+    advert_turns : (mode : Mode) (m : MoteState) (s : Store) (order : Order) → P s → AsksForKnown m.mode → Turns (on_advert mode m s now word (offer source entries) order)
     unfolding advert_heard
     advert_turns (Maintain timer) m s order p own =
         let t = heed_trail s order in
@@ -178,7 +178,7 @@ module _ (golden : Row) (laws : ActLaws golden) (now word : ℕ) where
   -- ---- requests and packets
 
   module _ (s : Store) (here : P s) where
-    to_it_turns : (mode : Mode) (m : MoteState) (image version page : ℕ) (want : Numbers) → AsksForKnown m.mode → Turns (to_it mode m s now image version page want)
+    to_it_turns : (mode : Mode) (m : MoteState) (image version page : ℕ) (want : Numbers) → AsksForKnown m.mode → Turns (to_it mode m s now (page_request image version page want))
     to_it_turns (Maintain timer) m image version page want own =
         cond_both (can_serve s image version page) _ _ Turns
         (λ _. rests (record m { mode = Transmit (record { image = image; version = version; page = page; owed = begun now want }) }) s 0 None _ here tt)
@@ -189,7 +189,7 @@ module _ (golden : Row) (laws : ActLaws golden) (now word : ℕ) where
         (λ _. rests m s 0 None _ here own)
     to_it_turns (Receive r) m image version page want own = rests m s 0 None _ here own
 
-    request_turns : (m : MoteState) (to image version page : ℕ) (want : Numbers) → AsksForKnown m.mode → Turns (on_request m s now to image version page want)
+    request_turns : (m : MoteState) (to image version page : ℕ) (want : Numbers) → AsksForKnown m.mode → Turns (on_request m s now to (page_request image version page want))
     request_turns m to image version page want own =
         cond_both (to == m.id) _ _ Turns (λ _. to_it_turns m.mode m image version page want own)
         (λ _. cond_both (concerns s image version page) _ _ Turns
@@ -214,7 +214,7 @@ module _ (golden : Row) (laws : ActLaws golden) (now word : ℕ) where
         (λ _. seal_turns (held s r.image) m r (page_from then.packets) refl own known)
         (λ _. rests (record m { mode = Receive then }) s 1 None _ here (known.0, known.1))
 
-    packet_turns : (mode : Mode) (m : MoteState) (image version page q : ℕ) (bytes : List ℕ) → AsksForKnown m.mode → AsksForKnown mode → Turns (on_packet mode m s now word image version page q bytes)
+    packet_turns : (mode : Mode) (m : MoteState) (image version page q : ℕ) (bytes : List ℕ) → AsksForKnown m.mode → AsksForKnown mode → Turns (on_packet mode m s now word (page_packet image version page q bytes))
     packet_turns (Receive r) m image version page q bytes own known =
         cond_both (is_wanted r image version page q) _ _ Turns (λ _. takes_turns m r q bytes own known) (λ _. rests m s 0 None _ here own)
     packet_turns (Maintain timer) m image version page q bytes own known =

@@ -34,10 +34,10 @@ use Rattle.dg_volume.specs.Acts.{Acted, Stops}
 use Rattle.dg_volume.specs.Trails.{BeginsAt, sealing_trail}
 use Rattle.dg_volume.specs.declared.volume.Volume.{Volume}
 use Rattle.dg_mote.specs.Model.{MoteState, Mode, Receive, NamesKnown, Receiving, came, reception, maintains, Turn}
-use Rattle.dg_mote.specs.Adverts.{behind}
+use Rattle.dg_mote.specs.Adverts.{turn_behind}
 use Rattle.dg_mote.specs.Packets.{accepted, seal_by, takes}
 use Rattle.dg_mote.specs.Motes.{IsMote, ModeStands, Receives, Done}
-use Rattle.dg_mote.specs.Hearing.{Fills, IsWhole, is_sealed, page_ends}
+use Rattle.dg_mote.specs.Hearing.{Fills, PageIsWhole, is_sealed, page_ends}
 use Rattle.dg_mote.specs.declared.mote.Heard.{Heard}
 use Rattle.dg_mote.specs.declared.mote.Heard.TheVariants as heard
 use Rattle.dg_mote.specs.declared.mote.Mote.{Mote}
@@ -50,17 +50,17 @@ use Rattle.dg_mote.proofs.ServeLemmas.{chosen, passed}
 
 -- ---- a turn that comes behind a trail
 
-pub done_behind : (t : Trail Store) (x : Turn Heard) (a b c : Device) (v : Mote) (answer : Heard) → last t ≡ x.trail.first → Ran (operations t) a b → Done x b c v answer → Done (behind t x) a c v answer
+pub done_behind : (t : Trail Store) (x : Turn Heard) (a b c : Device) (v : Mote) (answer : Heard) → last t ≡ x.trail.first → Ran (operations t) a b → Done x b c v answer → Done (turn_behind t x) a c v answer
 done_behind t x a b c v answer same ran done = record {
   ran = Ran-joined t x.trail ran done.ran;
   mote = subst (IsMote c.image v x.mote) (sym (last-joined t x.trail same)) done.mote;
   answers = done.answers;
 }
 
-pub stops_behind : (t : Trail Store) (x : Turn Heard) (a b c : Device) → last t ≡ x.trail.first → Ran (operations t) a b → Stops x.trail b c → Stops (behind t x).trail a c
+pub stops_behind : (t : Trail Store) (x : Turn Heard) (a b c : Device) → last t ≡ x.trail.first → Ran (operations t) a b → Stops x.trail b c → Stops (turn_behind t x).trail a c
 stops_behind t x a b c same ran stops = Halted-joined_second Stands IsNear t x.trail same ran stops
 
-pub stops_before : (t : Trail Store) (x : Turn Heard) (a b : Device) → BeginsAt (last t) x.trail → Stops t a b → Stops (behind t x).trail a b
+pub stops_before : (t : Trail Store) (x : Turn Heard) (a b : Device) → BeginsAt (last t) x.trail → Stops t a b → Stops (turn_behind t x).trail a b
 stops_before t x a b begins stops = stops_first t x.trail a b begins.works (sym begins.first) stops
 
 -- ---- a whole page is sealed
@@ -68,12 +68,12 @@ stops_before t x a b begins stops = stops_first t x.trail a b begins.works (sym 
 abbrev ended : MoteState → (now word : ℕ) → Trail Store → Heard → Turn Heard
 ended m now word t answer = record { mote = maintains m now word; trail = t; sent = None; answer = answer }
 
-sealed_is : (m : MoteState) (r : Receiving) (h : Held) (s : Store) (now word : ℕ) (page : List ℕ) → seal_by (Some h) m r s now word page ≡ behind (resting s 1) (page_ends m r h s now word page)
+sealed_is : (m : MoteState) (r : Receiving) (h : Held) (s : Store) (now word : ℕ) (page : List ℕ) → seal_by (Some h) m r s now word page ≡ turn_behind (resting s 1) (page_ends m r h s now word page)
 unfolding joined delayed rest_of
 sealed_is m r h s now word page = by_fit (may_seal r.image h page)
   where
     by_fit : (fits : Bool) → ◌≡◌ {A = Turn Heard} (cond fits (ended m now word (joined (resting s 1) (stepping s 1 (paged r.image page s))) (heard.Sealed r.image r.page)) (ended m now word (resting s 1) (heard.Bad r.image r.page)))
-        (behind (resting s 1) (cond fits (ended m now word (stepping s 1 (paged r.image page s)) (heard.Sealed r.image r.page)) (ended m now word (resting s 0) (heard.Bad r.image r.page))))
+        (turn_behind (resting s 1) (cond fits (ended m now word (stepping s 1 (paged r.image page s)) (heard.Sealed r.image r.page)) (ended m now word (resting s 0) (heard.Bad r.image r.page))))
     by_fit true = refl
     by_fit false = refl
 
@@ -115,7 +115,7 @@ ends_begin m r h s now word page = subst (BeginsAt s) (sym (ends_trail m r h s n
 -- ---- the packet is taken
 
 pub takes_whole : (m : MoteState) (r : Receiving) (h : Held) (s : Store) (now word q : ℕ) (bytes : List ℕ) → held s r.image ≡ Some h → set.len (came (put_packet r.packets q bytes)) ≡ packets
-    → takes m r s now word q bytes ≡ behind (resting s 1) (page_ends m r h s now word (page_from (put_packet r.packets q bytes)))
+    → takes m r s now word q bytes ≡ turn_behind (resting s 1) (page_ends m r h s now word (page_from (put_packet r.packets q bytes)))
 takes_whole m r h s now word q bytes here all =
     let n = set.len (came (put_packet r.packets q bytes)) in
     let page = page_from (put_packet r.packets q bytes) in
@@ -263,7 +263,7 @@ took_done a b v m s r version server now q asking new job filled bytes known nam
 pub record MadeWhole (b : Device) (v : Mote) (m : MoteState) (s : Store) (r : Receiving) (h : Held) (ps : Packets) : Type 0 where
   pub held_here : held s r.image ≡ Some h
   pub all : set.len (came ps) ≡ packets
-  pub whole : IsWhole b.image v m s r h ps
+  pub whole : PageIsWhole b.image v m s r h ps
 
 pub made_whole : (a b : Device) (v : Mote) (m : MoteState) (s : Store) (r : Receiving) (version server now q : ℕ) (asking new : Reception) (job filled : PageJob) (bytes : List ℕ) → q < packets → IsMote a.image v m s → (this : AsksThis a.image v.volume s r version server asking job)
     → InSlot a.image v.volume s job r b.image → set.contains (got_told job) q ≡ false → new ≡ after_accept asking now q → slot_of filled ≡ slot_of job → ((h : Held) (ps : Packets) → IsJob a.image job h ps → IsJob b.image filled h (put_packet ps q bytes)) → packets ≤ set.len new.got
@@ -306,7 +306,7 @@ made_whole a b v m s r version server now q asking new job filled bytes known is
 
 -- ---- the slot goes back
 
-pub whole_fills : (c : List ℕ) (v : Mote) (m : MoteState) (s : Store) (r : Receiving) (h : Held) (ps : Packets) (version server : ℕ) (asking : Reception) (job : PageJob) → IsWhole c v m s r h ps → v.mode ≡ value.Receive version server asking job → Fills c s r.image job h ps
+pub whole_fills : (c : List ℕ) (v : Mote) (m : MoteState) (s : Store) (r : Receiving) (h : Held) (ps : Packets) (version server : ℕ) (asking : Reception) (job : PageJob) → PageIsWhole c v m s r h ps → v.mode ≡ value.Receive version server asking job → Fills c s r.image job h ps
 whole_fills c v m s r h ps version server asking job whole code =
     let x = whole.code in
     let here = x.4 in
@@ -358,7 +358,7 @@ sealed_ends filling counts held_more (sealing.Unfit o) a b v w s i job h ps m fi
 
 -- ---- how it ends
 
-pub page_done : (a b : Device) (v : Mote) (w : Volume) (m : MoteState) (s : Store) (r : Receiving) (h : Held) (ps : Packets) (now word : ℕ) (trickle : Timer) (fits : Bool) (answer : Heard) → IsWhole a.image v m s r h ps → Sealed s r.image h (page_from ps) a b w fits → trickle ≡ started now word
+pub page_done : (a b : Device) (v : Mote) (w : Volume) (m : MoteState) (s : Store) (r : Receiving) (h : Held) (ps : Packets) (now word : ℕ) (trickle : Timer) (fits : Bool) (answer : Heard) → PageIsWhole a.image v m s r h ps → Sealed s r.image h (page_from ps) a b w fits → trickle ≡ started now word
     → is_lent w r.image ≡ false → ((i : ℕ) → i ≢ r.image → is_lent w i ≡ is_lent v.volume i) → answer ≡ cond fits (heard.Sealed r.image r.page) (heard.Bad r.image r.page)
     → Done (page_ends m r h s now word (page_from ps)) a b (record v { volume = w; mode = value.Maintain trickle }) answer
 page_done a b v w m s r h ps now word trickle fits answer whole sealed starts back others answers =

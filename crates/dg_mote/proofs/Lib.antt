@@ -35,9 +35,11 @@ pub mod ChangeLemmas
 pub mod RoundTicks
 pub mod RoundRestart
 pub mod RoundServe
+pub mod RoundDebt
 pub mod RoundDrain
 pub mod RoundAdvert
 pub mod RoundTake
+pub mod RoundNext
 pub mod RoundAsk
 pub mod RoundFresh
 pub mod ReceivingLemmas

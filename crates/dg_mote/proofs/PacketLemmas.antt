@@ -23,16 +23,16 @@ use Rattle.dg_volume.specs.Table.{row_at, IsTable}
 use Rattle.dg_volume.specs.Agreement.{Agrees}
 use Rattle.dg_volume.specs.Ends.{KeepsPagesOf}
 use Rattle.dg_mote.specs.Model.{MoteState, Mode, Maintain, Receive, Transmit, Receiving, came, maintains}
-use Rattle.dg_mote.specs.Ticks.{packet_of}
 use Rattle.dg_mote.specs.Agreement.{ReceivesRow, ModeAgrees, HonestMessage}
 use Rattle.dg_mote.specs.Requests.{concerns}
-use Rattle.dg_mote.specs.Packets.{is_wanted, accepted, seal_by, takes, on_packet}
+use Rattle.dg_mote.specs.Packets.{is_wanted, accepted, seal_by, takes, on_packet, page_packet}
 use Rattle.dg_mote.specs.Well.{StoreIsWell}
 use Rattle.dg_mote.specs.declared.mote.Heard.{Heard}
 use Rattle.dg_frame.specs.declared.Message.TheVariants.{Packet}
 use Rattle.dg_mote.proofs.RowLemmas.{TableLaws, kept_within, row_own, same_row}
 use Rattle.dg_mote.proofs.CameLemmas.{came_few, came_all, same_page}
 use Rattle.dg_mote.proofs.KeepLemmas.{Keeps, rests}
+use Rattle.dg_volume.specs.Filling.{packet_of}
 
 -- ---- packets that are the row's
 
@@ -162,7 +162,7 @@ module _ (table : List Row) (is_table : IsTable table) (laws : PageLaws table) (
       }) tt)
 
   pub packet_keeps : (mode : Mode) (m : MoteState) (source image version page q : ℕ) (bytes : List ℕ) → HonestMessage table (Ok (Packet source image version page q bytes)) → ModeAgrees table s m.mode → ModeAgrees table s mode
-      → Keeps (StoreIsWell table) table (on_packet mode m s now word image version page q bytes)
+      → Keeps (StoreIsWell table) table (on_packet mode m s now word (page_packet image version page q bytes))
   packet_keeps (Receive r) m source image version page q bytes honest own a =
       cond_both (is_wanted r image version page q) _ _ (Keeps (StoreIsWell table) table)
       (λ is.

@@ -36,11 +36,11 @@ use Rattle.dg_frame.specs.declared.FrameFault.{FrameFault}
 use Rattle.dg_mote.specs.Model.{MoteState, Mode, Maintain, Receive, Transmit, Receiving, Sending, came, reception, maintains, Turn}
 use Rattle.dg_mote.specs.Summary.{entries_of, own_order, advert_by, entry_for, is_own, ahead_in}
 use Rattle.dg_mote.specs.Ticks.{clears, maintain_by, receive_by, serving, transmit_by, mode_tick, tick_of}
-use Rattle.dg_mote.specs.Adverts.{heed_trail, asks, noting, by_ahead, advert_heard, on_advert}
-use Rattle.dg_mote.specs.Requests.{concerns, can_serve, is_served, to_it, on_request}
-use Rattle.dg_mote.specs.Packets.{is_wanted, accepted, seal_by, takes, on_packet}
+use Rattle.dg_mote.specs.Adverts.{heed_trail, asks, noting, by_ahead, advert_heard, on_advert, offer}
+use Rattle.dg_mote.specs.Requests.{concerns, can_serve, is_served, to_it, on_request, page_request}
+use Rattle.dg_mote.specs.Packets.{is_wanted, accepted, seal_by, takes, on_packet, page_packet}
 use Rattle.dg_mote.specs.Hears.{source_of, on_message, by_message, heard_of}
-use Rattle.dg_mote.specs.Rules.{Happens, Ticks, Hears, sent_in, AllBetween, NoRequest, AsksNotFor}
+use Rattle.dg_mote.specs.Rules.{Happens, Ticks, Hears, sent_while, AllBetween, NoRequest, AsksNotFor}
 use Rattle.dg_mote.specs.declared.mote.Did.{Did}
 use Rattle.dg_mote.specs.declared.mote.Heard.{Heard}
 
@@ -159,26 +159,26 @@ module _ (image from until : ℕ) (Noting : Noted → Type 0) (shuts : Shuts ima
         let may = (and_parts (may_ask m.noted now i) (is_version (held s i) e.version || nat_le 2 s.room) yes_asks).0 in
         false≢true (sym (shuts.shut m.noted now early q.noted) ∙ ap (may_ask m.noted now) (sym same) ∙ may)
 
-    ahead_quiet : (o : Option ℕ) (m : MoteState) (timer : Timer) (s : Store) (word source : ℕ) (entries : List Entry) (own : Bool) → IsQuiet m → Hushed (by_ahead o m timer s now word source entries own)
+    ahead_quiet : (o : Option ℕ) (m : MoteState) (timer : Timer) (s : Store) (word source : ℕ) (entries : List Entry) (own : Bool) → IsQuiet m → Hushed (by_ahead o m s now word (offer source entries) (noting m timer s now word own))
     ahead_quiet None m timer s word source entries own q = noting_quiet own m timer s word q
     ahead_quiet (Some i) m timer s word source entries own q =
         cond_both (asks m s now i (entry_for entries i)) _ _ Hushed
         (λ is. record { noted = q.noted; mode = asks_other m s i (entry_for entries i) q is })
         (λ _. noting_quiet own m timer s word q)
 
-    advert_quiet : (mode : Mode) (m : MoteState) (s : Store) (word source : ℕ) (entries : List Entry) (order : Order) → IsQuiet m → Hushed (on_advert mode m s now word source entries order)
+    advert_quiet : (mode : Mode) (m : MoteState) (s : Store) (word source : ℕ) (entries : List Entry) (order : Order) → IsQuiet m → Hushed (on_advert mode m s now word (offer source entries) order)
     unfolding advert_heard
     advert_quiet (Maintain timer) m s word source entries order q =
         let t = heed_trail s order in ahead_quiet (ahead_in entries (last t)) m timer (last t) word source entries (is_own entries order m.wide s) q
     advert_quiet (Receive r) m s word source entries order q = q
     advert_quiet (Transmit t) m s word source entries order q = q
 
-    to_it_quiet : (mode : Mode) (m : MoteState) (s : Store) (i version page : ℕ) (want : Numbers) → IsQuiet m → Hushed (to_it mode m s now i version page want)
+    to_it_quiet : (mode : Mode) (m : MoteState) (s : Store) (i version page : ℕ) (want : Numbers) → IsQuiet m → Hushed (to_it mode m s now (page_request i version page want))
     to_it_quiet (Maintain timer) m s i version page want q = cond_both (can_serve s i version page) _ _ Hushed (λ _. record { noted = q.noted; mode = tt }) (λ _. q)
     to_it_quiet (Transmit t) m s i version page want q = cond_both (is_served t i version page) _ _ Hushed (λ _. record { noted = q.noted; mode = tt }) (λ _. q)
     to_it_quiet (Receive r) m s i version page want q = q
 
-    request_quiet : (m : MoteState) (s : Store) (to i version page : ℕ) (want : Numbers) → IsQuiet m → Hushed (on_request m s now to i version page want)
+    request_quiet : (m : MoteState) (s : Store) (to i version page : ℕ) (want : Numbers) → IsQuiet m → Hushed (on_request m s now to (page_request i version page want))
     request_quiet m s to i version page want q =
         cond_both (to == m.id) _ _ Hushed (λ _. to_it_quiet m.mode m s i version page want q)
         (λ _. cond_both (concerns s i version page) _ _ Hushed (λ _. record { noted = shuts.request m.noted now i begun q.noted; mode = q.mode }) (λ _. q))
@@ -193,7 +193,7 @@ module _ (image from until : ℕ) (Noting : Noted → Type 0) (shuts : Shuts ima
         let a = accepted r now k bytes in
         cond_both (set.len (came a.packets) == packets) _ _ Hushed (λ _. seal_quiet (held s r.image) m r s word (page_from a.packets) q) (λ _. record { noted = q.noted; mode = other })
 
-    packet_quiet : (mode : Mode) (m : MoteState) (s : Store) (word i version page k : ℕ) (bytes : List ℕ) → IsQuiet m → AsksNotFor image mode → Hushed (on_packet mode m s now word i version page k bytes)
+    packet_quiet : (mode : Mode) (m : MoteState) (s : Store) (word i version page k : ℕ) (bytes : List ℕ) → IsQuiet m → AsksNotFor image mode → Hushed (on_packet mode m s now word (page_packet i version page k bytes))
     packet_quiet (Receive r) m s word i version page k bytes q other =
         cond_both (is_wanted r i version page k) _ _ Hushed (λ _. takes_quiet m r s word k bytes q other) (λ _. q)
     packet_quiet (Maintain timer) m s word i version page k bytes q other =
@@ -216,8 +216,8 @@ module _ (image from until : ℕ) (Noting : Noted → Type 0) (shuts : Shuts ima
 
   -- ---- in a row
 
-  pub quiet_in : ((m : MoteState) (s : Store) (now word : ℕ) (bytes : List ℕ) → (heard_of m s now word bytes).sent ≡ None) → (events : List Happens) (m : MoteState) (s : Store) → AllBetween from until events → IsQuiet m → AllByRecursion (NoRequest image) (sent_in events m s)
-  unfolding sent_in
+  pub quiet_in : ((m : MoteState) (s : Store) (now word : ℕ) (bytes : List ℕ) → (heard_of m s now word bytes).sent ≡ None) → (events : List Happens) (m : MoteState) (s : Store) → AllBetween from until events → IsQuiet m → AllByRecursion (NoRequest image) (sent_while events m s)
+  unfolding sent_while
   quiet_in silent [] m s between q = tt
   quiet_in silent (Ticks now word ∷ rest) m s between q =
       let step = tick_of m s now word in

@@ -31,9 +31,9 @@ use Rattle.dg_frame.specs.declared.Message.TheVariants.{Advert, Request, Packet,
 use Rattle.dg_mote.specs.Model.{MoteState, Mode, Maintain, Receive, Transmit, Receiving, Sending, came, reception, Turn}
 use Rattle.dg_mote.specs.Summary.{entry_for, is_own, ahead_in}
 use Rattle.dg_mote.specs.Ticks.{clears, maintain_by, receive_by, transmit_by, mode_tick, tick_of}
-use Rattle.dg_mote.specs.Adverts.{heed_trail, asks, noting, by_ahead, advert_heard, on_advert}
-use Rattle.dg_mote.specs.Requests.{concerns, can_serve, is_served, to_it, on_request}
-use Rattle.dg_mote.specs.Packets.{is_wanted, accepted, seal_by, on_packet}
+use Rattle.dg_mote.specs.Adverts.{heed_trail, asks, noting, by_ahead, advert_heard, on_advert, offer}
+use Rattle.dg_mote.specs.Requests.{concerns, can_serve, is_served, to_it, on_request, page_request}
+use Rattle.dg_mote.specs.Packets.{is_wanted, accepted, seal_by, on_packet, page_packet}
 use Rattle.dg_mote.specs.Hears.{source_of, on_message, by_message, heard_of}
 use Rattle.dg_mote.specs.Changes.{IfReceives, Brings, IsBegun, Continues}
 use Rattle.dg_mote.specs.declared.mote.Did.{Did}
@@ -116,14 +116,14 @@ module _ (comes : (image version page q : ℕ) → Type 0) (m : MoteState) where
   noting_hears false timer s now word = tt
 
   ahead_hears : (o : Option ℕ) (timer : Timer) (s : Store) (now word source : ℕ) (entries : List Entry) (own : Bool) → ((i : ℕ) → o ≡ Some i → 1 ≤ i)
-      → Hears (by_ahead o m timer s now word source entries own)
+      → Hears (by_ahead o m s now word (offer source entries) (noting m timer s now word own))
   ahead_hears None timer s now word source entries own low = noting_hears own timer s now word
   ahead_hears (Some i) timer s now word source entries own low =
       cond_both (asks m s now i (entry_for entries i)) _ _ Hears
       (λ _. inl (record { not_golden = low i refl; none = none_yet }))
       (λ _. noting_hears own timer s now word)
 
-  advert_hears : (mode : Mode) (s : Store) (now word source : ℕ) (entries : List Entry) (order : Order) → m.mode ≡ mode → Hears (on_advert mode m s now word source entries order)
+  advert_hears : (mode : Mode) (s : Store) (now word source : ℕ) (entries : List Entry) (order : Order) → m.mode ≡ mode → Hears (on_advert mode m s now word (offer source entries) order)
   unfolding advert_heard
   advert_hears (Maintain timer) s now word source entries order is =
       let u = last (heed_trail s order) in
@@ -131,12 +131,12 @@ module _ (comes : (image version page q : ℕ) → Type 0) (m : MoteState) where
   advert_hears (Receive r) s now word source entries order is = same_mode m.mode refl
   advert_hears (Transmit t) s now word source entries order is = same_mode m.mode refl
 
-  to_it_hears : (mode : Mode) (s : Store) (now image version page : ℕ) (want : Numbers) → m.mode ≡ mode → Hears (to_it mode m s now image version page want)
+  to_it_hears : (mode : Mode) (s : Store) (now image version page : ℕ) (want : Numbers) → m.mode ≡ mode → Hears (to_it mode m s now (page_request image version page want))
   to_it_hears (Maintain timer) s now image version page want is = cond_both (can_serve s image version page) _ _ Hears (λ _. tt) (λ _. same_mode m.mode refl)
   to_it_hears (Transmit t) s now image version page want is = cond_both (is_served t image version page) _ _ Hears (λ _. tt) (λ _. same_mode m.mode refl)
   to_it_hears (Receive r) s now image version page want is = same_mode m.mode refl
 
-  request_hears : (s : Store) (now to image version page : ℕ) (want : Numbers) → Hears (on_request m s now to image version page want)
+  request_hears : (s : Store) (now to image version page : ℕ) (want : Numbers) → Hears (on_request m s now to (page_request image version page want))
   request_hears s now to image version page want =
       cond_both (to == m.id) _ _ Hears (λ _. to_it_hears m.mode s now image version page want refl)
       (λ _. cond_both (concerns s image version page) _ _ Hears (λ _. same_mode m.mode refl) (λ _. same_mode m.mode refl))
@@ -146,7 +146,7 @@ module _ (comes : (image version page q : ℕ) → Type 0) (m : MoteState) where
   seal_hears (Some h) r s now word page = cond_both (may_seal r.image h page) _ _ Hears (λ _. tt) (λ _. tt)
 
   packet_hears : (mode : Mode) (s : Store) (now word image version page q : ℕ) (bytes : List ℕ) → m.mode ≡ mode → comes image version page q
-      → Hears (on_packet mode m s now word image version page q bytes)
+      → Hears (on_packet mode m s now word (page_packet image version page q bytes))
   packet_hears (Receive r) s now word image version page q bytes is brings =
       cond_both (is_wanted r image version page q) _ _ Hears
       (λ w. cond_both (set.len (came (accepted r now q bytes).packets) == packets) _ _ Hears

@@ -18,7 +18,7 @@ use Rattle.dg_frame.specs.Ranges.{PageInRange}
 use Rattle.dg_quiet.specs.Noted.{with_request}
 use Rattle.dg_mote.specs.Model.{MoteState, Mode, Maintain, Receive, Transmit}
 use Rattle.dg_mote.specs.Agreement.{ModeAgrees}
-use Rattle.dg_mote.specs.Requests.{concerns, can_serve, is_served, to_it, on_request}
+use Rattle.dg_mote.specs.Requests.{concerns, can_serve, is_served, to_it, on_request, page_request}
 use Rattle.dg_mote.specs.declared.mote.Heard.{Heard}
 use Rattle.dg_mote.proofs.KeepLemmas.{Keeps, rests}
 
@@ -58,7 +58,7 @@ module _ (P : Store → Type 0) (table : List Row) (s : Store) (here : P s) (now
       (record { not_golden = range.first; kept = c.kept; held_here = c.here; version = c.version_is; complete = c.complete; owed = λ none. some (set.empty_of_len want none) }) tt
 
   to_it_keeps : (mode : Mode) (m : MoteState) (image version page : ℕ) (want : Numbers) → PageInRange (known_images m.wide) image version page → want ≢ set.empty → ModeAgrees table s m.mode → ModeAgrees table s mode
-      → Keeps P table (to_it mode m s now image version page want)
+      → Keeps P table (to_it mode m s now (page_request image version page want))
   to_it_keeps (Maintain timer) m image version page want range some own a =
       cond_both (can_serve s image version page) _ _ (Keeps P table)
       (λ can. begins_serving m image version page want _ range some (serves_complete s image version page can))
@@ -70,7 +70,7 @@ module _ (P : Store → Type 0) (table : List Row) (s : Store) (here : P s) (now
       (λ _. rests P table m s 0 None _ here own tt)
   to_it_keeps (Receive r) m image version page want range some own a = rests P table m s 0 None _ here own tt
 
-  pub request_keeps : (m : MoteState) (to image version page : ℕ) (want : Numbers) → PageInRange (known_images m.wide) image version page → want ≢ set.empty → ModeAgrees table s m.mode → Keeps P table (on_request m s now to image version page want)
+  pub request_keeps : (m : MoteState) (to image version page : ℕ) (want : Numbers) → PageInRange (known_images m.wide) image version page → want ≢ set.empty → ModeAgrees table s m.mode → Keeps P table (on_request m s now to (page_request image version page want))
   request_keeps m to image version page want range some own =
       cond_both (to == m.id) _ _ (Keeps P table) (λ _. to_it_keeps m.mode m image version page want range some own own)
       (λ _. cond_both (concerns s image version page) _ _ (Keeps P table)

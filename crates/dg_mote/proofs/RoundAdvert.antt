@@ -20,7 +20,7 @@ use Rattle.dg_mote.specs.Spots.{Spot, SpotIsWell, pace, tick_at, ticked, after_t
 use Rattle.dg_mote.specs.Drained.{Drained}
 use Rattle.dg_quiet.specs.Noted.{may_ask}
 use Rattle.dg_mote.specs.Agreement.{ModeAgrees}
-use Rattle.dg_mote.specs.Completing.{advert_ticks, Rests, Advertises}
+use Rattle.dg_mote.specs.Completing.{advert_ticks, StaysDrained, Advertises}
 use Rattle.dg_mote.specs.declared.mote.Did.{Did}
 use Rattle.dg_mote.specs.declared.mote.Did.TheVariants.{Restart}
 use Rattle.dg_mote.proofs.TimelyLemmas.{timely_later, timer_ticks}
@@ -143,7 +143,7 @@ stays table x now w d =
       turned = one.turned;
     }
 
-pub rests : (table : List Row) (x : Spot) (now n : ℕ) → SpotIsWell table x now → Drained x now → Rests table x now n
+pub rests : (table : List Row) (x : Spot) (now n : ℕ) → SpotIsWell table x now → Drained x now → StaysDrained table x now n
 unfolding after_ticks
 rests table x now zero w d = record { drained = subst (Drained x) (omega arith) d; well = subst (SpotIsWell table x) (omega arith) w; store = refl; id = refl; wide = refl }
 rests table x now (suc n) w d =

@@ -1,7 +1,6 @@
 -- A drained mote that hears the summary of a mote ahead of it asks for a page, and its next tick sends the request.
-use Rattle.std.proofs.Common.{◌≡◌, ◌≢◌, ◌⊎◌, ℕ, ◌+◌, ◌<◌, ◌≤◌, Bool, true, false, not, ◌&&◌, cond, eqb, leb, ltb, List, length, take, get_or, Option, Some, None, IfSome, Ok, refl, sym, ap, subst, ◌∙◌, inl, inr, arith}
-use Rattle.std.proofs.lemmas.Bool.{eq-eqb, ne_eqb, eqb-true, le-leb, leb-true, le-ltb, ltb-true, and_parts, or_cases, or_right, cases_Bool, cases_eq, both_ways}
-use Rattle.std.proofs.lemmas.List.{get_or-set_same, get_or-set_other, length-set}
+use Rattle.std.proofs.Common.{◌≡◌, ◌≢◌, ℕ, ◌+◌, ◌≤◌, Bool, true, false, not, ◌&&◌, cond, leb, List, length, take, get_or, Option, Some, None, IfSome, Ok, refl, sym, ap, subst, ◌∙◌, inl, inr, arith}
+use Rattle.std.proofs.lemmas.Bool.{ne_eqb, le-leb, le-ltb, or_right, cases_Bool, cases_eq}
 use Rattle.std.specs.List.{find}
 use Rattle.std.specs.FinSet as set
 use Rattle.dg_words.proofs.ListLemmas.{length-tabulate}
@@ -16,23 +15,21 @@ use Rattle.dg_recv.specs.Times.{next_wait}
 use Rattle.dg_control.specs.declared.snapshot.Order.{Order}
 use Rattle.dg_object.specs.Object.{Row, Outline, object, profile}
 use Rattle.dg_slot.specs.Layout.{packets}
-use Rattle.dg_slot.specs.Kept.{Held, held_begun}
+use Rattle.dg_slot.specs.Kept.{Held}
 use Rattle.dg_slot.specs.Jobs.{no_packets}
-use Rattle.dg_volume.specs.Sizes.{images}
 use Rattle.dg_volume.specs.Store.{Store, held}
 use Rattle.dg_volume.specs.Changes.{ordered, is_version}
 use Rattle.dg_volume.specs.Trails.{BeginsAt, order_trail, take_trail, done_of}
 use Rattle.dg_volume.specs.Ends.{taken}
 use Rattle.dg_volume.specs.Table.{row_at}
 use Rattle.dg_volume.specs.Agreement.{Agrees, KeepsRow, HoldsRow}
-use Rattle.dg_frame.specs.Sizes.{known_images}
 use Rattle.dg_frame.specs.declared.Entry.{Entry}
 use Rattle.dg_frame.specs.declared.Message.{Message}
 use Rattle.dg_frame.specs.declared.Message.TheVariants.{Request}
 use Rattle.dg_mote.specs.Model.{MoteState, Maintain, Receive, Receiving, Turn, came, reception}
-use Rattle.dg_mote.specs.Summary.{entry_for, entry_by, entries_of, ahead_of, ahead_in, named, own_order, advert_of, is_own}
+use Rattle.dg_mote.specs.Summary.{entry_for, entry_by, entries_of, advertiser_ahead, ahead_in, named, own_order, advert_of, is_own}
 use Rattle.dg_mote.specs.Ticks.{asked, receive_by}
-use Rattle.dg_mote.specs.Adverts.{heed_trail, ask_trail, outline, asks, asking, noting, by_ahead, behind, advert_heard, on_advert, dropped}
+use Rattle.dg_mote.specs.Adverts.{heed_trail, ask_trail, outline, asks, asking, noting, by_ahead, turn_behind, advert_heard, on_advert, dropped, offer}
 use Rattle.dg_mote.specs.Hears.{on_message, by_message}
 use Rattle.dg_mote.specs.Effects.{tick_by, tick_effect}
 use Rattle.dg_mote.specs.Spots.{Spot, SpotIsWell, pace, hears, ticked}
@@ -40,152 +37,10 @@ use Rattle.dg_mote.specs.Drained.{Drained, spare_room, HasRoom}
 use Rattle.dg_mote.specs.Completing.{BeginsWith, KeepsNext, AsksPage, Asked, Requested}
 use Rattle.dg_mote.specs.declared.mote.Did.{Did}
 use Rattle.dg_mote.proofs.RowLemmas.{few_complete}
-use Rattle.dg_mote.proofs.KeepLemmas.{entry_is, length_entries}
-use Rattle.dg_mote.proofs.AdvertLemmas.{is_ahead, no_places, none_came, no_packet}
+use Rattle.dg_mote.proofs.AdvertLemmas.{no_places, none_came, no_packet}
 use Rattle.dg_mote.proofs.RoundTicks.{spot_of, ticked_by, tick_by_mode, not_clearing, asks_now}
 use Rattle.dg_mote.proofs.RoundTake.{none_yet}
-use Rattle.dg_mote.proofs.WideLemmas.{known_kept}
-
--- ---- which image it is
-
--- the advertiser keeps it, and is ahead
-record Found (wide : Bool) (s t : Store) (i : ℕ) : Type 0 where
-  ahead : Held
-  kept : held s i ≡ Some ahead
-  from : 1 ≤ i
-  to : i < images
-  entry : entry_for (entries_of wide s) i ≡ entry_by (Some ahead)
-  is_ahead : ahead_of (entry_by (Some ahead)) (held t i) ≡ true
-
-kept_of : (o : Option Held) (p : Option Held) → ahead_of (entry_by o) p ≡ true → (h : Held) × (o ≡ Some h)
-kept_of None None e = absurd (both_ways false refl e)
-kept_of None (Some g) e = absurd (both_ways false refl e)
-kept_of (Some h) p e = (h, refl)
-
-found : (wide : Bool) (s t : Store) (i : ℕ) → ahead_in (entries_of wide s) t ≡ Some i → Found wide s t i
-found wide s t i e =
-    let a = is_ahead (entries_of wide s) t i e in
-    let known : i ≤ known_images wide = omega (arith, a.high, length_entries wide s) in
-    let same = entry_is wide s i a.low known in
-    let e2 : ahead_of (entry_by (held s i)) (held t i) ≡ true = ap (λ x. ahead_of x (held t i)) (sym same) ∙ a.ahead in
-    let h = kept_of (held s i) (held t i) e2 in
-    record {
-      ahead = h.0;
-      kept = h.1;
-      from = a.low;
-      to = omega (arith, known, known_kept wide);
-      entry = same ∙ ap entry_by h.1;
-      is_ahead = ap (λ o. ahead_of (entry_by o) (held t i)) (sym h.1) ∙ e2;
-    }
-
--- ---- what is kept once it asks
-
-abbrev begun_for : ℕ → Held → Held
-begun_for i ahead = held_begun (outline i (entry_by (Some ahead)))
-
--- the slot is taken unless the version is kept
-abbrev asked_store : Store → (i : ℕ) → Entry → Store
-asked_store s i e = cond (is_version (held s i) e.version) s (taken s (outline i e))
-
-record IsNext (s t : Store) (i : ℕ) (ahead : Held) : Type 0 where
-  kept : Held
-  held_now : held t i ≡ Some kept
-  next : KeepsNext (held s i) ahead kept
-  version : kept.version ≡ ahead.version
-  pages : kept.pages ≡ ahead.pages
-  crc : kept.crc ≡ ahead.crc
-  less : length kept.complete < length ahead.complete
-  others : (j : ℕ) → j ≢ i → held t j ≡ held s j
-  places : length t.kept ≡ length s.kept
-  app : t.app ≡ s.app
-  gesture : t.gesture ≡ s.gesture
-
--- the two ways to be ahead of what is kept
-abbrev IsNewer : Held → Held → Type 0
-IsNewer h ahead = h.version < ahead.version
-
-record HasMore (h ahead : Held) : Type 0 where
-  version : ahead.version ≡ h.version
-  pages : ahead.pages ≡ h.pages
-  crc : ahead.crc ≡ h.crc
-  more : length h.complete < length ahead.complete
-
-ahead_parts : (h ahead : Held) → ahead_of (entry_by (Some ahead)) (Some h) ≡ true → (1 ≤ length ahead.complete) × (IsNewer h ahead ⊎ HasMore h ahead)
-ahead_parts h ahead e =
-    let parts = and_parts (leb 1 (length ahead.complete)) _ e in (
-      leb-true 1 (length ahead.complete) parts.0,
-      elim (or_cases (ltb h.version ahead.version) _ parts.1) [
-        | inl newer ↦ inl (ltb-true h.version ahead.version newer)
-        | inr same ↦
-            let a = and_parts ((eqb ahead.version h.version && eqb ahead.pages h.pages) && eqb ahead.crc h.crc) (ltb (length h.complete) (length ahead.complete)) same in
-            let b = and_parts (eqb ahead.version h.version && eqb ahead.pages h.pages) (eqb ahead.crc h.crc) a.0 in
-            let c = and_parts (eqb ahead.version h.version) (eqb ahead.pages h.pages) b.0 in
-            inr (record { version = eqb-true ahead.version h.version c.0; pages = eqb-true ahead.pages h.pages c.1; crc = eqb-true ahead.crc h.crc b.1; more = ltb-true (length h.complete) (length ahead.complete) a.1 })
-      ],
-    )
-
--- a slot is taken for it
-taken_next : (s : Store) (i : ℕ) (ahead : Held) → i < length s.kept → 1 ≤ length ahead.complete → KeepsNext (held s i) ahead (begun_for i ahead) → IsNext s (taken s (outline i (entry_by (Some ahead)))) i ahead
-taken_next s i ahead there some next =
-    record {
-      kept = begun_for i ahead;
-      held_now = get_or-set_same s.kept i (Some (begun_for i ahead)) None there;
-      next = next;
-      version = refl;
-      pages = refl;
-      crc = refl;
-      less = omega (arith, some);
-      others = λ j other. get_or-set_other s.kept i j (Some (begun_for i ahead)) None other;
-      places = length-set s.kept i (Some (begun_for i ahead));
-      app = refl;
-      gesture = refl;
-    }
-
-next_by : (o : Option Held) (s : Store) (i : ℕ) (ahead : Held) → held s i ≡ o → i < length s.kept → ahead_of (entry_by (Some ahead)) o ≡ true
-    → IsNext s (cond (is_version o ahead.version) s (taken s (outline i (entry_by (Some ahead))))) i ahead
-next_by None s i ahead is there e =
-    taken_next s i ahead there (leb-true 1 (length ahead.complete) e) (subst (λ o. KeepsNext o ahead (begun_for i ahead)) (sym is) (record { version = refl; pages = refl; crc = refl; complete = refl }))
-next_by (Some h) s i ahead is there e =
-    let parts = ahead_parts h ahead e in
-    let t = taken s (outline i (entry_by (Some ahead))) in
-    elim parts.1 [
-      | inl newer ↦
-          subst (λ b. IsNext s (cond b s t) i ahead) (sym (ne_eqb h.version ahead.version (λ q. omega (arith, newer, q))))
-          (taken_next s i ahead there parts.0 (subst (λ o. KeepsNext o ahead (begun_for i ahead)) (sym is) (inr (newer, record { version = refl; pages = refl; crc = refl; complete = refl }))))
-      | inr same ↦
-          subst (λ b. IsNext s (cond b s t) i ahead) (sym (eq-eqb h.version ahead.version (sym same.version)))
-          (record {
-            kept = h;
-            held_now = is;
-            next = subst (λ o. KeepsNext o ahead h) (sym is) (inl (sym same.version, refl));
-            version = sym same.version;
-            pages = sym same.pages;
-            crc = sym same.crc;
-            less = same.more;
-            others = λ j other. refl;
-            places = refl;
-            app = refl;
-            gesture = refl;
-          })
-    ]
-
--- ---- the order is heeded before
-
-abbrev heeds : Store → Order → Bool
-heeds s o = ltb s.order.number o.number && leb 1 s.room
-
-abbrev heeded : Store → Order → Store
-heeded s o = cond (heeds s o) (ordered s o) s
-
--- an order changes nothing of this
-record SameBut (s t : Store) : Type 0 where
-  kept : t.kept ≡ s.kept
-  app : t.app ≡ s.app
-  gesture : t.gesture ≡ s.gesture
-
-same_heeded : (b : Bool) (s : Store) (o : Order) → SameBut s (cond b (ordered s o) s)
-same_heeded true s o = record { kept = refl; app = refl; gesture = refl }
-same_heeded false s o = record { kept = refl; app = refl; gesture = refl }
+use Rattle.dg_mote.proofs.RoundNext.{found, asked_store, IsNext, next_by, heeds, heeded, same_heeded}
 
 -- ---- what it hears
 
@@ -232,7 +87,7 @@ module _ (laws : ActLaws) where
 
   -- the summary of another mote, of either width, is heard as an advert of its entries and its order
   hears_summary : (wide : Bool) (m : MoteState) (here : Store) (now id : ℕ) (s : Store) → id ≢ m.id
-      → by_message (Ok (advert_of id wide s)) m here now 0 ≡ on_advert m.mode m here now 0 id (entries_of wide s) (own_order wide s)
+      → by_message (Ok (advert_of id wide s)) m here now 0 ≡ on_advert m.mode m here now 0 (offer id (entries_of wide s)) (own_order wide s)
   hears_summary true m here now id s other = ap (λ b. cond b (dropped m here) (on_message m here now 0 (advert_of id true s))) (ne_eqb id m.id other)
   hears_summary false m here now id s other = ap (λ b. cond b (dropped m here) (on_message m here now 0 (advert_of id false s))) (ne_eqb id m.id other)
 
@@ -255,17 +110,17 @@ module _ (laws : ActLaws) where
     abbrev s1 : Store
     s1 = heeded x.store order
 
-    hears_advert : id ≢ x.mote.id → x.mote.mode ≡ Maintain timer → hears x now summary ≡ spot_of (behind t (by_ahead (ahead_in entries s1) x.mote timer s1 now 0 id entries own))
+    hears_advert : id ≢ x.mote.id → x.mote.mode ≡ Maintain timer → hears x now summary ≡ spot_of (turn_behind t (by_ahead (ahead_in entries s1) x.mote s1 now 0 (offer id entries) (noting x.mote timer s1 now 0 own)))
     unfolding hears advert_heard
     hears_advert other is =
         ap spot_of (
         hears_summary x.mote.wide x.mote x.store now id s other
-        ∙ ap (λ k. on_advert k x.mote x.store now 0 id entries order) is
-        ∙ ap (λ c. behind t (by_ahead (ahead_in entries c) x.mote timer c now 0 id entries own)) (last_heed x.store order))
+        ∙ ap (λ k. on_advert k x.mote x.store now 0 (offer id entries) order) is
+        ∙ ap (λ c. turn_behind t (by_ahead (ahead_in entries c) x.mote c now 0 (offer id entries) (noting x.mote timer c now 0 own))) (last_heed x.store order))
 
     ahead_same : ahead_in entries s1 ≡ ahead_in entries x.store
     unfolding ahead_in
-    ahead_same = ap (λ ks. find (λ i. ahead_of (entry_for entries i) (get_or ks i None)) (named entries)) (same_heeded (heeds x.store order) x.store order).kept
+    ahead_same = ap (λ ks. find (λ i. advertiser_ahead (entry_for entries i) (get_or ks i None)) (named entries)) (same_heeded (heeds x.store order) x.store order).kept
 
     abbrev e_of : ℕ → Entry
     e_of i = entry_for entries i
@@ -274,11 +129,11 @@ module _ (laws : ActLaws) where
     may i = asks x.mote s1 now i (e_of i)
 
     hears_ahead : (i : ℕ) → id ≢ x.mote.id → x.mote.mode ≡ Maintain timer → ahead_in entries x.store ≡ Some i
-        → hears x now summary ≡ spot_of (behind t (cond (may i) (asking x.mote s1 now 0 id i (e_of i)) (noting x.mote timer s1 now 0 own)))
-    hears_ahead i other is a = hears_advert other is ∙ ap (λ o. spot_of (behind t (by_ahead o x.mote timer s1 now 0 id entries own))) (ahead_same ∙ a)
+        → hears x now summary ≡ spot_of (turn_behind t (cond (may i) (asking x.mote s1 now 0 id i (e_of i)) (noting x.mote timer s1 now 0 own)))
+    hears_ahead i other is a = hears_advert other is ∙ ap (λ o. spot_of (turn_behind t (by_ahead o x.mote s1 now 0 (offer id entries) (noting x.mote timer s1 now 0 own)))) (ahead_same ∙ a)
 
     -- it would not ask only where there is no room
-    quiet_store : (b : Bool) → last (behind t (noting x.mote timer s1 now 0 b)).trail ≡ s1
+    quiet_store : (b : Bool) → last (turn_behind t (noting x.mote timer s1 now 0 b)).trail ≡ s1
     quiet_store true = last-joined t (resting s1 0) (last_heed x.store order) ∙ last-resting s1 0
     quiet_store false = last-joined t (resting s1 0) (last_heed x.store order) ∙ last-resting s1 0
 
@@ -287,7 +142,7 @@ module _ (laws : ActLaws) where
       | inl agreed ↦ agreed
       | inr none ↦
           let same : (hears x now summary).store ≡ s1 =
-          ap (λ (z : Spot). z.store) (hears_ahead i other is a ∙ ap (λ b. spot_of (behind t (cond b (asking x.mote s1 now 0 id i (e_of i)) (noting x.mote timer s1 now 0 own)))) none) ∙ quiet_store own in
+          ap (λ (z : Spot). z.store) (hears_ahead i other is a ∙ ap (λ b. spot_of (turn_behind t (cond b (asking x.mote s1 now 0 id i (e_of i)) (noting x.mote timer s1 now 0 own)))) none) ∙ quiet_store own in
           let left : spare_room ≤ s1.room = subst (λ (c : Store). spare_room ≤ c.room) same room in
           λ i0. d.windows now i (omega arith) i0 && or_right (is_version (held s1 i) (e_of i).version) (leb 2 s1.room) (le-leb 2 s1.room (omega (arith, left))) i0
     ]
@@ -299,8 +154,8 @@ module _ (laws : ActLaws) where
         → let f = asked_store s1 i (entry_by (Some ahead)) in hears x now summary ≡ record { store = f; mote = asker i (done_of (held f i)) ahead.version }
     hears_asks i ahead other is a agreed same =
         hears_ahead i other is a
-        ∙ ap (λ b. spot_of (behind t (cond b (asking x.mote s1 now 0 id i (e_of i)) (noting x.mote timer s1 now 0 own)))) agreed
-        ∙ ap (λ e. spot_of (behind t (asking x.mote s1 now 0 id i e))) same
+        ∙ ap (λ b. spot_of (turn_behind t (cond b (asking x.mote s1 now 0 id i (e_of i)) (noting x.mote timer s1 now 0 own)))) agreed
+        ∙ ap (λ e. spot_of (turn_behind t (asking x.mote s1 now 0 id i e))) same
         ∙ ap (λ c. record { store = c; mote = asker i (done_of (held (last (ask_trail s1 i (entry_by (Some ahead)))) i)) ahead.version })
         (last-joined t (ask_trail s1 i (entry_by (Some ahead))) (last_heed x.store order ∙ sym (first_ask s1 i (entry_by (Some ahead)))))
         ∙ ap (λ c. record { store = c; mote = asker i (done_of (held c i)) ahead.version }) (last_ask s1 i (entry_by (Some ahead)))
@@ -375,7 +230,7 @@ asks_law laws table x now id s i w d a other is room =
     let f = asked_store st i (entry_by (Some ahead)) in
     let same = hears_asks laws x now id s d.timer i ahead other d.maintains is agreed fo.entry in
     let held_st : (j : ℕ) → held st j ≡ held x.store j = λ j. ap (λ k. get_or k j None) keeps.kept in
-    let n = next_by (held st i) st i ahead refl (omega (arith, fo.to, w.store.places, ap length keeps.kept)) (ap (ahead_of (entry_by (Some ahead))) (held_st i) ∙ fo.is_ahead) in
+    let n = next_by (held st i) st i ahead refl (omega (arith, fo.to, w.store.places, ap length keeps.kept)) (ap (advertiser_ahead (entry_by (Some ahead))) (held_st i) ∙ fo.is_ahead) in
     let nx : IsNext x.store f i ahead =
     record {
       kept = n.kept;

@@ -11,7 +11,7 @@ use Rattle.dg_volume.specs.Start.{Boot, boot, boot_counted, counts, count_trail,
 use Rattle.dg_volume.specs.Ends.{BootEnds, ordered_runs, order_started, blank_commits}
 use Rattle.dg_volume.specs.declared.volume.Kind.{Kind}
 use Rattle.dg_volume.specs.declared.volume.Kind.TheVariants as kind
-use Rattle.dg_mote.specs.Model.{Turn, begun}
+use Rattle.dg_mote.specs.Model.{Turn, begun_mote}
 use Rattle.dg_mote.specs.Ticks.{tick_of}
 use Rattle.dg_mote.specs.Effects.{Effect, boot_by}
 use Rattle.dg_mote.specs.Spots.{Spot, ticked}
@@ -39,12 +39,12 @@ module _ (laws : OrderLaws) where
 
   pub restarts : (x : Spot) (now : ℕ) → tick_of x.mote x.store now 0 ≡ record { mote = x.mote; trail = resting x.store 0; sent = None; answer = Restart }
       → x.store.gesture ≡ 0 → order_waits x.store ≡ true → sound x.store x.store.order.image ≡ true
-      → ticked x now ≡ record { store = order_started x.store; mote = begun x.mote.id x.mote.wide now 0 }
+      → ticked x now ≡ record { store = order_started x.store; mote = begun_mote x.mote.id x.mote.wide now 0 }
   unfolding last_of
   restarts x now e g waits fine =
       ticked_by x now step e
       ∙ ap (λ o. spot_from x.mote (restart (boot_by o b.trail x.mote.id x.mote.wide now 0))) ends.started
-      ∙ ap (λ c. record { store = c; mote = begun x.mote.id x.mote.wide now 0 }) (last-joined (resting x.store 0) b.trail (sym (laws.begins kind.Order x.store).first) ∙ ends.ends)
+      ∙ ap (λ c. record { store = c; mote = begun_mote x.mote.id x.mote.wide now 0 }) (last-joined (resting x.store 0) b.trail (sym (laws.begins kind.Order x.store).first) ∙ ends.ends)
     where
       step : Turn Did
       step = record { mote = x.mote; trail = resting x.store 0; sent = None; answer = Restart }

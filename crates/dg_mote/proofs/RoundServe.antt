@@ -16,7 +16,7 @@ use Rattle.dg_volume.specs.Start.{complete_pages}
 use Rattle.dg_frame.specs.declared.Message.{Message}
 use Rattle.dg_frame.specs.declared.Message.TheVariants.{Packet, Request}
 use Rattle.dg_mote.specs.Model.{MoteState, Maintain, Transmit, Sending, maintains, Turn}
-use Rattle.dg_mote.specs.Ticks.{clears, sends, serving, stored, transmit_by}
+use Rattle.dg_mote.specs.Ticks.{clears, sends_message, serving, stored, transmit_by}
 use Rattle.dg_mote.specs.Effects.{Effect, on, tick_by, tick_effect}
 use Rattle.dg_mote.specs.Spots.{Spot, pace, tick_at, ticked, after_ticks, mote_or, hears}
 use Rattle.dg_slot.specs.Layout.{packets}
@@ -24,7 +24,7 @@ use Rattle.dg_mote.specs.Completing.{SendsEach, packet_message, ServesPage}
 use Rattle.dg_mote.specs.Drained.{Drained}
 use Rattle.dg_mote.specs.Hears.{on_message}
 use Rattle.dg_mote.specs.Adverts.{dropped}
-use Rattle.dg_mote.specs.Requests.{can_serve, to_it, overheard}
+use Rattle.dg_mote.specs.Requests.{can_serve, to_it, overheard, page_request}
 use Rattle.dg_mote.specs.declared.mote.Heard.{Heard}
 use Rattle.dg_mote.specs.declared.mote.Heard.TheVariants.{Serves}
 use Rattle.dg_trickle.specs.Timer.{Timer}
@@ -81,7 +81,7 @@ abbrev sending : (image version page : ℕ) → Owed → Sending
 sending image version page owed = record { image = image; version = version; page = page; owed = owed }
 
 tick_sends : (x : Spot) (now q : ℕ) (t : Sending) → x.mote.mode ≡ Transmit t → clears x.mote x.store now ≡ false → least t.owed.left ≡ Some q → t.owed.due ≤ now
-    → tick_at x now ≡ on (sends (serving x.mote t now 0) x.store (Packet x.mote.id t.image t.version t.page q (stored x.store t q)))
+    → tick_at x now ≡ on (sends_message (serving x.mote t now 0) x.store (Packet x.mote.id t.image t.version t.page q (stored x.store t q)))
 unfolding tick_effect
 tick_sends x now q t is g l due =
     ap (λ step. tick_by step.answer step now 0) (tick_by_mode x now (Transmit t) g is ∙ (λ i. transmit_by (serve_by (l i) (le-ltb now t.owed.due due i)) x.mote t x.store now 0))
@@ -175,8 +175,8 @@ unfolding hears last_of
 hears_request x now sender image page h timer other is kept less =
     ap spot_of (
     ap (λ b. cond b (dropped x.mote x.store) (on_message x.mote x.store now 0 message)) (ne_eqb sender x.mote.id other)
-    ∙ ap (λ b. cond b (to_it x.mote.mode x.mote x.store now image h.version page (below packets)) (overheard x.mote x.store now image h.version page)) (eq-eqb x.mote.id x.mote.id refl)
-    ∙ ap (λ k. to_it k x.mote x.store now image h.version page (below packets)) is
+    ∙ ap (λ b. cond b (to_it x.mote.mode x.mote x.store now (page_request image h.version page (below packets))) (overheard x.mote x.store now image h.version page)) (eq-eqb x.mote.id x.mote.id refl)
+    ∙ ap (λ k. to_it k x.mote x.store now (page_request image h.version page (below packets))) is
     ∙ ap (λ b. cond b serves (dropped x.mote x.store)) can)
   where
     message : Message

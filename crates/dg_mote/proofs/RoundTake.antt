@@ -23,10 +23,9 @@ use Rattle.dg_volume.specs.RowLaws.{RowsFit}
 use Rattle.dg_frame.specs.declared.Message.{Message}
 use Rattle.dg_frame.specs.declared.Message.TheVariants.{Packet}
 use Rattle.dg_mote.specs.Model.{Receive, Receiving, Turn, came, maintains}
-use Rattle.dg_mote.specs.Ticks.{packet_of}
 use Rattle.dg_mote.specs.Hears.{on_message}
 use Rattle.dg_mote.specs.Adverts.{dropped}
-use Rattle.dg_mote.specs.Packets.{is_wanted, takes, accepted, seal_by, on_packet}
+use Rattle.dg_mote.specs.Packets.{is_wanted, takes, accepted, seal_by, on_packet, page_packet}
 use Rattle.dg_mote.specs.Agreement.{ReceivesRow, ModeAgrees}
 use Rattle.dg_mote.specs.Spots.{Spot, SpotIsWell, pace, hears, hears_all}
 use Rattle.dg_mote.specs.Completing.{packet_message, AsksPage}
@@ -38,6 +37,7 @@ use Rattle.dg_mote.proofs.PacketLemmas.{AreOf, put_are_of, makes_page}
 use Rattle.dg_mote.proofs.FillLemmas.{came_put}
 use Rattle.dg_mote.proofs.AdvertLemmas.{no_places, none_came, no_packet}
 use Rattle.dg_mote.proofs.RoundTicks.{spot_of}
+use Rattle.dg_volume.specs.Filling.{packet_of}
 
 -- ---- the packets that came
 
@@ -76,7 +76,7 @@ unfolding hears
 hears_packet x now sender q r bytes other is missing =
     ap spot_of (
     ap (λ b. cond b (dropped x.mote x.store) (on_message x.mote x.store now 0 (Packet sender r.image r.version r.page q bytes))) (ne_eqb sender x.mote.id other)
-    ∙ ap (λ k. on_packet k x.mote x.store now 0 r.image r.version r.page q bytes) is
+    ∙ ap (λ k. on_packet k x.mote x.store now 0 (page_packet r.image r.version r.page q bytes)) is
     ∙ ap (λ b. cond b (takes x.mote r x.store now 0 q bytes) (dropped x.mote x.store)) wanted)
   where
     wanted : is_wanted r r.image r.version r.page q ≡ true

@@ -35,8 +35,8 @@ use Rattle.dg_mote.specs.Model.{MoteState, Mode, Maintain, Receive, Transmit, Re
 use Rattle.dg_mote.specs.Summary.{entries_of, own_order, advert_by, advert_of}
 use Rattle.dg_mote.specs.Ticks.{clears, maintain_by, receive_by, stored, transmit_by, mode_tick, tick_of}
 use Rattle.dg_mote.specs.Adverts.{dropped}
-use Rattle.dg_mote.specs.Requests.{next_by, is_of_use, concerns, overheard, can_serve, is_served, to_it}
-use Rattle.dg_mote.specs.Packets.{on_packet}
+use Rattle.dg_mote.specs.Requests.{next_page_by, is_of_use, concerns, overheard, can_serve, is_served, to_it, page_request}
+use Rattle.dg_mote.specs.Packets.{on_packet, page_packet}
 use Rattle.dg_mote.specs.Hears.{heard_of}
 use Rattle.dg_mote.specs.Rules.{IsOfUse, HasPage, AsksFor, MayRestart}
 use Rattle.dg_mote.specs.declared.mote.Did.{Did}
@@ -71,7 +71,7 @@ kept_use h version page false false e f = (
   λ u. ⊎_elim (λ (k : OfKept h version page). absurd (eqb-false h.version version (sym e) k.0)) (λ (k : OfNewer h version page). absurd (omega (arith, k.0, ltb-false h.version version (sym f)))) u,
 )
 
-use_by : (o : Option Held) (version page : ℕ) → (is_of_use (next_by o version) page ≡ true) ↔ IsOfUse o version page
+use_by : (o : Option Held) (version page : ℕ) → (is_of_use (next_page_by o version) page ≡ true) ↔ IsOfUse o version page
 use_by None version page = (λ e. omega (arith, leb-true page 0 e), λ e. le-leb page 0 (omega (arith, e)))
 use_by (Some h) version page = kept_use h version page (h.version == version) (nat_lt h.version version) refl refl
 
@@ -84,14 +84,14 @@ pub request_overheard : (m : MoteState) (s : Store) (now word : ℕ) (bytes : Li
     → IsOfUse (held s image) version page → heard_of m s now word bytes ≡ record { mote = record m { noted = with_request m.noted now image }; trail = resting s 0; sent = None; answer = Noted }
 request_overheard m s now word bytes source to image version page want e other not_me of_use =
     read_as (Request source to image version page want) m s now word bytes e other
-    ∙ cond-false (to == m.id) (to_it m.mode m s now image version page want) (overheard m s now image version page) (ne_eqb to m.id not_me)
+    ∙ cond-false (to == m.id) (to_it m.mode m s now (page_request image version page want)) (overheard m s now image version page) (ne_eqb to m.id not_me)
     ∙ cond-true (concerns s image version page) _ (dropped m s) ((concerns_is s image version page).1 of_use)
 
 pub packet_overheard : (m : MoteState) (s : Store) (timer : Timer) (now word : ℕ) (bytes : List ℕ) (source image version page q : ℕ) (content : List ℕ) → message_of bytes m.wide ≡ Ok (Packet source image version page q content) → source ≢ m.id → m.mode ≡ Maintain timer
     → IsOfUse (held s image) version page → heard_of m s now word bytes ≡ record { mote = record m { noted = with_packet m.noted now image }; trail = resting s 0; sent = None; answer = Noted }
 packet_overheard m s timer now word bytes source image version page q content e other is of_use =
     read_as (Packet source image version page q content) m s now word bytes e other
-    ∙ ap (λ mode. on_packet mode m s now word image version page q content) is
+    ∙ ap (λ mode. on_packet mode m s now word (page_packet image version page q content)) is
     ∙ cond-true (concerns s image version page) _ (dropped m s) ((concerns_is s image version page).1 of_use)
 
 -- ---- what is served
@@ -102,8 +102,8 @@ union_owed m s t now word bytes source want e other is =
     let served : is_served t t.image t.version t.page ≡ true =
     and_from ((t.image == t.image) && (t.version == t.version)) (t.page == t.page) (and_from (t.image == t.image) (t.version == t.version) (eq-eqb t.image t.image refl) (eq-eqb t.version t.version refl)) (eq-eqb t.page t.page refl) in
     read_as (Request source m.id t.image t.version t.page want) m s now word bytes e other
-    ∙ cond-true (m.id == m.id) (to_it m.mode m s now t.image t.version t.page want) (overheard m s now t.image t.version t.page) (eq-eqb m.id m.id refl)
-    ∙ ap (λ mode. to_it mode m s now t.image t.version t.page want) is
+    ∙ cond-true (m.id == m.id) (to_it m.mode m s now (page_request t.image t.version t.page want)) (overheard m s now t.image t.version t.page) (eq-eqb m.id m.id refl)
+    ∙ ap (λ mode. to_it mode m s now (page_request t.image t.version t.page want)) is
     ∙ cond-true (is_served t t.image t.version t.page) _ (dropped m s) served
 
 serve_by_kept : (o : Option Held) (s : Store) (image version page : ℕ) → held s image ≡ o → HasPage s image version page → (is_version o version && nat_lt page (done_of o)) ≡ true
@@ -120,11 +120,11 @@ can_serve_is s image version page = (
 )
 
 to_me : (m : MoteState) (s : Store) (timer : Timer) (now word : ℕ) (bytes : List ℕ) (source image version page : ℕ) (want : Numbers) → message_of bytes m.wide ≡ Ok (Request source m.id image version page want) → source ≢ m.id → m.mode ≡ Maintain timer
-    → heard_of m s now word bytes ≡ to_it (Maintain timer) m s now image version page want
+    → heard_of m s now word bytes ≡ to_it (Maintain timer) m s now (page_request image version page want)
 to_me m s timer now word bytes source image version page want e other is =
     read_as (Request source m.id image version page want) m s now word bytes e other
-    ∙ cond-true (m.id == m.id) (to_it m.mode m s now image version page want) (overheard m s now image version page) (eq-eqb m.id m.id refl)
-    ∙ ap (λ mode. to_it mode m s now image version page want) is
+    ∙ cond-true (m.id == m.id) (to_it m.mode m s now (page_request image version page want)) (overheard m s now image version page) (eq-eqb m.id m.id refl)
+    ∙ ap (λ mode. to_it mode m s now (page_request image version page want)) is
 
 pub page_served : (m : MoteState) (s : Store) (timer : Timer) (now word : ℕ) (bytes : List ℕ) (source image version page : ℕ) (want : Numbers) → message_of bytes m.wide ≡ Ok (Request source m.id image version page want) → source ≢ m.id → m.mode ≡ Maintain timer → HasPage s image version page
     → heard_of m s now word bytes ≡ record { mote = record m { mode = Transmit (record { image = image; version = version; page = page; owed = begun now want }) }; trail = resting s 0; sent = None; answer = Serves image page }

@@ -36,7 +36,7 @@ use Rattle.dg_frame.specs.declared.Message.{Message}
 use Rattle.dg_frame.specs.declared.Message.TheVariants.{Request, Packet}
 use Rattle.dg_mote.specs.Model.{MoteState, Mode, Maintain, Receive, Transmit, NamesKnown, Receiving, Sending, came, reception, Turn}
 use Rattle.dg_mote.specs.Summary.{no_entry, entry_by, entries_of, own_order, advert_of}
-use Rattle.dg_mote.specs.Ticks.{clears, maintain_by, receive_by, packet_of, stored, transmit_by, mode_tick, tick_of}
+use Rattle.dg_mote.specs.Ticks.{clears, maintain_by, receive_by, stored, transmit_by, mode_tick, tick_of}
 use Rattle.dg_mote.specs.Timely.{ModeTimely}
 use Rattle.dg_mote.specs.Agreement.{ReceivesRow, Serves, ModeAgrees}
 use Rattle.dg_mote.specs.Well.{StoreIsWell}
@@ -46,6 +46,7 @@ use Rattle.dg_mote.specs.declared.mote.Did.{Did}
 use Rattle.dg_mote.proofs.RowLemmas.{TableLaws, keeps_row, few_complete, complete_page}
 use Rattle.dg_mote.proofs.CameLemmas.{came_below, full_of}
 use Rattle.dg_mote.proofs.KeepLemmas.{entry_is, length_entries}
+use Rattle.dg_volume.specs.Filling.{packet_of}
 
 -- what is promised below of rows and frames
 pub record SpellLaws : Type 0 where

@@ -21,11 +21,10 @@ use Rattle.dg_frame.specs.declared.Message.TheVariants.{Advert, Request, Packet,
 use Rattle.dg_frame.specs.declared.FrameFault.{FrameFault}
 use Rattle.dg_mote.specs.Model.{MoteState, Mode, Maintain, Receive, Transmit, Receiving, came, Turn}
 use Rattle.dg_mote.specs.Summary.{entry_for, is_own, ahead_in}
-use Rattle.dg_mote.specs.Ticks.{packet_of}
 use Rattle.dg_mote.specs.Agreement.{ReceivesRow, ModeAgrees, HonestMessage, IsHonest}
-use Rattle.dg_mote.specs.Adverts.{heed_trail, asks, noting, by_ahead, advert_heard, on_advert}
-use Rattle.dg_mote.specs.Requests.{concerns, can_serve, is_served, to_it, on_request}
-use Rattle.dg_mote.specs.Packets.{is_wanted, accepted, seal_by, takes, on_packet}
+use Rattle.dg_mote.specs.Adverts.{heed_trail, asks, noting, by_ahead, advert_heard, on_advert, offer}
+use Rattle.dg_mote.specs.Requests.{concerns, can_serve, is_served, to_it, on_request, page_request}
+use Rattle.dg_mote.specs.Packets.{is_wanted, accepted, seal_by, takes, on_packet, page_packet}
 use Rattle.dg_mote.specs.Hears.{source_of, on_message, by_message, heard_of}
 use Rattle.dg_mote.specs.Well.{StoreIsWell}
 use Rattle.dg_mote.specs.declared.mote.Heard.{Heard}
@@ -33,6 +32,7 @@ use Rattle.dg_mote.specs.declared.mote.Heard.TheVariants.{Refused, Dropped, Note
 use Rattle.dg_mote.proofs.HeardLemmas.{honest_read}
 use Rattle.dg_mote.proofs.RowLemmas.{same_row}
 use Rattle.dg_mote.proofs.PacketLemmas.{AreOf, put_are_of, makes_page, wanted, PageLaws, ReceivesPage, receives_page}
+use Rattle.dg_volume.specs.Filling.{packet_of}
 
 abbrev NotBad : Heard → Type 0
 NotBad (Refused cause) = Unit {0}
@@ -54,23 +54,23 @@ noting_fine : (own : Bool) (m : MoteState) (timer : Timer) (s : Store) (now word
 noting_fine true m timer s now word = tt
 noting_fine false m timer s now word = tt
 
-ahead_fine : (o : Option ℕ) (m : MoteState) (timer : Timer) (s : Store) (now word source : ℕ) (entries : List Entry) (own : Bool) → Fine (by_ahead o m timer s now word source entries own)
+ahead_fine : (o : Option ℕ) (m : MoteState) (timer : Timer) (s : Store) (now word source : ℕ) (entries : List Entry) (own : Bool) → Fine (by_ahead o m s now word (offer source entries) (noting m timer s now word own))
 ahead_fine None m timer s now word source entries own = noting_fine own m timer s now word
 ahead_fine (Some i) m timer s now word source entries own = cond_both (asks m s now i (entry_for entries i)) _ _ Fine (λ _. tt) (λ _. noting_fine own m timer s now word)
 
-advert_fine : (mode : Mode) (m : MoteState) (s : Store) (now word source : ℕ) (entries : List Entry) (order : Order) → Fine (on_advert mode m s now word source entries order)
+advert_fine : (mode : Mode) (m : MoteState) (s : Store) (now word source : ℕ) (entries : List Entry) (order : Order) → Fine (on_advert mode m s now word (offer source entries) order)
 unfolding advert_heard
 advert_fine (Maintain timer) m s now word source entries order =
     let u = last (heed_trail s order) in ahead_fine (ahead_in entries u) m timer u now word source entries (is_own entries order m.wide s)
 advert_fine (Receive r) m s now word source entries order = tt
 advert_fine (Transmit t) m s now word source entries order = tt
 
-to_it_fine : (mode : Mode) (m : MoteState) (s : Store) (now image version page : ℕ) (want : Numbers) → Fine (to_it mode m s now image version page want)
+to_it_fine : (mode : Mode) (m : MoteState) (s : Store) (now image version page : ℕ) (want : Numbers) → Fine (to_it mode m s now (page_request image version page want))
 to_it_fine (Maintain timer) m s now image version page want = cond_both (can_serve s image version page) _ _ Fine (λ _. tt) (λ _. tt)
 to_it_fine (Transmit t) m s now image version page want = cond_both (is_served t image version page) _ _ Fine (λ _. tt) (λ _. tt)
 to_it_fine (Receive r) m s now image version page want = tt
 
-request_fine : (m : MoteState) (s : Store) (now to image version page : ℕ) (want : Numbers) → Fine (on_request m s now to image version page want)
+request_fine : (m : MoteState) (s : Store) (now to image version page : ℕ) (want : Numbers) → Fine (on_request m s now to (page_request image version page want))
 request_fine m s now to image version page want =
     cond_both (to == m.id) _ _ Fine (λ _. to_it_fine m.mode m s now image version page want) (λ _. cond_both (concerns s image version page) _ _ Fine (λ _. tt) (λ _. tt))
 
@@ -95,7 +95,7 @@ module _ (table : List Row) (is_table : IsTable table) (laws : PageLaws table) (
       (makes_page laws.whole (slice_index_or (object a.row) r.page []) after.packets (laws.long a.row r.page row_of (omega (arith, p.more, laws.count a.row))) are (eqb-true (set.len (came after.packets)) packets full)))
       (λ _. tt)
 
-  packet_fine : (mode : Mode) (m : MoteState) (source image version page q : ℕ) (bytes : List ℕ) → HonestMessage table (Ok (Packet source image version page q bytes)) → ModeAgrees table s mode → Fine (on_packet mode m s now word image version page q bytes)
+  packet_fine : (mode : Mode) (m : MoteState) (source image version page q : ℕ) (bytes : List ℕ) → HonestMessage table (Ok (Packet source image version page q bytes)) → ModeAgrees table s mode → Fine (on_packet mode m s now word (page_packet image version page q bytes))
   packet_fine (Receive r) m source image version page q bytes honest a =
       cond_both (is_wanted r image version page q) _ _ Fine
       (λ is.

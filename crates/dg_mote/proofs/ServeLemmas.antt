@@ -22,9 +22,9 @@ use Rattle.dg_frame.specs.Sizes.{known_images}
 use Rattle.dg_mote.specs.Model.{MoteState, Mode, Maintain, Receive, Transmit, NamesKnown, Sending, Turn}
 use Rattle.dg_mote.specs.Adverts.{dropped}
 use Rattle.dg_mote.specs.Agreement.{Serves}
-use Rattle.dg_mote.specs.Requests.{can_serve, is_served, to_it}
+use Rattle.dg_mote.specs.Requests.{can_serve, is_served, to_it, page_request}
 use Rattle.dg_mote.specs.Motes.{IsMote, Transmits, ModeStands, Done}
-use Rattle.dg_mote.specs.Hearing.{Rests, StaysIf}
+use Rattle.dg_mote.specs.Hearing.{ChipStays, StaysIf}
 use Rattle.dg_mote.specs.declared.mote.Heard.{Heard}
 use Rattle.dg_mote.specs.declared.mote.Heard.TheVariants as heard
 use Rattle.dg_mote.specs.declared.mote.Mote.{Mote}
@@ -40,13 +40,13 @@ chosen b x y e = ap (λ (c : Bool). cond c x y) e
 pub passed : {A : Type 0} (b : Bool) (x y : A) → b ≡ false → cond b x y ≡ y
 passed b x y e = ap (λ (c : Bool). cond c x y) e
 
-pub rests_chosen : (b : Bool) (x y : Turn Heard) (c : List ℕ) (s : Store) (v : Mote) (a : Heard) → b ≡ true → Rests x c s v a → Rests (cond b x y) c s v a
-rests_chosen b x y c s v a e rests = subst (λ (t : Turn Heard). Rests t c s v a) (sym (chosen b x y e)) rests
+pub rests_chosen : (b : Bool) (x y : Turn Heard) (c : List ℕ) (s : Store) (v : Mote) (a : Heard) → b ≡ true → ChipStays x c s v a → ChipStays (cond b x y) c s v a
+rests_chosen b x y c s v a e rests = subst (λ (t : Turn Heard). ChipStays t c s v a) (sym (chosen b x y e)) rests
 
-pub rests_passed : (b : Bool) (x y : Turn Heard) (c : List ℕ) (s : Store) (v : Mote) (a : Heard) → b ≡ false → Rests y c s v a → Rests (cond b x y) c s v a
-rests_passed b x y c s v a e rests = subst (λ (t : Turn Heard). Rests t c s v a) (sym (passed b x y e)) rests
+pub rests_passed : (b : Bool) (x y : Turn Heard) (c : List ℕ) (s : Store) (v : Mote) (a : Heard) → b ≡ false → ChipStays y c s v a → ChipStays (cond b x y) c s v a
+rests_passed b x y c s v a e rests = subst (λ (t : Turn Heard). ChipStays t c s v a) (sym (passed b x y e)) rests
 
-pub rests_dropped : (c : List ℕ) (v : Mote) (m : MoteState) (s : Store) → IsMote c v m s → Rests (dropped m s) c s v heard.Dropped
+pub rests_dropped : (c : List ℕ) (v : Mote) (m : MoteState) (s : Store) → IsMote c v m s → ChipStays (dropped m s) c s v heard.Dropped
 rests_dropped c v m s is = record { trail = refl; mote = is; answers = refl }
 
 -- ---- it begins to serve
@@ -59,7 +59,7 @@ serves_by s (Some h) i version page owed is some can owes =
     record { not_golden = some; kept = h; held_here = is; version = same; complete = less; owed = owes }
 
 pub serving_now : (c : List ℕ) (v : Mote) (m : MoteState) (s : Store) (timer : Timer) (i version page now : ℕ) (want : Numbers) → 1 ≤ i → i ≤ known_images m.wide → want ≢ set.empty → IsMote c v m s → m.mode ≡ Maintain timer → can_serve s i version page ≡ true
-    → Rests (to_it (Maintain timer) m s now i version page want) c s (record v { mode = value.Transmit i version page (begun now want) }) (heard.Serves i page)
+    → ChipStays (to_it (Maintain timer) m s now (page_request i version page want)) c s (record v { mode = value.Transmit i version page (begun now want) }) (heard.Serves i page)
 serving_now c v m s timer i version page now want some high asks is mode can =
     let t : Sending = record { image = i; version = version; page = page; owed = begun now want } in
     let free : NothingLent v.volume = free_by v.mode m.mode mode is.mode in
@@ -113,7 +113,7 @@ some_left s t some none = some (ap set.len (nothing (set.empty_of_len (set.union
     nothing e = same_numbers s set.empty (λ q. either_false (set.contains s q) (set.contains t q) (sym (contains-both s t q) ∙ ap (λ x. set.contains x q) e ∙ contains-none q) ∙ sym (contains-none q))
 
 pub serving_more : (c : List ℕ) (v : Mote) (m : MoteState) (s : Store) (t : Sending) (i version page a b d now : ℕ) (owed : Owed) (want : Numbers) → IsMote c v m s → m.mode ≡ Transmit t → v.mode ≡ value.Transmit i version page owed
-    → i ≡ a → version ≡ b → page ≡ d → Rests (to_it (Transmit t) m s now a b d want) c s (record v { mode = value.Transmit i version page (after_merge owed want) }) heard.Merged
+    → i ≡ a → version ≡ b → page ≡ d → ChipStays (to_it (Transmit t) m s now (page_request a b d want)) c s (record v { mode = value.Transmit i version page (after_merge owed want) }) heard.Merged
 serving_more c v m s t i version page a b d now owed want is mode code one two three =
     let this = sends_this c v m s t i version page owed is mode code in
     let serves = this.transmits.serves in
@@ -137,7 +137,7 @@ serving_more c v m s t i version page a b d now owed want is mode code one two t
 
 -- it does not, where another page is asked for
 pub serving_other : (c : List ℕ) (v : Mote) (m : MoteState) (s : Store) (t : Sending) (i version page a b d now : ℕ) (owed : Owed) (want : Numbers) → IsMote c v m s → m.mode ≡ Transmit t → v.mode ≡ value.Transmit i version page owed
-    → (i ≢ a) ⊎ ((version ≢ b) ⊎ (page ≢ d)) → Rests (to_it (Transmit t) m s now a b d want) c s v heard.Dropped
+    → (i ≢ a) ⊎ ((version ≢ b) ⊎ (page ≢ d)) → ChipStays (to_it (Transmit t) m s now (page_request a b d want)) c s v heard.Dropped
 serving_other c v m s t i version page a b d now owed want is mode code other =
     let this = sends_this c v m s t i version page owed is mode code in
     let e : is_served t a b d ≡ false = other_key t.image t.version t.page (⊎_elim (λ n. inl (λ x. n (this.of_image ∙ x))) (λ r. inr (⊎_elim (λ n. inl (λ x. n (this.of_version ∙ x))) (λ n. inr (λ x. n (this.of_page ∙ x))) r)) other) in
@@ -148,7 +148,7 @@ serving_other c v m s t i version page a b d now owed want is mode code other =
 
 -- ---- a call that makes no operation
 
-pub rests_done : (turn : Turn Heard) (a : Device) (s : Store) (v : Mote) (answer : Heard) → Rests turn a.image s v answer → Done turn a a v answer
+pub rests_done : (turn : Turn Heard) (a : Device) (s : Store) (v : Mote) (answer : Heard) → ChipStays turn a.image s v answer → Done turn a a v answer
 rests_done turn a s v answer rests = record {
   ran = subst (λ (t : Trail Store). Ran (operations t) a a) (sym rests.trail) (subst (λ (n : ℕ). Ran n a a) (sym (operations-resting s 0)) (Ran-none a));
   mote = subst (λ (t : Trail Store). IsMote a.image v turn.mote (last t)) (sym rests.trail) (subst (IsMote a.image v turn.mote) (sym (last-resting s 0)) rests.mote);

@@ -19,9 +19,9 @@ use Rattle.dg_frame.specs.declared.Message.TheVariants.{Advert, Request, Packet,
 use Rattle.dg_frame.specs.declared.FrameFault.{FrameFault}
 use Rattle.dg_mote.specs.Model.{MoteState, Mode, Maintain, Receive, Transmit, Receiving, came, Turn}
 use Rattle.dg_mote.specs.Summary.{entry_for, is_own, ahead_in}
-use Rattle.dg_mote.specs.Adverts.{heed_trail, asks, noting, by_ahead, behind, advert_heard, dropped, on_advert}
-use Rattle.dg_mote.specs.Requests.{concerns, can_serve, is_served, to_it, on_request}
-use Rattle.dg_mote.specs.Packets.{is_wanted, accepted, seal_by, takes, on_packet}
+use Rattle.dg_mote.specs.Adverts.{heed_trail, asks, noting, by_ahead, turn_behind, advert_heard, dropped, on_advert, offer}
+use Rattle.dg_mote.specs.Requests.{concerns, can_serve, is_served, to_it, on_request, page_request}
+use Rattle.dg_mote.specs.Packets.{is_wanted, accepted, seal_by, takes, on_packet, page_packet}
 use Rattle.dg_mote.specs.Hears.{source_of, on_message, by_message, heard_of}
 use Rattle.dg_mote.specs.declared.mote.Heard.{Heard}
 use Rattle.dg_mote.specs.declared.mote.Heard.TheVariants.{Refused, Dropped, Noted, Same, Other, Asks, Serves, Merged, Took, Sealed, Bad}
@@ -47,30 +47,30 @@ pub record IsPlain (m : MoteState) (s : Store) (step : Turn Heard) : Type 0 wher
 dropped_plain : (m : MoteState) (s : Store) → IsPlain m s (dropped m s)
 dropped_plain m s = record { silent = refl; unchanged = (refl, refl) }
 
-noting_plain : (own : Bool) (m : MoteState) (timer : Timer) (s from : Store) (now word : ℕ) (t : Trail Store) → IsPlain m from (behind t (noting m timer s now word own))
+noting_plain : (own : Bool) (m : MoteState) (timer : Timer) (s from : Store) (now word : ℕ) (t : Trail Store) → IsPlain m from (turn_behind t (noting m timer s now word own))
 noting_plain true m timer s from now word t = record { silent = refl; unchanged = tt }
 noting_plain false m timer s from now word t = record { silent = refl; unchanged = tt }
 
-ahead_plain : (o : Option ℕ) (m : MoteState) (timer : Timer) (s from : Store) (now word source : ℕ) (entries : List Entry) (own : Bool) (t : Trail Store) → IsPlain m from (behind t (by_ahead o m timer s now word source entries own))
+ahead_plain : (o : Option ℕ) (m : MoteState) (timer : Timer) (s from : Store) (now word source : ℕ) (entries : List Entry) (own : Bool) (t : Trail Store) → IsPlain m from (turn_behind t (by_ahead o m s now word (offer source entries) (noting m timer s now word own)))
 ahead_plain None m timer s from now word source entries own t = noting_plain own m timer s from now word t
 ahead_plain (Some i) m timer s from now word source entries own t =
-    cond_both (asks m s now i (entry_for entries i)) _ _ (λ (x : Turn Heard). IsPlain m from (behind t x)) (λ _. record { silent = refl; unchanged = tt }) (λ _. noting_plain own m timer s from now word t)
+    cond_both (asks m s now i (entry_for entries i)) _ _ (λ (x : Turn Heard). IsPlain m from (turn_behind t x)) (λ _. record { silent = refl; unchanged = tt }) (λ _. noting_plain own m timer s from now word t)
 
-advert_plain : (mode : Mode) (m : MoteState) (s : Store) (now word source : ℕ) (entries : List Entry) (order : Order) → IsPlain m s (on_advert mode m s now word source entries order)
+advert_plain : (mode : Mode) (m : MoteState) (s : Store) (now word source : ℕ) (entries : List Entry) (order : Order) → IsPlain m s (on_advert mode m s now word (offer source entries) order)
 unfolding advert_heard
 advert_plain (Maintain timer) m s now word source entries order =
     let t = heed_trail s order in ahead_plain (ahead_in entries (last t)) m timer (last t) s now word source entries (is_own entries order m.wide s) t
 advert_plain (Receive r) m s now word source entries order = dropped_plain m s
 advert_plain (Transmit t) m s now word source entries order = dropped_plain m s
 
-to_it_plain : (mode : Mode) (m : MoteState) (s : Store) (now image version page : ℕ) (want : Numbers) → IsPlain m s (to_it mode m s now image version page want)
+to_it_plain : (mode : Mode) (m : MoteState) (s : Store) (now image version page : ℕ) (want : Numbers) → IsPlain m s (to_it mode m s now (page_request image version page want))
 to_it_plain (Maintain timer) m s now image version page want =
     cond_both (can_serve s image version page) _ _ (IsPlain m s) (λ _. record { silent = refl; unchanged = tt }) (λ _. dropped_plain m s)
 to_it_plain (Transmit t) m s now image version page want =
     cond_both (is_served t image version page) _ _ (IsPlain m s) (λ _. record { silent = refl; unchanged = tt }) (λ _. dropped_plain m s)
 to_it_plain (Receive r) m s now image version page want = dropped_plain m s
 
-request_plain : (m : MoteState) (s : Store) (now to image version page : ℕ) (want : Numbers) → IsPlain m s (on_request m s now to image version page want)
+request_plain : (m : MoteState) (s : Store) (now to image version page : ℕ) (want : Numbers) → IsPlain m s (on_request m s now to (page_request image version page want))
 request_plain m s now to image version page want =
     cond_both (to == m.id) _ _ (IsPlain m s) (λ _. to_it_plain m.mode m s now image version page want)
     (λ _. cond_both (concerns s image version page) _ _ (IsPlain m s) (λ _. record { silent = refl; unchanged = tt }) (λ _. dropped_plain m s))
@@ -80,7 +80,7 @@ seal_plain None m r s now word page = dropped_plain m s
 seal_plain (Some h) m r s now word page =
     cond_both (may_seal r.image h page) _ _ (IsPlain m s) (λ _. record { silent = refl; unchanged = tt }) (λ _. record { silent = refl; unchanged = tt })
 
-packet_plain : (mode : Mode) (m : MoteState) (s : Store) (now word image version page q : ℕ) (bytes : List ℕ) → IsPlain m s (on_packet mode m s now word image version page q bytes)
+packet_plain : (mode : Mode) (m : MoteState) (s : Store) (now word image version page q : ℕ) (bytes : List ℕ) → IsPlain m s (on_packet mode m s now word (page_packet image version page q bytes))
 packet_plain (Receive r) m s now word image version page q bytes =
     let a = accepted r now q bytes in
     cond_both (is_wanted r image version page q) (takes m r s now word q bytes) (dropped m s) (IsPlain m s)

@@ -14,7 +14,7 @@ use Rattle.dg_trickle.specs.declared.Act.TheVariants as act
 use Rattle.dg_recv.specs.Steps.{ask_of}
 use Rattle.dg_recv.specs.declared.Ask.{Ask}
 use Rattle.dg_recv.specs.declared.Ask.TheVariants as ask
-use Rattle.dg_send.specs.Steps.{serve_of, after_next, begun as serving_begun, after_merge}
+use Rattle.dg_send.specs.Steps.{serve_of, after_next, begun, after_merge}
 use Rattle.dg_send.specs.declared.Serve.{Serve}
 use Rattle.dg_send.specs.declared.Serve.TheVariants as serve
 use Rattle.dg_quiet.specs.Noted.{with_request, with_packet}
@@ -44,9 +44,9 @@ use Rattle.dg_frame.specs.declared.FrameFault.{FrameFault}
 use Rattle.dg_mote.specs.Model.{MoteState, Mode, Maintain, Receive, Transmit, NamesKnown, Receiving, Sending, came, reception, maintains, Turn}
 use Rattle.dg_mote.specs.Summary.{entry_for, is_own, ahead_in}
 use Rattle.dg_mote.specs.Ticks.{clears, maintain_by, asked, receive_by, serving, transmit_by, mode_tick, tick_of}
-use Rattle.dg_mote.specs.Adverts.{outline, heed_trail, ask_trail, asks, asking, noting, by_ahead, advert_heard, dropped, on_advert}
-use Rattle.dg_mote.specs.Requests.{concerns, can_serve, is_served, to_it, on_request}
-use Rattle.dg_mote.specs.Packets.{is_wanted, accepted, seal_by, takes, on_packet}
+use Rattle.dg_mote.specs.Adverts.{outline, heed_trail, ask_trail, asks, asking, noting, by_ahead, advert_heard, dropped, on_advert, offer}
+use Rattle.dg_mote.specs.Requests.{concerns, can_serve, is_served, to_it, on_request, page_request}
+use Rattle.dg_mote.specs.Packets.{is_wanted, accepted, seal_by, takes, on_packet, page_packet}
 use Rattle.dg_mote.specs.Hears.{source_of, on_message, by_message, heard_of}
 use Rattle.dg_mote.specs.Effects.{Effect, boot_by, boots, reset_effect, tick_by, tick_effect, frame_effect}
 use Rattle.dg_mote.specs.Speaking.{OrderFits, ServerFits, Speaks, TurnSpeaks, EffectSpeaks}
@@ -178,7 +178,7 @@ noting_says true m timer s now word o = rests_as m (record m { mode = Maintain (
 noting_says false m timer s now word o = rests_as m (record m { mode = Maintain (after_other timer now word) }) s 0 None _ (refl, refl) o (tt, tt)
 
 ahead_says : (x : Option ℕ) (m : MoteState) (timer : Timer) (s : Store) (now word source : ℕ) (entries : List Entry) (own : Bool) → source < 2 ^ 16 → length entries ≤ known_images m.wide → ahead_in entries s ≡ x → TellsOrder s
-    → Says m (by_ahead x m timer s now word source entries own)
+    → Says m (by_ahead x m s now word (offer source entries) (noting m timer s now word own))
 ahead_says None m timer s now word source entries own small few is o = noting_says own m timer s now word o
 ahead_says (Some i) m timer s now word source entries own small few is o =
     let a = is_ahead entries s i is in
@@ -186,7 +186,7 @@ ahead_says (Some i) m timer s now word source entries own small few is o =
     (λ _. record { way = tells_ask s i (entry_for entries i) o; id_is = refl; wide_is = refl; mode = (small, (a.low, omega (arith, a.high, few))) })
     (λ _. noting_says own m timer s now word o)
 
-advert_says : (mode : Mode) (m : MoteState) (s : Store) (now word source : ℕ) (entries : List Entry) (order : Order) → source < 2 ^ 16 → length entries ≤ known_images m.wide → OrderFits order → TellsOrder s → ModeFits m.wide m.mode → Says m (on_advert mode m s now word source entries order)
+advert_says : (mode : Mode) (m : MoteState) (s : Store) (now word source : ℕ) (entries : List Entry) (order : Order) → source < 2 ^ 16 → length entries ≤ known_images m.wide → OrderFits order → TellsOrder s → ModeFits m.wide m.mode → Says m (on_advert mode m s now word (offer source entries) order)
 unfolding advert_heard
 advert_says (Maintain timer) m s now word source entries order small few fits o server =
     let t = heed_trail s order in
@@ -196,16 +196,16 @@ advert_says (Maintain timer) m s now word source entries order small few fits o 
 advert_says (Receive r) m s now word source entries order small few fits o server = rests m s 0 None _ o server
 advert_says (Transmit t) m s now word source entries order small few fits o server = rests m s 0 None _ o server
 
-to_it_says : (mode : Mode) (m : MoteState) (s : Store) (now image version page : ℕ) (want : Numbers) → (1 ≤ image) × (image ≤ known_images m.wide) → TellsOrder s → ModeFits m.wide m.mode → ModeFits m.wide mode → Says m (to_it mode m s now image version page want)
+to_it_says : (mode : Mode) (m : MoteState) (s : Store) (now image version page : ℕ) (want : Numbers) → (1 ≤ image) × (image ≤ known_images m.wide) → TellsOrder s → ModeFits m.wide m.mode → ModeFits m.wide mode → Says m (to_it mode m s now (page_request image version page want))
 to_it_says (Maintain timer) m s now image version page want known o server fits =
     cond_both (can_serve s image version page) _ _ (λ (x : Turn Heard). Says m x)
-    (λ _. rests_as m (record m { mode = Transmit (record { image = image; version = version; page = page; owed = serving_begun now want }) }) s 0 None _ (refl, refl) o (tt, known)) (λ _. rests m s 0 None _ o server)
+    (λ _. rests_as m (record m { mode = Transmit (record { image = image; version = version; page = page; owed = begun now want }) }) s 0 None _ (refl, refl) o (tt, known)) (λ _. rests m s 0 None _ o server)
 to_it_says (Transmit t) m s now image version page want known o server fits =
     cond_both (is_served t image version page) _ _ (λ (x : Turn Heard). Says m x)
     (λ _. rests_as m (record m { mode = Transmit (record t { owed = after_merge t.owed want }) }) s 0 None _ (refl, refl) o fits) (λ _. rests m s 0 None _ o server)
 to_it_says (Receive r) m s now image version page want known o server fits = rests m s 0 None _ o server
 
-request_says : (m : MoteState) (s : Store) (now to image version page : ℕ) (want : Numbers) → (1 ≤ image) × (image ≤ known_images m.wide) → TellsOrder s → ModeFits m.wide m.mode → Says m (on_request m s now to image version page want)
+request_says : (m : MoteState) (s : Store) (now to image version page : ℕ) (want : Numbers) → (1 ≤ image) × (image ≤ known_images m.wide) → TellsOrder s → ModeFits m.wide m.mode → Says m (on_request m s now to (page_request image version page want))
 request_says m s now to image version page want known o server =
     cond_both (to == m.id) _ _ (λ (x : Turn Heard). Says m x) (λ _. to_it_says m.mode m s now image version page want known o server server)
     (λ _. cond_both (concerns s image version page) _ _ (λ (x : Turn Heard). Says m x)
@@ -223,7 +223,7 @@ seal_says (Some h) m r s now word page o server =
     })
     (λ _. rests_as m (maintains m now word) s 1 None _ (refl, refl) o (tt, tt))
 
-packet_says : (mode : Mode) (m : MoteState) (s : Store) (now word image version page q : ℕ) (bytes : List ℕ) → TellsOrder s → ModeFits m.wide m.mode → ModeFits m.wide mode → Says m (on_packet mode m s now word image version page q bytes)
+packet_says : (mode : Mode) (m : MoteState) (s : Store) (now word image version page q : ℕ) (bytes : List ℕ) → TellsOrder s → ModeFits m.wide m.mode → ModeFits m.wide mode → Says m (on_packet mode m s now word (page_packet image version page q bytes))
 packet_says (Receive r) m s now word image version page q bytes o own server =
     let a = accepted r now q bytes in
     cond_both (is_wanted r image version page q) (takes m r s now word q bytes) (dropped m s) (λ (x : Turn Heard). Says m x)

@@ -24,13 +24,13 @@ use Rattle.dg_frame.specs.declared.Message.{Message}
 use Rattle.dg_frame.specs.declared.Message.TheVariants.{Advert, Request, Packet, Wide}
 use Rattle.dg_frame.specs.declared.FrameFault.{FrameFault}
 use Rattle.dg_mote.specs.Model.{MoteState, Mode, Maintain, Receive, Transmit, Turn}
-use Rattle.dg_mote.specs.Summary.{entry_for, entry_by, named, same_entry, same_order, own_order, advert_by, is_own, ahead_of, ahead_in}
+use Rattle.dg_mote.specs.Summary.{entry_for, entry_by, named, same_entry, same_order, own_order, advert_by, is_own, advertiser_ahead, ahead_in}
 use Rattle.dg_mote.specs.Ticks.{clears, maintain_by, mode_tick, tick_of}
-use Rattle.dg_mote.specs.Adverts.{heed_trail, asks, asking, noting, by_ahead, behind, advert_heard, on_advert, dropped}
-use Rattle.dg_mote.specs.Requests.{concerns, can_serve, to_it}
-use Rattle.dg_mote.specs.Packets.{on_packet}
+use Rattle.dg_mote.specs.Adverts.{heed_trail, asks, asking, noting, by_ahead, turn_behind, advert_heard, on_advert, dropped, offer}
+use Rattle.dg_mote.specs.Requests.{concerns, can_serve, to_it, page_request}
+use Rattle.dg_mote.specs.Packets.{on_packet, page_packet}
 use Rattle.dg_mote.specs.Hears.{source_of, on_message, by_message, heard_of}
-use Rattle.dg_mote.specs.Rules.{Happens, Ticks, Hears, sent_in, IsSilent, IsInInterval, HappenIn}
+use Rattle.dg_mote.specs.Rules.{Happens, Ticks, Hears, sent_while, IsSilent, IsInInterval, HappenIn}
 use Rattle.dg_mote.specs.declared.mote.Did.{Did}
 use Rattle.dg_mote.specs.declared.mote.Heard.{Heard}
 use Rattle.dg_mote.specs.declared.mote.Heard.TheVariants.{Same}
@@ -50,7 +50,7 @@ advert_from true source entries order = refl
 advert_from false source entries order = refl
 
 pub advert_does : (m : MoteState) (s : Store) (now word : ℕ) (wide : Bool) (source : ℕ) (entries : List Entry) (order : Order)
-    → on_message m s now word (advert_by wide source entries order) ≡ on_advert m.mode m s now word source entries order
+    → on_message m s now word (advert_by wide source entries order) ≡ on_advert m.mode m s now word (offer source entries) order
 advert_does m s now word true source entries order = refl
 advert_does m s now word false source entries order = refl
 
@@ -62,7 +62,7 @@ none_found p q (x ∷ xs) not_both all =
     let parts = and_parts (q x) (list_all q xs) all in
     cond-false (p x) (Some x) (find p xs) (not_both x parts.0) ∙ none_found p q xs not_both parts.1
 
-same_not_ahead : (e : Entry) (o : Option Held) → same_entry e (entry_by o) ≡ true → ahead_of e o ≡ false
+same_not_ahead : (e : Entry) (o : Option Held) → same_entry e (entry_by o) ≡ true → advertiser_ahead e o ≡ false
 same_not_ahead e o same =
     let k = entry_by o in
     let a = and_parts ((e.version == k.version) && (e.pages == k.pages) && (e.have == k.have)) (e.crc == k.crc) same in
@@ -70,10 +70,10 @@ same_not_ahead e o same =
     let c = and_parts (e.version == k.version) (e.pages == k.pages) b.0 in
     by_kept o (eqb-true e.version k.version c.0) (eqb-true e.have k.have b.1)
   where
-    by_kept : (o : Option Held) → e.version ≡ (entry_by o).version → e.have ≡ (entry_by o).have → ahead_of e o ≡ false
-    by_kept None version have = elim (cases_Bool (ahead_of e None)) [ inl is ↦ absurd (omega (arith, have, some_page e None is)) | inr not_ahead ↦ not_ahead ]
+    by_kept : (o : Option Held) → e.version ≡ (entry_by o).version → e.have ≡ (entry_by o).have → advertiser_ahead e o ≡ false
+    by_kept None version have = elim (cases_Bool (advertiser_ahead e None)) [ inl is ↦ absurd (omega (arith, have, some_page e None is)) | inr not_ahead ↦ not_ahead ]
     by_kept (Some h) version have =
-        elim (cases_Bool (ahead_of e (Some h))) [
+        elim (cases_Bool (advertiser_ahead e (Some h))) [
           | inl is ↦ absurd (omega (arith, have, (more_pages e h is (sym version)).1))
           | inr not_ahead ↦ not_ahead
         ]
@@ -90,7 +90,7 @@ own_not_ahead entries order wide s own =
     let parts = and_parts (list_all (λ i. same_entry (entry_for entries i) (entry_by (held s i))) (named entries)) (same_order order told) own in
     let two = and_parts ((order.number == told.number) && (order.image == told.image)) (order.version == told.version) parts.1 in
     let same = eqb-true order.number told.number (and_parts (order.number == told.number) (order.image == told.image) two.0).0 in (
-      none_found (λ i. ahead_of (entry_for entries i) (held s i)) (λ i. same_entry (entry_for entries i) (entry_by (held s i))) (named entries) (λ i same. same_not_ahead (entry_for entries i) (held s i) same) parts.0,
+      none_found (λ i. advertiser_ahead (entry_for entries i) (held s i)) (λ i. same_entry (entry_for entries i) (entry_by (held s i))) (named entries) (λ i same. same_not_ahead (entry_for entries i) (held s i) same) parts.0,
       omega (arith, same, own_not_better wide s),
     )
 
@@ -100,18 +100,18 @@ own_not_heeded s order same =
     ap (λ b. cond (b && nat_le 1 s.room) (order_trail s order) (resting s 0)) (le-ltb s.order.number order.number (omega (arith, same)))
 
 -- nothing comes before it
-behind_none : (s : Store) (m : MoteState) (answer : Heard) → behind (resting s 0) (record { mote = m; trail = resting (last (resting s 0)) 0; sent = None; answer = answer }) ≡ record { mote = m; trail = resting s 0; sent = None; answer = answer }
+behind_none : (s : Store) (m : MoteState) (answer : Heard) → turn_behind (resting s 0) (record { mote = m; trail = resting (last (resting s 0)) 0; sent = None; answer = answer }) ≡ record { mote = m; trail = resting s 0; sent = None; answer = answer }
 unfolding last_of
 behind_none s m answer = ap (λ (t : Trail Store). record { mote = m; trail = t; sent = None; answer = answer }) (joined_none (resting s 0))
 
 own_heard : (m : MoteState) (timer : Timer) (s : Store) (now word source : ℕ) (entries : List Entry) (order : Order) → is_own entries order m.wide s ≡ true
-    → advert_heard m timer s now word source entries order ≡ record { mote = record m { mode = Maintain (after_same timer) }; trail = resting s 0; sent = None; answer = Same }
+    → advert_heard m timer s now word (offer source entries) order ≡ record { mote = record m { mode = Maintain (after_same timer) }; trail = resting s 0; sent = None; answer = Same }
 unfolding advert_heard
 own_heard m timer s now word source entries order own =
     let facts = own_not_ahead entries order m.wide s own in
-    ap (λ (t : Trail Store). behind t (by_ahead (ahead_in entries (last t)) m timer (last t) now word source entries (is_own entries order m.wide s))) (own_not_heeded s order facts.1)
-    ∙ ap (λ o. behind (resting s 0) (by_ahead o m timer (last (resting s 0)) now word source entries (is_own entries order m.wide s))) (ap (ahead_in entries) (last-resting s 0) ∙ facts.0)
-    ∙ ap (λ b. behind (resting s 0) (noting m timer (last (resting s 0)) now word b)) own
+    ap (λ (t : Trail Store). turn_behind t (by_ahead (ahead_in entries (last t)) m (last t) now word (offer source entries) (noting m timer (last t) now word (is_own entries order m.wide s)))) (own_not_heeded s order facts.1)
+    ∙ ap (λ o. turn_behind (resting s 0) (by_ahead o m (last (resting s 0)) now word (offer source entries) (noting m timer (last (resting s 0)) now word (is_own entries order m.wide s)))) (ap (ahead_in entries) (last-resting s 0) ∙ facts.0)
+    ∙ ap (λ b. turn_behind (resting s 0) (noting m timer (last (resting s 0)) now word b)) own
     ∙ behind_none s (record m { mode = Maintain (after_same timer) }) Same
 
 pub equal_heard : (m : MoteState) (s : Store) (timer : Timer) (now word : ℕ) (bytes : List ℕ) (wide : Bool) (source : ℕ) (entries : List Entry) (order : Order) → message_of bytes m.wide ≡ Ok (advert_by wide source entries order) → source ≢ m.id → m.mode ≡ Maintain timer → is_own entries order m.wide s ≡ true
@@ -119,7 +119,7 @@ pub equal_heard : (m : MoteState) (s : Store) (timer : Timer) (now word : ℕ) (
 equal_heard m s timer now word bytes wide source entries order e other is own =
     read_as (advert_by wide source entries order) m s now word bytes e (λ same. other (sym (advert_from wide source entries order) ∙ same))
     ∙ advert_does m s now word wide source entries order
-    ∙ ap (λ mode. on_advert mode m s now word source entries order) is
+    ∙ ap (λ mode. on_advert mode m s now word (offer source entries) order) is
     ∙ own_heard m timer s now word source entries order own
 
 -- ---- the rest of the interval
@@ -186,24 +186,24 @@ noting_counts : (timer : Timer) (own : Bool) (m : MoteState) (t : Timer) (s : St
 noting_counts timer true m t s now word q within = (within.0, within.1, omega arith)
 noting_counts timer false m t s now word q within = other_counts timer t now word q within
 
-ahead_counts : (timer : Timer) (o : Option ℕ) (m : MoteState) (t : Timer) (s : Store) (now word source : ℕ) (entries : List Entry) (own : Bool) → Suppressed timer (Maintain t) → Counts timer (by_ahead o m t s now word source entries own)
+ahead_counts : (timer : Timer) (o : Option ℕ) (m : MoteState) (t : Timer) (s : Store) (now word source : ℕ) (entries : List Entry) (own : Bool) → Suppressed timer (Maintain t) → Counts timer (by_ahead o m s now word (offer source entries) (noting m t s now word own))
 ahead_counts timer None m t s now word source entries own q = noting_counts timer own m t s now word q
 ahead_counts timer (Some i) m t s now word source entries own q =
     cond_both (asks m s now i (entry_for entries i)) (asking m s now word source i (entry_for entries i)) (noting m t s now word own) (Counts timer) (λ _ within. absurd within) (λ _. noting_counts timer own m t s now word q)
 
-advert_counts : (timer : Timer) (mode : Mode) (m : MoteState) (s : Store) (now word source : ℕ) (entries : List Entry) (order : Order) → Suppressed timer mode → Counts timer (on_advert mode m s now word source entries order)
+advert_counts : (timer : Timer) (mode : Mode) (m : MoteState) (s : Store) (now word source : ℕ) (entries : List Entry) (order : Order) → Suppressed timer mode → Counts timer (on_advert mode m s now word (offer source entries) order)
 unfolding advert_heard
 advert_counts timer (Maintain t) m s now word source entries order q =
     let u = last (heed_trail s order) in ahead_counts timer (ahead_in entries u) m t u now word source entries (is_own entries order m.wide s) q
 advert_counts timer (Receive r) m s now word source entries order q = absurd q
 advert_counts timer (Transmit t) m s now word source entries order q = absurd q
 
-to_it_counts : (timer : Timer) (mode : Mode) (m : MoteState) (s : Store) (now image version page : ℕ) (want : Numbers) → Suppressed timer m.mode → Suppressed timer mode → Counts timer (to_it mode m s now image version page want)
+to_it_counts : (timer : Timer) (mode : Mode) (m : MoteState) (s : Store) (now image version page : ℕ) (want : Numbers) → Suppressed timer m.mode → Suppressed timer mode → Counts timer (to_it mode m s now (page_request image version page want))
 to_it_counts timer (Maintain t) m s now image version page want own q = cond_both (can_serve s image version page) _ _ (Counts timer) (λ _ within. absurd within) (λ _ _. own)
 to_it_counts timer (Receive r) m s now image version page want own q = absurd q
 to_it_counts timer (Transmit t) m s now image version page want own q = absurd q
 
-packet_counts : (timer : Timer) (mode : Mode) (m : MoteState) (s : Store) (now word image version page k : ℕ) (bytes : List ℕ) → Suppressed timer m.mode → Suppressed timer mode → Counts timer (on_packet mode m s now word image version page k bytes)
+packet_counts : (timer : Timer) (mode : Mode) (m : MoteState) (s : Store) (now word image version page k : ℕ) (bytes : List ℕ) → Suppressed timer m.mode → Suppressed timer mode → Counts timer (on_packet mode m s now word (page_packet image version page k bytes))
 packet_counts timer (Maintain t) m s now word image version page k bytes own q = cond_both (concerns s image version page) _ _ (Counts timer) (λ _ _. own) (λ _ _. own)
 packet_counts timer (Receive r) m s now word image version page k bytes own q = absurd q
 packet_counts timer (Transmit t) m s now word image version page k bytes own q = absurd q
@@ -223,8 +223,8 @@ heard_counts : (timer : Timer) (m : MoteState) (s : Store) (now word : ℕ) (byt
 unfolding heard_of
 heard_counts timer m s now word bytes q = frame_counts timer (message_of bytes m.wide) m s now word q
 
-silent_in : ((m : MoteState) (s : Store) (now word : ℕ) (bytes : List ℕ) → (heard_of m s now word bytes).sent ≡ None) → (timer : Timer) (events : List Happens) (m : MoteState) (s : Store) → Suppressed timer m.mode → HappenIn timer events m s → IsSilent (sent_in events m s)
-unfolding sent_in HappenIn
+silent_in : ((m : MoteState) (s : Store) (now word : ℕ) (bytes : List ℕ) → (heard_of m s now word bytes).sent ≡ None) → (timer : Timer) (events : List Happens) (m : MoteState) (s : Store) → Suppressed timer m.mode → HappenIn timer events m s → IsSilent (sent_while events m s)
+unfolding sent_while HappenIn
 silent_in silent timer [] m s q happen = tt
 silent_in silent timer (Ticks now word ∷ rest) m s q happen =
     let step = tick_of m s now word in
@@ -234,5 +234,5 @@ silent_in silent timer (Hears now word bytes ∷ rest) m s q happen =
     let step = heard_of m s now word bytes in
     (silent m s now word bytes, silent_in silent timer rest step.mote (last step.trail) (heard_counts timer m s now word bytes q happen.0) happen.1)
 
-pub suppressed_in : ((m : MoteState) (s : Store) (now word : ℕ) (bytes : List ℕ) → (heard_of m s now word bytes).sent ≡ None) → (m : MoteState) (s : Store) (timer : Timer) (events : List Happens) → m.mode ≡ Maintain timer → 1 ≤ timer.count → HappenIn timer events m s → IsSilent (sent_in events m s)
+pub suppressed_in : ((m : MoteState) (s : Store) (now word : ℕ) (bytes : List ℕ) → (heard_of m s now word bytes).sent ≡ None) → (m : MoteState) (s : Store) (timer : Timer) (events : List Happens) → m.mode ≡ Maintain timer → 1 ≤ timer.count → HappenIn timer events m s → IsSilent (sent_while events m s)
 suppressed_in silent m s timer events is heard happen = silent_in silent timer events m s (subst (Suppressed timer) (sym is) (refl, refl, heard)) happen

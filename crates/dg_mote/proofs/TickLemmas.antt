@@ -24,11 +24,12 @@ use Rattle.dg_volume.specs.Table.{row_at}
 use Rattle.dg_volume.specs.Agreement.{Agrees}
 use Rattle.dg_frame.specs.declared.Message.TheVariants.{Packet}
 use Rattle.dg_mote.specs.Model.{MoteState, Mode, Maintain, Receive, Transmit, Receiving, Sending, reception, maintains}
-use Rattle.dg_mote.specs.Ticks.{clears, maintain_by, asked, receive_by, packet_of, stored, serving, transmit_by, mode_tick, tick_of}
+use Rattle.dg_mote.specs.Ticks.{clears, maintain_by, asked, receive_by, stored, serving, transmit_by, mode_tick, tick_of}
 use Rattle.dg_mote.specs.Agreement.{ReceivesRow, Serves, ModeAgrees, HonestMessage}
 use Rattle.dg_mote.specs.declared.mote.Did.{Did}
 use Rattle.dg_mote.proofs.RowLemmas.{keeps_row, few_complete, complete_page}
 use Rattle.dg_mote.proofs.KeepLemmas.{Keeps, rests, mode_same, advert_honest}
+use Rattle.dg_volume.specs.Filling.{packet_of}
 
 asked_receives : (table : List Row) (s : Store) (r : Receiving) (now : ℕ) → ReceivesRow table s r → ReceivesRow table s (asked r now)
 asked_receives table s r now a = record {

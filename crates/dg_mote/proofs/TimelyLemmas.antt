@@ -30,7 +30,7 @@ use Rattle.dg_slot.specs.Layout.{packets}
 use Rattle.dg_slot.specs.Kept.{Held}
 use Rattle.dg_volume.specs.Store.{Store, held}
 use Rattle.dg_volume.specs.Start.{order_waits}
-use Rattle.dg_mote.specs.Model.{MoteState, Mode, Maintain, Receive, Transmit, Receiving, Sending, came, reception, begun, maintains, Turn}
+use Rattle.dg_mote.specs.Model.{MoteState, Mode, Maintain, Receive, Transmit, Receiving, Sending, came, reception, begun_mote, maintains, Turn}
 use Rattle.dg_mote.specs.Ticks.{clears, maintain_by, asked, receive_by, serving, transmit_by, mode_tick, tick_of}
 use Rattle.dg_frame.specs.Grammar.{message_of}
 use Rattle.dg_frame.specs.declared.Entry.{Entry}
@@ -42,9 +42,9 @@ use Rattle.dg_nor.specs.Trail.{last, resting}
 use Rattle.dg_slot.specs.Jobs.{page_from}
 use Rattle.dg_mote.specs.declared.mote.Heard.TheVariants.{Took}
 use Rattle.dg_mote.specs.Summary.{entry_for, is_own, ahead_in}
-use Rattle.dg_mote.specs.Adverts.{dropped, noting, asks, by_ahead, heed_trail, advert_heard, on_advert}
-use Rattle.dg_mote.specs.Requests.{concerns, can_serve, is_served, to_it, on_request}
-use Rattle.dg_mote.specs.Packets.{is_wanted, accepted, seal_by, takes, on_packet}
+use Rattle.dg_mote.specs.Adverts.{dropped, noting, asks, by_ahead, heed_trail, advert_heard, on_advert, offer}
+use Rattle.dg_mote.specs.Requests.{concerns, can_serve, is_served, to_it, on_request, page_request}
+use Rattle.dg_mote.specs.Packets.{is_wanted, accepted, seal_by, takes, on_packet, page_packet}
 use Rattle.dg_mote.proofs.ReadLemmas.{IsWellRead, well_read}
 use Rattle.dg_mote.specs.Hears.{source_of, on_message, by_message, heard_of}
 use Rattle.dg_mote.specs.declared.mote.Heard.{Heard}
@@ -76,7 +76,7 @@ none_got image = map.get-empty nat_cmp image
 none_noted : (image moment now : ℕ) → None ≡ Some moment → moment ≤ now
 none_noted image moment now e = cc
 
-pub timely_begins : (id now word : ℕ) (wide : Bool) → Timely (begun id wide now word) now
+pub timely_begins : (id now word : ℕ) (wide : Bool) → Timely (begun_mote id wide now word) now
 timely_begins id now word wide = record { since = omega arith; requests = λ i m e. none_noted i m now (sym (none_got i) ∙ e); packets_noted = λ i m e. none_noted i m now (sym (none_got i) ∙ e); mode = timer_begins now word }
 
 mode_later : (m : Mode) (now then : ℕ) → now ≤ then → ModeTimely m now → ModeTimely m then
@@ -155,19 +155,19 @@ noting_timely : (own : Bool) (m : MoteState) (t : Timer) (s : Store) (now word :
 noting_timely true m t s now word y h = timely_mode m (Maintain (after_same t)) now y (timer_same t now h)
 noting_timely false m t s now word y h = timely_mode m (Maintain (after_other t now word)) now y (timer_other t now word h)
 
-ahead_timely : (o : Option ℕ) (m : MoteState) (t : Timer) (s : Store) (now word source : ℕ) (entries : List Entry) (own : Bool) → Timely m now → ModeTimely (Maintain t) now → Timely (by_ahead o m t s now word source entries own).mote now
+ahead_timely : (o : Option ℕ) (m : MoteState) (t : Timer) (s : Store) (now word source : ℕ) (entries : List Entry) (own : Bool) → Timely m now → ModeTimely (Maintain t) now → Timely (by_ahead o m s now word (offer source entries) (noting m t s now word own)).mote now
 ahead_timely None m t s now word source entries own y h = noting_timely own m t s now word y h
 ahead_timely (Some i) m t s now word source entries own y h =
     cond_both (asks m s now i (entry_for entries i)) _ _ (λ (x : Turn Heard). Timely x.mote now)
     (λ _. timely_mode m _ now y (omega arith))
     (λ _. noting_timely own m t s now word y h)
 
-advert_timely : (m : MoteState) (t : Timer) (s : Store) (now word source : ℕ) (entries : List Entry) (order : Order) → Timely m now → ModeTimely (Maintain t) now → Timely (advert_heard m t s now word source entries order).mote now
+advert_timely : (m : MoteState) (t : Timer) (s : Store) (now word source : ℕ) (entries : List Entry) (order : Order) → Timely m now → ModeTimely (Maintain t) now → Timely (advert_heard m t s now word (offer source entries) order).mote now
 unfolding advert_heard
 advert_timely m t s now word source entries order y h =
     let u = last (heed_trail s order) in ahead_timely (ahead_in entries u) m t u now word source entries (is_own entries order m.wide s) y h
 
-on_advert_timely : (mode : Mode) (m : MoteState) (s : Store) (now word source : ℕ) (entries : List Entry) (order : Order) → Timely m now → ModeTimely mode now → Timely (on_advert mode m s now word source entries order).mote now
+on_advert_timely : (mode : Mode) (m : MoteState) (s : Store) (now word source : ℕ) (entries : List Entry) (order : Order) → Timely m now → ModeTimely mode now → Timely (on_advert mode m s now word (offer source entries) order).mote now
 on_advert_timely (Maintain t) m s now word source entries order y h = advert_timely m t s now word source entries order y h
 on_advert_timely (Receive r) m s now word source entries order y h = y
 on_advert_timely (Transmit t) m s now word source entries order y h = y
@@ -195,14 +195,14 @@ or_both false b e = inr e
 below_both : (n : ℕ) (s t : Numbers) → AllBelow n s → AllBelow n t → AllBelow n (set.union s t)
 below_both n s t hs ht q is = ⊎_elim (λ e. hs q e) (λ e. ht q e) (or_both (set.contains s q) (set.contains t q) (sym (contains-both s t q) ∙ is))
 
-to_it_timely : (mode : Mode) (m : MoteState) (s : Store) (now image version page : ℕ) (want : Numbers) → AllBelow packets want → Timely m now → ModeTimely mode now → Timely (to_it mode m s now image version page want).mote now
+to_it_timely : (mode : Mode) (m : MoteState) (s : Store) (now image version page : ℕ) (want : Numbers) → AllBelow packets want → Timely m now → ModeTimely mode now → Timely (to_it mode m s now (page_request image version page want)).mote now
 to_it_timely (Maintain t) m s now image version page want below y h =
     cond_both (can_serve s image version page) _ _ (λ (x : Turn Heard). Timely x.mote now) (λ _. timely_mode m _ now y (omega arith, below)) (λ _. y)
 to_it_timely (Transmit t) m s now image version page want below y h =
     cond_both (is_served t image version page) _ _ (λ (x : Turn Heard). Timely x.mote now) (λ _. timely_mode m _ now y (h.0, below_both packets t.owed.left want h.1 below)) (λ _. y)
 to_it_timely (Receive r) m s now image version page want below y h = y
 
-request_timely : (m : MoteState) (s : Store) (now to image version page : ℕ) (want : Numbers) → AllBelow packets want → Timely m now → Timely (on_request m s now to image version page want).mote now
+request_timely : (m : MoteState) (s : Store) (now to image version page : ℕ) (want : Numbers) → AllBelow packets want → Timely m now → Timely (on_request m s now to (page_request image version page want)).mote now
 request_timely m s now to image version page want below y =
     cond_both (to == m.id) _ _ (λ (x : Turn Heard). Timely x.mote now) (λ _. to_it_timely m.mode m s now image version page want below y y.mode)
     (λ _. cond_both (concerns s image version page) _ _ (λ (x : Turn Heard). Timely x.mote now) (λ _. request_noted m now image y) (λ _. y))
@@ -217,7 +217,7 @@ accepted_due : (r : Receiving) (now q : ℕ) → r.due ≤ now + next_wait → (
 accepted_due r now q h =
     cond_both (set.contains (reception r).got q) (reception r) (record (reception r) { got = set.insert (reception r).got q; due = now + next_wait }) (λ (x : Reception). x.due ≤ now + next_wait) (λ _. h) (λ _. omega arith)
 
-packet_timely : (mode : Mode) (m : MoteState) (s : Store) (now word image version page q : ℕ) (bytes : List ℕ) → Timely m now → ModeTimely mode now → Timely (on_packet mode m s now word image version page q bytes).mote now
+packet_timely : (mode : Mode) (m : MoteState) (s : Store) (now word image version page q : ℕ) (bytes : List ℕ) → Timely m now → ModeTimely mode now → Timely (on_packet mode m s now word (page_packet image version page q bytes)).mote now
 packet_timely (Receive r) m s now word image version page q bytes y h =
     let a = accepted r now q bytes in
     let full = seal_by (held s r.image) m r s now word (page_from a.packets) in

@@ -14,7 +14,7 @@ use Rattle.dg_frame.specs.declared.Message.TheVariants.{Advert, Request, Packet,
 use Rattle.dg_frame.specs.declared.FrameFault.{FrameFault}
 use Rattle.dg_mote.specs.Model.{Mode, Maintain, Receive, Transmit, Receiving, Sending, came}
 use Rattle.dg_mote.specs.Summary.{entry_for, no_entry}
-use Rattle.dg_mote.specs.Ticks.{packet_of}
+use Rattle.dg_volume.specs.Filling.{packet_of}
 
 -- ---- modes, over a store that agrees
 
@@ -30,7 +30,8 @@ pub record ReceivesRow (table : List Row) (s : Store) (r : Receiving) : Type 0 w
   pub more : r.page < kept.pages
   pub places : length r.packets ≡ packets
   pub missing : set.len (came r.packets) < packets
-  pub honest : (q : ℕ) (bytes : List ℕ) → packet r.packets q ≡ Some bytes → bytes ≡ packet_of (slice_index_or (object row) r.page []) q
+  pub honest : (q : ℕ) (bytes : List ℕ) → packet r.packets q ≡ Some bytes
+      → bytes ≡ packet_of (slice_index_or (object row) r.page []) q
 
 -- a page that is served is kept, and some of its packets are still owed
 pub record Serves (s : Store) (t : Sending) : Type 0 where
@@ -50,15 +51,19 @@ ModeAgrees table s (Transmit t) = Serves s t
 
 -- an entry is empty, or carries the profile of a row
 abbrev pub HonestEntry : List Row → ℕ → Entry → Type 0
-HonestEntry table i e = (e ≡ no_entry) ⊎ ((row : Row) × (row_at table i e.version ≡ Some row) × (e.pages ≡ (profile row).pages) × (e.crc ≡ (profile row).crc))
+HonestEntry table i e = (e ≡ no_entry) ⊎ ((row : Row) × (row_at table i e.version ≡ Some row)
+    × (e.pages ≡ (profile row).pages) × (e.crc ≡ (profile row).crc))
 
 abbrev pub HonestMessage : List Row → Result Message FrameFault → Type 0
 HonestMessage table (Err fault) = Unit {0}
 HonestMessage table (Ok (Request source to image version page want)) = Unit {0}
-HonestMessage table (Ok (Advert source entries order)) = (i : ℕ) → 1 ≤ i → i ≤ length entries → HonestEntry table i (entry_for entries i)
-HonestMessage table (Ok (Wide source entries order)) = (i : ℕ) → 1 ≤ i → i ≤ length entries → HonestEntry table i (entry_for entries i)
+HonestMessage table (Ok (Advert source entries order)) =
+    (i : ℕ) → 1 ≤ i → i ≤ length entries → HonestEntry table i (entry_for entries i)
+HonestMessage table (Ok (Wide source entries order)) =
+    (i : ℕ) → 1 ≤ i → i ≤ length entries → HonestEntry table i (entry_for entries i)
 HonestMessage table (Ok (Packet source image version page q bytes)) =
-    (row : Row) × (row_at table image version ≡ Some row) × (page < length (object row)) × (bytes ≡ packet_of (slice_index_or (object row) page []) q)
+    (row : Row) × (row_at table image version ≡ Some row) × (page < length (object row))
+    × (bytes ≡ packet_of (slice_index_or (object row) page []) q)
 
 -- by the wide reading: a narrow reader reads no more
 abbrev pub IsHonest : List Row → List ℕ → Type 0

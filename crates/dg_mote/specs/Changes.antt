@@ -62,7 +62,8 @@ IfReceives P (Transmit t) = Unit {0}
 
 -- the frame brings this packet to a wide reader, or to a narrow one
 abbrev pub Brings : List ℕ → (wide : Bool) → (image version page q : ℕ) → Type 0
-Brings bytes wide image version page q = (source : ℕ) × (content : List ℕ) × (message_of bytes wide ≡ Ok (Packet source image version page q content))
+Brings bytes wide image version page q =
+    (source : ℕ) × (content : List ℕ) × (message_of bytes wide ≡ Ok (Packet source image version page q content))
 
 -- a page is begun that is not one of golden: no packet of it came yet
 pub record IsBegun (r : Receiving) : Type 0 where
@@ -76,4 +77,5 @@ pub record Continues (old : Mode) (comes : (image version page q : ℕ) → Type
   pub image : r.image ≡ before.image
   pub version : r.version ≡ before.version
   pub page : r.page ≡ before.page
-  pub packets_are : (q : ℕ) → is_some (packet r.packets q) ≡ true → (is_some (packet before.packets q) ≡ true) ⊎ comes r.image r.version r.page q
+  pub packets_are : (q : ℕ) → is_some (packet r.packets q) ≡ true
+      → (is_some (packet before.packets q) ≡ true) ⊎ comes r.image r.version r.page q

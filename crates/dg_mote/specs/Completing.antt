@@ -1,5 +1,7 @@
--- What a round does at each of its two motes: they are drained, one tells what it keeps, the other asks for a page, and the page goes over.
-use Rattle.std.specs.Prelude.{◌≡◌, ◌≢◌, ◌⊎◌, Bool, ℕ, ◌+◌, ◌*◌, ◌<◌, ◌≤◌, List, [], ◌∷◌, length, map, slice_index_or, Option, Some, None}
+-- What a round does at each of its two motes: they are drained, one tells what it keeps, the other asks for a page,
+-- and the page goes over.
+use Rattle.std.specs.Prelude.{◌≡◌, ◌≢◌, ◌⊎◌, Bool, ℕ, ◌+◌, ◌*◌, ◌<◌, ◌≤◌, List, [], ◌∷◌, length, map, slice_index_or, Option}
+use Rattle.std.specs.Prelude.{Some, None}
 use Rattle.std.specs.List.{range_with_len}
 use Rattle.dg_bits.specs.Sets.{below}
 use Rattle.dg_recv.specs.Times.{next_wait}
@@ -14,11 +16,11 @@ use Rattle.dg_volume.specs.Agreement.{Agrees}
 pub use Rattle.dg_rounds.specs.Rounds.{drain_ticks, advert_ticks}
 use Rattle.dg_frame.specs.declared.Message.{Message}
 use Rattle.dg_frame.specs.declared.Message.TheVariants.{Request, Packet}
-use Rattle.dg_mote.specs.Model.{Receive, Receiving, begun, maintains}
+use Rattle.dg_mote.specs.Model.{Receive, Receiving, begun_mote, maintains}
 use Rattle.dg_mote.specs.Summary.{advert_of, entries_of, ahead_in}
-use Rattle.dg_mote.specs.Ticks.{packet_of}
 use Rattle.dg_mote.specs.Spots.{Spot, SpotIsWell, pace, ticked, tick_at, after_ticks, last_sent, hears, hears_all}
 use Rattle.dg_mote.specs.Drained.{Drained, SameKept, KeptBut, HasRoom}
+use Rattle.dg_volume.specs.Filling.{packet_of}
 
 -- ---- draining
 
@@ -32,18 +34,21 @@ pub record IsDrained (table : List Row) (x : Spot) (now : ℕ) : Type 0 where
 
 -- A well mote, whatever it was doing, is drained in so many ticks, where it has room at their end.
 abbrev pub DrainLaw : Type 0
-DrainLaw = (table : List Row) (x : Spot) (now : ℕ) → IsTable table → SpotIsWell table x now → HasRoom (after_ticks drain_ticks x now) → IsDrained table x now
+DrainLaw = (table : List Row) (x : Spot) (now : ℕ) → IsTable table → SpotIsWell table x now
+    → HasRoom (after_ticks drain_ticks x now) → IsDrained table x now
 
 -- the commits that ticks may take: one clears the short starts, and two start the order
 abbrev pub tick_commits : ℕ
 tick_commits = 3
 
--- A well mote that only ticks takes no more, however often it does. So it has room at the end where it has that much more at first.
-abbrev pub SpendLaw : Type 0
-SpendLaw = (table : List Row) (x : Spot) (now n : ℕ) → IsTable table → SpotIsWell table x now → x.store.room ≤ (after_ticks n x now).store.room + tick_commits
+-- A well mote that only ticks takes no more, however often it does.
+-- So it has room at the end where it has that much more at first.
+abbrev pub TickSpendLaw : Type 0
+TickSpendLaw = (table : List Row) (x : Spot) (now n : ℕ) → IsTable table → SpotIsWell table x now
+    → x.store.room ≤ (after_ticks n x now).store.room + tick_commits
 
 -- it stays drained over the same store
-pub record Rests (table : List Row) (x : Spot) (now n : ℕ) : Type 0 where
+pub record StaysDrained (table : List Row) (x : Spot) (now n : ℕ) : Type 0 where
   pub drained : Drained (after_ticks n x now) (now + n * pace)
   pub well : SpotIsWell table (after_ticks n x now) (now + n * pace)
   pub store : (after_ticks n x now).store ≡ x.store
@@ -52,11 +57,11 @@ pub record Rests (table : List Row) (x : Spot) (now n : ℕ) : Type 0 where
 
 -- So does a drained mote that only ticks, however often it does.
 abbrev pub RestLaw : Type 0
-RestLaw = (table : List Row) (x : Spot) (now n : ℕ) → SpotIsWell table x now → Drained x now → Rests table x now n
+RestLaw = (table : List Row) (x : Spot) (now n : ℕ) → SpotIsWell table x now → Drained x now → StaysDrained table x now n
 
 -- a mote that has just started, over a chip that was formatted with so many commits told as spent
 abbrev pub fresh_spot : (name bytes : List ℕ) → (used id : ℕ) → (wide : Bool) → (now word : ℕ) → Spot
-fresh_spot name bytes used id wide now word = record { store = fresh name bytes used; mote = begun id wide now word }
+fresh_spot name bytes used id wide now word = record { store = fresh name bytes used; mote = begun_mote id wide now word }
 
 -- ---- telling
 
@@ -82,7 +87,8 @@ pub record BeginsWith (ahead kept : Held) : Type 0 where
   pub crc : kept.crc ≡ ahead.crc
   pub complete : kept.complete ≡ []
 
--- What is kept of an image once a page of this version is asked for: as before where the version is kept, and else nothing of it yet, in place of an older one.
+-- What is kept of an image once a page of this version is asked for: as before where the version is kept,
+-- and else nothing of it yet, in place of an older one.
 abbrev pub KeepsNext : Option Held → Held → Held → Type 0
 KeepsNext None ahead kept = BeginsWith ahead kept
 KeepsNext (Some h) ahead kept = ((h.version ≡ ahead.version) × (kept ≡ h)) ⊎ ((h.version < ahead.version) × BeginsWith ahead kept)
@@ -113,9 +119,11 @@ pub record Asked (table : List Row) (x y : Spot) (now id image : ℕ) (ahead : H
   pub wide_is : y.mote.wide ≡ x.mote.wide
   pub well : SpotIsWell table y now
 
--- A drained mote that hears the summary of a mote of its width that is ahead of it asks it for the first image in which it is ahead.
+-- A drained mote that hears the summary of a mote of its width that is ahead of it asks it for the first image in which it is
+-- ahead.
 abbrev pub AskLaw : Type 0
-AskLaw = (table : List Row) (x : Spot) (now id : ℕ) (s : Store) (image : ℕ) → SpotIsWell table x now → Drained x now → Agrees table s → id ≢ x.mote.id
+AskLaw = (table : List Row) (x : Spot) (now id : ℕ) (s : Store) (image : ℕ) → SpotIsWell table x now → Drained x now
+    → Agrees table s → id ≢ x.mote.id
     → ahead_in (entries_of x.mote.wide s) x.store ≡ Some image → HasRoom (hears x now (advert_of id x.mote.wide s))
     → (ahead : Held) × (held s image ≡ Some ahead) × Asked table x (hears x now (advert_of id x.mote.wide s)) now id image ahead
 
@@ -125,11 +133,13 @@ pub record Requested (x y : Spot) (now image : ℕ) (kept : Held) (server : ℕ)
   pub store : y.store ≡ x.store
   pub id_is : y.mote.id ≡ x.mote.id
   pub wide_is : y.mote.wide ≡ x.mote.wide
-  pub sent : (tick_at x (now + pace)).sent ≡ Some (Request x.mote.id server image kept.version (length kept.complete) (below packets))
+  pub sent : (tick_at x (now + pace)).sent ≡ Some
+      (Request x.mote.id server image kept.version (length kept.complete) (below packets))
 
 -- A mote that has begun to ask sends its request in the next tick.
 abbrev pub RequestLaw : Type 0
-RequestLaw = (x : Spot) (now server image : ℕ) (kept : Held) → (a : AsksPage x image kept) → a.r.server ≡ server → a.r.tries ≡ 0 → a.r.due ≤ now + next_wait → x.store.gesture ≡ 0
+RequestLaw = (x : Spot) (now server image : ℕ) (kept : Held) → (a : AsksPage x image kept) → a.r.server ≡ server
+    → a.r.tries ≡ 0 → a.r.due ≤ now + next_wait → x.store.gesture ≡ 0
     → Requested x (ticked x (now + pace)) now image kept server
 
 -- ---- serving
@@ -154,14 +164,18 @@ pub record ServesPage (x y : Spot) (now image version page : ℕ) (bytes : List 
 
 -- A drained mote that keeps a page serves it to one that asks for all of it.
 abbrev pub ServeLaw : Type 0
-ServeLaw = (x : Spot) (now from image page : ℕ) (h : Held) → Drained x now → from ≢ x.mote.id → held x.store image ≡ Some h → page < length h.complete
-    → ServesPage x (hears x now (Request from x.mote.id image h.version page (below packets))) now image h.version page (slice_index_or h.complete page [])
+ServeLaw = (x : Spot) (now from image page : ℕ) (h : Held) → Drained x now → from ≢ x.mote.id → held x.store image ≡ Some h
+    → page < length h.complete
+    → ServesPage x (hears x now (Request from x.mote.id image h.version page (below packets))) now image h.version page
+    (slice_index_or h.complete page [])
 
 -- ---- taking
 
 -- A mote that asks for a page, and hears the packets of the row's in order, has one page more and maintains.
 abbrev pub TakeLaw : Type 0
-TakeLaw = (table : List Row) (x : Spot) (now sender image : ℕ) (kept : Held) (row : Row) → IsTable table → SpotIsWell table x now → AsksPage x image kept → sender ≢ x.mote.id
+TakeLaw = (table : List Row) (x : Spot) (now sender image : ℕ) (kept : Held) (row : Row) → IsTable table
+    → SpotIsWell table x now → AsksPage x image kept → sender ≢ x.mote.id
     → row_at table image kept.version ≡ Some row
     → let bytes = slice_index_or (object row) (length kept.complete) [] in
-    hears_all (page_messages sender image kept.version (length kept.complete) bytes) x now ≡ record { store = paged image bytes x.store; mote = maintains x.mote (now + packets * pace) 0 }
+    hears_all (page_messages sender image kept.version (length kept.complete) bytes) x now
+    ≡ record { store = paged image bytes x.store; mote = maintains x.mote (now + packets * pace) 0 }

@@ -7,7 +7,8 @@ use Rattle.dg_volume.specs.Start.{order_waits}
 use Rattle.dg_mote.specs.Model.{Maintain}
 use Rattle.dg_mote.specs.Spots.{Spot}
 
--- It maintains, nothing equal was heard in this interval, no short starts are counted, no order waits, and from now on it may ask for any image.
+-- It maintains, nothing equal was heard in this interval, no short starts are counted, no order waits,
+-- and from now on it may ask for any image.
 pub record Drained (x : Spot) (now : ℕ) : Type 0 where
   pub timer : Timer
   pub maintains : x.mote.mode ≡ Maintain timer

@@ -6,7 +6,7 @@ use Rattle.dg_volume.specs.Start.{Runs, boot}
 use Rattle.dg_volume.specs.declared.volume.Kind.{Kind}
 use Rattle.dg_volume.specs.declared.volume.Kind.TheVariants as kind
 use Rattle.dg_frame.specs.declared.Message.{Message}
-use Rattle.dg_mote.specs.Model.{MoteState, Turn, begun}
+use Rattle.dg_mote.specs.Model.{MoteState, Turn, begun_mote}
 use Rattle.dg_mote.specs.Ticks.{tick_of}
 use Rattle.dg_mote.specs.Hears.{heard_of}
 use Rattle.dg_mote.specs.declared.mote.Did.{Did}
@@ -21,7 +21,8 @@ pub record Effect : Type 0 where
 
 abbrev pub boot_by : Option Runs → Trail Store → (id : ℕ) (wide : Bool) (now word : ℕ) → Effect
 boot_by None t id wide now word = record { mote = None; trail = t; started = None; sent = None }
-boot_by (Some r) t id wide now word = record { mote = Some (begun id wide now word); trail = t; started = Some r; sent = None }
+boot_by (Some r) t id wide now word =
+    record { mote = Some (begun_mote id wide now word); trail = t; started = Some r; sent = None }
 
 abbrev pub boots : Kind → Store → (id : ℕ) (wide : Bool) (now word : ℕ) → Effect
 boots k s id wide now word = let b = boot k s in boot_by b.runs b.trail id wide now word
@@ -40,7 +41,8 @@ silent step = record { mote = Some step.mote; trail = step.trail; started = None
 -- a tick that answers Restart goes on with a start
 abbrev pub tick_by : Did → Turn Did → (now word : ℕ) → Effect
 tick_by Restart step now word =
-    let e = boots kind.Order (last step.trail) step.mote.id step.mote.wide now word in record e { trail = joined step.trail e.trail }
+    let e = boots kind.Order (last step.trail) step.mote.id step.mote.wide now word in
+    record e { trail = joined step.trail e.trail }
 tick_by Sent step now word = on step
 tick_by Idle step now word = on step
 

@@ -1,5 +1,6 @@
 -- How the steps of hearing a frame end.
-use Rattle.std.specs.Prelude.{◌≡◌, ◌≢◌, ℕ, ◌<◌, ◌≤◌, ◌||◌, nat_le, Bool, true, false, if◌then◌else◌, List, length, Some, None, is_some}
+use Rattle.std.specs.Prelude.{◌≡◌, ◌≢◌, ℕ, ◌<◌, ◌≤◌, ◌||◌, nat_le, Bool, true, false, if◌then◌else◌, List, length, Some, None}
+use Rattle.std.specs.Prelude.{is_some}
 use Rattle.dg_nor.specs.Trail.{Trail, resting, stepping}
 use Rattle.dg_recv.specs.Reception.{Reception}
 use Rattle.dg_frame.specs.Ranges.{TellsVersion}
@@ -18,7 +19,7 @@ use Rattle.dg_volume.specs.Stands.{Mounted, is_lent}
 use Rattle.dg_volume.specs.Changes.{paged, is_version}
 use Rattle.dg_volume.specs.Trails.{take_trail}
 use Rattle.dg_mote.specs.Model.{MoteState, Receiving, maintains, Turn}
-use Rattle.dg_mote.specs.Summary.{ahead_of}
+use Rattle.dg_mote.specs.Summary.{advertiser_ahead}
 use Rattle.dg_mote.specs.Adverts.{outline}
 use Rattle.dg_mote.specs.Motes.{IsMote}
 use Rattle.dg_mote.specs.declared.mote.Heard.{Heard}
@@ -27,7 +28,7 @@ use Rattle.dg_mote.specs.declared.mote.Mote.{Mote}
 use Rattle.dg_mote.specs.declared.mote.Mode.TheVariants as value
 
 -- the chip stays as it is
-pub record Rests (turn : Turn Heard) (c : List ℕ) (s : Store) (v : Mote) (answer : Heard) : Type 0 where
+pub record ChipStays (turn : Turn Heard) (c : List ℕ) (s : Store) (v : Mote) (answer : Heard) : Type 0 where
   pub trail : turn.trail ≡ resting s 0
   pub mote : IsMote c v turn.mote s
   pub answers : answer ≡ turn.answer
@@ -54,13 +55,15 @@ is_sealed (sealing.Bad kept found o) = false
 is_sealed (sealing.Unfit o) = false
 
 -- all packets of the page came that is asked for
-pub record IsWhole (c : List ℕ) (v : Mote) (m : MoteState) (s : Store) (r : Receiving) (h : Held) (ps : Packets) : Type 0 where
+pub record PageIsWhole (c : List ℕ) (v : Mote) (m : MoteState) (s : Store) (r : Receiving) (h : Held)
+    (ps : Packets) : Type 0 where
   pub id : v.id ≡ m.id
   pub since : v.since ≡ m.since
   pub wide : v.wide ≡ m.wide
   pub noted : v.windows ≡ m.noted
   pub mounted : Mounted c v.volume s
-  pub code : (version : ℕ) × (server : ℕ) × (asking : Reception) × (job : PageJob) × (v.mode ≡ value.Receive version server asking job) × Fills c s r.image job h ps
+  pub code : (version : ℕ) × (server : ℕ) × (asking : Reception) × (job : PageJob)
+      × (v.mode ≡ value.Receive version server asking job) × Fills c s r.image job h ps
   pub lent : is_lent v.volume r.image ≡ true
   pub others : (i : ℕ) → i ≢ r.image → is_lent v.volume i ≡ false
   pub next : length h.complete ≡ r.page
@@ -70,7 +73,12 @@ pub record IsWhole (c : List ℕ) (v : Mote) (m : MoteState) (s : Store) (r : Re
 abbrev pub page_ends : MoteState → Receiving → Held → Store → (now word : ℕ) → List ℕ → Turn Heard
 page_ends m r h s now word page =
     if may_seal r.image h page
-    then record { mote = maintains m now word; trail = stepping s 1 (paged r.image page s); sent = None; answer = Sealed r.image r.page }
+    then record {
+      mote = maintains m now word;
+      trail = stepping s 1 (paged r.image page s);
+      sent = None;
+      answer = Sealed r.image r.page;
+    }
     else record { mote = maintains m now word; trail = resting s 0; sent = None; answer = Bad r.image r.page }
 
 -- ---- a page that is asked for
@@ -80,7 +88,7 @@ pub record MayTake (s : Store) (i : ℕ) (e : Entry) : Type 0 where
   pub not_golden : 1 ≤ i
   pub known : i < images
   pub tells : TellsVersion e
-  pub ahead : ahead_of e (held s i) ≡ true
+  pub ahead : advertiser_ahead e (held s i) ≡ true
   pub free : is_version (held s i) e.version || nat_le 2 s.room ≡ true
 
 -- the slot of an image is taken unless the entry's version is kept

@@ -53,8 +53,9 @@ pub record MoteState : Type 0 where
   pub mode : Mode
 
 -- a mote that was started, and one that begins to maintain anew
-abbrev pub begun : (id : ℕ) (wide : Bool) (now word : ℕ) → MoteState
-begun id wide now word = record { id = id; wide = wide; since = now; noted = nothing_noted; mode = Maintain (started now word) }
+abbrev pub begun_mote : (id : ℕ) (wide : Bool) (now word : ℕ) → MoteState
+begun_mote id wide now word =
+    record { id = id; wide = wide; since = now; noted = nothing_noted; mode = Maintain (started now word) }
 
 abbrev pub maintains : MoteState → (now word : ℕ) → MoteState
 maintains m now word = record m { mode = Maintain (started now word) }

@@ -13,14 +13,16 @@ use Rattle.dg_volume.specs.declared.volume.Volume.{Volume}
 use Rattle.dg_frame.specs.Grammar.{message_of}
 use Rattle.dg_frame.specs.Spelling.{frame_of}
 use Rattle.dg_frame.specs.declared.Message.{Message}
-use Rattle.dg_mote.specs.Model.{MoteState, Mode, Maintain, Receive, Transmit, NamesKnown, Receiving, Sending, came, reception, Turn}
+use Rattle.dg_mote.specs.Model.{MoteState, Mode, Maintain, Receive, Transmit, NamesKnown, Receiving, Sending, came, reception}
+use Rattle.dg_mote.specs.Model.{Turn}
 use Rattle.dg_mote.specs.Agreement.{Serves}
 use Rattle.dg_mote.specs.declared.mote.Mote.{Mote}
 use Rattle.dg_mote.specs.declared.outbox.Outbox.{Outbox}
 use Rattle.dg_mote.specs.declared.mote.Mode.{Mode as ModeValue}
 use Rattle.dg_mote.specs.declared.mote.Mode.TheVariants as value
 
--- In a reception the slot is lent, and no other is. The job stands for the next page with the packets that came, and some are missing.
+-- In a reception the slot is lent, and no other is. The job stands for the next page with the packets that came,
+-- and some are missing.
 pub record Receives (c : List ℕ) (v : Volume) (s : Store) (job : PageJob) (r : Receiving) : Type 0 where
   pub image : (outline_told (slot_of job)).image ≡ r.image
   pub not_golden : 1 ≤ r.image

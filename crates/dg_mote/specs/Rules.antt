@@ -62,10 +62,12 @@ moment_of (Ticks now word) = now
 moment_of (Hears now word bytes) = now
 
 -- what a mote sends while all this happens, one after the other, and it is not started anew
-unfoldable pub sent_in : List Happens → MoteState → Store → List (Option Message)
-sent_in [] m s = []
-sent_in (Ticks now word ∷ rest) m s = let step = tick_of m s now word in step.sent ∷ sent_in rest step.mote (last step.trail)
-sent_in (Hears now word bytes ∷ rest) m s = let step = heard_of m s now word bytes in step.sent ∷ sent_in rest step.mote (last step.trail)
+unfoldable pub sent_while : List Happens → MoteState → Store → List (Option Message)
+sent_while [] m s = []
+sent_while (Ticks now word ∷ rest) m s =
+    let step = tick_of m s now word in step.sent ∷ sent_while rest step.mote (last step.trail)
+sent_while (Hears now word bytes ∷ rest) m s = let step =
+    heard_of m s now word bytes in step.sent ∷ sent_while rest step.mote (last step.trail)
 
 -- each moment is one of these
 abbrev pub AllBetween : (from until : ℕ) → List Happens → Type 0

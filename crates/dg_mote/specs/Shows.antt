@@ -9,7 +9,7 @@ use Rattle.dg_mote.specs.declared.mote.Did.{Did}
 use Rattle.dg_mote.specs.declared.outbox.Outbox.{Outbox}
 
 -- it ends in this mode, with this outbox and this answer
-pub record Shows (turn : Turn Did) (m : MoteState) (s : Store) (mode : Mode) (out : Outbox) (did : Did) : Type 0 where
+pub record EndsInMode (turn : Turn Did) (m : MoteState) (s : Store) (mode : Mode) (out : Outbox) (did : Did) : Type 0 where
   pub mote : turn.mote ≡ record m { mode = mode }
   pub trail : turn.trail ≡ resting s 0
   pub sent : sent_in out ≡ option_map frame_of turn.sent

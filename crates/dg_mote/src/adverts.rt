@@ -1,5 +1,6 @@
 //! Adverts that are heard: a better order is kept, and an image is asked for in which the advertiser is ahead.
-ghost use Rattle.std.specs.Prelude.{◌≡◌, ◌≢◌, ℕ, ◌+◌, ◌<◌, ◌≤◌, ◌^◌, ◌&&◌, ◌||◌, ◌==◌, nat_le, nat_lt, true, false, List, length, Option, Some, All, IfOk, OnOk, OnErr, IfSome};
+ghost use Rattle.std.specs.Prelude.{◌≡◌, ◌≢◌, ℕ, ◌+◌, ◌<◌, ◌≤◌, ◌^◌, ◌&&◌, ◌||◌, ◌==◌, nat_le, nat_lt, true, false, List, length};
+ghost use Rattle.std.specs.Prelude.{Option, Some, All, IfOk, OnOk, OnErr, IfSome};
 ghost use Rattle.dg_nor.specs.Trail.{last};
 ghost use Rattle.dg_trickle.specs.Timer.{Timer};
 ghost use Rattle.dg_frame.specs.Sizes.{known_images, wide_images};
@@ -13,10 +14,10 @@ ghost use Rattle.dg_volume.specs.Stands.{Mounted, IsMounted, Tells, kept_at, is_
 ghost use Rattle.dg_volume.specs.Changes.{is_version};
 ghost use Rattle.dg_volume.specs.Acts.{Acted, Stops};
 ghost use Rattle.dg_mote.specs.Model.{MoteState, Maintain};
-ghost use Rattle.dg_mote.specs.Summary.{entry_by, same_entry, same_order, entry_for, is_own, ahead_of, ahead_in};
-ghost use Rattle.dg_mote.specs.Adverts.{heed_trail, ask_trail, asks, asking, noting, by_ahead, advert_heard, on_advert};
+ghost use Rattle.dg_mote.specs.Summary.{entry_by, same_entry, same_order, entry_for, is_own, advertiser_ahead, ahead_in};
+ghost use Rattle.dg_mote.specs.Adverts.{heed_trail, ask_trail, asks, asking, noting, by_ahead, advert_heard, on_advert, offer};
 ghost use Rattle.dg_mote.specs.Motes.{IsMote, Done};
-ghost use Rattle.dg_mote.specs.Hearing.{Rests, StaysIf, MayTake, slot_trail, Opened, Begun};
+ghost use Rattle.dg_mote.specs.Hearing.{ChipStays, StaysIf, MayTake, slot_trail, Opened, Begun};
 
 use crate::summary::{entry_of, own_order};
 use crate::{Heard, Mode, Mote};
@@ -49,11 +50,13 @@ impl Mote {
         requires known { length entries.now ≤ known_images self.old.wide }
         requires order { OrderInRange wide_images order.now }
         ensures done { IfOk result (λ heard. (m : MoteState) (s : Store) → IsMote (N.device nor.old).image self.old m s
-            → Done (on_advert m.mode m s now word source entries.now order.now) (N.device nor.old) (N.device nor.new) self.new heard) }
+            → Done (on_advert m.mode m s now word (offer source entries.now) order.now)
+            (N.device nor.old) (N.device nor.new) self.new heard) }
         ensures unchanged { IfOk result (λ heard. StaysIf heard ((N.device nor.new ≡ N.device nor.old) × (self.new ≡ self.old))) }
         ensures same_reference { (N.device nor.new).references ≡ (N.device nor.old).references }
         ensures stopped { OnErr result ((m : MoteState) (s : Store) → IsMote (N.device nor.old).image self.old m s
-            → Stops (on_advert m.mode m s now word source entries.now order.now).trail (N.device nor.old) (N.device nor.new)) }
+            → Stops (on_advert m.mode m s now word (offer source entries.now) order.now).trail
+            (N.device nor.old) (N.device nor.new)) }
     {
         match self.mode {
             Mode::Maintain(_) => self.weigh_advert(nor, now, word, source, entries, order),
@@ -72,17 +75,22 @@ impl Mote {
         entries: &[Entry],
         order: &Order,
     ) -> Result<Heard, Stopped>
-        requires mote { (m : MoteState) × (s : Store) × (timer : Timer) × IsMote (N.device nor.old).image self.old m s × (m.mode ≡ Maintain timer) }
+        requires mote { (m : MoteState) × (s : Store) × (timer : Timer) × IsMote (N.device nor.old).image self.old m s
+            × (m.mode ≡ Maintain timer) }
         requires moment { now < 2 ^ 62 }
         requires entries { All EntryInRange entries.now }
         requires known { length entries.now ≤ known_images self.old.wide }
         requires order { OrderInRange wide_images order.now }
-        ensures done { IfOk result (λ heard. (m : MoteState) (s : Store) (timer : Timer) → IsMote (N.device nor.old).image self.old m s → m.mode ≡ Maintain timer
-            → Done (advert_heard m timer s now word source entries.now order.now) (N.device nor.old) (N.device nor.new) self.new heard) }
+        ensures done { IfOk result (λ heard. (m : MoteState) (s : Store) (timer : Timer)
+            → IsMote (N.device nor.old).image self.old m s → m.mode ≡ Maintain timer
+            → Done (advert_heard m timer s now word (offer source entries.now) order.now)
+            (N.device nor.old) (N.device nor.new) self.new heard) }
         ensures not_dropped { IfOk result (λ heard. StaysIf heard ⊥) }
         ensures same_reference { (N.device nor.new).references ≡ (N.device nor.old).references }
-        ensures stopped { OnErr result ((m : MoteState) (s : Store) (timer : Timer) → IsMote (N.device nor.old).image self.old m s → m.mode ≡ Maintain timer
-            → Stops (advert_heard m timer s now word source entries.now order.now).trail (N.device nor.old) (N.device nor.new)) }
+        ensures stopped { OnErr result ((m : MoteState) (s : Store) (timer : Timer)
+            → IsMote (N.device nor.old).image self.old m s → m.mode ≡ Maintain timer
+            → Stops (advert_heard m timer s now word (offer source entries.now) order.now).trail
+            (N.device nor.old) (N.device nor.new)) }
     {
         trails_begin();
         let same = would_say(self.wide, &self.volume, entries, order);
@@ -100,16 +108,22 @@ impl Mote {
         entries: &[Entry],
         same: bool,
     ) -> Result<Heard, Stopped>
-        requires mote { (m : MoteState) × (s : Store) × (timer : Timer) × IsMote (N.device nor.old).image self.old m s × (m.mode ≡ Maintain timer) }
+        requires mote { (m : MoteState) × (s : Store) × (timer : Timer) × IsMote (N.device nor.old).image self.old m s
+            × (m.mode ≡ Maintain timer) }
         requires moment { now < 2 ^ 62 }
         requires entries { All EntryInRange entries.now }
         requires known { length entries.now ≤ known_images self.old.wide }
-        ensures done { IfOk result (λ heard. (m : MoteState) (s : Store) (timer : Timer) → IsMote (N.device nor.old).image self.old m s → m.mode ≡ Maintain timer
-            → Done (by_ahead (ahead_in entries.now s) m timer s now word source entries.now same) (N.device nor.old) (N.device nor.new) self.new heard) }
+        ensures done { IfOk result (λ heard. (m : MoteState) (s : Store) (timer : Timer)
+            → IsMote (N.device nor.old).image self.old m s → m.mode ≡ Maintain timer
+            → Done (by_ahead (ahead_in entries.now s) m s now word (offer source entries.now) (noting m timer s now word same))
+            (N.device nor.old) (N.device nor.new) self.new heard) }
         ensures not_dropped { IfOk result (λ heard. StaysIf heard ⊥) }
         ensures same_reference { (N.device nor.new).references ≡ (N.device nor.old).references }
-        ensures stopped { OnErr result ((m : MoteState) (s : Store) (timer : Timer) → IsMote (N.device nor.old).image self.old m s → m.mode ≡ Maintain timer
-            → Stops (by_ahead (ahead_in entries.now s) m timer s now word source entries.now same).trail (N.device nor.old) (N.device nor.new)) }
+        ensures stopped { OnErr result ((m : MoteState) (s : Store) (timer : Timer)
+            → IsMote (N.device nor.old).image self.old m s → m.mode ≡ Maintain timer
+            → Stops (by_ahead (ahead_in entries.now s) m s now word (offer source entries.now)
+            (noting m timer s now word same)).trail
+            (N.device nor.old) (N.device nor.new)) }
     {
         let Some(image) = first_ahead(&self.volume, entries) else {
             return Ok(self.note_advert(same, now, word));
@@ -132,10 +146,11 @@ impl Mote {
 
     /// Notes that an equal or another advert was heard.
     fn note_advert(&mut self, same: bool, now: u64, word: u32) -> Heard
-        requires mote { (c : List ℕ) × (m : MoteState) × (s : Store) × (timer : Timer) × IsMote c self.old m s × (m.mode ≡ Maintain timer) }
+        requires mote { (c : List ℕ) × (m : MoteState) × (s : Store) × (timer : Timer) × IsMote c self.old m s
+            × (m.mode ≡ Maintain timer) }
         requires moment { now < 2 ^ 62 }
         ensures rests { (c : List ℕ) (m : MoteState) (s : Store) (timer : Timer) → IsMote c self.old m s → m.mode ≡ Maintain timer
-            → Rests (noting m timer s now word same) c s self.new result }
+            → ChipStays (noting m timer s now word same) c s self.new result }
         ensures not_dropped { StaysIf result ⊥ }
     {
         let Mode::Maintain(trickle) = &mut self.mode else {
@@ -160,14 +175,17 @@ impl Mote {
         image: u8,
         entry: Entry,
     ) -> Result<Heard, Stopped>
-        requires mote { (m : MoteState) × (s : Store) × (timer : Timer) × IsMote (N.device nor.old).image self.old m s × (m.mode ≡ Maintain timer) × MayTake s image entry }
+        requires mote { (m : MoteState) × (s : Store) × (timer : Timer) × IsMote (N.device nor.old).image self.old m s
+            × (m.mode ≡ Maintain timer) × MayTake s image entry }
         requires moment { now < 2 ^ 62 }
         requires known { image ≤ known_images self.old.wide }
-        ensures done { IfOk result (λ heard. (m : MoteState) (s : Store) (timer : Timer) → IsMote (N.device nor.old).image self.old m s → m.mode ≡ Maintain timer → MayTake s image entry
+        ensures done { IfOk result (λ heard. (m : MoteState) (s : Store) (timer : Timer)
+            → IsMote (N.device nor.old).image self.old m s → m.mode ≡ Maintain timer → MayTake s image entry
             → Done (asking m s now word source image entry) (N.device nor.old) (N.device nor.new) self.new heard) }
         ensures not_dropped { IfOk result (λ heard. StaysIf heard ⊥) }
         ensures same_reference { (N.device nor.new).references ≡ (N.device nor.old).references }
-        ensures stopped { OnErr result ((m : MoteState) (s : Store) (timer : Timer) → IsMote (N.device nor.old).image self.old m s → m.mode ≡ Maintain timer → MayTake s image entry
+        ensures stopped { OnErr result ((m : MoteState) (s : Store) (timer : Timer)
+            → IsMote (N.device nor.old).image self.old m s → m.mode ≡ Maintain timer → MayTake s image entry
             → Stops (ask_trail s image entry) (N.device nor.old) (N.device nor.new)) }
     {
         let job = begin_page(nor, &mut self.volume, image, entry)?;
@@ -202,8 +220,10 @@ fn is_same_order(a: &Order, b: &Order) -> bool
 /// Whether entries equal what a mote would say that keeps this.
 fn says_entries(volume: &Volume, entries: &[Entry]) -> bool
     requires { length entries.now < images }
-    ensures told { result ≡ true → (s : Store) → Tells volume.now s → (i : ℕ) → 1 ≤ i → i ≤ length entries.now → same_entry (entry_for entries.now i) (entry_by (held s i)) ≡ true }
-    ensures other { result ≡ false → (i : ℕ) × (1 ≤ i) × (i ≤ length entries.now) × ((s : Store) → Tells volume.now s → same_entry (entry_for entries.now i) (entry_by (held s i)) ≡ false) }
+    ensures told { result ≡ true → (s : Store) → Tells volume.now s → (i : ℕ) → 1 ≤ i → i ≤ length entries.now
+        → same_entry (entry_for entries.now i) (entry_by (held s i)) ≡ true }
+    ensures other { result ≡ false → (i : ℕ) × (1 ≤ i) × (i ≤ length entries.now)
+        × ((s : Store) → Tells volume.now s → same_entry (entry_for entries.now i) (entry_by (held s i)) ≡ false) }
 {
     let past = past_last(entries);
     for image in 1..past {
@@ -225,7 +245,8 @@ fn first_ahead(volume: &Volume, entries: &[Entry]) -> Option<u8>
     requires { length entries.now < images }
     ensures least { (s : Store) → Tells volume.now s → result ≡ ahead_in entries.now s }
     ensures within { IfSome result (λ i. (1 ≤ i) × (i ≤ length entries.now)) }
-    ensures ahead { IfSome result (λ i. (s : Store) → Tells volume.now s → ahead_of (entry_for entries.now i) (held s i) ≡ true) }
+    ensures ahead { IfSome result (λ i. (s : Store) → Tells volume.now s
+        → advertiser_ahead (entry_for entries.now i) (held s i) ≡ true) }
 {
     let past = past_last(entries);
     for image in 1..past {
@@ -239,7 +260,7 @@ fn first_ahead(volume: &Volume, entries: &[Entry]) -> Option<u8>
 /// Whether an advertiser is ahead in an image of which this is kept here: it has a page, and tells of a larger version,
 /// or of more pages of the same object.
 fn is_ahead(kept: Option<Kept>, entry: Entry) -> bool
-    ensures { (h : Option Held) → kept ≡ told h → result ≡ ahead_of entry h }
+    ensures { (h : Option Held) → kept ≡ told h → result ≡ advertiser_ahead entry h }
 {
     match kept {
         Some(kept) => {
@@ -332,7 +353,8 @@ fn begin_page<N: Nor>(
     requires mounted { (s : Store) × Mounted (N.device nor.old).image volume.old s × MayTake s image entry }
     requires not_lent { is_lent volume.old image ≡ false }
     ensures begun { IfOk result (λ job. (s : Store) → Mounted (N.device nor.old).image volume.old s → MayTake s image entry
-        → Acted (ask_trail s image entry) (N.device nor.old) (N.device nor.new) volume.new × Begun (N.device nor.new).image (last (ask_trail s image entry)) image entry job) }
+        → Acted (ask_trail s image entry) (N.device nor.old) (N.device nor.new) volume.new
+        × Begun (N.device nor.new).image (last (ask_trail s image entry)) image entry job) }
     ensures lent { OnOk result (is_lent volume.new image ≡ true) }
     ensures others { (i : ℕ) → i ≢ image → is_lent volume.new i ≡ is_lent volume.old i }
     ensures same_reference { (N.device nor.new).references ≡ (N.device nor.old).references }
@@ -355,7 +377,8 @@ fn open<N: Nor>(
     requires mounted { (s : Store) × Mounted (N.device nor.old).image volume.old s × MayTake s image entry }
     requires not_lent { is_lent volume.old image ≡ false }
     ensures opened { IfOk result (λ o. (s : Store) → Mounted (N.device nor.old).image volume.old s → MayTake s image entry
-        → Acted (slot_trail s image entry) (N.device nor.old) (N.device nor.new) volume.new × Opened (N.device nor.new).image (last (slot_trail s image entry)) image entry o) }
+        → Acted (slot_trail s image entry) (N.device nor.old) (N.device nor.new) volume.new
+        × Opened (N.device nor.new).image (last (slot_trail s image entry)) image entry o) }
     ensures lent { OnOk result (is_lent volume.new image ≡ true) }
     ensures others { (i : ℕ) → i ≢ image → is_lent volume.new i ≡ is_lent volume.old i }
     ensures same_reference { (N.device nor.new).references ≡ (N.device nor.old).references }

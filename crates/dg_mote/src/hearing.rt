@@ -44,8 +44,10 @@ impl Mote {
         ensures stopped { OnErr result ((m : MoteState) (s : Store) → IsMote (N.device nor.old).image self.old m s
             → Stops (heard_of m s now word bytes.now).trail (N.device nor.old) (N.device nor.new)) }
         // whatever is heard: a consistent chip stays so, also where it stops
-        ensures consistent { OnOk result ((golden : Row) → MoteIsConsistent golden (N.device nor.old).image self.old → MoteIsConsistent golden (N.device nor.new).image self.new) }
-        ensures stops_consistent { OnErr result ((golden : Row) → MoteIsConsistent golden (N.device nor.old).image self.old → ChipIsConsistent golden (N.device nor.new).image) }
+        ensures consistent { OnOk result ((golden : Row) → MoteIsConsistent golden (N.device nor.old).image self.old
+            → MoteIsConsistent golden (N.device nor.new).image self.new) }
+        ensures stops_consistent { OnErr result ((golden : Row) → MoteIsConsistent golden (N.device nor.old).image self.old
+            → ChipIsConsistent golden (N.device nor.new).image) }
     {
         a_mote_keeps_consistency();
         match read(bytes, self.wide) {
@@ -94,11 +96,7 @@ impl Mote {
                 want,
                 ..
             } => {
-                let name = PageName {
-                    image,
-                    version,
-                    page,
-                };
+                let name = PageName::new(image, version, page);
                 Ok(self.hear_request(now, to, name, want))
             }
             Message::Packet {
@@ -109,11 +107,7 @@ impl Mote {
                 bytes,
                 ..
             } => {
-                let name = PageName {
-                    image,
-                    version,
-                    page,
-                };
+                let name = PageName::new(image, version, page);
                 self.hear_packet(nor, now, word, name, packet, &bytes)
             }
         }

@@ -3,7 +3,7 @@ ghost use Rattle.std.specs.Prelude.{◌≡◌, ℕ, ◌<◌, ◌^◌, List};
 ghost use Rattle.dg_volume.specs.Store.{Store};
 ghost use Rattle.dg_volume.specs.Stands.{Mounted, NothingLent};
 ghost use Rattle.dg_mote.specs.Sizes.{buffered_bytes};
-ghost use Rattle.dg_mote.specs.Model.{MoteState, begun, maintains};
+ghost use Rattle.dg_mote.specs.Model.{MoteState, begun_mote, maintains};
 ghost use Rattle.dg_mote.specs.Timely.{Timely};
 ghost use Rattle.dg_mote.specs.Motes.{IsMote, id_told, wide_told, volume_of};
 
@@ -109,7 +109,7 @@ impl Mote {
     pub fn new(volume: Volume, id: u16, wide: bool, now: u64, word: u32) -> Mote
         requires free { NothingLent volume }
         requires moment { now < 2 ^ 62 }
-        ensures { (c : List ℕ) (s : Store) → Mounted c volume s → IsMote c result (begun id wide now word) s }
+        ensures { (c : List ℕ) (s : Store) → Mounted c volume s → IsMote c result (begun_mote id wide now word) s }
     {
         Mote {
             id,
@@ -126,7 +126,8 @@ impl Mote {
         requires free { NothingLent volume }
         requires moment { now < 2 ^ 62 }
         requires mote { (c : List ℕ) × (m : MoteState) × (s : Store) × IsMote c self.old m s × Timely m now }
-        ensures { (c d : List ℕ) (m : MoteState) (s t : Store) → IsMote c self.old m s → Mounted d volume t → IsMote d self.new (maintains m now word) t }
+        ensures { (c d : List ℕ) (m : MoteState) (s t : Store) → IsMote c self.old m s → Mounted d volume t
+            → IsMote d self.new (maintains m now word) t }
     {
         self.volume = volume;
         self.mode = Mode::Maintain(Trickle::new(now, word));

@@ -1,5 +1,6 @@
 //! Packets that are heard: put into the page that is asked for, which is sealed when it is whole, or noted.
-ghost use Rattle.std.specs.Prelude.{◌≡◌, ◌≢◌, ◌↔◌, ℕ, ◌+◌, ◌<◌, ◌≤◌, ◌^◌, true, false, List, Some, length, is_some, IfOk, OnOk, OnErr};
+ghost use Rattle.std.specs.Prelude.{◌≡◌, ◌≢◌, ◌↔◌, ℕ, ◌+◌, ◌<◌, ◌≤◌, ◌^◌, true, false, List, Some, length, is_some, IfOk, OnOk};
+ghost use Rattle.std.specs.Prelude.{OnErr};
 ghost use Rattle.std.specs.FinSet as set;
 ghost use Rattle.dg_nor.specs.Chip.{Touches};
 ghost use Rattle.dg_nor.specs.Device.{Ran, Halts};
@@ -10,15 +11,16 @@ ghost use Rattle.dg_frame.specs.Ranges.{PageInRange};
 ghost use Rattle.dg_slot.specs.Layout.{packets};
 ghost use Rattle.dg_slot.specs.Kept.{Held};
 ghost use Rattle.dg_slot.specs.Fits.{may_seal};
-ghost use Rattle.dg_slot.specs.Jobs.{IsOpen, IsJob, Packets, put_packet, page_from, outline_told, slot_of, slot_in, got_told, sector_of};
+ghost use Rattle.dg_slot.specs.Jobs.{IsOpen, IsJob, Packets, put_packet, page_from, outline_told, slot_of, slot_in, got_told};
+ghost use Rattle.dg_slot.specs.Jobs.{sector_of};
 ghost use Rattle.dg_volume.specs.Store.{Store};
 ghost use Rattle.dg_volume.specs.Stands.{is_lent, Mounted};
 ghost use Rattle.dg_volume.specs.Acts.{Acted, Stops};
 ghost use Rattle.dg_volume.specs.Trails.{sealing_trail};
 ghost use Rattle.dg_mote.specs.Model.{MoteState, Maintain, Receive, Receiving};
-ghost use Rattle.dg_mote.specs.Packets.{is_wanted, on_packet};
+ghost use Rattle.dg_mote.specs.Packets.{is_wanted, on_packet, page_packet};
 ghost use Rattle.dg_mote.specs.Motes.{IsMote, Receives, Done};
-ghost use Rattle.dg_mote.specs.Hearing.{Rests, StaysIf, Fills, is_sealed, IsWhole, page_ends};
+ghost use Rattle.dg_mote.specs.Hearing.{ChipStays, StaysIf, Fills, is_sealed, PageIsWhole, page_ends};
 
 use crate::requests::PageName;
 use crate::{Heard, Mode, Mote};
@@ -46,11 +48,13 @@ impl Mote {
         requires range { PageInRange (known_images self.old.wide) name.image name.version name.page }
         requires in_page { packet ≤ last_packet }
         ensures done { IfOk result (λ heard. (m : MoteState) (s : Store) → IsMote (N.device nor.old).image self.old m s
-            → Done (on_packet m.mode m s now word name.image name.version name.page packet bytes.now) (N.device nor.old) (N.device nor.new) self.new heard) }
+            → Done (on_packet m.mode m s now word (page_packet name.image name.version name.page packet bytes.now))
+            (N.device nor.old) (N.device nor.new) self.new heard) }
         ensures unchanged { IfOk result (λ heard. StaysIf heard ((N.device nor.new ≡ N.device nor.old) × (self.new ≡ self.old))) }
         ensures same_reference { (N.device nor.new).references ≡ (N.device nor.old).references }
         ensures stopped { OnErr result ((m : MoteState) (s : Store) → IsMote (N.device nor.old).image self.old m s
-            → Stops (on_packet m.mode m s now word name.image name.version name.page packet bytes.now).trail (N.device nor.old) (N.device nor.new)) }
+            → Stops (on_packet m.mode m s now word (page_packet name.image name.version name.page packet bytes.now)).trail
+            (N.device nor.old) (N.device nor.new)) }
     {
         match self.mode {
             Mode::Maintain(_) => Ok(self.overhear_packet(now, name)),
@@ -62,8 +66,10 @@ impl Mote {
     /// A page is sent to another mote: that is noted where it would be of use here.
     fn overhear_packet(&mut self, now: u64, name: PageName) -> Heard
         requires { PageInRange (known_images self.old.wide) name.image name.version name.page }
-        ensures rests { (c : List ℕ) (m : MoteState) (s : Store) (timer : Timer) (word packet : ℕ) (bytes : List ℕ) → IsMote c self.old m s
-            → Rests (on_packet (Maintain timer) m s now word name.image name.version name.page packet bytes) c s self.new result }
+        ensures rests { (c : List ℕ) (m : MoteState) (s : Store) (timer : Timer) (word packet : ℕ) (bytes : List ℕ)
+            → IsMote c self.old m s
+            → ChipStays (on_packet (Maintain timer) m s now word (page_packet name.image name.version name.page packet bytes))
+            c s self.new result }
         ensures unchanged { StaysIf result (self.new ≡ self.old) }
     {
         if !self.concerns(name) {
@@ -83,16 +89,21 @@ impl Mote {
         packet: u8,
         bytes: &[u8; PACKET_SIZE],
     ) -> Result<Heard, Stopped>
-        requires mote { (m : MoteState) × (s : Store) × (r : Receiving) × IsMote (N.device nor.old).image self.old m s × (m.mode ≡ Receive r) }
+        requires mote { (m : MoteState) × (s : Store) × (r : Receiving) × IsMote (N.device nor.old).image self.old m s
+            × (m.mode ≡ Receive r) }
         requires moment { now < 2 ^ 62 }
         requires range { PageInRange (known_images self.old.wide) name.image name.version name.page }
         requires in_page { packet ≤ last_packet }
-        ensures done { IfOk result (λ heard. (m : MoteState) (s : Store) (r : Receiving) → IsMote (N.device nor.old).image self.old m s → m.mode ≡ Receive r
-            → Done (on_packet (Receive r) m s now word name.image name.version name.page packet bytes.now) (N.device nor.old) (N.device nor.new) self.new heard) }
+        ensures done { IfOk result (λ heard. (m : MoteState) (s : Store) (r : Receiving)
+            → IsMote (N.device nor.old).image self.old m s → m.mode ≡ Receive r
+            → Done (on_packet (Receive r) m s now word (page_packet name.image name.version name.page packet bytes.now))
+            (N.device nor.old) (N.device nor.new) self.new heard) }
         ensures unchanged { IfOk result (λ heard. StaysIf heard ((N.device nor.new ≡ N.device nor.old) × (self.new ≡ self.old))) }
         ensures same_reference { (N.device nor.new).references ≡ (N.device nor.old).references }
-        ensures stopped { OnErr result ((m : MoteState) (s : Store) (r : Receiving) → IsMote (N.device nor.old).image self.old m s → m.mode ≡ Receive r
-            → Stops (on_packet (Receive r) m s now word name.image name.version name.page packet bytes.now).trail (N.device nor.old) (N.device nor.new)) }
+        ensures stopped { OnErr result ((m : MoteState) (s : Store) (r : Receiving)
+            → IsMote (N.device nor.old).image self.old m s → m.mode ≡ Receive r
+            → Stops (on_packet (Receive r) m s now word (page_packet name.image name.version name.page packet bytes.now)).trail
+            (N.device nor.old) (N.device nor.new)) }
     {
         what_stands_behind_the_commits();
         a_lent_slot_is_filled();
@@ -118,12 +129,15 @@ impl Mote {
     /// Seals the page that is whole, and maintains anew.
     fn end_page<N: Nor>(&mut self, nor: &mut N, now: u64, word: u32) -> Result<Heard, Stopped>
         requires moment { now < 2 ^ 62 }
-        requires whole { (m : MoteState) × (s : Store) × (r : Receiving) × (h : Held) × (ps : Packets) × IsWhole (N.device nor.old).image self.old m s r h ps }
-        ensures done { IfOk result (λ heard. (m : MoteState) (s : Store) (r : Receiving) (h : Held) (ps : Packets) → IsWhole (N.device nor.old).image self.old m s r h ps
+        requires whole { (m : MoteState) × (s : Store) × (r : Receiving) × (h : Held) × (ps : Packets)
+            × PageIsWhole (N.device nor.old).image self.old m s r h ps }
+        ensures done { IfOk result (λ heard. (m : MoteState) (s : Store) (r : Receiving) (h : Held) (ps : Packets)
+            → PageIsWhole (N.device nor.old).image self.old m s r h ps
             → Done (page_ends m r h s now word (page_from ps)) (N.device nor.old) (N.device nor.new) self.new heard) }
         ensures not_dropped { IfOk result (λ heard. StaysIf heard ⊥) }
         ensures same_reference { (N.device nor.new).references ≡ (N.device nor.old).references }
-        ensures stopped { OnErr result ((m : MoteState) (s : Store) (r : Receiving) (h : Held) (ps : Packets) → IsWhole (N.device nor.old).image self.old m s r h ps
+        ensures stopped { OnErr result ((m : MoteState) (s : Store) (r : Receiving) (h : Held) (ps : Packets)
+            → PageIsWhole (N.device nor.old).image self.old m s r h ps
             → Stops (page_ends m r h s now word (page_from ps)).trail (N.device nor.old) (N.device nor.new)) }
     {
         let maintain = Mode::Maintain(Trickle::new(now, word));
@@ -143,7 +157,8 @@ impl Mote {
 /// Whether a packet is missing of the page that a job fills.
 fn is_wanted(version: u32, job: &PageJob, name: PageName, packet: u8) -> bool
     requires { packet ≤ last_packet }
-    ensures value { (c : List ℕ) (h : Held) (r : Receiving) → IsJob c job.now h r.packets → (outline_told (slot_of job.now)).image ≡ r.image → version ≡ r.version → length h.complete ≡ r.page
+    ensures value { (c : List ℕ) (h : Held) (r : Receiving) → IsJob c job.now h r.packets
+        → (outline_told (slot_of job.now)).image ≡ r.image → version ≡ r.version → length h.complete ≡ r.page
         → result ≡ is_wanted r name.image name.version name.page packet }
     ensures missing { result ≡ true → set.contains (got_told job.now) packet ≡ false }
 {
@@ -185,12 +200,15 @@ fn put<N: Nor>(
 fn seal<N: Nor>(nor: &mut N, volume: &mut Volume, job: PageJob) -> Result<bool, Stopped>
     requires whole { (q : ℕ) → q < packets → set.contains (got_told job) q ≡ true }
     requires lent { is_lent volume.old (outline_told (slot_of job)).image ≡ true }
-    ensures sealed { IfOk result (λ fits. (s : Store) (image : ℕ) (h : Held) (ps : Packets) → Mounted (N.device nor.old).image volume.old s → Fills (N.device nor.old).image s image job h ps
-        → (fits ≡ may_seal image h (page_from ps)) × Acted (sealing_trail s image h (page_from ps)) (N.device nor.old) (N.device nor.new) volume.new) }
+    ensures sealed { IfOk result (λ fits. (s : Store) (image : ℕ) (h : Held) (ps : Packets)
+        → Mounted (N.device nor.old).image volume.old s → Fills (N.device nor.old).image s image job h ps
+        → (fits ≡ may_seal image h (page_from ps))
+        × Acted (sealing_trail s image h (page_from ps)) (N.device nor.old) (N.device nor.new) volume.new) }
     ensures back { OnOk result (is_lent volume.new (outline_told (slot_of job)).image ≡ false) }
     ensures others { (i : ℕ) → i ≢ (outline_told (slot_of job)).image → is_lent volume.new i ≡ is_lent volume.old i }
     ensures same_reference { (N.device nor.new).references ≡ (N.device nor.old).references }
-    ensures stopped { OnErr result ((s : Store) (image : ℕ) (h : Held) (ps : Packets) → Mounted (N.device nor.old).image volume.old s → Fills (N.device nor.old).image s image job h ps
+    ensures stopped { OnErr result ((s : Store) (image : ℕ) (h : Held) (ps : Packets)
+        → Mounted (N.device nor.old).image volume.old s → Fills (N.device nor.old).image s image job h ps
         → Stops (sealing_trail s image h (page_from ps)) (N.device nor.old) (N.device nor.new)) }
 {
     a_lent_slot_is_filled();

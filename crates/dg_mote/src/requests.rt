@@ -6,9 +6,9 @@ ghost use Rattle.dg_frame.specs.Ranges.{PageInRange};
 ghost use Rattle.dg_volume.specs.Store.{Store};
 ghost use Rattle.dg_trickle.specs.Timer.{Timer};
 ghost use Rattle.dg_mote.specs.Model.{MoteState, Maintain, Transmit, Sending};
-ghost use Rattle.dg_mote.specs.Requests.{concerns, can_serve, overheard, to_it, on_request};
+ghost use Rattle.dg_mote.specs.Requests.{concerns, can_serve, overheard, to_it, on_request, page_request};
 ghost use Rattle.dg_mote.specs.Motes.{IsMote};
-ghost use Rattle.dg_mote.specs.Hearing.{Rests, StaysIf};
+ghost use Rattle.dg_mote.specs.Hearing.{ChipStays, StaysIf};
 
 use crate::{Heard, Mode, Mote};
 use dg_bits::PageBits;
@@ -23,6 +23,18 @@ pub(crate) struct PageName {
     pub page: u8,
 }
 
+impl PageName {
+    pub(crate) fn new(image: u8, version: u32, page: u8) -> PageName
+        ensures { result ≡ record { image = image; version = version; page = page } }
+    {
+        PageName {
+            image,
+            version,
+            page,
+        }
+    }
+}
+
 impl Mote {
     /// A request of these packets of a page was heard, which is made of the mote `to`.
     pub(crate) fn hear_request(
@@ -35,7 +47,7 @@ impl Mote {
         requires range { PageInRange (known_images self.old.wide) name.image name.version name.page }
         requires some { want ≢ set.empty }
         ensures rests { (c : List ℕ) (m : MoteState) (s : Store) → IsMote c self.old m s
-            → Rests (on_request m s now to name.image name.version name.page want) c s self.new result }
+            → ChipStays (on_request m s now to (page_request name.image name.version name.page want)) c s self.new result }
         ensures unchanged { StaysIf result (self.new ≡ self.old) }
     {
         if to == self.id {
@@ -49,7 +61,7 @@ impl Mote {
     fn overhear_request(&mut self, now: u64, name: PageName) -> Heard
         requires { PageInRange (known_images self.old.wide) name.image name.version name.page }
         ensures rests { (c : List ℕ) (m : MoteState) (s : Store) → IsMote c self.old m s
-            → Rests (overheard m s now name.image name.version name.page) c s self.new result }
+            → ChipStays (overheard m s now name.image name.version name.page) c s self.new result }
         ensures unchanged { StaysIf result (self.new ≡ self.old) }
     {
         if !self.concerns(name) {
@@ -64,7 +76,7 @@ impl Mote {
         requires range { PageInRange (known_images self.old.wide) name.image name.version name.page }
         requires some { want ≢ set.empty }
         ensures rests { (c : List ℕ) (m : MoteState) (s : Store) → IsMote c self.old m s
-            → Rests (to_it m.mode m s now name.image name.version name.page want) c s self.new result }
+            → ChipStays (to_it m.mode m s now (page_request name.image name.version name.page want)) c s self.new result }
         ensures unchanged { StaysIf result (self.new ≡ self.old) }
     {
         match self.mode {
@@ -79,7 +91,8 @@ impl Mote {
         requires range { PageInRange (known_images self.old.wide) name.image name.version name.page }
         requires some { want ≢ set.empty }
         ensures rests { (c : List ℕ) (m : MoteState) (s : Store) (timer : Timer) → IsMote c self.old m s → m.mode ≡ Maintain timer
-            → Rests (to_it (Maintain timer) m s now name.image name.version name.page want) c s self.new result }
+            → ChipStays (to_it (Maintain timer) m s now
+            (page_request name.image name.version name.page want)) c s self.new result }
         ensures unchanged { StaysIf result (self.new ≡ self.old) }
     {
         if !self.can_serve(name) {
@@ -99,8 +112,9 @@ impl Mote {
 
     /// Adds what a further request asks for, where it is of the page that is served.
     fn serve_more(&mut self, name: PageName, want: PageBits<PACKETS>) -> Heard
-        ensures rests { (c : List ℕ) (m : MoteState) (s : Store) (t : Sending) (now : ℕ) → IsMote c self.old m s → m.mode ≡ Transmit t
-            → Rests (to_it (Transmit t) m s now name.image name.version name.page want) c s self.new result }
+        ensures rests { (c : List ℕ) (m : MoteState) (s : Store) (t : Sending) (now : ℕ) → IsMote c self.old m s
+            → m.mode ≡ Transmit t
+            → ChipStays (to_it (Transmit t) m s now (page_request name.image name.version name.page want)) c s self.new result }
         ensures unchanged { StaysIf result (self.new ≡ self.old) }
     {
         let Mode::Transmit {

@@ -7,7 +7,8 @@ ghost use Rattle.dg_volume.specs.Store.{golden_row};
 ghost use Rattle.dg_volume.specs.Table.{row_at};
 ghost use Rattle.dg_mote.specs.Spots.{SpotIsWell, after_ticks};
 ghost use Rattle.dg_mote.specs.Drained.{Drained, spare_room, HasRoom};
-ghost use Rattle.dg_mote.specs.Completing.{DrainLaw, SpendLaw, RestLaw, fresh_spot, AdvertLaw, AskLaw, RequestLaw, ServeLaw, TakeLaw};
+ghost use Rattle.dg_mote.specs.Completing.{DrainLaw, TickSpendLaw, RestLaw, fresh_spot, AdvertLaw, AskLaw, RequestLaw, ServeLaw};
+ghost use Rattle.dg_mote.specs.Completing.{TakeLaw};
 
 use crate::laws::a_mote_stays_well;
 use dg_slot::a_page_is_its_packets;
@@ -28,7 +29,7 @@ pub fn a_mote_drains()
 /// A mote that only ticks makes no more than three commits, however often it does: one clears the count of short starts,
 /// and two start the order. So one that has room for six has room for three after any number of ticks.
 pub fn ticks_take_few_commits()
-    ensures { SpendLaw }
+    ensures { TickSpendLaw }
 {
     a_mote_stays_well();
     a_table_holds_sound_rows();
@@ -45,10 +46,13 @@ pub fn a_drained_mote_rests()
 /// golden image. Where the chip was formatted with room for three commits, it has that room after any number of ticks.
 /// So such motes, wide or narrow, are what the laws of a round ask for.
 pub fn a_fresh_mote_is_drained()
-    ensures well { (table : List Row) (name bytes : List ℕ) (used id now word : ℕ) (wide : Bool) → row_at table 0 golden_version ≡ Some (golden_row name bytes)
+    ensures well { (table : List Row) (name bytes : List ℕ) (used id now word : ℕ) (wide : Bool)
+        → row_at table 0 golden_version ≡ Some (golden_row name bytes)
         → SpotIsWell table (fresh_spot name bytes used id wide now word) now }
-    ensures drained { (name bytes : List ℕ) (used id now word : ℕ) (wide : Bool) → Drained (fresh_spot name bytes used id wide now word) now }
-    ensures room { (table : List Row) (name bytes : List ℕ) (used id now word n : ℕ) (wide : Bool) → row_at table 0 golden_version ≡ Some (golden_row name bytes) → used + spare_room ≤ most_room
+    ensures drained { (name bytes : List ℕ) (used id now word : ℕ) (wide : Bool)
+        → Drained (fresh_spot name bytes used id wide now word) now }
+    ensures room { (table : List Row) (name bytes : List ℕ) (used id now word n : ℕ) (wide : Bool)
+        → row_at table 0 golden_version ≡ Some (golden_row name bytes) → used + spare_room ≤ most_room
         → HasRoom (after_ticks n (fresh_spot name bytes used id wide now word) now) }
 {
     a_mote_stays_well();

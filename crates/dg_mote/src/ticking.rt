@@ -19,7 +19,7 @@ ghost use Rattle.dg_mote.specs.Ticks.{clears, maintain_tick, mode_tick, tick_of}
 ghost use Rattle.dg_mote.specs.Timely.{Timely};
 ghost use Rattle.dg_mote.specs.Motes.{IsMote, Done, sent_in, IsRead};
 ghost use Rattle.dg_mote.specs.Consistency.{ChipIsConsistent, MoteIsConsistent};
-ghost use Rattle.dg_mote.specs.Shows.{Shows};
+ghost use Rattle.dg_mote.specs.Shows.{EndsInMode};
 
 use crate::laws::a_mote_keeps_consistency;
 use crate::summary::advert_message;
@@ -67,8 +67,10 @@ impl Mote {
             → Stops (tick_of m s now word).trail (N.device nor.old) (N.device nor.new)) }
         ensures nothing_sent { OnErr result (sent_in out.new ≡ None) }
         // whatever was heard before: a consistent chip stays so, also where it stops
-        ensures consistent { OnOk result ((golden : Row) → MoteIsConsistent golden (N.device nor.old).image self.old → MoteIsConsistent golden (N.device nor.new).image self.new) }
-        ensures stops_consistent { OnErr result ((golden : Row) → MoteIsConsistent golden (N.device nor.old).image self.old → ChipIsConsistent golden (N.device nor.new).image) }
+        ensures consistent { OnOk result ((golden : Row) → MoteIsConsistent golden (N.device nor.old).image self.old
+            → MoteIsConsistent golden (N.device nor.new).image self.new) }
+        ensures stops_consistent { OnErr result ((golden : Row) → MoteIsConsistent golden (N.device nor.old).image self.old
+            → ChipIsConsistent golden (N.device nor.new).image) }
     {
         a_mote_keeps_consistency();
         if self.clears(now) {
@@ -165,7 +167,7 @@ fn maintain(
     requires moment { now < 2 ^ 62 }
     requires empty { sent_in out.old ≡ None }
     ensures { (m : MoteState) (s : Store) → m.id ≡ id → m.wide ≡ wide → m.mode ≡ Maintain trickle.old → Tells volume.now s
-        → Shows (maintain_tick m trickle.old s now word) m s (Maintain trickle.new) out.new result }
+        → EndsInMode (maintain_tick m trickle.old s now word) m s (Maintain trickle.new) out.new result }
 {
     if order_waits(volume) {
         return Did::Restart;
@@ -187,7 +189,8 @@ fn request_message(
     job: &PageJob,
     want: PageBits<PACKETS>,
 ) -> Message
-    ensures { result ≡ message.Request id server (outline_told (slot_of job.now)).image version (done_told (slot_of job.now)) want }
+    ensures { result ≡ message.Request id server (outline_told (slot_of job.now)).image version (done_told (slot_of job.now))
+        want }
 {
     Message::Request {
         source: id,
@@ -211,7 +214,8 @@ fn packet_message<N: Nor>(
     requires known_image { image < slots }
     requires known_page { page < most_pages }
     requires known_packet { packet < packets }
-    ensures message { IfOk result (λ x. x ≡ message.Packet id image version page packet (packet_in (N.device nor.old).image (page_sector image page) packet)) }
+    ensures message { IfOk result (λ x. x ≡ message.Packet id image version page packet
+        (packet_in (N.device nor.old).image (page_sector image page) packet)) }
     ensures ends { ReadEnds result (N.device nor.old) (N.device nor.new) }
 {
     let mut bytes = [0; PACKET_SIZE];

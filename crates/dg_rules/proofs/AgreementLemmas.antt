@@ -1,20 +1,19 @@
 -- Steps and declarations keep agreement with the table, also where they are stopped.
 use Rattle.std.proofs.Common.{◌≡◌, ℕ, ◌<◌, ◌≤◌, ◌+◌, ◌^◌, Bool, true, false, List, length, Option, Some, None, IfSome, IfOk, Result, Ok, Err, refl, sym, ap, subst, ◌∙◌, inr, arith, ltb-false}
-use Rattle.std.specs.List.{AllByRecursion}
 use Rattle.std.proofs.lemmas.Bool.{cond_both}
 use Rattle.std.proofs.lemmas.Bool.Decides.{nat_tests}
 use Rattle.std.proofs.lemmas.List.{length-set}
 use Rattle.std.specs.Prelude.{◌==◌, nat_lt}
 use Rattle.dg_words.specs.Cells.{AreBytes}
-use Rattle.dg_nor.specs.Trail.{Trail, Leaves, last, resting}
+use Rattle.dg_nor.specs.Trail.{Trail, last}
 use Rattle.dg_nor.specs.Through.{Through}
-use Rattle.dg_nor.proofs.ThroughLemmas.{Through-resting, Through-stepping, Through-last}
+use Rattle.dg_nor.proofs.ThroughLemmas.{Through-stepping, Through-last}
 use Rattle.dg_control.specs.Store.{commit_operations}
 use Rattle.dg_control.specs.declared.snapshot.Order.{Order}
 use Rattle.dg_object.specs.Object.{Row, IsRow}
 use Rattle.dg_slot.specs.Layout.{most_bytes}
 use Rattle.dg_volume.specs.Sizes.{images}
-use Rattle.dg_volume.specs.Store.{Store, IsNear}
+use Rattle.dg_volume.specs.Store.{Store}
 use Rattle.dg_volume.specs.Changes.{inject_refusal, ordered}
 use Rattle.dg_volume.specs.Trails.{order_trail, inject_trail}
 use Rattle.dg_volume.specs.Start.{Runs, boot}
@@ -29,30 +28,23 @@ use Rattle.dg_frame.specs.Grammar.{message_of}
 use Rattle.dg_frame.specs.Spelling.{frame_of, FitsTypes}
 use Rattle.dg_frame.specs.declared.FrameFault.{FrameFault}
 use Rattle.dg_frame.specs.declared.Message.{Message}
-use Rattle.dg_mote.specs.Model.{MoteState, begun, maintains, Turn}
+use Rattle.dg_mote.specs.Model.{MoteState, begun_mote, maintains, Turn}
 use Rattle.dg_mote.specs.Ticks.{tick_of}
 use Rattle.dg_mote.specs.Hears.{heard_of}
 use Rattle.dg_mote.specs.Agreement.{IsHonest, HonestMessage}
 use Rattle.dg_mote.specs.Timely.{Timely}
 use Rattle.dg_mote.specs.Well.{StoreIsWell, IsWell, TurnIsWell, SendsHonest}
 use Rattle.dg_mote.specs.Speaking.{OrderFits, Speaks, TurnSpeaks, IsSaid}
-use Rattle.dg_rules.specs.Sizes.{most_motes}
-use Rattle.dg_rules.specs.World.{World, Site, Running, Sent, site, store_at, wide_at, counted, off_site}
-use Rattle.dg_rules.specs.Events.{Deed, Does, Refuses, Goes, trail_of, does, mote_of, dt_of, key_of, reloaded}
-use Rattle.dg_rules.specs.Steps.{blows, and_sent, StepDoes, WorldStep, DeclareStep, declared_as}
-use Rattle.dg_rules.specs.Ranges.{EventFits, StepFits}
-use Rattle.dg_rules.specs.Premises.{IsDeclared, LinkFits, RunsWell, SiteIsWell, SentIsWell, WorldAgrees, TrueEvent}
-use Rattle.dg_rules.specs.Promises.{table_of, StopsAgree}
+use Rattle.dg_rules.specs.World.{World, Running, Sent, site, store_at, wide_at}
+use Rattle.dg_rules.specs.Events.{Deed, Does, Refuses, Goes, does, mote_of, dt_of, key_of, reloaded}
+use Rattle.dg_rules.specs.Ranges.{EventInRange}
+use Rattle.dg_rules.specs.Premises.{IsDeclared, RunsWell, SentIsWell, WorldAgrees, TrueEvent}
 use Rattle.dg_base.specs.declared.events.Event.{Event}
-use Rattle.dg_base.specs.declared.events.Event.TheVariants.{Tick, Hear, Last, Reset, Inject, Order as OrderEvent, Frame}
-use Rattle.dg_base.specs.declared.events.Step.{Step}
-use Rattle.dg_script.specs.declared.report.Report.{Report}
-use Rattle.dg_rules.proofs.ThroughLemmas.{cut_holds, Through-map, Through-both}
+use Rattle.dg_rules.proofs.ThroughLemmas.{Through-map, Through-both}
 use Rattle.dg_rules.proofs.TableLemmas.{row_at-key, row_at-each, row_at-with_row, row_at-added, IsTable-with_row}
-use Rattle.dg_rules.proofs.SiteLemmas.{each_site, site_count}
 use Rattle.dg_rules.proofs.InjectLemmas.{OnInject, inject_way, refused_not}
-use Rattle.dg_rules.proofs.WiderLemmas.{Wider, wider_same, agrees_wider, site_wider, sent_wider, all_map, all_pushed}
-use Rattle.dg_rules.proofs.EventLemmas.{order_of, running_by, starts, goes_on, hears, RestartLaws, does_cases, EndsAs, ended_world, sent_unless, ends_as}
+use Rattle.dg_rules.proofs.WiderLemmas.{Wider, wider_same, agrees_wider}
+use Rattle.dg_rules.proofs.EventLemmas.{order_of, running_by, starts, goes_on, hears, RestartLaws, does_cases}
 
 -- what is known of volumes
 pub record VolumeLaws : Type 0 where
@@ -64,13 +56,13 @@ pub record VolumeLaws : Type 0 where
 -- what is known of a mote and of frames
 pub record MoteLaws : Type 0 where
   pub restarts : RestartLaws
-  pub begins : (table : List Row) (s : Store) (id now word : ℕ) (wide : Bool) → StoreIsWell table s → IsWell table (begun id wide now word) s now
+  pub begins : (table : List Row) (s : Store) (id now word : ℕ) (wide : Bool) → StoreIsWell table s → IsWell table (begun_mote id wide now word) s now
   pub later : (table : List Row) (m : MoteState) (s : Store) (now then : ℕ) → now ≤ then → IsWell table m s now → IsWell table m s then
   pub reloads : (table : List Row) (m : MoteState) (s : Store) (now word : ℕ) → Timely m now → StoreIsWell table s → IsWell table (maintains m now word) s now
   pub ticks : (table : List Row) (m : MoteState) (s : Store) (now word : ℕ) → IsWell table m s now → TurnIsWell table (tick_of m s now word) now
   pub hears : (table : List Row) (m : MoteState) (s : Store) (now word : ℕ) (bytes : List ℕ) → IsTable table → IsHonest table bytes → IsWell table m s now → TurnIsWell table (heard_of m s now word bytes) now
   pub says : (table : List Row) (m : MoteState) (s : Store) (now word : ℕ) → IsTable table → IsWell table m s now → Speaks m s → IfSome (tick_of m s now word).sent (IsSaid m.id m.wide)
-  pub speaks_first : (s : Store) (id now word : ℕ) (wide : Bool) → id < 2 ^ 16 → OrderFits s.order → Speaks (begun id wide now word) s
+  pub speaks_first : (s : Store) (id now word : ℕ) (wide : Bool) → id < 2 ^ 16 → OrderFits s.order → Speaks (begun_mote id wide now word) s
   pub speaks_ticked : (m : MoteState) (s : Store) (now word : ℕ) → Speaks m s → TurnSpeaks m.id m.wide (tick_of m s now word)
   pub speaks_heard : (m : MoteState) (s : Store) (now word : ℕ) (bytes : List ℕ) → IfOk (message_of bytes m.wide) FitsTypes → Speaks m s → TurnSpeaks m.id m.wide (heard_of m s now word bytes)
   pub bytes_fit : (b : List ℕ) (wide : Bool) (m : Message) → AreBytes b → message_of b wide ≡ Ok m → FitsTypes m
@@ -86,7 +78,7 @@ pub record IsGood (table : List Row) (s : Store) : Type 0 where
   pub order : OrderFits s.order
 
 -- room is no part of it
-good_room : (table : List Row) (s : Store) (room : ℕ) → IsGood table s → IsGood table (record s { room = room })
+pub good_room : (table : List Row) (s : Store) (room : ℕ) → IsGood table s → IsGood table (record s { room = room })
 good_room table s room g = record { well = record { places = g.well.places; agrees = record { golden = g.well.agrees.golden; kept = g.well.agrees.kept; app = g.well.agrees.app } }; order = g.order }
 
 through_good : (table : List Row) (t : Trail Store) → Through (StoreIsWell table) t → Through (λ s. OrderFits s.order) t → Through (IsGood table) t
@@ -180,7 +172,7 @@ module _ (w : World) (agrees : WorldAgrees w) where
 
 module _ (laws : Laws) (w : World) (agrees : WorldAgrees w) where
   -- what is known of a mote of the world and of its store
-  here : (m : ℕ) → m < length w.sites → IsGood w.table (store_at w m)
+  pub here : (m : ℕ) → m < length w.sites → IsGood w.table (store_at w m)
   here m low = let x = agrees.sites m low in record { well = x.store; order = x.order }
 
   runs_here : (m : ℕ) (r : Running) → m < length w.sites → (site w m).runs ≡ Some r → RunsWell w.table m (wide_at w m) w.moment (store_at w m) r
@@ -220,7 +212,7 @@ module _ (laws : Laws) (w : World) (agrees : WorldAgrees w) where
       → IfSome runs (RunsWell w.table m (wide_at w m) now s)
   started_well m id wide now word s None runs is same low g e = absurd cc
   started_well m id wide now word s (Some r) runs is same low g e =
-      subst (λ (o : Option Running). IfSome o (RunsWell w.table m (wide_at w m) now s)) (same_running (Some (record { key = key_of r; mote = begun id wide now word })) runs e)
+      subst (λ (o : Option Running). IfSome o (RunsWell w.table m (wide_at w m) now s)) (same_running (Some (record { key = key_of r; mote = begun_mote id wide now word })) runs e)
       (record {
         id = is;
         wide_is = same;
@@ -363,9 +355,9 @@ module _ (laws : Laws) (w : World) (agrees : WorldAgrees w) where
 
   -- ---- every event
 
-  pub agrees_does : (e : Event) → EventFits (length w.sites) e → TrueEvent w e → AgreesDoes w (mote_of e) (dt_of e) (does w e)
+  pub agrees_does : (e : Event) → EventInRange (length w.sites) e → TrueEvent w e → AgreesDoes w (mote_of e) (dt_of e) (does w e)
   agrees_does =
-      does_cases laws.mote.restarts w (SentIsWell w.table) agrees.sent (λ e D. EventFits (length w.sites) e → TrueEvent w e → AgreesDoes w (mote_of e) (dt_of e) D)
+      does_cases laws.mote.restarts w (SentIsWell w.table) agrees.sent (λ e D. EventInRange (length w.sites) e → TrueEvent w e → AgreesDoes w (mote_of e) (dt_of e) D)
       (λ e why fits honest. tt)
       (λ m dt word r is fits honest. tick_agrees m dt word r is fits)
       (λ m dt word r is waits fits honest. start_agrees kind.Order m dt r.mote.id r.mote.wide word fits (runs_here m r fits is).id (runs_here m r fits is).wide_is)
@@ -375,107 +367,3 @@ module _ (laws : Laws) (w : World) (agrees : WorldAgrees w) where
       (λ m dt word bytes r is fits honest. hear_agrees m dt word bytes r is fits.0 honest (bytes_fit r.mote.wide bytes fits.2 (message_of bytes r.mote.wide) refl))
       (λ m image version dt word row known none fits honest. inject_agrees m image version dt word row fits.0 known (λ kept e. honest row kept known e) none)
       (λ m number image version dt word none fits honest. order_agrees m number image version dt word fits.0 (order_fits number image version fits.1 fits.2 fits.3 fits.4 fits.5))
-
--- ---- steps
-
-pub mote_within : (n : ℕ) (e : Event) → EventFits n e → mote_of e < n
-mote_within n (Tick m dt word) fits = fits
-mote_within n (Hear m dt word number) fits = fits.0
-mote_within n (Last from m dt word) fits = fits.1
-mote_within n (Reset m dt word) fits = fits
-mote_within n (Inject m image version dt word) fits = fits.0
-mote_within n (OrderEvent m number image version dt word) fits = fits.0
-mote_within n (Frame m dt word bytes) fits = fits.0
-
-pub step_within : (w : World) (x : Step) → StepFits (length w.sites) x → mote_of x.event < length w.sites
-step_within w x fits = mote_within (length w.sites) x.event fits.event
-
--- a frame more was sent
-sent_agrees : (u : World) (m : ℕ) (o : Option Message) → IfSome o (λ message. SentIsWell u.table (record { by = m; bytes = frame_of message })) → WorldAgrees u → WorldAgrees (and_sent u m o)
-sent_agrees u m None is a = a
-sent_agrees u m (Some message) is a = record {
-  few = a.few;
-  table = a.table;
-  rows = a.rows;
-  links = a.links;
-  sites = a.sites;
-  sent = all_pushed (SentIsWell u.table) u.sent (record { by = m; bytes = frame_of message }) a.sent is;
-}
-
-unless_cut : (P : Message → Type 0) (b : Bool) (d : Deed) → IfSome d.sent P → IfSome (sent_unless b d) P
-unless_cut P true d p = tt
-unless_cut P false d p = p
-
-module _ (laws : Laws) (w : World) (x : Step) (v : World) (reports : List Report) (agrees : WorldAgrees w) (fits : StepFits (length w.sites) x) where
-  deed_agrees : (d : Deed) → AgreesDeed w (mote_of x.event) (dt_of x.event) d → StepDoes (Goes d) w x v reports → WorldAgrees v
-  deed_agrees d g does_it =
-      let m = mote_of x.event in
-      let now = w.moment + dt_of x.event in
-      let mid : World = record (counted w (dt_of x.event)) { table = d.table } in
-      let here = Through-last (IsGood d.table) d.trail g.way in
-      let P : Bool → Site → Type 0 = λ b y. SiteIsWell d.table m (wide_at w m) now y in
-      let off : (s : Store) → IsGood d.table s → SiteIsWell d.table m (wide_at w m) now (off_site s) = λ s good. record { store = good.well; order = good.order; runs = tt } in
-      let end : EndsAs P (blows x.cut d.trail) w x d v =
-      ends_as P (λ s room y. off (record s { room = room }) (good_room d.table s room (record { well = y.store; order = y.order }))) w x d v reports
-      (λ runs e. record { store = here.well; order = here.order; runs = g.mote runs e })
-      (Through-map (IsGood d.table) (λ s. SiteIsWell d.table m (wide_at w m) now (off_site s)) off d.trail g.way) (blows x.cut d.trail) does_it in
-      let within = step_within w x fits in
-      let count : length (ended_world w x d end.0).sites ≡ length w.sites = site_count mid m end.0 in
-      let moved : WorldAgrees (ended_world w x d end.0) = record {
-        few = subst (λ (n : ℕ). n ≤ most_motes) (sym count) agrees.few;
-        table = g.table;
-        rows = agrees.rows;
-        links = subst (λ (n : ℕ). AllByRecursion (LinkFits n) w.links) (sym count) agrees.links;
-        sites = each_site (λ k y. SiteIsWell d.table k (wide_at w k) now y) mid m end.0 within end.2 (λ k less _. site_wider w.table d.table g.wider (laws.mote.later w.table) k (wide_at w k) w.moment now (site w k) (omega arith) (agrees.sites k less));
-        sent = all_map (SentIsWell w.table) (SentIsWell d.table) (sent_wider w.table d.table g.wider) w.sent agrees.sent;
-      } in
-      subst WorldAgrees (sym end.1)
-      (sent_agrees (ended_world w x d end.0) m (sent_unless (blows x.cut d.trail) d)
-      (unless_cut (λ message. SentIsWell d.table (record { by = m; bytes = frame_of message })) (blows x.cut d.trail) d g.sent) moved)
-
-  does_agrees : (D : Does) → AgreesDoes w (mote_of x.event) (dt_of x.event) D → StepDoes D w x v reports → WorldAgrees v
-  does_agrees (Refuses why) g did =
-      subst WorldAgrees (sym did.0)
-      (record {
-        few = agrees.few;
-        table = agrees.table;
-        rows = agrees.rows;
-        links = agrees.links;
-        sites = λ j low. site_wider w.table w.table (wider_same w.table) (laws.mote.later w.table) j (wide_at w j) w.moment (w.moment + dt_of x.event) (site w j) (omega arith) (agrees.sites j low);
-        sent = agrees.sent;
-      })
-  does_agrees (Goes d) g did = deed_agrees d g did
-
-  pub step_agrees : TrueEvent w x.event → WorldStep w x v reports → WorldAgrees v
-  unfolding WorldStep
-  step_agrees honest did = does_agrees (does w x.event) (agrees_does laws w agrees x.event fits.event honest) did
-
--- ---- declarations
-
-declared_agrees : (w : World) (row : Row) (o : Option Row) → IsDeclared row → WorldAgrees w → WorldAgrees (declared_as o w row)
-declared_agrees w row (Some kept) may agrees = agrees
-declared_agrees w row None may agrees = record {
-  few = agrees.few;
-  table = agrees.table;
-  rows = all_pushed IsDeclared w.declared row agrees.rows may;
-  links = agrees.links;
-  sites = agrees.sites;
-  sent = agrees.sent;
-}
-
-pub declare_agrees : (w v : World) (row : Row) (reports : List Report) → WorldAgrees w → IsDeclared row → DeclareStep w row v reports → WorldAgrees v
-declare_agrees w v row reports agrees may did = subst WorldAgrees (sym did.world) (declared_agrees w row (row_at w.declared row.image row.version) may agrees)
-
--- ---- stops
-
-stop_good : (table : List Row) (t : Trail Store) (k : ℕ) (s : Store) → Through (IsGood table) t → Leaves IsNear t k s → Agrees table s
-stop_good table t k s way left = (cut_holds (IsGood table) (good_room table) t k s way left).well.agrees
-
-stop_agrees : (w : World) (m dt : ℕ) (old : Store) → IsGood w.table old → (D : Does) → AgreesDoes w m dt D → (k : ℕ) (s : Store) → Leaves IsNear (trail_of D old) k s → Agrees (table_of D w.table) s
-stop_agrees w m dt old good (Refuses why) agrees k s left = stop_good w.table (resting old 0) k s (Through-resting (IsGood w.table) old 0 good) left
-stop_agrees w m dt old good (Goes d) agrees k s left = stop_good d.table d.trail k s agrees.way left
-
-pub stops_agree : Laws → (w : World) (e : Event) → WorldAgrees w → EventFits (length w.sites) e → TrueEvent w e → StopsAgree w e
-stops_agree laws w e agrees fits honest =
-    let m = mote_of e in
-    stop_agrees w m (dt_of e) (store_at w m) (here laws w agrees m (mote_within (length w.sites) e fits)) (does w e) (agrees_does laws w agrees e fits honest)

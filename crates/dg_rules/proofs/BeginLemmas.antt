@@ -3,8 +3,8 @@ use Rattle.std.proofs.Common.{◌≡◌, ℕ, List, [], ◌∷◌, length, refl,
 use Rattle.std.specs.List.{AllByRecursion}
 use Rattle.dg_volume.specs.Table.{row_at}
 use Rattle.dg_rules.specs.World.{World}
-use Rattle.dg_rules.specs.Ranges.{EventFits, StepFits}
-use Rattle.dg_rules.specs.Premises.{WorldAgrees, TrueEvent, ItemFits, PlayedFits, ItemInRange, IsInRange, TrueItem, IsTrueThen, LeavesAgreement}
+use Rattle.dg_rules.specs.Ranges.{EventInRange, StepInRange}
+use Rattle.dg_rules.specs.Premises.{WorldAgrees, TrueEvent, ItemFits, PlayedFits, ItemInRange, PlayedInRange, TrueItem, IsTrueThen, LeavesAgreement}
 use Rattle.dg_rules.specs.Begins.{PlaysFrom}
 use Rattle.dg_rules.specs.Promises.{StopsAgree}
 use Rattle.dg_script.specs.Items.{Item, Declares, Happens}
@@ -17,13 +17,13 @@ use Rattle.dg_rules.proofs.PlayLemmas.{Ended, plays, all_then, all_both}
 
 item_count : (motes : ℕ) (item : Item) (w v : World) (reports : List Report) → length w.sites ≡ motes → ItemInRange motes item → ItemStep w item v reports → length v.sites ≡ motes
 item_count motes (Declares row) w v reports count range did = ap length (ap (λ (u : World). u.sites) did.world ∙ declared_sites (row_at w.declared row.image row.version) w row) ∙ count
-item_count motes (Happens x loud) w v reports count range did = step_count w x v did.0 (subst (λ (n : ℕ). StepFits n x) (sym count) range) did.1 ∙ count
+item_count motes (Happens x loud) w v reports count range did = step_count w x v did.0 (subst (λ (n : ℕ). StepInRange n x) (sym count) range) did.1 ∙ count
 
 item_fits : (motes : ℕ) (item : Item) (w : World) → length w.sites ≡ motes → ItemInRange motes item → TrueItem item w → ItemFits item w
 item_fits motes (Declares row) w count range is_true = range
-item_fits motes (Happens x loud) w count range is_true = (subst (λ (n : ℕ). StepFits n x) (sym count) range, is_true)
+item_fits motes (Happens x loud) w count range is_true = (subst (λ (n : ℕ). StepInRange n x) (sym count) range, is_true)
 
-fits_played : (motes : ℕ) (past : List Played) (p : Played) → length p.before.sites ≡ motes → IsInRange motes p × IsTrueThen p → ItemStep p.before p.item p.after p.reports
+fits_played : (motes : ℕ) (past : List Played) (p : Played) → length p.before.sites ≡ motes → PlayedInRange motes p × IsTrueThen p → ItemStep p.before p.item p.after p.reports
     → (length p.after.sites ≡ motes) × PlayedFits p
 fits_played motes past p count range did = (item_count motes p.item p.before p.after p.reports count range.0 did, item_fits motes p.item p.before count range.0 range.1)
 
@@ -36,8 +36,8 @@ ends_agree (p ∷ ps) w v run agrees all = ends_agree ps p.after v run.2 all.0 a
 module _ (u v : World) (played : List Played) (from : PlaysFrom u played v) where
   run : Ended (λ past w. length w.sites ≡ length u.sites) v × EachAfter (λ past p. PlayedFits p) [] played
   run =
-      plays (λ past w. length w.sites ≡ length u.sites) (λ p. IsInRange (length u.sites) p × IsTrueThen p) (λ past p. PlayedFits p) (fits_played (length u.sites)) [] played u v from.plays
-      (all_both (IsInRange (length u.sites)) IsTrueThen played from.ranges from.are_true) refl
+      plays (λ past w. length w.sites ≡ length u.sites) (λ p. PlayedInRange (length u.sites) p × IsTrueThen p) (λ past p. PlayedFits p) (fits_played (length u.sites)) [] played u v from.plays
+      (all_both (PlayedInRange (length u.sites)) IsTrueThen played from.ranges from.are_true) refl
 
   pub from_fits : AllByRecursion PlayedFits played
   from_fits = all_then (λ past p. PlayedFits p) PlayedFits (λ past p fits. fits) [] played run.1
@@ -45,6 +45,6 @@ module _ (u v : World) (played : List Played) (from : PlaysFrom u played v) wher
   pub from_ends : AllByRecursion LeavesAgreement played → WorldAgrees v
   from_ends all = ends_agree played u v from.plays from.agrees all
 
-  pub from_halves : ((w : World) (e : Event) → WorldAgrees w → EventFits (length w.sites) e → TrueEvent w e → StopsAgree w e) → AllByRecursion LeavesAgreement played
-      → (e : Event) → EventFits (length u.sites) e → TrueEvent v e → StopsAgree v e
-  from_halves stopped all e fits is_true = stopped v e (from_ends all) (subst (λ (n : ℕ). EventFits n e) (sym run.0.holds) fits) is_true
+  pub from_halves : ((w : World) (e : Event) → WorldAgrees w → EventInRange (length w.sites) e → TrueEvent w e → StopsAgree w e) → AllByRecursion LeavesAgreement played
+      → (e : Event) → EventInRange (length u.sites) e → TrueEvent v e → StopsAgree v e
+  from_halves stopped all e fits is_true = stopped v e (from_ends all) (subst (λ (n : ℕ). EventInRange n e) (sym run.0.holds) fits) is_true

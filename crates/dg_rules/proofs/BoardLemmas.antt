@@ -12,11 +12,11 @@ use Rattle.dg_volume.specs.Sizes.{images}
 use Rattle.dg_volume.specs.Store.{Store, fresh}
 use Rattle.dg_mote.specs.Speaking.{OrderFits}
 use Rattle.dg_rules.specs.Sizes.{most_motes}
-use Rattle.dg_rules.specs.World.{World, Site, site, wide_in, off_site, first_world}
-use Rattle.dg_rules.specs.Premises.{LinkFits, SiteIsWell, WorldAgrees, AllOff, IsInRange, IsTrueThen}
+use Rattle.dg_rules.specs.World.{World, Site, site, is_wide_mote, off_site, first_world}
+use Rattle.dg_rules.specs.Premises.{LinkFits, SiteIsWell, WorldAgrees, AllOff, PlayedInRange, IsTrueThen}
 use Rattle.dg_rules.specs.Begins.{PlaysFrom, store_of, StoresAgree, AreShaped, PlaysBoards}
 use Rattle.dg_rules.specs.Runs.{Played}
-use Rattle.dg_rules.specs.Ranges.{EventFits}
+use Rattle.dg_rules.specs.Ranges.{EventInRange}
 use Rattle.dg_base.specs.declared.events.Event.{Event}
 use Rattle.std.proofs.lemmas.Bool.{cases_Bool}
 
@@ -87,7 +87,7 @@ module _ (table : List Row) (stores : List Store) (links : List (ℕ × ℕ)) (n
   first_site : (m : ℕ) → site First m ≡ off_site (store_of stores m)
   first_site m = get_or-map off_site stores m (fresh [] [] 0)
 
-  first_well : StoresAgree table stores → AreShaped stores → (m : ℕ) → m < length stores → SiteIsWell table m (wide_in narrow m) 0 (off_site (store_of stores m))
+  first_well : StoresAgree table stores → AreShaped stores → (m : ℕ) → m < length stores → SiteIsWell table m (is_wide_mote narrow m) 0 (off_site (store_of stores m))
   first_well agree shaped m here = record {
     store = record { places = (shaped m here).places; agrees = agree.each m here };
     order = order_told (store_of stores m).order (shaped m here).order;
@@ -100,7 +100,7 @@ module _ (table : List Row) (stores : List Store) (links : List (ℕ × ℕ)) (n
     table = agree.is_table;
     rows = tt;
     links = subst (λ (n : ℕ). AllByRecursion (LinkFits n) links) (sym first_count) links_fit;
-    sites = λ m here. subst (SiteIsWell table m (wide_in narrow m) 0) (sym (first_site m)) (first_well agree shaped m (subst (λ (n : ℕ). m < n) first_count here));
+    sites = λ m here. subst (SiteIsWell table m (is_wide_mote narrow m) 0) (sym (first_site m)) (first_well agree shaped m (subst (λ (n : ℕ). m < n) first_count here));
     sent = tt;
   }
 
@@ -112,9 +112,9 @@ module _ (table : List Row) (stores : List Store) (links : List (ℕ × ℕ)) (n
     agrees = first_agrees agree script.shaped script.few script.links_fit;
     off = first_off;
     plays = script.plays;
-    ranges = subst (λ (n : ℕ). AllByRecursion (IsInRange n) played) (sym first_count) script.ranges;
+    ranges = subst (λ (n : ℕ). AllByRecursion (PlayedInRange n) played) (sym first_count) script.ranges;
     are_true = are_true;
   }
 
-  pub boards_fit : (e : Event) → EventFits (length stores) e → EventFits (length First.sites) e
-  boards_fit e fits = subst (λ (n : ℕ). EventFits n e) (sym first_count) fits
+  pub boards_fit : (e : Event) → EventInRange (length stores) e → EventInRange (length First.sites) e
+  boards_fit e fits = subst (λ (n : ℕ). EventInRange n e) (sym first_count) fits

@@ -5,14 +5,14 @@ use Rattle.dg_nor.specs.Trail.{last}
 use Rattle.dg_volume.specs.Start.{Runs, boot}
 use Rattle.dg_volume.specs.declared.volume.Kind.TheVariants as kind
 use Rattle.dg_slot.specs.Jobs.{packet}
-use Rattle.dg_mote.specs.Model.{Mode, Maintain, Receive, Transmit, Receiving, begun}
+use Rattle.dg_mote.specs.Model.{Mode, Maintain, Receive, Transmit, Receiving, begun_mote}
 use Rattle.dg_mote.specs.Ticks.{tick_of}
 use Rattle.dg_mote.specs.Hears.{heard_of}
 use Rattle.dg_mote.specs.Changes.{IfReceives, Brings, IsBegun, Continues}
 use Rattle.dg_rules.specs.World.{World, Site, Running, Sent, site, store_at, wide_at, counted}
 use Rattle.dg_rules.specs.Events.{Deed, Does, Refuses, Goes, does, mote_of, dt_of, key_of, reloaded}
 use Rattle.dg_rules.specs.Steps.{blows, StepDoes, WorldStep}
-use Rattle.dg_rules.specs.Ranges.{EventFits, StepFits}
+use Rattle.dg_rules.specs.Ranges.{EventInRange, StepInRange}
 use Rattle.dg_rules.specs.Premises.{RunsWell, WorldAgrees}
 use Rattle.dg_rules.specs.Legal.{Past, Came, Started, CameTo}
 use Rattle.dg_rules.specs.Past.{brought, came_then, started_then, started_unless, past_by}
@@ -22,7 +22,8 @@ use Rattle.dg_script.specs.declared.report.Report.{Report}
 use Rattle.dg_rules.proofs.ThroughLemmas.{Through-each}
 use Rattle.dg_rules.proofs.SiteLemmas.{each_site}
 use Rattle.dg_rules.proofs.EventLemmas.{RestartLaws, running_by, does_cases, all_sent, EndsAs, ended_world, sent_unless, ends_as}
-use Rattle.dg_rules.proofs.AgreementLemmas.{step_within, same_running, running_at}
+use Rattle.dg_rules.proofs.AgreementLemmas.{same_running, running_at}
+use Rattle.dg_rules.proofs.AgreementSteps.{step_within}
 use Rattle.dg_rules.proofs.StepLemmas.{sent_sites, step_narrow}
 use Rattle.dg_rules.proofs.ChangesLemmas.{ChangeLaws}
 use Rattle.dg_rules.proofs.MessageLemmas.{AllThere}
@@ -118,7 +119,7 @@ module _ (restarts : RestartLaws) (changes : ChangeLaws) (past : Past) (w : Worl
 
   start_came : (p : Past) (m : ℕ) (o : Option Runs) (id : ℕ) (wide : Bool) (now word : ℕ) (runs : Option Running) → running_by o id wide now word ≡ Some runs → At p m runs
   start_came p m None id wide now word runs e = absurd cc
-  start_came p m (Some r) id wide now word runs e = one_came p m (record { key = key_of r; mote = begun id wide now word }) runs tt e
+  start_came p m (Some r) id wide now word runs e = one_came p m (record { key = key_of r; mote = begun_mote id wide now word }) runs tt e
 
   reload_came : (p : Past) (m : ℕ) (o runs : Option Running) (now word : ℕ) → Some (reloaded o now word) ≡ Some runs → At p m runs
   reload_came p m o runs now word e = subst (At p m) (same_running (reloaded o now word) runs e) (each o)
@@ -141,9 +142,9 @@ module _ (restarts : RestartLaws) (changes : ChangeLaws) (past : Past) (w : Worl
       let n = (heard_of r.mote (store_at w m) now word bytes).mote in
       one_came (Came m bytes past) m (record { key = r.key; mote = n }) runs (heard_there m (wide_at w m) past bytes r.mote.mode n.mode (there_here m r on low) (comes_here m now word bytes r on low)) e
 
-  came_does : (e : Event) → EventFits (length w.sites) e → CameDoes past w e (does w e)
+  came_does : (e : Event) → EventInRange (length w.sites) e → CameDoes past w e (does w e)
   came_does =
-      does_cases restarts w (λ f. Unit {0}) (all_sent w.sent) (λ e D. EventFits (length w.sites) e → CameDoes past w e D)
+      does_cases restarts w (λ f. Unit {0}) (all_sent w.sent) (λ e D. EventInRange (length w.sites) e → CameDoes past w e D)
       (λ e why fits. tt)
       (λ m dt word r on fits runs e. let n = (tick_of r.mote (store_at w m) (w.moment + dt) word).mote in
       one_came past m (record { key = r.key; mote = n }) runs (ticked_there m (wide_at w m) past r.mote.mode n.mode (there_here m r on fits) (changes.comes_not r.mote (store_at w m) (w.moment + dt) word)) e)
@@ -157,7 +158,7 @@ module _ (restarts : RestartLaws) (changes : ChangeLaws) (past : Past) (w : Worl
 
   -- ---- steps
 
-  module _ (x : Step) (v : World) (reports : List Report) (fits : StepFits (length w.sites) x) where
+  module _ (x : Step) (v : World) (reports : List Report) (fits : StepInRange (length w.sites) x) where
     came_by : (D : Does) → CameDoes past w x.event D → StepDoes D w x v reports → CameBy (past_by D w x past) w.narrow v
     came_by (Refuses why) c did = subst (CameBy past w.narrow) (sym did.0) came
     came_by (Goes d) c did =

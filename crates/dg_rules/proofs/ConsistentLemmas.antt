@@ -18,7 +18,7 @@ use Rattle.dg_volume.specs.Table.{row_at}
 use Rattle.dg_volume.specs.Consistent.{IsSoundApp, Consistent}
 use Rattle.dg_volume.specs.declared.volume.Kind.{Kind}
 use Rattle.dg_volume.specs.declared.volume.Kind.TheVariants as kind
-use Rattle.dg_mote.specs.Model.{MoteState, begun}
+use Rattle.dg_mote.specs.Model.{MoteState, begun_mote}
 use Rattle.dg_mote.specs.Ticks.{tick_of}
 use Rattle.dg_mote.specs.Hears.{heard_of}
 use Rattle.dg_mote.specs.Consistency.{AsksForKnown, StoreIsConsistent, TurnIsConsistent}
@@ -26,7 +26,7 @@ use Rattle.dg_mote.proofs.ConsistentLemmas.{consistent_room}
 use Rattle.dg_rules.specs.World.{World, Running, Site, site, store_at, wide_at, off_site}
 use Rattle.dg_rules.specs.Events.{Deed, Does, Refuses, Goes, trail_of, does, mote_of, key_of, reloaded}
 use Rattle.dg_rules.specs.Steps.{WorldStep, DeclareStep, declared_as}
-use Rattle.dg_rules.specs.Ranges.{EventFits, StepFits}
+use Rattle.dg_rules.specs.Ranges.{EventInRange, StepInRange}
 use Rattle.dg_rules.specs.Premises.{IsDeclared}
 use Rattle.dg_rules.specs.Consistency.{SiteConsistent, WorldConsistent, StartsSoundDoes, StopsConsistent}
 use Rattle.dg_base.specs.declared.events.Event.{Event}
@@ -37,7 +37,8 @@ use Rattle.dg_rules.proofs.TableLemmas.{row_at-each}
 use Rattle.dg_rules.proofs.KeepingLemmas.{inject_keeps}
 use Rattle.dg_rules.proofs.WiderLemmas.{all_pushed}
 use Rattle.dg_rules.proofs.EventLemmas.{RestartLaws, order_of, running_by, starts, goes_on, hears, does_cases, all_sent}
-use Rattle.dg_rules.proofs.AgreementLemmas.{is_row, same_running, running_at, mote_within}
+use Rattle.dg_rules.proofs.AgreementLemmas.{is_row, same_running, running_at}
+use Rattle.dg_rules.proofs.AgreementSteps.{mote_within}
 use Rattle.dg_rules.proofs.StepLemmas.{Lands, LandsDoes, step_sites, step_declared}
 
 -- what is known of volumes, of motes and of restarts
@@ -108,7 +109,7 @@ module _ (golden : Row) where
 
       start_asks : (o : Option Runs) (id : ℕ) (wide : Bool) (now word : ℕ) (runs : Option Running) → running_by o id wide now word ≡ Some runs → AsksKnown runs
       start_asks None id wide now word runs e = absurd cc
-      start_asks (Some r) id wide now word runs e = one_asks (record { key = key_of r; mote = begun id wide now word }) runs tt e
+      start_asks (Some r) id wide now word runs e = one_asks (record { key = key_of r; mote = begun_mote id wide now word }) runs tt e
 
       reload_asks : (o runs : Option Running) (now word : ℕ) → Some (reloaded o now word) ≡ Some runs → AsksKnown runs
       reload_asks o runs now word e = subst AsksKnown (same_running (reloaded o now word) runs e) (each o)
@@ -133,9 +134,9 @@ module _ (golden : Row) where
           let turn = laws.ticks r.mote s now word (store_here m low) (asks_here m r low is) in
           lands _ turn.way (λ runs e. one_asks (record { key = r.key; mote = (tick_of r.mote s now word).mote }) runs turn.asks e)
 
-      consistent_does : (e : Event) → EventFits (length w.sites) e → LandsDoes Fine (does w e)
+      consistent_does : (e : Event) → EventInRange (length w.sites) e → LandsDoes Fine (does w e)
       consistent_does =
-          does_cases laws.restarts w (λ f. Unit {0}) (all_sent w.sent) (λ e D. EventFits (length w.sites) e → LandsDoes Fine D)
+          does_cases laws.restarts w (λ f. Unit {0}) (all_sent w.sent) (λ e D. EventInRange (length w.sites) e → LandsDoes Fine D)
           (λ e why fits. tt)
           (λ m dt word r is fits. tick_lands m (w.moment + dt) word r fits is)
           (λ m dt word r is waits fits. start_lands kind.Order m r.mote.id r.mote.wide (w.moment + dt) word fits)
@@ -147,7 +148,7 @@ module _ (golden : Row) where
           lands _ (inject_way (store_at w m) row (row_at-each IsDeclared w.declared image version row here.rows known) none (store_here m fits.0)) (λ runs e. reload_asks (site w m).runs runs (w.moment + dt) word e))
           (λ m number image version dt word none fits. lands _ (order_way (store_at w m) number image version (store_here m fits.0)) (λ runs e. reload_asks (site w m).runs runs (w.moment + dt) word e))
 
-      pub step_consistent : (x : Step) (v : World) (reports : List Report) → StepFits (length w.sites) x → WorldStep w x v reports → WorldConsistent golden v
+      pub step_consistent : (x : Step) (v : World) (reports : List Report) → StepInRange (length w.sites) x → WorldStep w x v reports → WorldConsistent golden v
       step_consistent x v reports fits did = record {
         rows = subst (λ (rows : List Row). AllByRecursion IsDeclared rows) (sym (step_declared w x v reports fits did)) here.rows;
         sites = step_sites w x v reports fits Fine (λ j y. SiteConsistent golden y) site_room (λ b y p. p) here.sites (consistent_does x.event fits.event) did;
@@ -159,7 +160,7 @@ module _ (golden : Row) where
       stops_by (Refuses why) lands old p k s left = (cut_holds P (consistent_room golden) (resting old 0) k s (Through-resting P old 0 p) left).consistent
       stops_by (Goes d) lands old p k s left = (cut_holds (λ x. SiteConsistent golden (off_site x)) site_room d.trail k s lands.cut left).store.consistent
 
-      pub stops_consistent : (e : Event) → EventFits (length w.sites) e → StopsConsistent golden w e
+      pub stops_consistent : (e : Event) → EventInRange (length w.sites) e → StopsConsistent golden w e
       stops_consistent e fits = stops_by (does w e) (consistent_does e fits) (store_at w (mote_of e)) (store_here (mote_of e) (mote_within (length w.sites) e fits))
 
       -- ---- what starts
@@ -167,9 +168,9 @@ module _ (golden : Row) where
       boot_sound : (k : Kind) (m : ℕ) → m < length w.sites → IfSome (boot k (store_at w m)).runs (λ r. IsSoundApp golden (app_of r))
       boot_sound k m low = laws.starts k (store_at w m) (store_here m low).consistent
 
-      pub starts_sound : (e : Event) → EventFits (length w.sites) e → StartsSoundDoes golden (does w e)
+      pub starts_sound : (e : Event) → EventInRange (length w.sites) e → StartsSoundDoes golden (does w e)
       starts_sound =
-          does_cases laws.restarts w (λ f. Unit {0}) (all_sent w.sent) (λ e D. EventFits (length w.sites) e → StartsSoundDoes golden D)
+          does_cases laws.restarts w (λ f. Unit {0}) (all_sent w.sent) (λ e D. EventInRange (length w.sites) e → StartsSoundDoes golden D)
           (λ e why fits. tt)
           (λ m dt word r is fits. tt)
           (λ m dt word r is waits fits. boot_sound kind.Order m fits)

@@ -1,16 +1,16 @@
 -- Every store stays consistent through all that is played of a script.
-use Rattle.std.proofs.Common.{◌≡◌, ℕ, Bool, List, [], ◌∷◌, length, replicate, refl, sym, ap, subst, ◌∙◌}
+use Rattle.std.proofs.Common.{◌≡◌, ℕ, List, [], length, refl, sym, ap, subst, ◌∙◌}
 use Rattle.std.specs.List.{AllByRecursion}
 use Rattle.dg_object.specs.Object.{Row, IsRow}
 use Rattle.dg_volume.specs.Store.{golden_row, fresh}
 use Rattle.dg_volume.specs.Consistent.{Consistent}
 use Rattle.dg_volume.specs.Table.{row_at}
-use Rattle.dg_rules.specs.World.{World, first_world}
+use Rattle.dg_rules.specs.World.{World}
 use Rattle.dg_rules.specs.Events.{does}
 use Rattle.dg_rules.specs.Steps.{WorldStep, DeclareStep}
-use Rattle.dg_rules.specs.Ranges.{EventFits, StepFits}
-use Rattle.dg_rules.specs.Premises.{IsDeclared, ItemInRange, IsInRange}
-use Rattle.dg_rules.specs.Golden.{PlaysGolden}
+use Rattle.dg_rules.specs.Ranges.{EventInRange, StepInRange}
+use Rattle.dg_rules.specs.Premises.{IsDeclared, ItemInRange, PlayedInRange}
+use Rattle.dg_rules.specs.Golden.{GoldenNetwork, network_row, network_world, PlaysGolden}
 use Rattle.dg_rules.specs.Consistency.{SiteConsistent, WorldConsistent, LeavesConsistent, StartsSoundDoes, StartsSoundItem, StartsSound, StopsConsistent}
 use Rattle.dg_script.specs.Items.{Item, Declares, Happens}
 use Rattle.dg_rules.specs.Runs.{Played, ItemStep, EachAfter}
@@ -25,10 +25,10 @@ use Rattle.dg_rules.proofs.ScriptLemmas.{first_count, first_site}
 -- what is known of steps and of chips that were formatted
 pub record RunLaws : Type 0 where
   pub fresh : (name bytes : List ℕ) (used : ℕ) → IsRow (golden_row name bytes) → Consistent (golden_row name bytes) (fresh name bytes used)
-  pub stepped : (golden : Row) (w v : World) (x : Step) (reports : List Report) → WorldConsistent golden w → StepFits (length w.sites) x → WorldStep w x v reports → WorldConsistent golden v
-  pub stopped : (golden : Row) (w : World) (e : Event) → WorldConsistent golden w → EventFits (length w.sites) e → StopsConsistent golden w e
+  pub stepped : (golden : Row) (w v : World) (x : Step) (reports : List Report) → WorldConsistent golden w → StepInRange (length w.sites) x → WorldStep w x v reports → WorldConsistent golden v
+  pub stopped : (golden : Row) (w : World) (e : Event) → WorldConsistent golden w → EventInRange (length w.sites) e → StopsConsistent golden w e
   pub declared : (golden : Row) (w v : World) (row : Row) (reports : List Report) → WorldConsistent golden w → IsDeclared row → DeclareStep w row v reports → WorldConsistent golden v
-  pub starts : (golden : Row) (w : World) (e : Event) → WorldConsistent golden w → EventFits (length w.sites) e → StartsSoundDoes golden (does w e)
+  pub starts : (golden : Row) (w : World) (e : Event) → WorldConsistent golden w → EventInRange (length w.sites) e → StartsSoundDoes golden (does w e)
 
 -- every store is consistent, and the motes are so many
 record Holds (golden : Row) (motes : ℕ) (w : World) : Type 0 where
@@ -46,38 +46,38 @@ module _ (laws : RunLaws) (golden : Row) (motes : ℕ) where
     count = ap length (ap (λ (u : World). u.sites) did.world ∙ declared_sites (row_at w.declared row.image row.version) w row) ∙ h.count;
   }
   item_holds (Happens x loud) w v reports h range did =
-      let fits : StepFits (length w.sites) x = subst (λ (n : ℕ). StepFits n x) (sym h.count) range in
+      let fits : StepInRange (length w.sites) x = subst (λ (n : ℕ). StepInRange n x) (sym h.count) range in
       record { world = laws.stepped golden w v x did.0 h.world fits did.1; count = step_count w x v did.0 fits did.1 ∙ h.count }
 
   item_starts : (item : Item) (w : World) → Holds golden motes w → ItemInRange motes item → StartsSoundItem golden item w
   item_starts (Declares row) w h range = tt
-  item_starts (Happens x loud) w h range = laws.starts golden w x.event h.world (subst (λ (n : ℕ). StepFits n x) (sym h.count) range).event
+  item_starts (Happens x loud) w h range = laws.starts golden w x.event h.world (subst (λ (n : ℕ). StepInRange n x) (sym h.count) range).event
 
-  played_holds : (past : List Played) (p : Played) → Holds golden motes p.before → IsInRange motes p → ItemStep p.before p.item p.after p.reports → Holds golden motes p.after × Has golden p
+  played_holds : (past : List Played) (p : Played) → Holds golden motes p.before → PlayedInRange motes p → ItemStep p.before p.item p.after p.reports → Holds golden motes p.after × Has golden p
   played_holds past p h range did =
       let after = item_holds p.item p.before p.after p.reports h range did in
       (after, record { leaves = after.world; starts = item_starts p.item p.before h range })
 
 -- ---- what is played of a script
 
-module _ (laws : RunLaws) (name bytes : List ℕ) (used motes : ℕ) (links : List (ℕ × ℕ)) (narrow : List Bool) (played : List Played) (v : World) (script : PlaysGolden name bytes used motes links narrow played v) where
+module _ (laws : RunLaws) (g : GoldenNetwork) (played : List Played) (v : World) (script : PlaysGolden g played v) where
   abbrev Golden : Row
-  Golden = golden_row name bytes
+  Golden = network_row g
 
   abbrev Begins : World
-  Begins = first_world (Golden ∷ []) links narrow (replicate motes (fresh name bytes used))
+  Begins = network_world g
 
-  begins : Holds Golden motes Begins
+  begins : Holds Golden g.motes Begins
   begins = record {
     world = record {
       rows = tt;
-      sites = λ m here. subst (SiteConsistent Golden) (sym (first_site name bytes used motes links narrow script.is_row m here)) (record { store = record { places = refl; consistent = laws.fresh name bytes used script.is_row }; asks = tt });
+      sites = λ m here. subst (SiteConsistent Golden) (sym (first_site g.name g.bytes g.used g.motes g.links g.narrow script.is_row m here)) (record { store = record { places = refl; consistent = laws.fresh g.name g.bytes g.used script.is_row }; asks = tt });
     };
-    count = first_count name bytes used motes links narrow script.is_row;
+    count = first_count g.name g.bytes g.used g.motes g.links g.narrow script.is_row;
   }
 
-  run : Ended (λ past w. Holds Golden motes w) v × EachAfter (λ past p. Has Golden p) [] played
-  run = plays (λ past w. Holds Golden motes w) (IsInRange motes) (λ past p. Has Golden p) (played_holds laws Golden motes) [] played Begins v script.plays script.ranges begins
+  run : Ended (λ past w. Holds Golden g.motes w) v × EachAfter (λ past p. Has Golden p) [] played
+  run = plays (λ past w. Holds Golden g.motes w) (PlayedInRange g.motes) (λ past p. Has Golden p) (played_holds laws Golden g.motes) [] played Begins v script.plays script.ranges begins
 
   pub run_kept : AllByRecursion (LeavesConsistent Golden) played × WorldConsistent Golden v
   run_kept = (all_then (λ past p. Has Golden p) (LeavesConsistent Golden) (λ past p h. h.leaves) [] played run.1, run.0.holds.world)
@@ -85,5 +85,5 @@ module _ (laws : RunLaws) (name bytes : List ℕ) (used motes : ℕ) (links : Li
   pub run_starts : AllByRecursion (StartsSound Golden) played
   run_starts = all_then (λ past p. Has Golden p) (StartsSound Golden) (λ past p h. h.starts) [] played run.1
 
-  pub run_halves : (e : Event) → EventFits motes e → StopsConsistent Golden v e
-  run_halves e fits = laws.stopped Golden v e run.0.holds.world (subst (λ (n : ℕ). EventFits n e) (sym run.0.holds.count) fits)
+  pub run_halves : (e : Event) → EventInRange g.motes e → StopsConsistent Golden v e
+  run_halves e fits = laws.stopped Golden v e run.0.holds.world (subst (λ (n : ℕ). EventInRange n e) (sym run.0.holds.count) fits)

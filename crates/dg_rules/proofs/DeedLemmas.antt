@@ -20,18 +20,18 @@ use Rattle.dg_volume.specs.declared.volume.OrderFault.{OrderFault}
 use Rattle.dg_volume.specs.declared.volume.OrderFault.TheVariants as order_fault
 use Rattle.dg_frame.specs.Grammar.{message_of}
 use Rattle.dg_frame.specs.declared.Message.{Message}
-use Rattle.dg_mote.specs.Model.{MoteState, begun}
+use Rattle.dg_mote.specs.Model.{MoteState, begun_mote}
 use Rattle.dg_mote.specs.Ticks.{tick_of}
 use Rattle.dg_mote.specs.Hears.{heard_of}
 use Rattle.dg_mote.specs.Changes.{MayClear, IfReceives}
 use Rattle.dg_base.specs.declared.events.Key.{Key}
-use Rattle.dg_rules.specs.World.{World, Site, Running, Sent, site, store_at, wide_in, wide_at, counted, frame_at, last_frame}
+use Rattle.dg_rules.specs.World.{World, Site, Running, Sent, site, store_at, is_wide_mote, wide_at, counted, frame_at, last_frame}
 use Rattle.dg_rules.specs.Small.{Holding, SmallMote, holding, app_key, running_key, small_mote, Small, small, holds, whole}
 use Rattle.dg_rules.specs.Events.{Deed, Does, Refuses, Goes, does, mote_of, dt_of, key_of, reloaded, acts}
 use Rattle.dg_rules.specs.Steps.{blows, and_sent, StepDoes, WorldStep}
-use Rattle.dg_rules.specs.Ranges.{EventFits, StepFits}
+use Rattle.dg_rules.specs.Ranges.{EventInRange, StepInRange}
 use Rattle.dg_rules.specs.Premises.{RunsWell, WorldAgrees, TrueEvent}
-use Rattle.dg_rules.specs.Legal.{Past, Came, MayInject, CutHolding, LegalInject, IsOn, MayStart, MayRestart, CutStart, LegalFrame, LegalMessage, LegalAt, LegalStep, taking, off_after}
+use Rattle.dg_rules.specs.Legal.{Past, Came, MayInject, CutHolding, LegalInject, SmallIsOn, MayStart, OrdersWholeRow, CutStart, LegalFrame, LegalMessage, LegalAt, LegalStep, taking, off_after, step_facts}
 use Rattle.dg_rules.specs.Past.{brought}
 use Rattle.dg_rules.specs.Promises.{LegalDoes}
 use Rattle.dg_base.specs.declared.events.Event.{Event}
@@ -43,7 +43,8 @@ use Rattle.dg_rules.proofs.SiteLemmas.{small_at, small_there, small_other, small
 use Rattle.dg_rules.proofs.BootLemmas.{IsSettled, boot_start}
 use Rattle.dg_rules.proofs.InjectLemmas.{OnInject, may_inject, inject_way, inject_way_last, inject_whole, refused_not}
 use Rattle.dg_rules.proofs.EventLemmas.{order_of, running_by, starts, goes_on, hearing_of, hears, does_cases, all_sent, EndsAs, ended_world, sent_unless, ends_as}
-use Rattle.dg_rules.proofs.AgreementLemmas.{Injected, injected, step_within, same_running, running_at}
+use Rattle.dg_rules.proofs.AgreementLemmas.{Injected, injected, same_running, running_at}
+use Rattle.dg_rules.proofs.AgreementSteps.{step_within}
 use Rattle.dg_rules.proofs.StepLemmas.{LandsDoes, step_sites}
 use Rattle.dg_rules.proofs.ChangesLemmas.{StepLaws}
 use Rattle.dg_rules.proofs.LegalLemmas.{mote, holds_at, legal_start, chosen_start, cut_start, tick_starts, tick_start, tick_waits}
@@ -60,15 +61,15 @@ CameTo past m wide x = IfSome x.runs (λ r. IfReceives (AllThere m wide past) r.
 
 -- where these motes are narrow
 abbrev pub CameBy : Past → (narrow : List Bool) → World → Type 0
-CameBy past narrow w = (m : ℕ) → m < length w.sites → CameTo past m (wide_in narrow m) (site w m)
+CameBy past narrow w = (m : ℕ) → m < length w.sites → CameTo past m (is_wide_mote narrow m) (site w m)
 
 abbrev pub WorldCame : Past → World → Type 0
 WorldCame past w = CameBy past w.narrow w
 
 -- what an event may do at mote m that brings this frame
 pub record LegalDeed (past : Past) (w : World) (m : ℕ) (frame : Option (List ℕ)) (e : Event) (d : Deed) : Type 0 where
-  pub whole : (runs : Option Running) → d.runs ≡ Some runs → LegalAt past w.declared w.table false (wide_at w m) frame e (small_mote (site w m)) (mote (last d.trail) runs) d.table
-  pub cut : Through (λ s. LegalAt past w.declared w.table true (wide_at w m) frame e (small_mote (site w m)) (mote s None) d.table) d.trail
+  pub whole : (runs : Option Running) → d.runs ≡ Some runs → LegalAt (step_facts past w.declared false (wide_at w m) frame) w.table e (small_mote (site w m)) (mote (last d.trail) runs) d.table
+  pub cut : Through (λ s. LegalAt (step_facts past w.declared true (wide_at w m) frame) w.table e (small_mote (site w m)) (mote s None) d.table) d.trail
   pub settled : (runs : Option Running) → d.runs ≡ Some runs → IfSome runs (λ r. IsSettled (last d.trail))
 
 abbrev pub LegalDeedDoes : Past → World → Event → Does → Type 0
@@ -88,9 +89,9 @@ if_on P Q None (Some r) a b f p = absurd (let e = b refl in cc)
 if_on P Q (Some q) None a b f p = tt
 if_on P Q (Some q) (Some r) a b f p = f p
 
-started : (o : Option Runs) (id : ℕ) (wide : Bool) (now word : ℕ) (runs : Option Running) → running_by o id wide now word ≡ Some runs → (r : Runs) × (o ≡ Some r) × (runs ≡ Some (record { key = key_of r; mote = begun id wide now word }))
+started : (o : Option Runs) (id : ℕ) (wide : Bool) (now word : ℕ) (runs : Option Running) → running_by o id wide now word ≡ Some runs → (r : Runs) × (o ≡ Some r) × (runs ≡ Some (record { key = key_of r; mote = begun_mote id wide now word }))
 started None id wide now word runs e = absurd cc
-started (Some r) id wide now word runs e = (r, refl, sym (same_running (Some (record { key = key_of r; mote = begun id wide now word })) runs e))
+started (Some r) id wide now word runs e = (r, refl, sym (same_running (Some (record { key = key_of r; mote = begun_mote id wide now word })) runs e))
 
 larger : (s : Store) (order : Order) → order_refusal s order ≡ None → s.order.number < order.number
 larger s order e =
@@ -123,7 +124,7 @@ inject_small x row image t way runs then image_is runs_is =
     λ j. record { holdings = holdings j; app = option_map app_key (way.app j); order = way.order j; runs = runs_is j }
 
 module _ (laws : StepLaws) (past : Past) (w : World) (agrees : WorldAgrees w) (settled : WorldSettled w) (came : WorldCame past w) where
-  is_on : (m : ℕ) (r : Running) → (site w m).runs ≡ Some r → IsOn (small_mote (site w m))
+  is_on : (m : ℕ) (r : Running) → (site w m).runs ≡ Some r → SmallIsOn (small_mote (site w m))
   is_on m r on = (r.key, ap running_key on)
 
   settled_here : (m : ℕ) (r : Running) → (site w m).runs ≡ Some r → m < length w.sites → IsSettled (store_at w m)
@@ -154,8 +155,8 @@ module _ (laws : StepLaws) (past : Past) (w : World) (agrees : WorldAgrees w) (s
       let way = laws.changes.ticks r.mote s now word in
       record {
         whole = λ runs e. (is_on m r on, inl (clear_small x (last t) runs (Through-last (MayClear s) t way) ∙ same_key s runs x.runs (on_key m r step.mote runs on e)), refl);
-        cut = Through-map (MayClear s) (λ q. LegalAt past w.declared w.table true (wide_at w m) None (Tick m dt word) (small_mote x) (mote q None) w.table)
-            (λ q may. (is_on m r on, stays_cut (MayRestart w.table (small_mote x)) x q (clear_small x q None may), refl)) t way;
+        cut = Through-map (MayClear s) (λ q. LegalAt (step_facts past w.declared true (wide_at w m) None) w.table (Tick m dt word) (small_mote x) (mote q None) w.table)
+            (λ q may. (is_on m r on, stays_cut (OrdersWholeRow w.table (small_mote x)) x q (clear_small x q None may), refl)) t way;
         settled = λ runs e. one_settled r runs (last t) (calm_settled s (last t) (tick_calm laws.changes r.mote s now word) (settled_here m r on here));
       }
 
@@ -169,16 +170,16 @@ module _ (laws : StepLaws) (past : Past) (w : World) (agrees : WorldAgrees w) (s
       let ends = laws.ends in
       let old = (agrees.sites m here).store.agrees in
       let q = kept_runs s s.order.image s.order.version in
-      let n = begun r.mote.id r.mote.wide now word in
-      let May : Key → Type 0 = MayRestart w.table (small_mote x) in
+      let n = begun_mote r.mote.id r.mote.wide now word in
+      let May : Key → Type 0 = OrdersWholeRow w.table (small_mote x) in
       let chosen : b.runs ≡ Some q = tick_starts ends w.table x old agrees.table laws.rows waits (settled_here m r on here) in
       let is : (runs : Option Running) → running_by b.runs r.mote.id r.mote.wide now word ≡ Some runs → Some (record { key = key_of q; mote = n }) ≡ runs =
       λ runs e. same_running (Some (record { key = key_of q; mote = n })) runs (ap (λ (o : Option Runs). running_by o r.mote.id r.mote.wide now word) (sym chosen) ∙ e) in
       record {
         whole = λ runs e.
-            subst (λ (o : Option Running). LegalAt past w.declared w.table false (wide_at w m) None (Tick m dt word) (small_mote x) (mote (last b.trail) o) w.table) (is runs e)
+            subst (λ (o : Option Running). LegalAt (step_facts past w.declared false (wide_at w m) None) w.table (Tick m dt word) (small_mote x) (mote (last b.trail) o) w.table) (is runs e)
             (is_on m r on, tick_start ends w.table x old n waits chosen, refl);
-        cut = Through-map (λ t. CutStart May (small_mote x) (mote t None)) (λ t. LegalAt past w.declared w.table true (wide_at w m) None (Tick m dt word) (small_mote x) (mote t None) w.table)
+        cut = Through-map (λ t. CutStart May (small_mote x) (mote t None)) (λ t. LegalAt (step_facts past w.declared true (wide_at w m) None) w.table (Tick m dt word) (small_mote x) (mote t None) w.table)
             (λ t c. (is_on m r on, c, refl)) b.trail
             (cut_start ends w.table x old kind.Order May (λ c e. subst (λ (y : Runs). May (key_of y)) (same_runs q c (sym chosen ∙ e)) (tick_waits ends w.table x old waits)));
         settled = λ runs e. if_any (IsSettled (last b.trail)) runs ((boot_start kind.Order s).settled q chosen);
@@ -194,9 +195,9 @@ module _ (laws : StepLaws) (past : Past) (w : World) (agrees : WorldAgrees w) (s
       let old = (agrees.sites m here).store.agrees in
       record {
         whole = λ runs e. let g = started b.runs m (wide_at w m) now word runs e in
-            subst (λ (o : Option Running). LegalAt past w.declared w.table false (wide_at w m) None (Reset m dt word) (small_mote x) (mote (last b.trail) o) w.table) (sym g.2)
-            (legal_start ends w.table x old kind.Power g.0 (begun m (wide_at w m) now word) g.1, refl);
-        cut = Through-map (λ t. CutStart (MayStart w.table (small_mote x)) (small_mote x) (mote t None)) (λ t. LegalAt past w.declared w.table true (wide_at w m) None (Reset m dt word) (small_mote x) (mote t None) w.table)
+            subst (λ (o : Option Running). LegalAt (step_facts past w.declared false (wide_at w m) None) w.table (Reset m dt word) (small_mote x) (mote (last b.trail) o) w.table) (sym g.2)
+            (legal_start ends w.table x old kind.Power g.0 (begun_mote m (wide_at w m) now word) g.1, refl);
+        cut = Through-map (λ t. CutStart (MayStart w.table (small_mote x)) (small_mote x) (mote t None)) (λ t. LegalAt (step_facts past w.declared true (wide_at w m) None) w.table (Reset m dt word) (small_mote x) (mote t None) w.table)
             (λ t c. (c, refl)) b.trail (cut_start ends w.table x old kind.Power (MayStart w.table (small_mote x)) (chosen_start ends w.table x old kind.Power));
         settled = λ runs e. let g = started b.runs m (wide_at w m) now word runs e in if_any (IsSettled (last b.trail)) runs ((boot_start kind.Power s).settled g.0 g.1);
       }
@@ -215,7 +216,7 @@ module _ (laws : StepLaws) (past : Past) (w : World) (agrees : WorldAgrees w) (s
 
     -- what an event that brings the frame may change
     abbrev Brought : Bool → SmallMote → Type 0
-    Brought blew new = IsOn (small_mote Listener) × (mid : SmallMote) × LegalFrame past blew m (wide_at w m) (Some bytes) (small_mote Listener) mid × (new ≡ off_after blew mid) × (w.table ≡ w.table)
+    Brought blew new = SmallIsOn (small_mote Listener) × (mid : SmallMote) × LegalFrame past blew m (wide_at w m) (Some bytes) (small_mote Listener) mid × (new ≡ off_after blew mid) × (w.table ≡ w.table)
 
     record Hears : Type 0 where
       pub whole : (runs : Option Running) → ◌≡◌ {A = Option (Option Running)} (Some (Some (record { key = r.key; mote = (heard_of r.mote Listener.store Now word bytes).mote }))) (Some runs) → Brought false (mote (last Heard) runs)
@@ -278,7 +279,7 @@ module _ (laws : StepLaws) (past : Past) (w : World) (agrees : WorldAgrees w) (s
       let mid : SmallMote = record (small_mote x) { order = order } in
       record {
         whole = λ runs e. (mid, record { larger = more; change = inl refl }, same_key t runs x.runs (reload_key m (w.moment + dt) word runs e), refl);
-        cut = Through-stepping (λ q. LegalAt past w.declared w.table true (wide_at w m) None (OrderEvent m number image version dt word) (small_mote x) (mote q None) w.table) s (commit_operations s.room) t
+        cut = Through-stepping (λ q. LegalAt (step_facts past w.declared true (wide_at w m) None) w.table (OrderEvent m number image version dt word) (small_mote x) (mote q None) w.table) s (commit_operations s.room) t
             (small_mote x, record { larger = more; change = inr (refl, refl) }, refl, refl)
             (mid, record { larger = more; change = inl refl }, refl, refl);
         settled = λ runs e. reload_settled m (w.moment + dt) word t runs here (λ old three. let empty : s.room ≡ 0 = old three in omega (arith, empty)) e;
@@ -301,7 +302,7 @@ module _ (laws : StepLaws) (past : Past) (w : World) (agrees : WorldAgrees w) (s
     held_old = holds_at Here image ∙ ap (λ (i : ℕ). option_map holding (held Here.store i)) (sym fact.image_is)
 
     inject_is_legal : (blew : Bool) (h : Option Holding) → ((blew ≡ false) × (h ≡ Some (whole row))) ⊎ ((blew ≡ true) × CutHolding (option_map holding (held Here.store row.image)) row h)
-        → LegalInject w.declared w.table blew image version (small_mote Here) (taking (small_mote Here) image h) More
+        → LegalInject w.declared w.table More blew (record { image = image; version = version }) (small_mote Here) (taking (small_mote Here) image h)
     inject_is_legal blew h how = record {
       known = let low = (refused_not Here.store row none).0 in let same = fact.image_is in omega (arith, low, same);
       row = row;
@@ -324,7 +325,7 @@ module _ (laws : StepLaws) (past : Past) (w : World) (agrees : WorldAgrees w) (s
             inject_is_legal false (option_map holding way.here) (inl (refl, inject_whole More s row fact.in_table fact.within fact.agrees_more none)),
             inject_small Here row image t way runs Here.runs fact.image_is (reload_key m (w.moment + dt) word runs e),
           );
-          cut = Through-map (OnInject s row) (λ q. LegalAt past w.declared w.table true (wide_at w m) None (Inject m image version dt word) (small_mote Here) (mote q None) More)
+          cut = Through-map (OnInject s row) (λ q. LegalAt (step_facts past w.declared true (wide_at w m) None) w.table (Inject m image version dt word) (small_mote Here) (mote q None) More)
               (λ q on. (
                 taking (small_mote Here) image (option_map holding on.here),
                 inject_is_legal true (option_map holding on.here) (inr (refl, on.how)),
@@ -336,9 +337,9 @@ module _ (laws : StepLaws) (past : Past) (w : World) (agrees : WorldAgrees w) (s
 
   -- ---- every event
 
-  legal_deed : (e : Event) → EventFits (length w.sites) e → TrueEvent w e → LegalDeedDoes past w e (does w e)
+  legal_deed : (e : Event) → EventInRange (length w.sites) e → TrueEvent w e → LegalDeedDoes past w e (does w e)
   legal_deed =
-      does_cases laws.restarts w (λ f. Unit {0}) (all_sent w.sent) (λ e D. EventFits (length w.sites) e → TrueEvent w e → LegalDeedDoes past w e D)
+      does_cases laws.restarts w (λ f. Unit {0}) (all_sent w.sent) (λ e D. EventInRange (length w.sites) e → TrueEvent w e → LegalDeedDoes past w e D)
       (λ e why fits honest. tt)
       (λ m dt word r on fits honest. tick_legal m dt word r on fits)
       (λ m dt word r on waits fits honest. start_tick_legal m dt word r on waits fits)
@@ -352,13 +353,13 @@ module _ (laws : StepLaws) (past : Past) (w : World) (agrees : WorldAgrees w) (s
   -- ---- every step
 
   legal_world : (x : Step) (d : Deed) (y : Site) (blew : Bool) → mote_of x.event < length w.sites
-      → LegalAt past w.declared w.table blew (wide_at w (mote_of x.event)) (brought w x.event) x.event (small_mote (site w (mote_of x.event))) (small_mote y) d.table
-      → LegalStep past w.declared blew (wide_at w (mote_of x.event)) (brought w x.event) x.event (mote_of x.event) (small w) (small (ended_world w x d y))
+      → LegalAt (step_facts past w.declared blew (wide_at w (mote_of x.event)) (brought w x.event)) w.table x.event (small_mote (site w (mote_of x.event))) (small_mote y) d.table
+      → LegalStep (step_facts past w.declared blew (wide_at w (mote_of x.event)) (brought w x.event)) x.event (mote_of x.event) (small w) (small (ended_world w x d y))
   legal_world x d y blew here there =
       let m = mote_of x.event in
       let mid : World = record (counted w (dt_of x.event)) { table = d.table } in
       record {
-        there = subst₂ (λ (a b : SmallMote). LegalAt past w.declared w.table blew (wide_at w (mote_of x.event)) (brought w x.event) x.event a b d.table) (sym (small_at w m)) (sym (small_there mid m y here)) there;
+        there = subst₂ (λ (a b : SmallMote). LegalAt (step_facts past w.declared blew (wide_at w (mote_of x.event)) (brought w x.event)) w.table x.event a b d.table) (sym (small_at w m)) (sym (small_there mid m y here)) there;
         others = λ j other. small_other mid m j y other;
         count = small_count mid m y;
       }
@@ -367,15 +368,15 @@ module _ (laws : StepLaws) (past : Past) (w : World) (agrees : WorldAgrees w) (s
   sent_small u m None = refl
   sent_small u m (Some message) = refl
 
-  module _ (x : Step) (v : World) (reports : List Report) (fits : StepFits (length w.sites) x) (honest : TrueEvent w x.event) where
+  module _ (x : Step) (v : World) (reports : List Report) (fits : StepInRange (length w.sites) x) (honest : TrueEvent w x.event) where
     step_legal_by : (D : Does) → LegalDeedDoes past w x.event D → StepDoes D w x v reports → LegalDoes D past w x v
     step_legal_by (Refuses why) g did = ap small did.0
     step_legal_by (Goes d) g did =
         let m = mote_of x.event in
         let b = blows x.cut d.trail in
-        let P : Bool → Site → Type 0 = λ b y. LegalAt past w.declared w.table b (wide_at w m) (brought w x.event) x.event (small_mote (site w m)) (small_mote y) d.table in
+        let P : Bool → Site → Type 0 = λ b y. LegalAt (step_facts past w.declared b (wide_at w m) (brought w x.event)) w.table x.event (small_mote (site w m)) (small_mote y) d.table in
         let end : EndsAs P b w x d v = ends_as P (λ s room p. p) w x d v reports g.whole g.cut b did in
-        subst (λ (u : Small). LegalStep past w.declared b (wide_at w m) (brought w x.event) x.event m (small w) u)
+        subst (λ (u : Small). LegalStep (step_facts past w.declared b (wide_at w m) (brought w x.event)) x.event m (small w) u)
         (sym (ap small end.1 ∙ sent_small (ended_world w x d end.0) m (sent_unless b d)))
         (legal_world x d end.0 b (step_within w x fits) end.2)
 

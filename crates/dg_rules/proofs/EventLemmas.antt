@@ -17,7 +17,7 @@ use Rattle.dg_volume.specs.declared.volume.InjectFault.{InjectFault}
 use Rattle.dg_volume.specs.declared.volume.OrderFault.{OrderFault}
 use Rattle.dg_volume.specs.Table.{row_at, with_row}
 use Rattle.dg_frame.specs.declared.Message.{Message}
-use Rattle.dg_mote.specs.Model.{MoteState, Turn, begun}
+use Rattle.dg_mote.specs.Model.{MoteState, Turn, begun_mote}
 use Rattle.dg_mote.specs.Ticks.{tick_of}
 use Rattle.dg_mote.specs.Hears.{heard_of}
 use Rattle.dg_mote.specs.Effects.{Effect, boot_by, boots, reset_effect, tick_by, tick_effect, frame_effect}
@@ -25,7 +25,7 @@ use Rattle.dg_mote.specs.Rules.{MayRestart}
 use Rattle.dg_mote.specs.declared.mote.Did.{Did}
 use Rattle.dg_mote.specs.declared.mote.Did.TheVariants as did
 use Rattle.dg_rules.specs.World.{World, Site, Running, Sent, site, store_at, wide_at, with_site, counted, off_site, linked, frame_at, last_by, last_frame}
-use Rattle.dg_rules.specs.Events.{Deed, Does, Refuses, Goes, does, mote_of, dt_of, key_of, of_effect, tick_by as tick_does, hear_by, heard_sent, heard_last, unless_off, acts, inject_unless, inject_row, order_unless, knows, injects, orders}
+use Rattle.dg_rules.specs.Events.{Deed, Does, Refuses, Goes, does, mote_of, dt_of, key_of, of_effect, tick_does, hear_by, heard_sent, heard_last, unless_off, acts, inject_unless, inject_row, order_unless, knows, injects, orders}
 use Rattle.dg_rules.specs.Steps.{Ended, before_cut, and_sent}
 use Rattle.dg_base.specs.declared.events.Key.{Key}
 use Rattle.dg_base.specs.declared.events.Event.{Event}
@@ -45,7 +45,7 @@ order_of number image version = record { number = number; image = image; version
 -- what runs from now on, None where there was no image to start
 abbrev pub running_by : Option Runs → (id : ℕ) (wide : Bool) (now word : ℕ) → Option (Option Running)
 running_by None id wide now word = None
-running_by (Some r) id wide now word = Some (Some (record { key = key_of r; mote = begun id wide now word }))
+running_by (Some r) id wide now word = Some (Some (record { key = key_of r; mote = begun_mote id wide now word }))
 
 -- a start: what was on the mote is dropped
 abbrev pub starts : World → Boot → (id : ℕ) (wide : Bool) (now word : ℕ) → Does

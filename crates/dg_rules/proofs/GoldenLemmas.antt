@@ -13,13 +13,13 @@ use Rattle.dg_volume.specs.Start.{Runs, boot}
 use Rattle.dg_volume.specs.Ends.{OnTheWay}
 use Rattle.dg_volume.specs.declared.volume.Kind.{Kind}
 use Rattle.dg_volume.specs.declared.volume.Kind.TheVariants as kind
-use Rattle.dg_mote.specs.Model.{begun}
+use Rattle.dg_mote.specs.Model.{begun_mote}
 use Rattle.dg_mote.specs.Ticks.{tick_of}
 use Rattle.dg_mote.specs.Hears.{heard_of}
 use Rattle.dg_rules.specs.World.{World, Running, Site, site, store_at, wide_at, off_site}
 use Rattle.dg_rules.specs.Events.{Deed, does, key_of, reloaded}
 use Rattle.dg_rules.specs.Steps.{WorldStep, EndsRun}
-use Rattle.dg_rules.specs.Ranges.{EventFits, StepFits}
+use Rattle.dg_rules.specs.Ranges.{EventInRange, StepInRange}
 use Rattle.dg_rules.specs.Golden.{KeepsGoldenRow, AsksForOthers, SiteKeepsGolden, WorldKeepsGolden, FindsImage}
 use Rattle.dg_base.specs.declared.events.Event.{Event}
 use Rattle.dg_base.specs.declared.events.Step.{Step}
@@ -75,7 +75,7 @@ module _ (laws : StepLaws) (w : World) (golden : WorldKeepsGolden w) where
 
   start_asks : (o : Option Runs) (id : ℕ) (wide : Bool) (now word : ℕ) (runs : Option Running) → running_by o id wide now word ≡ Some runs → AsksOthers runs
   start_asks None id wide now word runs e = absurd cc
-  start_asks (Some r) id wide now word runs e = one_asks (record { key = key_of r; mote = begun id wide now word }) runs tt e
+  start_asks (Some r) id wide now word runs e = one_asks (record { key = key_of r; mote = begun_mote id wide now word }) runs tt e
 
   reload_asks : (o runs : Option Running) (now word : ℕ) → Some (reloaded o now word) ≡ Some runs → AsksOthers runs
   reload_asks o runs now word e = subst AsksOthers (same_running (reloaded o now word) runs e) (each o)
@@ -101,9 +101,9 @@ module _ (laws : StepLaws) (w : World) (golden : WorldKeepsGolden w) where
       lands _ (golden_ticked laws.changes r.mote s now word (golden m low).kept)
       (λ runs e. one_asks (record { key = r.key; mote = (tick_of r.mote s now word).mote }) runs (ticked_asks laws.changes r.mote s now word (asks_here m r low is)) e)
 
-  golden_does : (e : Event) → EventFits (length w.sites) e → LandsDoes Golden (does w e)
+  golden_does : (e : Event) → EventInRange (length w.sites) e → LandsDoes Golden (does w e)
   golden_does =
-      does_cases laws.restarts w (λ f. Unit {0}) (all_sent w.sent) (λ e D. EventFits (length w.sites) e → LandsDoes Golden D)
+      does_cases laws.restarts w (λ f. Unit {0}) (all_sent w.sent) (λ e D. EventInRange (length w.sites) e → LandsDoes Golden D)
       (λ e why fits. tt)
       (λ m dt word r is fits. tick_lands m (w.moment + dt) word r fits is)
       (λ m dt word r is waits fits. start_lands kind.Order m r.mote.id r.mote.wide (w.moment + dt) word fits)
@@ -114,7 +114,7 @@ module _ (laws : StepLaws) (w : World) (golden : WorldKeepsGolden w) where
       (λ m image version dt word row known none fits. lands _ (golden_inject row (refused_not (store_at w m) row none).0 (store_at w m) (golden m fits.0).kept) (λ runs e. reload_asks (site w m).runs runs (w.moment + dt) word e))
       (λ m number image version dt word none fits. lands _ (golden_order (store_at w m) number image version (golden m fits.0).kept) (λ runs e. reload_asks (site w m).runs runs (w.moment + dt) word e))
 
-  pub step_keeps_golden : (x : Step) (v : World) (reports : List Report) → StepFits (length w.sites) x → WorldStep w x v reports → WorldKeepsGolden v
+  pub step_keeps_golden : (x : Step) (v : World) (reports : List Report) → StepInRange (length w.sites) x → WorldStep w x v reports → WorldKeepsGolden v
   step_keeps_golden x v reports fits did =
       step_sites w x v reports fits Golden (λ j y. SiteKeepsGolden y) golden_room (λ b y g. g) golden (golden_does x.event fits.event) did
 
@@ -129,9 +129,9 @@ module _ (laws : StepLaws) (w : World) (golden : WorldKeepsGolden w) where
       let g = (golden m low).kept in
       some_runs (boot k (store_at w m)).runs id wide now word (λ none. (boot_start k (store_at w m)).found ((laws.rows g.row g.is_row).is_sound (store_at w m) 0 g.whole) none)
 
-  pub finds_image : (e : Event) → EventFits (length w.sites) e → FindsImage (does w e)
+  pub finds_image : (e : Event) → EventInRange (length w.sites) e → FindsImage (does w e)
   finds_image =
-      does_cases laws.restarts w (λ f. Unit {0}) (all_sent w.sent) (λ e D. EventFits (length w.sites) e → FindsImage D)
+      does_cases laws.restarts w (λ f. Unit {0}) (all_sent w.sent) (λ e D. EventInRange (length w.sites) e → FindsImage D)
       (λ e why fits. tt)
       (λ m dt word r is fits e. cc)
       (λ m dt word r is waits fits. boot_found m r.mote.id r.mote.wide kind.Order (w.moment + dt) word fits)
@@ -142,5 +142,5 @@ module _ (laws : StepLaws) (w : World) (golden : WorldKeepsGolden w) where
       (λ m image version dt word row known none fits e. cc)
       (λ m number image version dt word none fits e. cc)
 
-  pub goes_on_finding : (x : Step) (v : World) → StepFits (length w.sites) x → EndsRun w x v → ⊥
+  pub goes_on_finding : (x : Step) (v : World) → StepInRange (length w.sites) x → EndsRun w x v → ⊥
   goes_on_finding x v fits ends = subst FindsImage ends.goes (finds_image x.event fits.event) ends.none

@@ -3,7 +3,7 @@ use Rattle.std.proofs.Common.{◌≡◌, ℕ, ◌+◌, ◌<◌, ◌≤◌, true,
 use Rattle.std.proofs.lemmas.Bool.{cond_both, eqb-false, cases_eq}
 use Rattle.std.proofs.lemmas.Bool.Decides.{nat_tests}
 use Rattle.std.proofs.lemmas.List.{length_push, length-set, length-drop, length-take, set-set, set-get_or, get_or-set_same}
-use Rattle.std.specs.Prelude.{◌==◌, nat_lt, nat_le, slice_set, if◌then◌else◌}
+use Rattle.std.specs.Prelude.{◌==◌, nat_lt, slice_set}
 use Rattle.dg_words.proofs.ListLemmas.{length-tabulate}
 use Rattle.dg_nor.specs.Trail.{Trail, last, joined, resting, stepping}
 use Rattle.dg_nor.specs.Through.{Through}

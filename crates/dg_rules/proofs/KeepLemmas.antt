@@ -11,10 +11,10 @@ use Rattle.dg_frame.specs.declared.Message.{Message}
 use Rattle.dg_frame.specs.declared.Message.TheVariants.{Advert, Request, Packet, Wide}
 use Rattle.dg_mote.specs.Summary.{advert_by, entry_for}
 use Rattle.dg_rules.specs.World.{World, wide_at}
-use Rattle.dg_rules.specs.Small.{Holding, SmallMote, Small, small, mote_in, holds, whole}
+use Rattle.dg_rules.specs.Small.{Holding, SmallMote, Small, small, small_mote_at, holds, whole}
 use Rattle.dg_rules.specs.Events.{Does, Refuses, Goes, does, mote_of}
 use Rattle.dg_rules.specs.Steps.{blows}
-use Rattle.dg_rules.specs.Legal.{Past, Came, taking, MayInject, CutHolding, LegalInject, LegalOrder, LegalTick, LegalReset, IsOlder, LegalAdvert, LegalPacket, LegalMessage, LegalFrame, LegalAt, off_after}
+use Rattle.dg_rules.specs.Legal.{Past, Came, taking, MayInject, CutHolding, LegalInject, LegalOrder, LegalTick, LegalReset, IsOlder, LegalAdvert, LegalPacket, LegalMessage, LegalFrame, LegalAt, off_after, step_facts, AllCame}
 use Rattle.dg_rules.specs.Past.{brought, past_of}
 use Rattle.dg_script.specs.Items.{Item, Declares, Happens}
 use Rattle.dg_rules.specs.Runs.{Played}
@@ -58,7 +58,7 @@ cut_kept row h (Some new) may how =
     may)
     how
 
-module _ (w : World) (declared table after : List Row) (blew : Bool) (m image version dt word : ℕ) (old mid : SmallMote) (legal : LegalInject declared table blew image version old mid after) (h : Holding) (had : holds old image ≡ Some h) where
+module _ (w : World) (declared table after : List Row) (blew : Bool) (m image version dt word : ℕ) (old mid : SmallMote) (legal : LegalInject declared table after blew (record { image = image; version = version }) old mid) (h : Holding) (had : holds old image ≡ Some h) where
   injected_within : image < length old.holdings
   injected_within =
       ⊎_elim (λ low. low) (λ past. absurd (none_some h (sym (get_or_past old.holdings image None past) ∙ had))) (cases_lt image (length old.holdings))
@@ -83,7 +83,7 @@ module _ (w : World) (declared table after : List Row) (blew : Bool) (m image ve
       (cut_kept legal.row h legal.held may_here (subst (λ (o : Option Holding). CutHolding o legal.row legal.held) had part.1)))
       legal.how)
 
-injected_other : (declared table after : List Row) (blew : Bool) (image version i : ℕ) (old mid : SmallMote) → LegalInject declared table blew image version old mid after → (i ≡ image → ⊥) → holds mid i ≡ holds old i
+injected_other : (declared table after : List Row) (blew : Bool) (image version i : ℕ) (old mid : SmallMote) → LegalInject declared table after blew (record { image = image; version = version }) old mid → (i ≡ image → ⊥) → holds mid i ≡ holds old i
 injected_other declared table after blew image version i old mid legal other =
     ap (λ (x : SmallMote). holds x i) legal.change ∙ get_or-set_other old.holdings image i legal.held None other
 
@@ -143,7 +143,7 @@ module _ (wide : Bool) (bytes : List ℕ) (blew : Bool) (i : ℕ) (h : Holding) 
       (λ apart. inl (kept_itself (holds mid i) h (ap (λ (x : SmallMote). holds x i) l.change ∙ get_or-set_other old.holdings l.image i l.held None apart ∙ had)))
       (cases_eq i l.image)
 
-  framed_packet : (past : Past) (m image version page : ℕ) → LegalPacket past m wide image version page old mid → Framed wide (Some bytes) blew i h (holds mid i)
+  framed_packet : (past : Past) (m image version page : ℕ) → LegalPacket (AllCame m wide image version page past) image version page old mid → Framed wide (Some bytes) blew i h (holds mid i)
   framed_packet past m image version page l =
       ⊎_elim
       (λ here.
@@ -199,7 +199,7 @@ golden_frame wide (Some bytes) past blew m old mid new legal is =
 
 -- ---- every kind of event
 
-at_mote : (past : Past) (w : World) (declared table : List Row) (blew : Bool) (e : Event) (old new : SmallMote) (after : List Row) (i : ℕ) (h : Holding) → LegalAt past declared table blew (wide_at w (mote_of e)) (brought w e) e old new after → holds old i ≡ Some h
+at_mote : (past : Past) (w : World) (declared table : List Row) (blew : Bool) (e : Event) (old new : SmallMote) (after : List Row) (i : ℕ) (h : Holding) → LegalAt (step_facts past declared blew (wide_at w (mote_of e)) (brought w e)) table e old new after → holds old i ≡ Some h
     → After w e blew i h (holds new i)
 at_mote past w declared table blew (Hear m dt word number) old new after i h legal had = framed_then (wide_at w m) (brought w (Hear m dt word number)) blew i h past m old legal.1 new had legal.2 legal.3
 at_mote past w declared table blew (Last from m dt word) old new after i h legal had = framed_then (wide_at w m) (brought w (Last from m dt word)) blew i h past m old legal.1 new had legal.2 legal.3
@@ -223,14 +223,14 @@ at_mote past w declared table blew (Inject m image version dt word) old new afte
 
 module _ (past : Past) (w v : World) (x : Step) where
   keeps_by : (D : Does) → (IsBlown D x → IsBlown (does w x.event) x) → (loud : Bool) → LegalDoes D past w x v → KeepsItem (Happens x loud) w v
-  keeps_by (Refuses why) blown loud legal m i h had = inl (kept_itself (holds (mote_in (small v) m) i) h (ap (λ (s : Small). holds (mote_in s m) i) legal ∙ had))
+  keeps_by (Refuses why) blown loud legal m i h had = inl (kept_itself (holds (small_mote_at (small v) m) i) h (ap (λ (s : Small). holds (small_mote_at s m) i) legal ∙ had))
   keeps_by (Goes d) blown loud legal m i h had =
-      let new = holds (mote_in (small v) m) i in
+      let new = holds (small_mote_at (small v) m) i in
       ⊎_elim
       (λ same.
-      let here : holds (mote_in (small w) (mote_of x.event)) i ≡ Some h = ap (λ (n : ℕ). holds (mote_in (small w) n) i) (sym same) ∙ had in
-      let after = at_mote past w w.declared w.table (blows x.cut d.trail) x.event (mote_in (small w) (mote_of x.event)) (mote_in (small v) (mote_of x.event)) v.table i h legal.there here in
-      let back : holds (mote_in (small v) (mote_of x.event)) i ≡ new = ap (λ (n : ℕ). holds (mote_in (small v) n) i) (sym same) in
+      let here : holds (small_mote_at (small w) (mote_of x.event)) i ≡ Some h = ap (λ (n : ℕ). holds (small_mote_at (small w) n) i) (sym same) ∙ had in
+      let after = at_mote past w w.declared w.table (blows x.cut d.trail) x.event (small_mote_at (small w) (mote_of x.event)) (small_mote_at (small v) (mote_of x.event)) v.table i h legal.there here in
+      let back : holds (small_mote_at (small v) (mote_of x.event)) i ≡ new = ap (λ (n : ℕ). holds (small_mote_at (small v) n) i) (sym same) in
       ⊎_elim
       (λ kept. inl (subst (λ (o : Option Holding). IsKeptIn o h) back kept))
       (λ lost. inr (record { none = sym back ∙ lost.0; at = same; newer = lost.1; cut = blown lost.2 }))
@@ -239,7 +239,7 @@ module _ (past : Past) (w v : World) (x : Step) where
       (cases_eq m (mote_of x.event))
 
 keeps_item : (past : Past) (item : Item) (w v : World) → LegalItem item past w v → KeepsItem item w v
-keeps_item past (Declares row) w v legal = λ m i h had. kept_itself (holds (mote_in (small v) m) i) h (ap (λ (s : Small). holds (mote_in s m) i) legal ∙ had)
+keeps_item past (Declares row) w v legal = λ m i h had. kept_itself (holds (small_mote_at (small v) m) i) h (ap (λ (s : Small). holds (small_mote_at s m) i) legal ∙ had)
 keeps_item past (Happens x loud) w v legal = keeps_by past w v x (does w x.event) (λ b. b) loud legal
 
 pub keeps_all : (past : List Played) (p : Played) → IsLegal past p → KeepsAll p
@@ -247,7 +247,7 @@ keeps_all past p legal = keeps_item (past_of past) p.item p.before p.after legal
 
 -- ---- golden
 
-golden_at : (past : Past) (wide : Bool) (frame : Option (List ℕ)) (declared table : List Row) (blew : Bool) (e : Event) (old new : SmallMote) (after : List Row) → LegalAt past declared table blew wide frame e old new after → holds new 0 ≡ holds old 0
+golden_at : (past : Past) (wide : Bool) (frame : Option (List ℕ)) (declared table : List Row) (blew : Bool) (e : Event) (old new : SmallMote) (after : List Row) → LegalAt (step_facts past declared blew wide frame) table e old new after → holds new 0 ≡ holds old 0
 golden_at past wide frame declared table blew (Tick m dt word) old new after legal = tick_holds table blew old new 0 legal.1
 golden_at past wide frame declared table blew (Reset m dt word) old new after legal = reset_holds table blew old new 0 legal.0
 golden_at past wide frame declared table blew (OrderEvent m number image version dt word) old new after legal = order_holds blew (record { number = number; image = image; version = version }) old new legal.0 0 legal.1 legal.2
@@ -259,17 +259,17 @@ golden_at past wide frame declared table blew (Inject m image version dt word) o
     let known = legal.1.known in
     ap (λ (x : SmallMote). holds x 0) legal.2 ∙ off_holds blew mid 0 ∙ injected_other declared table after blew image version 0 old mid legal.1 (λ e. absurd (omega (arith, e, known)))
 
-golden_by : (past : Past) (w v : World) (x : Step) (D : Does) → LegalDoes D past w x v → (m : ℕ) → holds (mote_in (small v) m) 0 ≡ holds (mote_in (small w) m) 0
-golden_by past w v x (Refuses why) legal m = ap (λ (s : Small). holds (mote_in s m) 0) legal
+golden_by : (past : Past) (w v : World) (x : Step) (D : Does) → LegalDoes D past w x v → (m : ℕ) → holds (small_mote_at (small v) m) 0 ≡ holds (small_mote_at (small w) m) 0
+golden_by past w v x (Refuses why) legal m = ap (λ (s : Small). holds (small_mote_at s m) 0) legal
 golden_by past w v x (Goes d) legal m =
     ⊎_elim
-    (λ same. subst (λ (n : ℕ). holds (mote_in (small v) n) 0 ≡ holds (mote_in (small w) n) 0) (sym same)
-    (golden_at past (wide_at w (mote_of x.event)) (brought w x.event) w.declared w.table (blows x.cut d.trail) x.event (mote_in (small w) (mote_of x.event)) (mote_in (small v) (mote_of x.event)) v.table legal.there))
+    (λ same. subst (λ (n : ℕ). holds (small_mote_at (small v) n) 0 ≡ holds (small_mote_at (small w) n) 0) (sym same)
+    (golden_at past (wide_at w (mote_of x.event)) (brought w x.event) w.declared w.table (blows x.cut d.trail) x.event (small_mote_at (small w) (mote_of x.event)) (small_mote_at (small v) (mote_of x.event)) v.table legal.there))
     (λ other. ap (λ (y : SmallMote). holds y 0) (legal.others m other))
     (cases_eq m (mote_of x.event))
 
-golden_item : (past : Past) (item : Item) (w v : World) → LegalItem item past w v → (m : ℕ) → holds (mote_in (small v) m) 0 ≡ holds (mote_in (small w) m) 0
-golden_item past (Declares row) w v legal m = ap (λ (s : Small). holds (mote_in s m) 0) legal
+golden_item : (past : Past) (item : Item) (w v : World) → LegalItem item past w v → (m : ℕ) → holds (small_mote_at (small v) m) 0 ≡ holds (small_mote_at (small w) m) 0
+golden_item past (Declares row) w v legal m = ap (λ (s : Small). holds (small_mote_at s m) 0) legal
 golden_item past (Happens x loud) w v legal m = golden_by past w v x (does w x.event) legal m
 
 pub golden_stays : (past : List Played) (p : Played) → IsLegal past p → GoldenStays p

@@ -23,7 +23,7 @@ use Rattle.dg_base.specs.declared.events.Key.{Key}
 use Rattle.dg_rules.specs.World.{Site, Running}
 use Rattle.dg_rules.specs.Small.{Holding, SmallMote, holding, app_key, small_mote, holds, whole}
 use Rattle.dg_rules.specs.Events.{key_of}
-use Rattle.dg_rules.specs.Legal.{HoldsWhole, MayStart, MayRestart, LegalStart, LegalTick, CutStart}
+use Rattle.dg_rules.specs.Legal.{HoldsWholeRow, MayStart, OrdersWholeRow, LegalStart, LegalTick, CutStart}
 use Rattle.dg_rules.proofs.ThroughLemmas.{Through-map}
 use Rattle.dg_rules.proofs.TableLemmas.{row_at-key, row_at-each}
 use Rattle.dg_rules.proofs.BootLemmas.{IsWaiting, MayRun, IsSettled, boot_start, order_alone, waits_whole, waits_some}
@@ -69,7 +69,7 @@ waiting_whole table s agrees is = whole_by table s.order.image s.order.version (
 holding_whole : (row : Row) → holding (held_whole row) ≡ whole row
 holding_whole row i = record { version = row.version; pages = length-tabulate (pages_for (length row.bytes)) (page_of_row row) i }
 
-holds_whole : (table : List Row) (x : Site) (key : Key) (o : Option Held) → held x.store key.image ≡ o → Whole table key.image key.version o → HoldsWhole table (small_mote x) key
+holds_whole : (table : List Row) (x : Site) (key : Key) (o : Option Held) → held x.store key.image ≡ o → Whole table key.image key.version o → HoldsWholeRow table (small_mote x) key
 holds_whole table x key o here w = record {
   row = w.row;
   in_table = w.in_table;
@@ -84,7 +84,7 @@ AppOnWay old runs new = (new ≡ old) ⊎ ((new ≡ None) ⊎ ((r : Runs) × (ru
 
 module _ (ends : (k : Kind) (s : Store) → Boots s (boot k s)) (table : List Row) (x : Site) (agrees : Agrees table x.store) where
   abbrev Waits : Runs → Type 0
-  Waits r = MayRestart table (small_mote x) (key_of r)
+  Waits r = OrdersWholeRow table (small_mote x) (key_of r)
 
   waits_legal : (r : Runs) → IsWaiting x.store.order (held x.store x.store.order.image) r → Waits r
   waits_legal r w =

@@ -6,6 +6,7 @@ pub mod InjectLemmas
 pub mod EventLemmas
 pub mod WiderLemmas
 pub mod AgreementLemmas
+pub mod AgreementSteps
 pub mod StepLemmas
 pub mod WidthLemmas
 pub mod TimelyLemmas

@@ -65,7 +65,7 @@ advert_legal blew entries order x t h =
 -- ---- packets
 
 module _ (past : Past) (m : ℕ) (wide : Bool) (bytes : List ℕ) (x : Site) (source image version page q : ℕ) (content : List ℕ) (is : message_of bytes wide ≡ Ok (Packet source image version page q content)) where
-  packet_stays : (t : Store) → t ≡ x.store → LegalPacket (Came m bytes past) m wide image version page (small_mote x) (mote t x.runs)
+  packet_stays : (t : Store) → t ≡ x.store → LegalPacket (AllCame m wide image version page (Came m bytes past)) image version page (small_mote x) (mote t x.runs)
   packet_stays t same = record { held = holds (small_mote x) image; held_change = inl refl; change = stays_small x t same ∙ same_holding_stays (small_mote x) image }
 
   module _ (table : List Row) (mode : Mode) (agrees : ModeAgrees table x.store mode) (there : IfReceives (AllThere m wide past) mode) (t : Store) (c : Completes mode image version page q x.store t) where
@@ -97,7 +97,7 @@ module _ (past : Past) (m : ℕ) (wide : Bool) (bytes : List ℕ) (x : Site) (so
     new_holding : holding (with_page row.kept c.content) ≡ record { version = version; pages = page + 1 }
     new_holding = λ j. record { version = (row.version ∙ c.version_is) j; pages = (length_push row.kept.complete c.content ∙ ap (λ (n : ℕ). n + 1) (row.next ∙ c.page_is)) j }
 
-    packet_completes : LegalPacket (Came m bytes past) m wide image version page (small_mote x) (mote t x.runs)
+    packet_completes : LegalPacket (AllCame m wide image version page (Came m bytes past)) image version page (small_mote x) (mote t x.runs)
     packet_completes =
         let f : Option Held → Option Holding = option_map holding in
         let next = option_map (λ (h : Held). with_page h c.content) (held x.store image) in
@@ -117,5 +117,5 @@ module _ (past : Past) (m : ℕ) (wide : Bool) (bytes : List ℕ) (x : Site) (so
         }
 
   pub packet_legal : (table : List Row) (mode : Mode) → ModeAgrees table x.store mode → IfReceives (AllThere m wide past) mode → (t : Store) → (t ≡ x.store) ⊎ Completes mode image version page q x.store t
-      → LegalPacket (Came m bytes past) m wide image version page (small_mote x) (mote t x.runs)
+      → LegalPacket (AllCame m wide image version page (Came m bytes past)) image version page (small_mote x) (mote t x.runs)
   packet_legal table mode agrees there t may = ⊎_elim (λ same. packet_stays t same) (λ c. packet_completes table mode agrees there t c) may

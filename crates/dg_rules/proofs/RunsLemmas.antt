@@ -12,7 +12,7 @@ use Rattle.dg_volume.specs.declared.volume.Kind.{Kind}
 use Rattle.dg_volume.specs.declared.volume.Kind.TheVariants as kind
 use Rattle.dg_rules.specs.World.{World, store_at}
 use Rattle.dg_rules.specs.Events.{does}
-use Rattle.dg_rules.specs.Ranges.{EventFits}
+use Rattle.dg_rules.specs.Ranges.{EventInRange}
 use Rattle.dg_rules.specs.Premises.{WorldAgrees}
 use Rattle.dg_rules.specs.Promises.{RunsRow, StartsDoes}
 use Rattle.dg_base.specs.declared.events.Event.{Event}
@@ -41,10 +41,10 @@ module _ (laws : (row : Row) → IsRow row → RowLaws row) (table : List Row) (
   boot_row : (k : Kind) (s : Store) → Agrees table s → IfSome (boot k s).runs (RunsRow table)
   boot_row k s agrees = if_some (RunsRow table) (boot k s).runs (λ r e. runs_row r ((boot_start k s).row table agrees r e))
 
-pub starts_row : RestartLaws → ((row : Row) → IsRow row → RowLaws row) → (w : World) → WorldAgrees w → (e : Event) → EventFits (length w.sites) e → StartsDoes (does w e) w.table
+pub starts_row : RestartLaws → ((row : Row) → IsRow row → RowLaws row) → (w : World) → WorldAgrees w → (e : Event) → EventInRange (length w.sites) e → StartsDoes (does w e) w.table
 starts_row restarts laws w agrees =
     let boots : (k : Kind) (m : ℕ) → m < length w.sites → IfSome (boot k (store_at w m)).runs (RunsRow w.table) = λ k m low. boot_row laws w.table agrees.table k (store_at w m) (agrees.sites m low).store.agrees in
-    does_cases restarts w (λ f. Unit {0}) (all_sent w.sent) (λ e D. EventFits (length w.sites) e → StartsDoes D w.table)
+    does_cases restarts w (λ f. Unit {0}) (all_sent w.sent) (λ e D. EventInRange (length w.sites) e → StartsDoes D w.table)
     (λ e why fits. tt)
     (λ m dt word r is fits. tt)
     (λ m dt word r is waits fits. boots kind.Order m fits)

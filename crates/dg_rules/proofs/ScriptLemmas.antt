@@ -12,13 +12,13 @@ use Rattle.dg_volume.specs.Table.{row_at}
 use Rattle.dg_volume.specs.Agreement.{KeepsRow, Agrees}
 use Rattle.dg_frame.specs.declared.Message.{Message}
 use Rattle.dg_rules.specs.Sizes.{most_motes}
-use Rattle.dg_rules.specs.World.{World, Site, site, wide_in, counted, off_site, first_world}
+use Rattle.dg_rules.specs.World.{World, Site, site, is_wide_mote, counted, off_site, first_world}
 use Rattle.dg_rules.specs.Events.{Does, Refuses, Goes, does, mote_of, dt_of}
 use Rattle.dg_rules.specs.Steps.{blows, and_sent, StepDoes, WorldStep, declared_as}
-use Rattle.dg_rules.specs.Ranges.{EventFits, StepFits}
-use Rattle.dg_rules.specs.Premises.{IsDeclared, LinkFits, SiteIsWell, WorldAgrees, ItemInRange, IsInRange, HonestEvent, HonestItem, IsHonestThen, TrueEvent, TrueItem, IsTrueThen, AllOff}
+use Rattle.dg_rules.specs.Ranges.{EventInRange, StepInRange}
+use Rattle.dg_rules.specs.Premises.{IsDeclared, LinkFits, SiteIsWell, WorldAgrees, ItemInRange, PlayedInRange, HonestEvent, HonestItem, IsHonestThen, TrueEvent, TrueItem, IsTrueThen, AllOff}
 use Rattle.dg_rules.specs.Begins.{PlaysFrom}
-use Rattle.dg_rules.specs.Golden.{SiteKeepsGolden, WorldKeepsGolden, FindsImage, PlaysGolden}
+use Rattle.dg_rules.specs.Golden.{SiteKeepsGolden, WorldKeepsGolden, FindsImage, GoldenNetwork, network_world, PlaysGolden}
 use Rattle.dg_script.specs.Items.{Item, Declares, Happens}
 use Rattle.dg_rules.specs.Runs.{Played, ItemStep, Plays}
 use Rattle.dg_base.specs.declared.events.Event.{Event}
@@ -109,20 +109,20 @@ record Keeps (motes : ℕ) (past : List Played) (w : World) : Type 0 where
   pub golden : WorldKeepsGolden w
   pub frame : Frame motes w
 
-module _ (restarts : RestartLaws) (stepped : (w v : World) (x : Step) (reports : List Report) → WorldKeepsGolden w → StepFits (length w.sites) x → WorldStep w x v reports → WorldKeepsGolden v) (motes : ℕ) where
+module _ (restarts : RestartLaws) (stepped : (w v : World) (x : Step) (reports : List Report) → WorldKeepsGolden w → StepInRange (length w.sites) x → WorldStep w x v reports → WorldKeepsGolden v) (motes : ℕ) where
   golden_item : (item : Item) (w v : World) (reports : List Report) → WorldKeepsGolden w → length w.sites ≡ motes → ItemInRange motes item → ItemStep w item v reports → WorldKeepsGolden v
   golden_item (Declares row) w v reports golden count range did =
       subst (At (λ m y. SiteKeepsGolden y)) (sym (ap (λ (u : World). u.sites) did.world ∙ declared_sites (row_at w.declared row.image row.version) w row)) golden
-  golden_item (Happens x loud) w v reports golden count range did = stepped w v x did.0 golden (subst (λ (n : ℕ). StepFits n x) (sym count) range) did.1
+  golden_item (Happens x loud) w v reports golden count range did = stepped w v x did.0 golden (subst (λ (n : ℕ). StepInRange n x) (sym count) range) did.1
 
-  keeps_played : (past : List Played) (p : Played) → Keeps motes past p.before → IsInRange motes p → ItemStep p.before p.item p.after p.reports → Keeps motes (p ∷ past) p.after × Unit {0}
+  keeps_played : (past : List Played) (p : Played) → Keeps motes past p.before → PlayedInRange motes p → ItemStep p.before p.item p.after p.reports → Keeps motes (p ∷ past) p.after × Unit {0}
   keeps_played past p k range did = (
     record { golden = golden_item p.item p.before p.after p.reports k.golden k.frame.count range did; frame = item_frame restarts motes p.item p.before p.after p.reports range k.frame did },
     tt,
   )
 
-  keeps_plays : (played : List Played) (w v : World) → Plays w played v → AllByRecursion (IsInRange motes) played → Keeps motes [] w → Ended (Keeps motes) v
-  keeps_plays played w v run ranges k = (plays (Keeps motes) (IsInRange motes) (λ past p. Unit {0}) keeps_played [] played w v run ranges k).0
+  keeps_plays : (played : List Played) (w v : World) → Plays w played v → AllByRecursion (PlayedInRange motes) played → Keeps motes [] w → Ended (Keeps motes) v
+  keeps_plays played w v run ranges k = (plays (Keeps motes) (PlayedInRange motes) (λ past p. Unit {0}) keeps_played [] played w v run ranges k).0
 
 -- ---- honest scripts
 
@@ -162,16 +162,16 @@ item_true motes (Declares row) w f honest = tt
 item_true motes (Happens x loud) w f honest = event_true motes w f x.event honest
 
 module _ (restarts : RestartLaws) (motes : ℕ) where
-  true_played : (past : List Played) (p : Played) → Frame motes p.before → IsInRange motes p × IsHonestThen p → ItemStep p.before p.item p.after p.reports → Frame motes p.after × IsTrueThen p
+  true_played : (past : List Played) (p : Played) → Frame motes p.before → PlayedInRange motes p × IsHonestThen p → ItemStep p.before p.item p.after p.reports → Frame motes p.after × IsTrueThen p
   true_played past p f range did = (item_frame restarts motes p.item p.before p.after p.reports range.0 f did, item_true motes p.item p.before f range.1)
 
-  true_plays : (played : List Played) (w v : World) → Plays w played v → AllByRecursion (IsInRange motes) played → AllByRecursion IsHonestThen played → Frame motes w → AllByRecursion IsTrueThen played
+  true_plays : (played : List Played) (w v : World) → Plays w played v → AllByRecursion (PlayedInRange motes) played → AllByRecursion IsHonestThen played → Frame motes w → AllByRecursion IsTrueThen played
   true_plays played w v run ranges honest f =
       all_then (λ past p. IsTrueThen p) IsTrueThen (λ past p is_true. is_true) [] played
-      (plays (λ past u. Frame motes u) (λ p. IsInRange motes p × IsHonestThen p) (λ past p. IsTrueThen p) true_played [] played w v run (all_both (IsInRange motes) IsHonestThen played ranges honest) f).1
+      (plays (λ past u. Frame motes u) (λ p. PlayedInRange motes p × IsHonestThen p) (λ past p. IsTrueThen p) true_played [] played w v run (all_both (PlayedInRange motes) IsHonestThen played ranges honest) f).1
 
 -- the rows and the number of motes in the end
-frame_ends : RestartLaws → (motes : ℕ) (played : List Played) (w v : World) → Plays w played v → AllByRecursion (IsInRange motes) played → Frame motes w → Frame motes v
+frame_ends : RestartLaws → (motes : ℕ) (played : List Played) (w v : World) → Plays w played v → AllByRecursion (PlayedInRange motes) played → Frame motes w → Frame motes v
 unfolding Plays
 frame_ends restarts motes [] w v run ranges f = subst (Frame motes) run f
 frame_ends restarts motes (p ∷ ps) w v run ranges f =
@@ -225,7 +225,7 @@ module _ (name bytes : List ℕ) (used motes : ℕ) (links : List (ℕ × ℕ)) 
     frame = first_frame;
   }
 
-  first_well : (m : ℕ) → SiteIsWell Table m (wide_in narrow m) 0 (off_site Chip)
+  first_well : (m : ℕ) → SiteIsWell Table m (is_wide_mote narrow m) 0 (off_site Chip)
   first_well m = record {
     store = record { places = refl; agrees = fresh_agrees };
     order = record { in_range = inl refl; number = omega arith; version = omega arith };
@@ -238,7 +238,7 @@ module _ (name bytes : List ℕ) (used motes : ℕ) (links : List (ℕ × ℕ)) 
     table = IsTable-one Golden is_row refl refl;
     rows = tt;
     links = subst (λ (n : ℕ). AllByRecursion (LinkFits n) links) (sym first_count) links_fit;
-    sites = λ m here. subst (SiteIsWell Table m (wide_in narrow m) 0) (sym (first_site m here)) (first_well m);
+    sites = λ m here. subst (SiteIsWell Table m (is_wide_mote narrow m) 0) (sym (first_site m here)) (first_well m);
     sent = tt;
   }
 
@@ -247,47 +247,47 @@ module _ (name bytes : List ℕ) (used motes : ℕ) (links : List (ℕ × ℕ)) 
 
 -- ---- what is played of a script
 
-module _ (name bytes : List ℕ) (used motes : ℕ) (links : List (ℕ × ℕ)) (narrow : List Bool) (played : List Played) (v : World) (script : PlaysGolden name bytes used motes links narrow played v) where
+module _ (g : GoldenNetwork) (played : List Played) (v : World) (script : PlaysGolden g played v) where
   abbrev pub Begins : World
-  Begins = first_world (golden_row name bytes ∷ []) links narrow (replicate motes (fresh name bytes used))
+  Begins = network_world g
 
-  Count : length Begins.sites ≡ motes
-  Count = first_count name bytes used motes links narrow script.is_row
+  Count : length Begins.sites ≡ g.motes
+  Count = first_count g.name g.bytes g.used g.motes g.links g.narrow script.is_row
 
-  Start : Frame motes Begins
-  Start = first_frame name bytes used motes links narrow script.is_row
+  Start : Frame g.motes Begins
+  Start = first_frame g.name g.bytes g.used g.motes g.links g.narrow script.is_row
 
   pub script_from : RestartLaws → AllByRecursion IsHonestThen played → PlaysFrom Begins played v
   script_from restarts honest = record {
-    agrees = first_agrees name bytes used motes links narrow script.is_row script.few script.links_fit;
-    off = first_off name bytes used motes links narrow script.is_row;
+    agrees = first_agrees g.name g.bytes g.used g.motes g.links g.narrow script.is_row script.few script.links_fit;
+    off = first_off g.name g.bytes g.used g.motes g.links g.narrow script.is_row;
     plays = script.plays;
-    ranges = subst (λ (n : ℕ). AllByRecursion (IsInRange n) played) (sym Count) script.ranges;
-    are_true = true_plays restarts motes played Begins v script.plays script.ranges honest Start;
+    ranges = subst (λ (n : ℕ). AllByRecursion (PlayedInRange n) played) (sym Count) script.ranges;
+    are_true = true_plays restarts g.motes played Begins v script.plays script.ranges honest Start;
   }
 
   -- what is played more from there is of such a script too
-  pub script_more : (more : List Played) (z : World) → PlaysFrom Begins (played ++ more) z → PlaysGolden name bytes used motes links narrow (played ++ more) z × AllByRecursion IsHonestThen (played ++ more)
+  pub script_more : (more : List Played) (z : World) → PlaysFrom Begins (played ++ more) z → PlaysGolden g (played ++ more) z × AllByRecursion IsHonestThen (played ++ more)
   script_more more z from = (
     record {
       is_row = script.is_row;
       plays = from.plays;
       few = script.few;
       links_fit = script.links_fit;
-      ranges = subst (λ (n : ℕ). AllByRecursion (IsInRange n) (played ++ more)) Count from.ranges;
+      ranges = subst (λ (n : ℕ). AllByRecursion (PlayedInRange n) (played ++ more)) Count from.ranges;
     },
     all_honest (played ++ more) from.are_true,
   )
 
   -- the next event, where it is honest
   pub script_true : RestartLaws → (e : Event) → HonestEvent v.table e → TrueEvent v e
-  script_true restarts e honest = event_true motes v (frame_ends restarts motes played Begins v script.plays script.ranges Start) e honest
+  script_true restarts e honest = event_true g.motes v (frame_ends restarts g.motes played Begins v script.plays script.ranges Start) e honest
 
-  pub script_fits : (e : Event) → EventFits motes e → EventFits (length Begins.sites) e
-  script_fits e fits = subst (λ (n : ℕ). EventFits n e) (sym Count) fits
+  pub script_fits : (e : Event) → EventInRange g.motes e → EventInRange (length Begins.sites) e
+  script_fits e fits = subst (λ (n : ℕ). EventInRange n e) (sym Count) fits
 
-  pub script_found : RestartLaws → ((w v : World) (x : Step) (reports : List Report) → WorldKeepsGolden w → StepFits (length w.sites) x → WorldStep w x v reports → WorldKeepsGolden v)
-      → ((w : World) (e : Event) → WorldKeepsGolden w → EventFits (length w.sites) e → FindsImage (does w e)) → (e : Event) → EventFits motes e → FindsImage (does v e)
+  pub script_found : RestartLaws → ((w v : World) (x : Step) (reports : List Report) → WorldKeepsGolden w → StepInRange (length w.sites) x → WorldStep w x v reports → WorldKeepsGolden v)
+      → ((w : World) (e : Event) → WorldKeepsGolden w → EventInRange (length w.sites) e → FindsImage (does w e)) → (e : Event) → EventInRange g.motes e → FindsImage (does v e)
   script_found restarts stepped found e fits =
-      let end = keeps_plays restarts stepped motes played Begins v script.plays script.ranges (first_golden name bytes used motes links narrow script.is_row) in
-      found v e end.holds.golden (subst (λ (n : ℕ). EventFits n e) (sym end.holds.frame.count) fits)
+      let end = keeps_plays restarts stepped g.motes played Begins v script.plays script.ranges (first_golden g.name g.bytes g.used g.motes g.links g.narrow script.is_row) in
+      found v e end.holds.golden (subst (λ (n : ℕ). EventInRange n e) (sym end.holds.frame.count) fits)

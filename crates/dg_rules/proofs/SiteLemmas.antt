@@ -4,7 +4,7 @@ use Rattle.std.proofs.lemmas.Bool.{cases_eq}
 use Rattle.std.proofs.Math.ListN.{get_or-map}
 use Rattle.std.proofs.lemmas.List.{get_or-set_same, get_or-set_other, length-set, length-map}
 use Rattle.dg_rules.specs.World.{World, Site, no_site, site, with_site}
-use Rattle.dg_rules.specs.Small.{small, small_mote, mote_in}
+use Rattle.dg_rules.specs.Small.{small, small_mote, small_mote_at}
 
 pub site_there : (w : World) (m : ℕ) (x : Site) → m < length w.sites → site (with_site w m x) m ≡ x
 site_there w m x within = get_or-set_same w.sites m x no_site within
@@ -25,13 +25,13 @@ each_site P w m x within new old j low =
 
 -- ---- the small state
 
-pub small_at : (w : World) (m : ℕ) → mote_in (small w) m ≡ small_mote (site w m)
+pub small_at : (w : World) (m : ℕ) → small_mote_at (small w) m ≡ small_mote (site w m)
 small_at w m = get_or-map small_mote w.sites m no_site
 
-pub small_there : (w : World) (m : ℕ) (x : Site) → m < length w.sites → mote_in (small (with_site w m x)) m ≡ small_mote x
+pub small_there : (w : World) (m : ℕ) (x : Site) → m < length w.sites → small_mote_at (small (with_site w m x)) m ≡ small_mote x
 small_there w m x within = small_at (with_site w m x) m ∙ ap small_mote (site_there w m x within)
 
-pub small_other : (w : World) (m j : ℕ) (x : Site) → (j ≡ m → ⊥) → mote_in (small (with_site w m x)) j ≡ mote_in (small w) j
+pub small_other : (w : World) (m j : ℕ) (x : Site) → (j ≡ m → ⊥) → small_mote_at (small (with_site w m x)) j ≡ small_mote_at (small w) j
 small_other w m j x other = small_at (with_site w m x) j ∙ ap small_mote (site_other w m j x other) ∙ sym (small_at w j)
 
 pub small_count : (w : World) (m : ℕ) (x : Site) → length (small (with_site w m x)).motes ≡ length (small w).motes

@@ -4,11 +4,11 @@ use Rattle.std.specs.List.{AllByRecursion}
 use Rattle.dg_object.specs.Object.{Row}
 use Rattle.dg_volume.specs.Table.{row_at}
 use Rattle.dg_mote.specs.Changes.{IfReceives}
-use Rattle.dg_rules.specs.World.{World, Site, Running, store_at, wide_in, wide_at, no_site}
+use Rattle.dg_rules.specs.World.{World, Site, Running, store_at, is_wide_mote, wide_at, no_site}
 use Rattle.dg_rules.specs.Small.{small}
 use Rattle.dg_rules.specs.Events.{does}
 use Rattle.dg_rules.specs.Steps.{WorldStep, DeclareStep, declared_as}
-use Rattle.dg_rules.specs.Ranges.{EventFits, StepFits}
+use Rattle.dg_rules.specs.Ranges.{EventInRange, StepInRange}
 use Rattle.dg_base.specs.declared.events.Event.{Event}
 use Rattle.dg_base.specs.declared.events.Step.{Step}
 use Rattle.dg_rules.specs.Legal.{Past}
@@ -58,9 +58,9 @@ pub record Holds (past : List Played) (p : Played) : Type 0 where
 -- what is known of agreement, of starts and of what is kept
 pub record RunLaws : Type 0 where
   pub steps : StepLaws
-  pub stepped : (w v : World) (x : Step) (reports : List Report) → WorldAgrees w → StepFits (length w.sites) x → TrueEvent w x.event → WorldStep w x v reports → WorldAgrees v
+  pub stepped : (w v : World) (x : Step) (reports : List Report) → WorldAgrees w → StepInRange (length w.sites) x → TrueEvent w x.event → WorldStep w x v reports → WorldAgrees v
   pub declared : (w v : World) (row : Row) (reports : List Report) → WorldAgrees w → IsDeclared row → DeclareStep w row v reports → WorldAgrees v
-  pub starts : (w : World) (e : Event) → WorldAgrees w → EventFits (length w.sites) e → StartsDoes (does w e) w.table
+  pub starts : (w : World) (e : Event) → WorldAgrees w → EventInRange (length w.sites) e → StartsDoes (does w e) w.table
   pub keeps : (past : List Played) (p : Played) → IsLegal past p → KeepsAll p
 
 module _ (laws : RunLaws) where
@@ -72,7 +72,7 @@ module _ (laws : RunLaws) where
         record {
           agrees = laws.declared w v row reports i.agrees fits did;
           settled = subst (At (λ m y. IfSome y.runs (λ r. IsSettled y.store))) (sym sites) i.settled;
-          came = subst (λ (narrow : List Bool). At (λ m y. CameTo past m (wide_in narrow m) y) v.sites) (sym (declare_narrow w v row reports did))
+          came = subst (λ (narrow : List Bool). At (λ m y. CameTo past m (is_wide_mote narrow m) y) v.sites) (sym (declare_narrow w v row reports did))
               (subst (At (λ m y. CameTo past m (wide_at w m) y)) (sym sites) i.came);
         },
         ap small did.world ∙ declared_small o w row,

@@ -7,12 +7,12 @@ use Rattle.dg_frame.specs.declared.Message.{Message}
 use Rattle.dg_rules.specs.World.{World, Site, Running, site, counted, off_site}
 use Rattle.dg_rules.specs.Events.{Deed, Does, Refuses, Goes, does, mote_of, dt_of}
 use Rattle.dg_rules.specs.Steps.{blows, and_sent, Ended, StepDoes, WorldStep}
-use Rattle.dg_rules.specs.Ranges.{StepFits}
+use Rattle.dg_rules.specs.Ranges.{StepInRange}
 use Rattle.dg_base.specs.declared.events.Step.{Step}
 use Rattle.dg_script.specs.declared.report.Report.{Report}
 use Rattle.dg_rules.proofs.SiteLemmas.{each_site, site_count}
 use Rattle.dg_rules.proofs.EventLemmas.{EndsAs, ended_world, sent_unless, ends_as}
-use Rattle.dg_rules.proofs.AgreementLemmas.{step_within}
+use Rattle.dg_rules.proofs.AgreementSteps.{step_within}
 
 -- what holds of the mote of an event, by whether its power was cut
 pub record Lands (P : Bool → Site → Type 0) (d : Deed) : Type 0 where
@@ -61,7 +61,7 @@ module _ (w : World) (x : Step) (v : World) (reports : List Report) where
   unfolding WorldStep
   step_narrow did = narrow_by (does w x.event) did
 
-module _ (w : World) (x : Step) (v : World) (reports : List Report) (fits : StepFits (length w.sites) x) where
+module _ (w : World) (x : Step) (v : World) (reports : List Report) (fits : StepInRange (length w.sites) x) where
   -- P holds where the event is, T of each site then
   module _ (P : Bool → Site → Type 0) (T : ℕ → Site → Type 0)
       (closed : (s : Store) (room : ℕ) → P true (off_site s) → P true (off_site (record s { room = room })))

@@ -3,14 +3,14 @@ use Rattle.std.proofs.Common.{◌≡◌, ℕ, ◌+◌, ◌<◌, ◌≤◌, Bool,
 use Rattle.std.proofs.lemmas.Option.{IfSome_then}
 use Rattle.dg_volume.specs.Store.{Store}
 use Rattle.dg_volume.specs.Start.{Runs, boot}
-use Rattle.dg_mote.specs.Model.{MoteState, begun, maintains}
+use Rattle.dg_mote.specs.Model.{MoteState, begun_mote, maintains}
 use Rattle.dg_mote.specs.Ticks.{tick_of}
 use Rattle.dg_mote.specs.Hears.{heard_of}
 use Rattle.dg_mote.specs.Timely.{Timely}
 use Rattle.dg_rules.specs.World.{World, Site, Running, site, store_at, wide_at}
 use Rattle.dg_rules.specs.Events.{Deed, does, dt_of, key_of, reloaded}
 use Rattle.dg_rules.specs.Steps.{WorldStep}
-use Rattle.dg_rules.specs.Ranges.{EventFits, StepFits}
+use Rattle.dg_rules.specs.Ranges.{EventInRange, StepInRange}
 use Rattle.dg_rules.specs.Premises.{WorldTimely}
 use Rattle.dg_base.specs.declared.events.Event.{Event}
 use Rattle.dg_base.specs.declared.events.Step.{Step}
@@ -22,7 +22,7 @@ use Rattle.dg_rules.proofs.StepLemmas.{Lands, LandsDoes, step_sites, step_moment
 
 -- what is known of the moments of a mote
 pub record TimeLaws : Type 0 where
-  pub begins : (id now word : ℕ) (wide : Bool) → Timely (begun id wide now word) now
+  pub begins : (id now word : ℕ) (wide : Bool) → Timely (begun_mote id wide now word) now
   pub later : (m : MoteState) (now then : ℕ) → now ≤ then → Timely m now → Timely m then
   pub reloads : (m : MoteState) (now word : ℕ) → Timely m now → Timely (maintains m now word) now
   pub ticks : (m : MoteState) (s : Store) (now word : ℕ) → Timely m now → Timely (tick_of m s now word).mote now
@@ -50,7 +50,7 @@ module _ (restarts : RestartLaws) (laws : TimeLaws) (w : World) (timely : WorldT
 
   start_timely : (o : Option Runs) (id : ℕ) (wide : Bool) (dt word : ℕ) (runs : Option Running) → running_by o id wide (w.moment + dt) word ≡ Some runs → IsTimelyAt (w.moment + dt) runs
   start_timely None id wide dt word runs e = absurd cc
-  start_timely (Some r) id wide dt word runs e = one_timely dt (record { key = key_of r; mote = begun id wide (w.moment + dt) word }) runs (laws.begins id (w.moment + dt) word wide) e
+  start_timely (Some r) id wide dt word runs e = one_timely dt (record { key = key_of r; mote = begun_mote id wide (w.moment + dt) word }) runs (laws.begins id (w.moment + dt) word wide) e
 
   reload_timely : (m dt word : ℕ) (runs : Option Running) → m < length w.sites → Some (reloaded (site w m).runs (w.moment + dt) word) ≡ Some runs → IsTimelyAt (w.moment + dt) runs
   reload_timely m dt word runs low e = subst (IsTimelyAt (w.moment + dt)) (same_running (reloaded (site w m).runs (w.moment + dt) word) runs e) (each (site w m).runs refl)
@@ -64,9 +64,9 @@ module _ (restarts : RestartLaws) (laws : TimeLaws) (w : World) (timely : WorldT
   hear_timely m dt word bytes r runs is low e =
       one_timely dt (record { key = r.key; mote = (heard_of r.mote (store_at w m) (w.moment + dt) word bytes).mote }) runs (laws.hears r.mote (store_at w m) (w.moment + dt) word bytes (on_timely m dt r low is)) e
 
-  timely_does : (e : Event) → EventFits (length w.sites) e → LandsDoes (TimelySite (w.moment + dt_of e)) (does w e)
+  timely_does : (e : Event) → EventInRange (length w.sites) e → LandsDoes (TimelySite (w.moment + dt_of e)) (does w e)
   timely_does =
-      does_cases restarts w (λ f. Unit {0}) (all_sent w.sent) (λ e D. EventFits (length w.sites) e → LandsDoes (TimelySite (w.moment + dt_of e)) D)
+      does_cases restarts w (λ f. Unit {0}) (all_sent w.sent) (λ e D. EventInRange (length w.sites) e → LandsDoes (TimelySite (w.moment + dt_of e)) D)
       (λ e why fits. tt)
       (λ m dt word r is fits. let step = tick_of r.mote (store_at w m) (w.moment + dt) word in
       lands dt _ (λ runs e. one_timely dt (record { key = r.key; mote = step.mote }) runs (laws.ticks r.mote (store_at w m) (w.moment + dt) word (on_timely m dt r fits is)) e))
@@ -78,7 +78,7 @@ module _ (restarts : RestartLaws) (laws : TimeLaws) (w : World) (timely : WorldT
       (λ m image version dt word row known none fits. lands dt _ (λ runs e. reload_timely m dt word runs fits.0 e))
       (λ m number image version dt word none fits. lands dt _ (λ runs e. reload_timely m dt word runs fits.0 e))
 
-  pub step_timely : (x : Step) (v : World) (reports : List Report) → StepFits (length w.sites) x → WorldStep w x v reports → WorldTimely v
+  pub step_timely : (x : Step) (v : World) (reports : List Report) → StepInRange (length w.sites) x → WorldStep w x v reports → WorldTimely v
   step_timely x v reports fits did =
       let now = w.moment + dt_of x.event in
       subst (λ (n : ℕ). (j : ℕ) → j < length v.sites → IsTimelyAt n (site v j).runs) (sym (step_moment w x v reports fits did))

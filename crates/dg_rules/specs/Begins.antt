@@ -13,7 +13,7 @@ use Rattle.dg_script.specs.Items.{Item, Declares, Happens}
 use Rattle.dg_rules.specs.Sizes.{most_motes}
 use Rattle.dg_rules.specs.World.{World, no_site, first_world}
 use Rattle.dg_rules.specs.Runs.{Played, Plays}
-use Rattle.dg_rules.specs.Premises.{LinkFits, WorldAgrees, AllOff, IsInRange, IsTrueThen}
+use Rattle.dg_rules.specs.Premises.{LinkFits, WorldAgrees, AllOff, PlayedInRange, IsTrueThen}
 
 -- What is played from a world that agrees with its table and in which no mote is on: every number is in its range, and
 -- every event is true in the world of its moment.
@@ -21,7 +21,7 @@ pub record PlaysFrom (u : World) (played : List Played) (v : World) : Type 0 whe
   pub agrees : WorldAgrees u
   pub off : AllOff u
   pub plays : Plays u played v
-  pub ranges : AllByRecursion (IsInRange (length u.sites)) played
+  pub ranges : AllByRecursion (PlayedInRange (length u.sites)) played
   pub are_true : AllByRecursion IsTrueThen played
 
 -- ---- chips as they stand
@@ -46,7 +46,8 @@ HoldsTo table w (Tick mote dt word) = Unit {0}
 HoldsTo table w (Hear mote dt word frame) = Unit {0}
 HoldsTo table w (Last from to dt word) = Unit {0}
 HoldsTo table w (Reset mote dt word) = Unit {0}
-HoldsTo table w (Inject mote image version dt word) = (row kept : Row) → row_at w.declared image version ≡ Some row → row_at table image version ≡ Some kept → kept ≡ row
+HoldsTo table w (Inject mote image version dt word) =
+    (row kept : Row) → row_at w.declared image version ≡ Some row → row_at table image version ≡ Some kept → kept ≡ row
 HoldsTo table w (OrderEvent mote number image version dt word) = Unit {0}
 HoldsTo table w (Frame mote dt word bytes) = IsHonest w.table bytes
 
@@ -58,9 +59,10 @@ abbrev pub HoldsToThen : List Row → Played → Type 0
 HoldsToThen table p = ItemHoldsTo table p.item p.before
 
 -- what is played over chips that stand for these stores, against a table: every number is in its range
-pub record PlaysBoards (table : List Row) (stores : List Store) (links : List (ℕ × ℕ)) (narrow : List Bool) (played : List Played) (v : World) : Type 0 where
+pub record PlaysBoards (table : List Row) (stores : List Store) (links : List (ℕ × ℕ)) (narrow : List Bool)
+    (played : List Played) (v : World) : Type 0 where
   pub shaped : AreShaped stores
   pub plays : Plays (first_world table links narrow stores) played v
   pub few : length stores ≤ most_motes
   pub links_fit : AllByRecursion (LinkFits (length stores)) links
-  pub ranges : AllByRecursion (IsInRange (length stores)) played
+  pub ranges : AllByRecursion (PlayedInRange (length stores)) played

@@ -1,5 +1,6 @@
 -- What is reported of a chip that changed.
-use Rattle.std.specs.Prelude.{ℕ, ◌-◌, ◌==◌, ◌&&◌, Bool, true, false, if◌then◌else◌, List, [], ◌∷◌, ◌++◌, length, not, Option, Some, None}
+use Rattle.std.specs.Prelude.{ℕ, ◌-◌, ◌==◌, ◌&&◌, Bool, true, false, if◌then◌else◌, List, [], ◌∷◌, ◌++◌, length, not, Option}
+use Rattle.std.specs.Prelude.{Some, None}
 use Rattle.std.specs.List.{filter_map, flat_map, range_with_len}
 use Rattle.std.specs.FinSet as set
 use Rattle.dg_control.specs.declared.snapshot.Order.{Order}
@@ -12,11 +13,10 @@ use Rattle.dg_volume.specs.Start.{Runs, runs_length, runs_crc}
 use Rattle.dg_frame.specs.declared.Message.{Message}
 use Rattle.dg_frame.specs.declared.Message.TheVariants.{Advert, Request, Packet, Wide}
 use Rattle.dg_script.specs.declared.report.Report.{Report}
-use Rattle.dg_script.specs.declared.report.Report.TheVariants.{Order as OrderLine, Lost, Have, Start, SentAdvert, SentRequest, SentData, Taken, End, MoteOn, MoteOff, Kept}
+use Rattle.dg_script.specs.declared.report.Report.TheVariants.{Order as OrderLine, Lost, Have, Start, SentAdvert, SentRequest}
+use Rattle.dg_script.specs.declared.report.Report.TheVariants.{SentData, Taken, End, MoteOn, MoteOff, Kept}
 use Rattle.dg_rules.specs.World.{World, Running, Site, site}
-
-abbrev pub same_order : Order → Order → Bool
-same_order a b = (a.number == b.number) && ((a.image == b.image) && (a.version == b.version))
+use Rattle.dg_mote.specs.Summary.{same_order}
 
 abbrev pub order_change : ℕ → Order → Order → List Report
 order_change m old new = if same_order old new then [] else OrderLine m new.number new.image new.version ∷ []

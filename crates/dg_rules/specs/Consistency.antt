@@ -45,4 +45,5 @@ StartsSound golden p = StartsSoundItem golden p.item p.before
 
 -- wherever a stop comes in the event, the store that the chip may then stand for is consistent
 abbrev pub StopsConsistent : Row → World → Event → Type 0
-StopsConsistent golden w e = (k : ℕ) (s : Store) → Leaves IsNear (trail_of (does w e) (store_at w (mote_of e))) k s → Consistent golden s
+StopsConsistent golden w e =
+    (k : ℕ) (s : Store) → Leaves IsNear (trail_of (does w e) (store_at w (mote_of e))) k s → Consistent golden s

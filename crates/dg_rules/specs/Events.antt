@@ -72,11 +72,17 @@ runs_by None (Some key) m = Some (record { key = key; mote = m })
 runs_by None None m = None
 
 abbrev pub of_effect : World → Effect → Option Key → Does
-of_effect w e old = Goes (record { trail = e.trail; table = w.table; started = e.started; sent = e.sent; runs = option_map (runs_by e.started old) e.mote })
+of_effect w e old = Goes (record {
+  trail = e.trail;
+  table = w.table;
+  started = e.started;
+  sent = e.sent;
+  runs = option_map (runs_by e.started old) e.mote;
+})
 
-abbrev pub tick_by : World → Store → Option Running → (now word : ℕ) → Does
-tick_by w s None now word = Refuses cause.Off
-tick_by w s (Some r) now word = of_effect w (tick_effect r.mote s now word) (Some r.key)
+abbrev pub tick_does : World → Store → Option Running → (now word : ℕ) → Does
+tick_does w s None now word = Refuses cause.Off
+tick_does w s (Some r) now word = of_effect w (tick_effect r.mote s now word) (Some r.key)
 
 abbrev pub hear_by : World → Store → Option Running → (now word : ℕ) → List ℕ → Does
 hear_by w s None now word bytes = Refuses cause.Off
@@ -114,7 +120,13 @@ reloaded None now word = None
 reloaded (Some r) now word = Some (record r { mote = maintains r.mote now word })
 
 abbrev pub acts : World → ℕ → Trail Store → List Row → (now word : ℕ) → Does
-acts w m t table now word = Goes (record { trail = t; table = table; started = None; sent = None; runs = Some (reloaded (site w m).runs now word) })
+acts w m t table now word = Goes (record {
+  trail = t;
+  table = table;
+  started = None;
+  sent = None;
+  runs = Some (reloaded (site w m).runs now word);
+})
 
 abbrev pub inject_unless : Option InjectFault → World → ℕ → Row → (now word : ℕ) → Does
 inject_unless (Some fault) w m row now word = Refuses (inject_cause row fault)
@@ -148,14 +160,16 @@ orders w m order now word = order_unless (order_refusal (store_at w m) order) w 
 -- ---- every event
 
 unfoldable pub does : World → Event → Does
-does w (Tick m dt word) = tick_by w (store_at w m) (site w m).runs (w.moment + dt) word
+does w (Tick m dt word) = tick_does w (store_at w m) (site w m).runs (w.moment + dt) word
 does w (Hear m dt word frame) = unless_off (site w m).runs (heard_sent w m (w.moment + dt) word (frame_at w frame))
 does w (Last from to dt word) =
-    unless_off (site w to).runs (if linked w from to then heard_last w from to (w.moment + dt) word (last_frame w from) else Refuses cause.Link)
+    unless_off (site w to).runs
+    (if linked w from to then heard_last w from to (w.moment + dt) word (last_frame w from) else Refuses cause.Link)
 does w (Reset m dt word) = of_effect w (reset_effect (store_at w m) m (wide_at w m) (w.moment + dt) word) None
 does w (Inject m image version dt word) =
     if knows (wide_at w m) image then injects w m image version (w.moment + dt) word else Refuses cause.Image
 does w (OrderEvent m number image version dt word) =
-    if knows (wide_at w m) image then orders w m (record { number = number; image = image; version = version }) (w.moment + dt) word
+    if knows (wide_at w m) image
+    then orders w m (record { number = number; image = image; version = version }) (w.moment + dt) word
     else Refuses cause.Image
 does w (Frame m dt word bytes) = hear_by w (store_at w m) (site w m).runs (w.moment + dt) word bytes

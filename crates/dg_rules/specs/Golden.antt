@@ -8,7 +8,7 @@ use Rattle.dg_rules.specs.Sizes.{most_motes}
 use Rattle.dg_rules.specs.World.{World, Site, site, first_world}
 use Rattle.dg_rules.specs.Events.{Does, Refuses, Goes}
 use Rattle.dg_rules.specs.Runs.{Played, Plays}
-use Rattle.dg_rules.specs.Premises.{LinkFits, IsInRange}
+use Rattle.dg_rules.specs.Premises.{LinkFits, PlayedInRange}
 
 -- image 0 is kept whole, and its pages are the object of a row
 pub record KeepsGoldenRow (s : Store) : Type 0 where
@@ -36,10 +36,26 @@ abbrev pub FindsImage : Does → Type 0
 FindsImage (Refuses why) = Unit {0}
 FindsImage (Goes d) = d.runs ≢ None
 
--- what is played of a script with golden: so many motes begin with chips that were formatted with it, and every number is in its range
-pub record PlaysGolden (name bytes : List ℕ) (used motes : ℕ) (links : List (ℕ × ℕ)) (narrow : List Bool) (played : List Played) (v : World) : Type 0 where
-  pub is_row : IsRow (golden_row name bytes)
-  pub plays : Plays (first_world (golden_row name bytes ∷ []) links narrow (replicate motes (fresh name bytes used))) played v
-  pub few : motes ≤ most_motes
-  pub links_fit : AllByRecursion (LinkFits motes) links
-  pub ranges : AllByRecursion (IsInRange motes) played
+-- Motes whose chips were formatted with golden: its name and bytes, the commits that were used, how many motes there are,
+-- their links, and which of them are narrow.
+pub record GoldenNetwork : Type 0 where
+  pub name : List ℕ
+  pub bytes : List ℕ
+  pub used : ℕ
+  pub motes : ℕ
+  pub links : List (ℕ × ℕ)
+  pub narrow : List Bool
+
+abbrev pub network_row : GoldenNetwork → Row
+network_row g = golden_row g.name g.bytes
+
+abbrev pub network_world : GoldenNetwork → World
+network_world g = first_world (network_row g ∷ []) g.links g.narrow (replicate g.motes (fresh g.name g.bytes g.used))
+
+-- what is played of a script with golden: such motes begin, and every number is in its range
+pub record PlaysGolden (g : GoldenNetwork) (played : List Played) (v : World) : Type 0 where
+  pub is_row : IsRow (network_row g)
+  pub plays : Plays (network_world g) played v
+  pub few : g.motes ≤ most_motes
+  pub links_fit : AllByRecursion (LinkFits g.motes) g.links
+  pub ranges : AllByRecursion (PlayedInRange g.motes) played

@@ -1,5 +1,6 @@
 -- What a step may change of the small state.
-use Rattle.std.specs.Prelude.{◌≡◌, ◌≢◌, ◌⊎◌, ℕ, ◌+◌, ◌<◌, ◌≤◌, Bool, true, false, List, length, slice_set, Option, Some, None, Result, Ok, Err}
+use Rattle.std.specs.Prelude.{◌≡◌, ◌≢◌, ◌⊎◌, ℕ, ◌+◌, ◌<◌, ◌≤◌, Bool, true, false, List, length, slice_set, Option, Some, None}
+use Rattle.std.specs.Prelude.{Result, Ok, Err}
 use Rattle.dg_object.specs.Object.{Row}
 use Rattle.dg_control.specs.declared.snapshot.Order.{Order}
 use Rattle.dg_slot.specs.Layout.{packets}
@@ -12,7 +13,7 @@ use Rattle.dg_mote.specs.Changes.{Brings}
 use Rattle.dg_mote.specs.Summary.{entry_for}
 use Rattle.dg_volume.specs.Sizes.{golden_version}
 use Rattle.dg_volume.specs.Table.{row_at, with_row}
-use Rattle.dg_rules.specs.Small.{Holding, SmallMote, Small, mote_in, holds, whole}
+use Rattle.dg_rules.specs.Small.{Holding, SmallMote, Small, small_mote_at, holds, whole}
 use Rattle.dg_base.specs.declared.events.Key.{Key}
 use Rattle.dg_base.specs.declared.events.Event.{Event}
 use Rattle.dg_base.specs.declared.events.Event.TheVariants.{Tick, Hear, Last, Reset, Inject, Order as OrderEvent, Frame}
@@ -46,21 +47,23 @@ abbrev pub MayInject : Option Holding → Row → Type 0
 MayInject None row = Unit {0}
 MayInject (Some h) row = (h.version < row.version) ⊎ ((h.version ≡ row.version) × (h.pages ≤ (whole row).pages))
 
--- where a cut blew: what was kept stays; or so many pages of the new version are kept, no fewer than before; or nothing, where an older version was kept
+-- where a cut blew: what was kept stays; or so many pages of the new version are kept, no fewer than before; or nothing,
+-- where an older version was kept
 abbrev pub CutHolding : Option Holding → Row → Option Holding → Type 0
 CutHolding old row None = (old ≡ None) ⊎ ((h : Holding) × (old ≡ Some h) × (h.version < row.version))
 CutHolding old row (Some new) =
-    (old ≡ Some new) ⊎ ((new.version ≡ row.version) × ((h : Holding) → old ≡ Some h → h.version ≡ row.version → h.pages ≤ new.pages))
+    (old ≡ Some new)
+    ⊎ ((new.version ≡ row.version) × ((h : Holding) → old ≡ Some h → h.version ≡ row.version → h.pages ≤ new.pages))
 
-pub record LegalInject (declared table : List Row) (blew : Bool) (image version : ℕ) (old new : SmallMote) (after : List Row) : Type 0 where
-  pub known : 1 ≤ image
+pub record LegalInject (declared table after : List Row) (blew : Bool) (key : Key) (old new : SmallMote) : Type 0 where
+  pub known : 1 ≤ key.image
   pub row : Row
-  pub is_declared : row_at declared image version ≡ Some row
+  pub is_declared : row_at declared key.image key.version ≡ Some row
   pub table_after : after ≡ with_row table row
-  pub before : MayInject (holds old image) row
+  pub before : MayInject (holds old key.image) row
   pub held : Option Holding
-  pub change : new ≡ taking old image held
-  pub how : ((blew ≡ false) × (held ≡ Some (whole row))) ⊎ ((blew ≡ true) × CutHolding (holds old image) row held)
+  pub change : new ≡ taking old key.image held
+  pub how : ((blew ≡ false) × (held ≡ Some (whole row))) ⊎ ((blew ≡ true) × CutHolding (holds old key.image) row held)
 
 pub record LegalOrder (blew : Bool) (order : Order) (old new : SmallMote) : Type 0 where
   pub larger : old.order.number < order.number
@@ -69,23 +72,23 @@ pub record LegalOrder (blew : Bool) (order : Order) (old new : SmallMote) : Type
 abbrev pub IsGoldenKey : Key → Type 0
 IsGoldenKey key = (key.image ≡ 0) × (key.version ≡ golden_version)
 
-pub record HoldsWhole (table : List Row) (x : SmallMote) (key : Key) : Type 0 where
+pub record HoldsWholeRow (table : List Row) (x : SmallMote) (key : Key) : Type 0 where
   pub row : Row
   pub in_table : row_at table key.image key.version ≡ Some row
   pub whole_row : holds x key.image ≡ Some (whole row)
 
-pub record IsOrdered (x : SmallMote) (key : Key) : Type 0 where
+pub record OrdersKey (x : SmallMote) (key : Key) : Type 0 where
   pub some : x.order.number ≢ 0
   pub image : x.order.image ≡ key.image
   pub version : x.order.version ≡ key.version
 
 -- a row that the mote holds whole and that its order names
-abbrev pub MayRestart : List Row → SmallMote → Key → Type 0
-MayRestart table x key = IsOrdered x key × HoldsWhole table x key
+abbrev pub OrdersWholeRow : List Row → SmallMote → Key → Type 0
+OrdersWholeRow table x key = OrdersKey x key × HoldsWholeRow table x key
 
 -- golden, what program memory is Set to, or such a row
 abbrev pub MayStart : List Row → SmallMote → Key → Type 0
-MayStart table x key = IsGoldenKey key ⊎ ((x.app ≡ Some key) ⊎ MayRestart table x key)
+MayStart table x key = IsGoldenKey key ⊎ ((x.app ≡ Some key) ⊎ OrdersWholeRow table x key)
 
 -- a start that was not stopped
 pub record LegalStart (table : List Row) (old new : SmallMote) : Type 0 where
@@ -112,13 +115,17 @@ pub record LegalAdvert (blew : Bool) (entries : List Entry) (order : Order) (old
   pub image : ℕ
   pub known : 1 ≤ image
   pub held : Option Holding
-  pub held_change : (held ≡ holds old image) ⊎ ((1 ≤ (entry_for entries image).have) × IsOlder (holds old image) (entry_for entries image).version × ((held ≡ Some (record { version = (entry_for entries image).version; pages = 0 })) ⊎ ((blew ≡ true) × (held ≡ None))))
+  pub held_change : (held ≡ holds old image) ⊎ ((1 ≤ (entry_for entries image).have)
+      × IsOlder (holds old image) (entry_for entries image).version
+      × ((held ≡ Some (record { version = (entry_for entries image).version; pages = 0 })) ⊎ ((blew ≡ true) × (held ≡ None))))
   pub change : new ≡ taking (record old { order = kept_order }) image held
 
-pub record LegalPacket (past : Past) (m : ℕ) (wide : Bool) (image version page : ℕ) (old new : SmallMote) : Type 0 where
+-- a page more is kept where all of its packets came
+pub record LegalPacket (all_came : Type 0) (image version page : ℕ) (old new : SmallMote) : Type 0 where
   pub held : Option Holding
   pub held_change : (held ≡ holds old image)
-      ⊎ ((1 ≤ image) × (holds old image ≡ Some (record { version = version; pages = page })) × (held ≡ Some (record { version = version; pages = page + 1 })) × AllCame m wide image version page past)
+      ⊎ ((1 ≤ image) × (holds old image ≡ Some (record { version = version; pages = page }))
+      × (held ≡ Some (record { version = version; pages = page + 1 })) × all_came)
   pub change : new ≡ taking old image held
 
 abbrev pub off_after : Bool → SmallMote → SmallMote
@@ -129,19 +136,20 @@ abbrev pub LegalMessage : Past → (blew : Bool) → ℕ → (wide : Bool) → R
 LegalMessage past blew m wide (Err fault) old new = new ≡ old
 LegalMessage past blew m wide (Ok (Advert source entries order)) old new = LegalAdvert blew entries order old new
 LegalMessage past blew m wide (Ok (Request source to image version page want)) old new = new ≡ old
-LegalMessage past blew m wide (Ok (Packet source image version page q bytes)) old new = LegalPacket past m wide image version page old new
+LegalMessage past blew m wide (Ok (Packet source image version page q bytes)) old new =
+    LegalPacket (AllCame m wide image version page past) image version page old new
 LegalMessage past blew m wide (Ok (Wide source entries order)) old new = LegalAdvert blew entries order old new
 
 -- ---- a step
 
 -- A mote that is off changes by Reset, Inject and Order alone.
-abbrev pub IsOn : SmallMote → Type 0
-IsOn x = (key : Key) × (x.runs ≡ Some key)
+abbrev pub SmallIsOn : SmallMote → Type 0
+SmallIsOn x = (key : Key) × (x.runs ≡ Some key)
 
 -- A Tick may also change nothing, and it starts the ordered row alone.
 abbrev pub LegalTick : List Row → Bool → SmallMote → SmallMote → Type 0
-LegalTick table false old new = (new ≡ old) ⊎ ((s : LegalStart table old new) × MayRestart table old s.key)
-LegalTick table true old new = CutStart (MayRestart table old) old new
+LegalTick table false old new = (new ≡ old) ⊎ ((s : LegalStart table old new) × OrdersWholeRow table old s.key)
+LegalTick table true old new = CutStart (OrdersWholeRow table old) old new
 
 abbrev pub LegalReset : List Row → Bool → SmallMote → SmallMote → Type 0
 LegalReset table false old new = LegalStart table old new
@@ -152,23 +160,41 @@ abbrev pub LegalFrame : Past → (blew : Bool) → ℕ → (wide : Bool) → Opt
 LegalFrame past blew m wide None old new = ⊥
 LegalFrame past blew m wide (Some bytes) old new = LegalMessage (Came m bytes past) blew m wide (message_of bytes wide) old new
 
--- what an event that is not refused may change at its mote, where `frame` is the one that it brings and `wide` the width of the mote. A cut that blew makes the mote off
-abbrev pub LegalAt : Past → List Row → List Row → (blew wide : Bool) → Option (List ℕ) → Event → SmallMote → SmallMote → List Row → Type 0
-LegalAt past declared table blew wide frame (Tick m dt word) old new after = IsOn old × LegalTick table blew old new × (after ≡ table)
-LegalAt past declared table blew wide frame (Reset m dt word) old new after = LegalReset table blew old new × (after ≡ table)
-LegalAt past declared table blew wide frame (Inject m image version dt word) old new after =
-    (mid : SmallMote) × LegalInject declared table blew image version old mid after × (new ≡ off_after blew mid)
-LegalAt past declared table blew wide frame (OrderEvent m number image version dt word) old new after =
-    (mid : SmallMote) × LegalOrder blew (record { number = number; image = image; version = version }) old mid × (new ≡ off_after blew mid) × (after ≡ table)
-LegalAt past declared table blew wide frame (Hear m dt word number) old new after =
-    IsOn old × (mid : SmallMote) × LegalFrame past blew m wide frame old mid × (new ≡ off_after blew mid) × (after ≡ table)
-LegalAt past declared table blew wide frame (Last from m dt word) old new after =
-    IsOn old × (mid : SmallMote) × LegalFrame past blew m wide frame old mid × (new ≡ off_after blew mid) × (after ≡ table)
-LegalAt past declared table blew wide frame (Frame m dt word bytes) old new after =
-    IsOn old × (mid : SmallMote) × LegalFrame past blew m wide frame old mid × (new ≡ off_after blew mid) × (after ≡ table)
+-- What is known of a step beside the small state: the past, what is declared, whether its cut blew, whether its mote is wide,
+-- and the frame that it brings.
+pub record StepFacts : Type 0 where
+  pub past : Past
+  pub declared : List Row
+  pub blew : Bool
+  pub wide : Bool
+  pub frame : Option (List ℕ)
+
+abbrev pub step_facts : Past → (declared : List Row) → (blew wide : Bool) → (frame : Option (List ℕ)) → StepFacts
+step_facts past declared blew wide frame =
+    record { past = past; declared = declared; blew = blew; wide = wide; frame = frame }
+
+-- What an event that is not refused may change at its mote, from one table to another. A cut that blew makes the mote off.
+abbrev pub LegalAt : StepFacts → List Row → Event → SmallMote → SmallMote → List Row → Type 0
+LegalAt f table (Tick m dt word) old new after = SmallIsOn old × LegalTick table f.blew old new × (after ≡ table)
+LegalAt f table (Reset m dt word) old new after = LegalReset table f.blew old new × (after ≡ table)
+LegalAt f table (Inject m image version dt word) old new after =
+    (mid : SmallMote) × LegalInject f.declared table after f.blew (record { image = image; version = version }) old mid
+    × (new ≡ off_after f.blew mid)
+LegalAt f table (OrderEvent m number image version dt word) old new after =
+    (mid : SmallMote) × LegalOrder f.blew (record { number = number; image = image; version = version }) old mid
+    × (new ≡ off_after f.blew mid) × (after ≡ table)
+LegalAt f table (Hear m dt word number) old new after =
+    SmallIsOn old × (mid : SmallMote) × LegalFrame f.past f.blew m f.wide f.frame old mid
+    × (new ≡ off_after f.blew mid) × (after ≡ table)
+LegalAt f table (Last from m dt word) old new after =
+    SmallIsOn old × (mid : SmallMote) × LegalFrame f.past f.blew m f.wide f.frame old mid
+    × (new ≡ off_after f.blew mid) × (after ≡ table)
+LegalAt f table (Frame m dt word bytes) old new after =
+    SmallIsOn old × (mid : SmallMote) × LegalFrame f.past f.blew m f.wide f.frame old mid
+    × (new ≡ off_after f.blew mid) × (after ≡ table)
 
 -- An event that is not refused changes only what its kind allows, at its mote alone.
-pub record LegalStep (past : Past) (declared : List Row) (blew wide : Bool) (frame : Option (List ℕ)) (event : Event) (mote : ℕ) (old new : Small) : Type 0 where
-  pub there : LegalAt past declared old.table blew wide frame event (mote_in old mote) (mote_in new mote) new.table
-  pub others : (m : ℕ) → m ≢ mote → mote_in new m ≡ mote_in old m
+pub record LegalStep (facts : StepFacts) (event : Event) (mote : ℕ) (old new : Small) : Type 0 where
+  pub there : LegalAt facts old.table event (small_mote_at old mote) (small_mote_at new mote) new.table
+  pub others : (m : ℕ) → m ≢ mote → small_mote_at new m ≡ small_mote_at old m
   pub count : length new.motes ≡ length old.motes

@@ -40,7 +40,8 @@ started_unless false started = started
 abbrev pub past_by : Does → World → Step → Past → Past
 past_by (Refuses why) w x past = past
 past_by (Goes d) w x past =
-    started_then (started_unless (blows x.cut d.trail) d.started) (mote_of x.event) (came_then (brought w x.event) (mote_of x.event) past)
+    started_then (started_unless (blows x.cut d.trail) d.started)
+    (mote_of x.event) (came_then (brought w x.event) (mote_of x.event) past)
 
 abbrev pub past_item : Item → World → Past → Past
 past_item (Declares row) w past = past

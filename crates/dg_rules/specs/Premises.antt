@@ -18,7 +18,7 @@ use Rattle.dg_mote.specs.Speaking.{OrderFits, Speaks}
 use Rattle.dg_mote.specs.Timely.{Timely}
 use Rattle.dg_rules.specs.Sizes.{most_motes, most_content}
 use Rattle.dg_rules.specs.World.{World, Running, Site, Sent, site, wide_at}
-use Rattle.dg_rules.specs.Ranges.{StepFits}
+use Rattle.dg_rules.specs.Ranges.{StepInRange}
 use Rattle.dg_script.specs.Items.{Item, Declares, Happens}
 use Rattle.dg_rules.specs.Runs.{Played}
 use Rattle.dg_base.specs.declared.events.Event.{Event}
@@ -86,14 +86,15 @@ TrueEvent w (Tick mote dt word) = Unit {0}
 TrueEvent w (Hear mote dt word frame) = Unit {0}
 TrueEvent w (Last from to dt word) = Unit {0}
 TrueEvent w (Reset mote dt word) = Unit {0}
-TrueEvent w (Inject mote image version dt word) = (row kept : Row) → row_at w.declared image version ≡ Some row → row_at w.table image version ≡ Some kept → kept ≡ row
+TrueEvent w (Inject mote image version dt word) =
+    (row kept : Row) → row_at w.declared image version ≡ Some row → row_at w.table image version ≡ Some kept → kept ≡ row
 TrueEvent w (OrderEvent mote number image version dt word) = Unit {0}
 TrueEvent w (Frame mote dt word bytes) = IsHonest w.table bytes
 
 -- what is played is in its ranges, and true
 abbrev pub ItemFits : Item → World → Type 0
 ItemFits (Declares row) w = IsDeclared row
-ItemFits (Happens step loud) w = StepFits (length w.sites) step × TrueEvent w step.event
+ItemFits (Happens step loud) w = StepInRange (length w.sites) step × TrueEvent w step.event
 
 abbrev pub PlayedFits : Played → Type 0
 PlayedFits p = ItemFits p.item p.before
@@ -101,10 +102,10 @@ PlayedFits p = ItemFits p.item p.before
 -- the same where nothing is said of the world: of a script with so many motes
 abbrev pub ItemInRange : ℕ → Item → Type 0
 ItemInRange motes (Declares row) = IsDeclared row
-ItemInRange motes (Happens step loud) = StepFits motes step
+ItemInRange motes (Happens step loud) = StepInRange motes step
 
-abbrev pub IsInRange : ℕ → Played → Type 0
-IsInRange motes p = ItemInRange motes p.item
+abbrev pub PlayedInRange : ℕ → Played → Type 0
+PlayedInRange motes p = ItemInRange motes p.item
 
 -- a frame from outside is honest by the table of that moment
 abbrev pub HonestItem : Item → World → Type 0

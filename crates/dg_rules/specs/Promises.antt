@@ -15,8 +15,8 @@ use Rattle.dg_volume.specs.Agreement.{Agrees}
 use Rattle.dg_rules.specs.World.{World, store_at, wide_at}
 use Rattle.dg_rules.specs.Events.{Does, Refuses, Goes, trail_of, does, mote_of}
 use Rattle.dg_rules.specs.Steps.{blows}
-use Rattle.dg_rules.specs.Small.{Holding, small, mote_in, holds}
-use Rattle.dg_rules.specs.Legal.{Past, LegalStep}
+use Rattle.dg_rules.specs.Small.{Holding, small, small_mote_at, holds}
+use Rattle.dg_rules.specs.Legal.{Past, LegalStep, step_facts}
 use Rattle.dg_rules.specs.Past.{brought, past_of}
 use Rattle.dg_script.specs.Items.{Item, Declares, Happens}
 use Rattle.dg_rules.specs.Runs.{Played}
@@ -30,7 +30,8 @@ use Rattle.dg_base.specs.declared.events.Step.{Step}
 abbrev pub LegalDoes : Does → Past → World → Step → World → Type 0
 LegalDoes (Refuses why) past w x v = small v ≡ small w
 LegalDoes (Goes d) past w x v =
-    LegalStep past w.declared (blows x.cut d.trail) (wide_at w (mote_of x.event)) (brought w x.event) x.event (mote_of x.event) (small w) (small v)
+    LegalStep (step_facts past w.declared (blows x.cut d.trail) (wide_at w (mote_of x.event)) (brought w x.event))
+    x.event (mote_of x.event) (small w) (small v)
 
 abbrev pub LegalItem : Item → Past → World → World → Type 0
 LegalItem (Declares row) past w v = small v ≡ small w
@@ -52,7 +53,8 @@ IsKeptIn (Some k) h = (h.version < k.version) ⊎ ((h.version ≡ k.version) × 
 abbrev pub NamesNewer : (wide : Bool) → Option (List ℕ) → ℕ → Holding → Type 0
 NamesNewer wide None i h = ⊥
 NamesNewer wide (Some bytes) i h =
-    (kind : Bool) × (source : ℕ) × (entries : List Entry) × (order : Order) × (message_of bytes wide ≡ Ok (advert_by kind source entries order))
+    (kind : Bool) × (source : ℕ) × (entries : List Entry) × (order : Order)
+    × (message_of bytes wide ≡ Ok (advert_by kind source entries order))
     × (1 ≤ (entry_for entries i).have) × (h.version < (entry_for entries i).version)
 
 -- an injection brings a newer version of the image, or an advert that is heard names one
@@ -77,18 +79,20 @@ pub record IsReplacing (w : World) (x : Step) (m i : ℕ) (h : Holding) (new : O
   pub newer : Replaces w x.event i h
   pub cut : IsBlown (does w x.event) x
 
--- No version falls, and a complete page stays unless a newer version of its image replaces it, which a cut may have left half done.
+-- No version falls, and a complete page stays unless a newer version of its image replaces it,
+-- which a cut may have left half done.
 abbrev pub KeepsItem : Item → World → World → Type 0
-KeepsItem (Declares row) w v = (m i : ℕ) (h : Holding) → holds (mote_in (small w) m) i ≡ Some h → IsKeptIn (holds (mote_in (small v) m) i) h
-KeepsItem (Happens step loud) w v = (m i : ℕ) (h : Holding) → holds (mote_in (small w) m) i ≡ Some h
-    → IsKeptIn (holds (mote_in (small v) m) i) h ⊎ IsReplacing w step m i h (holds (mote_in (small v) m) i)
+KeepsItem (Declares row) w v =
+    (m i : ℕ) (h : Holding) → holds (small_mote_at (small w) m) i ≡ Some h → IsKeptIn (holds (small_mote_at (small v) m) i) h
+KeepsItem (Happens step loud) w v = (m i : ℕ) (h : Holding) → holds (small_mote_at (small w) m) i ≡ Some h
+    → IsKeptIn (holds (small_mote_at (small v) m) i) h ⊎ IsReplacing w step m i h (holds (small_mote_at (small v) m) i)
 
 abbrev pub KeepsAll : Played → Type 0
 KeepsAll p = KeepsItem p.item p.before p.after
 
 -- what is kept of golden stays as it is
 abbrev pub GoldenStays : Played → Type 0
-GoldenStays p = (m : ℕ) → holds (mote_in (small p.after) m) 0 ≡ holds (mote_in (small p.before) m) 0
+GoldenStays p = (m : ℕ) → holds (small_mote_at (small p.after) m) 0 ≡ holds (small_mote_at (small p.before) m) 0
 
 -- ---- what starts
 
@@ -120,4 +124,5 @@ table_of (Goes d) table = d.table
 
 -- Wherever a stop comes in an event, each store that the chip may then stand for agrees with that table.
 abbrev pub StopsAgree : World → Event → Type 0
-StopsAgree w e = (k : ℕ) (s : Store) → Leaves IsNear (trail_of (does w e) (store_at w (mote_of e))) k s → Agrees (table_of (does w e) w.table) s
+StopsAgree w e = (k : ℕ) (s : Store) → Leaves IsNear (trail_of (does w e) (store_at w (mote_of e))) k s
+    → Agrees (table_of (does w e) w.table) s

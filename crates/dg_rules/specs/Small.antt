@@ -33,13 +33,18 @@ running_key r = option_map (λ (x : Running). x.key) r
 
 abbrev pub small_mote : Site → SmallMote
 small_mote x =
-    record { holdings = map (option_map holding) x.store.kept; app = option_map app_key x.store.app; order = x.store.order; runs = running_key x.runs }
+    record {
+      holdings = map (option_map holding) x.store.kept;
+      app = option_map app_key x.store.app;
+      order = x.store.order;
+      runs = running_key x.runs;
+    }
 
 abbrev pub small : World → Small
 small w = record { table = w.table; motes = map small_mote w.sites }
 
-abbrev pub mote_in : Small → ℕ → SmallMote
-mote_in s m = slice_index_or s.motes m (small_mote no_site)
+abbrev pub small_mote_at : Small → ℕ → SmallMote
+small_mote_at s m = slice_index_or s.motes m (small_mote no_site)
 
 abbrev pub holds : SmallMote → ℕ → Option Holding
 holds x i = slice_index_or x.holdings i None

@@ -43,7 +43,8 @@ done_reports w m d = changes m (store_at w m) (last d.trail) ++ start_line m d.s
 
 -- the event was not stopped: what comes is a function of the world and the event
 abbrev pub IsDone : World → (m dt : ℕ) → Deed → World → List Report → Type 0
-IsDone w m dt d v reports = (runs : Option Running) × (d.runs ≡ Some runs) × (v ≡ done_world w m dt d runs) × (reports ≡ done_reports w m d)
+IsDone w m dt d v reports =
+    (runs : Option Running) × (d.runs ≡ Some runs) × (v ≡ done_world w m dt d runs) × (reports ≡ done_reports w m d)
 
 -- the cut blew: the chip stands for one of the stores that the trail leaves there
 pub record IsCut (w : World) (m dt : ℕ) (d : Deed) (k : ℕ) (v : World) (reports : List Report) : Type 0 where
@@ -78,7 +79,8 @@ abbrev pub declared_as : Option Row → World → Row → World
 declared_as None w row = record w { declared = w.declared ++ row ∷ [] }
 declared_as (Some kept) w row = w
 
--- A row is declared: it is added where its key is not there. Where the key has another name or content, that is told and nothing changes
+-- A row is declared: it is added where its key is not there. Where the key has another name or content,
+-- that is told and nothing changes
 pub record DeclareStep (w : World) (row : Row) (v : World) (reports : List Report) : Type 0 where
   pub world : v ≡ declared_as (row_at w.declared row.image row.version) w row
   pub told : reports ≡ declared_lines (row_at w.declared row.image row.version) row

@@ -1,5 +1,6 @@
 -- A world: its motes with their chips, the images, the links, and the frames that were sent.
-use Rattle.std.specs.Prelude.{ℕ, ◌+◌, ◌-◌, ◌==◌, ◌&&◌, ◌||◌, nat_le, not, Bool, if◌then◌else◌, List, [], ◌∷◌, map, slice_get, slice_index_or, slice_set, Option, Some, None}
+use Rattle.std.specs.Prelude.{ℕ, ◌+◌, ◌-◌, ◌==◌, ◌&&◌, ◌||◌, nat_le, not, Bool, if◌then◌else◌, List, [], ◌∷◌, map, slice_get}
+use Rattle.std.specs.Prelude.{slice_index_or, slice_set, Option, Some, None}
 use Rattle.std.specs.List.{list_any}
 use Rattle.dg_object.specs.Object.{Row}
 use Rattle.dg_volume.specs.Store.{Store, fresh}
@@ -42,7 +43,16 @@ off_site s = record { store = s; runs = None }
 -- the world in which a run begins: all motes are off, and nothing was sent
 abbrev pub first_world : List Row → List (ℕ × ℕ) → (narrow : List Bool) → List Store → World
 first_world table links narrow stores =
-    record { moment = 0; events = 0; declared = []; table = table; links = links; narrow = narrow; sent = []; sites = map off_site stores }
+    record {
+      moment = 0;
+      events = 0;
+      declared = [];
+      table = table;
+      links = links;
+      narrow = narrow;
+      sent = [];
+      sites = map off_site stores;
+    }
 
 -- a chip that no mote has: the answer for a number that is no mote
 abbrev pub no_site : Site
@@ -52,11 +62,11 @@ abbrev pub site : World → ℕ → Site
 site w m = slice_index_or w.sites m no_site
 
 -- a mote is wide unless it is said to be narrow
-abbrev pub wide_in : (narrow : List Bool) → ℕ → Bool
-wide_in narrow m = not (is_narrow narrow m)
+abbrev pub is_wide_mote : (narrow : List Bool) → ℕ → Bool
+is_wide_mote narrow m = not (is_narrow narrow m)
 
 abbrev pub wide_at : World → ℕ → Bool
-wide_at w m = wide_in w.narrow m
+wide_at w m = is_wide_mote w.narrow m
 
 abbrev pub store_at : World → ℕ → Store
 store_at w m = (site w m).store

@@ -12,11 +12,12 @@ ghost use Rattle.dg_rules.specs.Steps.{WorldStep, DeclareStep, EndsRun};
 ghost use Rattle.dg_rules.specs.Events.{Refuses, does};
 ghost use Rattle.dg_rules.specs.Runs.{Played, Plays, EachAfter};
 ghost use Rattle.dg_rules.specs.Promises.{IsLegal, KeepsAll, GoldenStays, StartsDoes, StartsRow, StopsAgree};
-ghost use Rattle.dg_rules.specs.Ranges.{EventFits, StepFits};
-ghost use Rattle.dg_rules.specs.Premises.{WorldAgrees, WorldTimely, HonestEvent, IsHonestThen, TrueEvent, LeavesAgreement, IsDeclared};
+ghost use Rattle.dg_rules.specs.Ranges.{EventInRange, StepInRange};
+ghost use Rattle.dg_rules.specs.Premises.{WorldAgrees, WorldTimely, HonestEvent, IsHonestThen, TrueEvent, LeavesAgreement};
+ghost use Rattle.dg_rules.specs.Premises.{IsDeclared};
 ghost use Rattle.dg_rules.specs.Begins.{PlaysFrom, StoresAgree, HoldsTo, HoldsToThen, PlaysBoards};
 ghost use Rattle.dg_rules.specs.Consistency.{WorldConsistent, LeavesConsistent, StartsSoundDoes, StartsSound, StopsConsistent};
-ghost use Rattle.dg_rules.specs.Golden.{WorldKeepsGolden, FindsImage, PlaysGolden};
+ghost use Rattle.dg_rules.specs.Golden.{WorldKeepsGolden, FindsImage, GoldenNetwork, network_row, network_world, PlaysGolden};
 ghost use Rattle.dg_base.specs.declared.events.Event.{Event};
 ghost use Rattle.dg_base.specs.declared.events.Event.TheVariants.{Inject, Order};
 ghost use Rattle.dg_base.specs.declared.events.Step.{Step};
@@ -44,23 +45,30 @@ pub fn widths_stay()
 /// A narrow mote takes no image that its frames do not speak of: whatever else is wrong, its injection and an order of it
 /// are refused for the image.
 pub fn narrow_motes_know_few_images()
-    ensures injects { (w : World) (m image version dt word : ℕ) → wide_at w m ≡ false → narrow_images < image → does w (Inject m image version dt word) ≡ Refuses Image }
-    ensures orders { (w : World) (m number image version dt word : ℕ) → wide_at w m ≡ false → narrow_images < image → does w (Order m number image version dt word) ≡ Refuses Image }
+    ensures injects { (w : World) (m image version dt word : ℕ) → wide_at w m ≡ false → narrow_images < image
+        → does w (Inject m image version dt word) ≡ Refuses Image }
+    ensures orders { (w : World) (m number image version dt word : ℕ) → wide_at w m ≡ false → narrow_images < image
+        → does w (Order m number image version dt word) ≡ Refuses Image }
 {}
 
 /// A store that a cut leaves on a trail of agreeing stores agrees.
 pub fn what_a_cut_leaves_agrees()
-    ensures { (table : List Row) (t : Trail Store) (k : ℕ) (s : Store) → Through (Agrees table) t → Leaves IsNear t k s → Agrees table s }
+    ensures { (table : List Row) (t : Trail Store) (k : ℕ) (s : Store) → Through (Agrees table) t → Leaves IsNear t k s
+        → Agrees table s }
 {}
 
 /// A world that agrees with its table still does after a step, also a cut one, where a frame from outside is honest and
-/// what is injected is the table's row where the table has its key, and after a declaration. Wherever a stop comes in such an event, each store that the chip may then stand for agrees with the
-/// table behind the event. And no moment of a mote that is on is later than the world's, whatever frames come.
+/// what is injected is the table's row where the table has its key, and after a declaration. Wherever a stop comes in such an
+/// event, each store that the chip may then stand for agrees with the table behind the event. And no moment of a mote that is
+/// on is later than the world's, whatever frames come.
 pub fn agreement_is_kept()
-    ensures stepped { (w v : World) (x : Step) (reports : List Report) → WorldAgrees w → StepFits (length w.sites) x → TrueEvent w x.event → WorldStep w x v reports → WorldAgrees v }
-    ensures stopped { (w : World) (e : Event) → WorldAgrees w → EventFits (length w.sites) e → TrueEvent w e → StopsAgree w e }
-    ensures declared { (w v : World) (row : Row) (reports : List Report) → WorldAgrees w → IsDeclared row → DeclareStep w row v reports → WorldAgrees v }
-    ensures timely { (w v : World) (x : Step) (reports : List Report) → WorldTimely w → StepFits (length w.sites) x → WorldStep w x v reports → WorldTimely v }
+    ensures stepped { (w v : World) (x : Step) (reports : List Report) → WorldAgrees w → StepInRange (length w.sites) x
+        → TrueEvent w x.event → WorldStep w x v reports → WorldAgrees v }
+    ensures stopped { (w : World) (e : Event) → WorldAgrees w → EventInRange (length w.sites) e → TrueEvent w e → StopsAgree w e }
+    ensures declared { (w v : World) (row : Row) (reports : List Report) → WorldAgrees w → IsDeclared row
+        → DeclareStep w row v reports → WorldAgrees v }
+    ensures timely { (w v : World) (x : Step) (reports : List Report) → WorldTimely w → StepInRange (length w.sites) x
+        → WorldStep w x v reports → WorldTimely v }
 {
     trails_keep_agreement();
     a_start_ends();
@@ -74,7 +82,7 @@ pub fn agreement_is_kept()
 
 /// What an event starts is a row of the table, whose length and CRC are told.
 pub fn what_starts_is_a_row()
-    ensures { (w : World) (e : Event) → WorldAgrees w → EventFits (length w.sites) e → StartsDoes (does w e) w.table }
+    ensures { (w : World) (e : Event) → WorldAgrees w → EventInRange (length w.sites) e → StartsDoes (does w e) w.table }
 {
     a_whole_image_is_sound();
     a_restart_is_for_the_order();
@@ -83,9 +91,10 @@ pub fn what_starts_is_a_row()
 /// Where every mote keeps golden whole, each still does after a step, also a cut one, and no event finds that there is no
 /// image to start, so that none ends the run. Whether anything agrees with a table, or a frame is honest, is no matter.
 pub fn golden_is_found()
-    ensures stepped { (w v : World) (x : Step) (reports : List Report) → WorldKeepsGolden w → StepFits (length w.sites) x → WorldStep w x v reports → WorldKeepsGolden v }
-    ensures found { (w : World) (e : Event) → WorldKeepsGolden w → EventFits (length w.sites) e → FindsImage (does w e) }
-    ensures goes_on { (w v : World) (x : Step) → WorldKeepsGolden w → StepFits (length w.sites) x → EndsRun w x v → ⊥ }
+    ensures stepped { (w v : World) (x : Step) (reports : List Report) → WorldKeepsGolden w → StepInRange (length w.sites) x
+        → WorldStep w x v reports → WorldKeepsGolden v }
+    ensures found { (w : World) (e : Event) → WorldKeepsGolden w → EventInRange (length w.sites) e → FindsImage (does w e) }
+    ensures goes_on { (w v : World) (x : Step) → WorldKeepsGolden w → StepInRange (length w.sites) x → EndsRun w x v → ⊥ }
 {
     a_start_ends();
     a_whole_image_is_sound();
@@ -101,10 +110,12 @@ pub fn golden_is_found()
 /// the table behind it.
 pub fn every_step_is_legal()
     ensures legal { (w v : World) (played : List Played) → PlaysFrom w played v → EachAfter IsLegal [] played }
-    ensures agrees { (w v : World) (played : List Played) → PlaysFrom w played v → AllByRecursion LeavesAgreement played × WorldAgrees v }
+    ensures agrees { (w v : World) (played : List Played) → PlaysFrom w played v → AllByRecursion LeavesAgreement played
+        × WorldAgrees v }
     ensures starts { (w v : World) (played : List Played) → PlaysFrom w played v → AllByRecursion StartsRow played }
     ensures keeps { (w v : World) (played : List Played) → PlaysFrom w played v → AllByRecursion KeepsAll played }
-    ensures halves { (w v : World) (played : List Played) (e : Event) → PlaysFrom w played v → EventFits (length w.sites) e → TrueEvent v e → StopsAgree v e }
+    ensures halves { (w v : World) (played : List Played) (e : Event) → PlaysFrom w played v
+        → EventInRange (length w.sites) e → TrueEvent v e → StopsAgree v e }
 {
     agreement_is_kept();
     what_starts_is_a_row();
@@ -127,10 +138,14 @@ pub fn versions_do_not_fall()
 /// frame carries. Wherever a stop comes in an event, each store that the chip may then stand for is consistent. What an
 /// event starts is golden, or fits its own descriptor.
 pub fn consistency_is_kept()
-    ensures stepped { (golden : Row) (w v : World) (x : Step) (reports : List Report) → WorldConsistent golden w → StepFits (length w.sites) x → WorldStep w x v reports → WorldConsistent golden v }
-    ensures stopped { (golden : Row) (w : World) (e : Event) → WorldConsistent golden w → EventFits (length w.sites) e → StopsConsistent golden w e }
-    ensures declared { (golden : Row) (w v : World) (row : Row) (reports : List Report) → WorldConsistent golden w → IsDeclared row → DeclareStep w row v reports → WorldConsistent golden v }
-    ensures starts { (golden : Row) (w : World) (e : Event) → WorldConsistent golden w → EventFits (length w.sites) e → StartsSoundDoes golden (does w e) }
+    ensures stepped { (golden : Row) (w v : World) (x : Step) (reports : List Report) → WorldConsistent golden w
+        → StepInRange (length w.sites) x → WorldStep w x v reports → WorldConsistent golden v }
+    ensures stopped { (golden : Row) (w : World) (e : Event) → WorldConsistent golden w → EventInRange (length w.sites) e
+        → StopsConsistent golden w e }
+    ensures declared { (golden : Row) (w v : World) (row : Row) (reports : List Report) → WorldConsistent golden w
+        → IsDeclared row → DeclareStep w row v reports → WorldConsistent golden v }
+    ensures starts { (golden : Row) (w : World) (e : Event) → WorldConsistent golden w → EventInRange (length w.sites) e
+        → StartsSoundDoes golden (does w e) }
 {
     trails_keep_consistency();
     a_start_ends();
@@ -141,12 +156,12 @@ pub fn consistency_is_kept()
 /// A script with golden, whatever bytes its frames carry and wherever its power is cut: every store is consistent at the
 /// end of each event, also where the event was stopped, and what starts is golden, or fits its own descriptor.
 pub fn any_frames_leave_stores_consistent()
-    ensures kept { (name bytes : List ℕ) (used motes : ℕ) (links : List (ℕ × ℕ)) (narrow : List Bool) (played : List Played) (v : World) → PlaysGolden name bytes used motes links narrow played v
-        → AllByRecursion (LeavesConsistent (golden_row name bytes)) played × WorldConsistent (golden_row name bytes) v }
-    ensures starts { (name bytes : List ℕ) (used motes : ℕ) (links : List (ℕ × ℕ)) (narrow : List Bool) (played : List Played) (v : World) → PlaysGolden name bytes used motes links narrow played v
-        → AllByRecursion (StartsSound (golden_row name bytes)) played }
-    ensures halves { (name bytes : List ℕ) (used motes : ℕ) (links : List (ℕ × ℕ)) (narrow : List Bool) (played : List Played) (v : World) (e : Event) → PlaysGolden name bytes used motes links narrow played v
-        → EventFits motes e → StopsConsistent (golden_row name bytes) v e }
+    ensures kept { (g : GoldenNetwork) (played : List Played) (v : World) → PlaysGolden g played v
+        → AllByRecursion (LeavesConsistent (network_row g)) played × WorldConsistent (network_row g) v }
+    ensures starts { (g : GoldenNetwork) (played : List Played) (v : World) → PlaysGolden g played v
+        → AllByRecursion (StartsSound (network_row g)) played }
+    ensures halves { (g : GoldenNetwork) (played : List Played) (v : World) (e : Event) → PlaysGolden g played v
+        → EventInRange g.motes e → StopsConsistent (network_row g) v e }
 {
     trails_keep_consistency();
     consistency_is_kept();
@@ -158,25 +173,25 @@ pub fn any_frames_leave_stores_consistent()
 /// and where the next event is honest too, then wherever a stop comes in it, each store that the chip may then stand for
 /// agrees with the table behind it.
 pub fn scripts_with_golden()
-    ensures legal { (name bytes : List ℕ) (used motes : ℕ) (links : List (ℕ × ℕ)) (narrow : List Bool) (played : List Played) (v : World) → PlaysGolden name bytes used motes links narrow played v
+    ensures legal { (g : GoldenNetwork) (played : List Played) (v : World) → PlaysGolden g played v
         → AllByRecursion IsHonestThen played → EachAfter IsLegal [] played }
-    ensures keeps { (name bytes : List ℕ) (used motes : ℕ) (links : List (ℕ × ℕ)) (narrow : List Bool) (played : List Played) (v : World) → PlaysGolden name bytes used motes links narrow played v
+    ensures keeps { (g : GoldenNetwork) (played : List Played) (v : World) → PlaysGolden g played v
         → AllByRecursion IsHonestThen played → AllByRecursion KeepsAll played }
-    ensures starts { (name bytes : List ℕ) (used motes : ℕ) (links : List (ℕ × ℕ)) (narrow : List Bool) (played : List Played) (v : World) → PlaysGolden name bytes used motes links narrow played v
+    ensures starts { (g : GoldenNetwork) (played : List Played) (v : World) → PlaysGolden g played v
         → AllByRecursion IsHonestThen played → AllByRecursion StartsRow played }
-    ensures agrees { (name bytes : List ℕ) (used motes : ℕ) (links : List (ℕ × ℕ)) (narrow : List Bool) (played : List Played) (v : World) → PlaysGolden name bytes used motes links narrow played v
+    ensures agrees { (g : GoldenNetwork) (played : List Played) (v : World) → PlaysGolden g played v
         → AllByRecursion IsHonestThen played → AllByRecursion LeavesAgreement played × WorldAgrees v }
-    ensures found { (name bytes : List ℕ) (used motes : ℕ) (links : List (ℕ × ℕ)) (narrow : List Bool) (played : List Played) (v : World) (e : Event) → PlaysGolden name bytes used motes links narrow played v
-        → EventFits motes e → FindsImage (does v e) }
-    ensures halves { (name bytes : List ℕ) (used motes : ℕ) (links : List (ℕ × ℕ)) (narrow : List Bool) (played : List Played) (v : World) (e : Event) → PlaysGolden name bytes used motes links narrow played v
-        → AllByRecursion IsHonestThen played → EventFits motes e → HonestEvent v.table e → StopsAgree v e }
+    ensures found { (g : GoldenNetwork) (played : List Played) (v : World) (e : Event) → PlaysGolden g played v
+        → EventInRange g.motes e → FindsImage (does v e) }
+    ensures halves { (g : GoldenNetwork) (played : List Played) (v : World) (e : Event) → PlaysGolden g played v
+        → AllByRecursion IsHonestThen played → EventInRange g.motes e → HonestEvent v.table e → StopsAgree v e }
     // each row of the table but golden was declared, so that it is played from a world that agrees, and every event is true
-    ensures plays { (name bytes : List ℕ) (used motes : ℕ) (links : List (ℕ × ℕ)) (narrow : List Bool) (played : List Played) (v : World) → PlaysGolden name bytes used motes links narrow played v
-        → AllByRecursion IsHonestThen played → PlaysFrom (first_world (golden_row name bytes ∷ []) links narrow (replicate motes (fresh name bytes used))) played v }
+    ensures plays { (g : GoldenNetwork) (played : List Played) (v : World) → PlaysGolden g played v
+        → AllByRecursion IsHonestThen played → PlaysFrom (network_world g) played v }
     // and what is played more from there, with true events, is of a script with golden, over honest frames
-    ensures more { (name bytes : List ℕ) (used motes : ℕ) (links : List (ℕ × ℕ)) (narrow : List Bool) (played more : List Played) (w v : World) → PlaysGolden name bytes used motes links narrow played w
-        → PlaysFrom (first_world (golden_row name bytes ∷ []) links narrow (replicate motes (fresh name bytes used))) (played ++ more) v
-        → PlaysGolden name bytes used motes links narrow (played ++ more) v × AllByRecursion IsHonestThen (played ++ more) }
+    ensures more { (g : GoldenNetwork) (played more : List Played) (w v : World) → PlaysGolden g played w
+        → PlaysFrom (network_world g) (played ++ more) v
+        → PlaysGolden g (played ++ more) v × AllByRecursion IsHonestThen (played ++ more) }
 {
     every_step_is_legal();
     golden_is_found();
@@ -189,18 +204,27 @@ pub fn scripts_with_golden()
 /// table; and where the next event holds to it too, then wherever a stop comes in it, each store that the chip may then
 /// stand for agrees with the table behind it.
 pub fn scripts_with_boards()
-    ensures legal { (table : List Row) (stores : List Store) (links : List (ℕ × ℕ)) (narrow : List Bool) (played : List Played) (v : World) → PlaysBoards table stores links narrow played v
+    ensures legal { (table : List Row) (stores : List Store) (links : List (ℕ × ℕ)) (narrow : List Bool)
+        (played : List Played) (v : World) → PlaysBoards table stores links narrow played v
         → StoresAgree table stores → AllByRecursion (HoldsToThen table) played → EachAfter IsLegal [] played }
-    ensures keeps { (table : List Row) (stores : List Store) (links : List (ℕ × ℕ)) (narrow : List Bool) (played : List Played) (v : World) → PlaysBoards table stores links narrow played v
+    ensures keeps { (table : List Row) (stores : List Store) (links : List (ℕ × ℕ)) (narrow : List Bool)
+        (played : List Played) (v : World) → PlaysBoards table stores links narrow played v
         → StoresAgree table stores → AllByRecursion (HoldsToThen table) played → AllByRecursion KeepsAll played }
-    ensures starts { (table : List Row) (stores : List Store) (links : List (ℕ × ℕ)) (narrow : List Bool) (played : List Played) (v : World) → PlaysBoards table stores links narrow played v
+    ensures starts { (table : List Row) (stores : List Store) (links : List (ℕ × ℕ)) (narrow : List Bool)
+        (played : List Played) (v : World) → PlaysBoards table stores links narrow played v
         → StoresAgree table stores → AllByRecursion (HoldsToThen table) played → AllByRecursion StartsRow played }
-    ensures agrees { (table : List Row) (stores : List Store) (links : List (ℕ × ℕ)) (narrow : List Bool) (played : List Played) (v : World) → PlaysBoards table stores links narrow played v
-        → StoresAgree table stores → AllByRecursion (HoldsToThen table) played → AllByRecursion LeavesAgreement played × WorldAgrees v }
-    ensures halves { (table : List Row) (stores : List Store) (links : List (ℕ × ℕ)) (narrow : List Bool) (played : List Played) (v : World) (e : Event) → PlaysBoards table stores links narrow played v
-        → StoresAgree table stores → AllByRecursion (HoldsToThen table) played → EventFits (length stores) e → HoldsTo table v e → StopsAgree v e }
-    ensures plays { (table : List Row) (stores : List Store) (links : List (ℕ × ℕ)) (narrow : List Bool) (played : List Played) (v : World) → PlaysBoards table stores links narrow played v
-        → StoresAgree table stores → AllByRecursion (HoldsToThen table) played → PlaysFrom (first_world table links narrow stores) played v }
+    ensures agrees { (table : List Row) (stores : List Store) (links : List (ℕ × ℕ)) (narrow : List Bool)
+        (played : List Played) (v : World) → PlaysBoards table stores links narrow played v
+        → StoresAgree table stores → AllByRecursion (HoldsToThen table) played → AllByRecursion LeavesAgreement played
+        × WorldAgrees v }
+    ensures halves { (table : List Row) (stores : List Store) (links : List (ℕ × ℕ)) (narrow : List Bool)
+        (played : List Played) (v : World) (e : Event) → PlaysBoards table stores links narrow played v
+        → StoresAgree table stores → AllByRecursion (HoldsToThen table) played → EventInRange (length stores) e
+        → HoldsTo table v e → StopsAgree v e }
+    ensures plays { (table : List Row) (stores : List Store) (links : List (ℕ × ℕ)) (narrow : List Bool)
+        (played : List Played) (v : World) → PlaysBoards table stores links narrow played v
+        → StoresAgree table stores → AllByRecursion (HoldsToThen table) played
+        → PlaysFrom (first_world table links narrow stores) played v }
 {
     every_step_is_legal();
     a_restart_is_for_the_order();

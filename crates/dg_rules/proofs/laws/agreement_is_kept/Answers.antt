@@ -1,5 +1,6 @@
 use Rattle.dg_rules.proofs.EventLemmas.{RestartLaws}
-use Rattle.dg_rules.proofs.AgreementLemmas.{VolumeLaws, MoteLaws, Laws, step_agrees, declare_agrees, stops_agree}
+use Rattle.dg_rules.proofs.AgreementLemmas.{VolumeLaws, MoteLaws, Laws}
+use Rattle.dg_rules.proofs.AgreementSteps.{step_agrees, declare_agrees, stops_agree}
 use Rattle.dg_rules.proofs.TimelyLemmas.{TimeLaws, step_timely}
 use Rattle.dg_rules.proofs.laws.agreement_is_kept.Goals as goal
 

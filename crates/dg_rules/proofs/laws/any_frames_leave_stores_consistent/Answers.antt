@@ -6,7 +6,7 @@ returns c =
     let keep = c.consistency_is_kept.ensures in
     let laws : RunLaws = record { fresh = c.trails_keep_consistency.ensures.fresh; stepped = keep.stepped; stopped = keep.stopped; declared = keep.declared; starts = keep.starts } in
     record {
-      kept = λ name bytes used motes links narrow played v script. run_kept laws name bytes used motes links narrow played v script;
-      starts = λ name bytes used motes links narrow played v script. run_starts laws name bytes used motes links narrow played v script;
-      halves = λ name bytes used motes links narrow played v e script fits. run_halves laws name bytes used motes links narrow played v script e fits;
+      kept = λ g played v script. run_kept laws g played v script;
+      starts = λ g played v script. run_starts laws g played v script;
+      halves = λ g played v e script fits. run_halves laws g played v script e fits;
     }

@@ -9,18 +9,18 @@ returns c =
     let every = c.every_step_is_legal.ensures in
     let golden = c.golden_is_found.ensures in
     record {
-      legal = λ name bytes used motes links narrow played v script honest.
-          every.legal (Begins name bytes used motes links narrow played v script) v played (script_from name bytes used motes links narrow played v script restarts honest);
-      keeps = λ name bytes used motes links narrow played v script honest.
-          every.keeps (Begins name bytes used motes links narrow played v script) v played (script_from name bytes used motes links narrow played v script restarts honest);
-      starts = λ name bytes used motes links narrow played v script honest.
-          every.starts (Begins name bytes used motes links narrow played v script) v played (script_from name bytes used motes links narrow played v script restarts honest);
-      agrees = λ name bytes used motes links narrow played v script honest.
-          every.agrees (Begins name bytes used motes links narrow played v script) v played (script_from name bytes used motes links narrow played v script restarts honest);
-      found = λ name bytes used motes links narrow played v e script fits. script_found name bytes used motes links narrow played v script restarts golden.stepped golden.found e fits;
-      halves = λ name bytes used motes links narrow played v e script honest fits here.
-          every.halves (Begins name bytes used motes links narrow played v script) v played e (script_from name bytes used motes links narrow played v script restarts honest)
-          (script_fits name bytes used motes links narrow played v script e fits) (script_true name bytes used motes links narrow played v script restarts e here);
-      more = λ name bytes used motes links narrow played more w v script from. script_more name bytes used motes links narrow played w script more v from;
-      plays = λ name bytes used motes links narrow played v script honest. script_from name bytes used motes links narrow played v script restarts honest;
+      legal = λ g played v script honest.
+          every.legal (Begins g played v script) v played (script_from g played v script restarts honest);
+      keeps = λ g played v script honest.
+          every.keeps (Begins g played v script) v played (script_from g played v script restarts honest);
+      starts = λ g played v script honest.
+          every.starts (Begins g played v script) v played (script_from g played v script restarts honest);
+      agrees = λ g played v script honest.
+          every.agrees (Begins g played v script) v played (script_from g played v script restarts honest);
+      found = λ g played v e script fits. script_found g played v script restarts golden.stepped golden.found e fits;
+      halves = λ g played v e script honest fits here.
+          every.halves (Begins g played v script) v played e (script_from g played v script restarts honest)
+          (script_fits g played v script e fits) (script_true g played v script restarts e here);
+      more = λ g played more w v script from. script_more g played w script more v from;
+      plays = λ g played v script honest. script_from g played v script restarts honest;
     }

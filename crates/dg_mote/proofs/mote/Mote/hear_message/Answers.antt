@@ -2,12 +2,17 @@ use Rattle.std.proofs.Common.{◌≡◌, ◌≢◌, ℕ, true, false, sym, subst
 use Rattle.std.specs.Prelude.{◌==◌}
 use Rattle.std.proofs.lemmas.Bool.Decides.{nat_tests}
 use Rattle.dg_volume.specs.Acts.{Stops}
+use Rattle.dg_frame.specs.Sizes.{known_images}
+use Rattle.dg_frame.specs.Ranges.{PageInRange, IsInRange}
 use Rattle.dg_frame.specs.declared.Message.{Message}
 use Rattle.dg_mote.specs.Model.{Turn}
 use Rattle.dg_mote.specs.Adverts.{dropped}
-use Rattle.dg_mote.specs.Requests.{on_request}
+use Rattle.dg_mote.specs.Requests.{on_request, page_request}
+use Rattle.dg_mote.specs.Packets.{on_packet, page_packet}
 use Rattle.dg_mote.specs.Hears.{source_of, on_message}
 use Rattle.dg_mote.specs.Motes.{Done}
+use Rattle.dg_mote.specs.Hearing.{ChipStays}
+use Rattle.dg_mote.specs.declared.requests.PageName.{PageName}
 use Rattle.dg_mote.specs.declared.mote.Heard.{Heard}
 use Rattle.dg_mote.specs.declared.mote.Heard.TheVariants as heard
 use Rattle.dg_mote.proofs.ServeLemmas.{chosen, passed, rests_done, dropped_done, if_ok, on_err}
@@ -18,6 +23,16 @@ own_source x y z w e f same = grind (arith, nat_tests)
 
 other_source : (x y z w : ℕ) → x ≡ y → z ≡ w → x ≢ z → (y == w) ≡ false
 other_source x y z w e f other = grind (arith, nat_tests)
+
+pub hear_request-requires-clause-range : goal.hear_request-requires-clause-range
+hear_request-requires-clause-range g c =
+    let at = subst (λ (y : Message). IsInRange c.args.self.now.wide y) c.in-Request.is c.requires.range in
+    subst (λ (n : PageName). PageInRange (known_images c.args.self.now.wide) n.image n.version n.page) (sym c.new-name.ensures) at.0
+
+pub hear_packet-requires-clause-range : goal.hear_packet-requires-clause-range
+hear_packet-requires-clause-range g c =
+    let at = subst (λ (y : Message). IsInRange c.args.self.now.wide y) c.in-Packet.is c.requires.range in
+    subst (λ (n : PageName). PageInRange (known_images c.args.self.now.wide) n.image n.version n.page) (sym c.new-name-in-Packet.ensures) at.0
 
 pub returns-then-source-self-clause-done : goal.returns-then-source-self-clause-done
 returns-then-source-self-clause-done g c m s is =
@@ -50,24 +65,26 @@ returns-in-Request-clause-done g c m s is =
     let v = c.hear_request.new.self in
     let e = other_source _ (source_of c.args.message) _ m.id c.source.ensures is.id c.if-source-self.false in
     subst (λ (t : Turn Heard). Done t a a v c.hear_request.result) (sym (passed (source_of c.args.message == m.id) (dropped m s) (on_message m s c.args.now c.args.word c.args.message) e))
-    (subst (λ (y : Message). Done (on_message m s c.args.now c.args.word y) a a v c.hear_request.result) (sym c.in-Request.is) (rests_done (on_request m s c.args.now x.to x.image x.version x.page x.want) a s v c.hear_request.result (c.hear_request.ensures.rests a.image m s is)))
+    (subst (λ (y : Message). Done (on_message m s c.args.now c.args.word y) a a v c.hear_request.result) (sym c.in-Request.is) (rests_done (on_request m s c.args.now x.to (page_request x.image x.version x.page x.want)) a s v c.hear_request.result (subst (λ (n : PageName). ChipStays (on_request m s c.args.now x.to (page_request n.image n.version n.page x.want)) a.image s v c.hear_request.result) c.new-name.ensures (c.hear_request.ensures.rests a.image m s is))))
 
 pub returns-in-Packet-clause-done : goal.returns-in-Packet-clause-done
 returns-in-Packet-clause-done g c = if_ok c.hear_packet.result c.hear_packet.ensures.done (λ answer done m s is.
+    let x = c.in-Packet in
     let a = g.N.Nor.device c.args.nor.now in
     let b = g.N.Nor.device c.hear_packet.new.nor in
     let v = c.hear_packet.new.self in
     let e = other_source _ (source_of c.args.message) _ m.id c.source.ensures is.id c.if-source-self.false in
     subst (λ (t : Turn Heard). Done t a b v answer) (sym (passed (source_of c.args.message == m.id) (dropped m s) (on_message m s c.args.now c.args.word c.args.message) e))
-    (subst (λ (y : Message). Done (on_message m s c.args.now c.args.word y) a b v answer) (sym c.in-Packet.is) (done m s is)))
+    (subst (λ (y : Message). Done (on_message m s c.args.now c.args.word y) a b v answer) (sym c.in-Packet.is) (subst (λ (n : PageName). Done (on_packet m.mode m s c.args.now c.args.word (page_packet n.image n.version n.page x.packet x.bytes)) a b v answer) c.new-name-in-Packet.ensures (done m s is))))
 
 pub returns-in-Packet-clause-stopped : goal.returns-in-Packet-clause-stopped
 returns-in-Packet-clause-stopped g c = on_err c.hear_packet.result c.hear_packet.ensures.stopped (λ stopped m s is.
+    let x = c.in-Packet in
     let a = g.N.Nor.device c.args.nor.now in
     let b = g.N.Nor.device c.hear_packet.new.nor in
     let e = other_source _ (source_of c.args.message) _ m.id c.source.ensures is.id c.if-source-self.false in
     subst (λ (t : Turn Heard). Stops t.trail a b) (sym (passed (source_of c.args.message == m.id) (dropped m s) (on_message m s c.args.now c.args.word c.args.message) e))
-    (subst (λ (y : Message). Stops (on_message m s c.args.now c.args.word y).trail a b) (sym c.in-Packet.is) (stopped m s is)))
+    (subst (λ (y : Message). Stops (on_message m s c.args.now c.args.word y).trail a b) (sym c.in-Packet.is) (subst (λ (n : PageName). Stops (on_packet m.mode m s c.args.now c.args.word (page_packet n.image n.version n.page x.packet x.bytes)).trail a b) c.new-name-in-Packet.ensures (stopped m s is))))
 
 pub returns-in-Wide-clause-done : goal.returns-in-Wide-clause-done
 returns-in-Wide-clause-done g c = if_ok c.hear_advert-in-Wide.result c.hear_advert-in-Wide.ensures.done (λ answer done m s is.

@@ -4,7 +4,7 @@ use Rattle.dg_nor.proofs.DeviceLemmas.{OnErr_from}
 use Rattle.dg_volume.specs.Acts.{Stops}
 use Rattle.dg_mote.specs.Model.{Turn}
 use Rattle.dg_mote.specs.Summary.{ahead_in}
-use Rattle.dg_mote.specs.Adverts.{heed_trail, by_ahead}
+use Rattle.dg_mote.specs.Adverts.{heed_trail, by_ahead, offer, noting}
 use Rattle.dg_mote.specs.Motes.{Done}
 use Rattle.dg_mote.specs.declared.mote.Heard.{Heard}
 use Rattle.dg_mote.proofs.ServeLemmas.{if_ok, on_err}
@@ -17,7 +17,7 @@ returns-in_err-heed-clause-stopped g c = OnErr_from c.from_residual.result (λ m
     let a = g.N.Nor.device c.args.nor.now in
     let b = g.N.Nor.device c.heed.new.nor in
     let t = heed_trail s c.args.order.now in
-    let rest = by_ahead (ahead_in c.args.entries.now (last t)) m timer (last t) c.args.now c.args.word c.args.source c.args.entries.now c.would_say-same.result in
+    let rest = by_ahead (ahead_in c.args.entries.now (last t)) m (last t) c.args.now c.args.word (offer c.args.source c.args.entries.now) (noting m timer (last t) c.args.now c.args.word c.would_say-same.result) in
     subst (λ (x : Turn Heard). Stops x.trail a b) (sym (advert_is m timer s c.args.now c.args.word c.args.source c.args.entries.now c.args.order.now c.would_say-same.result (said_same c.would_say-same.result c.args.entries.now c.args.order.now c.args.self.now.wide m s is.wide (c.would_say-same.ensures s is.mounted.tells))))
     (stops_before t rest a b (follow_begins c.trails_begin.ensures.take (ahead_in c.args.entries.now (last t)) m timer (last t) c.args.now c.args.word c.args.source c.args.entries.now c.would_say-same.result) (c.in_err-heed.ensures.stopped s is.mounted)))
 
@@ -38,7 +38,7 @@ returns-clause-done g c = if_ok c.follow.result c.follow.ensures.done (λ answer
     let b = g.N.Nor.device c.heed.new.nor in
     let d = g.N.Nor.device c.follow.new.nor in
     let t = heed_trail s c.args.order.now in
-    let rest = by_ahead (ahead_in c.args.entries.now (last t)) m timer (last t) c.args.now c.args.word c.args.source c.args.entries.now c.would_say-same.result in
+    let rest = by_ahead (ahead_in c.args.entries.now (last t)) m (last t) c.args.now c.args.word (offer c.args.source c.args.entries.now) (noting m timer (last t) c.args.now c.args.word c.would_say-same.result) in
     let acted = c.in_ok-heed.ensures.acted s is.mounted in
     let now_is = heed_mote a b c.args.self.now c.heed.new.volume m s timer c.args.order.now is mode acted c.heed.ensures.lent in
     let begins = follow_begins c.trails_begin.ensures.take (ahead_in c.args.entries.now (last t)) m timer (last t) c.args.now c.args.word c.args.source c.args.entries.now c.would_say-same.result in
@@ -51,7 +51,7 @@ returns-clause-stopped g c = on_err c.follow.result c.follow.ensures.stopped (λ
     let b = g.N.Nor.device c.heed.new.nor in
     let d = g.N.Nor.device c.follow.new.nor in
     let t = heed_trail s c.args.order.now in
-    let rest = by_ahead (ahead_in c.args.entries.now (last t)) m timer (last t) c.args.now c.args.word c.args.source c.args.entries.now c.would_say-same.result in
+    let rest = by_ahead (ahead_in c.args.entries.now (last t)) m (last t) c.args.now c.args.word (offer c.args.source c.args.entries.now) (noting m timer (last t) c.args.now c.args.word c.would_say-same.result) in
     let acted = c.in_ok-heed.ensures.acted s is.mounted in
     let now_is = heed_mote a b c.args.self.now c.heed.new.volume m s timer c.args.order.now is mode acted c.heed.ensures.lent in
     let begins = follow_begins c.trails_begin.ensures.take (ahead_in c.args.entries.now (last t)) m timer (last t) c.args.now c.args.word c.args.source c.args.entries.now c.would_say-same.result in
