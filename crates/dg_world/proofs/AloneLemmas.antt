@@ -10,7 +10,7 @@ use Rattle.dg_volume.specs.Stands.{Stands}
 use Rattle.dg_mote.specs.Motes.{sent_in}
 use Rattle.dg_mote.specs.Effects.{reset_effect}
 use Rattle.dg_rules.specs.World.{World as RuleWorld, site, store_at, wide_at}
-use Rattle.dg_rules.specs.Events.{Does, of_effect, tick_by, hear_by, does, mote_of, dt_of}
+use Rattle.dg_rules.specs.Events.{Does, of_effect, tick_does, hear_by, does, mote_of, dt_of}
 use Rattle.dg_rules.specs.Changes.{is_told}
 use Rattle.dg_base.specs.declared.events.Event.{Event}
 use Rattle.dg_base.specs.declared.events.Event.TheVariants.{Tick, Reset, Frame}
@@ -24,23 +24,23 @@ use Rattle.dg_world.specs.declared.telling.Fault.{Fault}
 use Rattle.dg_world.specs.declared.telling.Fault.TheVariants as fault
 use Rattle.dg_world.specs.declared.telling.Telling.{Telling}
 use Rattle.dg_world.specs.declared.world.RunningMote.{RunningMote}
-use Rattle.dg_world.specs.Turn.{Turn, Halt, Stopped, NoImage}
+use Rattle.dg_world.specs.Turn.{EventTurn, Halt, Stopped, NoImage}
 use Rattle.dg_world.proofs.CutLemmas.{uncut}
 use Rattle.dg_world.proofs.DoneLemmas.{step_turn}
 use Rattle.dg_world.proofs.TellingLemmas.{frame_told}
 
 -- ---- which event it is
 
-abbrev pub HappensAlone : Result Turn Halt → RuleWorld → (v u : Option RunningMote) → ℕ → Device → Device → Event → Type 0
+abbrev pub HappensAlone : Result EventTurn Halt → RuleWorld → (v u : Option RunningMote) → ℕ → Device → Device → Event → Type 0
 HappensAlone r w v u now a b event = SiteStands a v (site w (mote_of event)) → now ≡ w.moment + dt_of event → wide_at w (mote_of event) ≡ true → TurnEnds r w (mote_of event) (does w event) v u a b
 
-module _ (r : Result Turn Halt) (w : RuleWorld) (v u : Option RunningMote) (now : ℕ) (a b : Device) where
+module _ (r : Result EventTurn Halt) (w : RuleWorld) (v u : Option RunningMote) (now : ℕ) (a b : Device) where
   at_moment : (m : ℕ) (D : ℕ → Does) (moment : ℕ) → now ≡ moment → TurnEnds r w m (D now) v u a b → TurnEnds r w m (D moment) v u a b
   at_moment m D moment e ends = subst (λ (n : ℕ). TurnEnds r w m (D n) v u a b) e ends
 
-  pub alone_ticks : (m dt word : ℕ) → (SiteStands a v (site w m) → TurnEnds r w m (tick_by w (store_at w m) (site w m).runs now word) v u a b) → HappensAlone r w v u now a b (Tick m dt word)
+  pub alone_ticks : (m dt word : ℕ) → (SiteStands a v (site w m) → TurnEnds r w m (tick_does w (store_at w m) (site w m).runs now word) v u a b) → HappensAlone r w v u now a b (Tick m dt word)
   unfolding does
-  alone_ticks m dt word ends = λ stands at wide. at_moment m (λ n. tick_by w (store_at w m) (site w m).runs n word) _ at (ends stands)
+  alone_ticks m dt word ends = λ stands at wide. at_moment m (λ n. tick_does w (store_at w m) (site w m).runs n word) _ at (ends stands)
 
   pub alone_hears : (m dt word : ℕ) (bytes : List ℕ) → (SiteStands a v (site w m) → TurnEnds r w m (hear_by w (store_at w m) (site w m).runs now word bytes) v u a b) → HappensAlone r w v u now a b (Frame m dt word bytes)
   unfolding does

@@ -17,9 +17,9 @@ use Rattle.dg_frame.specs.declared.Message.{Message}
 use Rattle.dg_frame.specs.Spelling.{frame_of}
 use Rattle.dg_rules.specs.World.{World as RuleWorld, Site, no_site, site, store_at, counted, with_site}
 use Rattle.dg_rules.specs.Events.{Deed, Does, Refuses, Goes, trail_of, does, mote_of, dt_of}
-use Rattle.dg_rules.specs.Steps.{blows, before_cut, and_sent, done_world, cut_world, done_reports, Ended as StepEnded, StepDoes, WorldStep}
+use Rattle.dg_rules.specs.Steps.{blows, before_cut, and_sent, done_world, cut_world, done_reports, Ended, StepDoes, WorldStep}
 use Rattle.dg_rules.specs.Changes.{changes, is_told}
-use Rattle.dg_rules.specs.Ranges.{EventFits}
+use Rattle.dg_rules.specs.Ranges.{EventInRange}
 use Rattle.dg_base.specs.declared.events.Cut.{Cut as PowerCut}
 use Rattle.dg_base.specs.declared.events.Event.{Event}
 use Rattle.dg_base.specs.declared.events.Event.TheVariants.{Tick, Hear, Last, Reset, Inject, Order as OrderEvent, Frame}
@@ -30,7 +30,7 @@ use Rattle.dg_script.specs.declared.report.Report.TheVariants.{Off, Refused as R
 use Rattle.dg_world.specs.Airs.{sent_now}
 use Rattle.dg_world.specs.Worlds.{MoteStands, SiteStands}
 use Rattle.dg_world.specs.Turns.{turn_frame, turn_lines}
-use Rattle.dg_world.specs.Cuts.{IsWhole, IsBlown, Played}
+use Rattle.dg_world.specs.Cuts.{EventIsWhole, EventIsCut, EventPlayed}
 use Rattle.dg_world.specs.Stepped.{CutChangesAre, CutTold, StepDone, Stepped}
 use Rattle.dg_world.specs.declared.shown.Shown.{Shown}
 use Rattle.dg_world.specs.declared.world.RunningMote.{RunningMote}
@@ -39,7 +39,7 @@ use Rattle.dg_world.specs.declared.telling.Fault.{Fault}
 use Rattle.dg_world.specs.declared.telling.Fault.TheVariants as fault
 use Rattle.dg_world.specs.Tellings.{halt_of, stepped}
 use Rattle.dg_world.proofs.ShownLemmas.{cut_told}
-use Rattle.dg_world.specs.Turn.{Turn, Refused, Rests, Sends, Changes, Starts, Whole, Cut, Halt, Stopped, NotAVolume, NoImage}
+use Rattle.dg_world.specs.Turn.{EventTurn, Refused, Rests, Sends, Changes, Starts, Whole, Cut, Halt, Stopped, NotAVolume, NoImage}
 
 same_deed : (d e : Deed) → Goes d ≡ Goes e → d ≡ e
 same_deed d e h = cc
@@ -51,10 +51,10 @@ true_false : true ≡ false → ⊥
 true_false h = cc
 
 -- the step of a world, by what its event does
-world_step : (w : RuleWorld) (x : Step) (d : Deed) (b : Bool) (v : RuleWorld) (reports : List Report) → does w x.event ≡ Goes d → blows x.cut d.trail ≡ b → StepEnded b w x d v reports → WorldStep w x v reports
+world_step : (w : RuleWorld) (x : Step) (d : Deed) (b : Bool) (v : RuleWorld) (reports : List Report) → does w x.event ≡ Goes d → blows x.cut d.trail ≡ b → Ended b w x d v reports → WorldStep w x v reports
 unfolding WorldStep
 world_step w x d b v reports goes is ended =
-    subst (λ (y : Does). StepDoes y w x v reports) (sym goes) (subst (λ (c : Bool). StepEnded c w x d v reports) (sym is) ended)
+    subst (λ (y : Does). StepDoes y w x v reports) (sym goes) (subst (λ (c : Bool). Ended c w x d v reports) (sym is) ended)
 
 refused_step : (w : RuleWorld) (x : Step) (why : Cause) → does w x.event ≡ Refuses why → WorldStep w x (counted w (dt_of x.event)) (RefusedLine (mote_of x.event) why ∷ [])
 unfolding WorldStep
@@ -116,8 +116,8 @@ refused_done w x loud v u frame why a b start end known stands is same at none t
       memory = λ d r goes whole some. absurd (refuses_goes why d (sym is ∙ goes));
     }
 
-pub whole_done : (w : RuleWorld) (x : Step) (loud : Bool) (u : Option RunningMote) (frame : Option (List ℕ)) (turn : Turn) (b : Device) (start end : List Report)
-    → IsWhole w (mote_of x.event) (does w x.event) x.cut u b.image turn → frame ≡ turn_frame turn → end ≡ start ++ filter (is_told loud) (turn_lines (mote_of x.event) turn) → StepDone w x loud u frame b start end
+pub whole_done : (w : RuleWorld) (x : Step) (loud : Bool) (u : Option RunningMote) (frame : Option (List ℕ)) (turn : EventTurn) (b : Device) (start end : List Report)
+    → EventIsWhole w (mote_of x.event) (does w x.event) x.cut u b.image turn → frame ≡ turn_frame turn → end ≡ start ++ filter (is_told loud) (turn_lines (mote_of x.event) turn) → StepDone w x loud u frame b start end
 whole_done w x loud u frame turn b start end is sends told =
     let m = mote_of x.event in
     let d = is.deed in
@@ -144,7 +144,7 @@ whole_done w x loud u frame turn b start end is sends told =
           subst P (ap (λ (y : Deed). y.started) (same_deed d e (sym is.goes ∙ goes)) ∙ some) is.tells.memory;
     }
 
-pub cut_done : (w : RuleWorld) (x : Step) (loud : Bool) (before : Option Shown) (b c : Device) (start mid end : List Report) → (is : IsBlown w (mote_of x.event) (does w x.event) x.cut b.image before)
+pub cut_done : (w : RuleWorld) (x : Step) (loud : Bool) (before : Option Shown) (b c : Device) (start mid end : List Report) → (is : EventIsCut w (mote_of x.event) (does w x.event) x.cut b.image before)
     → CutChangesAre (mote_of x.event) before is.leaves.store start mid → end ≡ mid ++ Off (mote_of x.event) ∷ [] → c.image ≡ b.image → StepDone w x loud None None c start end
 cut_done w x loud before b c start mid end is lines off same =
     let m = mote_of x.event in
@@ -171,8 +171,8 @@ cut_done w x loud before b c start mid end is lines off same =
 
 -- ---- what the step ends with
 
-pub step_turn : (w : RuleWorld) (x : Step) (loud : Bool) (v u : Option RunningMote) (frame : Option (List ℕ)) (turn : Turn) (a b : Device) (start end : List Report) → mote_of x.event < length w.sites → SiteStands a v (site w (mote_of x.event))
-    → Played (Ok (Whole turn)) w (mote_of x.event) (does w x.event) x.cut v u a b → frame ≡ turn_frame turn → end ≡ start ++ filter (is_told loud) (turn_lines (mote_of x.event) turn)
+pub step_turn : (w : RuleWorld) (x : Step) (loud : Bool) (v u : Option RunningMote) (frame : Option (List ℕ)) (turn : EventTurn) (a b : Device) (start end : List Report) → mote_of x.event < length w.sites → SiteStands a v (site w (mote_of x.event))
+    → EventPlayed (Ok (Whole turn)) w (mote_of x.event) (does w x.event) x.cut v u a b → frame ≡ turn_frame turn → end ≡ start ++ filter (is_told loud) (turn_lines (mote_of x.event) turn)
     → Stepped (Ok frame) w x loud u a b start end
 step_turn w x loud v u frame (Refused why) a b start end known stands p sends told =
     record { ends = refused_done w x loud v u frame why a b start end known stands p.ends.0 p.ends.1 p.ends.2 sends told; endures = p.endures; count = p.count }
@@ -196,7 +196,7 @@ cut_itself : (cut : Option PowerCut) → IfSome cut (λ c. before_cut cut ≤ c.
 cut_itself None = tt
 cut_itself (Some c) = omega arith
 
-pub step_cut : {T : Type 0} (w : RuleWorld) (x : Step) (loud : Bool) (v u : Option RunningMote) (before : Option Shown) (q : Result T Fault) (y : T) (a b c : Device) (start mid end : List Report) → (p : Played (Ok (Cut before)) w (mote_of x.event) (does w x.event) x.cut v u a b)
+pub step_cut : {T : Type 0} (w : RuleWorld) (x : Step) (loud : Bool) (v u : Option RunningMote) (before : Option Shown) (q : Result T Fault) (y : T) (a b c : Device) (start mid end : List Report) → (p : EventPlayed (Ok (Cut before)) w (mote_of x.event) (does w x.event) x.cut v u a b)
     → q ≡ Ok y → CutTold q (mote_of x.event) before p.ends.leaves.store b c start mid → end ≡ mid ++ Off (mote_of x.event) ∷ [] → Stepped (Ok None) w x loud None a c start end
 step_cut {T} w x loud v u before q y a b c start mid end p is told off =
     let l : CutTold (Ok y) (mote_of x.event) before p.ends.leaves.store b c start mid = subst (λ (z : Result T Fault). CutTold z (mote_of x.event) before p.ends.leaves.store b c start mid) is told in
@@ -206,7 +206,7 @@ step_cut {T} w x loud v u before q y a b c start mid end p is told off =
       count = l.2 ∙ p.count;
     }
 
-cut_halts : (T : Type 0) (f : Fault) (w : RuleWorld) (x : Step) (loud : Bool) (v u o : Option RunningMote) (before k : Option Shown) (a b c : Device) (start end : List Report) → (p : Played (Ok (Cut before)) w (mote_of x.event) (does w x.event) x.cut v u a b)
+cut_halts : (T : Type 0) (f : Fault) (w : RuleWorld) (x : Step) (loud : Bool) (v u o : Option RunningMote) (before k : Option Shown) (a b c : Device) (start end : List Report) → (p : EventPlayed (Ok (Cut before)) w (mote_of x.event) (does w x.event) x.cut v u a b)
     → CutTold {T = T} (Err f) (mote_of x.event) before p.ends.leaves.store b c start end → Stepped (Err (halt_of f k)) w x loud o a c start end
 cut_halts T fault.Stopped w x loud v u o before k a b c start end p lines = record {
   ends = (
@@ -227,26 +227,26 @@ cut_halts T fault.NotAVolume w x loud v u o before k a b c start end p lines = a
 cut_halts T fault.NoImage w x loud v u o before k a b c start end p lines = absurd lines
 
 pub step_cut_halts : {T : Type 0} (r : Result (Unit {0}) Fault) (q : Result T Fault) (t : Telling) (f : Fault) (w : RuleWorld) (x : Step) (loud : Bool) (v u o : Option RunningMote) (before : Option Shown) (a b c : Device) (start end : List Report) → IsErrAnd r (λ e. e ≡ f) → q ≡ Err f
-    → (p : Played (Ok (Cut before)) w (mote_of x.event) (does w x.event) x.cut v u a b) → CutTold q (mote_of x.event) before p.ends.leaves.store b c start end → Stepped (stepped r t) w x loud o a c start end
+    → (p : EventPlayed (Ok (Cut before)) w (mote_of x.event) (does w x.event) x.cut v u a b) → CutTold q (mote_of x.event) before p.ends.leaves.store b c start end → Stepped (stepped r t) w x loud o a c start end
 step_cut_halts {T} (Ok y) q t f w x loud v u o before a b c start end is e p lines = absurd is
 step_cut_halts {T} (Err y) q t f w x loud v u o before a b c start end is e p lines =
     let P : Fault → Type 0 = λ z. Stepped (Err (halt_of z t.before)) w x loud o a c start end in
     subst P (sym is) (cut_halts T f w x loud v u o before t.before a b c start end p (subst (λ (z : Result T Fault). CutTold z (mote_of x.event) before p.ends.leaves.store b c start end) e lines))
 
-pub step_halts : (h : Halt) (w : RuleWorld) (x : Step) (loud : Bool) (v u : Option RunningMote) (a b : Device) (told : List Report) → Played (Err h) w (mote_of x.event) (does w x.event) x.cut v u a b → Stepped (Err h) w x loud u a b told told
+pub step_halts : (h : Halt) (w : RuleWorld) (x : Step) (loud : Bool) (v u : Option RunningMote) (a b : Device) (told : List Report) → EventPlayed (Err h) w (mote_of x.event) (does w x.event) x.cut v u a b → Stepped (Err h) w x loud u a b told told
 step_halts (Stopped k) w x loud v u a b told p = record { ends = (p.ends, refl); endures = p.endures; count = tt }
 step_halts NotAVolume w x loud v u a b told p = absurd p.ends
 step_halts NoImage w x loud v u a b told p = record { ends = (p.ends, refl); endures = p.endures; count = p.count }
 
 pub step_fails : (r : Result (Unit {0}) Fault) (f : Fault) (t : Telling) (w : RuleWorld) (x : Step) (loud : Bool) (v u : Option RunningMote) (a b : Device) (told : List Report) → IsErrAnd r (λ e. e ≡ f)
-    → Played (Err (halt_of f t.before)) w (mote_of x.event) (does w x.event) x.cut v u a b → Stepped (stepped r t) w x loud u a b told told
+    → EventPlayed (Err (halt_of f t.before)) w (mote_of x.event) (does w x.event) x.cut v u a b → Stepped (stepped r t) w x loud u a b told told
 step_fails (Ok y) f t w x loud v u a b told is p = absurd is
 step_fails (Err e) f t w x loud v u a b told is p =
     let P : Fault → Type 0 = λ z. Stepped (Err (halt_of z t.before)) w x loud u a b told told in
     subst P (sym is) (step_halts (halt_of f t.before) w x loud v u a b told p)
 
 -- the mote of a step that fits is one of the world
-pub event_mote : (motes : ℕ) (event : Event) → EventFits motes event → mote_of event < motes
+pub event_mote : (motes : ℕ) (event : Event) → EventInRange motes event → mote_of event < motes
 event_mote motes (Tick m dt word) fits = fits
 event_mote motes (Hear m dt word frame) fits = fits.0
 event_mote motes (Last from to dt word) fits = fits.1

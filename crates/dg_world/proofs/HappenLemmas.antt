@@ -1,5 +1,5 @@
 -- What each event does at the board of its mote.
-use Rattle.std.proofs.Common.{◌≡◌, ℕ, ◌+◌, Bool, true, false, List, sym, subst, refl, ap, ◌∙◌}
+use Rattle.std.proofs.Common.{◌≡◌, ℕ, Bool, true, false, List, sym, subst, refl, ap, ◌∙◌}
 use Rattle.std.specs.Prelude.{if◌then◌else◌, is_none, is_some, not, Option, Some, None, Result, Ok, Err}
 use Rattle.dg_nor.specs.Device.{Device}
 use Rattle.dg_nor.specs.Reads.{Looked}
@@ -13,7 +13,7 @@ use Rattle.dg_mote.specs.Motes.{IsMote}
 use Rattle.dg_mote.specs.declared.mote.Mote.{Mote}
 use Rattle.dg_mote.specs.Effects.{boots, reset_effect}
 use Rattle.dg_rules.specs.World.{World as RuleWorld, Running, site, store_at, wide_at, frame_at, linked, last_frame}
-use Rattle.dg_rules.specs.Events.{Does, Refuses, of_effect, reloaded, tick_by, hear_by, heard_sent, heard_last, unless_off, knows, injects, orders, does, mote_of, dt_of}
+use Rattle.dg_rules.specs.Events.{Does, Refuses, of_effect, reloaded, tick_does, hear_by, heard_sent, heard_last, unless_off, knows, injects, orders, does, mote_of}
 use Rattle.dg_base.specs.declared.events.Event.{Event}
 use Rattle.dg_base.specs.declared.events.Event.TheVariants.{Tick, Hear, Last, Reset, Inject, Order as OrderEvent, Frame}
 use Rattle.dg_script.specs.declared.report.Cause.{Cause}
@@ -21,63 +21,78 @@ use Rattle.dg_script.specs.declared.report.Cause.TheVariants as cause
 use Rattle.dg_world.specs.Shareds.{IsShared}
 use Rattle.dg_world.specs.Worlds.{MoteStands, SiteStands}
 use Rattle.dg_world.specs.Turns.{TurnEnds}
-use Rattle.dg_world.specs.declared.happening.Begun.{Begun}
-use Rattle.dg_world.specs.declared.shared.Shared.{Shared}
+use Rattle.dg_world.specs.declared.starting.Begun.{Begun}
+use Rattle.dg_world.specs.Occasions.{HappensIn}
+use Rattle.dg_world.specs.declared.occasion.Occasion.{Occasion}
 use Rattle.dg_world.specs.declared.world.RunningMote.{RunningMote}
-use Rattle.dg_world.specs.Turn.{Turn, Refused, Starts, Halt}
+use Rattle.dg_world.specs.Turn.{EventTurn, Refused, Starts, Halt}
 
 -- what `happen` ensures
-abbrev pub Happens : Result Turn Halt → RuleWorld → Shared → (v u : Option RunningMote) → ℕ → Device → Device → Event → Type 0
-Happens r w shared v u now a b event = IsShared shared w → SiteStands a v (site w (mote_of event)) → now ≡ w.moment + dt_of event → TurnEnds r w (mote_of event) (does w event) v u a b
+abbrev pub Happens : Result EventTurn Halt → RuleWorld → Occasion → (v u : Option RunningMote) → Device → Device → Event → Type 0
+Happens r w o v u a b event = HappensIn o w event a v → TurnEnds r w (mote_of event) (does w event) v u a b
 
-module _ (r : Result Turn Halt) (w : RuleWorld) (shared : Shared) (v u : Option RunningMote) (now : ℕ) (a b : Device) where
+module _ (r : Result EventTurn Halt) (w : RuleWorld) (o : Occasion) (v u : Option RunningMote) (a b : Device) where
+  -- at the mote and the moment of the event
+  placed : (m moment : ℕ) (D : ℕ → ℕ → Does) → o.mote ≡ m → o.moment ≡ moment
+      → (SiteStands a v (site w o.mote) → TurnEnds r w o.mote (D o.mote o.moment) v u a b) → SiteStands a v (site w m) → TurnEnds r w m (D m moment) v u a b
+  placed m moment D here at ends =
+      subst (λ (k : ℕ). SiteStands a v (site w k) → TurnEnds r w k (D k moment) v u a b) here
+      (subst (λ (n : ℕ). SiteStands a v (site w o.mote) → TurnEnds r w o.mote (D o.mote n) v u a b) at ends)
+
   -- at the moment of the event
-  at_moment : (m : ℕ) (D : ℕ → Does) (moment : ℕ) → now ≡ moment → TurnEnds r w m (D now) v u a b → TurnEnds r w m (D moment) v u a b
+  at_moment : (m : ℕ) (D : ℕ → Does) (moment : ℕ) → o.moment ≡ moment → TurnEnds r w m (D o.moment) v u a b → TurnEnds r w m (D moment) v u a b
   at_moment m D moment e ends = subst (λ (n : ℕ). TurnEnds r w m (D n) v u a b) e ends
 
-  pub tick_happens : (m dt word : ℕ) → (SiteStands a v (site w m) → TurnEnds r w m (tick_by w (store_at w m) (site w m).runs now word) v u a b) → Happens r w shared v u now a b (Tick m dt word)
+  pub tick_happens : (m dt word : ℕ) → (SiteStands a v (site w m) → TurnEnds r w m (tick_does w (store_at w m) (site w m).runs o.moment word) v u a b) → Happens r w o v u a b (Tick m dt word)
   unfolding does
-  tick_happens m dt word ends = λ is stands at. at_moment m (λ n. tick_by w (store_at w m) (site w m).runs n word) _ at (ends stands)
+  tick_happens m dt word ends = λ on. at_moment m (λ n. tick_does w (store_at w m) (site w m).runs n word) _ on.moment (ends on.stands)
 
-  pub hear_happens : (m dt word number : ℕ) → (IsShared shared w → SiteStands a v (site w m) → TurnEnds r w m (unless_off (site w m).runs (heard_sent w m now word (frame_at w number))) v u a b)
-      → Happens r w shared v u now a b (Hear m dt word number)
+  pub hear_happens : (m dt word number : ℕ) → o.mote ≡ m
+      → (IsShared o.shared.now w → SiteStands a v (site w o.mote) → TurnEnds r w o.mote (unless_off (site w o.mote).runs (heard_sent w o.mote o.moment word (frame_at w number))) v u a b)
+      → Happens r w o v u a b (Hear m dt word number)
   unfolding does
-  hear_happens m dt word number ends = λ is stands at. at_moment m (λ n. unless_off (site w m).runs (heard_sent w m n word (frame_at w number))) _ at (ends is stands)
+  hear_happens m dt word number here ends = λ on.
+      placed m _ (λ k n. unless_off (site w k).runs (heard_sent w k n word (frame_at w number))) here on.moment (ends on.shared) on.stands
 
-  pub last_happens : (from to dt word : ℕ)
-      → (IsShared shared w → SiteStands a v (site w to)
-      → TurnEnds r w to (unless_off (site w to).runs (if linked w from to then heard_last w from to now word (last_frame w from) else Refuses cause.Link)) v u a b)
-      → Happens r w shared v u now a b (Last from to dt word)
+  pub last_happens : (from to dt word : ℕ) → o.mote ≡ to
+      → (IsShared o.shared.now w → SiteStands a v (site w o.mote)
+      → TurnEnds r w o.mote (unless_off (site w o.mote).runs (if linked w from o.mote then heard_last w from o.mote o.moment word (last_frame w from) else Refuses cause.Link)) v u a b)
+      → Happens r w o v u a b (Last from to dt word)
   unfolding does
-  last_happens from to dt word ends = λ is stands at.
-      at_moment to (λ n. unless_off (site w to).runs (if linked w from to then heard_last w from to n word (last_frame w from) else Refuses cause.Link)) _ at (ends is stands)
+  last_happens from to dt word here ends = λ on.
+      placed to _ (λ k n. unless_off (site w k).runs (if linked w from k then heard_last w from k n word (last_frame w from) else Refuses cause.Link)) here on.moment (ends on.shared) on.stands
 
-  pub frame_happens : (m dt word : ℕ) (bytes : List ℕ) → (SiteStands a v (site w m) → TurnEnds r w m (hear_by w (store_at w m) (site w m).runs now word bytes) v u a b) → Happens r w shared v u now a b (Frame m dt word bytes)
+  pub frame_happens : (m dt word : ℕ) (bytes : List ℕ) → (SiteStands a v (site w m) → TurnEnds r w m (hear_by w (store_at w m) (site w m).runs o.moment word bytes) v u a b) → Happens r w o v u a b (Frame m dt word bytes)
   unfolding does
-  frame_happens m dt word bytes ends = λ is stands at. at_moment m (λ n. hear_by w (store_at w m) (site w m).runs n word bytes) _ at (ends stands)
+  frame_happens m dt word bytes ends = λ on. at_moment m (λ n. hear_by w (store_at w m) (site w m).runs n word bytes) _ on.moment (ends on.stands)
 
-  pub reset_happens : (m dt word : ℕ) → (IsShared shared w → Stands a.image (store_at w m) → TurnEnds r w m (of_effect w (reset_effect (store_at w m) m (wide_at w m) now word) None) v u a b) → Happens r w shared v u now a b (Reset m dt word)
+  pub reset_happens : (m dt word : ℕ) → o.mote ≡ m
+      → (IsShared o.shared.now w → Stands a.image (store_at w o.mote)
+      → TurnEnds r w o.mote (of_effect w (reset_effect (store_at w o.mote) o.mote (wide_at w o.mote) o.moment word) None) v u a b)
+      → Happens r w o v u a b (Reset m dt word)
   unfolding does
-  reset_happens m dt word ends = λ is stands at. at_moment m (λ n. of_effect w (reset_effect (store_at w m) m (wide_at w m) n word) None) _ at (ends is stands.stands)
+  reset_happens m dt word here ends = λ on.
+      placed m _ (λ k n. of_effect w (reset_effect (store_at w k) k (wide_at w k) n word) None) here on.moment (λ stands. ends on.shared stands.stands) on.stands
 
-  pub inject_happens : (m image version dt word : ℕ)
-      → (IsShared shared w → SiteStands a v (site w m) → TurnEnds r w m (if knows (wide_at w m) image then injects w m image version now word else Refuses cause.Image) v u a b)
-      → Happens r w shared v u now a b (Inject m image version dt word)
+  pub inject_happens : (m image version dt word : ℕ) → o.mote ≡ m
+      → (IsShared o.shared.now w → SiteStands a v (site w o.mote) → TurnEnds r w o.mote (if knows (wide_at w o.mote) image then injects w o.mote image version o.moment word else Refuses cause.Image) v u a b)
+      → Happens r w o v u a b (Inject m image version dt word)
   unfolding does
-  inject_happens m image version dt word ends = λ is stands at.
-      at_moment m (λ n. if knows (wide_at w m) image then injects w m image version n word else Refuses cause.Image) _ at (ends is stands)
+  inject_happens m image version dt word here ends = λ on.
+      placed m _ (λ k n. if knows (wide_at w k) image then injects w k image version n word else Refuses cause.Image) here on.moment (ends on.shared) on.stands
 
-  pub order_happens : (m number image version dt word : ℕ)
+  pub order_happens : (m number image version dt word : ℕ) → o.mote ≡ m
       → (let order : Order = record { number = number; image = image; version = version } in
-      IsShared shared w → SiteStands a v (site w m) → TurnEnds r w m (if knows (wide_at w m) image then orders w m order now word else Refuses cause.Image) v u a b) → Happens r w shared v u now a b (OrderEvent m number image version dt word)
+      IsShared o.shared.now w → SiteStands a v (site w o.mote) → TurnEnds r w o.mote (if knows (wide_at w o.mote) image then orders w o.mote order o.moment word else Refuses cause.Image) v u a b)
+      → Happens r w o v u a b (OrderEvent m number image version dt word)
   unfolding does
-  order_happens m number image version dt word ends = λ is stands at.
+  order_happens m number image version dt word here ends = λ on.
       let order : Order = record { number = number; image = image; version = version } in
-      at_moment m (λ n. if knows (wide_at w m) image then orders w m order n word else Refuses cause.Image) _ at (ends is stands)
+      placed m _ (λ k n. if knows (wide_at w k) image then orders w k order n word else Refuses cause.Image) here on.moment (ends on.shared) on.stands
 
   -- a mote that is on does what is asked of it
-  pub not_off : (m : ℕ) (D : Does) (c : List ℕ) (s : Store) (o : Option Running) → MoteStands c v s o → is_none v ≡ false → TurnEnds r w m D v u a b → TurnEnds r w m (unless_off o D) v u a b
-  not_off m D c s o stands on ends = subst (λ (x : Does). TurnEnds r w m x v u a b) (sym (is_on v o stands on)) ends
+  pub not_off : (m : ℕ) (D : Does) (c : List ℕ) (s : Store) (y : Option Running) → MoteStands c v s y → is_none v ≡ false → TurnEnds r w m D v u a b → TurnEnds r w m (unless_off y D) v u a b
+  not_off m D c s y stands on ends = subst (λ (x : Does). TurnEnds r w m x v u a b) (sym (is_on v y stands on)) ends
     where
       is_on : (x : Option RunningMote) (y : Option Running) → MoteStands c x s y → is_none x ≡ false → unless_off y D ≡ D
       is_on None y stands on = absurd cc
@@ -94,7 +109,7 @@ is_off w m D (Some v) c s o a stands off looked = absurd cc
 pub refuses_at : {A : Type 0} (D : A → Does) (x y : A) (why : Cause) (w : RuleWorld) (m : ℕ) (v : Option RunningMote) (a : Device) → x ≡ y → D y ≡ Refuses why → Looked a a → TurnEnds (Ok (Refused why)) w m (D x) v v a a
 refuses_at D x y why w m v a e is looked = (ap D e ∙ is, looked, refl)
 
-pub ends_at : {A : Type 0} (D : A → Does) (x y : A) (r : Result Turn Halt) (w : RuleWorld) (m : ℕ) (v u : Option RunningMote) (a b : Device) → x ≡ y → TurnEnds r w m (D y) v u a b → TurnEnds r w m (D x) v u a b
+pub ends_at : {A : Type 0} (D : A → Does) (x y : A) (r : Result EventTurn Halt) (w : RuleWorld) (m : ℕ) (v u : Option RunningMote) (a b : Device) → x ≡ y → TurnEnds r w m (D y) v u a b → TurnEnds r w m (D x) v u a b
 ends_at D x y r w m v u a b e ends = subst (λ z. TurnEnds r w m (D z) v u a b) (sym e) ends
 
 -- ---- starts by power
@@ -130,7 +145,7 @@ none_told o result b told is = ap not told ∙ twice result ∙ is
 -- ---- images that a narrow mote does not know
 
 -- what it knows is done, and all else refused
-pub known_ends : (D : Does) (r : Result Turn Halt) (w : RuleWorld) (m : ℕ) (v u : Option RunningMote) (a b : Device) (x known : Bool) → x ≡ known → known ≡ true → TurnEnds r w m D v u a b
+pub known_ends : (D : Does) (r : Result EventTurn Halt) (w : RuleWorld) (m : ℕ) (v u : Option RunningMote) (a b : Device) (x known : Bool) → x ≡ known → known ≡ true → TurnEnds r w m D v u a b
     → TurnEnds r w m (if x then D else Refuses cause.Image) v u a b
 known_ends D r w m v u a b x known same is ends = subst (λ (y : Bool). TurnEnds r w m (if y then D else Refuses cause.Image) v u a b) (sym (same ∙ is)) ends
 

@@ -28,12 +28,12 @@ use Rattle.dg_script.specs.declared.report.Cause.{Cause}
 use Rattle.dg_script.specs.declared.report.Cause.TheVariants as cause
 use Rattle.dg_world.specs.Shown.{Shows}
 use Rattle.dg_world.specs.Worlds.{MoteStands}
-use Rattle.dg_world.specs.Turns.{Went, TurnEnds}
+use Rattle.dg_world.specs.Turns.{DeedWent, TurnEnds}
 use Rattle.dg_world.specs.declared.shown.Shown.{Shown}
 use Rattle.dg_world.specs.declared.world.RunningMote.{RunningMote}
 use Rattle.dg_world.proofs.ShownLemmas.{changes_told}
 use Rattle.dg_world.proofs.TurnLemmas.{turn_after}
-use Rattle.dg_world.specs.Turn.{Turn, Refused, Changes, Halt, Stopped}
+use Rattle.dg_world.specs.Turn.{EventTurn, Refused, Changes, Halt, Stopped}
 use Rattle.dg_world.specs.Tellings.{halt_of, turned}
 use Rattle.dg_world.specs.declared.telling.Telling.{Telling}
 use Rattle.dg_world.specs.declared.telling.Fault.{Fault}
@@ -42,7 +42,7 @@ use Rattle.dg_world.specs.declared.telling.Fault.TheVariants as fault
 -- ---- acts that are reported
 
 pub acts_went : (w : RuleWorld) (m now word : ℕ) (t : Trail Store) (table : List Row) (v : Volume) (u : Option RunningMote) (a b : Device) (before after : Shown) → Acted t a b v → Shows before (store_at w m) → Shows after (last t)
-    → MoteStands b.image u (last t) (reloaded (site w m).runs now word) → Went w m (acts w m t table now word) u a b (Changes before after)
+    → MoteStands b.image u (last t) (reloaded (site w m).runs now word) → DeedWent w m (acts w m t table now word) u a b (Changes before after)
 acts_went w m now word t table v u a b before after acted shows after_shows mote = record {
   deed = record { trail = t; table = table; started = None; sent = None; runs = Some (reloaded (site w m).runs now word) };
   goes = refl;
@@ -182,21 +182,21 @@ is_stopped (inject.Worn room) = inr (λ h. cc)
 is_stopped inject.Taken = inr (λ h. cc)
 
 -- an injection that was not done
-pub inject_faulted : (w : RuleWorld) (m now word : ℕ) (row : Row) (p : Option RunningMote) (a b c : Device) (before : Shown) (e : InjectFault) (r : Result Turn Halt)
+pub inject_faulted : (w : RuleWorld) (m now word : ℕ) (row : Row) (p : Option RunningMote) (a b c : Device) (before : Shown) (e : InjectFault) (r : Result EventTurn Halt)
     → (e ≡ inject.Stopped → r ≡ Err (Stopped (Some before))) → (e ≢ inject.Stopped → r ≡ Ok (Refused (inject_cause row e)))
     → UnlessInjectRefused {T = Injected} (Err e) (inject_refusal (store_at w m) row) → (e ≢ inject.Stopped → inject_refusal (store_at w m) row ≡ Some e) → Looked a b
     → (e ≢ inject.Stopped → e ≢ inject.Taken → c ≡ b) → (e ≡ inject.Taken → Looked b c) → (e ≡ inject.Stopped → Stops (inject_trail (store_at w m) row) b c) → Shows before (store_at w m)
     → TurnEnds r w m (inject_unless (inject_refusal (store_at w m) row) w m row now word) p p a c
 inject_faulted w m now word row p a b c before e r stopped refused allowed some looked same taken stops shows =
     let does = inject_unless (inject_refusal (store_at w m) row) w m row now word in
-    let P : Result Turn Halt → Type 0 = λ x. TurnEnds x w m does p p a c in
+    let P : Result EventTurn Halt → Type 0 = λ x. TurnEnds x w m does p p a c in
     ⊎_elim
     (λ is. subst P (sym (stopped is)) (inject_stopped w m now word row p p a b c before (inject_not_refused e (inject_refusal (store_at w m) row) is allowed) looked (stops is) shows))
     (λ other. subst P (sym (refused other)) (inject_refused w m now word row p a b c (inject_refusal (store_at w m) row) e (inject_cause row e) (some other) refl looked (same other) taken))
     (is_stopped e)
 
 -- which injection an event is
-pub known_image : (r : Result Turn Halt) (w : RuleWorld) (m now word : ℕ) (image : ℕ) (known : Option Row) (row : Row) (v u : Option RunningMote) (a b : Device) → (image == 0) ≡ false → known ≡ Some row
+pub known_image : (r : Result EventTurn Halt) (w : RuleWorld) (m now word : ℕ) (image : ℕ) (known : Option Row) (row : Row) (v u : Option RunningMote) (a b : Device) → (image == 0) ≡ false → known ≡ Some row
     → TurnEnds r w m (inject_row w m (Some row) now word) v u a b → TurnEnds r w m (if image == 0 then Refuses cause.Reserved else inject_row w m known now word) v u a b
 known_image r w m now word image known row v u a b other some ends =
     let P : Bool → Option Row → Type 0 = λ x o. TurnEnds r w m (if x then Refuses cause.Reserved else inject_row w m o now word) v u a b in
@@ -208,14 +208,14 @@ order_is_stopped (order_fault.Worn room) = inr (λ h. cc)
 order_is_stopped (order_fault.OldOrder kept) = inr (λ h. cc)
 
 -- an order that was not kept
-pub order_faulted : (w : RuleWorld) (m now word : ℕ) (o : Order) (p : Option RunningMote) (a b c : Device) (before : Shown) (e : OrderFault) (r : Result Turn Halt)
+pub order_faulted : (w : RuleWorld) (m now word : ℕ) (o : Order) (p : Option RunningMote) (a b c : Device) (before : Shown) (e : OrderFault) (r : Result EventTurn Halt)
     → (e ≡ order_fault.Stopped → r ≡ Err (Stopped (Some before))) → (e ≢ order_fault.Stopped → r ≡ Ok (Refused (order_cause e)))
     → UnlessOrderRefused {T = Unit {0}} (Err e) (order_refusal (store_at w m) o) → (e ≢ order_fault.Stopped → order_refusal (store_at w m) o ≡ Some e) → Looked a b
     → (e ≢ order_fault.Stopped → c ≡ b) → (e ≡ order_fault.Stopped → Stops (order_trail (store_at w m) o) b c) → Shows before (store_at w m)
     → TurnEnds r w m (order_unless (order_refusal (store_at w m) o) w m o now word) p p a c
 order_faulted w m now word o p a b c before e r stopped refused allowed some looked same stops shows =
     let does = order_unless (order_refusal (store_at w m) o) w m o now word in
-    let P : Result Turn Halt → Type 0 = λ x. TurnEnds x w m does p p a c in
+    let P : Result EventTurn Halt → Type 0 = λ x. TurnEnds x w m does p p a c in
     ⊎_elim
     (λ is. subst P (sym (stopped is)) (order_stopped w m now word o p p a b c before (order_refusal (store_at w m) o) (order_not_refused e (order_refusal (store_at w m) o) is allowed) looked (stops is) shows))
     (λ other. subst P (sym (refused other)) (order_refused w m now word o p a b c (order_refusal (store_at w m) o) e (order_cause e) (some other) refl looked (same other)))
@@ -232,10 +232,10 @@ cause_ok x = Ok x
 abbrev cause_err : Fault → Result Cause Fault
 cause_err f = Err f
 
-abbrev turn_ok : Turn → Result Turn Halt
+abbrev turn_ok : EventTurn → Result EventTurn Halt
 turn_ok t = Ok t
 
-abbrev turn_err : Halt → Result Turn Halt
+abbrev turn_err : Halt → Result EventTurn Halt
 turn_err h = Err h
 
 ok_err : (x : Cause) (f : Fault) → cause_ok x ≡ cause_err f → ⊥
@@ -248,10 +248,10 @@ same_stop : (f g : Fault) → cause_err f ≡ cause_err g → f ≡ g
 same_stop f g e = cc
 
 -- a cause was found
-pub cause_stopped : (S : Type 0) (q : Result Cause Fault) (x : Cause) (r : Result Turn Halt) (before : Shown) → q ≡ Ok x → (S → q ≡ Err fault.Stopped) → S → r ≡ Err (Stopped (Some before))
+pub cause_stopped : (S : Type 0) (q : Result Cause Fault) (x : Cause) (r : Result EventTurn Halt) (before : Shown) → q ≡ Ok x → (S → q ≡ Err fault.Stopped) → S → r ≡ Err (Stopped (Some before))
 cause_stopped S q x r before is stopped s = absurd (ok_err x fault.Stopped (sym is ∙ stopped s))
 
-pub cause_refused : (S : Type 0) (q : Result Cause Fault) (x why : Cause) (t : Turn) → q ≡ Ok x → (S → q ≡ Ok why) → t ≡ Refused x → S → turn_ok t ≡ turn_ok (Refused why)
+pub cause_refused : (S : Type 0) (q : Result Cause Fault) (x why : Cause) (t : EventTurn) → q ≡ Ok x → (S → q ≡ Ok why) → t ≡ Refused x → S → turn_ok t ≡ turn_ok (Refused why)
 cause_refused S q x why t is refused told s = ap turn_ok (told ∙ ap Refused (same_cause x why (sym is ∙ refused s)))
 
 -- none was, since the board stopped
@@ -262,5 +262,5 @@ stop_stopped S q f (Err e) t before is same was stopped s =
     let at : e ≡ fault.Stopped = same ∙ same_stop f fault.Stopped (sym is ∙ stopped s) in
     ap (λ (x : Fault). turn_err (halt_of x t.before)) at ∙ ap (λ (o : Option Shown). turn_err (Stopped o)) was
 
-pub stop_refused : (S : Type 0) (q : Result Cause Fault) (f : Fault) (why : Cause) (r : Result Turn Halt) → q ≡ Err f → (S → q ≡ Ok why) → S → r ≡ Ok (Refused why)
+pub stop_refused : (S : Type 0) (q : Result Cause Fault) (f : Fault) (why : Cause) (r : Result EventTurn Halt) → q ≡ Err f → (S → q ≡ Ok why) → S → r ≡ Ok (Refused why)
 stop_refused S q f why r is refused s = absurd (ok_err why f (sym (refused s) ∙ is))

@@ -1,6 +1,6 @@
 -- What an event sees of the order of its chip, and what it reads.
-use Rattle.std.proofs.Common.{◌≡◌, ◌≢◌, ◌⊎◌, ℕ, ◌+◌, ◌*◌, ◌≤◌, ◌||◌, ◌&&◌, not, eqb, Bool, true, false, List, refl, sym, ap, ◌∙◌, subst, inl, inr, ⊎_elim, arith}
-use Rattle.std.specs.Prelude.{Option, Some, None, Result, Ok, Err, OnOk, OnErr, IfSome, IsSomeAnd, ◌↔◌, if◌then◌else◌, ◌==◌, is_none}
+use Rattle.std.proofs.Common.{◌≡◌, ◌≢◌, ◌⊎◌, ℕ, ◌+◌, ◌*◌, ◌≤◌, ◌||◌, Bool, true, false, List, refl, sym, ap, ◌∙◌, subst, inl, inr, ⊎_elim, arith}
+use Rattle.std.specs.Prelude.{Option, Some, None, Result, Ok, Err, OnOk, OnErr, IfSome, ◌↔◌, is_none}
 use Rattle.dg_nor.specs.Device.{Device, Took, RisesAtMost}
 use Rattle.dg_nor.specs.Reads.{Looked}
 use Rattle.dg_nor.proofs.TakenLemmas.{Took-same, Took_then, Took-more}
@@ -14,31 +14,22 @@ use Rattle.dg_volume.specs.Stands.{control_of, IsVolume}
 use Rattle.dg_volume.specs.declared.volume.InjectFault.{InjectFault}
 use Rattle.dg_volume.specs.declared.volume.InjectFault.TheVariants as inject
 use Rattle.dg_volume.specs.declared.volume.Volume.{Volume}
-use Rattle.dg_rules.specs.World.{World as RuleWorld, Running, store_at, wide_at}
-use Rattle.dg_rules.specs.Events.{Deed, Does, Refuses, Goes, does, mote_of, knows, injects, orders, inject_cause, inject_row}
+use Rattle.dg_rules.specs.World.{World as RuleWorld, Running}
+use Rattle.dg_rules.specs.Events.{Deed, Does, Refuses, Goes, does, inject_cause}
 use Rattle.dg_volume.specs.Store.{Store}
-use Rattle.dg_volume.specs.Changes.{order_refusal}
-use Rattle.dg_volume.specs.Table.{row_at}
-use Rattle.dg_control.specs.declared.snapshot.Order.{Order}
 use Rattle.dg_mote.specs.Motes.{volume_of, sent_in}
-use Rattle.dg_bits.proofs.SetLaws.{contains-none, contains-put, contains-without}
-use Rattle.dg_bits.specs.Sets.{Numbers}
-use Rattle.std.specs.FinSet as set
-use Rattle.std.proofs.lemmas.Bool.Decides.{nat_tests}
 use Rattle.std.proofs.lemmas.Option.{same_Some}
 use Rattle.dg_base.specs.declared.events.Cut.{Cut as PowerCut}
 use Rattle.dg_base.specs.declared.events.Event.TheVariants.{Tick, Hear, Last, Reset, Inject, Order as OrderEvent, Frame}
 use Rattle.dg_world.specs.Worlds.{MoteStands}
-use Rattle.dg_world.specs.Turn.{Turn, Refused, Rests, Sends, Changes, Starts, Whole}
+use Rattle.dg_world.specs.Turn.{EventTurn, Refused, Rests, Sends, Changes, Starts, Whole}
 use Rattle.dg_world.specs.Turns.{TurnEnds}
 use Rattle.dg_world.specs.Cuts.{PlayEnds, ended}
 use Rattle.dg_world.specs.Tellings.{turn_by, turn_of, halt_of, turned, ended_as}
-use Rattle.dg_world.specs.Unseen.{RefusesUnseen}
 use Rattle.dg_world.specs.declared.shown.Shown.{Shown}
 use Rattle.dg_world.specs.declared.telling.StartLine.{StartLine}
 use Rattle.dg_world.specs.declared.telling.Power.{Power}
 use Rattle.dg_world.specs.declared.telling.Power.TheVariants as power
-use Rattle.dg_world.proofs.UnseenLemmas.{image_unseen, order_by}
 use Rattle.dg_script.specs.declared.report.Cause.{Cause}
 use Rattle.dg_script.specs.declared.report.Cause.TheVariants as cause
 use Rattle.dg_volume.specs.declared.volume.OrderFault.{OrderFault}
@@ -150,95 +141,9 @@ pub when_ok : {T X : Type 0} (r : Result T Fault) → OnOk r X → OnErr r ⊥ �
 when_ok (Ok y) x ok = x
 when_ok (Err f) x ok = absurd ok
 
--- ---- which events make a board known
-
-module _ (D : Does) where
-  pub looked_into : (RefusesUnseen D → ⊥) → IsLookedInto D
-  looked_into seen = record {
-    not_reserved = λ is. seen (subst RefusesUnseen (sym is) refl);
-    declared = λ is. seen (subst RefusesUnseen (sym is) refl);
-  }
-
--- what an order or an injection does, by whether its mote knows the image
-order_by_width : (w : RuleWorld) (mote : ℕ) (o : Order) (now word : ℕ) → Bool → Does
-order_by_width w mote o now word b = if b then orders w mote o now word else Refuses cause.Image
-
-inject_by_width : (w : RuleWorld) (mote image version now word : ℕ) → Bool → Does
-inject_by_width w mote image version now word b = if b then injects w mote image version now word else Refuses cause.Image
-
-order_makes : (w : RuleWorld) (mote number image version dt word : ℕ) → knows (wide_at w mote) image ≡ true → MakesKnown w (OrderEvent mote number image version dt word)
-unfolding does order_by_width
-order_makes w mote number image version dt word is =
-    let o : Order = record { number = number; image = image; version = version } in
-    looked_into _ (λ unseen. order_by (order_refusal (store_at w mote) o) w mote (w.moment + dt) word o (subst (λ (b : Bool). RefusesUnseen (order_by_width w mote o (w.moment + dt) word b)) is unseen))
-
-narrow_orders : (w : RuleWorld) (mote number image version dt word : ℕ) → knows (wide_at w mote) image ≡ false → MakesKnown w (OrderEvent mote number image version dt word) → ⊥
-unfolding does order_by_width
-narrow_orders w mote number image version dt word is made =
-    made.declared (ap (order_by_width w mote (record { number = number; image = image; version = version }) (w.moment + dt) word) is)
-
-pub narrow_injects : (w : RuleWorld) (mote image version dt word : ℕ) → knows (wide_at w mote) image ≡ false → MakesKnown w (Inject mote image version dt word) → ⊥
-unfolding does inject_by_width
-narrow_injects w mote image version dt word is made = made.declared (ap (inject_by_width w mote image version (w.moment + dt) word) is)
-
-pub golden_makes : (w : RuleWorld) (mote image version dt word : ℕ) → knows (wide_at w mote) image ≡ true → image ≡ 0 → MakesKnown w (Inject mote image version dt word) → ⊥
-unfolding does inject_by_width
-golden_makes w mote image version dt word known is made =
-    made.not_reserved (ap (inject_by_width w mote image version (w.moment + dt) word) known
-    ∙ ap (λ (i : ℕ). if i == 0 then Refuses cause.Reserved else inject_row w mote (row_at w.declared image version) (w.moment + dt) word) is)
-
-pub unknown_makes : (w : RuleWorld) (mote image version dt word : ℕ) → knows (wide_at w mote) image ≡ true → eqb image 0 ≡ false → row_at w.declared image version ≡ None → MakesKnown w (Inject mote image version dt word) → ⊥
-unfolding does inject_by_width
-unknown_makes w mote image version dt word known other none made =
-    let P : Bool → Option Row → Does = λ b o. if b then Refuses cause.Reserved else inject_row w mote o (w.moment + dt) word in
-    made.declared (ap (inject_by_width w mote image version (w.moment + dt) word) known ∙ ap (λ (b : Bool). P b (row_at w.declared image version)) other ∙ ap (P false) none)
-
-pub known_makes : (w : RuleWorld) (mote image version dt word : ℕ) (row : Row) → knows (wide_at w mote) image ≡ true → eqb image 0 ≡ false → row.image ≡ image → row_at w.declared image version ≡ Some row → MakesKnown w (Inject mote image version dt word)
-unfolding does inject_by_width
-known_makes w mote image version dt word row known other at some =
-    looked_into _ (λ unseen. image_unseen w mote (w.moment + dt) word image (row_at w.declared image version) row other at some
-    (subst (λ (b : Bool). RefusesUnseen (inject_by_width w mote image version (w.moment + dt) word b)) known unseen))
-
--- the mote of an event, by its number in the event
-pub mote_in : (e f : Event) (m : ℕ) → e ≡ f → mote_of e ≡ m → mote_of f ≡ m
-mote_in e f m is at = ap mote_of (sym is) ∙ at
-
-order_iff : (w : RuleWorld) (mote number image version dt word : ℕ) (b : Bool) → knows (wide_at w mote) image ≡ b → (b ≡ true) ↔ MakesKnown w (OrderEvent mote number image version dt word)
-order_iff w mote number image version dt word true is = (λ x. order_makes w mote number image version dt word is, λ x. refl)
-order_iff w mote number image version dt word false is = (λ x. absurd cc, λ made. absurd (narrow_orders w mote number image version dt word is made))
-
-pub order_known_then : (w : RuleWorld) (mote number image version dt word m : ℕ) (b : Bool) → mote ≡ m → knows (wide_at w m) image ≡ b → (b ≡ true) ↔ MakesKnown w (OrderEvent mote number image version dt word)
-order_known_then w mote number image version dt word m b at is = order_iff w mote number image version dt word b (ap (λ (k : ℕ). knows (wide_at w k) image) at ∙ is)
-
-pub inject_known_then : (w : RuleWorld) (mote image version dt word m : ℕ) (b : Bool) → mote ≡ m → (b ≡ true) ↔ MakesKnown w (Inject m image version dt word) → (b ≡ true) ↔ MakesKnown w (Inject mote image version dt word)
-inject_known_then w mote image version dt word m b at iff = subst (λ (k : ℕ). (b ≡ true) ↔ MakesKnown w (Inject k image version dt word)) (sym at) iff
-
--- ---- the set of boards that are known
-
-pub put_in : (s : Numbers) (k : ℕ) → set.contains (set.insert s k) k ≡ true
-put_in s k = contains-put s k k ∙ grind (arith, nat_tests)
-
-pub put_others : (s : Numbers) (k q : ℕ) → q ≢ k → set.contains (set.insert s k) q ≡ set.contains s q
-put_others s k q other = contains-put s k q ∙ ap (λ b. b || set.contains s q) (not_same q k other)
-  where
-    not_same : (q k : ℕ) → q ≢ k → eqb q k ≡ false
-    not_same q k other = grind (arith, nat_tests, other)
-
-pub taken_out : (s : Numbers) (k : ℕ) → set.contains (set.remove s k) k ≡ false
-taken_out s k = contains-without s k k ∙ ap (λ b. not b && set.contains s k) (same_as k)
-  where
-    same_as : (k : ℕ) → eqb k k ≡ true
-    same_as k = grind (arith, nat_tests)
-
-pub out_others : (s : Numbers) (k q : ℕ) → q ≢ k → set.contains (set.remove s k) q ≡ set.contains s q
-out_others s k q other = contains-without s k q ∙ ap (λ b. not b && set.contains s q) (not_same q k other)
-  where
-    not_same : (q k : ℕ) → q ≢ k → eqb q k ≡ false
-    not_same q k other = grind (arith, nat_tests, other)
-
 -- ---- what a step sees
 
-undeclared : (turn : Turn) (D : Does) → IsUndeclared turn → ((why : Cause) → turn ≡ Refused why → D ≡ Refuses why) → IsLookedInto D → ⊥
+undeclared : (turn : EventTurn) (D : Does) → IsUndeclared turn → ((why : Cause) → turn ≡ Refused why → D ≡ Refuses why) → IsLookedInto D → ⊥
 undeclared (Refused cause.Image) D x refused made = made.declared (refused cause.Image refl)
 undeclared (Refused cause.Reserved) D x refused made = made.not_reserved (refused cause.Reserved refl)
 undeclared (Refused cause.Off) D x refused made = x
@@ -256,11 +161,11 @@ undeclared (Changes old new) D x refused made = x
 undeclared (Starts line) D x refused made = x
 
 module _ (w : RuleWorld) (known : Bool) (u : Option RunningMote) (c d : List ℕ) where
-  inject_sees : (m image version dt word : ℕ) (o : Option Bool) (turn : Turn) → SeesInjected o turn c d → ((why : Cause) → turn ≡ Refused why → does w (Inject m image version dt word) ≡ Refuses why) → StepSees w (Inject m image version dt word) known o u c d
+  inject_sees : (m image version dt word : ℕ) (o : Option Bool) (turn : EventTurn) → SeesInjected o turn c d → ((why : Cause) → turn ≡ Refused why → does w (Inject m image version dt word) ≡ Refuses why) → StepSees w (Inject m image version dt word) known o u c d
   inject_sees m image version dt word (Some o) turn x refused = x
   inject_sees m image version dt word None turn x refused = λ off. (λ is. x.0, λ made. undeclared turn (does w (Inject m image version dt word)) x.1 refused made)
 
-  order_sees : (m number image version dt word : ℕ) (o : Option Bool) (turn : Turn) → SeesInjected o turn c d → ((why : Cause) → turn ≡ Refused why → does w (OrderEvent m number image version dt word) ≡ Refuses why) → StepSees w (OrderEvent m number image version dt word) known o u c d
+  order_sees : (m number image version dt word : ℕ) (o : Option Bool) (turn : EventTurn) → SeesInjected o turn c d → ((why : Cause) → turn ≡ Refused why → does w (OrderEvent m number image version dt word) ≡ Refuses why) → StepSees w (OrderEvent m number image version dt word) known o u c d
   order_sees m number image version dt word (Some o) turn x refused = x
   order_sees m number image version dt word None turn x refused = λ off. (λ is. x.0, λ made. undeclared turn (does w (OrderEvent m number image version dt word)) x.1 refused made)
 
@@ -279,11 +184,11 @@ module _ (w : RuleWorld) (known : Bool) (u : Option RunningMote) (c d : List ℕ
   cut_sees e None x = λ off. (λ is. absurd (x.0 is), x.1)
 
 -- which turn a refusal is
-pub turn_refused : (w : RuleWorld) (m : ℕ) (D : Does) (v u : Option RunningMote) (a b : Device) (turn : Turn) → TurnEnds (Ok turn) w m D v u a b → (why : Cause) → turn ≡ Refused why → D ≡ Refuses why
-turn_refused w m D v u a b turn ends why is = let x : TurnEnds (Ok (Refused why)) w m D v u a b = subst (λ (y : Turn). TurnEnds (Ok y) w m D v u a b) is ends in x.0
+pub turn_refused : (w : RuleWorld) (m : ℕ) (D : Does) (v u : Option RunningMote) (a b : Device) (turn : EventTurn) → TurnEnds (Ok turn) w m D v u a b → (why : Cause) → turn ≡ Refused why → D ≡ Refuses why
+turn_refused w m D v u a b turn ends why is = let x : TurnEnds (Ok (Refused why)) w m D v u a b = subst (λ (y : EventTurn). TurnEnds (Ok y) w m D v u a b) is ends in x.0
 
-pub play_refused : (w : RuleWorld) (m : ℕ) (D : Does) (cut : Option PowerCut) (v u : Option RunningMote) (a b : Device) (turn : Turn) → PlayEnds (Ok (Whole turn)) w m D cut v u a b → (why : Cause) → turn ≡ Refused why → D ≡ Refuses why
-play_refused w m D cut v u a b turn ends why is = let x : PlayEnds (Ok (Whole (Refused why))) w m D cut v u a b = subst (λ (y : Turn). PlayEnds (Ok (Whole y)) w m D cut v u a b) is ends in x.0
+pub play_refused : (w : RuleWorld) (m : ℕ) (D : Does) (cut : Option PowerCut) (v u : Option RunningMote) (a b : Device) (turn : EventTurn) → PlayEnds (Ok (Whole turn)) w m D cut v u a b → (why : Cause) → turn ≡ Refused why → D ≡ Refuses why
+play_refused w m D cut v u a b turn ends why is = let x : PlayEnds (Ok (Whole (Refused why))) w m D cut v u a b = subst (λ (y : EventTurn). PlayEnds (Ok (Whole y)) w m D cut v u a b) is ends in x.0
 
 pub refuses_goes : (A : Type 0) (D : Does) (why : Cause) → (d : Deed) → D ≡ Goes d → D ≡ Refuses why → A
 refuses_goes A D why d goes refuses = let e : Goes d ≡ Refuses why = sym goes ∙ refuses in absurd cc
@@ -291,14 +196,14 @@ refuses_goes A D why d goes refuses = let e : Goes d ≡ Refuses why = sym goes 
 same_refusal : (x y : Cause) → Refuses x ≡ Refuses y → x ≡ y
 same_refusal x y e = cc
 
-pub refused_turn : (w : RuleWorld) (m : ℕ) (D : Does) (v u : Option RunningMote) (a b : Device) (turn : Turn) → TurnEnds (Ok turn) w m D v u a b → (why : Cause) → D ≡ Refuses why → turn ≡ Refused why
+pub refused_turn : (w : RuleWorld) (m : ℕ) (D : Does) (v u : Option RunningMote) (a b : Device) (turn : EventTurn) → TurnEnds (Ok turn) w m D v u a b → (why : Cause) → D ≡ Refuses why → turn ≡ Refused why
 refused_turn w m D v u a b (Refused x) ends why is = ap Refused (same_refusal x why (sym ends.0 ∙ is))
 refused_turn w m D v u a b Rests ends why is = refuses_goes _ D why ends.deed ends.goes is
 refused_turn w m D v u a b (Sends bytes) ends why is = refuses_goes _ D why ends.deed ends.goes is
 refused_turn w m D v u a b (Changes p q) ends why is = refuses_goes _ D why ends.deed ends.goes is
 refused_turn w m D v u a b (Starts x) ends why is = refuses_goes _ D why ends.deed ends.goes is
 
-pub refused_play : (w : RuleWorld) (m : ℕ) (D : Does) (cut : Option PowerCut) (v u : Option RunningMote) (a b : Device) (turn : Turn) → PlayEnds (Ok (Whole turn)) w m D cut v u a b → (why : Cause) → D ≡ Refuses why → turn ≡ Refused why
+pub refused_play : (w : RuleWorld) (m : ℕ) (D : Does) (cut : Option PowerCut) (v u : Option RunningMote) (a b : Device) (turn : EventTurn) → PlayEnds (Ok (Whole turn)) w m D cut v u a b → (why : Cause) → D ≡ Refuses why → turn ≡ Refused why
 refused_play w m D cut v u a b (Refused x) ends why is = ap Refused (same_refusal x why (sym ends.0 ∙ is))
 refused_play w m D cut v u a b Rests ends why is = refuses_goes _ D why ends.deed ends.goes is
 refused_play w m D cut v u a b (Sends bytes) ends why is = refuses_goes _ D why ends.deed ends.goes is
@@ -370,7 +275,7 @@ reads_over (OrderEvent m number image version dt word) known p q o x y a b done 
   bytes = λ n k here after. r.bytes n k (subst (λ (c : List ℕ). RemountBytes c n) (sym is) here) (subst (λ (c : List ℕ). RemountBytes c k) (sym js) after);
 }
 
-stays_by : (f : Fault) (b : Bool) (before : Option Shown) (turn : Turn) → Ok (Whole turn) ≡ ended b (Err (halt_of f before)) → ⊥
+stays_by : (f : Fault) (b : Bool) (before : Option Shown) (turn : EventTurn) → Ok (Whole turn) ≡ ended b (Err (halt_of f before)) → ⊥
 stays_by fault.Stopped true before turn e = cc
 stays_by fault.Stopped false before turn e = cc
 stays_by fault.NotAVolume b before turn e = cc
@@ -414,9 +319,6 @@ module _ (w : RuleWorld) (e : Event) (known makes result : Bool) (a b : Device) 
 pub no_value : {A : Type 0} (o : Option A) → is_none o ≡ true → o ≡ None
 no_value None e = refl
 no_value (Some x) e = absurd cc
-
-pub none_known : (s : Numbers) → s ≡ set.empty → (m : ℕ) → set.contains s m ≡ false
-none_known s e m = ap (λ (t : Numbers). set.contains t m) e ∙ contains-none m
 
 -- a board that was not used
 pub same_takes : (e : Event) (a b : Device) (o : Option Device) → o ≡ Some a → o ≡ Some b → OrderTakes e a b

@@ -10,6 +10,7 @@ pub mod SameLemmas
 pub mod TickLemmas
 pub mod InjectLemmas
 pub mod KnownLemmas
+pub mod MakesLemmas
 pub mod HappenLemmas
 pub mod UnseenLemmas
 pub mod CutLemmas
@@ -21,5 +22,6 @@ pub mod DoneLemmas
 pub mod FinishLemmas
 pub mod PlaceLemmas
 pub mod SoundLemmas
+pub mod ApplyLemmas
 pub mod MountLemmas
 pub mod AloneLemmas

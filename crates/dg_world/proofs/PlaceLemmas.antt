@@ -23,7 +23,7 @@ use Rattle.dg_rules.specs.World.{World as RuleWorld, Running, Site, Sent, no_sit
 use Rattle.dg_rules.specs.Premises.{WorldTimely}
 use Rattle.dg_rules.specs.Events.{does, mote_of, dt_of}
 use Rattle.dg_rules.specs.Steps.{cut_world, WorldStep}
-use Rattle.dg_rules.specs.Ranges.{StepFits}
+use Rattle.dg_rules.specs.Ranges.{StepInRange}
 use Rattle.dg_base.specs.declared.events.Step.{Step}
 use Rattle.dg_script.specs.declared.report.Report.{Report}
 use Rattle.dg_object.specs.Object.{Row}
@@ -31,9 +31,10 @@ use Rattle.dg_world.specs.Airs.{Carries, sent_now}
 use Rattle.dg_world.specs.Images.{Declares}
 use Rattle.dg_world.specs.Shareds.{IsShared}
 use Rattle.dg_world.specs.declared.links.Links.{Links}
+use Rattle.dg_world.specs.Neighbours.{KnowsLinks}
 use Rattle.dg_world.specs.Worlds.{MoteStands, SiteStands, MayRun, IsWorld}
 use Rattle.dg_world.specs.Counts.{NoneRose}
-use Rattle.dg_world.specs.Applied.{OneBoard, Applied, FlashAt, Ended, ApplyEnds, fault_of}
+use Rattle.dg_world.specs.Applied.{OneBoard, Applied, FlashAt, RunEnded, ApplyEnds, fault_of}
 use Rattle.dg_world.specs.Cuts.{IsStopped, IsLacking}
 use Rattle.dg_world.specs.Stepped.{StepDone, Stepped}
 use Rattle.dg_world.specs.declared.air.Air.{Air}
@@ -161,7 +162,7 @@ module _ (v u : World) (bs : List Device) (w : RuleWorld) (x : Step) (loud : Boo
       let Q : List Sent → Type 0 = λ sent. Carries u.shared.air sent in
       record {
         declared = subst (λ (y : Images). P y s.world.declared) (sym moves.images) (subst (P v.shared.images) (sym s.declared) is.shared.declared);
-        links = s.links ∙ is.shared.links ∙ sym (ap (λ (l : Links). l.pairs) moves.links);
+        links = subst (λ (l : Links). KnowsLinks l.neighbours s.world.links) (sym moves.links) (subst (KnowsLinks v.shared.links.neighbours) (sym s.links) is.shared.links);
         narrow = s.narrow ∙ is.shared.narrow ∙ sym moves.narrow;
         sent = subst Q (ap (λ (j : ℕ). w.sent ++ sent_now j frame) at ∙ sym s.sent) (moves.sends w.sent is.shared.sent);
       }
@@ -217,7 +218,7 @@ flashed v bs w x i a b is at known here endures s =
     }
 
 pub lacked : (v : World) (bs : List Device) (w : RuleWorld) (x : Step) (i : ℕ) (a b : Device) → IsWorld v bs w → i ≡ mote_of x.event → i < length w.sites → slice_get bs i ≡ Some a → Endures (beneath_of a) (beneath_of b) → b.faults ≡ a.faults
-    → IsLacking (does w x.event) x.cut b.image → Ended w x bs (set bs i b)
+    → IsLacking (does w x.event) x.cut b.image → RunEnded w x bs (set bs i b)
 lacked v bs w x i a b is at known here endures stays s =
     let wide : i < length bs = omega (arith, known, is.boards_enough) in
     let m = mote_of x.event in
@@ -279,8 +280,8 @@ halts_at NoImage f v u bs w x loud runs i mote a b start end is_fault same is at
     subst P (sym is_fault) (lacked v bs w x i a b is at known here s.endures s.count s.ends.0, s.ends.1)
 
 -- a step that fits one world that the code stands for fits every one
-pub fits_each : (v : World) (bs : List Device) (w u : RuleWorld) (x : Step) → IsWorld v bs w → IsWorld v bs u → StepFits (length w.sites) x → StepFits (length u.sites) x
-fits_each v bs w u x is other fits = subst (λ (n : ℕ). StepFits n x) (is.motes ∙ sym other.motes) fits
+pub fits_each : (v : World) (bs : List Device) (w u : RuleWorld) (x : Step) → IsWorld v bs w → IsWorld v bs u → StepInRange (length w.sites) x → StepInRange (length u.sites) x
+fits_each v bs w u x is other fits = subst (λ (n : ℕ). StepInRange n x) (is.motes ∙ sym other.motes) fits
 
 -- the same over boards that are given by an equation
 pub applied_at : (v u : World) (bs cs : List Device) (w : RuleWorld) (x : Step) (loud : Bool) (i : ℕ) (runs : Option RunningMote) (frame : Option (List ℕ)) (a b : Device) (start end : List Report) → cs ≡ set bs i b → IsWorld v bs w → i ≡ mote_of x.event → i < length w.sites → v.events < most_events → dt_of x.event < 2 ^ 32

@@ -26,9 +26,9 @@ use Rattle.dg_frame.specs.declared.Message.TheVariants.{Advert, Request, Packet,
 use Rattle.dg_bits.specs.Sets.{Numbers}
 use Rattle.dg_mote.specs.Model.{MoteState, Mode, Maintain, Receive, Transmit, Receiving, came, maintains, Turn}
 use Rattle.dg_mote.specs.Summary.{is_own, own_order, same_order, same_entry, entry_for, entry_by, named, ahead_in}
-use Rattle.dg_mote.specs.Adverts.{heed_trail, asks, asking, noting, by_ahead, advert_heard, dropped, on_advert}
-use Rattle.dg_mote.specs.Requests.{overheard, to_it, on_request}
-use Rattle.dg_mote.specs.Packets.{is_wanted, accepted, seal_by, takes, on_packet}
+use Rattle.dg_mote.specs.Adverts.{heed_trail, asks, asking, noting, by_ahead, advert_heard, dropped, on_advert, offer}
+use Rattle.dg_mote.specs.Requests.{overheard, to_it, on_request, page_request}
+use Rattle.dg_mote.specs.Packets.{is_wanted, accepted, seal_by, takes, on_packet, page_packet}
 use Rattle.dg_mote.specs.Hears.{source_of, on_message, by_message, heard_of}
 use Rattle.dg_mote.specs.declared.mote.Heard.{Heard}
 use Rattle.dg_mote.specs.declared.mote.Heard.TheVariants.{Asks, Sealed, Bad}
@@ -79,13 +79,13 @@ module _ (s : Store) where
   noting_own m timer x now word true = λ is. (refl, refl)
   noting_own m timer x now word false = λ is. absurd is
 
-  ahead_own : (o : Option ℕ) (m : MoteState) (timer : Timer) (x : Store) (now word source : ℕ) (entries : List Entry) (own : Bool) → IsOwn x own (by_ahead o m timer x now word source entries own)
+  ahead_own : (o : Option ℕ) (m : MoteState) (timer : Timer) (x : Store) (now word source : ℕ) (entries : List Entry) (own : Bool) → IsOwn x own (by_ahead o m x now word (offer source entries) (noting m timer x now word own))
   ahead_own None m timer x now word source entries own = noting_own m timer x now word own
   ahead_own (Some i) m timer x now word source entries own =
       cond_both (asks m x now i (entry_for entries i)) (asking m x now word source i (entry_for entries i)) (noting m timer x now word own) (IsOwn x own)
       (λ _. λ is. absurd (asks_other i (asking m x now word source i (entry_for entries i)).answer refl is)) (λ _. noting_own m timer x now word own)
 
-  advert_calm : (m : MoteState) (timer : Timer) (now word source : ℕ) (entries : List Entry) (order : Order) → IsCalm s (advert_heard m timer s now word source entries order)
+  advert_calm : (m : MoteState) (timer : Timer) (now word source : ℕ) (entries : List Entry) (order : Order) → IsCalm s (advert_heard m timer s now word (offer source entries) order)
   unfolding advert_heard
   advert_calm m timer now word source entries order = λ is.
       let t = heed_trail s order in
@@ -94,14 +94,14 @@ module _ (s : Store) where
       let first = own_rests entries order m.wide h.0 in
       Through-joined (SameShown s) t _ first (subst (Through (SameShown s)) (sym h.1) (Through-resting (SameShown s) x 0 (Through-last (SameShown s) t first)))
 
-  on_advert_calm : (mode : Mode) (m : MoteState) (now word source : ℕ) (entries : List Entry) (order : Order) → IsCalm s (on_advert mode m s now word source entries order)
+  on_advert_calm : (mode : Mode) (m : MoteState) (now word source : ℕ) (entries : List Entry) (order : Order) → IsCalm s (on_advert mode m s now word (offer source entries) order)
   on_advert_calm (Maintain timer) m now word source entries order = advert_calm m timer now word source entries order
   on_advert_calm (Receive r) m now word source entries order = λ is. rests 0
   on_advert_calm (Transmit t) m now word source entries order = λ is. rests 0
 
   -- ---- requests and packets
 
-  to_it_calm : (mode : Mode) (m : MoteState) (now image version page : ℕ) (want : Numbers) → IsCalm s (to_it mode m s now image version page want)
+  to_it_calm : (mode : Mode) (m : MoteState) (now image version page : ℕ) (want : Numbers) → IsCalm s (to_it mode m s now (page_request image version page want))
   to_it_calm (Maintain timer) m now image version page want = cond_both _ _ _ (IsCalm s) (λ _. λ is. rests 0) (λ _. λ is. rests 0)
   to_it_calm (Transmit t) m now image version page want = cond_both _ _ _ (IsCalm s) (λ _. λ is. rests 0) (λ _. λ is. rests 0)
   to_it_calm (Receive r) m now image version page want = λ is. rests 0
@@ -109,9 +109,9 @@ module _ (s : Store) where
   overheard_calm : (m : MoteState) (now image version page : ℕ) → IsCalm s (overheard m s now image version page)
   overheard_calm m now image version page = cond_both _ _ _ (IsCalm s) (λ _. λ is. rests 0) (λ _. λ is. rests 0)
 
-  on_request_calm : (m : MoteState) (now to image version page : ℕ) (want : Numbers) → IsCalm s (on_request m s now to image version page want)
+  on_request_calm : (m : MoteState) (now to image version page : ℕ) (want : Numbers) → IsCalm s (on_request m s now to (page_request image version page want))
   on_request_calm m now to image version page want =
-      cond_both (to == m.id) (to_it m.mode m s now image version page want) (overheard m s now image version page) (IsCalm s)
+      cond_both (to == m.id) (to_it m.mode m s now (page_request image version page want)) (overheard m s now image version page) (IsCalm s)
       (λ _. to_it_calm m.mode m now image version page want) (λ _. overheard_calm m now image version page)
 
   seal_calm : (o : Option Held) (m : MoteState) (r : Receiving) (now word : ℕ) (page : List ℕ) → IsCalm s (seal_by o m r s now word page)
@@ -127,7 +127,7 @@ module _ (s : Store) where
       cond_both (set.len (came a.packets) == packets) (seal_by (held s r.image) m r s now word (page_from a.packets)) _ (IsCalm s)
       (λ _. seal_calm (held s r.image) m r now word (page_from a.packets)) (λ _. λ is. rests 1)
 
-  on_packet_calm : (mode : Mode) (m : MoteState) (now word image version page q : ℕ) (bytes : List ℕ) → IsCalm s (on_packet mode m s now word image version page q bytes)
+  on_packet_calm : (mode : Mode) (m : MoteState) (now word image version page q : ℕ) (bytes : List ℕ) → IsCalm s (on_packet mode m s now word (page_packet image version page q bytes))
   on_packet_calm (Receive r) m now word image version page q bytes =
       cond_both (is_wanted r image version page q) (takes m r s now word q bytes) (dropped m s) (IsCalm s) (λ _. takes_calm m r now word q bytes) (λ _. λ is. rests 0)
   on_packet_calm (Maintain timer) m now word image version page q bytes = cond_both _ _ _ (IsCalm s) (λ _. λ is. rests 0) (λ _. λ is. rests 0)

@@ -10,12 +10,13 @@ use Rattle.dg_volume.specs.Sizes.{images}
 use Rattle.dg_volume.specs.Store.{Store, held}
 use Rattle.dg_volume.specs.Told.{told}
 use Rattle.dg_volume.specs.declared.volume.Kept.{Kept}
-use Rattle.dg_rules.specs.Changes.{same_order, same_held, order_change, have_change, changes, is_told}
+use Rattle.dg_rules.specs.Changes.{same_held, order_change, have_change, changes, is_told}
 use Rattle.dg_script.specs.declared.report.Report.{Report}
 use Rattle.dg_script.specs.declared.report.Report.TheVariants.{Order as OrderLine, Lost, Have, Start, Off, SentAdvert, SentRequest, SentData, Refused, Taken, End, MoteOn, MoteOff, Kept as KeptLine}
 use Rattle.dg_world.specs.Shown.{Shows, have_shown, haves_shown, changes_shown}
 use Rattle.dg_world.specs.Turns.{SameShown}
 use Rattle.dg_world.specs.declared.shown.Shown.{Shown}
+use Rattle.dg_mote.specs.Summary.{same_order}
 
 pub range_more : (a n : ℕ) → range_with_len a (n + 1) ≡ range_with_len a n ++ (a + n) ∷ []
 range_more a zero = ap (λ (x : ℕ). x ∷ []) (omega arith)

@@ -10,7 +10,7 @@ use Rattle.dg_nor.proofs.MaskLemmas.{Endures_ran, Endures_halts}
 use Rattle.dg_volume.specs.Store.{Store}
 use Rattle.dg_script.specs.declared.report.Report.{Report}
 use Rattle.dg_world.specs.Shown.{Shows, changes_shown}
-use Rattle.dg_world.specs.Stepped.{IsRead, CutChangesAre, CutTold}
+use Rattle.dg_world.specs.Stepped.{BoardOnlyRead, CutChangesAre, CutTold}
 use Rattle.dg_world.specs.declared.shown.Shown.{Shown}
 use Rattle.dg_world.proofs.ShownLemmas.{changes_same, changes_told}
 use Rattle.dg_world.specs.declared.telling.Fault.{Fault}
@@ -18,13 +18,13 @@ use Rattle.dg_world.specs.declared.telling.Fault.TheVariants as fault
 
 -- ---- readings
 
-pub looked_read : (a b : Device) → Looked a b → IsRead a b
+pub looked_read : (a b : Device) → Looked a b → BoardOnlyRead a b
 looked_read a b l = record { same_image = l.same_image; endures = Endures_ran l.ran }
 
-stopped_read : (a b : Device) → ReadStopped a b → IsRead a b
+stopped_read : (a b : Device) → ReadStopped a b → BoardOnlyRead a b
 stopped_read a b r = record { same_image = r.same_image; endures = Endures_halts r.halts }
 
-same_read : (a : Device) → IsRead a a
+same_read : (a : Device) → BoardOnlyRead a a
 same_read a = record { same_image = refl; endures = Endures-same (beneath_of a) }
 
 -- ---- what a cut changed

@@ -6,7 +6,7 @@ use Rattle.dg_mote.specs.Motes.{sent_in}
 use Rattle.dg_rules.specs.World.{World as RuleWorld}
 use Rattle.dg_rules.specs.Events.{Does}
 use Rattle.dg_script.specs.declared.report.Cause.{Cause}
-use Rattle.dg_world.specs.Turn.{Turn, Refused, Rests, Changes, Starts}
+use Rattle.dg_world.specs.Turn.{EventTurn, Refused, Rests, Changes, Starts}
 use Rattle.dg_world.specs.Turns.{turn_frame, turn_sent, TurnEnds}
 use Rattle.dg_world.specs.Tellings.{turn_by, turn_of, halt_of, turned}
 use Rattle.dg_world.specs.declared.shown.Shown.{Shown}
@@ -68,8 +68,8 @@ frame_told t = frame_by (sent_in t.outbox) t.refused t.started t.before t.after
 -- ---- how it ends
 
 module _ (w : RuleWorld) (m : ℕ) (does : Does) (v u : Option RunningMote) (a b : Device) where
-  pub told_as : (t x : Turn) → t ≡ x → TurnEnds (Ok x) w m does v u a b → TurnEnds (Ok t) w m does v u a b
-  told_as t x e ends = subst (λ (y : Turn). TurnEnds (Ok y) w m does v u a b) (sym e) ends
+  pub told_as : (t x : EventTurn) → t ≡ x → TurnEnds (Ok x) w m does v u a b → TurnEnds (Ok t) w m does v u a b
+  told_as t x e ends = subst (λ (y : EventTurn). TurnEnds (Ok y) w m does v u a b) (sym e) ends
 
   pub halts_as : (f : Fault) (p q : Option Shown) → p ≡ q → TurnEnds (Err (halt_of f q)) w m does v u a b → TurnEnds (Err (halt_of f p)) w m does v u a b
   halts_as f p q e ends = subst (λ (x : Option Shown). TurnEnds (Err (halt_of f x)) w m does v u a b) (sym e) ends

@@ -31,10 +31,10 @@ use Rattle.dg_frame.specs.Spelling.{frame_of}
 use Rattle.dg_frame.specs.declared.Message.{Message}
 use Rattle.dg_boot.specs.Started.{Starts as BootStarts, Lacks}
 use Rattle.dg_boot.specs.declared.Started.{Started}
-use Rattle.dg_mote.specs.Model.{MoteState, Mode, Maintain, Receive, Transmit, Receiving, Sending, Turn as MoteTurn, reception, begun}
+use Rattle.dg_mote.specs.Model.{MoteState, Mode, Maintain, Receive, Transmit, Receiving, Sending, Turn, reception, begun_mote}
 use Rattle.dg_mote.specs.Ticks.{clears, maintain_by, receive_by, transmit_by, mode_tick, tick_of}
 use Rattle.dg_mote.specs.Hears.{heard_of}
-use Rattle.dg_mote.specs.Effects.{Effect, boot_by, boots, on, tick_by as effect_by, tick_effect, frame_effect}
+use Rattle.dg_mote.specs.Effects.{Effect, boot_by, boots, on, tick_by, tick_effect, frame_effect}
 use Rattle.dg_mote.specs.Motes.{Done, IsRead}
 use Rattle.dg_mote.specs.declared.mote.Did.{Did}
 use Rattle.dg_mote.specs.declared.mote.Did.TheVariants as did
@@ -48,8 +48,8 @@ use Rattle.dg_script.specs.declared.report.Report.{Report}
 use Rattle.dg_script.specs.declared.report.Report.TheVariants.{Start}
 use Rattle.dg_world.specs.Shown.{Shows}
 use Rattle.dg_world.specs.Worlds.{MoteStands}
-use Rattle.dg_world.specs.Turns.{SameShown, IsQuiet, BeginsOver, turn_frame, turn_sent, turn_lines, sent_shown, Went, Lacked, TurnEnds}
-use Rattle.dg_world.specs.declared.happening.Begun.{Begun}
+use Rattle.dg_world.specs.Turns.{SameShown, IsQuiet, BeginsOver, turn_frame, turn_sent, turn_lines, sent_shown, DeedWent, Lacked, TurnEnds}
+use Rattle.dg_world.specs.declared.starting.Begun.{Begun}
 use Rattle.dg_world.specs.declared.shown.Shown.{Shown}
 use Rattle.dg_world.specs.declared.telling.StartLine.{StartLine}
 use Rattle.dg_world.specs.declared.world.RunningMote.{RunningMote}
@@ -60,7 +60,7 @@ use Rattle.dg_world.proofs.ShownLemmas.{changes_same, changes_told}
 use Rattle.dg_world.proofs.StartLemmas.{boot_same, boot_same_from, clear_same, same_shown, leaves_same}
 use Rattle.dg_world.proofs.SameLemmas.{heard_calm}
 use Rattle.dg_world.proofs.TurnLemmas.{failed, same_fault, start_after, halt_after}
-use Rattle.dg_world.specs.Turn.{Turn, Refused, Changes, Starts, Halt, Stopped, Rests}
+use Rattle.dg_world.specs.Turn.{EventTurn, Refused, Changes, Starts, Halt, Stopped, Rests}
 
 -- ---- acts that are not reported
 
@@ -99,11 +99,11 @@ module _ (w : RuleWorld) (m : ℕ) (k : Kind) (id : ℕ) (wide : Bool) (now word
       let r = g.runs in
       let e : changes m s (last t) ≡ [] = changes_same m s (last t) (Through-last (SameShown s) t (boot_same k s)) in
       record {
-        deed = record { trail = t; table = w.table; started = Some r; sent = None; runs = Some (Some (record { key = key_of r; mote = begun id wide now word })) };
+        deed = record { trail = t; table = w.table; started = Some r; sent = None; runs = Some (Some (record { key = key_of r; mote = begun_mote id wide now word })) };
         goes = ap starts g.chosen;
         ran = g.acted.ran;
         tells = record {
-          runs = Some (record { key = key_of r; mote = begun id wide now word });
+          runs = Some (record { key = key_of r; mote = begun_mote id wide now word });
           runs_then = refl;
           mote = (over.key ∙ key_is x.line told r over.line_key g.image g.version, over.mote b.image (last t) g.acted.mounted);
           lines = line_is m x.line told r over.line_key over.length over.crc g.image g.version g.length g.crc ∙ ap (λ (l : List Report). (l ++ start_line m (Some r)) ++ []) (sym e);
@@ -139,7 +139,7 @@ module _ (w : RuleWorld) (m : ℕ) (k : Kind) (id : ℕ) (wide : Bool) (now word
 -- ---- ticks
 
 module _ (s : Store) (now word : ℕ) where
-  abbrev Same : MoteTurn Did → Type 0
+  abbrev Same : Turn Did → Type 0
   Same step = Through (SameShown s) step.trail
 
   rests : Through (SameShown s) (resting s 0)
@@ -171,10 +171,10 @@ module _ (s : Store) (now word : ℕ) where
   unfolding tick_of
   tick_same m = cond_both (clears m s now) _ _ Same (λ _. clear_same s) (λ _. mode_same m.mode m)
 
-abbrev by_answer : MoteTurn Did → (now word : ℕ) → Did → Effect
-by_answer step now word d = effect_by d step now word
+abbrev by_answer : Turn Did → (now word : ℕ) → Did → Effect
+by_answer step now word d = tick_by d step now word
 
-acted_on : (step : MoteTurn Did) (now word : ℕ) (d : Did) → (d ≡ did.Sent) ⊎ (d ≡ did.Idle) → d ≡ step.answer → effect_by step.answer step now word ≡ on step
+acted_on : (step : Turn Did) (now word : ℕ) (d : Did) → (d ≡ did.Sent) ⊎ (d ≡ did.Idle) → d ≡ step.answer → tick_by step.answer step now word ≡ on step
 acted_on step now word d is same = ap (by_answer step now word) (sym same) ∙ ⊎_elim (λ e. ap (by_answer step now word) e) (λ e. ap (by_answer step now word) e) is
 
 pub ticks_on : (m : MoteState) (s : Store) (now word : ℕ) (d : Did) → (d ≡ did.Sent) ⊎ (d ≡ did.Idle) → d ≡ (tick_of m s now word).answer → tick_effect m s now word ≡ on (tick_of m s now word)
@@ -199,7 +199,7 @@ sent_frame : (o : Option (List ℕ)) → turn_frame (turn_sent o) ≡ o
 sent_frame None = refl
 sent_frame (Some bytes) = refl
 
-sent_turn : (o : Option (List ℕ)) (w : RuleWorld) (m : ℕ) (does : Does) (v u : Option RunningMote) (a b : Device) → Went w m does u a b (turn_sent o) → TurnEnds (Ok (turn_sent o)) w m does v u a b
+sent_turn : (o : Option (List ℕ)) (w : RuleWorld) (m : ℕ) (does : Does) (v u : Option RunningMote) (a b : Device) → DeedWent w m does u a b (turn_sent o) → TurnEnds (Ok (turn_sent o)) w m does v u a b
 sent_turn None w m does v u a b x = x
 sent_turn (Some bytes) w m does v u a b x = x
 
@@ -207,14 +207,14 @@ module _ (w : RuleWorld) (m : ℕ) (r : Running) (now word : ℕ) where
   abbrev here : Store
   here = store_at w m
 
-  abbrev step : MoteTurn Did
+  abbrev step : Turn Did
   step = tick_of r.mote here now word
 
   abbrev ticks : Does
   ticks = of_effect w (tick_effect r.mote here now word) (Some r.key)
 
   tick_went : (v u : RunningMote) (a b : Device) (d : Did) (o : Option (List ℕ)) → (d ≡ did.Sent) ⊎ (d ≡ did.Idle) → v.key ≡ r.key → u.key ≡ v.key → Done step a b u.mote d → o ≡ option_map frame_of step.sent → IfSome step.sent (IsRead true)
-      → Went w m ticks (Some u) a b (turn_sent o)
+      → DeedWent w m ticks (Some u) a b (turn_sent o)
   tick_went v u a b d o is key same done sent read =
       let e : changes m here (last step.trail) ≡ [] = changes_same m here (last step.trail) (Through-last (SameShown here) step.trail (tick_same here now word r.mote)) in
       record {
@@ -233,15 +233,15 @@ module _ (w : RuleWorld) (m : ℕ) (r : Running) (now word : ℕ) where
       }
 
   -- it sends a frame, or rests
-  pub tick_acts : (v u : RunningMote) (a b : Device) (d : Did) (o : Option (List ℕ)) (turn : Turn) → turn ≡ turn_sent o → (d ≡ did.Sent) ⊎ (d ≡ did.Idle) → v.key ≡ r.key → u.key ≡ v.key → Done step a b u.mote d → o ≡ option_map frame_of step.sent
+  pub tick_acts : (v u : RunningMote) (a b : Device) (d : Did) (o : Option (List ℕ)) (turn : EventTurn) → turn ≡ turn_sent o → (d ≡ did.Sent) ⊎ (d ≡ did.Idle) → v.key ≡ r.key → u.key ≡ v.key → Done step a b u.mote d → o ≡ option_map frame_of step.sent
       → IfSome step.sent (IsRead true) → TurnEnds (Ok turn) w m ticks (Some v) (Some u) a b
   tick_acts v u a b d o turn is_turn is key same done sent read =
-      subst (λ (x : Turn). TurnEnds (Ok x) w m ticks (Some v) (Some u) a b) (sym is_turn) (sent_turn o w m ticks (Some v) (Some u) a b (tick_went v u a b d o is key same done sent read))
+      subst (λ (x : EventTurn). TurnEnds (Ok x) w m ticks (Some v) (Some u) a b) (sym is_turn) (sent_turn o w m ticks (Some v) (Some u) a b (tick_went v u a b d o is key same done sent read))
 
   -- ---- it is stopped
 
   abbrev Halted : Did → Type 0
-  Halted d = Through (SameShown here) (effect_by d step now word).trail
+  Halted d = Through (SameShown here) (tick_by d step now word).trail
 
   first_same : (d : Did) → Halted d
   first_same did.Sent = tick_same here now word r.mote
@@ -252,7 +252,7 @@ module _ (w : RuleWorld) (m : ℕ) (r : Running) (now word : ℕ) where
       Through-joined (SameShown here) step.trail (boots kind.Order at step.mote.id step.mote.wide now word).trail (tick_same here now word r.mote)
       (subst (Through (SameShown here)) (sym (boot_trail (boot kind.Order at).runs (boot kind.Order at).trail step.mote.id step.mote.wide now word)) (boot_same_from here at kind.Order same))
 
-  stops_first : (d : Did) (a b : Device) → Stops step.trail a b → Stops (effect_by d step now word).trail a b
+  stops_first : (d : Did) (a b : Device) → Stops step.trail a b → Stops (tick_by d step now word).trail a b
   stops_first did.Sent a b stops = stops
   stops_first did.Idle a b stops = stops
   stops_first did.Restart a b stops =
@@ -268,13 +268,13 @@ module _ (w : RuleWorld) (m : ℕ) (r : Running) (now word : ℕ) where
 
   -- ---- it restarts
 
-  abbrev rested : MoteTurn Did
+  abbrev rested : Turn Did
   rested = record { mote = r.mote; trail = resting here 0; sent = None; answer = did.Restart }
 
   abbrev restarts : Does
   restarts = of_effect w (boots kind.Order here r.mote.id r.mote.wide now word) (Some r.key)
 
-  effect_rested : effect_by did.Restart rested now word ≡ boots kind.Order here r.mote.id r.mote.wide now word
+  effect_rested : tick_by did.Restart rested now word ≡ boots kind.Order here r.mote.id r.mote.wide now word
   unfolding last_of
   effect_rested =
       let e : Effect = boots kind.Order here r.mote.id r.mote.wide now word in
@@ -286,21 +286,21 @@ module _ (w : RuleWorld) (m : ℕ) (r : Running) (now word : ℕ) where
 
   restarts_is : step ≡ rested → ticks ≡ restarts
   unfolding tick_effect
-  restarts_is is = ap (λ (x : Effect). of_effect w x (Some r.key)) (ap (λ (x : MoteTurn Did). effect_by x.answer x now word) is ∙ effect_rested)
+  restarts_is is = ap (λ (x : Effect). of_effect w x (Some r.key)) (ap (λ (x : Turn Did). tick_by x.answer x now word) is ∙ effect_rested)
 
   -- the chip stands for the same store when it starts
   pub restart_stands : (u : RunningMote) (a b : Device) → step ≡ rested → Done step a b u.mote did.Restart → Stands b.image here
   unfolding last_of
-  restart_stands u a b is done = subst (λ (x : MoteTurn Did). Stands b.image (last x.trail)) is done.mote.mounted.stands
+  restart_stands u a b is done = subst (λ (x : Turn Did). Stands b.image (last x.trail)) is done.mote.mounted.stands
 
   ran_none : (u : RunningMote) (a b : Device) → step ≡ rested → Done step a b u.mote did.Restart → Ran 0 a b
-  ran_none u a b is done = subst (λ (n : ℕ). Ran n a b) (operations-resting here 0) (subst (λ (x : MoteTurn Did). Ran (operations x.trail) a b) is done.ran)
+  ran_none u a b is done = subst (λ (n : ℕ). Ran n a b) (operations-resting here 0) (subst (λ (x : Turn Did). Ran (operations x.trail) a b) is done.ran)
 
   -- it starts with the number and the width that it had
   same_start : (u : RunningMote) (a b : Device) (id : ℕ) (wide : Bool) → id ≡ u.mote.id → wide ≡ u.mote.wide → step ≡ rested → Done step a b u.mote did.Restart → of_effect w (boots kind.Order here id wide now word) (Some r.key) ≡ restarts
   same_start u a b id wide at width is done =
-      ap (λ (n : ℕ). of_effect w (boots kind.Order here n wide now word) (Some r.key)) (at ∙ done.mote.id ∙ ap (λ (t : MoteTurn Did). t.mote.id) is)
-      ∙ ap (λ (x : Bool). of_effect w (boots kind.Order here r.mote.id x now word) (Some r.key)) (width ∙ done.mote.wide ∙ ap (λ (t : MoteTurn Did). t.mote.wide) is)
+      ap (λ (n : ℕ). of_effect w (boots kind.Order here n wide now word) (Some r.key)) (at ∙ done.mote.id ∙ ap (λ (t : Turn Did). t.mote.id) is)
+      ∙ ap (λ (x : Bool). of_effect w (boots kind.Order here r.mote.id x now word) (Some r.key)) (width ∙ done.mote.wide ∙ ap (λ (t : Turn Did). t.mote.wide) is)
 
   pub restart_starts : (u : RunningMote) (x : Begun) (v : Option RunningMote) (a b c : Device) (id : ℕ) (wide : Bool) → id ≡ u.mote.id → wide ≡ u.mote.wide → step ≡ rested → Done step a b u.mote did.Restart
       → TurnEnds (Ok (Starts x.line)) w m (of_effect w (boots kind.Order here id wide now word) (Some r.key)) v (Some x.running) b c → TurnEnds (Ok (Starts x.line)) w m ticks v (Some x.running) a c
@@ -317,7 +317,7 @@ module _ (w : RuleWorld) (m : ℕ) (r : Running) (now word : ℕ) where
 -- ---- heard frames
 
 module _ (w : RuleWorld) (m : ℕ) (r : Running) (now word : ℕ) (bytes : List ℕ) where
-  abbrev heard : MoteTurn Heard
+  abbrev heard : Turn Heard
   heard = heard_of r.mote (store_at w m) now word bytes
 
   abbrev hears : Does
@@ -378,12 +378,12 @@ off_as D w m c s o v a refuses is stands =
     subst (λ (x : Option RunningMote). TurnEnds (Ok (Refused cause.Off)) w m (D o) x x a a) (sym is)
     (when_off D w m c s o a refuses (subst (λ (x : Option RunningMote). MoteStands c x s o) is stands))
 
-when_on : (D : Option Running → Does) (r : Result Turn Halt) (w : RuleWorld) (m : ℕ) (v : RunningMote) (u : Option RunningMote) (c : List ℕ) (s : Store) (o : Option Running) (a b : Device) → MoteStands c (Some v) s o
+when_on : (D : Option Running → Does) (r : Result EventTurn Halt) (w : RuleWorld) (m : ℕ) (v : RunningMote) (u : Option RunningMote) (c : List ℕ) (s : Store) (o : Option Running) (a b : Device) → MoteStands c (Some v) s o
     → ((x : Running) → MoteStands c (Some v) s (Some x) → TurnEnds r w m (D (Some x)) (Some v) u a b) → TurnEnds r w m (D o) (Some v) u a b
 when_on D r w m v u c s None a b stands on = absurd stands
 when_on D r w m v u c s (Some x) a b stands on = on x stands
 
-pub on_as : (D : Option Running → Does) (r : Result Turn Halt) (w : RuleWorld) (m : ℕ) (p : Option RunningMote) (v : RunningMote) (u : Option RunningMote) (c : List ℕ) (s : Store) (o : Option Running) (a b : Device) → p ≡ Some v → MoteStands c p s o
+pub on_as : (D : Option Running → Does) (r : Result EventTurn Halt) (w : RuleWorld) (m : ℕ) (p : Option RunningMote) (v : RunningMote) (u : Option RunningMote) (c : List ℕ) (s : Store) (o : Option Running) (a b : Device) → p ≡ Some v → MoteStands c p s o
     → ((x : Running) → MoteStands c (Some v) s (Some x) → TurnEnds r w m (D (Some x)) (Some v) u a b) → TurnEnds r w m (D o) p u a b
 on_as D r w m p v u c s o a b is stands on =
     subst (λ (x : Option RunningMote). TurnEnds r w m (D o) x u a b) (sym is) (when_on D r w m v u c s o a b (subst (λ (x : Option RunningMote). MoteStands c x s o) is stands) on)

@@ -11,13 +11,13 @@ use Rattle.dg_volume.specs.Stands.{Stands}
 use Rattle.dg_volume.specs.Trails.{BeginsAt}
 use Rattle.dg_rules.specs.World.{World as RuleWorld, store_at}
 use Rattle.dg_rules.specs.Events.{Does, trail_of}
-use Rattle.dg_world.specs.Turns.{Went, TurnEnds}
+use Rattle.dg_world.specs.Turns.{DeedWent, TurnEnds}
 use Rattle.dg_world.specs.declared.telling.StartLine.{StartLine}
 use Rattle.dg_world.specs.declared.world.RunningMote.{RunningMote}
 use Rattle.dg_world.specs.declared.telling.Fault.{Fault}
 use Rattle.dg_world.specs.declared.telling.Fault.TheVariants as fault
 use Rattle.dg_world.specs.Tellings.{halt_of}
-use Rattle.dg_world.specs.Turn.{Turn, Refused, Rests, Sends, Changes, Starts, Halt, Stopped, NotAVolume, NoImage}
+use Rattle.dg_world.specs.Turn.{EventTurn, Refused, Rests, Sends, Changes, Starts, Halt, Stopped, NotAVolume, NoImage}
 
 -- ---- before the first operation
 
@@ -66,10 +66,10 @@ stops_after t a b c l s =
     subst (λ (n : ℕ). Halted n (MayLeave Stands IsNear t) a c) e
     (Halted_second (MayLeave Stands IsNear t) l (λ k within x. let f : k ≡ 0 + k = omega arith in subst (λ (j : ℕ). MayLeave Stands IsNear t j c.image) f x) s)
 
-went_after : (w : RuleWorld) (m : ℕ) (does : Does) (u : Option RunningMote) (a b c : Device) (turn : Turn) → Ran 0 a b → Went w m does u b c turn → Went w m does u a c turn
+went_after : (w : RuleWorld) (m : ℕ) (does : Does) (u : Option RunningMote) (a b c : Device) (turn : EventTurn) → Ran 0 a b → DeedWent w m does u b c turn → DeedWent w m does u a c turn
 went_after w m does u a b c turn l x = record { deed = x.deed; goes = x.goes; ran = ran_after (operations x.deed.trail) a b c l x.ran; tells = x.tells }
 
-pub start_after : (w : RuleWorld) (m : ℕ) (does : Does) (u : Option RunningMote) (a b c : Device) (x : StartLine) → Ran 0 a b → Went w m does u b c (Starts x) → Went w m does u a c (Starts x)
+pub start_after : (w : RuleWorld) (m : ℕ) (does : Does) (u : Option RunningMote) (a b c : Device) (x : StartLine) → Ran 0 a b → DeedWent w m does u b c (Starts x) → DeedWent w m does u a c (Starts x)
 start_after w m does u a b c x l went = went_after w m does u a b c (Starts x) l went
 
 pub halt_after : (h : Halt) (w : RuleWorld) (m : ℕ) (does : Does) (v u : Option RunningMote) (a b c : Device) → Ran 0 a b → TurnEnds (Err h) w m does v u b c → TurnEnds (Err h) w m does v u a c
@@ -77,7 +77,7 @@ halt_after (Stopped before) w m does v u a b c l x = record { stops = stops_afte
 halt_after NoImage w m does v u a b c l x = record { deed = x.deed; goes = x.goes; none = x.none; ran = ran_after (operations x.deed.trail) a b c l x.ran; stands = x.stands }
 halt_after NotAVolume w m does v u a b c l x = x
 
-pub turn_after : (r : Result Turn Halt) (w : RuleWorld) (m : ℕ) (does : Does) (v u : Option RunningMote) (a b c : Device) → Looked a b → TurnEnds r w m does v u b c → TurnEnds r w m does v u a c
+pub turn_after : (r : Result EventTurn Halt) (w : RuleWorld) (m : ℕ) (does : Does) (v u : Option RunningMote) (a b c : Device) → Looked a b → TurnEnds r w m does v u b c → TurnEnds r w m does v u a c
 turn_after (Ok (Refused why)) w m does v u a b c l x = (x.0, looked_after a b c l x.1, x.2)
 turn_after (Ok Rests) w m does v u a b c l x = went_after w m does u a b c Rests l.ran x
 turn_after (Ok (Sends frame)) w m does v u a b c l x = went_after w m does u a b c (Sends frame) l.ran x

@@ -1,5 +1,5 @@
 -- Events that are refused without a look at the chip.
-use Rattle.std.proofs.Common.{◌≡◌, ℕ, zero, suc, ◌+◌, Bool, true, false, cond, eqb, ltb, List, [], ◌∷◌, length, subst, refl, sym, ap, ◌∙◌}
+use Rattle.std.proofs.Common.{◌≡◌, ℕ, zero, suc, Bool, true, false, cond, eqb, ltb, List, [], ◌∷◌, length, subst, refl, sym, ap, ◌∙◌}
 use Rattle.std.specs.Prelude.{if◌then◌else◌, ◌==◌, is_none, slice_get, slice_set, Option, Some, None, Result, Ok, Err, OnErr}
 use Rattle.dg_nor.specs.Device.{Device}
 use Rattle.dg_object.specs.Object.{Row}
@@ -13,7 +13,7 @@ use Rattle.dg_volume.specs.declared.volume.InjectFault.TheVariants as inject
 use Rattle.dg_volume.specs.declared.volume.OrderFault.{OrderFault}
 use Rattle.dg_volume.specs.declared.volume.OrderFault.TheVariants as order_fault
 use Rattle.dg_rules.specs.World.{World as RuleWorld, Running, site, store_at, wide_at, frame_at, linked, last_frame}
-use Rattle.dg_rules.specs.Events.{Does, Refuses, tick_by, hear_by, heard_sent, heard_last, unless_off, inject_unless, inject_row, order_unless, knows, injects, orders, does, mote_of, dt_of}
+use Rattle.dg_rules.specs.Events.{Does, Refuses, tick_does, hear_by, heard_sent, heard_last, unless_off, inject_unless, inject_row, order_unless, knows, injects, orders, does}
 use Rattle.dg_base.specs.declared.events.Event.{Event}
 use Rattle.dg_base.specs.declared.events.Event.TheVariants.{Tick, Hear, Last, Reset, Inject, Order as OrderEvent, Frame}
 use Rattle.dg_script.specs.declared.report.Cause.TheVariants as cause
@@ -23,7 +23,8 @@ use Rattle.dg_world.specs.Unseen.{RefusesUnseen}
 use Rattle.dg_world.specs.Turn.{Whole, Cut}
 use Rattle.dg_world.specs.Cuts.{ended}
 use Rattle.dg_world.specs.Tellings.{turn_of, halt_of, turned, ended_as}
-use Rattle.dg_world.specs.declared.shared.Shared.{Shared}
+use Rattle.dg_world.specs.Occasions.{HappensIn}
+use Rattle.dg_world.specs.declared.occasion.Occasion.{Occasion}
 use Rattle.dg_world.specs.declared.telling.Fault.{Fault}
 use Rattle.dg_world.specs.declared.telling.Power.{Power}
 use Rattle.dg_world.specs.declared.telling.Power.TheVariants as power
@@ -114,52 +115,62 @@ abbrev pub Unused : {N E : Type 0} (r : Result (Unit {0}) E) (old new : N) → T
 Unused r old new = (new ≡ old) × OnErr r ⊥
 
 -- what the clause `unseen` of `happen` says
-abbrev pub StaysUnused : {N E : Type 0} → Result (Unit {0}) E → (old new : N) → RuleWorld → Shared → Device → Option RunningMote → ℕ → Event → Type 0
-StaysUnused r old new w shared a v now event =
-    IsShared shared w → SiteStands a v (site w (mote_of event)) → now ≡ w.moment + dt_of event → RefusesUnseen (does w event) → Unused r old new
+abbrev pub StaysUnused : {N E : Type 0} → Result (Unit {0}) E → (old new : N) → RuleWorld → Occasion → Device → Option RunningMote → Event → Type 0
+StaysUnused r old new w o a v event = HappensIn o w event a v → RefusesUnseen (does w event) → Unused r old new
 
-module _ {N E : Type 0} (r : Result (Unit {0}) E) (old new : N) (w : RuleWorld) (shared : Shared) (a : Device) (v : Option RunningMote) (now : ℕ) where
-  at_moment : (D : ℕ → Does) (moment : ℕ) → now ≡ moment → RefusesUnseen (D moment) → RefusesUnseen (D now)
+module _ {N E : Type 0} (r : Result (Unit {0}) E) (old new : N) (w : RuleWorld) (o : Occasion) (a : Device) (v : Option RunningMote) where
+  -- at the moment of the event
+  at_moment : (D : ℕ → Does) (moment : ℕ) → o.moment ≡ moment → RefusesUnseen (D moment) → RefusesUnseen (D o.moment)
   at_moment D moment e unseen = subst (λ (n : ℕ). RefusesUnseen (D n)) (sym e) unseen
 
-  pub tick_unseen : (m dt word : ℕ) → (SiteStands a v (site w m) → RefusesUnseen (tick_by w (store_at w m) (site w m).runs now word) → Unused r old new) → StaysUnused r old new w shared a v now (Tick m dt word)
-  unfolding does
-  tick_unseen m dt word stays = λ is stands at unseen. stays stands (at_moment (λ n. tick_by w (store_at w m) (site w m).runs n word) _ at unseen)
+  -- at its mote too
+  placed : (m moment : ℕ) (D : ℕ → ℕ → Does) → o.mote ≡ m → o.moment ≡ moment
+      → (SiteStands a v (site w o.mote) → RefusesUnseen (D o.mote o.moment) → Unused r old new) → SiteStands a v (site w m) → RefusesUnseen (D m moment) → Unused r old new
+  placed m moment D here at stays =
+      subst (λ (k : ℕ). SiteStands a v (site w k) → RefusesUnseen (D k moment) → Unused r old new) here
+      (subst (λ (n : ℕ). SiteStands a v (site w o.mote) → RefusesUnseen (D o.mote n) → Unused r old new) at stays)
 
-  pub hear_unseen : (m dt word number : ℕ) → (IsShared shared w → SiteStands a v (site w m) → RefusesUnseen (unless_off (site w m).runs (heard_sent w m now word (frame_at w number))) → Unused r old new)
-      → StaysUnused r old new w shared a v now (Hear m dt word number)
+  pub tick_unseen : (m dt word : ℕ) → (SiteStands a v (site w m) → RefusesUnseen (tick_does w (store_at w m) (site w m).runs o.moment word) → Unused r old new) → StaysUnused r old new w o a v (Tick m dt word)
   unfolding does
-  hear_unseen m dt word number stays = λ is stands at unseen. stays is stands (at_moment (λ n. unless_off (site w m).runs (heard_sent w m n word (frame_at w number))) _ at unseen)
+  tick_unseen m dt word stays = λ on unseen. stays on.stands (at_moment (λ n. tick_does w (store_at w m) (site w m).runs n word) _ on.moment unseen)
 
-  pub last_unseen : (from to dt word : ℕ)
-      → (IsShared shared w → SiteStands a v (site w to) → RefusesUnseen (unless_off (site w to).runs (if linked w from to then heard_last w from to now word (last_frame w from) else Refuses cause.Link)) → Unused r old new)
-      → StaysUnused r old new w shared a v now (Last from to dt word)
+  pub hear_unseen : (m dt word number : ℕ) → o.mote ≡ m
+      → (IsShared o.shared.now w → SiteStands a v (site w o.mote) → RefusesUnseen (unless_off (site w o.mote).runs (heard_sent w o.mote o.moment word (frame_at w number))) → Unused r old new)
+      → StaysUnused r old new w o a v (Hear m dt word number)
   unfolding does
-  last_unseen from to dt word stays = λ is stands at unseen.
-      stays is stands (at_moment (λ n. unless_off (site w to).runs (if linked w from to then heard_last w from to n word (last_frame w from) else Refuses cause.Link)) _ at unseen)
+  hear_unseen m dt word number here stays = λ on unseen.
+      placed m _ (λ k n. unless_off (site w k).runs (heard_sent w k n word (frame_at w number))) here on.moment (stays on.shared) on.stands unseen
 
-  pub frame_unseen : (m dt word : ℕ) (bytes : List ℕ) → (SiteStands a v (site w m) → RefusesUnseen (hear_by w (store_at w m) (site w m).runs now word bytes) → Unused r old new) → StaysUnused r old new w shared a v now (Frame m dt word bytes)
+  pub last_unseen : (from to dt word : ℕ) → o.mote ≡ to
+      → (IsShared o.shared.now w → SiteStands a v (site w o.mote)
+      → RefusesUnseen (unless_off (site w o.mote).runs (if linked w from o.mote then heard_last w from o.mote o.moment word (last_frame w from) else Refuses cause.Link)) → Unused r old new)
+      → StaysUnused r old new w o a v (Last from to dt word)
   unfolding does
-  frame_unseen m dt word bytes stays = λ is stands at unseen. stays stands (at_moment (λ n. hear_by w (store_at w m) (site w m).runs n word bytes) _ at unseen)
+  last_unseen from to dt word here stays = λ on unseen.
+      placed to _ (λ k n. unless_off (site w k).runs (if linked w from k then heard_last w from k n word (last_frame w from) else Refuses cause.Link)) here on.moment (stays on.shared) on.stands unseen
 
-  pub reset_unseen : (m dt word : ℕ) → StaysUnused r old new w shared a v now (Reset m dt word)
+  pub frame_unseen : (m dt word : ℕ) (bytes : List ℕ) → (SiteStands a v (site w m) → RefusesUnseen (hear_by w (store_at w m) (site w m).runs o.moment word bytes) → Unused r old new) → StaysUnused r old new w o a v (Frame m dt word bytes)
   unfolding does
-  reset_unseen m dt word = λ is stands at unseen. absurd unseen
+  frame_unseen m dt word bytes stays = λ on unseen. stays on.stands (at_moment (λ n. hear_by w (store_at w m) (site w m).runs n word bytes) _ on.moment unseen)
 
-  pub inject_unseen : (m image version dt word : ℕ)
-      → (IsShared shared w → RefusesUnseen (if knows (wide_at w m) image then injects w m image version now word else Refuses cause.Image) → Unused r old new)
-      → StaysUnused r old new w shared a v now (Inject m image version dt word)
+  pub reset_unseen : (m dt word : ℕ) → StaysUnused r old new w o a v (Reset m dt word)
   unfolding does
-  inject_unseen m image version dt word stays = λ is stands at unseen.
-      stays is (at_moment (λ n. if knows (wide_at w m) image then injects w m image version n word else Refuses cause.Image) _ at unseen)
+  reset_unseen m dt word = λ on unseen. absurd unseen
 
-  pub order_unseen : (m number image version dt word : ℕ)
-      → (IsShared shared w → RefusesUnseen (if knows (wide_at w m) image then orders w m (record { number = number; image = image; version = version }) now word else Refuses cause.Image) → Unused r old new)
-      → StaysUnused r old new w shared a v now (OrderEvent m number image version dt word)
+  pub inject_unseen : (m image version dt word : ℕ) → o.mote ≡ m
+      → (IsShared o.shared.now w → RefusesUnseen (if knows (wide_at w o.mote) image then injects w o.mote image version o.moment word else Refuses cause.Image) → Unused r old new)
+      → StaysUnused r old new w o a v (Inject m image version dt word)
   unfolding does
-  order_unseen m number image version dt word stays = λ is stands at unseen.
+  inject_unseen m image version dt word here stays = λ on unseen.
+      placed m _ (λ k n. if knows (wide_at w k) image then injects w k image version n word else Refuses cause.Image) here on.moment (λ stands. stays on.shared) on.stands unseen
+
+  pub order_unseen : (m number image version dt word : ℕ) → o.mote ≡ m
+      → (IsShared o.shared.now w → RefusesUnseen (if knows (wide_at w o.mote) image then orders w o.mote (record { number = number; image = image; version = version }) o.moment word else Refuses cause.Image) → Unused r old new)
+      → StaysUnused r old new w o a v (OrderEvent m number image version dt word)
+  unfolding does
+  order_unseen m number image version dt word here stays = λ on unseen.
       let order : Order = record { number = number; image = image; version = version } in
-      stays is (at_moment (λ n. if knows (wide_at w m) image then orders w m order n word else Refuses cause.Image) _ at unseen)
+      placed m _ (λ k n. if knows (wide_at w k) image then orders w k order n word else Refuses cause.Image) here on.moment (λ stands. stays on.shared) on.stands unseen
 
 -- ---- over a fuse
 

@@ -13,6 +13,7 @@ use Rattle.dg_mote.specs.Timely.{Timely}
 use Rattle.dg_rules.specs.World.{World as RuleWorld, Site, site, first_world, off_site, no_site}
 use Rattle.dg_world.specs.Airs.{Carries}
 use Rattle.dg_world.specs.Images.{NothingDeclared}
+use Rattle.dg_world.specs.Neighbours.{KnowsLinks}
 use Rattle.dg_world.specs.Shareds.{IsShared}
 use Rattle.dg_world.specs.Worlds.{SiteStands, IsWorld}
 use Rattle.dg_world.specs.declared.shared.Shared.{Shared}
@@ -31,7 +32,7 @@ stands_off d v x s off at stands =
 off_timely : (x : Site) (s : Store) (now : ℕ) → x ≡ off_site s → IfSome x.runs (λ r. Timely r.mote now)
 off_timely x s now at = subst (λ (y : Site). IfSome y.runs (λ r. Timely r.mote now)) (sym at) tt
 
-pub begins : (v : World) (boards : List Device) (stores : List Store) (table : List Row) (links : List (ℕ × ℕ)) (narrow : List Bool) (n : ℕ) → v.moment ≡ 0 → v.events ≡ 0 → NothingDeclared v.shared.images → links ≡ v.shared.links.pairs → narrow ≡ v.shared.narrow → Carries v.shared.air []
+pub begins : (v : World) (boards : List Device) (stores : List Store) (table : List Row) (links : List (ℕ × ℕ)) (narrow : List Bool) (n : ℕ) → v.moment ≡ 0 → v.events ≡ 0 → NothingDeclared v.shared.images → KnowsLinks v.shared.links.neighbours links → narrow ≡ v.shared.narrow → Carries v.shared.air []
     → v.motes.items ≡ replicate n None → n ≤ most_motes → length stores ≡ n → n ≤ length boards → ((m : ℕ) (d : Device) → m < n → slice_get boards m ≡ Some d → Stands d.image (slice_index_or stores m no_site.store)) → ((m : ℕ) → known_of v m ≡ false)
     → IsWorld v boards (first_world table links narrow stores)
 begins v boards stores table links narrow n start none nothing linked radios silent off few count enough stand unknown =

@@ -43,7 +43,8 @@ abbrev pub uncut : Event → Step
 uncut event = record { event = event; cut = None }
 
 -- The event was done at its board, and is a step of the world.
-pub record AloneDone (w : RuleWorld) (event : Event) (u : Option RunningMote) (frame : Option (List ℕ)) (new : Device) : Type 0 where
+pub record AloneDone (w : RuleWorld) (event : Event) (u : Option RunningMote) (frame : Option (List ℕ)) (new : Device) : Type
+    0 where
   pub told : List Report
   pub done : StepDone w (uncut event) true u frame new [] told
 
@@ -61,7 +62,8 @@ CountKeeps (Err fault.Stopped) old new = Unit {0}
 CountKeeps (Err fault.NotAVolume) old new = new.faults ≡ old.faults
 CountKeeps (Err fault.NoImage) old new = new.faults ≡ old.faults
 
-pub record PlaysAlone (r : Result Outbox Fault) (w : RuleWorld) (event : Event) (u : Option RunningMote) (old new : Device) : Type 0 where
+pub record PlaysAlone (r : Result Outbox Fault) (w : RuleWorld) (event : Event) (u : Option RunningMote)
+    (old new : Device) : Type 0 where
   pub ends : AloneEnds r w event u new
   pub endures : Endures (beneath_of old) (beneath_of new)
   pub count : CountKeeps r old new

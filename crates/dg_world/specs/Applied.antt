@@ -1,5 +1,6 @@
 -- What a step does to a world and its boards.
-use Rattle.std.specs.Prelude.{◌≡◌, ◌≢◌, ◌⊎◌, ℕ, ◌-◌, ◌<◌, ◌≤◌, Bool, true, false, List, ◌++◌, length, slice_get, Some, IfSome, Result, Ok, Err}
+use Rattle.std.specs.Prelude.{◌≡◌, ◌≢◌, ◌⊎◌, ℕ, ◌-◌, ◌<◌, ◌≤◌, Bool, true, false, List, ◌++◌, length, slice_get, Some, IfSome}
+use Rattle.std.specs.Prelude.{Result, Ok, Err}
 use Rattle.std.specs.List.{filter}
 use Rattle.dg_words.specs.Counts.{Rose}
 use Rattle.dg_nor.specs.Device.{Device, Endures}
@@ -19,7 +20,8 @@ use Rattle.dg_rules.specs.Steps.{WorldStep, EndsRun, blows}
 use Rattle.dg_base.specs.declared.events.Step.{Step}
 use Rattle.dg_script.specs.declared.report.Report.{Report}
 use Rattle.dg_world.specs.declared.world.WorldFault.{WorldFault}
-use Rattle.dg_world.specs.declared.world.WorldFault.TheVariants.{Memory, Flash, TooMany, NotAVolume as NotAVolumeFault, NoImage as NoImageFault}
+use Rattle.dg_world.specs.declared.world.WorldFault.TheVariants.{Memory, Flash, TooMany, NotAVolume as NotAVolumeFault}
+use Rattle.dg_world.specs.declared.world.WorldFault.TheVariants.{NoImage as NoImageFault}
 use Rattle.dg_world.specs.declared.world.World.{World}
 use Rattle.dg_world.specs.Worlds.{IsWorld}
 use Rattle.dg_world.specs.Counts.{NoneRose}
@@ -30,10 +32,13 @@ pub record OneBoard (board : ℕ) (old new : List Device) : Type 0 where
   pub count : length new ≡ length old
   pub others : (m : ℕ) → m ≢ board → slice_get new m ≡ slice_get old m
   pub counts : (m : ℕ) (a b : Device) → slice_get old m ≡ Some a → slice_get new m ≡ Some b → a.faults ≤ b.faults
-  pub endures : (m : ℕ) (a b : Device) → slice_get old m ≡ Some a → slice_get new m ≡ Some b → Endures (beneath_of a) (beneath_of b)
+  pub endures : (m : ℕ) (a b : Device) → slice_get old m ≡ Some a → slice_get new m ≡ Some b
+      → Endures (beneath_of a) (beneath_of b)
 
--- a step was applied: what the rules allow, told as it should be. No board's count rose, also where a cut blew. Where something was started, its pages stand in program memory
-pub record Applied (w : RuleWorld) (x : Step) (loud : Bool) (v : World) (old new : List Device) (told_before told : List Report) : Type 0 where
+-- a step was applied: what the rules allow, told as it should be. No board's count rose, also where a cut blew.
+-- Where something was started, its pages stand in program memory
+pub record Applied (w : RuleWorld) (x : Step) (loud : Bool) (v : World) (old new : List Device)
+    (told_before told : List Report) : Type 0 where
   pub world : RuleWorld
   pub reports : List Report
   pub step : WorldStep w x world reports
@@ -44,7 +49,8 @@ pub record Applied (w : RuleWorld) (x : Step) (loud : Bool) (v : World) (old new
   pub memory : (d : Deed) (r : Runs) (b : Device) → does w x.event ≡ Goes d → blows x.cut d.trail ≡ false → d.started ≡ Some r
       → slice_get new (mote_of x.event) ≡ Some b → program b.image (length r.pages) ≡ r.pages
 
--- A board stopped: it is that of the event's mote, and stands for a store that the event's trail leaves where so many operations were done. A cut that the step has did not come before.
+-- A board stopped: it is that of the event's mote, and stands for a store that the event's trail leaves where so many operations
+-- were done. A cut that the step has did not come before.
 pub record FlashAt (w : RuleWorld) (x : Step) (board : ℕ) (old new : List Device) : Type 0 where
   pub at : board ≡ mote_of x.event
   pub before : Device
@@ -60,7 +66,7 @@ pub record FlashAt (w : RuleWorld) (x : Step) (board : ℕ) (old new : List Devi
   pub boards : OneBoard board old new
 
 -- A start found no image: the boards stand for the world in which the run ended, and no board's count rose.
-pub record Ended (w : RuleWorld) (x : Step) (old new : List Device) : Type 0 where
+pub record RunEnded (w : RuleWorld) (x : Step) (old new : List Device) : Type 0 where
   pub world : RuleWorld
   pub ends : EndsRun w x world
   pub stood : (m : ℕ) (d : Device) → m < length world.sites → slice_get new m ≡ Some d → Stands d.image (store_at world m)
@@ -72,7 +78,8 @@ pub record SameBoards (old new : List Device) : Type 0 where
   pub count : length new ≡ length old
   pub images : (m : ℕ) (a b : Device) → slice_get old m ≡ Some a → slice_get new m ≡ Some b → b.image ≡ a.image
   pub counts : (m : ℕ) (a b : Device) → slice_get old m ≡ Some a → slice_get new m ≡ Some b → a.faults ≤ b.faults
-  pub endures : (m : ℕ) (a b : Device) → slice_get old m ≡ Some a → slice_get new m ≡ Some b → Endures (beneath_of a) (beneath_of b)
+  pub endures : (m : ℕ) (a b : Device) → slice_get old m ≡ Some a → slice_get new m ≡ Some b
+      → Endures (beneath_of a) (beneath_of b)
 
 -- A board stopped in such a reading.
 pub record ReadFlash (board : ℕ) (old new : List Device) : Type 0 where
@@ -90,10 +97,11 @@ fault_of (Stopped before) mote = Flash mote
 fault_of NotAVolume mote = NotAVolumeFault
 fault_of NoImage mote = NoImageFault
 
-abbrev pub ApplyEnds : Result (Unit {0}) WorldFault → RuleWorld → Step → (loud : Bool) → World → List Device → List Device → List Report → List Report → Type 0
+abbrev pub ApplyEnds : Result (Unit {0}) WorldFault → RuleWorld → Step → (loud : Bool) → World → List Device → List Device
+    → List Report → List Report → Type 0
 ApplyEnds (Ok u) w x loud v old new told_before told = Applied w x loud v old new told_before told
 ApplyEnds (Err (Flash board)) w x loud v old new told_before told = FlashAt w x board old new × (told ≡ told_before)
-ApplyEnds (Err NoImageFault) w x loud v old new told_before told = Ended w x old new × (told ≡ told_before)
+ApplyEnds (Err NoImageFault) w x loud v old new told_before told = RunEnded w x old new × (told ≡ told_before)
 ApplyEnds (Err NotAVolumeFault) w x loud v old new told_before told = ⊥
 ApplyEnds (Err Memory) w x loud v old new told_before told = ⊥
 ApplyEnds (Err TooMany) w x loud v old new told_before told = ⊥

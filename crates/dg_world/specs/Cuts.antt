@@ -9,14 +9,15 @@ use Rattle.dg_rules.specs.World.{World as RuleWorld, store_at}
 use Rattle.dg_rules.specs.Events.{Deed, Does, Refuses, Goes, trail_of}
 use Rattle.dg_rules.specs.Steps.{blows, before_cut}
 use Rattle.dg_base.specs.declared.events.Cut.{Cut as PowerCut}
-use Rattle.dg_world.specs.Turns.{Tells, BeforeShows}
+use Rattle.dg_world.specs.Turns.{TellsDeed, BeforeShows}
 use Rattle.dg_world.specs.Counts.{CountStays}
 use Rattle.dg_world.specs.declared.shown.Shown.{Shown}
 use Rattle.dg_world.specs.declared.world.RunningMote.{RunningMote}
-use Rattle.dg_world.specs.Turn.{Turn, Refused, Rests, Sends, Changes, Starts, Halt, Stopped, NotAVolume, NoImage, Ended, Whole, Cut}
+use Rattle.dg_world.specs.Turn.{EventTurn, Refused, Rests, Sends, Changes, Starts, Halt, Stopped, NotAVolume, NoImage, TurnEnded}
+use Rattle.dg_world.specs.Turn.{Whole, Cut}
 
 -- how an event ended that answered this, where a cut blew over a board that is not stopped itself, or not
-abbrev pub ended : Bool → Result Turn Halt → Result Ended Halt
+abbrev pub ended : Bool → Result EventTurn Halt → Result TurnEnded Halt
 ended blown (Ok turn) = Ok (Whole turn)
 ended true (Err (Stopped before)) = Ok (Cut before)
 ended false (Err (Stopped before)) = Err (Stopped before)
@@ -24,14 +25,16 @@ ended blown (Err NotAVolume) = Err NotAVolume
 ended blown (Err NoImage) = Err NoImage
 
 -- the whole event was done, and no cut blew
-pub record IsWhole (w : RuleWorld) (m : ℕ) (does : Does) (cut : Option PowerCut) (u : Option RunningMote) (image : List ℕ) (turn : Turn) : Type 0 where
+pub record EventIsWhole (w : RuleWorld) (m : ℕ) (does : Does) (cut : Option PowerCut) (u : Option RunningMote)
+    (image : List ℕ) (turn : EventTurn) : Type 0 where
   pub deed : Deed
   pub goes : does ≡ Goes deed
   pub whole : blows cut deed.trail ≡ false
-  pub tells : Tells w m deed turn u image
+  pub tells : TellsDeed w m deed turn u image
 
 -- the cut blew in the operation with its number
-pub record IsBlown (w : RuleWorld) (m : ℕ) (does : Does) (cut : Option PowerCut) (image : List ℕ) (before : Option Shown) : Type 0 where
+pub record EventIsCut (w : RuleWorld) (m : ℕ) (does : Does) (cut : Option PowerCut) (image : List ℕ)
+    (before : Option Shown) : Type 0 where
   pub deed : Deed
   pub goes : does ≡ Goes deed
   pub blown : blows cut deed.trail ≡ true
@@ -54,20 +57,22 @@ pub record IsLacking (does : Does) (cut : Option PowerCut) (image : List ℕ) : 
   pub whole : blows cut deed.trail ≡ false
   pub stands : Stands image (last deed.trail)
 
-abbrev pub PlayEnds : Result Ended Halt → RuleWorld → (m : ℕ) → Does → Option PowerCut → (v u : Option RunningMote) → Device → Device → Type 0
+abbrev pub PlayEnds : Result TurnEnded Halt → RuleWorld → (m : ℕ) → Does → Option PowerCut → (v u : Option RunningMote)
+    → Device → Device → Type 0
 PlayEnds (Ok (Whole (Refused why))) w m does cut v u old new = (does ≡ Refuses why) × (new.image ≡ old.image) × (u ≡ v)
-PlayEnds (Ok (Whole Rests)) w m does cut v u old new = IsWhole w m does cut u new.image Rests
-PlayEnds (Ok (Whole (Sends frame))) w m does cut v u old new = IsWhole w m does cut u new.image (Sends frame)
-PlayEnds (Ok (Whole (Changes a b))) w m does cut v u old new = IsWhole w m does cut u new.image (Changes a b)
-PlayEnds (Ok (Whole (Starts x))) w m does cut v u old new = IsWhole w m does cut u new.image (Starts x)
-PlayEnds (Ok (Cut before)) w m does cut v u old new = IsBlown w m does cut new.image before
+PlayEnds (Ok (Whole Rests)) w m does cut v u old new = EventIsWhole w m does cut u new.image Rests
+PlayEnds (Ok (Whole (Sends frame))) w m does cut v u old new = EventIsWhole w m does cut u new.image (Sends frame)
+PlayEnds (Ok (Whole (Changes a b))) w m does cut v u old new = EventIsWhole w m does cut u new.image (Changes a b)
+PlayEnds (Ok (Whole (Starts x))) w m does cut v u old new = EventIsWhole w m does cut u new.image (Starts x)
+PlayEnds (Ok (Cut before)) w m does cut v u old new = EventIsCut w m does cut new.image before
 PlayEnds (Err (Stopped before)) w m does cut v u old new = IsStopped w m does cut new
 PlayEnds (Err NoImage) w m does cut v u old new = IsLacking does cut new.image
 PlayEnds (Err NotAVolume) w m does cut v u old new = ⊥
 
 -- The event ended so, and the board's count did not fall: it is stopped only where it was, or where its count rose. The count
 -- stays unless the board stopped, also where a cut blew.
-pub record Played (r : Result Ended Halt) (w : RuleWorld) (m : ℕ) (does : Does) (cut : Option PowerCut) (v u : Option RunningMote) (old new : Device) : Type 0 where
+pub record EventPlayed (r : Result TurnEnded Halt) (w : RuleWorld) (m : ℕ) (does : Does) (cut : Option PowerCut)
+    (v u : Option RunningMote) (old new : Device) : Type 0 where
   pub ends : PlayEnds r w m does cut v u old new
   pub endures : Endures (beneath_of old) (beneath_of new)
   pub count : CountStays r old new

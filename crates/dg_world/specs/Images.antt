@@ -19,7 +19,8 @@ found images key = lookup (is_key key) images.by_key.entries
 
 -- the images are the declared rows
 pub record Declares (images : Images) (rows : List Row) : Type 0 where
-  pub each : (image version : ℕ) → option_map (row_of_image (record { image = image; version = version })) (found images (record { image = image; version = version })) ≡ row_at rows image version
+  pub each : (image version : ℕ) → option_map (row_of_image (record { image = image; version = version }))
+      (found images (record { image = image; version = version })) ≡ row_at rows image version
 
 abbrev pub NothingDeclared : Images → Type 0
 NothingDeclared images = (key : Key) → found images key ≡ None

@@ -1,5 +1,5 @@
 -- Boards that are known: they may be mounted again by halving.
-use Rattle.std.specs.Prelude.{◌≡◌, ◌≢◌, ◌↔◌, ◌+◌, ◌*◌, ◌≤◌, ℕ, Bool, true, List, Option, Some, None, IsSomeAnd}
+use Rattle.std.specs.Prelude.{◌≡◌, ◌≢◌, ◌↔◌, ◌+◌, ◌*◌, ◌≤◌, ℕ, Bool, true, List, Option, Some, None}
 use Rattle.std.specs.FinSet as set
 use Rattle.dg_nor.specs.Device.{Device, Took}
 use Rattle.dg_control.specs.Sizes.{place_size}
@@ -15,7 +15,7 @@ use Rattle.dg_base.specs.declared.events.Event.{Event}
 use Rattle.dg_base.specs.declared.events.Event.TheVariants.{Tick, Hear, Last, Reset, Inject, Order as OrderEvent, Frame}
 use Rattle.dg_script.specs.declared.report.Cause.{Cause}
 use Rattle.dg_script.specs.declared.report.Cause.TheVariants as cause
-use Rattle.dg_world.specs.Turn.{Turn, Refused, Rests, Sends, Changes, Starts}
+use Rattle.dg_world.specs.Turn.{EventTurn, Refused, Rests, Sends, Changes, Starts}
 use Rattle.dg_world.specs.Tellings.{turn_of}
 use Rattle.dg_world.specs.declared.telling.Telling.{Telling}
 use Rattle.dg_world.specs.declared.world.RunningMote.{RunningMote}
@@ -35,7 +35,8 @@ pub record IsLookedInto (deed : Does) : Type 0 where
   pub not_reserved : deed ≢ Refuses cause.Reserved
   pub declared : deed ≢ Refuses cause.Image
 
--- The event makes the board of its mote known, where that is orderly then: a reset, and an injection or an order that looks at the chip.
+-- The event makes the board of its mote known, where that is orderly then: a reset,
+-- and an injection or an order that looks at the chip.
 abbrev pub MakesKnown : RuleWorld → Event → Type 0
 MakesKnown w (Tick mote dt word) = ⊥
 MakesKnown w (Hear mote dt word frame) = ⊥
@@ -52,7 +53,7 @@ abbrev pub SeesOrder : Bool → List ℕ → Type 0
 SeesOrder orderly c = (orderly ≡ true) ↔ IsOrderlyChip c
 
 -- refused without a look at the chip, as an injection or an order may be
-abbrev pub IsUndeclared : Turn → Type 0
+abbrev pub IsUndeclared : EventTurn → Type 0
 IsUndeclared (Refused cause.Image) = Unit {0}
 IsUndeclared (Refused cause.Reserved) = Unit {0}
 IsUndeclared (Refused cause.Off) = ⊥
@@ -70,7 +71,7 @@ IsUndeclared (Changes old new) = ⊥
 IsUndeclared (Starts line) = ⊥
 
 -- an injection or an order tells whether the chip is orderly, or did not look at it
-abbrev pub SeesInjected : Option Bool → Turn → List ℕ → List ℕ → Type 0
+abbrev pub SeesInjected : Option Bool → EventTurn → List ℕ → List ℕ → Type 0
 SeesInjected (Some orderly) turn c d = SeesOrder orderly d
 SeesInjected None turn c d = (d ≡ c) × IsUndeclared turn
 
@@ -92,7 +93,8 @@ EventSees (Reset mote dt word) t u c d = SeesStart t u
 EventSees (Inject mote image version dt word) t u c d = SeesInjected t.orderly (turn_of t) c d
 EventSees (OrderEvent mote number image version dt word) t u c d = SeesInjected t.orderly (turn_of t) c d
 
--- A step tells whether the chip is orderly, or a mote is off after it whose board is as it was where it was known, and was not made known.
+-- A step tells whether the chip is orderly, or a mote is off after it whose board is as it was where it was known,
+-- and was not made known.
 abbrev pub StepSees : RuleWorld → Event → Bool → Option Bool → Option RunningMote → List ℕ → List ℕ → Type 0
 StepSees w event known (Some orderly) u c d = SeesOrder orderly d
 StepSees w event known None u c d = u ≡ None → (known ≡ true → d ≡ c) × (MakesKnown w event → ⊥)
@@ -104,7 +106,8 @@ SeesCut w event known None c = (known ≡ true → ⊥) × (MakesKnown w event �
 
 -- Whether a board is known afterwards: as the mote tells that is on, or as was seen; else as it was before.
 abbrev pub KnownAfter : Bool → Option Bool → Option RunningMote → List ℕ → Bool → Type 0
-KnownAfter known seen (Some r) c result = IsControlOf c (control_of (volume_of r.mote)) → (result ≡ true) ↔ ((known ≡ true) × IsOrderlyChip c)
+KnownAfter known seen (Some r) c result =
+    IsControlOf c (control_of (volume_of r.mote)) → (result ≡ true) ↔ ((known ≡ true) × IsOrderlyChip c)
 KnownAfter known (Some orderly) None c result = (result ≡ true) ↔ ((known ≡ true) × (orderly ≡ true))
 KnownAfter known None None c result = result ≡ known
 
@@ -126,9 +129,11 @@ beyond (cause.OldOrder number) = 0
 
 -- a refused injection mounts a known board again, and may look at a page
 abbrev pub InjectReads : Bool → Option Cause → Device → Device → Type 0
-InjectReads known refused a b = known ≡ true → (n : ℕ) (why : Cause) → RemountBytes a.image n → refused ≡ Some why → Took (n + beyond why) a b
+InjectReads known refused a b =
+    known ≡ true → (n : ℕ) (why : Cause) → RemountBytes a.image n → refused ≡ Some why → Took (n + beyond why) a b
 
--- An order mounts a known board again and reads nothing else. The board stays one that is known, and mounting it once more reads one place more at most.
+-- An order mounts a known board again and reads nothing else. The board stays one that is known,
+-- and mounting it once more reads one place more at most.
 pub record OrderReads (known : Bool) (a b : Device) : Type 0 where
   pub took : known ≡ true → (n : ℕ) → RemountBytes a.image n → Took n a b
   pub stays : IsKnownChip a.image → IsKnownChip b.image
@@ -161,9 +166,11 @@ IsOrder (Reset mote dt word) = ⊥
 IsOrder (Inject mote image version dt word) = ⊥
 IsOrder (OrderEvent mote number image version dt word) = Unit {0}
 
--- What an event reads of a known board, which is mounted again by n bytes: an order as many twice and 64 more, since a cut that blew mounts once more; an injection that is refused once.
+-- What an event reads of a known board, which is mounted again by n bytes: an order as many twice and 64 more,
+-- since a cut that blew mounts once more; an injection that is refused once.
 pub record OrderTakes (event : Event) (a b : Device) : Type 0 where
   pub took : IsOrder event → (n : ℕ) → RemountBytes a.image n → Took (2 * n + place_size) a b
 
 pub record InjectTakes (w : RuleWorld) (event : Event) (a b : Device) : Type 0 where
-  pub took : IsInject event → (n : ℕ) (why : Cause) → does w event ≡ Refuses why → RemountBytes a.image n → Took (n + beyond why) a b
+  pub took : IsInject event → (n : ℕ) (why : Cause) → does w event ≡ Refuses why → RemountBytes a.image n
+      → Took (n + beyond why) a b

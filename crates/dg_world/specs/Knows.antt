@@ -14,4 +14,5 @@ IsMadeKnown w event v m = (known_of v m ≡ true) ⊎ ((mote_of event ≡ m) × 
 
 -- Exactly those boards are known that are orderly and were known, or were made known.
 pub record KnowsThen (w : RuleWorld) (event : Event) (old new : World) (boards : List Device) : Type 0 where
-  pub exactly : (m : ℕ) (d : Device) → m < length w.sites → slice_get boards m ≡ Some d → (known_of new m ≡ true) ↔ (IsOrderlyChip d.image × IsMadeKnown w event old m)
+  pub exactly : (m : ℕ) (d : Device) → m < length w.sites → slice_get boards m ≡ Some d
+      → (known_of new m ≡ true) ↔ (IsOrderlyChip d.image × IsMadeKnown w event old m)

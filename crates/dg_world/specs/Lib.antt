@@ -4,8 +4,10 @@ pub mod Neighbours
 pub mod Shareds
 pub mod Worlds
 pub mod Knows
+pub mod Occasions
 pub mod Counts
 pub mod Applied
+pub mod Applying
 pub mod Formatted
 pub mod Shown
 pub mod Turn

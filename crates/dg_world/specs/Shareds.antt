@@ -3,10 +3,11 @@ use Rattle.std.specs.Prelude.{◌≡◌}
 use Rattle.dg_rules.specs.World.{World as RuleWorld}
 use Rattle.dg_world.specs.Airs.{Carries}
 use Rattle.dg_world.specs.Images.{Declares}
+use Rattle.dg_world.specs.Neighbours.{KnowsLinks}
 use Rattle.dg_world.specs.declared.shared.Shared.{Shared}
 
 pub record IsShared (v : Shared) (w : RuleWorld) : Type 0 where
   pub declared : Declares v.images w.declared
-  pub links : w.links ≡ v.links.pairs
+  pub links : KnowsLinks v.links.neighbours w.links
   pub narrow : w.narrow ≡ v.narrow
   pub sent : Carries v.air w.sent

@@ -19,11 +19,13 @@ abbrev pub have_shown : ℕ → ℕ → Option Kept → Option Kept → Option R
 have_shown m i None None = None
 have_shown m i (Some old) None = Some (Lost m i)
 have_shown m i None (Some new) = Some (Have m i new.version new.done)
-have_shown m i (Some old) (Some new) = if (old.version == new.version) && (old.done == new.done) then None else Some (Have m i new.version new.done)
+have_shown m i (Some old) (Some new) =
+    if (old.version == new.version) && (old.done == new.done) then None else Some (Have m i new.version new.done)
 
 -- of the first n images
 abbrev pub haves_shown : ℕ → Shown → Shown → ℕ → List Report
-haves_shown m old new n = filter_map (λ i. have_shown m i (slice_index_or old.kept i None) (slice_index_or new.kept i None)) (range_with_len 0 n)
+haves_shown m old new n =
+    filter_map (λ i. have_shown m i (slice_index_or old.kept i None) (slice_index_or new.kept i None)) (range_with_len 0 n)
 
 abbrev pub changes_shown : ℕ → Shown → Shown → List Report
 changes_shown m old new = order_change m old.order new.order ++ haves_shown m old new images

@@ -1,5 +1,6 @@
 -- What is told of a step, and where it leaves the board.
-use Rattle.std.specs.Prelude.{◌≡◌, ℕ, ◌+◌, Bool, true, false, slice_set, length, List, ◌++◌, Option, Some, Result, Ok, Err}
+use Rattle.std.specs.Prelude.{◌≡◌, ℕ, ◌+◌, Bool, true, false, slice_set, length, List, ◌++◌, Option, Some, Result, Ok, Err, OnOk}
+use Rattle.std.specs.Prelude.{OnErr, IsTrue}
 use Rattle.std.specs.List.{filter}
 use Rattle.dg_nor.specs.Device.{Device, Endures}
 use Rattle.dg_nor.specs.Fuse.{beneath_of}
@@ -14,37 +15,50 @@ use Rattle.dg_rules.specs.Steps.{WorldStep, blows}
 use Rattle.dg_base.specs.declared.events.Step.{Step}
 use Rattle.dg_rules.specs.Changes.{changes, is_told}
 use Rattle.dg_script.specs.declared.report.Report.{Report}
+use Rattle.dg_rules.specs.Ranges.{StepInRange}
 use Rattle.dg_world.specs.Airs.{sent_now}
+use Rattle.dg_world.specs.Known.{StepSees, OrderTakes, InjectTakes}
+use Rattle.dg_world.specs.Occasions.{HappensIn}
+use Rattle.dg_world.specs.Tellings.{stepped}
+use Rattle.dg_world.specs.Unseen.{RefusesUnseen}
 use Rattle.dg_world.specs.Worlds.{MoteStands}
 use Rattle.dg_world.specs.Counts.{CountStays}
 use Rattle.dg_world.specs.Cuts.{IsStopped, IsLacking}
 use Rattle.dg_world.specs.Turns.{BeforeShows}
+use Rattle.dg_world.specs.declared.occasion.Occasion.{Occasion}
 use Rattle.dg_world.specs.declared.shown.Shown.{Shown}
+use Rattle.dg_world.specs.declared.telling.Telling.{Telling}
 use Rattle.dg_world.specs.declared.world.RunningMote.{RunningMote}
 use Rattle.dg_world.specs.Turn.{Halt, Stopped, NotAVolume, NoImage}
 use Rattle.dg_world.specs.declared.telling.Fault.{Fault}
 use Rattle.dg_world.specs.declared.telling.Fault.TheVariants as fault
 
 -- the board was only read
-pub record IsRead (old new : Device) : Type 0 where
+pub record BoardOnlyRead (old new : Device) : Type 0 where
   pub same_image : new.image ≡ old.image
   pub endures : Endures (beneath_of old) (beneath_of new)
 
 -- the lines of what a cut changed were appended
 pub record CutChangesAre (m : ℕ) (before : Option Shown) (t : Store) (told_before told : List Report) : Type 0 where
   pub lines : List Report
-  pub tells : (k : ℕ) (s : Store) (trail : Trail Store) → Leaves IsNear trail k t → BeforeShows before trail s → lines ≡ changes m s t
+  pub tells : (k : ℕ) (s : Store) (trail : Trail Store) → Leaves IsNear trail k t → BeforeShows before trail s
+      → lines ≡ changes m s t
   pub told_now : told ≡ told_before ++ lines
 
 -- they were found in a reading of the board, which stands for t
-abbrev pub CutTold : {T : Type 0} → Result T Fault → ℕ → Option Shown → Store → Device → Device → List Report → List Report → Type 0
-CutTold (Ok u) m before t old new told_before told = CutChangesAre m before t told_before told × IsRead old new × (new.faults ≡ old.faults)
-CutTold (Err fault.Stopped) m before t old new told_before told = (new.stopped ≡ true) × IsRead old new × (told ≡ told_before)
+abbrev pub CutTold : {T : Type 0} → Result T Fault → ℕ → Option Shown → Store → Device → Device → List Report → List Report
+    → Type 0
+CutTold (Ok u) m before t old new told_before told = CutChangesAre m before t told_before told × BoardOnlyRead old new
+    × (new.faults ≡ old.faults)
+CutTold (Err fault.Stopped) m before t old new told_before told =
+    (new.stopped ≡ true) × BoardOnlyRead old new × (told ≡ told_before)
 CutTold (Err fault.NotAVolume) m before t old new told_before told = ⊥
 CutTold (Err fault.NoImage) m before t old new told_before told = ⊥
 
--- A step was done at its board, which stood for the mote's store: what the rules allow, where the mote and the board are then, what was told, and what was sent.
-pub record StepDone (w : RuleWorld) (x : Step) (loud : Bool) (u : Option RunningMote) (frame : Option (List ℕ)) (new : Device) (told_before told : List Report) : Type 0 where
+-- A step was done at its board, which stood for the mote's store: what the rules allow, where the mote and the board are then,
+-- what was told, and what was sent.
+pub record StepDone (w : RuleWorld) (x : Step) (loud : Bool) (u : Option RunningMote) (frame : Option (List ℕ)) (new : Device)
+    (told_before told : List Report) : Type 0 where
   pub world : RuleWorld
   pub reports : List Report
   pub step : WorldStep w x world reports
@@ -59,16 +73,42 @@ pub record StepDone (w : RuleWorld) (x : Step) (loud : Bool) (u : Option Running
   pub sites : world.sites ≡ slice_set w.sites (mote_of x.event) here
   pub stands : Stands new.image here.store
   pub mote : MoteStands new.image u here.store here.runs
-  pub memory : (d : Deed) (r : Runs) → does w x.event ≡ Goes d → blows x.cut d.trail ≡ false → d.started ≡ Some r → program new.image (length r.pages) ≡ r.pages
+  pub memory : (d : Deed) (r : Runs) → does w x.event ≡ Goes d → blows x.cut d.trail ≡ false → d.started ≡ Some r
+      → program new.image (length r.pages) ≡ r.pages
 
-abbrev pub StepEnds : Result (Option (List ℕ)) Halt → RuleWorld → Step → (loud : Bool) → Option RunningMote → Device → List Report → List Report → Type 0
+abbrev pub StepEnds : Result (Option (List ℕ)) Halt → RuleWorld → Step → (loud : Bool) → Option RunningMote → Device
+    → List Report → List Report → Type 0
 StepEnds (Ok frame) w x loud u new told_before told = StepDone w x loud u frame new told_before told
-StepEnds (Err (Stopped b)) w x loud u new told_before told = IsStopped w (mote_of x.event) (does w x.event) x.cut new × (told ≡ told_before)
+StepEnds (Err (Stopped b)) w x loud u new told_before told = IsStopped w (mote_of x.event) (does w x.event) x.cut new
+    × (told ≡ told_before)
 StepEnds (Err NoImage) w x loud u new told_before told = IsLacking (does w x.event) x.cut new.image × (told ≡ told_before)
 StepEnds (Err NotAVolume) w x loud u new told_before told = ⊥
 
 -- the step ended so at its board, whose count did not fall, and stays unless the board stopped, and left this of its mote
-pub record Stepped (r : Result (Option (List ℕ)) Halt) (w : RuleWorld) (x : Step) (loud : Bool) (u : Option RunningMote) (old new : Device) (told_before told : List Report) : Type 0 where
+pub record Stepped (r : Result (Option (List ℕ)) Halt) (w : RuleWorld) (x : Step) (loud : Bool) (u : Option RunningMote)
+    (old new : Device) (told_before told : List Report) : Type 0 where
   pub ends : StepEnds r w x loud u new told_before told
   pub endures : Endures (beneath_of old) (beneath_of new)
   pub count : CountStays r old new
+
+-- a board with what the mote there runs, and what was told so far
+pub record Station : Type 0 where
+  pub board : Device
+  pub runs : Option RunningMote
+  pub told : List Report
+
+abbrev pub station : Device → Option RunningMote → List Report → Station
+station board runs told = record { board = board; runs = runs; told = told }
+
+-- What a step did at the station of its mote that answers r and has this to tell.
+pub record StepDid (r : Result (Unit {0}) Fault) (o : Occasion) (x : Step) (t : Telling) (a b : Station) : Type 0 where
+  pub steps : (w : RuleWorld) → StepInRange (length w.sites) x → HappensIn o w x.event a.board a.runs
+      → Stepped (stepped r t) w x o.loud b.runs a.board b.board a.told b.told
+  pub sees : OnOk r ((w : RuleWorld) → HappensIn o w x.event a.board a.runs
+      → StepSees w x.event o.known t.orderly b.runs a.board.image b.board.image)
+  pub order_reads : IsTrue o.known → OrderTakes x.event a.board b.board
+  pub inject_reads : OnOk r (IsTrue o.known → (w : RuleWorld) → HappensIn o w x.event a.board a.runs
+      → InjectTakes w x.event a.board b.board)
+  -- an event that is refused without a look at the chip uses no board
+  pub unseen : (w : RuleWorld) → HappensIn o w x.event a.board a.runs → RefusesUnseen (does w x.event) → (b.board ≡ a.board)
+      × OnErr r ⊥

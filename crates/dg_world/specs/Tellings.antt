@@ -2,7 +2,8 @@
 use Rattle.std.specs.Prelude.{◌≡◌, ℕ, List, Option, Some, None, Result, Ok, Err}
 use Rattle.dg_mote.specs.Motes.{sent_in}
 use Rattle.dg_script.specs.declared.report.Cause.{Cause}
-use Rattle.dg_world.specs.Turn.{Turn, Refused, Rests, Sends, Changes, Starts, Halt, Stopped, NotAVolume, NoImage, Ended, Whole, Cut}
+use Rattle.dg_world.specs.Turn.{EventTurn, Refused, Rests, Sends, Changes, Starts, Halt, Stopped, NotAVolume, NoImage, TurnEnded}
+use Rattle.dg_world.specs.Turn.{Whole, Cut}
 use Rattle.dg_world.specs.declared.shown.Shown.{Shown}
 use Rattle.dg_world.specs.declared.telling.StartLine.{StartLine}
 use Rattle.dg_world.specs.declared.telling.Telling.{Telling}
@@ -20,7 +21,7 @@ pub record IsNothing (t : Telling) : Type 0 where
   pub sent : sent_in t.outbox ≡ None
   pub orderly : t.orderly ≡ None
 
-abbrev pub turn_by : Option (List ℕ) → Option Cause → Option StartLine → Option Shown → Option Shown → Turn
+abbrev pub turn_by : Option (List ℕ) → Option Cause → Option StartLine → Option Shown → Option Shown → EventTurn
 turn_by (Some bytes) why x a b = Sends bytes
 turn_by None (Some why) x a b = Refused why
 turn_by None None (Some x) a b = Starts x
@@ -29,7 +30,7 @@ turn_by None None None (Some a) None = Rests
 turn_by None None None None b = Rests
 
 -- what an event did that tells this
-abbrev pub turn_of : Telling → Turn
+abbrev pub turn_of : Telling → EventTurn
 turn_of t = turn_by (sent_in t.outbox) t.refused t.started t.before t.after
 
 -- why an event was not done that answers this, where this was reported of the chip before
@@ -38,11 +39,11 @@ halt_of fault.Stopped before = Stopped before
 halt_of fault.NotAVolume before = NotAVolume
 halt_of fault.NoImage before = NoImage
 
-abbrev pub turned : {T : Type 0} → Result T Fault → Telling → Result Turn Halt
+abbrev pub turned : {T : Type 0} → Result T Fault → Telling → Result EventTurn Halt
 turned (Ok x) t = Ok (turn_of t)
 turned (Err f) t = Err (halt_of f t.before)
 
-abbrev pub ended_as : Result Power Fault → Telling → Result Ended Halt
+abbrev pub ended_as : Result Power Fault → Telling → Result TurnEnded Halt
 ended_as (Ok power.Stays) t = Ok (Whole (turn_of t))
 ended_as (Ok power.Cut) t = Ok (Cut t.before)
 ended_as (Err f) t = Err (halt_of f t.before)

@@ -4,15 +4,15 @@ use Rattle.dg_script.specs.declared.report.Cause.{Cause}
 use Rattle.dg_world.specs.declared.shown.Shown.{Shown}
 use Rattle.dg_world.specs.declared.telling.StartLine.{StartLine}
 
-pub data Turn : Type 0 where
-  Refused : (why : Cause) → Turn
+pub data EventTurn : Type 0 where
+  Refused : (why : Cause) → EventTurn
   -- nothing that is reported
-  Rests : Turn
+  Rests : EventTurn
   -- a frame of these bytes is sent, and the chip stays as it is
-  Sends : (bytes : List ℕ) → Turn
+  Sends : (bytes : List ℕ) → EventTurn
   -- what is reported of the chip may be something else
-  Changes : (before after : Shown) → Turn
-  Starts : (line : StartLine) → Turn
+  Changes : (before after : Shown) → EventTurn
+  Starts : (line : StartLine) → EventTurn
 
 -- why an event was not done
 pub data Halt : Type 0 where
@@ -22,7 +22,7 @@ pub data Halt : Type 0 where
   NoImage : Halt
 
 -- how an event ended whose power may have been cut
-pub data Ended : Type 0 where
-  Whole : (turn : Turn) → Ended
+pub data TurnEnded : Type 0 where
+  Whole : (turn : EventTurn) → TurnEnded
   -- The cut blew. What is reported of the chip was this before, and is the same after it where this is None.
-  Cut : (before : Option Shown) → Ended
+  Cut : (before : Option Shown) → TurnEnded

@@ -1,5 +1,6 @@
 -- What an event does at a board, by the rules.
-use Rattle.std.specs.Prelude.{◌≡◌, ℕ, Bool, true, false, List, [], ◌∷◌, length, Option, Some, None, option_map, IfSome, Result, Ok, Err}
+use Rattle.std.specs.Prelude.{◌≡◌, ℕ, Bool, true, false, List, [], ◌∷◌, length, Option, Some, None, option_map, IfSome, Result}
+use Rattle.std.specs.Prelude.{Ok, Err}
 use Rattle.dg_nor.specs.Device.{Device, Ran}
 use Rattle.dg_nor.specs.Trail.{Trail, operations, last, Leaves}
 use Rattle.dg_nor.specs.Reads.{Looked, StopsIn}
@@ -11,7 +12,7 @@ use Rattle.dg_frame.specs.Spelling.{frame_of}
 use Rattle.dg_frame.specs.declared.Message.{Message}
 use Rattle.dg_frame.specs.declared.FrameFault.{FrameFault}
 use Rattle.dg_boot.specs.declared.Started.{Started}
-use Rattle.dg_mote.specs.Model.{begun}
+use Rattle.dg_mote.specs.Model.{begun_mote}
 use Rattle.dg_mote.specs.Motes.{IsMote}
 use Rattle.dg_mote.specs.declared.mote.Heard.{Heard}
 use Rattle.dg_mote.specs.declared.mote.Heard.TheVariants.{Other, Asks, Sealed}
@@ -23,20 +24,20 @@ use Rattle.dg_script.specs.declared.report.Report.{Report}
 use Rattle.dg_script.specs.declared.report.Report.TheVariants.{Start, Refused as RefusedLine}
 use Rattle.dg_world.specs.Shown.{Shows, changes_shown}
 use Rattle.dg_world.specs.Worlds.{MoteStands}
-use Rattle.dg_world.specs.declared.happening.Begun.{Begun}
+use Rattle.dg_world.specs.declared.starting.Begun.{Begun}
 use Rattle.dg_world.specs.declared.world.RunningMote.{RunningMote}
 use Rattle.dg_world.specs.declared.shown.Shown.{Shown}
-use Rattle.dg_world.specs.Turn.{Turn, Refused, Rests, Sends, Changes, Starts, Halt, Stopped, NotAVolume, NoImage}
+use Rattle.dg_world.specs.Turn.{EventTurn, Refused, Rests, Sends, Changes, Starts, Halt, Stopped, NotAVolume, NoImage}
 
 -- the frame of a turn, and the turn of what a tick sent, if anything
-abbrev pub turn_frame : Turn → Option (List ℕ)
+abbrev pub turn_frame : EventTurn → Option (List ℕ)
 turn_frame (Refused why) = None
 turn_frame Rests = None
 turn_frame (Sends bytes) = Some bytes
 turn_frame (Changes old new) = None
 turn_frame (Starts x) = None
 
-abbrev pub turn_sent : Option (List ℕ) → Turn
+abbrev pub turn_sent : Option (List ℕ) → EventTurn
 turn_sent None = Rests
 turn_sent (Some bytes) = Sends bytes
 
@@ -45,7 +46,7 @@ abbrev pub sent_shown : ℕ → Result Message FrameFault → List Report
 sent_shown m (Err fault) = []
 sent_shown m (Ok message) = sent_line m (Some message)
 
-abbrev pub turn_lines : ℕ → Turn → List Report
+abbrev pub turn_lines : ℕ → EventTurn → List Report
 turn_lines m (Refused why) = RefusedLine m why ∷ []
 turn_lines m Rests = []
 turn_lines m (Sends bytes) = sent_shown m (message_of bytes true)
@@ -58,10 +59,12 @@ pub record BeginsOver (started : Started) (id : ℕ) (wide : Bool) (now word : �
   pub line_key : b.line.key ≡ record { image = started.image; version = started.version }
   pub length : b.line.length ≡ started.length
   pub crc : b.line.crc ≡ started.crc
-  pub mote : (c : List ℕ) (s : Store) → Mounted c started.volume s → IsMote c b.running.mote (begun id wide now word) s
+  pub mote : (c : List ℕ) (s : Store) → Mounted c started.volume s → IsMote c b.running.mote (begun_mote id wide now word) s
 
--- The turn is the deed: the mote, the report and what is sent are the rules', the chip stands for the last store, and what was started stands in program memory.
-pub record Tells (w : RuleWorld) (m : ℕ) (d : Deed) (turn : Turn) (u : Option RunningMote) (image : List ℕ) : Type 0 where
+-- The turn is the deed: the mote, the report and what is sent are the rules', the chip stands for the last store,
+-- and what was started stands in program memory.
+pub record TellsDeed (w : RuleWorld) (m : ℕ) (d : Deed) (turn : EventTurn) (u : Option RunningMote)
+    (image : List ℕ) : Type 0 where
   pub runs : Option Running
   pub runs_then : d.runs ≡ Some runs
   pub mote : MoteStands image u (last d.trail) runs
@@ -71,11 +74,12 @@ pub record Tells (w : RuleWorld) (m : ℕ) (d : Deed) (turn : Turn) (u : Option 
   pub memory : IfSome d.started (λ r. program image (length r.pages) ≡ r.pages)
 
 -- an event that is not refused was done
-pub record Went (w : RuleWorld) (m : ℕ) (does : Does) (u : Option RunningMote) (old new : Device) (turn : Turn) : Type 0 where
+pub record DeedWent (w : RuleWorld) (m : ℕ) (does : Does) (u : Option RunningMote) (old new : Device)
+    (turn : EventTurn) : Type 0 where
   pub deed : Deed
   pub goes : does ≡ Goes deed
   pub ran : Ran (operations deed.trail) old new
-  pub tells : Tells w m deed turn u new.image
+  pub tells : TellsDeed w m deed turn u new.image
 
 -- neither the order nor what is kept is another
 pub record SameShown (s t : Store) : Type 0 where
@@ -107,12 +111,12 @@ pub record Lacked (does : Does) (old new : Device) : Type 0 where
   pub stands : Stands new.image (last deed.trail)
 
 -- What an event answers that does this at mote m, from a board that stood for the mote's store. Its mote was v and is u.
-abbrev pub TurnEnds : Result Turn Halt → RuleWorld → (m : ℕ) → Does → (v u : Option RunningMote) → Device → Device → Type 0
+abbrev pub TurnEnds : Result EventTurn Halt → RuleWorld → (m : ℕ) → Does → (v u : Option RunningMote) → Device → Device → Type 0
 TurnEnds (Ok (Refused why)) w m does v u old new = (does ≡ Refuses why) × Looked old new × (u ≡ v)
-TurnEnds (Ok Rests) w m does v u old new = Went w m does u old new Rests
-TurnEnds (Ok (Sends bytes)) w m does v u old new = Went w m does u old new (Sends bytes)
-TurnEnds (Ok (Changes a b)) w m does v u old new = Went w m does u old new (Changes a b)
-TurnEnds (Ok (Starts x)) w m does v u old new = Went w m does u old new (Starts x)
+TurnEnds (Ok Rests) w m does v u old new = DeedWent w m does u old new Rests
+TurnEnds (Ok (Sends bytes)) w m does v u old new = DeedWent w m does u old new (Sends bytes)
+TurnEnds (Ok (Changes a b)) w m does v u old new = DeedWent w m does u old new (Changes a b)
+TurnEnds (Ok (Starts x)) w m does v u old new = DeedWent w m does u old new (Starts x)
 TurnEnds (Err (Stopped before)) w m does v u old new = StoppedOn does (store_at w m) old new before
 TurnEnds (Err NoImage) w m does v u old new = Lacked does old new
 TurnEnds (Err NotAVolume) w m does v u old new = ⊥

@@ -1,5 +1,6 @@
 -- How the code's world and the boards stand for a world by the rules.
-use Rattle.std.specs.Prelude.{◌≡◌, ℕ, ◌-◌, ◌*◌, ◌^◌, ◌<◌, ◌≤◌, true, List, length, slice_get, slice_index_or, Option, Some, None, IfSome}
+use Rattle.std.specs.Prelude.{◌≡◌, ℕ, ◌-◌, ◌*◌, ◌^◌, ◌<◌, ◌≤◌, true, List, length, slice_get, slice_index_or, Option, Some, None}
+use Rattle.std.specs.Prelude.{IfSome}
 use Rattle.dg_nor.specs.Device.{Device}
 use Rattle.dg_volume.specs.Store.{Store}
 use Rattle.dg_volume.specs.Stands.{Stands}
@@ -50,6 +51,8 @@ pub record IsWorld (v : World) (boards : List Device) (w : RuleWorld) : Type 0 w
   pub early : w.moment ≤ w.events * (2 ^ 32 - 1)
   -- no moment of a mote is later than the world's
   pub timely : WorldTimely w
-  pub sites : (m : ℕ) (d : Device) → m < length w.sites → slice_get boards m ≡ Some d → SiteStands d (slice_index_or v.motes.items m None) (site w m)
+  pub sites : (m : ℕ) (d : Device) → m < length w.sites → slice_get boards m ≡ Some d
+      → SiteStands d (slice_index_or v.motes.items m None) (site w m)
   -- a known board is orderly
-  pub orderly : (m : ℕ) (d : Device) → m < length w.sites → slice_get boards m ≡ Some d → known_of v m ≡ true → IsOrderlyChip d.image
+  pub orderly : (m : ℕ) (d : Device) → m < length w.sites → slice_get boards m ≡ Some d → known_of v m ≡ true
+      → IsOrderlyChip d.image

@@ -7,8 +7,10 @@ ghost use Rattle.dg_world.specs.Tellings.{IsNothing, turned};
 ghost use Rattle.dg_world.specs.Turns.{TurnEnds};
 ghost use Rattle.dg_world.specs.Worlds.{SiteStands, MayRun};
 
-use crate::happening::{hear, reset, tick};
+use crate::hearing::hear;
+use crate::starting::reset;
 use crate::telling::{Fault, Telling};
+use crate::ticking::tick;
 use crate::world::RunningMote;
 use dg_mote::Outbox;
 use dg_nor::Nor;
@@ -26,8 +28,10 @@ pub fn play_alone<N: Nor>(
     requires alone { IsAlone event.now }
     requires mote { MayRun (N.device board.old).image now runs.old }
     requires moment { now < 2 ^ 62 }
-    ensures plays { (w : RuleWorld) → SiteStands (N.device board.old) runs.old (site w (mote_of event.now)) → mote_of event.now < length w.sites → now ≡ w.moment + dt_of event.now
-        → wide_at w (mote_of event.now) ≡ true → PlaysAlone result w event.now runs.new (N.device board.old) (N.device board.new) }
+    ensures plays { (w : RuleWorld) → SiteStands (N.device board.old) runs.old (site w (mote_of event.now))
+        → mote_of event.now < length w.sites → now ≡ w.moment + dt_of event.now
+        → wide_at w (mote_of event.now) ≡ true → PlaysAlone result w event.now runs.new (N.device board.old)
+        (N.device board.new) }
     // a start tells a board that is a volume from one that is none, which keeps its bytes
     ensures powers { IsReset event.now → Powers result (N.device board.old) (N.device board.new) }
 {
@@ -50,8 +54,10 @@ fn happen_alone<N: Nor>(
     requires mote { MayRun (N.device board.old).image now runs.old }
     requires moment { now < 2 ^ 62 }
     requires nothing { IsNothing telling.old }
-    ensures ends { (w : RuleWorld) → SiteStands (N.device board.old) runs.old (site w (mote_of event.now)) → now ≡ w.moment + dt_of event.now
-        → wide_at w (mote_of event.now) ≡ true → TurnEnds (turned result telling.new) w (mote_of event.now) (does w event.now) runs.old runs.new (N.device board.old) (N.device board.new) }
+    ensures ends { (w : RuleWorld) → SiteStands (N.device board.old) runs.old (site w (mote_of event.now))
+        → now ≡ w.moment + dt_of event.now
+        → wide_at w (mote_of event.now) ≡ true → TurnEnds (turned result telling.new) w (mote_of event.now)
+        (does w event.now) runs.old runs.new (N.device board.old) (N.device board.new) }
     ensures powers { IsReset event.now → Powers result (N.device board.old) (N.device board.new) }
 {
     match event {

@@ -3,18 +3,17 @@ ghost use Rattle.std.specs.Prelude.{◌≡◌, ◌∷◌, false, ◌&&◌, not, 
 ghost use Rattle.dg_nor.specs.Device.{Device};
 ghost use Rattle.dg_nor.specs.Fuse.{inner_of, name_of, mask_of, fused_device, before, beneath_of};
 ghost use Rattle.dg_rules.specs.Sizes.{most_motes};
-ghost use Rattle.dg_rules.specs.World.{World as RuleWorld, site};
-ghost use Rattle.dg_rules.specs.Events.{does, mote_of, dt_of};
-ghost use Rattle.dg_rules.specs.Ranges.{EventFits, CutFits};
-ghost use Rattle.dg_world.specs.Shareds.{IsShared};
-ghost use Rattle.dg_world.specs.Worlds.{SiteStands, MayRun};
-ghost use Rattle.dg_world.specs.Cuts.{ended, Played};
+ghost use Rattle.dg_rules.specs.World.{World as RuleWorld};
+ghost use Rattle.dg_rules.specs.Events.{does, mote_of};
+ghost use Rattle.dg_rules.specs.Ranges.{EventInRange, CutInRange};
+ghost use Rattle.dg_world.specs.Occasions.{MayHappen, HappensIn};
+ghost use Rattle.dg_world.specs.Cuts.{ended, EventPlayed};
 ghost use Rattle.dg_world.specs.Tellings.{IsNothing, turned, ended_as};
 ghost use Rattle.dg_world.specs.Unseen.{RefusesUnseen};
-ghost use Rattle.dg_world.specs.Known.{IsKnownChip, EventReads, EventSees};
+ghost use Rattle.dg_world.specs.Known.{EventReads, EventSees};
 
 use crate::happening::happen;
-use crate::shared::Shared;
+use crate::occasion::Occasion;
 use crate::telling::{Fault, Power, Telling};
 use crate::world::RunningMote;
 use dg_nor::{Fused, Nor};
@@ -33,7 +32,7 @@ fn end_turn(blown: bool, stopped: bool, done: Result<(), Fault>) -> Result<Power
 
 /// The fuse of a cut over a board: it interrupts the cut's operation, and leaves the cut's mask there.
 fn fuse_of<'a, N: Nor>(cut: &'a Cut, board: &'a mut N) -> Fused<'a, N>
-    requires { CutFits cut.now }
+    requires { CutInRange cut.now }
     ensures inner { inner_of result ≡ board.old }
     ensures same_reference { name_of result ≡ board.entry.ghost_name }
     ensures mask { mask_of result ≡ cut.now.mask }
@@ -54,31 +53,29 @@ fn fuse_of<'a, N: Nor>(cut: &'a Cut, board: &'a mut N) -> Fused<'a, N>
 /// An event whose power is cut, where it makes so many operations. Where the board stops in that operation, it is told as
 /// stopped.
 pub(crate) fn play_cut<N: Nor>(
-    shared: &Shared,
+    occasion: &Occasion<'_>,
     runs: &mut Option<RunningMote>,
-    now: u64,
     event: &Event,
     cut: &Cut,
-    known: bool,
     board: &mut N,
     telling: &mut Telling,
 ) -> Result<Power, Fault>
-    requires fits { (motes : ℕ) × EventFits motes event.now × (motes ≤ most_motes) }
-    requires cut { CutFits cut.now }
-    requires mote { MayRun (N.device board.old).image now runs.old }
-    requires known_chip { IsTrue known → IsKnownChip (N.device board.old).image }
-    requires moment { now < 2 ^ 62 }
+    requires fits { (motes : ℕ) × EventInRange motes event.now × (motes ≤ most_motes) }
+    requires cut { CutInRange cut.now }
+    requires may { MayHappen occasion.now event.now (N.device board.old) runs.old }
     requires nothing { IsNothing telling.old }
-    ensures played { (w : RuleWorld) → IsShared shared.now w → SiteStands (N.device board.old) runs.old (site w (mote_of event.now))
-        → now ≡ w.moment + dt_of event.now
-        → Played (ended_as result telling.new) w (mote_of event.now) (does w event.now) (Some cut.now) runs.old runs.new (N.device board.old) (N.device board.new) }
-    ensures unseen { (w : RuleWorld) → IsShared shared.now w → SiteStands (N.device board.old) runs.old (site w (mote_of event.now))
-        → now ≡ w.moment + dt_of event.now → RefusesUnseen (does w event.now) → (board.new ≡ board.old) × (result ≡ Ok Power.Stays) }
-    ensures reads { EventReads event.now known (result ≡ Ok Power.Stays) telling.new.refused (N.device board.old) (N.device board.new) }
-    ensures sees { result ≡ Ok Power.Stays → EventSees event.now telling.new runs.new (N.device board.old).image (N.device board.new).image }
+    ensures played { (w : RuleWorld) → HappensIn occasion.now w event.now (N.device board.old) runs.old
+        → EventPlayed (ended_as result telling.new) w (mote_of event.now) (does w event.now) (Some cut.now) runs.old runs.new
+        (N.device board.old) (N.device board.new) }
+    ensures unseen { (w : RuleWorld) → HappensIn occasion.now w event.now (N.device board.old) runs.old
+        → RefusesUnseen (does w event.now) → (board.new ≡ board.old) × (result ≡ Ok Power.Stays) }
+    ensures reads { EventReads event.now occasion.now.known (result ≡ Ok Power.Stays) telling.new.refused (N.device board.old)
+        (N.device board.new) }
+    ensures sees { result ≡ Ok Power.Stays → EventSees event.now telling.new runs.new (N.device board.old).image
+        (N.device board.new).image }
 {
     let mut fused = fuse_of(cut, board);
-    let done = happen(shared, runs, now, event, known, &mut fused, telling);
+    let done = happen(occasion, runs, event, &mut fused, telling);
     let blown = fused.blown();
     let stopped = board.is_stopped();
     end_turn(blown, stopped, done)

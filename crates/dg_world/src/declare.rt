@@ -1,5 +1,6 @@
 //! How a world begins, and what is declared in it.
-ghost use Rattle.std.specs.Prelude.{◌≡◌, ◌<◌, ◌≤◌, ◌∷◌, ◌++◌, ℕ, true, false, List, [], length, map, slice_get, slice_index_or, slice_set, replicate, Some, None, Err, IfOk, OnOk, OnErr, IsTrue};
+ghost use Rattle.std.specs.Prelude.{◌≡◌, ◌<◌, ◌≤◌, ◌∷◌, ◌++◌, ℕ, true, false, List, [], length, map, slice_get, slice_index_or};
+ghost use Rattle.std.specs.Prelude.{slice_set, replicate, Some, None, Err, IfOk, OnOk, OnErr, IsTrue};
 ghost use Rattle.dg_base.specs.Texts.{spells_name};
 ghost use Rattle.dg_nor.specs.Device.{Device};
 ghost use Rattle.dg_object.specs.Object.{Row, row_of};
@@ -33,32 +34,52 @@ impl World {
     pub fn new(alloc: Global, motes: u8) -> Result<World, AllocError>
         requires some { 1 ≤ motes }
         requires few { motes ≤ most_motes }
-        ensures begins { IfOk result (λ v. (boards : List Device) (stores : List Store) (table : List Row) → length stores ≡ motes → motes ≤ length boards
-            → ((m : ℕ) (d : Device) → m < motes → slice_get boards m ≡ Some d → Stands d.image (slice_index_or stores m no_site.store))
+        ensures begins { IfOk result (λ v. (boards : List Device) (stores : List Store) (table : List Row)
+            → length stores ≡ motes → motes ≤ length boards
+            → ((m : ℕ) (d : Device) → m < motes → slice_get boards m ≡ Some d
+            → Stands d.image (slice_index_or stores m no_site.store))
             → IsWorld v boards (first_world table [] none_narrow stores)) }
         ensures none_known { IfOk result (λ v. (m : ℕ) → known_of v m ≡ false) }
     {
-        Ok(World {
+        Ok(World::at_rest(alloc, all_off(alloc, motes)?))
+    }
+
+    /// A world of no motes, in which nothing can happen.
+    pub fn none(alloc: Global) -> World
+        ensures { (boards : List Device) (table : List Row) → IsWorld result boards (first_world table [] none_narrow []) }
+    {
+        World::at_rest(alloc, Vec::new(alloc))
+    }
+
+    /// The first world of motes that are off.
+    fn at_rest(alloc: Global, motes: Vec<Option<RunningMote>>) -> World
+        ensures begins { (n : ℕ) (boards : List Device) (stores : List Store) (table : List Row) → motes.items ≡ replicate n None
+            → n ≤ most_motes → length stores ≡ n → n ≤ length boards
+            → ((m : ℕ) (d : Device) → m < n → slice_get boards m ≡ Some d
+            → Stands d.image (slice_index_or stores m no_site.store))
+            → IsWorld result boards (first_world table [] none_narrow stores) }
+        ensures none_known { (m : ℕ) → known_of result m ≡ false }
+    {
+        World {
             moment: 0,
             events: 0,
             shared: Shared {
                 images: Images::new(alloc),
-                links: Links::none(alloc),
+                links: Links::none(),
                 narrow: [false; MOST_MOTES],
                 air: Air::new(alloc),
             },
-            motes: all_off(alloc, motes)?,
+            motes,
             known: PageBits::none(),
-        })
+        }
     }
 
-    /// Two motes become neighbours. Without memory nothing changes.
-    pub fn link(&mut self, a: u8, b: u8) -> Result<(), AllocError>
-        ensures linked { OnOk result ((boards : List Device) (w : RuleWorld) → IsWorld self.old boards w
-            → IsWorld self.new boards (record w { links = w.links ++ (a, b) ∷ [] })) }
-        ensures unchanged { OnErr result ((boards : List Device) (w : RuleWorld) → IsWorld self.old boards w → IsWorld self.new boards w) }
+    /// Two motes become neighbours.
+    pub fn link(&mut self, a: u8, b: u8)
+        ensures { (boards : List Device) (w : RuleWorld) → IsWorld self.old boards w
+            → IsWorld self.new boards (record w { links = w.links ++ (a, b) ∷ [] }) }
     {
-        self.shared.links.join(a, b)
+        self.shared.links.join(a, b);
     }
 
     /// A mote has the old radio: its frames speak of images 1 to 3.
@@ -88,7 +109,8 @@ impl World {
             → is_taken (row_at w.declared image version) (row_of image version name content) ≡ false) }
         ensures taken { result ≡ Err DeclareFault.Taken → (boards : List Device) (w : RuleWorld) → IsWorld self.old boards w
             → is_taken (row_at w.declared image version) (row_of image version name content) ≡ true }
-        ensures unchanged { OnErr result ((boards : List Device) (w : RuleWorld) → IsWorld self.old boards w → IsWorld self.new boards w) }
+        ensures unchanged { OnErr result ((boards : List Device) (w : RuleWorld) → IsWorld self.old boards w
+            → IsWorld self.new boards w) }
     {
         let key = Key { image, version };
         if let Some(kept) = self.shared.images.get(key) {

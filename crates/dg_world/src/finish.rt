@@ -1,5 +1,6 @@
 //! The last state of a world, read from its boards.
-ghost use Rattle.std.specs.Prelude.{◌≡◌, ◌⊎◌, ◌+◌, ◌-◌, ◌*◌, ◌<◌, ◌≤◌, ◌++◌, ℕ, List, map, length, slice_get, vec_len, Err, OnOk, OnErr};
+ghost use Rattle.std.specs.Prelude.{◌≡◌, ◌+◌, ◌-◌, ◌*◌, ◌<◌, ◌≤◌, ◌++◌, ℕ, List, map, length, slice_get, vec_len, Err, OnOk};
+ghost use Rattle.std.specs.Prelude.{OnErr};
 ghost use Rattle.std.specs.List.{flat_map, range_with_len};
 ghost use Rattle.std.specs.Vec.{vec_capacity};
 ghost use Rattle.dg_nor.specs.Reads.{Looked, ReadStopped};
@@ -13,7 +14,7 @@ ghost use Rattle.dg_world.specs.Applied.{SameBoards, ReadFlash};
 ghost use Rattle.dg_world.specs.Finished.{mote_shown, kept_shown, keeps_shown};
 
 use crate::shown::{Shown, push_line, show};
-use crate::world::{RunningMote, World, WorldFault};
+use crate::world::{RunningMote, World};
 use dg_control::IMAGES;
 use dg_nor::{Nor, Stopped};
 use dg_rules::Report;
@@ -22,33 +23,46 @@ use dg_volume::{Kept, MountFault, Volume};
 /// The most last lines of a mote: what it runs, and what is kept of each image but golden.
 const MOST_SITE_LINES: usize = IMAGES;
 
+/// Why the last state of a world is not told.
+#[derive(Clone, Copy, Debug, PartialEq, Eq)]
+pub enum FinishFault {
+    /// There was no memory.
+    Memory,
+    /// This board stopped.
+    Flash { board: u8 },
+}
+
 impl World {
     /// The last state, read from the boards. After `Flash` and `Memory` nothing is told of it.
     pub fn finish<N: Nor>(
         &self,
         boards: &mut Vec<N>,
         out: &mut Vec<Report>,
-    ) -> Result<(), WorldFault>
+    ) -> Result<(), FinishFault>
         requires world { (w : RuleWorld) × IsWorld self.now (map N.device boards.old.items) w }
-        ensures finished { OnOk result ((w : RuleWorld) → IsWorld self.now (map N.device boards.old.items) w → out.new.items ≡ out.old.items ++ final_lines w) }
+        ensures finished { OnOk result ((w : RuleWorld) → IsWorld self.now (map N.device boards.old.items) w
+            → out.new.items ≡ out.old.items ++ final_lines w) }
         ensures untold { OnErr result (out.new.items ≡ out.old.items) }
         ensures boards { SameBoards (map N.device boards.old.items) (map N.device boards.new.items) }
         // a count rises only where a board stopped
         ensures calm { OnOk result (NoneRose (map N.device boards.old.items) (map N.device boards.new.items)) }
-        ensures calm_memory { result ≡ Err WorldFault.Memory → NoneRose (map N.device boards.old.items) (map N.device boards.new.items) }
+        ensures calm_memory { result ≡ Err FinishFault.Memory
+            → NoneRose (map N.device boards.old.items) (map N.device boards.new.items) }
         // only the boards of motes are read
         ensures others { (w : RuleWorld) → IsWorld self.now (map N.device boards.old.items) w → (m : ℕ) → length w.sites ≤ m
             → slice_get (map N.device boards.new.items) m ≡ slice_get (map N.device boards.old.items) m }
         // whatever comes of it, the boards stand for the world as before
-        ensures stands { (w : RuleWorld) → IsWorld self.now (map N.device boards.old.items) w → IsWorld self.now (map N.device boards.new.items) w }
-        ensures flash { (board : ℕ) → result ≡ Err (WorldFault.Flash board) → ReadFlash board (map N.device boards.old.items) (map N.device boards.new.items) }
-        ensures known_board { (board : ℕ) → result ≡ Err (WorldFault.Flash board) → (w : RuleWorld) → IsWorld self.now (map N.device boards.old.items) w → board < length w.sites }
-        ensures no_other { (result ≡ Err WorldFault.TooMany) ⊎ ((result ≡ Err WorldFault.NotAVolume) ⊎ (result ≡ Err WorldFault.NoImage)) → ⊥ }
+        ensures stands { (w : RuleWorld) → IsWorld self.now (map N.device boards.old.items) w
+            → IsWorld self.now (map N.device boards.new.items) w }
+        ensures flash { (board : ℕ) → result ≡ Err (FinishFault.Flash board)
+            → ReadFlash board (map N.device boards.old.items) (map N.device boards.new.items) }
+        ensures known_board { (board : ℕ) → result ≡ Err (FinishFault.Flash board) → (w : RuleWorld)
+            → IsWorld self.now (map N.device boards.old.items) w → board < length w.sites }
     {
         let told = out.len();
         match out.reserve(1 + MOST_SITE_LINES * self.motes.len()) {
             Ok(()) => {}
-            Err(_) => return Err(WorldFault::Memory),
+            Err(_) => return Err(FinishFault::Memory),
         }
         out.push_reserved(Report::End {
             events: self.events,
@@ -57,7 +71,7 @@ impl World {
             Ok(()) => Ok(()),
             Err(BoardStopped { board }) => {
                 out.truncate(told);
-                Err(WorldFault::Flash { board })
+                Err(FinishFault::Flash { board })
             }
         }
     }
@@ -78,9 +92,12 @@ impl World {
         // only the boards of motes are read
         ensures others { (w : RuleWorld) → IsWorld self.now (map N.device boards.old) w → (m : ℕ) → length w.sites ≤ m
             → slice_get (map N.device boards.new) m ≡ slice_get (map N.device boards.old) m }
-        ensures stands { (w : RuleWorld) → IsWorld self.now (map N.device boards.old) w → IsWorld self.now (map N.device boards.new) w }
-        ensures flash { (e : BoardStopped) → result ≡ Err e → ReadFlash e.board (map N.device boards.old) (map N.device boards.new) }
-        ensures known_board { (e : BoardStopped) → result ≡ Err e → (w : RuleWorld) → IsWorld self.now (map N.device boards.old) w → e.board < length w.sites }
+        ensures stands { (w : RuleWorld) → IsWorld self.now (map N.device boards.old) w
+            → IsWorld self.now (map N.device boards.new) w }
+        ensures flash { (e : BoardStopped) → result ≡ Err e
+            → ReadFlash e.board (map N.device boards.old) (map N.device boards.new) }
+        ensures known_board { (e : BoardStopped) → result ≡ Err e → (w : RuleWorld)
+            → IsWorld self.now (map N.device boards.old) w → e.board < length w.sites }
     {
         for mote in 0..self.motes.len() {
             let runs = &self.motes[mote];
@@ -109,7 +126,8 @@ fn push_site<N: Nor>(
 ) -> Result<(), Stopped>
     requires volume { IsVolume (N.device nor.old).image }
     requires room { vec_len out.old + MOST_SITE_LINES ≤ vec_capacity out.old }
-    ensures told { OnOk result ((x : Site) → SiteStands (N.device nor.old) runs.now x → out.new.items ≡ out.old.items ++ site_lines mote x) }
+    ensures told { OnOk result ((x : Site) → SiteStands (N.device nor.old) runs.now x
+        → out.new.items ≡ out.old.items ++ site_lines mote x) }
     ensures begun { (told : List Report) × (out.new.items ≡ out.old.items ++ told) }
     ensures looked { OnOk result (Looked (N.device nor.old) (N.device nor.new)) }
     ensures stopped { OnErr result (ReadStopped (N.device nor.old) (N.device nor.new)) }

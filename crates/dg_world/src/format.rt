@@ -35,12 +35,16 @@ pub fn format_boards<N: Nor>(
     requires some { 1 ≤ length golden.now }
     requires fits { length golden.now ≤ most_bytes }
     requires used { used ≤ most_room }
-    ensures formatted { OnOk result ((m : ℕ) (d : Device) → m < motes → slice_get (map N.device boards.new) m ≡ Some d → Stands d.image (fresh name.now golden.now used)) }
-    ensures form { OnOk result ((m : ℕ) (d : Device) → m < motes → slice_get (map N.device boards.new) m ≡ Some d → HasForm d.image new_form) }
-    ensures awake { OnOk result ((m : ℕ) (d : Device) → m < motes → slice_get (map N.device boards.old) m ≡ Some d → d.stopped ≡ false) }
+    ensures formatted { OnOk result ((m : ℕ) (d : Device) → m < motes → slice_get (map N.device boards.new) m ≡ Some d
+        → Stands d.image (fresh name.now golden.now used)) }
+    ensures form { OnOk result ((m : ℕ) (d : Device) → m < motes → slice_get (map N.device boards.new) m ≡ Some d
+        → HasForm d.image new_form) }
+    ensures awake { OnOk result ((m : ℕ) (d : Device) → m < motes → slice_get (map N.device boards.old) m ≡ Some d
+        → d.stopped ≡ false) }
     ensures others { FirstBoards motes (map N.device boards.old) (map N.device boards.new) }
     ensures calm { OnOk result (NoneRose (map N.device boards.old) (map N.device boards.new)) }
-    ensures stopped { (e : FormatStopped) → result ≡ Err e → FormatStops e.board motes (fresh name.now golden.now used) (map N.device boards.old) (map N.device boards.new) }
+    ensures stopped { (e : FormatStopped) → result ≡ Err e
+        → FormatStops e.board motes (fresh name.now golden.now used) (map N.device boards.old) (map N.device boards.new) }
 {
     for board in 0..motes {
         match format_board(&mut boards[usize::from(board)], name, golden, used) {

@@ -46,7 +46,8 @@ impl Images {
     /// Declares an image whose key was not declared. Without memory nothing is declared.
     pub(crate) fn add(&mut self, key: Key, image: Image) -> Result<(), AllocError>
         requires { found self.old key ≡ None }
-        ensures added { OnOk result ((rows : List Row) → Declares self.old rows → Declares self.new (rows ++ row_of_image key image ∷ [])) }
+        ensures added { OnOk result ((rows : List Row) → Declares self.old rows
+            → Declares self.new (rows ++ row_of_image key image ∷ [])) }
         ensures unchanged { OnErr result ((rows : List Row) → Declares self.old rows → Declares self.new rows) }
     {
         match self.by_key.insert(key, image) {

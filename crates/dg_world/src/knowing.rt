@@ -14,7 +14,7 @@ ghost use Rattle.dg_world.specs.Shareds.{IsShared};
 ghost use Rattle.dg_world.specs.Worlds.{IsWorld};
 ghost use Rattle.dg_world.specs.Known.{known_of, MakesKnown, KnownAfter};
 
-use crate::happening::knows;
+use crate::injecting::knows;
 use crate::links::MOST_MOTES;
 use crate::shared::Shared;
 use crate::world::{RunningMote, World};
@@ -56,7 +56,8 @@ fn is_known_to(shared: &Shared, mote: u8, image: u8) -> bool
 /// Whether an image is declared that is not golden, and that a mote knows.
 fn is_declared(shared: &Shared, mote: u8, image: u8, version: u32) -> bool
     requires { mote < most_motes }
-    ensures { (w : RuleWorld) (dt word : ℕ) → IsShared shared.now w → IsTrue result ↔ MakesKnown w (Inject mote image version dt word) }
+    ensures { (w : RuleWorld) (dt word : ℕ) → IsShared shared.now w
+        → IsTrue result ↔ MakesKnown w (Inject mote image version dt word) }
 {
     if !is_known_to(shared, mote, image) {
         return false;

@@ -1,52 +1,45 @@
 //! Which motes are neighbours.
-ghost use Rattle.std.specs.Prelude.{◌≡◌, ◌<◌, ◌∷◌, ◌++◌, [], ◌==◌, ◌&&◌, ◌||◌, ℕ, slice_index_or, OnOk, OnErr};
+ghost use Rattle.std.specs.Prelude.{◌≡◌, ◌<◌, ◌∷◌, ◌++◌, [], ◌==◌, ◌&&◌, ◌||◌, ℕ, List, slice_index_or};
 ghost use Rattle.std.specs.FinSet as set;
 ghost use Rattle.dg_rules.specs.Sizes.{most_motes};
 ghost use Rattle.dg_script.specs.Places.{is_linked};
 ghost use Rattle.dg_world.specs.Neighbours.{KnowsLinks, is_noted};
 
-use dg_base::Pairs;
 use dg_bits::PageBits;
-use std::alloc::{AllocError, Global};
 
 /// The most motes of a world.
 pub(crate) const MOST_MOTES: usize = dg_base::MOST_MOTES as usize;
 
-/// Which motes are neighbours: the pairs, and the neighbours of each mote.
+/// The neighbours of each mote.
 #[derive(Drop)]
 pub struct Links {
-    pub(crate) pairs: Pairs,
-    neighbours: [PageBits<MOST_MOTES>; MOST_MOTES],
-    ghost known: { KnowsLinks neighbours pairs },
+    pub(crate) neighbours: [PageBits<MOST_MOTES>; MOST_MOTES],
 }
 
 impl Links {
     /// No motes are neighbours.
-    pub(crate) fn none(alloc: Global) -> Links
-        ensures { result.pairs ≡ [] }
+    pub(crate) fn none() -> Links
+        ensures { KnowsLinks result.neighbours [] }
     {
         Links {
-            pairs: Pairs::new(Vec::new(alloc)),
             neighbours: [PageBits::none(); MOST_MOTES],
         }
     }
 
-    /// Two motes become neighbours. Without memory nothing changes.
-    pub(crate) fn join(&mut self, a: u8, b: u8) -> Result<(), AllocError>
-        ensures joined { OnOk result (self.new.pairs ≡ self.old.pairs ++ (a, b) ∷ []) }
-        ensures unchanged { OnErr result (self.new.pairs ≡ self.old.pairs) }
+    /// Two motes become neighbours.
+    pub(crate) fn join(&mut self, a: u8, b: u8)
+        ensures { (pairs : List (ℕ × ℕ)) → KnowsLinks self.old.neighbours pairs
+            → KnowsLinks self.new.neighbours (pairs ++ (a, b) ∷ []) }
     {
-        self.pairs.push((a, b))?;
         note(&mut self.neighbours, a, b);
         note(&mut self.neighbours, b, a);
-        Ok(())
     }
 
     /// Whether two motes are neighbours.
     pub(crate) fn are_joined(&self, a: u8, b: u8) -> bool
         requires first { a < most_motes }
         requires second { b < most_motes }
-        ensures { result ≡ is_linked self.now.pairs a b }
+        ensures { (pairs : List (ℕ × ℕ)) → KnowsLinks self.now.neighbours pairs → result ≡ is_linked pairs a b }
     {
         self.neighbours[usize::from(a)].has(b)
     }
@@ -54,7 +47,8 @@ impl Links {
 
 /// The second mote is a neighbour of the first one. Numbers that no mote has are passed over.
 fn note(neighbours: &mut [PageBits<MOST_MOTES>; MOST_MOTES], a: u8, b: u8)
-    ensures { (x y : ℕ) → x < most_motes → y < most_motes → is_noted neighbours.new x y ≡ ((x == a && y == b) || is_noted neighbours.old x y) }
+    ensures { (x y : ℕ) → x < most_motes → y < most_motes
+        → is_noted neighbours.new x y ≡ ((x == a && y == b) || is_noted neighbours.old x y) }
 {
     if usize::from(a) < MOST_MOTES && usize::from(b) < MOST_MOTES {
         let mut of_first = neighbours[usize::from(a)];

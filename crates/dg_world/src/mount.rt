@@ -27,12 +27,16 @@ pub fn mount_boards<N: Nor>(boards: &mut [N], motes: u8) -> Result<(), MountStop
     requires boards { motes ≤ length boards.old }
     ensures read { SameBoards (map N.device boards.old) (map N.device boards.new) }
     ensures stands { OnOk result ((stores : List Store) × StandFor motes stores (map N.device boards.new)) }
-    ensures awake { OnOk result ((m : ℕ) (d : Device) → m < motes → slice_get (map N.device boards.old) m ≡ Some d → d.stopped ≡ false) }
+    ensures awake { OnOk result ((m : ℕ) (d : Device) → m < motes → slice_get (map N.device boards.old) m ≡ Some d
+        → d.stopped ≡ false) }
     ensures others { (m : ℕ) → motes ≤ m → slice_get (map N.device boards.new) m ≡ slice_get (map N.device boards.old) m }
     ensures calm { OnOk result (NoneRose (map N.device boards.old) (map N.device boards.new)) }
-    ensures stopped { (board : ℕ) → result ≡ Err (MountStopped.Flash board) → MountStops board motes (map N.device boards.old) (map N.device boards.new) }
-    ensures no_volume { (board : ℕ) → result ≡ Err (MountStopped.NotAVolume board) → NoVolumeAt board motes (map N.device boards.old) (map N.device boards.new) }
-    ensures calm_no_volume { (board : ℕ) → result ≡ Err (MountStopped.NotAVolume board) → NoneRose (map N.device boards.old) (map N.device boards.new) }
+    ensures stopped { (board : ℕ) → result ≡ Err (MountStopped.Flash board)
+        → MountStops board motes (map N.device boards.old) (map N.device boards.new) }
+    ensures no_volume { (board : ℕ) → result ≡ Err (MountStopped.NotAVolume board)
+        → NoVolumeAt board motes (map N.device boards.old) (map N.device boards.new) }
+    ensures calm_no_volume { (board : ℕ) → result ≡ Err (MountStopped.NotAVolume board)
+        → NoneRose (map N.device boards.old) (map N.device boards.new) }
 {
     for board in 0..motes {
         match mount_board(&mut boards[usize::from(board)]) {

@@ -1,5 +1,6 @@
 //! A step at the board of its mote, and what is told of it.
-ghost use Rattle.std.specs.Prelude.{◌≡◌, ◌+◌, ◌^◌, ◌<◌, ◌≤◌, ◌∷◌, ◌++◌, ℕ, [], None, Some, length, vec_len, option_to_list, OnOk, OnErr, IfOk, IfSome, IsTrue, true, false};
+ghost use Rattle.std.specs.Prelude.{◌≡◌, ◌+◌, ◌^◌, ◌<◌, ◌≤◌, ◌∷◌, ◌++◌, ℕ, [], None, Some, length, vec_len, option_to_list};
+ghost use Rattle.std.specs.Prelude.{option_copied, OnOk, OnErr, IfOk, IfSome, IsTrue, true, false};
 ghost use Rattle.std.specs.List.{filter};
 ghost use Rattle.std.specs.Vec.{vec_capacity};
 ghost use Rattle.dg_nor.specs.Device.{Took};
@@ -8,30 +9,27 @@ ghost use Rattle.dg_volume.specs.Store.{Store};
 ghost use Rattle.dg_volume.specs.Stands.{Stands, Tells};
 ghost use Rattle.dg_frame.specs.Grammar.{message_of};
 ghost use Rattle.dg_rules.specs.Sizes.{most_motes};
-ghost use Rattle.dg_rules.specs.World.{World as RuleWorld, site};
+ghost use Rattle.dg_rules.specs.World.{World as RuleWorld};
 ghost use Rattle.dg_rules.specs.Changes.{sent_line, is_told};
-ghost use Rattle.dg_rules.specs.Events.{does, mote_of, dt_of};
-ghost use Rattle.dg_rules.specs.Ranges.{StepFits};
-ghost use Rattle.dg_world.specs.Shareds.{IsShared};
-ghost use Rattle.dg_world.specs.Worlds.{SiteStands, MayRun};
+ghost use Rattle.dg_rules.specs.Ranges.{StepInRange};
+ghost use Rattle.dg_world.specs.Occasions.{step_of, MayHappen};
 ghost use Rattle.dg_world.specs.Turn.{Refused, Starts};
 ghost use Rattle.dg_world.specs.Turns.{turn_lines, sent_shown};
-ghost use Rattle.dg_world.specs.Tellings.{IsNothing, turn_of, stepped};
-ghost use Rattle.dg_world.specs.Stepped.{CutChangesAre, CutTold, Stepped};
-ghost use Rattle.dg_world.specs.Unseen.{RefusesUnseen};
-ghost use Rattle.dg_world.specs.Known.{IsKnownChip, IsOrder, MakesKnown, SeesOrder, SeesCut, StepSees, OrderTakes, InjectTakes};
+ghost use Rattle.dg_world.specs.Tellings.{IsNothing, turn_of};
+ghost use Rattle.dg_world.specs.Stepped.{CutChangesAre, CutTold, StepDid, station};
+ghost use Rattle.dg_world.specs.Known.{IsKnownChip, IsOrder, MakesKnown, SeesOrder, SeesCut};
 
 use crate::cutting::play_cut;
-use crate::events::mote_at;
-use crate::happening::{happen, mount_known};
-use crate::shared::Shared;
+use crate::happening::happen;
+use crate::mounting::mount_known;
+use crate::occasion::Occasion;
 use crate::shown::{MOST_CHANGES, Shown, push_changes, push_line, show};
 use crate::telling::{Fault, Power, StartLine, Telling};
 use crate::world::RunningMote;
 use dg_frame::{Frame, Message, read};
 use dg_mote::Outbox;
 use dg_nor::Nor;
-use dg_rules::{Cause, Cut, Event, Report, Step};
+use dg_rules::{Cause, Cut, Event, Report};
 use dg_volume::{Volume, a_volume_bounds_a_remount};
 
 /// The most lines that are told of a step.
@@ -159,7 +157,8 @@ fn look_again<N: Nor>(
     ensures told { (s : Store) → Stands (N.device board.old).image s
         → CutTold result mote before.now s (N.device board.old) (N.device board.new) out.old.items out.new.items }
     ensures sees { IfOk result (λ orderly. SeesOrder orderly (N.device board.new).image) }
-    ensures took { IsTrue known → (n : ℕ) → RemountBytes (N.device board.old).image n → Took n (N.device board.old) (N.device board.new) }
+    ensures took { IsTrue known → (n : ℕ) → RemountBytes (N.device board.old).image n
+        → Took n (N.device board.old) (N.device board.new) }
     ensures room { vec_capacity out.new ≡ vec_capacity out.old }
     ensures few { vec_len out.new ≤ vec_len out.old + MOST_CHANGES }
 {
@@ -212,7 +211,8 @@ fn look_after_cut<N: Nor>(
     ensures told { (s : Store) → Stands (N.device board.old).image s
         → CutTold result mote before.now s (N.device board.old) (N.device board.new) out.old.items out.new.items }
     ensures sees { IfOk result (λ seen. (w : RuleWorld) → SeesCut w event.now known seen (N.device board.new).image) }
-    ensures took { (known ≡ true) → IsOrder event.now → (n : ℕ) → RemountBytes (N.device board.old).image n → Took n (N.device board.old) (N.device board.new) }
+    ensures took { (known ≡ true) → IsOrder event.now → (n : ℕ) → RemountBytes (N.device board.old).image n
+        → Took n (N.device board.old) (N.device board.new) }
     ensures room { vec_capacity out.new ≡ vec_capacity out.old }
     ensures few { vec_len out.new ≤ vec_len out.old + MOST_CHANGES }
 {
@@ -226,77 +226,48 @@ fn look_after_cut<N: Nor>(
 
 /// A step without a cut at the board of its mote, whose frame is left in the outbox. There is room for what is told of it.
 fn step_whole<N: Nor>(
-    shared: &Shared,
+    occasion: &Occasion<'_>,
     runs: &mut Option<RunningMote>,
-    now: u64,
-    step: &Step,
-    known: bool,
-    loud: bool,
+    event: &Event,
     board: &mut N,
     telling: &mut Telling,
     out: &mut Vec<Report>,
 ) -> Result<(), Fault>
     requires room { vec_len out.old + MOST_LINES ≤ vec_capacity out.old }
-    requires fits { (motes : ℕ) × StepFits motes step.now × (motes ≤ most_motes) }
-    requires uncut { step.now.cut ≡ None }
-    requires mote { MayRun (N.device board.old).image now runs.old }
-    requires known_chip { IsTrue known → IsKnownChip (N.device board.old).image }
-    requires moment { now < 2 ^ 62 }
+    requires fits { (motes : ℕ) × StepInRange motes (step_of event.now None) × (motes ≤ most_motes) }
+    requires may { MayHappen occasion.now event.now (N.device board.old) runs.old }
     requires nothing { IsNothing telling.old }
-    ensures steps { (w : RuleWorld) → StepFits (length w.sites) step.now → IsShared shared.now w → SiteStands (N.device board.old) runs.old (site w (mote_of step.now.event))
-        → now ≡ w.moment + dt_of step.now.event
-        → Stepped (stepped result telling.new) w step.now loud runs.new (N.device board.old) (N.device board.new) out.old.items out.new.items }
-    ensures sees { OnOk result ((w : RuleWorld) → IsShared shared.now w → SiteStands (N.device board.old) runs.old (site w (mote_of step.now.event)) → now ≡ w.moment + dt_of step.now.event
-        → StepSees w step.now.event known telling.new.orderly runs.new (N.device board.old).image (N.device board.new).image) }
-    ensures order_reads { IsTrue known → OrderTakes step.now.event (N.device board.old) (N.device board.new) }
-    ensures inject_reads { OnOk result (IsTrue known → (w : RuleWorld) → IsShared shared.now w → SiteStands (N.device board.old) runs.old (site w (mote_of step.now.event)) → now ≡ w.moment + dt_of step.now.event
-        → InjectTakes w step.now.event (N.device board.old) (N.device board.new)) }
-    ensures unseen { (w : RuleWorld) → IsShared shared.now w → SiteStands (N.device board.old) runs.old (site w (mote_of step.now.event)) → now ≡ w.moment + dt_of step.now.event
-        → RefusesUnseen (does w step.now.event) → (board.new ≡ board.old) × OnErr result ⊥ }
+    ensures { StepDid result occasion.now (step_of event.now None) telling.new
+        (station (N.device board.old) runs.old out.old.items) (station (N.device board.new) runs.new out.new.items) }
 {
-    let mote = mote_at(&step.event);
-    happen(shared, runs, now, &step.event, known, board, telling)?;
-    push_told(mote, telling, loud, out);
+    happen(occasion, runs, event, board, telling)?;
+    push_told(occasion.mote, telling, occasion.loud, out);
     Ok(())
 }
 
 /// A step with this cut at the board of its mote, which is off after it where it blew. There is room for what is told of it.
 fn step_cut<N: Nor>(
-    shared: &Shared,
+    occasion: &Occasion<'_>,
     runs: &mut Option<RunningMote>,
-    now: u64,
-    step: &Step,
+    event: &Event,
     cut: &Cut,
-    known: bool,
-    loud: bool,
     board: &mut N,
     telling: &mut Telling,
     out: &mut Vec<Report>,
 ) -> Result<(), Fault>
     requires room { vec_len out.old + MOST_LINES ≤ vec_capacity out.old }
-    requires fits { (motes : ℕ) × StepFits motes step.now × (motes ≤ most_motes) }
-    requires cut { step.now.cut ≡ Some cut.now }
-    requires mote { MayRun (N.device board.old).image now runs.old }
-    requires known_chip { IsTrue known → IsKnownChip (N.device board.old).image }
-    requires moment { now < 2 ^ 62 }
+    requires fits { (motes : ℕ) × StepInRange motes (step_of event.now (Some cut.now)) × (motes ≤ most_motes) }
+    requires may { MayHappen occasion.now event.now (N.device board.old) runs.old }
     requires nothing { IsNothing telling.old }
-    ensures steps { (w : RuleWorld) → StepFits (length w.sites) step.now → IsShared shared.now w → SiteStands (N.device board.old) runs.old (site w (mote_of step.now.event))
-        → now ≡ w.moment + dt_of step.now.event
-        → Stepped (stepped result telling.new) w step.now loud runs.new (N.device board.old) (N.device board.new) out.old.items out.new.items }
-    ensures sees { OnOk result ((w : RuleWorld) → IsShared shared.now w → SiteStands (N.device board.old) runs.old (site w (mote_of step.now.event)) → now ≡ w.moment + dt_of step.now.event
-        → StepSees w step.now.event known telling.new.orderly runs.new (N.device board.old).image (N.device board.new).image) }
-    ensures order_reads { IsTrue known → OrderTakes step.now.event (N.device board.old) (N.device board.new) }
-    ensures inject_reads { OnOk result (IsTrue known → (w : RuleWorld) → IsShared shared.now w → SiteStands (N.device board.old) runs.old (site w (mote_of step.now.event)) → now ≡ w.moment + dt_of step.now.event
-        → InjectTakes w step.now.event (N.device board.old) (N.device board.new)) }
-    ensures unseen { (w : RuleWorld) → IsShared shared.now w → SiteStands (N.device board.old) runs.old (site w (mote_of step.now.event)) → now ≡ w.moment + dt_of step.now.event
-        → RefusesUnseen (does w step.now.event) → (board.new ≡ board.old) × OnErr result ⊥ }
+    ensures { StepDid result occasion.now (step_of event.now (Some cut.now)) telling.new
+        (station (N.device board.old) runs.old out.old.items) (station (N.device board.new) runs.new out.new.items) }
 {
-    let mote = mote_at(&step.event);
-    match play_cut(shared, runs, now, &step.event, cut, known, board, telling)? {
-        Power::Stays => push_told(mote, telling, loud, out),
+    let mote = occasion.mote;
+    match play_cut(occasion, runs, event, cut, board, telling)? {
+        Power::Stays => push_told(mote, telling, occasion.loud, out),
         Power::Cut => {
             a_volume_bounds_a_remount();
-            let orderly = look_after_cut(mote, &step.event, &telling.before, known, board, out)?;
+            let orderly = look_after_cut(mote, event, &telling.before, occasion.known, board, out)?;
             telling.orderly = orderly;
             out.push_reserved(Report::Off { mote });
             *runs = None;
@@ -308,37 +279,23 @@ fn step_cut<N: Nor>(
 
 /// A step at the board of its mote, which runs `runs`. Its frame is left in the outbox. There is room for what is told of it.
 pub(crate) fn step_at<N: Nor>(
-    shared: &Shared,
+    occasion: &Occasion<'_>,
     runs: &mut Option<RunningMote>,
-    now: u64,
-    step: &Step,
-    known: bool,
-    loud: bool,
+    event: &Event,
+    cut: Option<&Cut>,
     board: &mut N,
     telling: &mut Telling,
     out: &mut Vec<Report>,
 ) -> Result<(), Fault>
     requires room { vec_len out.old + MOST_LINES ≤ vec_capacity out.old }
-    requires fits { (motes : ℕ) × StepFits motes step.now × (motes ≤ most_motes) }
-    requires mote { MayRun (N.device board.old).image now runs.old }
-    requires known_chip { IsTrue known → IsKnownChip (N.device board.old).image }
-    requires moment { now < 2 ^ 62 }
+    requires fits { (motes : ℕ) × StepInRange motes (step_of event.now (option_copied cut)) × (motes ≤ most_motes) }
+    requires may { MayHappen occasion.now event.now (N.device board.old) runs.old }
     requires nothing { IsNothing telling.old }
-    ensures steps { (w : RuleWorld) → StepFits (length w.sites) step.now → IsShared shared.now w → SiteStands (N.device board.old) runs.old (site w (mote_of step.now.event))
-        → now ≡ w.moment + dt_of step.now.event
-        → Stepped (stepped result telling.new) w step.now loud runs.new (N.device board.old) (N.device board.new) out.old.items out.new.items }
-    ensures sees { OnOk result ((w : RuleWorld) → IsShared shared.now w → SiteStands (N.device board.old) runs.old (site w (mote_of step.now.event)) → now ≡ w.moment + dt_of step.now.event
-        → StepSees w step.now.event known telling.new.orderly runs.new (N.device board.old).image (N.device board.new).image) }
-    ensures order_reads { IsTrue known → OrderTakes step.now.event (N.device board.old) (N.device board.new) }
-    ensures inject_reads { OnOk result (IsTrue known → (w : RuleWorld) → IsShared shared.now w → SiteStands (N.device board.old) runs.old (site w (mote_of step.now.event)) → now ≡ w.moment + dt_of step.now.event
-        → InjectTakes w step.now.event (N.device board.old) (N.device board.new)) }
-    ensures unseen { (w : RuleWorld) → IsShared shared.now w → SiteStands (N.device board.old) runs.old (site w (mote_of step.now.event)) → now ≡ w.moment + dt_of step.now.event
-        → RefusesUnseen (does w step.now.event) → (board.new ≡ board.old) × OnErr result ⊥ }
+    ensures { StepDid result occasion.now (step_of event.now (option_copied cut.entry)) telling.new
+        (station (N.device board.old) runs.old out.old.items) (station (N.device board.new) runs.new out.new.items) }
 {
-    match &step.cut {
-        None => step_whole(shared, runs, now, step, known, loud, board, telling, out),
-        Some(cut) => step_cut(
-            shared, runs, now, step, cut, known, loud, board, telling, out,
-        ),
+    match cut {
+        None => step_whole(occasion, runs, event, board, telling, out),
+        Some(cut) => step_cut(occasion, runs, event, cut, board, telling, out),
     }
 }

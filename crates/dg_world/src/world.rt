@@ -34,8 +34,7 @@ pub enum DeclareFault {
     Taken,
 }
 
-/// Why an event is not applied, or the last state not told. After `Flash`, `NotAVolume` and `NoImage` the world is not
-/// used again.
+/// Why an event is not applied. After `Flash`, `NotAVolume` and `NoImage` the world is not used again.
 #[derive(Clone, Copy, Debug, PartialEq, Eq)]
 pub enum WorldFault {
     /// There was no memory. Nothing has changed.

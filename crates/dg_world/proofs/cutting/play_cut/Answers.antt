@@ -8,7 +8,7 @@ use Rattle.dg_rules.specs.World.{Site, site}
 use Rattle.dg_rules.specs.Events.{does, mote_of}
 use Rattle.dg_world.specs.Worlds.{MoteStands, SiteStands, MayRun}
 use Rattle.dg_world.specs.declared.world.RunningMote.{RunningMote}
-use Rattle.dg_world.specs.Cuts.{ended, Played}
+use Rattle.dg_world.specs.Cuts.{ended, EventPlayed}
 use Rattle.dg_world.specs.Tellings.{turned, ended_as}
 use Rattle.dg_world.proofs.CutLemmas.{is_fused, fused, played_as}
 use Rattle.dg_world.proofs.UnseenLemmas.{ended_on}
@@ -25,13 +25,19 @@ begun a d v x same stands = record {
   mote = subst (λ (c : List ℕ). MoteStands c v x.store x.runs) (sym same) stands.mote;
 }
 
-pub happen-done-requires-clause-mote : goal.happen-done-requires-clause-mote
-happen-done-requires-clause-mote g c =
+pub happen-done-requires-clause-may : goal.happen-done-requires-clause-may
+happen-done-requires-clause-may g c =
     let made = ap (λ (d : Device). d.image) c.fuse_of-fused.ensures.device in
-    subst (λ (i : List ℕ). MayRun i c.args.now c.args.runs.now) (sym made) c.requires.mote
+    let o = c.args.occasion.now in
+    let may = c.requires.may in
+    record {
+      here = may.here;
+      mote = subst (λ (i : List ℕ). MayRun i o.moment c.args.runs.now) (sym made) may.mote;
+      known = λ known. subst (λ (i : List ℕ). IsKnownChip i) (sym made) (may.known known);
+    }
 
 pub returns-clause-played : goal.returns-clause-played
-returns-clause-played g c = λ w shared stands at.
+returns-clause-played g c = λ w on.
     let device = g.N.Nor.device in
     let m = mote_of c.args.event.now in
     let cut = c.args.cut.now in
@@ -41,30 +47,25 @@ returns-clause-played g c = λ w shared stands at.
     let t = c.happen-done.new.telling in
     let name = sym (same_reference device c.fuse_of-fused.result c.happen-done.new.board c.happen-done.ensures.same_reference ∙ c.fuse_of-fused.ensures.same_reference) in
     let last = c.board-1.given.1 name in
-    let here = begun (device c.args.board.now) _ v (site w m) (ap (λ (d : Device). d.image) made) stands in
+    let here = begun (device c.args.board.now) _ v (site w m) (ap (λ (d : Device). d.image) made) on.stands in
     let f = is_fused device cut (device c.args.board.now) c.fuse_of-fused.result c.happen-done.new.board _ c.requires.cut.counted made in
-    let p = fused (turned c.happen-done.result t) cut w m (does w c.args.event.now) v u _ _ _ _ f (c.happen-done.ensures.ends w shared here at) in
+    let p = fused (turned c.happen-done.result t) cut w m (does w c.args.event.now) v u _ _ _ _ f (c.happen-done.ensures.ends w (record { shared = on.shared; stands = here; moment = on.moment })) in
     let awake = c.is_stopped-stopped.ensures ∙ ap (λ (x : g.row.N.Denot). (device x).stopped) last in
     let e = c.end_turn.ensures t
     ∙ ap (λ b. ended (b && not c.is_stopped-stopped.result) (turned c.happen-done.result t)) c.blown-blown.ensures
     ∙ ap (λ b. ended (c.happen-done.new.board.blown && not b) (turned c.happen-done.result t)) awake in
-    let P : g.row.N.Denot → Type 0 = λ x. Played (ended_as c.end_turn.result t) w m (does w c.args.event.now) (Some cut) v u (device c.args.board.now) (device x) in
+    let P : g.row.N.Denot → Type 0 = λ x. EventPlayed (ended_as c.end_turn.result t) w m (does w c.args.event.now) (Some cut) v u (device c.args.board.now) (device x) in
     subst P (sym last) (played_as (ended_as c.end_turn.result t) _ (Some cut) (Some cut) w m (does w c.args.event.now) v u _ _ e refl p)
 
 pub returns-clause-unseen : goal.returns-clause-unseen
-returns-clause-unseen g c = λ w shared stands at unseen.
+returns-clause-unseen g c = λ w on unseen.
     let device = g.N.Nor.device in
     let made = c.fuse_of-fused.ensures.device in
     let name = sym (same_reference device c.fuse_of-fused.result c.happen-done.new.board c.happen-done.ensures.same_reference ∙ c.fuse_of-fused.ensures.same_reference) in
     let last = c.board-1.given.1 name in
-    let here = begun (device c.args.board.now) _ c.args.runs.now (site w (mote_of c.args.event.now)) (ap (λ (d : Device). d.image) made) stands in
-    let stays = c.happen-done.ensures.unseen w shared here at unseen in
+    let here = begun (device c.args.board.now) _ c.args.runs.now (site w (mote_of c.args.event.now)) (ap (λ (d : Device). d.image) made) on.stands in
+    let stays = c.happen-done.ensures.unseen w (record { shared = on.shared; stands = here; moment = on.moment }) unseen in
     (last ∙ ap inner_of stays.0 ∙ c.fuse_of-fused.ensures.inner, ended_on c.end_turn.result c.happen-done.result _ c.happen-done.new.telling (c.end_turn.ensures c.happen-done.new.telling) stays.1)
-
-pub happen-done-requires-clause-known_chip : goal.happen-done-requires-clause-known_chip
-happen-done-requires-clause-known_chip g c = λ known.
-    let made = ap (λ (d : Device). d.image) c.fuse_of-fused.ensures.device in
-    subst (λ (i : List ℕ). IsKnownChip i) (sym made) (c.requires.known_chip known)
 
 pub returns-clause-reads : goal.returns-clause-reads
 returns-clause-reads g c =
@@ -74,9 +75,9 @@ returns-clause-reads g c =
     let name = sym (same_reference device c.fuse_of-fused.result c.happen-done.new.board c.happen-done.ensures.same_reference ∙ c.fuse_of-fused.ensures.same_reference) in
     let last = c.board-1.given.1 name in
     let y = c.happen-done.new.board in
-    let P : g.row.N.Denot → Type 0 = λ x. EventReads c.args.event.now c.args.known (c.end_turn.result ≡ Ok power.Stays) t.refused (device c.args.board.now) (device x) in
+    let P : g.row.N.Denot → Type 0 = λ x. EventReads c.args.event.now c.args.occasion.now.known (c.end_turn.result ≡ Ok power.Stays) t.refused (device c.args.board.now) (device x) in
     subst P (sym last)
-    (reads_over c.args.event.now c.args.known _ (c.end_turn.result ≡ Ok power.Stays) t.refused _ (fused_device device y) (device c.args.board.now) (device (inner_of y)) (λ is. stays_done c.end_turn.result c.happen-done.result _ t (c.end_turn.ensures t) is)
+    (reads_over c.args.event.now c.args.occasion.now.known _ (c.end_turn.result ≡ Ok power.Stays) t.refused _ (fused_device device y) (device c.args.board.now) (device (inner_of y)) (λ is. stays_done c.end_turn.result c.happen-done.result _ t (c.end_turn.ensures t) is)
     (ap (λ (d : Device). d.image) made) refl (ap (λ (d : Device). d.taken) made) refl c.happen-done.ensures.reads)
 
 pub returns-clause-sees : goal.returns-clause-sees

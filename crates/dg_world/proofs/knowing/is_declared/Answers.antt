@@ -3,7 +3,7 @@ use Rattle.dg_base.specs.declared.events.Key.{Key}
 use Rattle.dg_world.specs.Images.{row_of_image}
 use Rattle.dg_world.proofs.ImageLemmas.{known_row, unknown_row}
 use Rattle.dg_world.proofs.InjectLemmas.{not_zero}
-use Rattle.dg_world.proofs.KnownLemmas.{narrow_injects, golden_makes, unknown_makes, known_makes}
+use Rattle.dg_world.proofs.MakesLemmas.{narrow_injects, golden_makes, unknown_makes, known_makes}
 use Rattle.dg_world.proofs.knowing.is_declared.Goals as goal
 
 pub returns-then-not-is_known_to : goal.returns-then-not-is_known_to

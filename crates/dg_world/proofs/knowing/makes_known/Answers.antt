@@ -1,9 +1,7 @@
-use Rattle.std.proofs.Common.{◌≡◌, ℕ, sym, subst, ◌∙◌}
+use Rattle.std.proofs.Common.{sym, subst}
 use Rattle.dg_base.specs.declared.events.Event.{Event}
-use Rattle.dg_rules.specs.Events.{mote_of, knows}
-use Rattle.dg_rules.specs.World.{wide_at}
 use Rattle.dg_world.specs.Known.{MakesKnown}
-use Rattle.dg_world.proofs.KnownLemmas.{order_known_then, inject_known_then, mote_in}
+use Rattle.dg_world.proofs.MakesLemmas.{order_known_then, inject_known_then, mote_in}
 use Rattle.dg_world.proofs.knowing.makes_known.Goals as goal
 
 pub returns-in-Order : goal.returns-in-Order

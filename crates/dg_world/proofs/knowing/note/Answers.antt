@@ -1,7 +1,7 @@
 use Rattle.std.proofs.Common.{sym, ◌∙◌, ap}
 use Rattle.std.specs.FinSet as set
 use Rattle.dg_bits.specs.Sets.{Numbers}
-use Rattle.dg_world.proofs.KnownLemmas.{put_in, put_others, taken_out, out_others}
+use Rattle.dg_world.proofs.MakesLemmas.{put_in, put_others, taken_out, out_others}
 use Rattle.dg_world.proofs.knowing.note.Goals as goal
 
 pub returns-then-known-clause-here : goal.returns-then-known-clause-here

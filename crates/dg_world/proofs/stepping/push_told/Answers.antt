@@ -3,7 +3,7 @@ use Rattle.std.specs.Prelude.{option_map}
 use Rattle.std.specs.List.{filter}
 use Rattle.dg_rules.specs.Changes.{is_told}
 use Rattle.dg_script.specs.declared.report.Report.{Report}
-use Rattle.dg_world.specs.Turn.{Turn, Changes}
+use Rattle.dg_world.specs.Turn.{EventTurn, Changes}
 use Rattle.dg_world.specs.Turns.{turn_lines}
 use Rattle.dg_world.specs.Tellings.{turn_of}
 use Rattle.dg_world.proofs.ShownLemmas.{shown_told}
@@ -17,4 +17,4 @@ returns-in-Some-Some c =
     let turn : turn_of t ≡ Changes e.before e.after = changes_of t e.before e.after (sym c.frame.ensures ∙ ap (λ f. option_map (λ x. x.now.items) f) c.in_default.is) c.in_default-refused.is c.in_default-started.is e.is-0 e.is-1 in
     c.push_changes.ensures.told
     ∙ ap (λ (l : List Report). c.args.out.now.items ++ l) (sym (shown_told c.args.loud c.args.mote e.before e.after))
-    ∙ ap (λ (x : Turn). c.args.out.now.items ++ filter (is_told c.args.loud) (turn_lines c.args.mote x)) (sym turn)
+    ∙ ap (λ (x : EventTurn). c.args.out.now.items ++ filter (is_told c.args.loud) (turn_lines c.args.mote x)) (sym turn)

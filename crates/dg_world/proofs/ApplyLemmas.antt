@@ -1,0 +1,160 @@
+-- What a step answers that is not begun, and one that is.
+use Rattle.std.proofs.Common.{◌≡◌, ℕ, ◌<◌, ◌≤◌, Bool, List, ◌++◌, length, take, refl, ◌∙◌, subst, ⊎_elim, arith}
+use Rattle.std.proofs.lemmas.List.{take-append-le, take_all}
+use Rattle.std.specs.Prelude.{Result, Ok, Err}
+use Rattle.dg_object.specs.Object.{Row}
+use Rattle.dg_base.specs.declared.events.Step.{Step}
+use Rattle.dg_script.specs.declared.report.Report.{Report}
+use Rattle.dg_rules.specs.Sizes.{most_events}
+use Rattle.dg_rules.specs.World.{World as RuleWorld, Sent}
+use Rattle.dg_rules.specs.Steps.{WorldStep}
+use Rattle.dg_rules.specs.Ranges.{StepInRange, EventInRange}
+use Rattle.dg_rules.specs.Consistency.{WorldConsistent, StopsConsistent}
+use Rattle.dg_world.specs.Airs.{Carries}
+use Rattle.dg_world.specs.Applied.{FlashAt}
+use Rattle.dg_world.specs.Applying.{Deployment, IsOf, ApplyDone, ApplyMade}
+use Rattle.dg_world.specs.declared.air.Air.{Air}
+use Rattle.dg_world.specs.declared.world.WorldFault.{WorldFault}
+use Rattle.dg_world.specs.declared.world.WorldFault.TheVariants.{Memory, Flash, TooMany, NotAVolume, NoImage}
+use Rattle.dg_world.proofs.KnownLemmas.{same_takes}
+use Rattle.dg_world.proofs.PlaceLemmas.{reserved}
+use Rattle.dg_world.proofs.SoundLemmas.{same_count, applied_consistent, flash_consistent}
+
+-- the elements of a vector that were lent as a slice
+pub given_back : {A : Type 0} (n : ℕ) (now rest : List A) → n ≡ length now → take n (now ++ rest) ≡ now
+given_back n now rest e = take-append-le n now rest (omega (arith, e)) ∙ take_all n now (omega (arith, e))
+
+-- another fault
+other : {A : Type 0} (e f : WorldFault) → ◌≡◌ {A = Result (Unit {0}) WorldFault} (Err e) (Err f) → (e ≡ f → A) → A
+other e f same go = go (let g : e ≡ f = cc in g)
+
+-- A world that has made all its events makes no more.
+pub full_done : (x : Step) (loud : Bool) (a : Deployment) → most_events ≤ a.world.events → ApplyDone (Err TooMany) x loud a a
+full_done x loud a most =
+    record {
+      applied = tt;
+      too_many = λ e w is. omega (arith, most, is.events, is.few_events);
+      full = λ w is e. refl;
+      unchanged = λ e. (λ w is. is, refl);
+      untold = refl;
+      flash = λ board e. absurd (other TooMany (Flash board) e (λ f. cc));
+      no_image = λ e. absurd (other TooMany NoImage e (λ f. cc));
+      a_volume = λ e. other TooMany NotAVolume e (λ f. cc);
+      known = tt;
+      order_reads = λ w m old new is here known first last. same_takes x.event old new _ first last;
+      inject_reads = tt;
+      unseen = λ w is unseen. (refl, λ board e. other TooMany (Flash board) e (λ f. cc));
+      consistent = tt;
+      stops_consistent = λ golden board e. absurd (other TooMany (Flash board) e (λ f. cc));
+    }
+
+-- Where there is no memory, nothing is done.
+pub lacking_done : (x : Step) (loud : Bool) (a b : Deployment) → a.world.events < most_events → b.boards ≡ a.boards → b.told ≡ a.told → ((w : RuleWorld) → IsOf a w → IsOf b w)
+    → ApplyDone (Err Memory) x loud a b
+lacking_done x loud a b few boards told kept =
+    record {
+      applied = tt;
+      too_many = λ e. absurd (other Memory TooMany e (λ f. cc));
+      full = λ w is e. absurd (omega (arith, few, is.events, e));
+      unchanged = λ e. (kept, boards);
+      untold = told;
+      flash = λ board e. absurd (other Memory (Flash board) e (λ f. cc));
+      no_image = λ e. absurd (other Memory NoImage e (λ f. cc));
+      a_volume = λ e. other Memory NotAVolume e (λ f. cc);
+      known = tt;
+      order_reads = λ w m old new is here known first last. same_takes x.event old new _ first (rw (← boards) last);
+      inject_reads = tt;
+      unseen = λ w is unseen. (boards, λ board e. other Memory (Flash board) e (λ f. cc));
+      consistent = tt;
+      stops_consistent = λ golden board e. absurd (other Memory (Flash board) e (λ f. cc));
+    }
+
+-- One that was begun is done as its events and boards say.
+module _ (x : Step) (loud : Bool) (a b : Deployment) (air : Air) (z : RuleWorld) (is : IsOf a z) (fits : StepInRange (length z.sites) x) (few : a.world.events < most_events)
+    (carries : (sent : List Sent) → Carries a.world.shared.air sent → Carries air sent)
+    (stepped : (golden : Row) (y v : RuleWorld) (reports : List Report) → WorldConsistent golden y → StepInRange (length y.sites) x → WorldStep y x v reports → WorldConsistent golden v)
+    (stopped : (golden : Row) (y : RuleWorld) → WorldConsistent golden y → EventInRange (length y.sites) x.event → StopsConsistent golden y x.event) where
+  -- with room for a frame
+  abbrev Roomy : Deployment
+  Roomy = record a { world = record a.world { shared = record a.world.shared { air = air } } }
+
+  roomy : (w : RuleWorld) → IsOf a w → IsOf Roomy w
+  roomy w at = reserved a.world air a.boards w carries at
+
+  fits_in : (w : RuleWorld) → IsOf a w → StepInRange (length w.sites) x
+  fits_in w at = subst (λ (n : ℕ). StepInRange n x) (same_count a.world a.boards z w is at) fits
+
+  not_full : (w : RuleWorld) → IsOf a w → w.events ≡ most_events → ⊥
+  not_full w at full = omega (arith, few, at.events, full)
+
+  was_applied : ApplyMade (Ok tt) x loud Roomy b → ApplyDone (Ok tt) x loud a b
+  was_applied m =
+      record {
+        applied = λ w at. m.ends w (roomy w at) (fits_in w at);
+        too_many = λ e. absurd (no_fault TooMany e);
+        full = λ w at full. absurd (not_full w at full);
+        unchanged = λ e. absurd (⊎_elim (λ y. no_fault TooMany y) (λ y. no_fault Memory y) e);
+        untold = tt;
+        flash = λ board e. absurd (no_fault (Flash board) e);
+        no_image = λ e. absurd (no_fault NoImage e);
+        a_volume = λ e. no_fault NotAVolume e;
+        known = λ w at. record { exactly = (m.known w (roomy w at) (fits_in w at)).exactly };
+        order_reads = λ w k old new at. m.order_reads w k old new (roomy w at);
+        inject_reads = λ w k old new at. m.inject_reads w k old new (roomy w at);
+        unseen = λ w at unseen. ((m.unseen w (roomy w at) (fits_in w at) unseen).0, λ board e. no_fault (Flash board) e);
+        consistent = λ golden here.
+            applied_consistent golden a.world b.world a.boards b.boards z x loud a.told b.told is fits here (stepped golden) (m.ends here.world (roomy here.world here.stands) (fits_in here.world here.stands));
+        stops_consistent = λ golden board e. absurd (no_fault (Flash board) e);
+      }
+    where
+      no_fault : (f : WorldFault) → ◌≡◌ {A = Result (Unit {0}) WorldFault} (Ok tt) (Err f) → ⊥
+      no_fault f e = cc
+
+  was_stopped : (n : ℕ) → ApplyMade (Err (Flash n)) x loud Roomy b → ApplyDone (Err (Flash n)) x loud a b
+  was_stopped n m =
+      record {
+        applied = tt;
+        too_many = λ e. absurd (other (Flash n) TooMany e (λ f. cc));
+        full = λ w at full. absurd (not_full w at full);
+        unchanged = λ e. absurd (⊎_elim (λ y. other (Flash n) TooMany y (λ f. cc)) (λ y. other (Flash n) Memory y (λ f. cc)) e);
+        untold = (m.ends z (roomy z is) fits).1;
+        flash = flash_at;
+        no_image = λ e. absurd (other (Flash n) NoImage e (λ f. cc));
+        a_volume = λ e. other (Flash n) NotAVolume e (λ f. cc);
+        known = tt;
+        order_reads = λ w k old new at. m.order_reads w k old new (roomy w at);
+        inject_reads = tt;
+        unseen = λ w at unseen. let y = m.unseen w (roomy w at) (fits_in w at) unseen in (y.0, λ board e. y.1);
+        consistent = tt;
+        stops_consistent = λ golden board e here. flash_consistent golden a.world a.boards b.boards z x board is fits here (stopped golden) (flash_at board e here.world here.stands);
+      }
+    where
+      flash_at : (board : ℕ) → ◌≡◌ {A = Result (Unit {0}) WorldFault} (Err (Flash n)) (Err (Flash board)) → (w : RuleWorld) → IsOf a w → FlashAt w x board a.boards b.boards
+      flash_at board e w at = let same : n ≡ board = cc in subst (λ (k : ℕ). FlashAt w x k a.boards b.boards) same (m.ends w (roomy w at) (fits_in w at)).0
+
+  had_no_image : ApplyMade (Err NoImage) x loud Roomy b → ApplyDone (Err NoImage) x loud a b
+  had_no_image m =
+      record {
+        applied = tt;
+        too_many = λ e. absurd (other NoImage TooMany e (λ f. cc));
+        full = λ w at full. absurd (not_full w at full);
+        unchanged = λ e. absurd (⊎_elim (λ y. other NoImage TooMany y (λ f. cc)) (λ y. other NoImage Memory y (λ f. cc)) e);
+        untold = (m.ends z (roomy z is) fits).1;
+        flash = λ board e. absurd (other NoImage (Flash board) e (λ f. cc));
+        no_image = λ e w at. (m.ends w (roomy w at) (fits_in w at)).0;
+        a_volume = λ e. other NoImage NotAVolume e (λ f. cc);
+        known = tt;
+        order_reads = λ w k old new at. m.order_reads w k old new (roomy w at);
+        inject_reads = tt;
+        unseen = λ w at unseen. ((m.unseen w (roomy w at) (fits_in w at) unseen).0, λ board e. other NoImage (Flash board) e (λ f. cc));
+        consistent = tt;
+        stops_consistent = λ golden board e. absurd (other NoImage (Flash board) e (λ f. cc));
+      }
+
+  pub made_done : (r : Result (Unit {0}) WorldFault) → ApplyMade r x loud Roomy b → ApplyDone r x loud a b
+  made_done (Ok u) m = was_applied m
+  made_done (Err (Flash n)) m = was_stopped n m
+  made_done (Err NoImage) m = had_no_image m
+  made_done (Err NotAVolume) m = absurd (m.ends z (roomy z is) fits)
+  made_done (Err Memory) m = absurd (m.ends z (roomy z is) fits)
+  made_done (Err TooMany) m = absurd (m.ends z (roomy z is) fits)

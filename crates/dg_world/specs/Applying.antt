@@ -1,0 +1,74 @@
+-- All that is promised of a step of a world.
+use Rattle.std.specs.Prelude.{◌≡◌, ◌⊎◌, ℕ, true, Bool, List, length, slice_get, Some, IfSome, OnOk, OnErr, Result, Err}
+use Rattle.dg_nor.specs.Device.{Device}
+use Rattle.dg_object.specs.Object.{Row}
+use Rattle.dg_base.specs.declared.events.Step.{Step}
+use Rattle.dg_script.specs.declared.report.Report.{Report}
+use Rattle.dg_rules.specs.Sizes.{most_events}
+use Rattle.dg_rules.specs.World.{World as RuleWorld}
+use Rattle.dg_rules.specs.Events.{does, mote_of}
+use Rattle.dg_rules.specs.Ranges.{StepInRange}
+use Rattle.dg_world.specs.Applied.{Applied, FlashAt, RunEnded, ApplyEnds, BoardsAreConsistent, BoardIsConsistent}
+use Rattle.dg_world.specs.Known.{known_of, OrderTakes, InjectTakes}
+use Rattle.dg_world.specs.Knows.{KnowsThen}
+use Rattle.dg_world.specs.Unseen.{RefusesUnseen}
+use Rattle.dg_world.specs.Worlds.{IsWorld}
+use Rattle.dg_world.specs.declared.world.World.{World}
+use Rattle.dg_world.specs.declared.world.WorldFault.{WorldFault}
+use Rattle.dg_world.specs.declared.world.WorldFault.TheVariants.{Memory, Flash, TooMany, NotAVolume, NoImage}
+
+-- a world with its boards, and what was told so far
+pub record Deployment : Type 0 where
+  pub world : World
+  pub boards : List Device
+  pub told : List Report
+
+abbrev pub deployed : World → List Device → List Report → Deployment
+deployed world boards told = record { world = world; boards = boards; told = told }
+
+-- it stands for world w by the rules
+abbrev pub IsOf : Deployment → RuleWorld → Type 0
+IsOf a w = IsWorld a.world a.boards w
+
+-- What a step made of a, which is b then, and what it answers.
+pub record ApplyDone (r : Result (Unit {0}) WorldFault) (x : Step) (loud : Bool) (a b : Deployment) : Type 0 where
+  pub applied : OnOk r ((w : RuleWorld) → IsOf a w → Applied w x loud b.world a.boards b.boards a.told b.told)
+  -- a world that has made all its events tells it, and only such a one
+  pub too_many : r ≡ Err TooMany → (w : RuleWorld) → IsOf a w → w.events ≡ most_events
+  pub full : (w : RuleWorld) → IsOf a w → w.events ≡ most_events → r ≡ Err TooMany
+  pub unchanged : (r ≡ Err TooMany) ⊎ (r ≡ Err Memory) → ((w : RuleWorld) → IsOf a w → IsOf b w) × (b.boards ≡ a.boards)
+  pub untold : OnErr r (b.told ≡ a.told)
+  pub flash : (board : ℕ) → r ≡ Err (Flash board) → (w : RuleWorld) → IsOf a w → FlashAt w x board a.boards b.boards
+  pub no_image : r ≡ Err NoImage → (w : RuleWorld) → IsOf a w → RunEnded w x a.boards b.boards
+  pub a_volume : r ≡ Err NotAVolume → ⊥
+  -- after it exactly those boards are known that are orderly then and were known, or were made known by it
+  pub known : OnOk r ((w : RuleWorld) → IsOf a w → KnowsThen w x.event a.world b.world b.boards)
+  -- an order and an injection that is refused mount a known board again by halving: an order, whatever is answered, once more
+  -- where a cut blew
+  pub order_reads : (w : RuleWorld) (m : ℕ) (old new : Device) → IsOf a w → m ≡ mote_of x.event → known_of a.world m ≡ true
+      → slice_get a.boards m ≡ Some old → slice_get b.boards m ≡ Some new → OrderTakes x.event old new
+  pub inject_reads : OnOk r ((w : RuleWorld) (m : ℕ) (old new : Device) → IsOf a w → m ≡ mote_of x.event
+      → known_of a.world m ≡ true → slice_get a.boards m ≡ Some old → slice_get b.boards m ≡ Some new
+      → InjectTakes w x.event old new)
+  -- an event that is refused without a look at the chip, as at a mote that is off, uses no board, and meets no stopped one
+  pub unseen : (w : RuleWorld) → IsOf a w → RefusesUnseen (does w x.event)
+      → (b.boards ≡ a.boards) × ((board : ℕ) → r ≡ Err (Flash board) → ⊥)
+  -- whatever bytes a frame carries and wherever power is cut: boards whose stores are consistent stay so, and so does one that
+  -- stops
+  pub consistent : OnOk r ((golden : Row) → BoardsAreConsistent golden a.world a.boards
+      → BoardsAreConsistent golden b.world b.boards)
+  pub stops_consistent : (golden : Row) (board : ℕ) → r ≡ Err (Flash board) → BoardsAreConsistent golden a.world a.boards
+      → IfSome (slice_get b.boards board) (BoardIsConsistent golden)
+
+-- The same where there is room for all that a step needs: it is not refused for want of memory, nor for want of events.
+pub record ApplyMade (r : Result (Unit {0}) WorldFault) (x : Step) (loud : Bool) (a b : Deployment) : Type 0 where
+  pub ends : (w : RuleWorld) → IsOf a w → StepInRange (length w.sites) x
+      → ApplyEnds r w x loud b.world a.boards b.boards a.told b.told
+  pub known : OnOk r ((w : RuleWorld) → IsOf a w → StepInRange (length w.sites) x → KnowsThen w x.event a.world b.world b.boards)
+  pub order_reads : (w : RuleWorld) (m : ℕ) (old new : Device) → IsOf a w → m ≡ mote_of x.event → known_of a.world m ≡ true
+      → slice_get a.boards m ≡ Some old → slice_get b.boards m ≡ Some new → OrderTakes x.event old new
+  pub inject_reads : OnOk r ((w : RuleWorld) (m : ℕ) (old new : Device) → IsOf a w → m ≡ mote_of x.event
+      → known_of a.world m ≡ true → slice_get a.boards m ≡ Some old → slice_get b.boards m ≡ Some new
+      → InjectTakes w x.event old new)
+  pub unseen : (w : RuleWorld) → IsOf a w → StepInRange (length w.sites) x → RefusesUnseen (does w x.event)
+      → (b.boards ≡ a.boards) × OnErr r ⊥

@@ -1,0 +1,202 @@
+//! A mote hears a frame.
+ghost use Rattle.std.specs.Prelude.{◌≡◌, ◌^◌, ◌<◌, ℕ, if◌then◌else◌, Option, Some, None, OnOk, OnErr, IsTrue};
+ghost use Rattle.dg_volume.specs.Stands.{Stands};
+ghost use Rattle.dg_mote.specs.Effects.{frame_effect};
+ghost use Rattle.dg_rules.specs.World.{World as RuleWorld, Running, site, store_at, frame_at, linked, last_frame};
+ghost use Rattle.dg_rules.specs.Events.{Refuses, of_effect, hear_by, heard_sent, heard_last, unless_off};
+ghost use Rattle.dg_rules.specs.Sizes.{most_motes};
+ghost use Rattle.dg_world.specs.Shareds.{IsShared};
+ghost use Rattle.dg_world.specs.Worlds.{MoteStands, SiteStands, IsTimelyMote, MayRun};
+ghost use Rattle.dg_world.specs.Turns.{IsQuiet, TurnEnds};
+ghost use Rattle.dg_world.specs.Unseen.{RefusesUnseen};
+ghost use Rattle.dg_world.specs.Tellings.{IsNothing, turned};
+ghost use Rattle.dg_world.specs.Known.{SeesMote};
+
+use crate::occasion::Occasion;
+use crate::shown::show;
+use crate::telling::{Fault, Telling};
+use crate::world::RunningMote;
+use dg_mote::Heard;
+use dg_nor::{Nor, Stopped};
+use dg_rules::Cause;
+
+/// A mote that is on hears a frame. What its chip keeps is told by its own volume.
+fn hear_on<N: Nor>(
+    running: &mut RunningMote,
+    now: u64,
+    word: u32,
+    bytes: &[u8],
+    board: &mut N,
+    telling: &mut Telling,
+) -> Result<(), Fault>
+    requires mote { IsTimelyMote (N.device board.old).image now running.old }
+    requires moment { now < 2 ^ 62 }
+    requires nothing { IsNothing telling.old }
+    ensures ends { (w : RuleWorld) (m : ℕ) (r : Running) → Stands (N.device board.old).image (store_at w m)
+        → MoteStands (N.device board.old).image (Some running.old) (store_at w m) (Some r)
+        → TurnEnds (turned result telling.new) w m (of_effect w (frame_effect r.mote (store_at w m) now word bytes.now)
+        (Some r.key)) (Some running.old) (Some running.new) (N.device board.old) (N.device board.new) }
+    ensures sees { OnOk result (telling.new.orderly ≡ None) }
+    ensures same_reference { (N.device board.new).references ≡ (N.device board.old).references }
+{
+    telling.before = Some(show(running.mote.volume()));
+    match running.mote.hear(board, now, word, bytes) {
+        Ok(heard) => {
+            if is_quiet(heard) {
+                return Ok(());
+            }
+            telling.after = Some(show(running.mote.volume()));
+            Ok(())
+        }
+        Err(Stopped) => Err(Fault::Stopped),
+    }
+}
+
+/// Whether what a chip keeps, and its order, are surely as they were before such an answer.
+fn is_quiet(heard: Heard) -> bool
+    ensures { IsTrue result → IsQuiet heard }
+{
+    match heard {
+        Heard::Refused(_)
+        | Heard::Dropped
+        | Heard::Noted
+        | Heard::Same
+        | Heard::Serves { .. }
+        | Heard::Merged
+        | Heard::Took { .. }
+        | Heard::Bad { .. } => true,
+        Heard::Other | Heard::Asks { .. } | Heard::Sealed { .. } => false,
+    }
+}
+
+/// A frame is heard.
+pub(crate) fn hear<N: Nor>(
+    runs: &mut Option<RunningMote>,
+    now: u64,
+    word: u32,
+    bytes: &[u8],
+    board: &mut N,
+    telling: &mut Telling,
+) -> Result<(), Fault>
+    requires mote { MayRun (N.device board.old).image now runs.old }
+    requires moment { now < 2 ^ 62 }
+    requires nothing { IsNothing telling.old }
+    ensures ends { (w : RuleWorld) (m : ℕ) → SiteStands (N.device board.old) runs.old (site w m)
+        → TurnEnds (turned result telling.new) w m (hear_by w (store_at w m)
+        (site w m).runs now word bytes.now) runs.old runs.new (N.device board.old) (N.device board.new) }
+    ensures unseen { (w : RuleWorld) (m : ℕ) → SiteStands (N.device board.old) runs.old (site w m)
+        → RefusesUnseen (hear_by w (store_at w m) (site w m).runs now word bytes.now)
+        → (board.new ≡ board.old) × OnErr result ⊥ }
+    ensures sees { OnOk result (SeesMote telling.new runs.new (N.device board.old).image (N.device board.new).image) }
+    ensures same_reference { (N.device board.new).references ≡ (N.device board.old).references }
+{
+    match runs {
+        None => {
+            telling.refused = Some(Cause::Off);
+            Ok(())
+        }
+        Some(running) => hear_on(running, now, word, bytes, board, telling),
+    }
+}
+
+/// The frame with a number is heard, if it was sent, and by a neighbour.
+pub(crate) fn hear_numbered<N: Nor>(
+    occasion: &Occasion<'_>,
+    runs: &mut Option<RunningMote>,
+    number: u32,
+    word: u32,
+    board: &mut N,
+    telling: &mut Telling,
+) -> Result<(), Fault>
+    requires mote { MayRun (N.device board.old).image occasion.now.moment runs.old }
+    requires nothing { IsNothing telling.old }
+    ensures ends { (w : RuleWorld) → IsShared occasion.now.shared.now w
+        → SiteStands (N.device board.old) runs.old (site w occasion.now.mote)
+        → TurnEnds (turned result telling.new) w occasion.now.mote
+        (unless_off (site w occasion.now.mote).runs (heard_sent w occasion.now.mote occasion.now.moment word
+        (frame_at w number)))
+        runs.old runs.new (N.device board.old) (N.device board.new) }
+    ensures unseen { (w : RuleWorld) → IsShared occasion.now.shared.now w
+        → SiteStands (N.device board.old) runs.old (site w occasion.now.mote)
+        → RefusesUnseen (unless_off (site w occasion.now.mote).runs (heard_sent w occasion.now.mote occasion.now.moment word
+        (frame_at w number)))
+        → (board.new ≡ board.old) × OnErr result ⊥ }
+    ensures sees { OnOk result (SeesMote telling.new runs.new (N.device board.old).image (N.device board.new).image) }
+    ensures same_reference { (N.device board.new).references ≡ (N.device board.old).references }
+{
+    if runs.is_none() {
+        telling.refused = Some(Cause::Off);
+        return Ok(());
+    }
+    match occasion.shared.air.get(number as usize) {
+        None => {
+            telling.refused = Some(Cause::Frame);
+            Ok(())
+        }
+        Some(sent) => {
+            if occasion.shared.links.are_joined(sent.by, occasion.mote) {
+                hear(
+                    runs,
+                    occasion.moment,
+                    word,
+                    sent.frame.as_slice(),
+                    board,
+                    telling,
+                )
+            } else {
+                telling.refused = Some(Cause::Link);
+                Ok(())
+            }
+        }
+    }
+}
+
+/// The last frame of a mote is heard, if it is a neighbour, and sent one.
+pub(crate) fn hear_last<N: Nor>(
+    occasion: &Occasion<'_>,
+    runs: &mut Option<RunningMote>,
+    from: u8,
+    word: u32,
+    board: &mut N,
+    telling: &mut Telling,
+) -> Result<(), Fault>
+    requires sender { from < most_motes }
+    requires mote { MayRun (N.device board.old).image occasion.now.moment runs.old }
+    requires nothing { IsNothing telling.old }
+    ensures ends { (w : RuleWorld) → IsShared occasion.now.shared.now w
+        → SiteStands (N.device board.old) runs.old (site w occasion.now.mote)
+        → TurnEnds (turned result telling.new) w occasion.now.mote
+        (unless_off (site w occasion.now.mote).runs (if linked w from occasion.now.mote
+        then heard_last w from occasion.now.mote occasion.now.moment word (last_frame w from) else Refuses Cause.Link))
+        runs.old runs.new (N.device board.old) (N.device board.new) }
+    ensures unseen { (w : RuleWorld) → IsShared occasion.now.shared.now w
+        → SiteStands (N.device board.old) runs.old (site w occasion.now.mote)
+        → RefusesUnseen (unless_off (site w occasion.now.mote).runs (if linked w from occasion.now.mote
+        then heard_last w from occasion.now.mote occasion.now.moment word (last_frame w from) else Refuses Cause.Link))
+        → (board.new ≡ board.old) × OnErr result ⊥ }
+    ensures sees { OnOk result (SeesMote telling.new runs.new (N.device board.old).image (N.device board.new).image) }
+    ensures same_reference { (N.device board.new).references ≡ (N.device board.old).references }
+{
+    if runs.is_none() {
+        telling.refused = Some(Cause::Off);
+        return Ok(());
+    }
+    if !occasion.shared.links.are_joined(from, occasion.mote) {
+        telling.refused = Some(Cause::Link);
+        return Ok(());
+    }
+    match occasion.shared.air.last_of(from) {
+        None => {
+            telling.refused = Some(Cause::Frame);
+            Ok(())
+        }
+        Some(sent) => hear(
+            runs,
+            occasion.moment,
+            word,
+            sent.frame.as_slice(),
+            board,
+            telling,
+        ),
+    }
+}

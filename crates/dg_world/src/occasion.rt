@@ -1,0 +1,22 @@
+//! What an event has at hand.
+ghost use Rattle.std.specs.Prelude.{◌^◌, ◌<◌};
+ghost use Rattle.dg_rules.specs.Sizes.{most_motes};
+
+use crate::shared::Shared;
+
+/// Where and when an event happens: what it has at hand beside its board and what the mote there runs.
+#[derive(Drop)]
+pub(crate) struct Occasion<'a> {
+    /// What the motes of the world share.
+    pub(crate) shared: &'a Shared,
+    /// The number of its mote.
+    pub(crate) mote: u8,
+    /// The moment, in milliseconds.
+    pub(crate) moment: u64,
+    /// Whether the board is known: it may be mounted again by halving.
+    pub(crate) known: bool,
+    /// Whether a frame that is sent is told.
+    pub(crate) loud: bool,
+    ghost in_world: { mote < most_motes },
+    ghost early: { moment < 2 ^ 62 },
+}

@@ -1,0 +1,119 @@
+//! An order is kept.
+ghost use Rattle.std.specs.Prelude.{◌≡◌, ◌≢◌, ◌<◌, ◌≤◌, ℕ, if◌then◌else◌, Option, Err, Ok, OnOk, OnErr, IsTrue, IsSomeAnd};
+ghost use Rattle.dg_volume.specs.Sizes.{images};
+ghost use Rattle.dg_volume.specs.Changes.{order_refusal};
+ghost use Rattle.dg_rules.specs.World.{World as RuleWorld, site, store_at, wide_at};
+ghost use Rattle.dg_rules.specs.Events.{Refuses, order_cause, order_unless, knows, orders};
+ghost use Rattle.dg_world.specs.Shareds.{IsShared};
+ghost use Rattle.dg_world.specs.Worlds.{SiteStands, MayRun};
+ghost use Rattle.dg_world.specs.Turns.{TurnEnds};
+ghost use Rattle.dg_world.specs.Unseen.{RefusesUnseen};
+ghost use Rattle.dg_world.specs.Tellings.{IsNothing, turned, turn_of};
+ghost use Rattle.dg_world.specs.Known.{IsKnownChip, SeesOrder, SeesInjected, OrderReads};
+
+use crate::injecting::{knows, reload};
+use crate::mounting::mount_known;
+use crate::occasion::Occasion;
+use crate::shown::show;
+use crate::telling::{Fault, Telling};
+use crate::world::RunningMote;
+use dg_nor::Nor;
+use dg_rules::{Cause, Key};
+use dg_volume::{OrderFault, a_volume_bounds_a_remount};
+
+/// Keeps an order.
+fn order<N: Nor>(
+    occasion: &Occasion<'_>,
+    runs: &mut Option<RunningMote>,
+    number: u32,
+    key: Key,
+    word: u32,
+    board: &mut N,
+    telling: &mut Telling,
+) -> Result<(), Fault>
+    requires some_number { 1 ≤ number }
+    requires known_image { key.image < images }
+    requires some_version { 1 ≤ key.version }
+    requires mote { MayRun (N.device board.old).image occasion.now.moment runs.old }
+    requires known_chip { IsTrue occasion.now.known → IsKnownChip (N.device board.old).image }
+    requires nothing { IsNothing telling.old }
+    ensures ends { (w : RuleWorld) (m : ℕ) → SiteStands (N.device board.old) runs.old (site w m)
+        → TurnEnds (turned result telling.new) w m
+        (order_unless (order_refusal (store_at w m) (record { number = number; image = key.image; version = key.version })) w m
+        (record { number = number; image = key.image; version = key.version }) occasion.now.moment word)
+        runs.old runs.new (N.device board.old) (N.device board.new) }
+    ensures sees { OnOk result (IsSomeAnd telling.new.orderly (λ orderly. SeesOrder orderly (N.device board.new).image)) }
+    ensures reads { OrderReads occasion.now.known (N.device board.old) (N.device board.new) }
+    ensures same_reference { (N.device board.new).references ≡ (N.device board.old).references }
+{
+    a_volume_bounds_a_remount();
+    let mut volume = mount_known(board, occasion.known)?;
+    telling.before = Some(show(&volume));
+    match volume.order(board, number, key.image, key.version) {
+        Ok(()) => {
+            telling.after = Some(show(&volume));
+            telling.orderly = Some(volume.orderly());
+            reload(runs, volume, occasion.moment, word);
+            Ok(())
+        }
+        Err(fault) => {
+            telling.refused = Some(order_fault(fault)?);
+            telling.orderly = Some(volume.orderly());
+            Ok(())
+        }
+    }
+}
+
+/// Keeps an order, if the mote knows the number of its image.
+pub(crate) fn order_known<N: Nor>(
+    occasion: &Occasion<'_>,
+    runs: &mut Option<RunningMote>,
+    number: u32,
+    key: Key,
+    word: u32,
+    board: &mut N,
+    telling: &mut Telling,
+) -> Result<(), Fault>
+    requires some_number { 1 ≤ number }
+    requires known_image { key.image < images }
+    requires some_version { 1 ≤ key.version }
+    requires mote { MayRun (N.device board.old).image occasion.now.moment runs.old }
+    requires known_chip { IsTrue occasion.now.known → IsKnownChip (N.device board.old).image }
+    requires nothing { IsNothing telling.old }
+    ensures ends { (w : RuleWorld) → IsShared occasion.now.shared.now w
+        → SiteStands (N.device board.old) runs.old (site w occasion.now.mote)
+        → TurnEnds (turned result telling.new) w occasion.now.mote (if knows (wide_at w occasion.now.mote) key.image
+        then orders w occasion.now.mote
+        (record { number = number; image = key.image; version = key.version }) occasion.now.moment word
+        else Refuses Cause.Image)
+        runs.old runs.new (N.device board.old) (N.device board.new) }
+    ensures unseen { (w : RuleWorld) → IsShared occasion.now.shared.now w
+        → RefusesUnseen (if knows (wide_at w occasion.now.mote) key.image
+        then orders w occasion.now.mote
+        (record { number = number; image = key.image; version = key.version }) occasion.now.moment word
+        else Refuses Cause.Image)
+        → (board.new ≡ board.old) × OnErr result ⊥ }
+    ensures sees { OnOk result (SeesInjected telling.new.orderly (turn_of telling.new) (N.device board.old).image
+        (N.device board.new).image) }
+    ensures reads { OrderReads occasion.now.known (N.device board.old) (N.device board.new) }
+    ensures same_reference { (N.device board.new).references ≡ (N.device board.old).references }
+{
+    a_volume_bounds_a_remount();
+    if !knows(occasion.shared.is_wide(occasion.mote), key.image) {
+        telling.refused = Some(Cause::Image);
+        return Ok(());
+    }
+    order(occasion, runs, number, key, word, board, telling)
+}
+
+/// Why an order is refused that was not kept, unless the board stopped.
+fn order_fault(fault: OrderFault) -> Result<Cause, Fault>
+    ensures stopped { fault ≡ OrderFault.Stopped → result ≡ Err Fault.Stopped }
+    ensures refused { fault ≢ OrderFault.Stopped → result ≡ Ok (order_cause fault) }
+{
+    match fault {
+        OrderFault::Stopped => Err(Fault::Stopped),
+        OrderFault::Worn { room } => Ok(Cause::Worn { room }),
+        OrderFault::OldOrder { kept } => Ok(Cause::OldOrder { number: kept }),
+    }
+}

@@ -1,0 +1,172 @@
+//! Starts: a board starts, and its mote is made anew.
+ghost use Rattle.std.specs.Prelude.{◌≡◌, ◌^◌, ◌<◌, ℕ, Option, Some, None, Err, Ok, IfOk, OnOk, length};
+ghost use Rattle.dg_volume.specs.Stands.{Stands, NothingLent};
+ghost use Rattle.dg_mote.specs.Effects.{boots, reset_effect};
+ghost use Rattle.dg_rules.specs.World.{World as RuleWorld, store_at, wide_at};
+ghost use Rattle.dg_rules.specs.Events.{of_effect};
+ghost use Rattle.dg_base.specs.declared.events.Key.{Key as KeyValue};
+ghost use Rattle.dg_world.specs.Shareds.{IsShared};
+ghost use Rattle.dg_world.specs.Turn.{Starts};
+ghost use Rattle.dg_world.specs.Turns.{BeginsOver, TurnEnds};
+ghost use Rattle.dg_world.specs.Alone.{Powers};
+ghost use Rattle.dg_world.specs.Tellings.{IsNothing, halt_of, turned};
+ghost use Rattle.dg_world.specs.Known.{SeesStart};
+
+use crate::occasion::Occasion;
+use crate::telling::{Fault, StartLine, Telling};
+use crate::world::RunningMote;
+use dg_boot::{BootFault, Kind, Started, start};
+use dg_mote::Mote;
+use dg_nor::Nor;
+use dg_rules::Key;
+
+/// A mote that was started, and what is told of that.
+#[derive(Drop)]
+struct Begun {
+    running: RunningMote,
+    line: StartLine,
+}
+
+/// A board starts, and its mote is made anew.
+fn begin<N: Nor>(
+    kind: Kind,
+    id: u16,
+    wide: bool,
+    now: u64,
+    word: u32,
+    board: &mut N,
+) -> Result<Begun, Fault>
+    requires moment { now < 2 ^ 62 }
+    ensures begun { IfOk result (λ b. (w : RuleWorld) (m : ℕ) (old : Option KeyValue) (v : Option RunningMote)
+        → Stands (N.device board.old).image (store_at w m)
+        → TurnEnds (Ok (Starts b.line)) w m (of_effect w (boots kind (store_at w m) id wide now word) old) v (Some b.running)
+        (N.device board.old) (N.device board.new)) }
+    ensures halts { (f : Fault) → result ≡ Err f → (w : RuleWorld) (m : ℕ) (old : Option KeyValue) (v u : Option RunningMote)
+        → Stands (N.device board.old).image (store_at w m)
+        → TurnEnds (Err (halt_of f None)) w m (of_effect w (boots kind (store_at w m) id wide now word) old) v u
+        (N.device board.old) (N.device board.new) }
+    ensures powers { Powers result (N.device board.old) (N.device board.new) }
+    ensures same_reference { (N.device board.new).references ≡ (N.device board.old).references }
+{
+    match start(board, kind) {
+        Ok(started) => Ok(mote_of_start(started, id, wide, now, word)),
+        Err(BootFault::Stopped) => Err(Fault::Stopped),
+        Err(BootFault::NotAVolume) => Err(Fault::NotAVolume),
+        Err(BootFault::NoImage) => Err(Fault::NoImage),
+    }
+}
+
+/// The mote of a board that was started.
+fn mote_of_start(started: Started, id: u16, wide: bool, now: u64, word: u32) -> Begun
+    requires moment { now < 2 ^ 62 }
+    requires free { NothingLent started.volume }
+    ensures { BeginsOver started id wide now word result }
+{
+    let line = start_line(&started);
+    Begun {
+        running: RunningMote {
+            key: line.key,
+            mote: Mote::new(started.volume, id, wide, now, word),
+        },
+        line,
+    }
+}
+
+fn start_line(started: &Started) -> StartLine
+    ensures key { result.key ≡ record { image = started.now.image; version = started.now.version } }
+    ensures length { result.length ≡ started.now.length }
+    ensures crc { result.crc ≡ started.now.crc }
+{
+    StartLine {
+        key: Key {
+            image: started.image,
+            version: started.version,
+        },
+        length: started.length,
+        crc: started.crc,
+    }
+}
+
+/// A board starts by power. What ran on it is dropped.
+pub(crate) fn reset<N: Nor>(
+    runs: &mut Option<RunningMote>,
+    id: u16,
+    wide: bool,
+    now: u64,
+    word: u32,
+    board: &mut N,
+    telling: &mut Telling,
+) -> Result<(), Fault>
+    requires moment { now < 2 ^ 62 }
+    requires nothing { IsNothing telling.old }
+    ensures ends { (w : RuleWorld) (m : ℕ) → m ≡ id → Stands (N.device board.old).image (store_at w m)
+        → TurnEnds (turned result telling.new) w m (of_effect w (reset_effect
+        (store_at w m) m wide now word) None) runs.old runs.new (N.device board.old) (N.device board.new) }
+    ensures powers { Powers result (N.device board.old) (N.device board.new) }
+    ensures sees { OnOk result (SeesStart telling.new runs.new) }
+    ensures same_reference { (N.device board.new).references ≡ (N.device board.old).references }
+{
+    let begun = begin(Kind::Power, id, wide, now, word, board)?;
+    *runs = Some(begun.running);
+    telling.started = Some(begun.line);
+    Ok(())
+}
+
+/// The board of the mote starts by power, where the event happens.
+pub(crate) fn reset_here<N: Nor>(
+    occasion: &Occasion<'_>,
+    runs: &mut Option<RunningMote>,
+    word: u32,
+    board: &mut N,
+    telling: &mut Telling,
+) -> Result<(), Fault>
+    requires nothing { IsNothing telling.old }
+    ensures ends { (w : RuleWorld) → IsShared occasion.now.shared.now w
+        → Stands (N.device board.old).image (store_at w occasion.now.mote)
+        → TurnEnds (turned result telling.new) w occasion.now.mote (of_effect w
+        (reset_effect (store_at w occasion.now.mote) occasion.now.mote
+        (wide_at w occasion.now.mote) occasion.now.moment word) None)
+        runs.old runs.new (N.device board.old) (N.device board.new) }
+    ensures sees { OnOk result (SeesStart telling.new runs.new) }
+    ensures same_reference { (N.device board.new).references ≡ (N.device board.old).references }
+{
+    let wide = occasion.shared.is_wide(occasion.mote);
+    reset(
+        runs,
+        u16::from(occasion.mote),
+        wide,
+        occasion.moment,
+        word,
+        board,
+        telling,
+    )
+}
+
+/// A board starts for its order, and its mote is made anew.
+pub(crate) fn restart<N: Nor>(
+    running: &mut RunningMote,
+    id: u16,
+    wide: bool,
+    now: u64,
+    word: u32,
+    board: &mut N,
+) -> Result<StartLine, Fault>
+    requires moment { now < 2 ^ 62 }
+    ensures begun { IfOk result (λ line. (w : RuleWorld) (m : ℕ) (old : Option KeyValue) (v : Option RunningMote)
+        → Stands (N.device board.old).image (store_at w m)
+        → TurnEnds (Ok (Starts line)) w m (of_effect w (boots Kind.Order (store_at w m) id wide now word) old) v
+        (Some running.new) (N.device board.old) (N.device board.new)) }
+    ensures halts { (f : Fault) → result ≡ Err f → (w : RuleWorld) (m : ℕ) (old : Option KeyValue) (v u : Option RunningMote)
+        → Stands (N.device board.old).image (store_at w m)
+        → TurnEnds (Err (halt_of f None)) w m (of_effect w (boots Kind.Order (store_at w m) id wide now word) old) v u
+        (N.device board.old) (N.device board.new) }
+    ensures same_reference { (N.device board.new).references ≡ (N.device board.old).references }
+{
+    match begin(Kind::Order, id, wide, now, word, board) {
+        Ok(begun) => {
+            *running = begun.running;
+            Ok(begun.line)
+        }
+        Err(fault) => Err(fault),
+    }
+}

@@ -1,0 +1,83 @@
+//! A mote ticks.
+ghost use Rattle.std.specs.Prelude.{◌≡◌, ◌^◌, ◌<◌, ℕ, Option, Some, None, OnOk, OnErr};
+ghost use Rattle.dg_volume.specs.Stands.{Stands};
+ghost use Rattle.dg_mote.specs.Effects.{tick_effect};
+ghost use Rattle.dg_rules.specs.World.{World as RuleWorld, Running, site, store_at};
+ghost use Rattle.dg_rules.specs.Events.{of_effect, tick_does};
+ghost use Rattle.dg_world.specs.Worlds.{MoteStands, SiteStands, IsTimelyMote, MayRun};
+ghost use Rattle.dg_world.specs.Turns.{TurnEnds};
+ghost use Rattle.dg_world.specs.Unseen.{RefusesUnseen};
+ghost use Rattle.dg_world.specs.Tellings.{IsNothing, turned};
+ghost use Rattle.dg_world.specs.Known.{SeesMote};
+
+use crate::starting::restart;
+use crate::telling::{Fault, Telling};
+use crate::world::RunningMote;
+use dg_frame::one_reading;
+use dg_mote::{Did, a_restart_is_for_the_order};
+use dg_nor::Nor;
+use dg_rules::Cause;
+
+/// A tick of a mote that is on.
+fn tick_on<N: Nor>(
+    running: &mut RunningMote,
+    now: u64,
+    word: u32,
+    board: &mut N,
+    telling: &mut Telling,
+) -> Result<(), Fault>
+    requires mote { IsTimelyMote (N.device board.old).image now running.old }
+    requires moment { now < 2 ^ 62 }
+    requires nothing { IsNothing telling.old }
+    ensures ends { (w : RuleWorld) (m : ℕ) (r : Running) → Stands (N.device board.old).image (store_at w m)
+        → MoteStands (N.device board.old).image (Some running.old) (store_at w m) (Some r)
+        → TurnEnds (turned result telling.new) w m (of_effect w (tick_effect r.mote (store_at w m) now word) (Some r.key))
+        (Some running.old) (Some running.new) (N.device board.old) (N.device board.new) }
+    ensures sees { OnOk result (telling.new.orderly ≡ None) }
+    ensures same_reference { (N.device board.new).references ≡ (N.device board.old).references }
+{
+    a_restart_is_for_the_order();
+    one_reading();
+    let Ok(did) = running.mote.tick(board, now, word, &mut telling.outbox) else {
+        return Err(Fault::Stopped);
+    };
+    match did {
+        Did::Sent | Did::Idle => Ok(()),
+        Did::Restart => {
+            let id = running.mote.id();
+            let wide = running.mote.wide();
+            let line = restart(running, id, wide, now, word, board)?;
+            telling.started = Some(line);
+            Ok(())
+        }
+    }
+}
+
+/// A tick.
+pub(crate) fn tick<N: Nor>(
+    runs: &mut Option<RunningMote>,
+    now: u64,
+    word: u32,
+    board: &mut N,
+    telling: &mut Telling,
+) -> Result<(), Fault>
+    requires mote { MayRun (N.device board.old).image now runs.old }
+    requires moment { now < 2 ^ 62 }
+    requires nothing { IsNothing telling.old }
+    ensures ends { (w : RuleWorld) (m : ℕ) → SiteStands (N.device board.old) runs.old (site w m)
+        → TurnEnds (turned result telling.new) w m (tick_does w (store_at w m) (site w m).runs now word) runs.old runs.new
+        (N.device board.old) (N.device board.new) }
+    ensures unseen { (w : RuleWorld) (m : ℕ) → SiteStands (N.device board.old) runs.old (site w m)
+        → RefusesUnseen (tick_does w (store_at w m) (site w m).runs now word)
+        → (board.new ≡ board.old) × OnErr result ⊥ }
+    ensures sees { OnOk result (SeesMote telling.new runs.new (N.device board.old).image (N.device board.new).image) }
+    ensures same_reference { (N.device board.new).references ≡ (N.device board.old).references }
+{
+    match runs {
+        None => {
+            telling.refused = Some(Cause::Off);
+            Ok(())
+        }
+        Some(running) => tick_on(running, now, word, board, telling),
+    }
+}
