@@ -8,31 +8,29 @@ use Rattle.dg_base.specs.declared.events.Event.{Event}
 use Rattle.dg_base.specs.declared.events.Cut.{Cut as CutOfPower}
 use Rattle.dg_rounds.specs.Rounds.{times, round, sweep}
 use Rattle.dg_script.specs.Fitting.{FitsCut, FitsLine, StandsAt, IsPlayed, UsesBoard, declared_row}
-use Rattle.dg_script.specs.Items.{Item, Declares, Happens as Happened, quietly, item_by, cut_by, cut_behind, place_behind}
+use Rattle.dg_script.specs.Items.{Item, Declares, Happens as Happened, quietly, item_by, place_behind}
 use Rattle.dg_script.specs.Places.{first_place, place_after}
 use Rattle.dg_script.specs.declared.place.Place.{Place}
 use Rattle.dg_script.specs.declared.line.Line.{Line}
 use Rattle.dg_script.specs.declared.line.Line.TheVariants.{Image, Happens, Round, Sweeps}
 use Rattle.dg_rules.specs.Premises.{LinkFits}
-use Rattle.dg_rules.specs.Ranges.{EventFits, StepFits}
+use Rattle.dg_rules.specs.Ranges.{EventInRange, StepInRange}
 use Rattle.dg_rules.specs.World.{World}
 use Rattle.dg_world.specs.Worlds.{IsWorld}
-use Rattle.dg_world.specs.declared.world.World.{World as KeptWorld}
 use Rattle.dg_replay.specs.Boards.{WorldStands, StoppedIn, ItemStops, LineStops}
 use Rattle.dg_replay.specs.Items.{Ground, no_ground, Beginning, begin_by, motes_in, lacking_by, is_boards}
 use Rattle.dg_replay.specs.Playing.{Seated, InWorld, Stood, Ready, ItemsPlayedAs, StopsInItem, PlayedAs}
 use Rattle.dg_replay.specs.declared.player.Player.{Player}
-use Rattle.dg_replay.specs.declared.player.Stage.TheVariants.{Playing}
 use Rattle.dg_replay.specs.declared.stop.Stop.{Stop}
 use Rattle.dg_replay.specs.declared.stop.Stop.TheVariants.{Memory, BadInput, WriteFault, FlashFault, TooMany, NoBoard, NoImage, NotAVolume}
 use Rattle.dg_replay.proofs.ItemLemmas.{items_run_counts}
-use Rattle.dg_replay.proofs.PlayLemmas.{playing_is, false_not, event_at, round_at, sweeps_at, seated_as}
+use Rattle.dg_replay.proofs.PlayLemmas.{false_not, event_at, round_at, sweeps_at, seated_as}
 use Rattle.dg_replay.proofs.GoldenLemmas.{event_fits, cut_fits_too}
 use Rattle.dg_replay.proofs.StandLemmas.{joined_next, stood_next, busy_runs, line_begun}
 
 -- A line behind others has these items. It changes nothing of where the run begins, and needs no more boards.
 pub record HasItems (done : List Line) (line : Line) (items : List Item) : Type 0 where
-  pub are : item_by (place_behind first_place done) (cut_behind None done) line ≡ items
+  pub are : item_by (place_behind first_place done) line ≡ items
   pub begins : (g : Ground) (b : Beginning) → (begin_by g b line).world ≡ b.world
   pub plain : is_boards line ≡ false
   pub counts : (b : Beginning) → (begin_by no_ground b line).motes ≡ b.motes
@@ -40,7 +38,7 @@ pub record HasItems (done : List Line) (line : Line) (items : List Item) : Type 
   pub ready : (place : Place) → (place_after place line).ready ≡ place.ready
   pub enough : (boards : ℕ) → lacking_by boards line None ≡ None
   pub uses : (begun left : List Item) (w : World) (initial now : List Device) → items ≡ begun ++ left → StopsInItem w left initial now → UsesBoard line
-  pub cuts : (cut : Option CutOfPower) → IfSome cut FitsCut → IfSome (cut_by cut line) FitsCut
+  pub cuts : (place : Place) → IfSome place.cut FitsCut → IfSome (place_after place line).cut FitsCut
   pub stops : (left : List Item) (w : World) (board : ℕ) (image : List ℕ) (initial now : List Device) → ItemStops left (Some w) board image initial now → LineStops line left (Some w) board image initial now
 
 -- ---- the lines that have items
@@ -68,12 +66,12 @@ image_has done image version name content =
       motes = λ place. refl;
       ready = λ place. refl;
       enough = λ boards. refl;
-      cuts = λ cut fits. fits;
+      cuts = λ place fits. fits;
       uses = λ begun left w initial now parts s. no_stop (declared_row image version name content) begun left w initial now parts s;
       stops = λ left w board image initial now s. s;
     }
 
-pub event_has : (done : List Line) (event : Event) (cut : Option CutOfPower) → cut ≡ cut_behind None done → HasItems done (Happens event) (Happened (record { event = event; cut = cut }) true ∷ [])
+pub event_has : (done : List Line) (event : Event) (cut : Option CutOfPower) → cut ≡ (place_behind first_place done).cut → HasItems done (Happens event) (Happened (record { event = event; cut = cut }) true ∷ [])
 event_has done event cut waits =
     record {
       are = ap (λ (o : Option CutOfPower). Happened (record { event = event; cut = o }) true ∷ []) (sym waits);
@@ -83,7 +81,7 @@ event_has done event cut waits =
       motes = λ place. refl;
       ready = λ place. refl;
       enough = λ boards. refl;
-      cuts = λ cut fits. tt;
+      cuts = λ place fits. tt;
       uses = λ begun left w initial now parts s. tt;
       stops = λ left w board image initial now s. s;
     }
@@ -98,7 +96,7 @@ round_has done a b =
       motes = λ place. refl;
       ready = λ place. refl;
       enough = λ boards. refl;
-      cuts = λ cut fits. fits;
+      cuts = λ place fits. fits;
       uses = λ begun left w initial now parts s. tt;
       stops = λ left w board image initial now s. s;
     }
@@ -113,7 +111,7 @@ sweeps_has done n links known =
       motes = λ place. refl;
       ready = λ place. refl;
       enough = λ boards. refl;
-      cuts = λ cut fits. fits;
+      cuts = λ place fits. fits;
       uses = λ begun left w initial now parts s. tt;
       stops = λ left w board image initial now s. s;
     }
@@ -137,13 +135,13 @@ stopped_in motes done line items left w initial now has count s =
       there = has.stops left w s.stopped.board s.stopped.after.image initial now s.there;
     }
 
-busy_as : (table : List Row) (r : Result (Unit {0}) Stop) (p q : Player) (done : List Line) (w : World) (line : Line) (items : List Item) (kept : KeptWorld) (told_before told : List ℕ) (initial old now : List Device)
-    → HasItems done line items → StandsAt p.place line → FitsLine p.place.motes line → q.place ≡ place_after p.place line → q.cut ≡ cut_by p.cut line → q.stage ≡ Playing kept
-    → Stood p done (Some w) initial old → ItemsPlayedAs r w items kept initial now told_before told → PlayedAs table r q done (Some w) line told_before told initial old now
-busy_as table (Ok u) p q done w line items kept told_before told initial old now has stands fits place cut world s x =
+busy_as : (table : List Row) (r : Result (Unit {0}) Stop) (p q : Player) (done : List Line) (w : World) (line : Line) (items : List Item) (told_before told : List ℕ) (initial old now : List Device)
+    → HasItems done line items → StandsAt p.place line → FitsLine p.place.motes line → q.place ≡ place_after p.place line
+    → Stood p done (Some w) initial old → ItemsPlayedAs r w items q.world initial now told_before told → PlayedAs table r q done (Some w) line told_before told initial old now
+busy_as table (Ok u) p q done w line items told_before told initial old now has stands fits place s x =
     let motes : q.place.motes ≡ p.place.motes = ap (λ (at : Place). at.motes) place ∙ has.motes p.place in
     let count : length now ≡ length old = x.boards.all.count ∙ sym s.boards.all.count in
-    let sites : length x.world.sites ≡ p.place.motes = (items_run_counts w x.world items x.text x.runs).sites ∙ s.world.3 in
+    let sites : length x.world.sites ≡ p.place.motes = (items_run_counts w x.world items x.text x.runs).sites ∙ s.world.1 in
     record {
       world = Some x.world;
       text = x.text;
@@ -151,62 +149,60 @@ busy_as table (Ok u) p q done w line items kept told_before told initial old now
       runs = busy_runs done line w x.world items x.text has.are (λ g. has.begins g _) has.plain has.counts x.runs;
       stood = stood_next p q done line (Some w) (Some x.world) initial old now (joined_next p.place line stands fits s.links) s place
           (seated_as p.place q.place (length now) motes (subst (λ (n : ℕ). Seated p.place n) (sym count) s.seats))
-          (cut ∙ ap (λ (o : Option CutOfPower). cut_by o line) s.cut)
-          (subst (λ (o : Option CutOfPower). IfSome o FitsCut) (sym cut) (has.cuts p.cut s.cut_fits))
-          (kept, world, x.kept_now, sites ∙ sym motes, ap (λ (at : Place). at.ready) place ∙ has.ready p.place ∙ s.world.4, subst (λ (n : ℕ). 0 < n) (sym motes) s.world.5)
+          (has.cuts p.place s.cut_fits)
+          (x.kept_now, sites ∙ sym motes, ap (λ (at : Place). at.ready) place ∙ has.ready p.place ∙ s.world.2, subst (λ (n : ℕ). 0 < n) (sym motes) s.world.3)
           x.boards;
       boards_enough = has.enough (length initial);
     }
-busy_as table (Err Memory) p q done w line items kept told_before told initial old now has stands fits place cut world s x = line_begun done line w items has.are x (λ h. h)
-busy_as table (Err TooMany) p q done w line items kept told_before told initial old now has stands fits place cut world s x = line_begun done line w items has.are x (λ h. h)
-busy_as table (Err NoImage) p q done w line items kept told_before told initial old now has stands fits place cut world s x = line_begun done line w items has.are x (λ h. h)
-busy_as table (Err NotAVolume) p q done w line items kept told_before told initial old now has stands fits place cut world s x = absurd x
-busy_as table (Err FlashFault) p q done w line items kept told_before told initial old now has stands fits place cut world s x =
-    let sites : length x.world.sites ≡ motes_in done = (items_run_counts w x.world x.begun x.text x.runs).sites ∙ s.world.3 ∙ s.motes in (
+busy_as table (Err Memory) p q done w line items told_before told initial old now has stands fits place s x = line_begun done line w items has.are x (λ h. h)
+busy_as table (Err TooMany) p q done w line items told_before told initial old now has stands fits place s x = line_begun done line w items has.are x (λ h. h)
+busy_as table (Err NoImage) p q done w line items told_before told initial old now has stands fits place s x = line_begun done line w items has.are x (λ h. h)
+busy_as table (Err NotAVolume) p q done w line items told_before told initial old now has stands fits place s x = absurd x
+busy_as table (Err FlashFault) p q done w line items told_before told initial old now has stands fits place s x =
+    let sites : length x.world.sites ≡ motes_in done = (items_run_counts w x.world x.begun x.text x.runs).sites ∙ s.world.1 ∙ s.motes in (
       has.uses x.begun x.left x.world initial now x.parts x.there.0,
       line_begun done line w items has.are x (λ h. (stopped_in (motes_in done) done line items x.left x.world initial now has sites h.0, h.1)),
     )
-busy_as table (Err (NoBoard motes boards)) p q done w line items kept told_before told initial old now has stands fits place cut world s x = absurd x
-busy_as table (Err (BadInput n fault)) p q done w line items kept told_before told initial old now has stands fits place cut world s x = absurd x
-busy_as table (Err WriteFault) p q done w line items kept told_before told initial old now has stands fits place cut world s x = absurd x
+busy_as table (Err (NoBoard motes boards)) p q done w line items told_before told initial old now has stands fits place s x = absurd x
+busy_as table (Err (BadInput n fault)) p q done w line items told_before told initial old now has stands fits place s x = absurd x
+busy_as table (Err WriteFault) p q done w line items told_before told initial old now has stands fits place s x = absurd x
 
 -- the same where some world is kept
-pub busy_in : (table : List Row) (r : Result (Unit {0}) Stop) (p q : Player) (done : List Line) (w : Option World) (line : Line) (items : List Item) (v kept : KeptWorld) (told_before told : List ℕ) (initial old now : List Device)
-    → HasItems done line items → StandsAt p.place line → FitsLine p.place.motes line → p.place.ready ≡ true → p.stage ≡ Playing v → q.place ≡ place_after p.place line → q.cut ≡ cut_by p.cut line → q.stage ≡ Playing kept
-    → Stood p done w initial old → ((u : World) → IsWorld v old u → WorldStands u initial old → ItemsPlayedAs r u items kept initial now told_before told) → PlayedAs table r q done w line told_before told initial old now
-busy_in table r p q done None line items v kept told_before told initial old now has stands fits ready was place cut world s play = false_not p.place.ready ready s.world.1
-busy_in table r p q done (Some w) line items v kept told_before told initial old now has stands fits ready was place cut world s play =
-    let k = s.world in
-    busy_as table r p q done w line items kept told_before told initial old now has stands fits place cut world s (play w (subst (λ (x : KeptWorld). IsWorld x old w) (playing_is k.0 v (sym k.1 ∙ was)) k.2) s.boards)
+pub busy_in : (table : List Row) (r : Result (Unit {0}) Stop) (p q : Player) (done : List Line) (w : Option World) (line : Line) (items : List Item) (told_before told : List ℕ) (initial old now : List Device)
+    → HasItems done line items → StandsAt p.place line → FitsLine p.place.motes line → p.place.ready ≡ true → q.place ≡ place_after p.place line
+    → Stood p done w initial old → ((u : World) → IsWorld p.world old u → WorldStands u initial old → ItemsPlayedAs r u items q.world initial now told_before told) → PlayedAs table r q done w line told_before told initial old now
+busy_in table r p q done None line items told_before told initial old now has stands fits ready place s play = false_not p.place.ready ready s.world
+busy_in table r p q done (Some w) line items told_before told initial old now has stands fits ready place s play =
+    busy_as table r p q done w line items told_before told initial old now has stands fits place s (play w s.world.0 s.boards)
 
 -- ---- what they ask
 
 -- the world that is kept stands for one of the motes of its place
-pub kept_for : (p : Player) (v : KeptWorld) (boards : List Device) → Ready p boards → p.place.ready ≡ true → p.stage ≡ Playing v → (u : World) × IsWorld v boards u × (length u.sites ≡ p.place.motes)
-kept_for p v boards r ready was = from r.world r.kept
+pub kept_for : (p : Player) (boards : List Device) → Ready p boards → p.place.ready ≡ true → (u : World) × IsWorld p.world boards u × (length u.sites ≡ p.place.motes)
+kept_for p boards r ready = from r.world r.kept
   where
-    from : (w : Option World) → InWorld p w boards → (u : World) × IsWorld v boards u × (length u.sites ≡ p.place.motes)
-    from None k = false_not p.place.ready ready k.1
-    from (Some w) k = (w, subst (λ (x : KeptWorld). IsWorld x boards w) (playing_is k.0 v (sym k.1 ∙ was)) k.2, k.3)
+    from : (w : Option World) → InWorld p w boards → (u : World) × IsWorld p.world boards u × (length u.sites ≡ p.place.motes)
+    from None k = false_not p.place.ready ready k
+    from (Some w) k = (w, k.0, k.1)
 
-pub step_asked : (p : Player) (v : KeptWorld) (boards : List Device) (event : Event) (cut : Option CutOfPower) → Ready p boards → StandsAt p.place (Happens event) → FitsLine p.place.motes (Happens event) → IsPlayed (Happens event) → p.stage ≡ Playing v → cut ≡ p.cut
-    → (u : World) × IsWorld v boards u × StepFits (length u.sites) (record { event = event; cut = cut })
-step_asked p v boards event cut r stands fits played was waits =
-    let k = kept_for p v boards r (event_at p.place event stands).0 was in (
+pub step_asked : (p : Player) (boards : List Device) (event : Event) (cut : Option CutOfPower) → Ready p boards → StandsAt p.place (Happens event) → FitsLine p.place.motes (Happens event) → IsPlayed (Happens event) → cut ≡ p.place.cut
+    → (u : World) × IsWorld p.world boards u × StepInRange (length u.sites) (record { event = event; cut = cut })
+step_asked p boards event cut r stands fits played waits =
+    let k = kept_for p boards r (event_at p.place event stands).0 in (
       k.0,
       k.1,
       record {
-        event = subst (λ (n : ℕ). EventFits n event) (sym k.2) (event_fits p.place.motes event fits played);
+        event = subst (λ (n : ℕ). EventInRange n event) (sym k.2) (event_fits p.place.motes event fits played);
         cut = cut_fits_too cut (subst (λ (o : Option CutOfPower). IfSome o FitsCut) (sym waits) r.cut_fits);
       },
     )
 
-pub round_asked : (p : Player) (v : KeptWorld) (boards : List Device) (a b : ℕ) → Ready p boards → StandsAt p.place (Round a b) → FitsLine p.place.motes (Round a b) → p.stage ≡ Playing v → (u : World) × IsWorld v boards u × LinkFits (length u.sites) (a, b)
-round_asked p v boards a b r stands fits was =
-    let k = kept_for p v boards r (round_at p.place a b stands).0 was in
+pub round_asked : (p : Player) (boards : List Device) (a b : ℕ) → Ready p boards → StandsAt p.place (Round a b) → FitsLine p.place.motes (Round a b) → (u : World) × IsWorld p.world boards u × LinkFits (length u.sites) (a, b)
+round_asked p boards a b r stands fits =
+    let k = kept_for p boards r (round_at p.place a b stands).0 in
     (k.0, k.1, subst (λ (n : ℕ). LinkFits n (a, b)) (sym k.2) (record { first = fits.first; second = fits.second; two = λ same. fits.other (sym same) }))
 
-pub sweeps_asked : (p : Player) (v : KeptWorld) (boards : List Device) (n : ℕ) (links : List (ℕ × ℕ)) → Ready p boards → StandsAt p.place (Sweeps n) → p.stage ≡ Playing v → links ≡ p.place.links → (u : World) × IsWorld v boards u × AllByRecursion (LinkFits (length u.sites)) links
-sweeps_asked p v boards n links r stands was known =
-    let k = kept_for p v boards r (sweeps_at p.place n stands).0 was in
+pub sweeps_asked : (p : Player) (boards : List Device) (n : ℕ) (links : List (ℕ × ℕ)) → Ready p boards → StandsAt p.place (Sweeps n) → links ≡ p.place.links → (u : World) × IsWorld p.world boards u × AllByRecursion (LinkFits (length u.sites)) links
+sweeps_asked p boards n links r stands known =
+    let k = kept_for p boards r (sweeps_at p.place n stands).0 in
     (k.0, k.1, subst (λ (m : ℕ). AllByRecursion (LinkFits m) links) (sym k.2) (subst (λ (ls : List (ℕ × ℕ)). AllByRecursion (LinkFits p.place.motes) ls) (sym known) r.links))

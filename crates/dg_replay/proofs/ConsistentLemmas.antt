@@ -1,5 +1,5 @@
 -- Stores stay consistent in what was played of a script, whatever frames it brings.
-use Rattle.std.proofs.Common.{◌≡◌, ℕ, Bool, List, [], ◌∷◌, get_or, sym, ap, ◌∙◌, subst}
+use Rattle.std.proofs.Common.{◌≡◌, ℕ, List, [], ◌∷◌, get_or, sym, ap, ◌∙◌, subst}
 use Rattle.std.specs.Prelude.{Some, None}
 use Rattle.std.specs.List.{AllByRecursion}
 use Rattle.dg_object.specs.Object.{Row}
@@ -7,24 +7,24 @@ use Rattle.dg_volume.specs.Store.{golden_row}
 use Rattle.dg_base.specs.declared.events.Event.{Event}
 use Rattle.dg_script.specs.Items.{Item, Happens}
 use Rattle.dg_rules.specs.World.{World}
-use Rattle.dg_rules.specs.Ranges.{EventFits}
+use Rattle.dg_rules.specs.Ranges.{EventInRange}
 use Rattle.dg_rules.specs.Premises.{ItemInRange}
 use Rattle.dg_rules.specs.Runs.{Played}
-use Rattle.dg_rules.specs.Golden.{PlaysGolden}
+use Rattle.dg_rules.specs.Golden.{GoldenNetwork, network_row, PlaysGolden}
 use Rattle.dg_rules.specs.Consistency.{WorldConsistent, LeavesConsistent, StartsSound, StopsConsistent}
 use Rattle.dg_replay.specs.Items.{UsesBoards, Beginning, beginning_of}
 use Rattle.dg_replay.specs.Ending.{script_of}
 use Rattle.dg_replay.specs.Outcome.{Progress}
 use Rattle.dg_replay.specs.Promised.{StaysConsistent}
 use Rattle.dg_replay.proofs.ItemLemmas.{some_is}
-use Rattle.dg_replay.proofs.GoldenLemmas.{GoldenRun, golden_at_end, nothing_or}
+use Rattle.dg_replay.proofs.GoldenLemmas.{GoldenRun, ran_network, golden_at_end, nothing_or}
 
 -- what is known of all that plays golden
 pub record ConsistentLaws : Type 0 where
-  pub kept : (name bytes : List ℕ) (used motes : ℕ) (links : List (ℕ × ℕ)) (narrow : List Bool) (played : List Played) (v : World) → PlaysGolden name bytes used motes links narrow played v
-      → AllByRecursion (LeavesConsistent (golden_row name bytes)) played × WorldConsistent (golden_row name bytes) v
-  pub starts : (name bytes : List ℕ) (used motes : ℕ) (links : List (ℕ × ℕ)) (narrow : List Bool) (played : List Played) (v : World) → PlaysGolden name bytes used motes links narrow played v → AllByRecursion (StartsSound (golden_row name bytes)) played
-  pub halves : (name bytes : List ℕ) (used motes : ℕ) (links : List (ℕ × ℕ)) (narrow : List Bool) (played : List Played) (v : World) (e : Event) → PlaysGolden name bytes used motes links narrow played v → EventFits motes e → StopsConsistent (golden_row name bytes) v e
+  pub kept : (g : GoldenNetwork) (played : List Played) (v : World) → PlaysGolden g played v
+      → AllByRecursion (LeavesConsistent (network_row g)) played × WorldConsistent (network_row g) v
+  pub starts : (g : GoldenNetwork) (played : List Played) (v : World) → PlaysGolden g played v → AllByRecursion (StartsSound (network_row g)) played
+  pub halves : (g : GoldenNetwork) (played : List Played) (v : World) (e : Event) → PlaysGolden g played v → EventInRange g.motes e → StopsConsistent (network_row g) v e
 
 one_row : (a b : Row) → a ∷ [] ≡ b ∷ [] → a ≡ b
 one_row a b e = ap (λ (rows : List Row). get_or rows 0 a) e
@@ -36,14 +36,14 @@ nothing_played golden left = record { stores = tt; ends = tt; starts = tt; halve
 module _ (laws : ConsistentLaws) where
   golden_consistent : (b : Beginning) (left : List Item) (played : List Played) (v : World) → (g : GoldenRun b left played v) → StaysConsistent (golden_row g.name g.bytes) played (Some v) left
   golden_consistent b left played v g =
-      let kept = laws.kept g.name g.bytes g.used b.motes g.links g.narrow played v g.plays in
+      let kept = laws.kept (ran_network g) played v g.plays in
       record {
         stores = kept.0;
         ends = kept.1;
-        starts = laws.starts g.name g.bytes g.used b.motes g.links g.narrow played v g.plays;
+        starts = laws.starts (ran_network g) played v g.plays;
         halves = λ w step loud more is next.
             let fits : AllByRecursion (ItemInRange b.motes) (Happens step loud ∷ more) = subst (AllByRecursion (ItemInRange b.motes)) next g.left_fits in
-            subst (λ (u : World). StopsConsistent (golden_row g.name g.bytes) u step.event) (some_is v w is) (laws.halves g.name g.bytes g.used b.motes g.links g.narrow played v step.event g.plays fits.0.event);
+            subst (λ (u : World). StopsConsistent (golden_row g.name g.bytes) u step.event) (some_is v w is) (laws.halves (ran_network g) played v step.event g.plays fits.0.event);
       }
 
   pub progress_consistent : {table : List Row} (input : List ℕ) (c : Progress table (script_of input)) → (UsesBoards c.done → ⊥) → (golden : Row) (w : World) → (beginning_of c.ground c.done).world ≡ Some w → w.table ≡ golden ∷ []

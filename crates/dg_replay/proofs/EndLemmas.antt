@@ -1,6 +1,6 @@
 -- How a replay ends, by the ending that the rules give to its script.
 use Rattle.std.proofs.Common.{◌≡◌, ◌⊎◌, inl, inr, ⊎_elim, ℕ, ◌+◌, ◌<◌, ◌≤◌, Bool, true, false, cond, not, List, [], ◌∷◌, ◌++◌, length, map, take, drop, refl, append-nil, append_assoc, ap, sym, ◌∙◌, subst, arith}
-use Rattle.std.specs.Prelude.{⊤, Option, Some, None, nat_lt, if◌then◌else◌}
+use Rattle.std.specs.Prelude.{⊤, Option, Some, None, is_some, nat_lt, if◌then◌else◌}
 use Rattle.std.specs.Str.Lines.{lines}
 use Rattle.std.proofs.lemmas.List.Sums.{sum_by-cons}
 use Rattle.std.proofs.lemmas.List.{take-append-drop}
@@ -14,26 +14,25 @@ use Rattle.dg_object.specs.Object.{Row}
 use Rattle.dg_rules.specs.Sizes.{most_events}
 use Rattle.dg_rules.specs.Changes.{final_lines}
 use Rattle.dg_script.specs.Sizes.{most_used_bytes}
-use Rattle.dg_script.specs.Items.{Item, Happens as Happened, cut_by, cut_behind, place_behind, items_behind, items_of}
+use Rattle.dg_script.specs.Items.{Item, Happens as Happened, place_behind, items_behind, items_of}
 use Rattle.dg_replay.specs.Items.{UsesBoards, lacking, lacking_by, beginning_of, motes_in, next_items, is_event, events_among}
 use Rattle.dg_world.specs.Worlds.{IsWorld}
-use Rattle.dg_world.specs.declared.world.World.{World as KeptWorld}
-use Rattle.dg_replay.specs.Playing.{InWorld}
+use Rattle.dg_replay.specs.Playing.{InWorld, Ready}
 use Rattle.dg_script.specs.Places.{first_place, place_after, fault_at_end}
 use Rattle.dg_script.specs.Script.{Script, script_from, end_fault, numbered}
 use Rattle.dg_script.specs.declared.fault.LineFault.{LineFault}
+use Rattle.dg_script.specs.declared.place.Place.{Place}
 use Rattle.dg_script.specs.declared.fault.LineFault.TheVariants as line_fault
 use Rattle.dg_script.specs.Report.{report_text}
 use Rattle.dg_rules.specs.World.{World}
 use Rattle.dg_replay.specs.Boards.{EventNext, InSome, LacksImage, WorldStands, BoardsStand, BoardStopped, StoppedIn}
-use Rattle.dg_replay.specs.Ending.{Ending, Ends, NoBoards, TooManyEvents, FaultAt, Over, events_in, InBounds, by_fault, by_events, by_boards, ending_from, ending_line, status_of, whole_lines, used, is_over, script_of, ending_of, InLimits}
-use Rattle.dg_replay.specs.Near.{behind_lines, IsNear}
+use Rattle.dg_replay.specs.Ending.{Ending, Ends, NoBoards, TooManyEvents, FaultAt, Over, events_in, InBounds, by_fault, by_events, by_boards, ending_from, ending_line, status_of, whole_lines, used, has_unused_bytes, script_of, ending_of, InLimits}
+use Rattle.dg_replay.specs.Near.{behind_lines, FewBytesBehind}
 use Rattle.dg_replay.specs.Outcome.{Progress, item_played, played_text, AtTooMany, ReachesEnding, closing, IsWholeReport, StopsAt, Wrote, BoardsLeft, IsCaused, RunsTo, IsSettled, NextIsWhole, DoneIsWhole, ReadEnough, EndsNear, ReadsNear, BoardsEndIt, NoVolumeThere, NoImageThere, no_volume_line, no_image_line}
 use Rattle.dg_world.specs.Mounted.{StandFor}
-use Rattle.dg_replay.specs.Replaying.{ToldBefore, StopEnds, Reached, HasFew, StopsAtText, StopsIn, ByRules, ReadyToEnd, EndsWith, FinishesWith, ScriptReplayed}
+use Rattle.dg_replay.specs.Replaying.{ToldBefore, StopEnds, Reached, HasFew, StopsAtText, StopsInTaken, ByRules, ReadyToEnd, EndsWith, FinishesWith, ScriptReplayed}
 use Rattle.dg_base.specs.declared.events.Step.{Step}
 use Rattle.dg_replay.specs.declared.player.Player.{Player}
-use Rattle.dg_replay.specs.declared.player.Stage.TheVariants.{Waiting, Playing}
 use Rattle.dg_script.specs.declared.line.Line.{Line}
 use Rattle.dg_script.specs.declared.line.Line.TheVariants.{Nothing, Motes, Golden, Boards as BoardsLine, Link, Narrow, Image, Cut, Happens, Round, Sweeps}
 use Rattle.dg_replay.specs.declared.stop.Stop.{Stop}
@@ -195,9 +194,9 @@ items_come done [] begun left next parts = absurd (no_items begun left next part
     no_items [] ys e none = let f : [] ≡ Happened e.step e.loud ∷ e.more = none ∙ e.is in cc
     no_items (x ∷ xs) ys e none = cc
 items_come done (line ∷ rest) begun left next parts =
-    let behind : List Item = items_behind (place_after (place_behind first_place done) line) (cut_by (cut_behind None done) line) rest in
-    let first : items_behind (place_behind first_place done) (cut_behind None done) (line ∷ rest) ≡ (begun ++ left) ++ behind =
-    items_first (place_behind first_place done) (cut_behind None done) line rest ∙ ap (λ (xs : List Item). xs ++ behind) parts in
+    let behind : List Item = items_behind (place_after (place_behind first_place done) line) rest in
+    let first : items_behind (place_behind first_place done) (line ∷ rest) ≡ (begun ++ left) ++ behind =
+    items_first (place_behind first_place done) line rest ∙ ap (λ (xs : List Item). xs ++ behind) parts in
     let here : (begun ++ left) ++ behind ≡ begun ++ (Happened next.step next.loud ∷ (next.more ++ behind)) = append_assoc begun left behind ∙ ap (λ (xs : List Item). begun ++ (xs ++ behind)) next.is in (
       next.more ++ behind,
       items_split done (line ∷ rest) ∙ ap (λ (xs : List Item). items_of done ++ xs) (first ∙ here) ∙ sym (append_assoc (items_of done) begun (Happened next.step next.loud ∷ (next.more ++ behind))),
@@ -234,7 +233,7 @@ stop_ending NoImage over script W V number initial now before after failed f = t
 stop_ending NotAVolume over script W V number initial now before after failed f = tt
 
 -- boards end the replay, and the last line was not all written
-cut_at_end : {table : List Row} (result : Status) (script : Script) (over : Bool) (input : List ℕ) (at_end : Type 0) (number : ℕ) (initial now : List Device) (before mid after : Option (List ℕ)) (later reads worse : Type 0) → (later → worse) → IsNear number input
+cut_at_end : {table : List Row} (result : Status) (script : Script) (over : Bool) (input : List ℕ) (at_end : Type 0) (number : ℕ) (initial now : List Device) (before mid after : Option (List ℕ)) (later reads worse : Type 0) → (later → worse) → FewBytesBehind number input
     → (c : Progress table script) (line : List ℕ) → BoardsEndIt c line → Puts before mid (played_text c.played) → InBounds (length initial) c.done (map item_played c.played) → (UsesBoards c.done → StandFor (motes_in c.done) c.ground.stores initial) → BoardsLeft status.WriteFault c initial now
     → ((more : List ℕ) → ToldBefore number c (played_text c.played ++ more)) → at_end ⊎ NextIsWhole input c.done c.rest → result ≡ status.WriteFault → PutsFront mid after line → later → ScriptReplayed table result script (ending_from (length initial) over script) input at_end initial now before after reads worse
 cut_at_end {table} result script over input at_end number initial now before mid after later reads worse widen near c line ends told limits stood boards tells whole same cut rose =
@@ -263,8 +262,8 @@ lacks_next (Some u) left old new lacks = lacks.next
 
 -- the end of a replay that stopped
 pub stopped_ends : {table : List Row} (stop : Stop) (result : Status) (script : Script) (over : Bool) (input : List ℕ) (at_end : Type 0) (number : ℕ) (initial now : List Device) (before mid after : Option (List ℕ)) (failed later reads worse : Type 0)
-    → (failed → worse) → (later → worse) → IsNear number input → ByRules stop (at_end ⊎ IsSettled (length initial) input)
-    → StopsIn table stop script input at_end number initial now before mid failed → StopEnds stop result mid after later → ScriptReplayed table result script (ending_from (length initial) over script) input at_end initial now before after reads worse
+    → (failed → worse) → (later → worse) → FewBytesBehind number input → ByRules stop (at_end ⊎ IsSettled (length initial) input)
+    → StopsInTaken table stop script input at_end number initial now before mid failed → StopEnds stop result mid after later → ScriptReplayed table result script (ending_from (length initial) over script) input at_end initial now before after reads worse
 stopped_ends {table} Memory result script over input at_end number initial now before mid after failed later reads worse spread widen near settled f (same, told) =
     let made : ScriptReplayed table status.Memory script (ending_from (length initial) over script) input at_end initial now before after reads worse = record {
       came = f.came;
@@ -282,7 +281,7 @@ stopped_ends {table} Memory result script over input at_end number initial now b
 stopped_ends {table} (BadInput line fault) result script over input at_end number initial now before mid after failed later reads worse spread widen near settled (numbered, f) done =
     let e = fault_ending over script initial line fault f.there.3 f.there.1 in
     let ready : ReadyToEnd table script (FaultAt line fault) (ending_line (FaultAt line fault)) initial now before mid = record { came = f.came; told = f.told; boards = f.there.2; all = f.there.0; line = refl; limits = f.limits; stood = f.stood } in
-    let there : IsNear line input = subst (λ (n : ℕ). IsNear n input) (sym numbered) near in
+    let there : FewBytesBehind line input = subst (λ (n : ℕ). FewBytesBehind n input) (sym numbered) near in
     subst (λ (x : Ending). ScriptReplayed table result script x input at_end initial now before after reads worse) (sym e)
     (ended result script (FaultAt line fault) _ input at_end initial now before mid after later reads worse widen ready settled f.there.4 (λ text. there) done)
 stopped_ends {table} WriteFault result script over input at_end number initial now before mid after failed later reads worse spread widen near settled (rose, f) (same, told) =
@@ -401,7 +400,7 @@ ready_done ends script e n p initial now before mid r all closes =
     record { came = came; told = r.told; boards = r.stood.boards; all = all came refl; line = closes r.last; limits = bounds_done ends script n p initial now before mid r; stood = λ uses. (r.grounded uses).1 }
 
 -- nothing stands behind the last line
-nothing_near : (n : ℕ) (input : List ℕ) → behind_lines n input ≡ [] → IsNear n input
+nothing_near : (n : ℕ) (input : List ℕ) → behind_lines n input ≡ [] → FewBytesBehind n input
 nothing_near n input e = omega (arith, ap length e)
 
 -- an input that is too long
@@ -448,24 +447,32 @@ finish_as {table} result script input w n p initial now new before mid after fai
     } in
     subst (λ (s : Status). ScriptReplayed table s script Ends input ⊤ initial new before after reads worse) (sym same) made
 
-kept_world : (p : Player) (v : KeptWorld) (last : Option World) (initial now : List Device) → p.stage ≡ Playing v → InWorld p last now → BoardsStand last initial now → (w : World) × (last ≡ Some w) × IsWorld v now w × WorldStands w initial now × (length w.sites ≡ p.place.motes)
-kept_world p v None initial now is kept stands = absurd (let e : Playing v ≡ Waiting = sym is ∙ kept.0 in cc)
-kept_world p v (Some w) initial now is kept stands = (w, refl, subst (λ (x : KeptWorld). IsWorld x now w) (same_kept kept.0 v (sym kept.1 ∙ is)) kept.2, stands, kept.3)
-  where
-    same_kept : (a b : KeptWorld) → Playing a ≡ Playing b → a ≡ b
-    same_kept a b e = cc
+kept_world : (p : Player) (last : Option World) (initial now : List Device) → p.place.ready ≡ true → InWorld p last now → BoardsStand last initial now → (w : World) × (last ≡ Some w) × IsWorld p.world now w × WorldStands w initial now × (length w.sites ≡ p.place.motes)
+kept_world p None initial now ready kept stands = absurd (let e : true ≡ false = sym ready ∙ kept in cc)
+kept_world p (Some w) initial now ready kept stands = (w, refl, kept.0, stands, kept.1)
 
--- a script that ended before its second line
-pub waiting_ends : (p : Player) (last : Option World) (now : List Device) → p.stage ≡ Waiting → InWorld p last now → fault_at_end p.place ≡ Some line_fault.Place
-waiting_ends p None now is kept = ap (λ (b : Bool). if not b then Some line_fault.Place else if p.place.cut then Some line_fault.Cut else None) kept.1
-waiting_ends p (Some w) now is kept = absurd (let e : Playing kept.0 ≡ Waiting = sym kept.1 ∙ is in cc)
+-- a script may end where its boards are used
+is_ready : (place : Place) → fault_at_end place ≡ None → place.ready ≡ true
+is_ready place none = by_test place.ready none
+  where
+    by_test : (b : Bool) → (if not b then Some line_fault.Place else if is_some place.cut then Some line_fault.Cut else None) ≡ None → b ≡ true
+    by_test true e = refl
+    by_test false e = absurd (let f : Some line_fault.Place ≡ None = e in cc)
+
+-- the world that is kept there
+pub finishes_in : (p : Player) (now : List Device) → fault_at_end p.place ≡ None → Ready p now → (w : World) × IsWorld p.world now w
+finishes_in p now none r = from r.world r.kept
+  where
+    from : (w : Option World) → InWorld p w now → (w : World) × IsWorld p.world now w
+    from None k = absurd (let e : true ≡ false = sym (is_ready p.place none) ∙ k in cc)
+    from (Some w) k = (w, k.0)
 
 -- a script that ended
-pub script_ends : {table : List Row} (result : Status) (script : Script) (input : List ℕ) (n : ℕ) (p : Player) (v : KeptWorld) (initial now new : List Device) (before mid after : Option (List ℕ)) (failed reads worse : Type 0) → (failed → worse) → fault_at_end p.place ≡ None → p.stage ≡ Playing v
-    → (r : Reached table true script [] n p initial now before mid) → ((w : World) → IsWorld v now w → WorldStands w initial now → FinishesWith result w initial new mid after failed)
+pub script_ends : {table : List Row} (result : Status) (script : Script) (input : List ℕ) (n : ℕ) (p : Player) (initial now new : List Device) (before mid after : Option (List ℕ)) (failed reads worse : Type 0) → (failed → worse) → fault_at_end p.place ≡ None
+    → (r : Reached table true script [] n p initial now before mid) → ((w : World) → IsWorld p.world now w → WorldStands w initial now → FinishesWith result w initial new mid after failed)
     → ScriptReplayed table result script (ending_from (length initial) false script) input ⊤ initial new before after reads worse
-script_ends {table} result script input n p v initial now new before mid after failed reads worse spread none has r finishes =
-    let world = kept_world p v r.last initial now has r.stood.world r.stood.boards in
+script_ends {table} result script input n p initial now new before mid after failed reads worse spread none r finishes =
+    let world = kept_world p r.last initial now (is_ready p.place none) r.stood.world r.stood.boards in
     let w = world.0 in
     let fault : script.fault ≡ None = sym (fault_done true script n p initial now before mid r) ∙ ap (λ (o : Option LineFault). numbered n o) none in
     let e : ending_from (length initial) false script ≡ Ends =
@@ -475,10 +482,10 @@ script_ends {table} result script input n p v initial now new before mid after f
 
 -- ---- the bytes that are used
 
-pub over_not : (text : List ℕ) → length text ≤ most_used_bytes → is_over text ≡ false
+pub over_not : (text : List ℕ) → length text ≤ most_used_bytes → has_unused_bytes text ≡ false
 over_not text h = below_is_false most_used_bytes (length text) h
 
-pub is_over-true : (text : List ℕ) → most_used_bytes < length text → is_over text ≡ true
+pub is_over-true : (text : List ℕ) → most_used_bytes < length text → has_unused_bytes text ≡ true
 is_over-true text more = over_is most_used_bytes (length text) more
 
 -- the script of an input that is not too long
@@ -489,17 +496,17 @@ script_all input few = ap (λ (b : Bool). script_from (not b) first_place 1 (lin
 -- and of one that is, where these bytes are used
 pub script_over : (input front : List ℕ) → most_used_bytes < length input → used input ≡ front → script_of input ≡ script_from false first_place 1 (lines front)
 unfolding script_of
-script_over input front more is = ap (λ (xs : List ℕ). script_from (not (is_over input)) first_place 1 (lines xs)) is ∙ ap (λ (b : Bool). script_from (not b) first_place 1 (lines front)) (is_over-true input more)
+script_over input front more is = ap (λ (xs : List ℕ). script_from (not (has_unused_bytes input)) first_place 1 (lines xs)) is ∙ ap (λ (b : Bool). script_from (not b) first_place 1 (lines front)) (is_over-true input more)
 
 below_true : (n m : ℕ) → nat_lt n m ≡ true → n < m
 below_true n m e = grind (arith, nat_tests)
 
-pub over_more : (input : List ℕ) → is_over input ≡ true → most_used_bytes < length input
+pub over_more : (input : List ℕ) → has_unused_bytes input ≡ true → most_used_bytes < length input
 over_more input over = below_true most_used_bytes (length input) over
 
 -- an input in its grammar and limits is played to its end
 pub in_limits : (n : ℕ) (input : List ℕ) → InLimits n input → ending_of n input ≡ Ends
 in_limits n input limits =
-    few_events n (is_over input) (script_of input) limits.boards_enough limits.events
+    few_events n (has_unused_bytes input) (script_of input) limits.boards_enough limits.events
     ∙ ap (λ (b : Bool). by_fault b (script_of input).fault) (over_not input limits.bytes)
     ∙ ap (λ (f : Option (ℕ × LineFault)). by_fault false f) limits.grammar

@@ -12,7 +12,7 @@ use Rattle.dg_script.specs.Script.{Script, script_from, with_line}
 use Rattle.dg_script.specs.declared.fault.LineFault.{LineFault}
 use Rattle.dg_script.specs.declared.line.Line.{Line}
 use Rattle.dg_script.specs.declared.place.Place.{Place}
-use Rattle.dg_replay.specs.Ending.{up_to, whole_lines, used, is_over, script_of, ending_from}
+use Rattle.dg_replay.specs.Ending.{up_to, whole_lines, used, has_unused_bytes, script_of, ending_from}
 use Rattle.dg_replay.specs.Fronts.{IsFront, BeginsAs, ReadsTo}
 use Rattle.dg_replay.specs.Outcome.{IsSettled, AreWhole}
 use Rattle.dg_replay.proofs.ReplayLemmas.{script_line, script_fault}
@@ -119,7 +119,7 @@ begins_used k true front more is few =
 
 -- whatever follows whole lines, and whether that is too much, they are the first lines of what is used
 pub used_begins : (front more : List ℕ) → IsFront front → length front ≤ most_used_bytes → (rest : List (List ℕ)) × (lines (used (front ++ more)) ≡ lines front ++ rest)
-used_begins front more is few = begins_used most_used_bytes (is_over (front ++ more)) front more is few
+used_begins front more is few = begins_used most_used_bytes (has_unused_bytes (front ++ more)) front more is few
 
 -- ---- scripts
 
@@ -140,15 +140,15 @@ texts_begin ends place n (text ∷ texts) more =
     (λ line. texts_begin ends (place_after place line) (n + 1) texts more)
 
 -- the script of an input whose first texts are these
-pub script_begins : (input : List ℕ) (texts rest : List (List ℕ)) → lines (used input) ≡ texts ++ rest → script_of input ≡ script_from (not (is_over input)) first_place 1 (texts ++ rest)
+pub script_begins : (input : List ℕ) (texts rest : List (List ℕ)) → lines (used input) ≡ texts ++ rest → script_of input ≡ script_from (not (has_unused_bytes input)) first_place 1 (texts ++ rest)
 unfolding script_of
-script_begins input texts rest are = ap (λ (ls : List (List ℕ)). script_from (not (is_over input)) first_place 1 ls) are
+script_begins input texts rest are = ap (λ (ls : List (List ℕ)). script_from (not (has_unused_bytes input)) first_place 1 ls) are
 
 pub front_begins : (front more : List ℕ) → IsFront front → length front ≤ most_used_bytes → BeginsAs (script_from false first_place 1 (lines front)) (script_of (front ++ more))
 front_begins front more is few =
     let u = used_begins front more is few in
     subst (λ (s : Script). BeginsAs (script_from false first_place 1 (lines front)) s) (sym (script_begins (front ++ more) (lines front) u.0 u.1))
-    (texts_begin (not (is_over (front ++ more))) first_place 1 (lines front) u.0)
+    (texts_begin (not (has_unused_bytes (front ++ more))) first_place 1 (lines front) u.0)
 
 pub whole_front_begins : (front more : List ℕ) → whole_lines front ≡ front → length front ≤ most_used_bytes → BeginsAs (script_from false first_place 1 (lines front)) (script_of (front ++ more))
 whole_front_begins front more whole few = front_begins front more (front_of_whole front whole) few
@@ -185,7 +185,7 @@ reads_whole front ahead done place n is few r = λ more.
     let input : List ℕ = front ++ (ahead ++ more) in
     let same : (front ++ ahead) ++ more ≡ input = append_assoc front ahead more in
     let u = used_begins front (ahead ++ more) is few in
-    let ends : Bool = not (is_over input) in
+    let ends : Bool = not (has_unused_bytes input) in
     let e : script_of ((front ++ ahead) ++ more) ≡ record { lines = done ++ (script_from ends place n u.0).lines; fault = (script_from ends place n u.0).fault } =
     ap script_of same ∙ script_begins input (lines front) u.0 u.1 ∙ r.reads ends u.0 in
     ((script_from ends place n u.0).lines, ap (λ (s : Script). s.lines) (sym e))
@@ -199,7 +199,7 @@ pub fault_script : (front ahead text : List ℕ) (texts : List (List ℕ)) (done
 fault_script front ahead text texts done place n fault is few parts r spelled =
     let u = used_begins front ahead is few in
     let all : lines (used (front ++ ahead)) ≡ texts ++ text ∷ u.0 = u.1 ∙ ap (λ (ls : List (List ℕ)). ls ++ u.0) parts ∙ append_assoc texts (text ∷ []) u.0 in
-    script_begins (front ++ ahead) texts (text ∷ u.0) all ∙ reads_fault texts done place n text fault r spelled (not (is_over (front ++ ahead))) u.0
+    script_begins (front ++ ahead) texts (text ∷ u.0) all ∙ reads_fault texts done place n text fault r spelled (not (has_unused_bytes (front ++ ahead))) u.0
 
 -- a fault of a whole line settles how the script ends
 pub fault_settles : (boards : ℕ) (front ahead text : List ℕ) (texts : List (List ℕ)) (done : List Line) (place : Place) (n : ℕ) (fault : LineFault) → IsFront front → length front ≤ most_used_bytes → lines front ≡ texts ++ text ∷ []
@@ -208,6 +208,6 @@ fault_settles boards front ahead text texts done place n fault is few parts r sp
     let there : Script = record { lines = done; fault = Some (n, fault) } in
     let one : script_of ((front ++ ahead) ++ more) ≡ there = ap script_of (append_assoc front ahead more) ∙ fault_script front (ahead ++ more) text texts done place n fault is few parts r spelled in
     let two : script_of (front ++ ahead) ≡ there = fault_script front ahead text texts done place n fault is few parts r spelled in
-    let a : Bool = is_over ((front ++ ahead) ++ more) in
-    let b : Bool = is_over (front ++ ahead) in
+    let a : Bool = has_unused_bytes ((front ++ ahead) ++ more) in
+    let b : Bool = has_unused_bytes (front ++ ahead) in
     ap (λ (s : Script). ending_from boards a s) one ∙ fault_ends boards a b done (n, fault) ∙ ap (λ (s : Script). ending_from boards b s) (sym two)

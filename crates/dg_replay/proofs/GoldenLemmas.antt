@@ -21,15 +21,15 @@ use Rattle.dg_script.specs.declared.line.Line.{Line}
 use Rattle.dg_script.specs.declared.line.Line.TheVariants.{Nothing, Motes, Golden, Boards, Link, Narrow, Image, Cut, Happens, Round, Sweeps}
 use Rattle.dg_rules.specs.Sizes.{most_motes}
 use Rattle.dg_rules.specs.World.{World, first_world}
-use Rattle.dg_rules.specs.Ranges.{EventFits, CutFits}
+use Rattle.dg_rules.specs.Ranges.{EventInRange, CutInRange}
 use Rattle.dg_rounds.specs.Rounds.{round, sweep, times, paced, passed}
-use Rattle.dg_rules.specs.Premises.{IsDeclared, ItemInRange, IsInRange, LinkFits, HonestEvent, HonestItem, IsHonestThen}
+use Rattle.dg_rules.specs.Premises.{IsDeclared, ItemInRange, PlayedInRange, LinkFits, HonestEvent, HonestItem, IsHonestThen}
 use Rattle.dg_rules.specs.Runs.{Played, Plays}
 use Rattle.dg_rules.specs.Events.{Goes, does}
-use Rattle.dg_rules.specs.Golden.{PlaysGolden, FindsImage}
+use Rattle.dg_rules.specs.Golden.{GoldenNetwork, network_world, PlaysGolden, FindsImage}
 use Rattle.dg_rules.specs.Begins.{PlaysFrom, StoresAgree, AreShaped, HoldsTo, HoldsToThen, PlaysBoards}
 use Rattle.dg_rules.specs.Promises.{StopsAgree}
-use Rattle.dg_script.specs.Items.{Item, Happens as Happened, quietly, item_by, cut_by, cut_behind, place_behind, items_behind, items_of}
+use Rattle.dg_script.specs.Items.{Item, Happens as Happened, quietly, item_by, place_behind, items_behind, items_of}
 use Rattle.dg_replay.specs.Items.{Ground, UsesBoards, BringsNone, IsNoFrame, Beginning, begin_by, begin_behind, beginning_of, with_link, with_narrow, lacking, no_beginning, next_items}
 use Rattle.dg_completion.specs.Completion.{IsEnough}
 use Rattle.dg_completion.specs.Ends.{EndsInRest, PagesCome, KeepsNewest, EndsLaw, EndsPipelineLaw}
@@ -98,7 +98,7 @@ not_boards place ready h = false_not place.ready ready (second_at place h.fits).
 
 -- ---- items in their ranges
 
-pub event_fits : (motes : ℕ) (event : Event) → FitsEvent motes event → IsPlayedEvent event → EventFits motes event
+pub event_fits : (motes : ℕ) (event : Event) → FitsEvent motes event → IsPlayedEvent event → EventInRange motes event
 event_fits motes (Tick mote dt word) h played = h.0
 event_fits motes (Hear mote dt word frame) h played = (h.0, h.2.counted)
 event_fits motes (Last from to dt word) h played = (h.0.first, h.0.second, λ same. h.0.other (sym same))
@@ -107,14 +107,14 @@ event_fits motes (Inject mote image version dt word) h played = (h.0, omega (ari
 event_fits motes (Order mote number image version dt word) h played = (h.0, h.1.counted, h.1.fits, omega (arith, h.2.image), h.2.version, h.2.version_fits)
 event_fits motes (Frame mote dt word bytes) h played = (h.0, h.2.few, h.2.bytes)
 
-cut_fits : (cut : CutOfPower) → FitsCut cut → CutFits cut
+cut_fits : (cut : CutOfPower) → FitsCut cut → CutInRange cut
 cut_fits cut h = record { counted = h.counted; some = omega (arith, h.some); few = omega (arith, h.few) }
 
-pub cut_fits_too : (cut : Option CutOfPower) → IfSome cut FitsCut → IfSome cut CutFits
+pub cut_fits_too : (cut : Option CutOfPower) → IfSome cut FitsCut → IfSome cut CutInRange
 cut_fits_too None h = tt
 cut_fits_too (Some cut) h = cut_fits cut h
 
-row_fits : (image version : ℕ) (name content : List ℕ) → script.IsDeclared image version name content → IsDeclared (declared_row image version name content)
+row_fits : (image version : ℕ) (name content : List ℕ) → script.FitsImage image version name content → IsDeclared (declared_row image version name content)
 row_fits image version name content h =
     record { not_golden = h.image; image = omega (arith, h.image_fits); version = h.version; version_fits = h.version_fits; name = h.name; fits = omega (arith, h.fits); bytes = h.bytes }
 
@@ -173,60 +173,60 @@ quiet_fits motes l h =
 -- ---- lines behind golden
 
 -- The boards are formatted, and there are so many motes. A cut that waits is in its range, and so are the links.
-record IsKept (motes : ℕ) (place : Place) (cut : Option CutOfPower) : Type 0 where
+record IsKept (motes : ℕ) (place : Place) : Type 0 where
   behind : IsBehind place
   count : place.motes ≡ motes
-  waits : IfSome cut FitsCut
+  waits : IfSome place.cut FitsCut
   links : AllByRecursion (LinkFits motes) place.links
 
-kept_next : (motes : ℕ) (place : Place) (cut : Option CutOfPower) (line : Line) → IsKept motes place cut → IsSpelled place line → IsKept motes (place_after place line) (cut_by cut line)
-kept_next motes place cut Nothing k h = k
-kept_next motes place cut (Motes n) k h = not_first place n k.behind.some h.stands
-kept_next motes place cut (Golden name used content) k h = not_second place name used content k.behind.ready h.stands
-kept_next motes place cut Boards k h = not_boards place k.behind.ready h.stands
-kept_next motes place cut (Link a b) k h =
+kept_next : (motes : ℕ) (place : Place) (line : Line) → IsKept motes place → IsSpelled place line → IsKept motes (place_after place line)
+kept_next motes place Nothing k h = k
+kept_next motes place (Motes n) k h = not_first place n k.behind.some h.stands
+kept_next motes place (Golden name used content) k h = not_second place name used content k.behind.ready h.stands
+kept_next motes place Boards k h = not_boards place k.behind.ready h.stands
+kept_next motes place (Link a b) k h =
     record {
       behind = record { ready = k.behind.ready; some = k.behind.some };
       count = k.count;
       waits = k.waits;
       links = one_more (LinkFits motes) place.links (a, b) k.links (subst (λ (n : ℕ). LinkFits n (a, b)) k.count (link_fits place.motes a b h.fits));
     }
-kept_next motes place cut (Narrow m) k h = record { behind = record { ready = k.behind.ready; some = k.behind.some }; count = k.count; waits = k.waits; links = k.links }
-kept_next motes place cut (Image image version name content) k h = k
-kept_next motes place cut (Cut c) k h = record { behind = record { ready = k.behind.ready; some = k.behind.some }; count = k.count; waits = h.fits; links = k.links }
-kept_next motes place cut (Happens event) k h = record { behind = record { ready = k.behind.ready; some = k.behind.some }; count = k.count; waits = tt; links = k.links }
-kept_next motes place cut (Round a b) k h = record { behind = record { ready = k.behind.ready; some = k.behind.some }; count = k.count; waits = k.waits; links = k.links }
-kept_next motes place cut (Sweeps n) k h = record { behind = record { ready = k.behind.ready; some = k.behind.some }; count = k.count; waits = k.waits; links = k.links }
+kept_next motes place (Narrow m) k h = record { behind = record { ready = k.behind.ready; some = k.behind.some }; count = k.count; waits = k.waits; links = k.links }
+kept_next motes place (Image image version name content) k h = k
+kept_next motes place (Cut c) k h = record { behind = record { ready = k.behind.ready; some = k.behind.some }; count = k.count; waits = h.fits; links = k.links }
+kept_next motes place (Happens event) k h = record { behind = record { ready = k.behind.ready; some = k.behind.some }; count = k.count; waits = tt; links = k.links }
+kept_next motes place (Round a b) k h = record { behind = record { ready = k.behind.ready; some = k.behind.some }; count = k.count; waits = k.waits; links = k.links }
+kept_next motes place (Sweeps n) k h = record { behind = record { ready = k.behind.ready; some = k.behind.some }; count = k.count; waits = k.waits; links = k.links }
 
-kept_behind : (motes : ℕ) (place : Place) (cut : Option CutOfPower) (lines : List Line) → IsKept motes place cut → LinesFit place lines → IsKept motes (place_behind place lines) (cut_behind cut lines)
-unfolding LinesFit place_behind cut_behind
-kept_behind motes place cut [] k h = k
-kept_behind motes place cut (line ∷ lines) k h = kept_behind motes (place_after place line) (cut_by cut line) lines (kept_next motes place cut line k (first_fits place line lines h)) h.3
+kept_behind : (motes : ℕ) (place : Place) (lines : List Line) → IsKept motes place → LinesFit place lines → IsKept motes (place_behind place lines)
+unfolding LinesFit place_behind
+kept_behind motes place [] k h = k
+kept_behind motes place (line ∷ lines) k h = kept_behind motes (place_after place line) lines (kept_next motes place line k (first_fits place line lines h)) h.3
 
-line_in_range : (motes : ℕ) (place : Place) (cut : Option CutOfPower) (line : Line) → IsKept motes place cut → IsSpelled place line → AllByRecursion (ItemInRange motes) (item_by place cut line)
-line_in_range motes place cut Nothing k h = tt
-line_in_range motes place cut (Motes n) k h = tt
-line_in_range motes place cut (Golden name used content) k h = tt
-line_in_range motes place cut Boards k h = tt
-line_in_range motes place cut (Link a b) k h = tt
-line_in_range motes place cut (Narrow m) k h = tt
-line_in_range motes place cut (Image image version name content) k h = (row_fits image version name content h.fits, tt)
-line_in_range motes place cut (Cut c) k h = tt
-line_in_range motes place cut (Happens event) k h = (record { event = subst (λ (n : ℕ). EventFits n event) k.count (event_fits place.motes event h.fits h.played); cut = cut_fits_too cut k.waits }, tt)
-line_in_range motes place cut (Round a b) k h =
+line_in_range : (motes : ℕ) (place : Place) (line : Line) → IsKept motes place → IsSpelled place line → AllByRecursion (ItemInRange motes) (item_by place line)
+line_in_range motes place Nothing k h = tt
+line_in_range motes place (Motes n) k h = tt
+line_in_range motes place (Golden name used content) k h = tt
+line_in_range motes place Boards k h = tt
+line_in_range motes place (Link a b) k h = tt
+line_in_range motes place (Narrow m) k h = tt
+line_in_range motes place (Image image version name content) k h = (row_fits image version name content h.fits, tt)
+line_in_range motes place (Cut c) k h = tt
+line_in_range motes place (Happens event) k h = (record { event = subst (λ (n : ℕ). EventInRange n event) k.count (event_fits place.motes event h.fits h.played); cut = cut_fits_too place.cut k.waits }, tt)
+line_in_range motes place (Round a b) k h =
     let link : LinkFits motes (a, b) = subst (λ (n : ℕ). LinkFits n (a, b)) k.count (link_fits place.motes a b h.fits) in
     quiet_all (ItemInRange motes) (round a b) (round_all (QuietFits motes) (a, b) (quiet_fits motes (a, b) link))
-line_in_range motes place cut (Sweeps n) k h =
+line_in_range motes place (Sweeps n) k h =
     quiet_all (ItemInRange motes) (times n (sweep place.links))
     (all_times (QuietFits motes) n (sweep place.links) (sweep_all (QuietFits motes) place.links (all_map (LinkFits motes) (HoldsOver (QuietFits motes)) place.links (quiet_fits motes) k.links)))
 
-in_range : (motes : ℕ) (place : Place) (cut : Option CutOfPower) (lines : List Line) → IsKept motes place cut → LinesFit place lines → AllByRecursion (ItemInRange motes) (items_behind place cut lines)
+in_range : (motes : ℕ) (place : Place) (lines : List Line) → IsKept motes place → LinesFit place lines → AllByRecursion (ItemInRange motes) (items_behind place lines)
 unfolding LinesFit items_behind
-in_range motes place cut [] k h = tt
-in_range motes place cut (line ∷ lines) k h =
+in_range motes place [] k h = tt
+in_range motes place (line ∷ lines) k h =
     let first = first_fits place line lines h in
-    all_append (ItemInRange motes) (item_by place cut line) (items_behind (place_after place line) (cut_by cut line) lines)
-    (line_in_range motes place cut line k first) (in_range motes (place_after place line) (cut_by cut line) lines (kept_next motes place cut line k first) h.3)
+    all_append (ItemInRange motes) (item_by place line) (items_behind (place_after place line) lines)
+    (line_in_range motes place line k first) (in_range motes (place_after place line) lines (kept_next motes place line k first) h.3)
 
 -- the image with which the boards are formatted
 record Formatted : Type 0 where
@@ -305,8 +305,8 @@ lacking_none boards place (Sweeps n ∷ lines) behind h = lacking_none boards (p
 
 -- ---- where a run begins
 
--- it begins with golden or on the boards as they are, all its items are in their ranges, and so are the place and the cut behind them
-record Begun (g : Ground) (lines : List Line) (b : Beginning) (w : World) (items : List Item) (place : Place) (cut : Option CutOfPower) : Type 0 where
+-- it begins with golden or on the boards as they are, all its items are in their ranges, and so is the place behind them
+record Begun (g : Ground) (lines : List Line) (b : Beginning) (w : World) (items : List Item) (place : Place) : Type 0 where
   table : List Row
   stores : List Store
   opens : OpensBy g lines b.motes table stores
@@ -316,20 +316,20 @@ record Begun (g : Ground) (lines : List Line) (b : Beginning) (w : World) (items
   world : w ≡ first_world table links narrow stores
   few : b.motes ≤ most_motes
   ranges : AllByRecursion (ItemInRange b.motes) items
-  kept : IsKept b.motes place cut
+  kept : IsKept b.motes place
 
 -- the line that opens the boards was read
 opened : (g : Ground) (all : List Line) (b : Beginning) (place : Place) (line : Line) (lines : List Line) (w : World) (table : List Row) (stores : List Store) → (begin_by g b line).motes ≡ b.motes → (begin_by g b line).world ≡ Some (first_world table [] none_narrow stores)
-    → (place_after place line).motes ≡ place.motes → (place_after place line).ready ≡ true → (place_after place line).links ≡ place.links → b.motes ≡ place.motes → b.motes ≤ most_motes → place.links ≡ [] → 0 < place.motes → OpensBy g all b.motes table stores
+    → (place_after place line).motes ≡ place.motes → (place_after place line).ready ≡ true → (place_after place line).links ≡ place.links → (place_after place line).cut ≡ None → b.motes ≡ place.motes → b.motes ≤ most_motes → place.links ≡ [] → 0 < place.motes → OpensBy g all b.motes table stores
     → LinesFit (place_after place line) lines → (begin_behind g (begin_by g b line) lines).world ≡ Some w
-    → Begun g all (begin_behind g (begin_by g b line) lines) w (items_behind (place_after place line) None lines) (place_behind (place_after place line) lines) (cut_behind None lines)
-opened g all b place line lines w table stores same begins_so many ready alike count few alone some opens h is =
+    → Begun g all (begin_behind g (begin_by g b line) lines) w (items_behind (place_after place line) lines) (place_behind (place_after place line) lines)
+opened g all b place line lines w table stores same begins_so many ready alike uncut count few alone some opens h is =
     let c : Beginning = begin_by g b line in
     let there : Place = place_after place line in
     let at : there.motes ≡ b.motes = many ∙ sym count in
     let behind : IsBehind there = record { ready = ready; some = subst (λ (n : ℕ). 0 < n) (sym many) some } in
     let k : Carries b.motes table stores (begin_behind g c lines) = carries b.motes table stores g c there lines behind at h (record { links = []; fit = tt; narrow = none_narrow; world = begins_so; count = same }) in
-    let kept : IsKept b.motes there None = record { behind = behind; count = at; waits = tt; links = subst (AllByRecursion (LinkFits b.motes)) (sym (alike ∙ alone)) tt } in
+    let kept : IsKept b.motes there = record { behind = behind; count = at; waits = subst (λ (o : Option CutOfPower). IfSome o FitsCut) (sym uncut) tt; links = subst (AllByRecursion (LinkFits b.motes)) (sym (alike ∙ alone)) tt } in
     record {
       table = table;
       stores = stores;
@@ -339,31 +339,31 @@ opened g all b place line lines w table stores same begins_so many ready alike c
       narrow = k.narrow;
       world = some_is w (first_world table k.links k.narrow stores) (sym is ∙ k.world);
       few = subst (λ (n : ℕ). n ≤ most_motes) (sym k.count) few;
-      ranges = subst (λ (n : ℕ). AllByRecursion (ItemInRange n) (items_behind there None lines)) (sym k.count) (in_range b.motes there None lines kept h);
-      kept = subst (λ (n : ℕ). IsKept n (place_behind there lines) (cut_behind None lines)) (sym k.count) (kept_behind b.motes there None lines kept h);
+      ranges = subst (λ (n : ℕ). AllByRecursion (ItemInRange n) (items_behind there lines)) (sym k.count) (in_range b.motes there lines kept h);
+      kept = subst (λ (n : ℕ). IsKept n (place_behind there lines)) (sym k.count) (kept_behind b.motes there lines kept h);
     }
 
 -- before that line, where no more than the number of motes is known
-begins : (g : Ground) (all : List Line) (b : Beginning) (place : Place) (lines : List Line) (w : World) → (UsesBoards lines → UsesBoards all) → b.motes ≡ place.motes → b.motes ≤ most_motes → b.world ≡ None → place.ready ≡ false → place.links ≡ [] → LinesFit place lines
-    → (begin_behind g b lines).world ≡ Some w → Begun g all (begin_behind g b lines) w (items_behind place None lines) (place_behind place lines) (cut_behind None lines)
-unfolding LinesFit begin_behind items_behind place_behind cut_behind
-begins g all b place [] w among count few none before alone h is = absurd (let e : None ≡ Some w = sym none ∙ is in cc)
-begins g all b place (Nothing ∷ lines) w among count few none before alone h is = begins g all b place lines w among count few none before alone h.3 is
-begins g all b place (Motes n ∷ lines) w among count few none before alone h is = begins g all (begin_by g b (Motes n)) (place_after place (Motes n)) lines w among refl h.1.1 none before alone h.3 is
-begins g all b place (Golden name used content ∷ lines) w among count few none before alone h is =
-    opened g all b place (Golden name used content) lines w (golden_row name content ∷ []) (replicate b.motes (fresh name content used)) refl refl refl refl refl count few alone (second_at place h.0.fits).1
+begins : (g : Ground) (all : List Line) (b : Beginning) (place : Place) (lines : List Line) (w : World) → (UsesBoards lines → UsesBoards all) → b.motes ≡ place.motes → b.motes ≤ most_motes → b.world ≡ None → place.ready ≡ false → place.links ≡ [] → place.cut ≡ None → LinesFit place lines
+    → (begin_behind g b lines).world ≡ Some w → Begun g all (begin_behind g b lines) w (items_behind place lines) (place_behind place lines)
+unfolding LinesFit begin_behind items_behind place_behind
+begins g all b place [] w among count few none before alone uncut h is = absurd (let e : None ≡ Some w = sym none ∙ is in cc)
+begins g all b place (Nothing ∷ lines) w among count few none before alone uncut h is = begins g all b place lines w among count few none before alone uncut h.3 is
+begins g all b place (Motes n ∷ lines) w among count few none before alone uncut h is = begins g all (begin_by g b (Motes n)) (place_after place (Motes n)) lines w among refl h.1.1 none before alone uncut h.3 is
+begins g all b place (Golden name used content ∷ lines) w among count few none before alone uncut h is =
+    opened g all b place (Golden name used content) lines w (golden_row name content ∷ []) (replicate b.motes (fresh name content used)) refl refl refl refl refl uncut count few alone (second_at place h.0.fits).1
     (inl (record { golden = record { name = name; used = used; content = content }; is_golden = h.1; table_is = refl; stores_are = refl })) h.3 is
-begins g all b place (Boards ∷ lines) w among count few none before alone h is =
-    opened g all b place Boards lines w g.table g.stores refl refl refl refl refl count few alone (second_at place h.0.fits).1 (inr (record { uses = among refl; table_is = refl; stores_are = refl })) h.3 is
-begins g all b place (Link x y ∷ lines) w among count few none before alone h is = false_not place.ready (link_at place x y h.0).0.0 before
-begins g all b place (Narrow m ∷ lines) w among count few none before alone h is = false_not place.ready (narrow_at place m h.0).0.0 before
-begins g all b place (Image image version name content ∷ lines) w among count few none before alone h is = false_not place.ready (later_at place h.0.fits).0 before
-begins g all b place (Cut c ∷ lines) w among count few none before alone h is = false_not place.ready (later_at place h.0.fits).0 before
-begins g all b place (Happens event ∷ lines) w among count few none before alone h is = false_not place.ready (event_at place event h.0).0 before
-begins g all b place (Round x y ∷ lines) w among count few none before alone h is = false_not place.ready (later_at place h.0.fits).0 before
-begins g all b place (Sweeps n ∷ lines) w among count few none before alone h is = false_not place.ready (later_at place h.0.fits).0 before
+begins g all b place (Boards ∷ lines) w among count few none before alone uncut h is =
+    opened g all b place Boards lines w g.table g.stores refl refl refl refl refl uncut count few alone (second_at place h.0.fits).1 (inr (record { uses = among refl; table_is = refl; stores_are = refl })) h.3 is
+begins g all b place (Link x y ∷ lines) w among count few none before alone uncut h is = false_not place.ready (link_at place x y h.0).0.0 before
+begins g all b place (Narrow m ∷ lines) w among count few none before alone uncut h is = false_not place.ready (narrow_at place m h.0).0.0 before
+begins g all b place (Image image version name content ∷ lines) w among count few none before alone uncut h is = false_not place.ready (later_at place h.0.fits).0 before
+begins g all b place (Cut c ∷ lines) w among count few none before alone uncut h is = false_not place.ready (later_at place h.0.fits).0 before
+begins g all b place (Happens event ∷ lines) w among count few none before alone uncut h is = false_not place.ready (event_at place event h.0).0 before
+begins g all b place (Round x y ∷ lines) w among count few none before alone uncut h is = false_not place.ready (later_at place h.0.fits).0 before
+begins g all b place (Sweeps n ∷ lines) w among count few none before alone uncut h is = false_not place.ready (later_at place h.0.fits).0 before
 
-played_ranges : (motes : ℕ) (played : List Played) → AllByRecursion (ItemInRange motes) (map item_played played) → AllByRecursion (IsInRange motes) played
+played_ranges : (motes : ℕ) (played : List Played) → AllByRecursion (ItemInRange motes) (map item_played played) → AllByRecursion (PlayedInRange motes) played
 played_ranges motes [] h = tt
 played_ranges motes (p ∷ ps) h = (h.0, played_ranges motes ps h.1)
 
@@ -386,7 +386,7 @@ record ScriptRun (g : Ground) (lines : List Line) (b : Beginning) (left : List I
   plays : Plays (first_world table links narrow stores) played v
   few : b.motes ≤ most_motes
   links_fit : AllByRecursion (LinkFits b.motes) links
-  ranges : AllByRecursion (IsInRange b.motes) played
+  ranges : AllByRecursion (PlayedInRange b.motes) played
   left_fits : AllByRecursion (ItemInRange b.motes) left
 
 -- one that plays golden
@@ -397,8 +397,11 @@ pub record GoldenRun (b : Beginning) (left : List Item) (played : List Played) (
   pub links : List (ℕ × ℕ)
   pub narrow : List Bool
   pub begins : b.world ≡ Some (first_world (golden_row name bytes ∷ []) links narrow (replicate b.motes (fresh name bytes used)))
-  pub plays : PlaysGolden name bytes used b.motes links narrow played v
+  pub plays : PlaysGolden (record { name = name; bytes = bytes; used = used; motes = b.motes; links = links; narrow = narrow }) played v
   pub left_fits : AllByRecursion (ItemInRange b.motes) left
+
+abbrev pub ran_network : {b : Beginning} {left : List Item} {played : List Played} {v : World} → GoldenRun b left played v → GoldenNetwork
+ran_network {b = b} g = record { name = g.name; bytes = g.bytes; used = g.used; motes = b.motes; links = g.links; narrow = g.narrow }
 
 -- and one over the boards as they are
 record BoardsRun (g : Ground) (b : Beginning) (left : List Item) (played : List Played) (v : World) : Type 0 where
@@ -411,12 +414,12 @@ golden_is_row : (golden : Formatted) → IsGolden golden.name golden.used golden
 golden_is_row golden h =
     record { image = omega arith; version = omega arith; version_fits = omega arith; name = h.name; some = h.some; fits = omega (arith, h.fits); bytes = h.bytes }
 
-next_in_range : (motes : ℕ) (done rest : List Line) → IsKept motes (place_behind first_place done) (cut_behind None done) → LinesFit (place_behind first_place done) rest → AllByRecursion (ItemInRange motes) (next_items done rest)
+next_in_range : (motes : ℕ) (done rest : List Line) → IsKept motes (place_behind first_place done) → LinesFit (place_behind first_place done) rest → AllByRecursion (ItemInRange motes) (next_items done rest)
 next_in_range motes done [] k h = tt
-next_in_range motes done (line ∷ rest) k h = line_in_range motes (place_behind first_place done) (cut_behind None done) line k (first_fits _ line rest h)
+next_in_range motes done (line ∷ rest) k h = line_in_range motes (place_behind first_place done) line k (first_fits _ line rest h)
 
 abbrev BegunBehind : Ground → Beginning → World → List Line → Type 0
-BegunBehind g b w done = Begun g done b w (items_of done) (place_behind first_place done) (cut_behind None done)
+BegunBehind g b w done = Begun g done b w (items_of done) (place_behind first_place done)
 
 run_by : (g : Ground) (b : Beginning) (o : Option World) (done rest : List Line) (begun left : List Item) (played : List Played) (v : World) → b.world ≡ o → ((w : World) → b.world ≡ Some w → BegunBehind g b w done) → LinesFit (place_behind first_place done) rest
     → next_items done rest ≡ begun ++ left → map item_played played ≡ items_of done ++ begun → RunsTo o played (Some v) → ScriptRun g done b left played v
@@ -445,7 +448,7 @@ run_by g b (Some w) done rest begun left played v is begins_so next parts items 
 script_run : (g : Ground) (done rest : List Line) (begun left : List Item) (played : List Played) (v : World) → LinesFit first_place done → LinesFit (place_behind first_place done) rest → next_items done rest ≡ begun ++ left
     → map item_played played ≡ items_of done ++ begun → RunsTo (beginning_of g done).world played (Some v) → ScriptRun g done (beginning_of g done) left played v
 script_run g done rest begun left played v fit next parts items run =
-    run_by g (beginning_of g done) (beginning_of g done).world done rest begun left played v refl (λ w is. begins g done no_beginning first_place done w (λ h. h) refl (omega arith) refl refl refl fit is) next parts items run
+    run_by g (beginning_of g done) (beginning_of g done).world done rest begun left played v refl (λ w is. begins g done no_beginning first_place done w (λ h. h) refl (omega arith) refl refl refl refl fit is) next parts items run
 
 golden_of : (g : Ground) (lines : List Line) (b : Beginning) (left : List Item) (played : List Played) (v : World) (r : ScriptRun g lines b left played v) → ByGolden b.motes r.table r.stores → GoldenRun b left played v
 golden_of g lines b left played v r by =
@@ -479,7 +482,7 @@ boards_of g lines b left played v r by count shaped =
         plays = subst (λ (z : World). Plays z played v) same r.plays;
         few = subst (λ (n : ℕ). n ≤ most_motes) (sym count) r.few;
         links_fit = subst (λ (n : ℕ). AllByRecursion (LinkFits n) r.links) (sym count) r.links_fit;
-        ranges = subst (λ (n : ℕ). AllByRecursion (IsInRange n) played) (sym count) r.ranges;
+        ranges = subst (λ (n : ℕ). AllByRecursion (PlayedInRange n) played) (sym count) r.ranges;
       };
       left_fits = r.left_fits;
     }
@@ -499,8 +502,8 @@ script_of_fits input = script_fits _ first_place 1 _
 
 -- what is played over honest frames is played from a world that agrees with its table, with true events
 abbrev pub GoldenWay : Type 0
-GoldenWay = (name bytes : List ℕ) (used motes : ℕ) (links : List (ℕ × ℕ)) (narrow : List Bool) (played : List Played) (v : World) → PlaysGolden name bytes used motes links narrow played v
-    → AllByRecursion IsHonestThen played → PlaysFrom (first_world (golden_row name bytes ∷ []) links narrow (replicate motes (fresh name bytes used))) played v
+GoldenWay = (g : GoldenNetwork) (played : List Played) (v : World) → PlaysGolden g played v
+    → AllByRecursion IsHonestThen played → PlaysFrom (network_world g) played v
 
 -- so is what holds to a table, over boards that agree with it
 abbrev pub BoardsWay : Type 0
@@ -545,7 +548,7 @@ module _ {table : List Row} (input : List ℕ) (c : Progress table (script_of in
       elim r.opens [
         | inl by ↦
             let run = golden_of c.ground c.done (beginning_of c.ground c.done) c.left c.played v r by in
-            record { first = _; from = ways.golden run.name run.bytes run.used (beginning_of c.ground c.done).motes run.links run.narrow c.played v run.plays honest.frames }
+            record { first = _; from = ways.golden (ran_network run) c.played v run.plays honest.frames }
         | inr by ↦
             let run = boards_at v r by in
             record { first = _; from = ways.boards c.ground.table c.ground.stores run.links run.narrow c.played v run.plays (honest.agree by.uses) (honest.hold by.uses) }
@@ -579,10 +582,10 @@ module _ {table : List Row} (input : List ℕ) (c : Progress table (script_of in
 -- ---- the next event, wherever it is stopped
 
 pub record HalvesLaws : Type 0 where
-  pub golden : (name bytes : List ℕ) (used motes : ℕ) (links : List (ℕ × ℕ)) (narrow : List Bool) (played : List Played) (v : World) (e : Event) → PlaysGolden name bytes used motes links narrow played v
-      → AllByRecursion IsHonestThen played → EventFits motes e → HonestEvent v.table e → StopsAgree v e
+  pub golden : (g : GoldenNetwork) (played : List Played) (v : World) (e : Event) → PlaysGolden g played v
+      → AllByRecursion IsHonestThen played → EventInRange g.motes e → HonestEvent v.table e → StopsAgree v e
   pub boards : (table : List Row) (stores : List Store) (links : List (ℕ × ℕ)) (narrow : List Bool) (played : List Played) (v : World) (e : Event) → PlaysBoards table stores links narrow played v
-      → StoresAgree table stores → AllByRecursion (HoldsToThen table) played → EventFits (length stores) e → HoldsTo table v e → StopsAgree v e
+      → StoresAgree table stores → AllByRecursion (HoldsToThen table) played → EventInRange (length stores) e → HoldsTo table v e → StopsAgree v e
 
 pub halves_agree : {table : List Row} → HalvesLaws → (input : List ℕ) (c : Progress table (script_of input)) (w : World) (step : Step) (loud : Bool) (more : List Item) → FramesAreHonest c → c.last ≡ Some w → c.left ≡ Happened step loud ∷ more
     → HonestEvent w.table step.event → (UsesBoards c.done → HoldsTo c.ground.table w step.event) → StopsAgree w step.event
@@ -593,12 +596,12 @@ halves_agree laws input c w step loud more honest is next here holds =
       | inl by ↦
           let run = golden_of c.ground c.done b c.left c.played w r by in
           let fits : AllByRecursion (ItemInRange b.motes) (Happened step loud ∷ more) = subst (AllByRecursion (ItemInRange b.motes)) next run.left_fits in
-          laws.golden run.name run.bytes run.used b.motes run.links run.narrow c.played w step.event run.plays honest.frames fits.0.event here
+          laws.golden (ran_network run) c.played w step.event run.plays honest.frames fits.0.event here
       | inr by ↦
           let run = boards_at input c w r by in
           let fits : AllByRecursion (ItemInRange b.motes) (Happened step loud ∷ more) = subst (AllByRecursion (ItemInRange b.motes)) next run.left_fits in
           laws.boards c.ground.table c.ground.stores run.links run.narrow c.played w step.event run.plays (honest.agree by.uses) (honest.hold by.uses)
-          (subst (λ (n : ℕ). EventFits n step.event) (sym (boards_ground input c by.uses).0) fits.0.event) (holds by.uses)
+          (subst (λ (n : ℕ). EventInRange n step.event) (sym (boards_ground input c by.uses).0) fits.0.event) (holds by.uses)
     ]
 
 -- ---- lines that bring no frame from outside
@@ -625,24 +628,24 @@ each_honest : (links : List (ℕ × ℕ)) → AllByRecursion (HoldsOver QuietHon
 each_honest [] = tt
 each_honest (l ∷ links) = (quiet_honest l, each_honest links)
 
-line_honest : (place : Place) (cut : Option CutOfPower) (line : Line) → IsNoFrame line → AllByRecursion HonestAlways (item_by place cut line)
-line_honest place cut Nothing none = tt
-line_honest place cut (Motes n) none = tt
-line_honest place cut (Golden name used content) none = tt
-line_honest place cut Boards none = tt
-line_honest place cut (Link a b) none = tt
-line_honest place cut (Narrow m) none = tt
-line_honest place cut (Image image version name content) none = (λ w. tt, tt)
-line_honest place cut (Cut c) none = tt
-line_honest place cut (Happens event) none = (λ w. event_honest event w.table none, tt)
-line_honest place cut (Round a b) none = quiet_all HonestAlways (round a b) (round_all QuietHonest (a, b) (quiet_honest (a, b)))
-line_honest place cut (Sweeps n) none = quiet_all HonestAlways (times n (sweep place.links)) (all_times QuietHonest n (sweep place.links) (sweep_all QuietHonest place.links (each_honest place.links)))
+line_honest : (place : Place) (line : Line) → IsNoFrame line → AllByRecursion HonestAlways (item_by place line)
+line_honest place Nothing none = tt
+line_honest place (Motes n) none = tt
+line_honest place (Golden name used content) none = tt
+line_honest place Boards none = tt
+line_honest place (Link a b) none = tt
+line_honest place (Narrow m) none = tt
+line_honest place (Image image version name content) none = (λ w. tt, tt)
+line_honest place (Cut c) none = tt
+line_honest place (Happens event) none = (λ w. event_honest event w.table none, tt)
+line_honest place (Round a b) none = quiet_all HonestAlways (round a b) (round_all QuietHonest (a, b) (quiet_honest (a, b)))
+line_honest place (Sweeps n) none = quiet_all HonestAlways (times n (sweep place.links)) (all_times QuietHonest n (sweep place.links) (sweep_all QuietHonest place.links (each_honest place.links)))
 
-items_honest : (place : Place) (cut : Option CutOfPower) (lines : List Line) → AllByRecursion IsNoFrame lines → AllByRecursion HonestAlways (items_behind place cut lines)
+items_honest : (place : Place) (lines : List Line) → AllByRecursion IsNoFrame lines → AllByRecursion HonestAlways (items_behind place lines)
 unfolding items_behind
-items_honest place cut [] none = tt
-items_honest place cut (line ∷ lines) none =
-    all_append HonestAlways (item_by place cut line) (items_behind (place_after place line) (cut_by cut line) lines) (line_honest place cut line none.0) (items_honest (place_after place line) (cut_by cut line) lines none.1)
+items_honest place [] none = tt
+items_honest place (line ∷ lines) none =
+    all_append HonestAlways (item_by place line) (items_behind (place_after place line) lines) (line_honest place line none.0) (items_honest (place_after place line) lines none.1)
 
 -- A line that was begun, and not done, is a round or sweeps.
 one_begun : (item : Item) (begun left : List Item) → item ∷ [] ≡ begun ++ left → (left ≡ [] → begun ≡ []) → begun ≡ []
@@ -656,13 +659,13 @@ one_begun item (x ∷ begun) left parts within = within (none_left begun left (a
 front_honest : (items begun left : List Item) → items ≡ begun ++ left → AllByRecursion HonestAlways items → AllByRecursion HonestAlways begun
 front_honest items begun left parts all = all_front HonestAlways begun left (subst (AllByRecursion HonestAlways) parts all)
 
-line_begun_honest : (place : Place) (cut : Option CutOfPower) (line : Line) (begun left : List Item) → item_by place cut line ≡ begun ++ left → (left ≡ [] → begun ≡ []) → AllByRecursion HonestAlways begun
-line_begun_honest place cut (Happens event) begun left parts within = subst (AllByRecursion HonestAlways) (sym (one_begun _ begun left parts within)) tt
-line_begun_honest place cut line begun left parts within = front_honest (item_by place cut line) begun left parts (line_honest place cut line tt)
+line_begun_honest : (place : Place) (line : Line) (begun left : List Item) → item_by place line ≡ begun ++ left → (left ≡ [] → begun ≡ []) → AllByRecursion HonestAlways begun
+line_begun_honest place (Happens event) begun left parts within = subst (AllByRecursion HonestAlways) (sym (one_begun _ begun left parts within)) tt
+line_begun_honest place line begun left parts within = front_honest (item_by place line) begun left parts (line_honest place line tt)
 
 begun_honest : (done rest : List Line) (begun left : List Item) → next_items done rest ≡ begun ++ left → (left ≡ [] → begun ≡ []) → AllByRecursion HonestAlways begun
 begun_honest done [] begun left parts within = front_honest [] begun left parts tt
-begun_honest done (line ∷ rest) begun left parts within = line_begun_honest (place_behind first_place done) (cut_behind None done) line begun left parts within
+begun_honest done (line ∷ rest) begun left parts within = line_begun_honest (place_behind first_place done) line begun left parts within
 
 played_honest : (played : List Played) → AllByRecursion HonestAlways (map item_played played) → AllByRecursion IsHonestThen played
 played_honest [] h = tt
@@ -670,7 +673,7 @@ played_honest (p ∷ ps) h = (h.0 p.before, played_honest ps h.1)
 
 frames_honest : {table : List Row} (spells : Script) (c : Progress table spells) → AllByRecursion IsNoFrame c.done → AllByRecursion IsHonestThen c.played
 frames_honest spells c none =
-    played_honest c.played (subst (AllByRecursion HonestAlways) (sym c.items) (all_append HonestAlways (items_of c.done) c.begun (items_honest first_place None c.done none) (begun_honest c.done c.rest c.begun c.left c.parts c.within)))
+    played_honest c.played (subst (AllByRecursion HonestAlways) (sym c.items) (all_append HonestAlways (items_of c.done) c.begun (items_honest first_place c.done none) (begun_honest c.done c.rest c.begun c.left c.parts c.within)))
 
 pub progress_honest : {table : List Row} (spells : Script) (c : Progress table spells) → AllByRecursion IsNoFrame c.done → (UsesBoards c.done → ⊥) → FramesAreHonest c
 progress_honest spells c none alone = record { frames = frames_honest spells c none; agree = λ uses. absurd (alone uses); hold = λ uses. absurd (alone uses) }
@@ -678,17 +681,17 @@ progress_honest spells c none alone = record { frames = frames_honest spells c n
 -- ---- no event lacks an image
 
 abbrev pub ImageIsFound : Type 0
-ImageIsFound = (name bytes : List ℕ) (used motes : ℕ) (links : List (ℕ × ℕ)) (narrow : List Bool) (played : List Played) (v : World) (e : Event) → PlaysGolden name bytes used motes links narrow played v → EventFits motes e → FindsImage (does v e)
+ImageIsFound = (g : GoldenNetwork) (played : List Played) (v : World) (e : Event) → PlaysGolden g played v → EventInRange g.motes e → FindsImage (does v e)
 
 golden_finds : ImageIsFound → (b : Beginning) (left : List Item) (played : List Played) (u : World) (old new : List Device) → GoldenRun b left played u → LacksImage u left old new → ⊥
 golden_finds law b left played u old new g lacks =
     let fits : AllByRecursion (ItemInRange b.motes) (Happened lacks.next.step lacks.next.loud ∷ lacks.next.more) = subst (AllByRecursion (ItemInRange b.motes)) lacks.next.is g.left_fits in
-    let finds : FindsImage (does u lacks.next.step.event) = law g.name g.bytes g.used b.motes g.links g.narrow played u lacks.next.step.event g.plays fits.0.event in
+    let finds : FindsImage (does u lacks.next.step.event) = law (ran_network g) played u lacks.next.step.event g.plays fits.0.event in
     let some : FindsImage (Goes lacks.ends.deed) = subst FindsImage lacks.ends.goes finds in
     some lacks.ends.none
 
 line_finds : ImageIsFound → (g : Ground) (done : List Line) (line : Line) (played : List Played) (last world : Option World) (begun left : List Item) (text : List ℕ) (old new : List Device) → (UsesBoards done → ⊥) → LinesFit first_place done → IsSpelled (place_behind first_place done) line → map item_played played ≡ items_of done
-    → RunsTo (beginning_of g done).world played last → item_by (place_behind first_place done) (cut_behind None done) line ≡ begun ++ left → RunsFrom last begun world text → InSome world (λ u. LacksImage u left old new) → ⊥
+    → RunsTo (beginning_of g done).world played last → item_by (place_behind first_place done) line ≡ begun ++ left → RunsFrom last begun world text → InSome world (λ u. LacksImage u left old new) → ⊥
 line_finds law ground done line played None world begun left text old new alone fit spelled items run parts runs lacks = subst (λ (o : Option World). InSome o (λ u. LacksImage u left old new)) runs.1 lacks
 line_finds law ground done line played (Some w) world begun left text old new alone fit spelled items run parts (u, is, now) lacks =
     let more : map item_played (played ++ now.played) ≡ items_of done ++ begun =

@@ -16,17 +16,16 @@ use Rattle.dg_script.specs.Sizes.{most_used_bytes, most_kept}
 use Rattle.dg_script.specs.declared.line.Line.{Line}
 use Rattle.dg_replay.specs.Boards.{BoardsStand}
 use Rattle.dg_replay.specs.Items.{lacking}
-use Rattle.dg_replay.specs.Ending.{script_of, is_over, used, ending_of}
+use Rattle.dg_replay.specs.Ending.{script_of, has_unused_bytes, used, ending_of}
 use Rattle.dg_replay.specs.Fronts.{IsFront}
 use Rattle.dg_replay.specs.Following.{LineTaken, AllAsBefore, NextPlayed}
 use Rattle.dg_replay.specs.Near.{behind_line, behind_lines}
 use Rattle.dg_replay.specs.Outcome.{Progress, IsSettled, NextIsWhole, DoneIsWhole, AllRead, AllWhole, AreWhole}
 use Rattle.dg_replay.specs.Playing.{Stood, Ready}
-use Rattle.dg_replay.specs.Replaying.{TextAnswer, Reached, PlayedUpTo, StopsAtText, StopsThere, StopsIn, ByRules, InputAnswer}
+use Rattle.dg_replay.specs.Replaying.{TextAnswer, Reached, PlayedUpTo, StopsAtText, StopsThere, StopsInTaken, ByRules, InputAnswer}
 use Rattle.dg_replay.specs.declared.halt.Halt.{Halt}
 use Rattle.dg_replay.specs.declared.halt.Halt.TheVariants.{ReadFault, TooLong, Stopped}
 use Rattle.dg_replay.specs.declared.player.Player.{Player}
-use Rattle.dg_replay.specs.declared.player.Stage.TheVariants.{Waiting}
 use Rattle.dg_replay.specs.declared.stop.Stop.{Stop}
 use Rattle.dg_replay.specs.declared.stop.Stop.TheVariants.{Memory, BadInput, WriteFault, FlashFault, TooMany, NoBoard, NoImage, NotAVolume}
 use Rattle.dg_replay.proofs.EndLemmas.{script_all, script_over, stop_ending, bounds_done}
@@ -52,9 +51,9 @@ pub record LinesRead (left_old left_now : Option (List ℕ)) (reader : Reading) 
   pub played : FrontPlayed front given p initial now before after
 
 -- nothing was read
-pub lines_first : (left : Option (List ℕ)) (reader : Reading) (p : Player) (initial : List Device) (before : Option (List ℕ)) → reader.ahead ≡ [] → reader.passed ≡ 0 → reader.number ≡ 0 → p.place ≡ first_place → p.cut ≡ None → p.stage ≡ Waiting
+pub lines_first : (left : Option (List ℕ)) (reader : Reading) (p : Player) (initial : List Device) (before : Option (List ℕ)) → reader.ahead ≡ [] → reader.passed ≡ 0 → reader.number ≡ 0 → p.place ≡ first_place
     → LinesRead left left reader 1 p initial initial before before
-lines_first left reader p initial before none unread first place cut world = record {
+lines_first left reader p initial before none unread first place = record {
   front = [];
   given = 0;
   taken = subst (λ (xs : List ℕ). Takes left left xs) (sym none) (Takes-nil left);
@@ -63,7 +62,7 @@ lines_first left reader p initial before none unread first place cut world = rec
   numbered = refl;
   counted = first;
   few = omega arith;
-  played = front_first p initial before place cut world;
+  played = front_first p initial before place;
 }
 
 -- what is played of a text, from a player that stands behind lines
@@ -332,16 +331,16 @@ same_ending table stop input more number initial now before after failed =
 ends_same : (table : List Row) (stop : Stop) (input more : List ℕ) (number : ℕ) (initial now : List Device) (before after : Option (List ℕ)) (failed : Type 0) → same_ending table stop input more number initial now before after failed
 ends_same table Memory input more number initial now before after failed f g = tt
 ends_same table (BadInput line fault) input more number initial now before after failed f g =
-    stop_ending (BadInput line fault) (is_over (input ++ more)) (script_of (input ++ more)) (λ c. Unit {0}) (λ c. Unit {0}) number initial now before after failed f
-    ∙ sym (stop_ending (BadInput line fault) (is_over input) (script_of input) (λ c. Unit {0}) (λ c. Unit {0}) number initial now before after failed g)
+    stop_ending (BadInput line fault) (has_unused_bytes (input ++ more)) (script_of (input ++ more)) (λ c. Unit {0}) (λ c. Unit {0}) number initial now before after failed f
+    ∙ sym (stop_ending (BadInput line fault) (has_unused_bytes input) (script_of input) (λ c. Unit {0}) (λ c. Unit {0}) number initial now before after failed g)
 ends_same table WriteFault input more number initial now before after failed f g = tt
 ends_same table FlashFault input more number initial now before after failed f g = tt
 ends_same table TooMany input more number initial now before after failed f g =
-    stop_ending TooMany (is_over (input ++ more)) (script_of (input ++ more)) (λ c. Unit {0}) (λ c. Unit {0}) number initial now before after failed f
-    ∙ sym (stop_ending TooMany (is_over input) (script_of input) (λ c. Unit {0}) (λ c. Unit {0}) number initial now before after failed g)
+    stop_ending TooMany (has_unused_bytes (input ++ more)) (script_of (input ++ more)) (λ c. Unit {0}) (λ c. Unit {0}) number initial now before after failed f
+    ∙ sym (stop_ending TooMany (has_unused_bytes input) (script_of input) (λ c. Unit {0}) (λ c. Unit {0}) number initial now before after failed g)
 ends_same table (NoBoard motes boards) input more number initial now before after failed f g =
-    stop_ending (NoBoard motes boards) (is_over (input ++ more)) (script_of (input ++ more)) (λ c. Unit {0}) (λ c. Unit {0}) number initial now before after failed f
-    ∙ sym (stop_ending (NoBoard motes boards) (is_over input) (script_of input) (λ c. Unit {0}) (λ c. Unit {0}) number initial now before after failed g)
+    stop_ending (NoBoard motes boards) (has_unused_bytes (input ++ more)) (script_of (input ++ more)) (λ c. Unit {0}) (λ c. Unit {0}) number initial now before after failed f
+    ∙ sym (stop_ending (NoBoard motes boards) (has_unused_bytes input) (script_of input) (λ c. Unit {0}) (λ c. Unit {0}) number initial now before after failed g)
 ends_same table NoImage input more number initial now before after failed f g = tt
 ends_same table NotAVolume input more number initial now before after failed f g = tt
 
@@ -362,7 +361,7 @@ module _ (table : List Row) (stop : Stop) (front rest : List ℕ) (is : IsFront 
   in_more : (more : List ℕ) → StopsThere table stop (script_of (front ++ more)) number initial now before after failed
   in_more more =
       let u = used_begins front more is few in
-      subst (λ (s : Script). StopsThere table stop s number initial now before after failed) (sym (script_begins (front ++ more) (lines front) u.0 u.1)) (all (not (is_over (front ++ more))) u.0)
+      subst (λ (s : Script). StopsThere table stop s number initial now before after failed) (sym (script_begins (front ++ more) (lines front) u.0 u.1)) (all (not (has_unused_bytes (front ++ more))) u.0)
 
   in_front : StopsThere table stop (script_from false first_place 1 (lines front)) number initial now before after failed
   in_front = subst (λ (ls : List (List ℕ)). StopsThere table stop (script_from false first_place 1 ls) number initial now before after failed) (append-nil (lines front)) (all false [])
@@ -373,7 +372,7 @@ module _ (table : List Row) (stop : Stop) (front rest : List ℕ) (is : IsFront 
   pub settles : (at_end : Type 0) → ByRules stop (at_end ⊎ IsSettled (length initial) (front ++ rest))
   settles at_end = settled_by stop (front ++ rest) at_end (length initial) (λ more. ends_same table stop (front ++ rest) more number initial now before after failed (behind_more_bytes more) (in_more rest))
 
-  pub stops_in : (at_end : Type 0) → StopsIn table stop (script_of (front ++ rest)) (front ++ rest) at_end number initial now before after failed
+  pub stops_in : (at_end : Type 0) → StopsInTaken table stop (script_of (front ++ rest)) (front ++ rest) at_end number initial now before after failed
   stops_in at_end = stops_here front rest is few at_end number initial now before after failed table stop in_front (lacking_of table stop (script_of (front ++ rest)) number initial now before after failed (in_more rest))
 
 -- it stops at a line that ends in LF

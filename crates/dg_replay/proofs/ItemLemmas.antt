@@ -6,7 +6,6 @@ use Rattle.std.proofs.lemmas.Grind.{flat_map-append}
 use Rattle.std.specs.Prelude.{Option, Some, None, option_map}
 use Rattle.dg_object.specs.Object.{Row}
 use Rattle.dg_volume.specs.Table.{row_at}
-use Rattle.dg_base.specs.declared.events.Cut.{Cut as CutOfPower}
 use Rattle.dg_base.specs.declared.events.Step.{Step}
 use Rattle.dg_frame.specs.declared.Message.{Message}
 use Rattle.dg_script.specs.Places.{first_place, place_after}
@@ -23,7 +22,7 @@ use Rattle.dg_rules.specs.Events.{Does, Refuses, Goes, Deed, does, mote_of, dt_o
 use Rattle.dg_rules.specs.Steps.{WorldStep, DeclareStep, StepDoes, Ended, declared_as, blows, and_sent}
 use Rattle.dg_rules.specs.Runs.{Played, Plays, ItemStep}
 use Rattle.dg_rules.proofs.SiteLemmas.{site_count}
-use Rattle.dg_script.specs.Items.{Item, Declares, Happens as Happened, cut_by, cut_behind, place_behind, item_by, items_behind, items_of}
+use Rattle.dg_script.specs.Items.{Item, Declares, Happens as Happened, place_behind, item_by, items_behind, items_of}
 use Rattle.dg_replay.specs.Items.{Ground, Beginning, begin_by, begin_behind, beginning_of, no_beginning, with_link, with_narrow, is_event, events_among}
 use Rattle.dg_replay.specs.Outcome.{RunsTo, item_played, played_text}
 use Rattle.dg_replay.specs.Playing.{ItemsRun}
@@ -33,30 +32,25 @@ some_is x y e = cc
 
 -- ---- the items of lines, and of others behind them
 
-items_apart : (place : Place) (cut : Option CutOfPower) (done rest : List Line)
-    → items_behind place cut (done ++ rest) ≡ items_behind place cut done ++ items_behind (place_behind place done) (cut_behind cut done) rest
-unfolding cut_behind place_behind items_behind
-items_apart place cut [] rest = refl
-items_apart place cut (l ∷ done) rest =
-    ap (λ (xs : List Item). item_by place cut l ++ xs) (items_apart (place_after place l) (cut_by cut l) done rest)
-    ∙ sym (append_assoc (item_by place cut l) (items_behind (place_after place l) (cut_by cut l) done) (items_behind (place_behind (place_after place l) done) (cut_behind (cut_by cut l) done) rest))
+items_apart : (place : Place) (done rest : List Line)
+    → items_behind place (done ++ rest) ≡ items_behind place done ++ items_behind (place_behind place done) rest
+unfolding place_behind items_behind
+items_apart place [] rest = refl
+items_apart place (l ∷ done) rest =
+    ap (λ (xs : List Item). item_by place l ++ xs) (items_apart (place_after place l) done rest)
+    ∙ sym (append_assoc (item_by place l) (items_behind (place_after place l) done) (items_behind (place_behind (place_after place l) done) rest))
 
-pub items_split : (done rest : List Line) → items_of (done ++ rest) ≡ items_of done ++ items_behind (place_behind first_place done) (cut_behind None done) rest
-items_split done rest = items_apart first_place None done rest
+pub items_split : (done rest : List Line) → items_of (done ++ rest) ≡ items_of done ++ items_behind (place_behind first_place done) rest
+items_split done rest = items_apart first_place done rest
 
 -- the first of the lines behind others, and those behind it
-pub items_first : (place : Place) (cut : Option CutOfPower) (line : Line) (rest : List Line) → items_behind place cut (line ∷ rest) ≡ item_by place cut line ++ items_behind (place_after place line) (cut_by cut line) rest
+pub items_first : (place : Place) (line : Line) (rest : List Line) → items_behind place (line ∷ rest) ≡ item_by place line ++ items_behind (place_after place line) rest
 unfolding items_behind
-items_first place cut line rest = refl
+items_first place line rest = refl
 
-pub items_next : (done : List Line) (line : Line) → items_of (done ++ line ∷ []) ≡ items_of done ++ item_by (place_behind first_place done) (cut_behind None done) line
+pub items_next : (done : List Line) (line : Line) → items_of (done ++ line ∷ []) ≡ items_of done ++ item_by (place_behind first_place done) line
 unfolding items_behind
-items_next done line = items_split done (line ∷ []) ∙ ap (λ (xs : List Item). items_of done ++ xs) (append-nil (item_by (place_behind first_place done) (cut_behind None done) line))
-
-pub cut_next : (cut : Option CutOfPower) (done : List Line) (line : Line) → cut_behind cut (done ++ line ∷ []) ≡ cut_by (cut_behind cut done) line
-unfolding cut_behind
-cut_next cut [] line = refl
-cut_next cut (l ∷ done) line = cut_next (cut_by cut l) done line
+items_next done line = items_split done (line ∷ []) ∙ ap (λ (xs : List Item). items_of done ++ xs) (append-nil (item_by (place_behind first_place done) line))
 
 pub place_next : (place : Place) (done : List Line) (line : Line) → place_behind place (done ++ line ∷ []) ≡ place_after (place_behind place done) line
 unfolding place_behind

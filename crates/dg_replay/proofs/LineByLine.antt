@@ -1,6 +1,6 @@
 -- What was played of the lines that were read so far, whatever lines follow.
 use Rattle.std.proofs.Common.{◌≡◌, inl, inr, ℕ, ◌+◌, ◌==◌, Bool, false, List, [], ◌∷◌, ◌++◌, get_or, All, append_assoc, refl, ap, sym, ◌∙◌, subst}
-use Rattle.std.specs.Prelude.{Option, None, Err}
+use Rattle.std.specs.Prelude.{Option, Err}
 use Rattle.std.specs.Str.Lines.{lines}
 use Rattle.std.proofs.lemmas.Bool.{ne_eqb}
 use Rattle.dg_base.proofs.LineLemmas.{lines-ended}
@@ -16,7 +16,6 @@ use Rattle.dg_replay.specs.Playing.{Stood}
 use Rattle.dg_replay.specs.Near.{behind_line, behind_lines}
 use Rattle.dg_replay.specs.Replaying.{TextTold, TextAnswer, Reached, StopsThere}
 use Rattle.dg_replay.specs.declared.player.Player.{Player}
-use Rattle.dg_replay.specs.declared.player.Stage.TheVariants.{Waiting}
 use Rattle.dg_replay.specs.declared.stop.Stop.{Stop}
 use Rattle.dg_replay.proofs.FrontLemmas.{lines_front}
 use Rattle.dg_replay.proofs.GoldenLemmas.{ImageIsFound, image_found, script_fits}
@@ -30,8 +29,8 @@ pub record FrontPlayed (front : List ℕ) (given : ℕ) (p : Player) (initial no
   pub reached : (table : List Row) (ends : Bool) (more : List (List ℕ)) → Reached table ends (script_from ends first_place 1 (lines front ++ more)) more (given + 1) p initial now before after
 
 -- nothing was read
-pub front_first : (p : Player) (initial : List Device) (before : Option (List ℕ)) → p.place ≡ first_place → p.cut ≡ None → p.stage ≡ Waiting → FrontPlayed [] 0 p initial initial before before
-front_first p initial before place cut world = record { is = inl refl; behind = λ more. behind_none more; reached = λ table ends more. reached_first ends more p initial before place cut world }
+pub front_first : (p : Player) (initial : List Device) (before : Option (List ℕ)) → p.place ≡ first_place → FrontPlayed [] 0 p initial initial before before
+front_first p initial before place = record { is = inl refl; behind = λ more. behind_none more; reached = λ table ends more. reached_first ends more p initial before place }
 
 not_feed : (bytes : List ℕ) → HasNoEnd bytes → All (λ b. (b == 10) ≡ false) bytes
 not_feed bytes h k d within = ne_eqb (get_or bytes k d) 10 (h k d within)

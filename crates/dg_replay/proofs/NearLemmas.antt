@@ -4,7 +4,7 @@ use Rattle.std.specs.Prelude.{if◌then◌else◌}
 use Rattle.std.proofs.lemmas.Bool.{ne_eqb}
 use Rattle.std.proofs.lemmas.List.Elements.{All-head, All-tail}
 use Rattle.dg_script.specs.LineReading.{HasNoEnd, IsLine}
-use Rattle.dg_replay.specs.Near.{behind_line, behind_lines, IsNear}
+use Rattle.dg_replay.specs.Near.{behind_line, behind_lines, FewBytesBehind}
 
 -- one line more
 pub behind_next : (n : ℕ) (bytes : List ℕ) → behind_lines (n + 1) bytes ≡ behind_line (behind_lines n bytes)
@@ -57,7 +57,7 @@ more_lines (suc k) n bytes =
     omega (arith, s, h, j)
 
 -- what ends near a line ends near each later one
-pub near_later : (n m : ℕ) (bytes : List ℕ) → n ≤ m → IsNear n bytes → IsNear m bytes
+pub near_later : (n m : ℕ) (bytes : List ℕ) → n ≤ m → FewBytesBehind n bytes → FewBytesBehind m bytes
 near_later n m bytes h near =
     let sum : (m - n) + n ≡ m = omega (arith, h) in
     let e : length (behind_lines ((m - n) + n) bytes) ≡ length (behind_lines m bytes) = ap (λ k. length (behind_lines k bytes)) sum in

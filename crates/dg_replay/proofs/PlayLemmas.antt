@@ -1,5 +1,5 @@
 -- Where the lines of a script may stand, and the world that is kept there.
-use Rattle.std.proofs.Common.{◌≡◌, ◌⊎◌, inl, inr, ℕ, ◌<◌, Bool, true, false, List, refl, sym, ◌∙◌, subst, arith}
+use Rattle.std.proofs.Common.{◌≡◌, ℕ, ◌<◌, Bool, true, false, List, refl, sym, ◌∙◌, subst, arith}
 use Rattle.std.specs.Prelude.{Option, Some, None, nat_lt, ◌&&◌, not}
 use Rattle.std.proofs.lemmas.Bool.Decides.{nat_tests}
 use Rattle.dg_nor.specs.Device.{Device}
@@ -8,13 +8,12 @@ use Rattle.dg_base.specs.declared.events.Event.TheVariants.{Tick, Hear, Last, Re
 use Rattle.dg_script.specs.Fitting.{StandsAt, verb_of_event}
 use Rattle.dg_script.specs.Verbs.{stands, is_later, is_second}
 use Rattle.dg_script.specs.declared.place.Place.{Place}
-use Rattle.dg_script.specs.declared.line.Line.{Line}
-use Rattle.dg_script.specs.declared.line.Line.TheVariants.{Nothing, Motes, Golden, Boards, Link, Narrow, Image, Cut, Happens, Round, Sweeps}
+use Rattle.dg_script.specs.declared.line.Line.TheVariants.{Golden, Boards, Link, Narrow, Image, Happens, Round, Sweeps}
 use Rattle.dg_rules.specs.World.{World}
+use Rattle.dg_world.specs.Worlds.{IsWorld}
 use Rattle.dg_world.specs.declared.world.World.{World as KeptWorld}
-use Rattle.dg_replay.specs.Playing.{Counted, Seated, InWorld, Passed}
+use Rattle.dg_replay.specs.Playing.{Counted, Seated, InWorld}
 use Rattle.dg_replay.specs.declared.player.Player.{Player}
-use Rattle.dg_replay.specs.declared.player.Stage.TheVariants.{Waiting, Playing}
 
 pub false_not : {A : Type 0} (b : Bool) → b ≡ true → b ≡ false → A
 false_not b holds fails = absurd (let e : true ≡ false = sym holds ∙ fails in cc)
@@ -73,48 +72,15 @@ round_at place a b h = later_at place h.fits
 pub sweeps_at : (place : Place) (n : ℕ) → StandsAt place (Sweeps n) → (place.ready ≡ true) × (0 < place.motes)
 sweeps_at place n h = later_at place h.fits
 
--- a world is kept exactly behind golden
-pub no_world : (p : Player) (w : Option World) (now : List Device) → p.place.ready ≡ false → InWorld p w now → (w ≡ None) × (p.stage ≡ Waiting)
-no_world p None now before kept = (refl, kept.0)
-no_world p (Some w) now before k = false_not p.place.ready k.4 before
-
-pub some_world : (p : Player) (w : Option World) (now : List Device) → p.place.ready ≡ true → InWorld p w now → (u : World) × (w ≡ Some u)
-some_world p None now behind kept = false_not p.place.ready behind kept.1
-some_world p (Some w) now behind kept = (w, refl)
-
-pub playing_is : (v w : KeptWorld) → Playing v ≡ Playing w → v ≡ w
-playing_is v w e = cc
-
--- no later line stands before the boards are used
-pub not_waiting : {A : Type 0} (p q : Player) (line : Line) (w : Option World) (now : List Device) → p.place.ready ≡ true → Passed p q line → q.stage ≡ Waiting → InWorld p w now → A
-not_waiting p q line None now ready at waits k = false_not p.place.ready ready k.1
-not_waiting p q line (Some w) now ready at waits k = absurd (let e : Playing k.0 ≡ Waiting = sym k.1 ∙ sym at.stage ∙ waits in cc)
-
--- the same of any line but the first ones
-pub not_early : {A : Type 0} (p q : Player) (line : Line) (w : Option World) (now : List Device) → (line ≡ Nothing → ⊥) → ((n : ℕ) → line ≡ Motes n → ⊥) → ((name : List ℕ) (used : ℕ) (content : List ℕ) → line ≡ Golden name used content → ⊥) → (line ≡ Boards → ⊥)
-    → StandsAt p.place line → Passed p q line → q.stage ≡ Waiting → InWorld p w now → A
-not_early p q Nothing w now nothing motes golden boards stands at waits k = absurd (nothing refl)
-not_early p q (Motes n) w now nothing motes golden boards stands at waits k = absurd (motes n refl)
-not_early p q (Golden name used content) w now nothing motes golden boards stands at waits k = absurd (golden name used content refl)
-not_early p q Boards w now nothing motes golden boards stands at waits k = absurd (boards refl)
-not_early p q (Link a b) w now nothing motes golden boards stands at waits k = not_waiting p q (Link a b) w now (link_at p.place a b stands).0.0 at waits k
-not_early p q (Narrow m) w now nothing motes golden boards stands at waits k = not_waiting p q (Narrow m) w now (narrow_at p.place m stands).0.0 at waits k
-not_early p q (Image image version name content) w now nothing motes golden boards stands at waits k = not_waiting p q (Image image version name content) w now (image_at p.place image version name content stands).0 at waits k
-not_early p q (Cut cut) w now nothing motes golden boards stands at waits k = not_waiting p q (Cut cut) w now (later_at p.place stands.fits).0 at waits k
-not_early p q (Happens event) w now nothing motes golden boards stands at waits k = not_waiting p q (Happens event) w now (event_at p.place event stands).0 at waits k
-not_early p q (Round a b) w now nothing motes golden boards stands at waits k = not_waiting p q (Round a b) w now (round_at p.place a b stands).0 at waits k
-not_early p q (Sweeps n) w now nothing motes golden boards stands at waits k = not_waiting p q (Sweeps n) w now (sweeps_at p.place n stands).0 at waits k
-
--- and no early one behind that
-pub not_playing : {A : Type 0} (p q : Player) (line : Line) (v : KeptWorld) (w : Option World) (now : List Device) → ((p.place.motes ≡ 0) ⊎ (p.place.ready ≡ false)) → Passed p q line → q.stage ≡ Playing v → InWorld p w now → A
-not_playing p q line v None now early at plays k = absurd (let e : Playing v ≡ Waiting = sym plays ∙ at.stage ∙ k.0 in cc)
-not_playing p q line v (Some w) now (inl none) at plays k = absurd (omega (arith, none, k.5))
-not_playing p q line v (Some w) now (inr unready) at plays k = false_not p.place.ready k.4 unready
+-- a world is kept exactly where the boards are used
+pub no_world : (p : Player) (w : Option World) (now : List Device) → p.place.ready ≡ false → InWorld p w now → w ≡ None
+no_world p None now before kept = refl
+no_world p (Some w) now before k = false_not p.place.ready k.2 before
 
 -- a player that keeps the same world, where there are as many motes
-pub in_world_as : (p q : Player) (w : Option World) (now : List Device) → q.stage ≡ p.stage → q.place.motes ≡ p.place.motes → q.place.ready ≡ p.place.ready → InWorld p w now → InWorld q w now
-in_world_as p q None now world motes ready k = (world ∙ k.0, ready ∙ k.1)
-in_world_as p q (Some w) now world motes ready k = (k.0, world ∙ k.1, k.2, k.3 ∙ sym motes, ready ∙ k.4, subst (λ (n : ℕ). 0 < n) (sym motes) k.5)
+pub in_world_as : (p q : Player) (w : Option World) (now : List Device) → q.world ≡ p.world → q.place.motes ≡ p.place.motes → q.place.ready ≡ p.place.ready → InWorld p w now → InWorld q w now
+in_world_as p q None now world motes ready k = ready ∙ k
+in_world_as p q (Some w) now world motes ready k = (subst (λ (v : KeptWorld). IsWorld v now w) (sym world) k.0, k.1 ∙ sym motes, ready ∙ k.2, subst (λ (n : ℕ). 0 < n) (sym motes) k.3)
 
 pub seated_as : (p q : Place) (boards : ℕ) → q.motes ≡ p.motes → Seated p boards → Seated q boards
 seated_as p q boards motes seats = subst (λ (n : ℕ). 0 < n → Counted n boards) (sym motes) seats

@@ -10,7 +10,6 @@ use Rattle.dg_script.specs.Fitting.{FitsCut, UsesBoard}
 use Rattle.dg_script.specs.Lines.{line_of}
 use Rattle.dg_script.specs.Places.{first_place, place_after}
 use Rattle.dg_script.specs.Script.{Script, script_from, with_line}
-use Rattle.dg_base.specs.declared.events.Cut.{Cut as CutOfPower}
 use Rattle.dg_script.specs.declared.fault.LineFault.{LineFault}
 use Rattle.dg_script.specs.declared.place.Place.{Place}
 use Rattle.dg_script.specs.declared.line.Line.{Line}
@@ -18,7 +17,7 @@ use Rattle.dg_script.specs.declared.line.Line.TheVariants.{Nothing, Motes, Golde
 use Rattle.dg_rules.specs.Sizes.{most_events}
 use Rattle.dg_rules.specs.World.{World}
 use Rattle.dg_rules.specs.Runs.{Played, Plays}
-use Rattle.dg_script.specs.Items.{Item, item_by, cut_behind, place_behind, items_behind, items_of}
+use Rattle.dg_script.specs.Items.{Item, item_by, place_behind, items_behind, items_of}
 use Rattle.dg_replay.specs.Items.{Ground, no_ground, UsesBoards, is_boards, Beginning, begin_by, begin_behind, beginning_of, motes_in, lacking, lacking_by, next_items, events_among}
 use Rattle.dg_replay.specs.Boards.{EventNext, InSome, LacksImage, BoardsStand, StoppedIn}
 use Rattle.dg_replay.specs.Ending.{events_in, InBounds}
@@ -27,7 +26,6 @@ use Rattle.dg_replay.specs.Outcome.{Progress, AtTooMany, NoImageThere, BoardStop
 use Rattle.dg_replay.specs.Playing.{InWorld, Stood, Ready, Joined, RunsOn, RunsFrom, LineBegun, IsOneTooMany}
 use Rattle.dg_replay.specs.Replaying.{TextPlayed, TextTold, TextCut, TextRead, NothingDone, TextAnswer, CutAtStop, CutAtTooMany, CutAtImage, Reached, PlayedFront, PlayedUpTo, HasFew, ToldBefore, StopsThere}
 use Rattle.dg_replay.specs.declared.player.Player.{Player}
-use Rattle.dg_replay.specs.declared.player.Stage.TheVariants.{Waiting}
 use Rattle.dg_replay.specs.declared.stop.Stop.{Stop}
 use Rattle.dg_replay.specs.declared.stop.Stop.TheVariants.{Memory, BadInput, WriteFault, FlashFault, TooMany, NoBoard, NoImage, NotAVolume}
 use Rattle.dg_replay.proofs.ItemLemmas.{some_is, items_next, begin_next, plays_append, played_more, runs_from_none, run_counts}
@@ -302,21 +300,21 @@ record IsBusy (line : Line) : Type 0 where
 no_items : {A : Type 0} (item : Item) (items : List Item) → [] ≡ item ∷ items → A
 no_items item items e = absurd (cc)
 
-busy : (place : Place) (cut : Option CutOfPower) (line : Line) (item : Item) (items : List Item) → item_by place cut line ≡ item ∷ items → IsBusy line
-busy place cut Nothing item items e = no_items item items e
-busy place cut (Motes n) item items e = no_items item items e
-busy place cut (Golden name used content) item items e = no_items item items e
-busy place cut Boards item items e = no_items item items e
-busy place cut (Link a b) item items e = no_items item items e
-busy place cut (Narrow m) item items e = no_items item items e
-busy place cut (Image image version name content) item items e = record { begins = λ g b. refl; plain = refl; counts = λ b. refl; enough = λ boards. refl }
-busy place cut (Cut c) item items e = no_items item items e
-busy place cut (Happens event) item items e = record { begins = λ g b. refl; plain = refl; counts = λ b. refl; enough = λ boards. refl }
-busy place cut (Round a b) item items e = record { begins = λ g b. refl; plain = refl; counts = λ b. refl; enough = λ boards. refl }
-busy place cut (Sweeps n) item items e = record { begins = λ g b. refl; plain = refl; counts = λ b. refl; enough = λ boards. refl }
+busy : (place : Place) (line : Line) (item : Item) (items : List Item) → item_by place line ≡ item ∷ items → IsBusy line
+busy place Nothing item items e = no_items item items e
+busy place (Motes n) item items e = no_items item items e
+busy place (Golden name used content) item items e = no_items item items e
+busy place Boards item items e = no_items item items e
+busy place (Link a b) item items e = no_items item items e
+busy place (Narrow m) item items e = no_items item items e
+busy place (Image image version name content) item items e = record { begins = λ g b. refl; plain = refl; counts = λ b. refl; enough = λ boards. refl }
+busy place (Cut c) item items e = no_items item items e
+busy place (Happens event) item items e = record { begins = λ g b. refl; plain = refl; counts = λ b. refl; enough = λ boards. refl }
+busy place (Round a b) item items e = record { begins = λ g b. refl; plain = refl; counts = λ b. refl; enough = λ boards. refl }
+busy place (Sweeps n) item items e = record { begins = λ g b. refl; plain = refl; counts = λ b. refl; enough = λ boards. refl }
 
 -- the items of one more line
-items_with : (done : List Line) (line : Line) (begun : List Item) → item_by (place_behind first_place done) (cut_behind None done) line ≡ begun → items_of (done ++ line ∷ []) ≡ items_of done ++ begun
+items_with : (done : List Line) (line : Line) (begun : List Item) → item_by (place_behind first_place done) line ≡ begun → items_of (done ++ line ∷ []) ≡ items_of done ++ begun
 items_with done line begun parts = items_next done line ∙ ap (λ (xs : List Item). items_of done ++ xs) parts
 
 run_with : (ground : Ground) (done : List Line) (line : Line) (ps : List Played) (v : Option World) → IsBusy line → RunsTo (beginning_of ground done).world ps v → RunsTo (beginning_of ground (done ++ line ∷ [])).world ps v
@@ -324,7 +322,7 @@ run_with ground done line ps v busy run =
     subst (λ (o : Option World). RunsTo o ps v) (sym (ap (λ (b : Beginning). b.world) (begin_next ground _ done line) ∙ busy.begins ground (beginning_of ground done))) run
 
 abbrev all_of_line : {table : List Row} (ends : Bool) (script : Script) (texts : List (List ℕ)) (text : List ℕ) (n : ℕ) (p : Player) (initial old : List Device) (before mid : Option (List ℕ)) (line : Line) (begun : List Item) (v : Option World) (t : List ℕ)
-    → (r : Reached table ends script (text ∷ texts) n p initial old before mid) → line_of p.place text ≡ Ok line → item_by (place_behind first_place r.done) (cut_behind None r.done) line ≡ begun → IsBusy line → Over (beginning_of r.ground r.done).world r.played begun v t → Progress table script
+    → (r : Reached table ends script (text ∷ texts) n p initial old before mid) → line_of p.place text ≡ Ok line → item_by (place_behind first_place r.done) line ≡ begun → IsBusy line → Over (beginning_of r.ground r.done).world r.played begun v t → Progress table script
 all_of_line ends script texts text n p initial old before mid line begun v t r spelled parts busy o =
     record {
       done = r.done ++ line ∷ [];
@@ -371,27 +369,27 @@ uses_or false = inr (λ e. cc)
 -- its boards are formatted
 begun_world : (P : World → Type 0) (p : Player) (w v : Option World) (items : List Item) (t : List ℕ) (now : List Device) → InSome v P → RunsFrom w items v t → InWorld p w now → IsBehind p.place
 begun_world P p None v items t now there from kept = absurd (subst (λ (o : Option World). InSome o P) from.1 there)
-begun_world P p (Some w) v items t now there from kept = record { ready = kept.4; some = kept.5 }
+begun_world P p (Some w) v items t now there from kept = record { ready = kept.2; some = kept.3 }
 
 front_none : {A : Type 0} (xs ys : List A) → [] ≡ xs ++ ys → xs ≡ []
 front_none [] ys e = refl
 front_none (x ∷ xs) ys e = cc
 
 -- a board stops in an item, or in formatting
-stop_within : (place : Place) (cut : Option CutOfPower) (line : Line) (motes : ℕ) (begun left : List Item) (v : Option World) (initial now : List Device) → item_by place cut line ≡ begun ++ left → StoppedIn motes (line ∷ []) left v initial now → left ≡ [] → begun ≡ []
-stop_within place cut (Golden name used content) motes begun left v initial now parts s none = front_none begun left parts
-stop_within place cut line motes begun (x ∷ left) v initial now parts s none = cc
-stop_within place cut Nothing motes begun [] v initial now parts s none = absurd s.there
-stop_within place cut (Motes n) motes begun [] v initial now parts s none = absurd s.there
-stop_within place cut Boards motes begun [] None initial now parts s none = front_none begun [] parts
-stop_within place cut Boards motes begun [] (Some v) initial now parts s none = absurd s.there
-stop_within place cut (Link a b) motes begun [] v initial now parts s none = absurd s.there
-stop_within place cut (Narrow m) motes begun [] v initial now parts s none = absurd s.there
-stop_within place cut (Image image version name content) motes begun [] v initial now parts s none = absurd s.there
-stop_within place cut (Cut c) motes begun [] v initial now parts s none = absurd s.there
-stop_within place cut (Happens event) motes begun [] v initial now parts s none = absurd s.there
-stop_within place cut (Round a b) motes begun [] v initial now parts s none = absurd s.there
-stop_within place cut (Sweeps n) motes begun [] v initial now parts s none = absurd s.there
+stop_within : (place : Place) (line : Line) (motes : ℕ) (begun left : List Item) (v : Option World) (initial now : List Device) → item_by place line ≡ begun ++ left → StoppedIn motes (line ∷ []) left v initial now → left ≡ [] → begun ≡ []
+stop_within place (Golden name used content) motes begun left v initial now parts s none = front_none begun left parts
+stop_within place line motes begun (x ∷ left) v initial now parts s none = cc
+stop_within place Nothing motes begun [] v initial now parts s none = absurd s.there
+stop_within place (Motes n) motes begun [] v initial now parts s none = absurd s.there
+stop_within place Boards motes begun [] None initial now parts s none = front_none begun [] parts
+stop_within place Boards motes begun [] (Some v) initial now parts s none = absurd s.there
+stop_within place (Link a b) motes begun [] v initial now parts s none = absurd s.there
+stop_within place (Narrow m) motes begun [] v initial now parts s none = absurd s.there
+stop_within place (Image image version name content) motes begun [] v initial now parts s none = absurd s.there
+stop_within place (Cut c) motes begun [] v initial now parts s none = absurd s.there
+stop_within place (Happens event) motes begun [] v initial now parts s none = absurd s.there
+stop_within place (Round a b) motes begun [] v initial now parts s none = absurd s.there
+stop_within place (Sweeps n) motes begun [] v initial now parts s none = absurd s.there
 
 stopped_more : (motes : ℕ) (line : Line) (more : List Line) (left : List Item) (w : Option World) (initial now : List Device) → StoppedIn motes (line ∷ []) left w initial now → StoppedIn motes (line ∷ more) left w initial now
 stopped_more motes line more left w initial now s = record { stopped = s.stopped; there = s.there }
@@ -411,7 +409,7 @@ memory_begun ends script texts text n p initial old now before mid after line r 
 memory_begun ends script texts text n p initial old now before mid after line r spelled b (inr (left, (item, items, begun))) none =
     let o = run_of ends script texts text n p initial old before mid line r b in
     let parts = b.parts ∙ ap (λ (xs : List Item). b.begun ++ xs) left ∙ append-nil b.begun in
-    let does : IsBusy line = busy (place_behind first_place r.done) (cut_behind None r.done) line item items (parts ∙ begun) in
+    let does : IsBusy line = busy (place_behind first_place r.done) line item items (parts ∙ begun) in
     front_put script initial before mid after r.played b.text (all_of_line ends script texts text n p initial old before mid line b.begun b.world b.text r spelled parts does o) r.told
     (over_tells (beginning_of r.ground r.done).world b.world r.played b.begun b.text o) (front_kept mid after b.text none)
     (record {
@@ -489,7 +487,7 @@ cut_begun : {table : List Row} (ends : Bool) (script : Script) (texts : List (Li
     → (InSome b.world (λ u. LacksImage u b.left initial now) → UsesBoards r.done) → PlayedFront table script initial before after (λ c text. BoardsLeft status.WriteFault c initial now × ToldBefore n c text × Unit {0})
 cut_begun ends script texts text n p initial old now before mid after line r spelled b (inl (some, stop, cut)) uses =
     let o = run_of ends script texts text n p initial old before mid line r b in
-    let within = stop_within (place_behind first_place r.done) (cut_behind None r.done) line (motes_in r.done) b.begun b.left b.world initial now b.parts stop in
+    let within = stop_within (place_behind first_place r.done) line (motes_in r.done) b.begun b.left b.world initial now b.parts stop in
     front_put script initial before mid after r.played b.text (in_line ends script texts text n p initial old before mid line r spelled b o within) r.told
     (over_tells (beginning_of r.ground r.done).world b.world r.played b.begun b.text o) cut
     (over_bounds (length initial) r.ground r.done b.world r.played b.begun b.text r.boards_enough o) (λ uses. (r.grounded uses).1)
@@ -552,7 +550,7 @@ stop_begun ends script texts text n p initial old now before mid after line r sp
     let stop = b.there.0 in
     record {
       came = in_line ends script texts text n p initial old before mid line r spelled b o
-          (stop_within (place_behind first_place r.done) (cut_behind None r.done) line (motes_in r.done) b.begun b.left b.world initial now b.parts stop);
+          (stop_within (place_behind first_place r.done) line (motes_in r.done) b.begun b.left b.world initial now b.parts stop);
       told = all_put before mid after r.played (r.played ++ o.now) b.text r.told (over_tells (beginning_of r.ground r.done).world b.world r.played b.begun b.text o) b.there.1;
       limits = over_bounds (length initial) r.ground r.done b.world r.played b.begun b.text r.boards_enough o;
       stood = λ uses. (r.grounded uses).1;
@@ -613,7 +611,7 @@ all_done ends script texts n p initial now before mid r none =
 -- no script with golden lacks an image
 image_uses : {table : List Row} {ends : Bool} {script : Script} {texts : List (List ℕ)} {text : List ℕ} {n : ℕ} {p : Player} {initial old now : List Device} {before mid : Option (List ℕ)} (r : Reached table ends script (text ∷ texts) n p initial old before mid)
     → ((UsesBoards r.done → ⊥) → TextRead text p (λ line. LineBegun r.done line r.last (λ v left t. InSome v (λ u. LacksImage u left initial now))) → ⊥)
-    → (line : Line) → line_of p.place text ≡ Ok line → (begun left : List Item) → item_by (place_behind first_place r.done) (cut_behind None r.done) line ≡ begun ++ left → (world : Option World) (told : List ℕ) → RunsFrom r.last begun world told
+    → (line : Line) → line_of p.place text ≡ Ok line → (begun left : List Item) → item_by (place_behind first_place r.done) line ≡ begun ++ left → (world : Option World) (told : List ℕ) → RunsFrom r.last begun world told
     → InSome world (λ u. LacksImage u left initial now) → UsesBoards r.done
 image_uses r found line spelled begun left parts world told runs lacks =
     ⊎_elim (λ uses. uses) (λ alone. absurd (found alone (record { line = line; spelled = spelled; there = record { begun = begun; left = left; parts = parts; world = world; text = told; runs = runs; there = lacks } }))) (uses_or (list_any is_boards r.done))
@@ -673,10 +671,10 @@ stopped_at NotAVolume ends script texts text n p q initial old now before mid af
     )
 
 -- the first line of the script is reached at once
-pub reached_first : {table : List Row} (ends : Bool) (texts : List (List ℕ)) (p : Player) (initial : List Device) (before : Option (List ℕ)) → p.place ≡ first_place → p.cut ≡ None → p.stage ≡ Waiting
+pub reached_first : {table : List Row} (ends : Bool) (texts : List (List ℕ)) (p : Player) (initial : List Device) (before : Option (List ℕ)) → p.place ≡ first_place
     → Reached table ends (script_from ends first_place 1 texts) texts 1 p initial initial before before
-unfolding cut_behind place_behind items_behind begin_behind lacking
-reached_first {table} ends texts p initial before place cut world =
+unfolding place_behind items_behind begin_behind lacking
+reached_first {table} ends texts p initial before place =
     record {
       done = [];
       played = [];
@@ -693,11 +691,10 @@ reached_first {table} ends texts p initial before place cut world =
         seats = λ some. absurd (omega (arith, some, ap (λ (at : Place). at.motes) place));
         place = place;
         links = subst (λ (at : Place). Joined at) (sym place) tt;
-        cut = cut;
-        cut_fits = subst (λ (o : Option CutOfPower). IfSome o FitsCut) (sym cut) tt;
+        cut_fits = subst (λ (at : Place). IfSome at.cut FitsCut) (sym place) tt;
         motes = ap (λ (at : Place). at.motes) place;
         early = λ e. tt;
-        world = (world, ap (λ (at : Place). at.ready) place);
+        world = ap (λ (at : Place). at.ready) place;
         boards = refl;
       };
       few = omega arith;

@@ -15,7 +15,7 @@ use Rattle.dg_script.specs.declared.line.Line.{Line}
 use Rattle.dg_script.specs.declared.line.Line.TheVariants.{Boards}
 use Rattle.dg_replay.specs.Boards.{BoardsStand, BoardStopped}
 use Rattle.dg_replay.specs.Items.{Ground, UsesBoards, is_boards, begin_behind, beginning_of, motes_in, lacking, next_items}
-use Rattle.dg_replay.specs.Ending.{Ending, Ends, Over, ending_from, ending_of, ending_line, status_of, script_of, is_over, InBounds, InLimits}
+use Rattle.dg_replay.specs.Ending.{Ending, Ends, Over, ending_from, ending_of, ending_line, status_of, script_of, has_unused_bytes, InBounds, InLimits}
 use Rattle.dg_replay.specs.Around.{Around, around}
 use Rattle.dg_replay.specs.Promised.{Headline}
 use Rattle.dg_replay.specs.Done.{IsUnfailed, ReplaysAll, ReplayDone}
@@ -76,7 +76,7 @@ pub over_replayed : {table : List Row} (s : Status) (input : List ℕ) (at_end :
     → Reached table false (script_of input) [] n p old new before mid → EndsWith s TooLong (ending_line Over) mid after failed
     → ScriptReplayed table s (script_of input) (ending_of (length old) input) input at_end old new before after reads writes
 over_replayed {table} s input at_end n p old new before mid after failed reads writes spread long r done =
-    let over : is_over input ≡ true = is_over-true input (omega (arith, long)) in
+    let over : has_unused_bytes input ≡ true = is_over-true input (omega (arith, long)) in
     subst (λ (b : Bool). ScriptReplayed table s (script_of input) (ending_from (length old) b (script_of input)) input at_end old new before after reads writes) (sym over)
     (over_ends s (script_of input) input at_end n p old new before mid after failed reads writes spread (over_settled (length old) input over)
     (λ c. over_done input c.done c.rest c.begun c.left over c.lines c.parts) r done)
@@ -110,7 +110,7 @@ pub halt_stopped : {table : List Row} (halt : Halt) (stop : Stop) (s : Status) (
     → (length input ≤ most_used_bytes + 1) × ScriptReplayed table s (script_of input) (ending_of (length old) input) input at_end old new before after reads worse
 halt_stopped {table} halt stop s input at_end reads old new before mid after failed later worse is spread widen answer done =
     let h : InputAnswer table (Err (halts.Stopped stop)) input at_end reads old new before mid failed = subst (λ (x : Halt). InputAnswer table (Err x) input at_end reads old new before mid failed) is answer in
-    (omega (arith, h.0), stopped_ends stop s (script_of input) (is_over input) input at_end h.2.0 old new before mid after failed later reads worse spread widen h.2.1 h.1 h.2.2 done)
+    (omega (arith, h.0), stopped_ends stop s (script_of input) (has_unused_bytes input) input at_end h.2.0 old new before mid after failed later reads worse spread widen h.2.1 h.1 h.2.2 done)
 
 -- what a replay did, where these bytes were taken
 pub replayed_of : {table : List Row} (s : Status) (bytes : List ℕ) (a b : Around) → Takes a.left b.left bytes → length bytes ≤ most_used_bytes + 1

@@ -1,6 +1,6 @@
 -- What is known of a replay behind the lines that have no item.
 use Rattle.std.proofs.Common.{⊎_elim, ◌≡◌, ℕ, ◌<◌, ◌≤◌, Bool, true, false, if◌then◌else◌, List, [], ◌∷◌, length, replicate, refl, append-nil, ap, sym, ◌∙◌, subst, arith, eqb-true}
-use Rattle.std.specs.Prelude.{Option, Some, None, Result, Ok, Err, OnOk, IfSome, nat_lt, slice_get, slice_index_or}
+use Rattle.std.specs.Prelude.{Option, Some, None, Result, Ok, Err, OnOk, nat_lt, slice_get, slice_index_or}
 use Rattle.std.proofs.lemmas.Option.{slice_get_cases}
 use Rattle.std.proofs.lemmas.Bool.Decides.{nat_tests}
 use Rattle.std.proofs.lemmas.List.{length-map, length-replicate, get_or-replicate}
@@ -26,36 +26,51 @@ use Rattle.dg_world.specs.declared.mount.MountStopped.TheVariants.{Flash, NotAVo
 use Rattle.dg_world.specs.Mounted.{StandFor, MountedTo, MountStops, NoVolumeAt}
 use Rattle.dg_world.specs.Counts.{NoneRose}
 use Rattle.dg_world.specs.Formatted.{FirstBoards, FormatStops}
-use Rattle.dg_world.specs.declared.world.World.{World as KeptWorld}
 use Rattle.dg_world.specs.declared.format.FormatStopped.{FormatStopped}
 use Rattle.dg_replay.specs.Items.{motes_in, golden_world, with_link, with_narrow}
 use Rattle.dg_replay.specs.Boards.{BoardsEndure, StoppedIn}
-use Rattle.dg_replay.specs.Playing.{Counted, InWorld, Passed, Stood, PlayedLine, LacksBoards, LinkedAs, PlayedAs, mount_stop}
+use Rattle.dg_replay.specs.Playing.{Counted, InWorld, Stood, PlayedLine, LacksBoards, PlayedAs, mount_stop}
 use Rattle.dg_replay.specs.declared.player.Player.{Player}
-use Rattle.dg_replay.specs.declared.player.Stage.TheVariants.{Playing}
 use Rattle.dg_replay.specs.declared.stop.Stop.{Stop}
-use Rattle.dg_replay.specs.declared.stop.Stop.TheVariants.{Memory, FlashFault, NoBoard, NotAVolume}
+use Rattle.dg_replay.specs.declared.stop.Stop.TheVariants.{Memory, BadInput, WriteFault, FlashFault, TooMany, NoBoard, NoImage, NotAVolume}
 use Rattle.dg_replay.proofs.BoardLemmas.{there}
-use Rattle.dg_replay.proofs.PlayLemmas.{playing_is, false_not, no_world, in_world_as, seated_as}
+use Rattle.dg_replay.proofs.PlayLemmas.{false_not, no_world, in_world_as, seated_as}
 use Rattle.dg_replay.proofs.StandLemmas.{joined_next, stood_next, grounded_next, grounded_motes, silent_runs, golden_runs, boards_runs, link_runs, narrow_runs, none_begun}
 
 -- memory ran out before anything of a line was done
 pub memory_line : (table : List Row) (p q : Player) (done : List Line) (w : Option World) (line : Line) (told_before told : List ℕ) (initial now : List Device) → Stood p done w initial now → PlayedAs table (Err Memory) q done w line told_before told initial now now
 memory_line table p q done w line told_before told initial now s = none_begun p done line w now s.world s.boards
 
+-- the same where it ran out behind a line that left the boards as they were
+pub memory_behind : (table : List Row) (p q : Player) (done : List Line) (w : Option World) (line : Line) (told_before told : List ℕ) (initial old now : List Device) → now ≡ old → Stood p done w initial old → PlayedAs table (Err Memory) q done w line told_before told initial old now
+memory_behind table p q done w line told_before told initial old now same s =
+    subst (λ (ds : List Device). PlayedAs table (Err Memory) q done w line told_before told initial old ds) (sym same) (memory_line table p q done w line told_before told initial old s)
+
+-- of a line that was not played to its end nothing is said of the player
+pub stop_as : (table : List Row) (stop : Stop) (p q : Player) (done : List Line) (w : Option World) (line : Line) (told_before told : List ℕ) (initial old now : List Device)
+    → PlayedAs table (Err stop) p done w line told_before told initial old now → PlayedAs table (Err stop) q done w line told_before told initial old now
+stop_as table Memory p q done w line told_before told initial old now x = x
+stop_as table FlashFault p q done w line told_before told initial old now x = x
+stop_as table TooMany p q done w line told_before told initial old now x = x
+stop_as table (NoBoard motes boards) p q done w line told_before told initial old now x = x
+stop_as table NoImage p q done w line told_before told initial old now x = x
+stop_as table NotAVolume p q done w line told_before told initial old now x = x
+stop_as table (BadInput n fault) p q done w line told_before told initial old now x = absurd x
+stop_as table WriteFault p q done w line told_before told initial old now x = absurd x
+
 -- ---- lines that say nothing to the motes
 
-pub nothing_played : {table : List Row} (p q : Player) (done : List Line) (w : Option World) (told : List ℕ) (initial now : List Device) → Passed p q Nothing → Stood p done w initial now → PlayedLine table q done w Nothing told told initial now
-nothing_played p q done w told initial now at s =
-    let motes = ap (λ (x : Place). x.motes) at.place in
-    let ready = ap (λ (x : Place). x.ready) at.place in
+pub nothing_played : {table : List Row} (p q : Player) (done : List Line) (w : Option World) (told : List ℕ) (initial now : List Device) → q.place ≡ place_after p.place Nothing → q.world ≡ p.world → Stood p done w initial now → PlayedLine table q done w Nothing told told initial now
+nothing_played p q done w told initial now place world s =
+    let motes = ap (λ (x : Place). x.motes) place in
+    let ready = ap (λ (x : Place). x.ready) place in
     record {
       world = w;
       text = [];
       told_now = sym (append-nil told);
       runs = silent_runs done Nothing w refl (λ g. refl) (λ g played r before. grounded_next g done Nothing refl (λ b. refl) before);
-      stood = stood_next p q done Nothing w w initial now now s.links s at.place (seated_as p.place q.place (length now) motes s.seats) (at.cut ∙ s.cut)
-          (subst (λ (o : Option CutOfPower). IfSome o FitsCut) (sym at.cut) s.cut_fits) (in_world_as p q w now at.stage motes ready s.world) s.boards;
+      stood = stood_next p q done Nothing w w initial now now s.links s place (seated_as p.place q.place (length now) motes s.seats) s.cut_fits
+          (in_world_as p q w now world motes ready s.world) s.boards;
       boards_enough = refl;
     }
 
@@ -63,48 +78,48 @@ not_below : (n m : ℕ) → m ≤ n → nat_lt n m ≡ false
 not_below n m h = grind (arith, nat_tests)
 
 no_motes : (p : Player) (w : Option World) (now : List Device) → p.place.motes ≡ 0 → InWorld p w now → p.place.ready ≡ false
-no_motes p None now none k = k.1
-no_motes p (Some w) now none k = absurd (omega (arith, none, k.5))
+no_motes p None now none k = k
+no_motes p (Some w) now none k = absurd (omega (arith, none, k.3))
 
-pub motes_played : {table : List Row} (p q : Player) (done : List Line) (w : Option World) (motes : ℕ) (told : List ℕ) (initial now : List Device) → StandsAt p.place (Motes motes) → Passed p q (Motes motes) → Counted motes (length now) → Stood p done w initial now
+pub motes_played : {table : List Row} (p q : Player) (done : List Line) (w : Option World) (motes : ℕ) (told : List ℕ) (initial now : List Device) → StandsAt p.place (Motes motes) → q.place ≡ place_after p.place (Motes motes) → Counted motes (length now) → Stood p done w initial now
     → PlayedLine table q done w (Motes motes) told told initial now
-motes_played {table} p q done w motes told initial now stands at counted s =
+motes_played {table} p q done w motes told initial now stands place counted s =
     let unready = no_motes p w now (eqb-true p.place.motes 0 stands.fits) s.world in
     let kept = no_world p w now unready s.world in
-    motes_first p q done motes told initial now stands at counted unready (subst (λ (o : Option World). Stood p done o initial now) kept.0 s) (sym kept.0)
+    motes_first p q done motes told initial now stands place counted unready (subst (λ (o : Option World). Stood p done o initial now) kept s) (sym kept)
   where
-    motes_first : (p q : Player) (done : List Line) (motes : ℕ) (told : List ℕ) (initial now : List Device) → StandsAt p.place (Motes motes) → Passed p q (Motes motes) → Counted motes (length now) → p.place.ready ≡ false → Stood p done None initial now
+    motes_first : (p q : Player) (done : List Line) (motes : ℕ) (told : List ℕ) (initial now : List Device) → StandsAt p.place (Motes motes) → q.place ≡ place_after p.place (Motes motes) → Counted motes (length now) → p.place.ready ≡ false → Stood p done None initial now
         → {w : Option World} → None ≡ w → PlayedLine table q done w (Motes motes) told told initial now
-    motes_first p q done motes told initial now stands at counted unready s {w} e =
-        let many : q.place.motes ≡ motes = ap (λ (x : Place). x.motes) at.place in
-        let ready : q.place.ready ≡ p.place.ready = ap (λ (x : Place). x.ready) at.place in
+    motes_first p q done motes told initial now stands place counted unready s {w} e =
+        let many : q.place.motes ≡ motes = ap (λ (x : Place). x.motes) place in
+        let ready : q.place.ready ≡ p.place.ready = ap (λ (x : Place). x.ready) place in
         let made : PlayedLine table q done None (Motes motes) told told initial now = record {
           world = None;
           text = [];
           told_now = sym (append-nil told);
           runs = silent_runs done (Motes motes) None refl (λ g. refl) (λ g played r before. grounded_motes g done motes played r);
-          stood = stood_next p q done (Motes motes) None None initial now now (joined_next p.place (Motes motes) stands (counted.0, counted.1) s.links) s at.place (λ some. subst (λ (n : ℕ). Counted n (length now)) (sym many) counted) (at.cut ∙ s.cut)
-              (subst (λ (o : Option CutOfPower). IfSome o FitsCut) (sym at.cut) s.cut_fits) (at.stage ∙ s.world.0, ready ∙ unready) s.boards;
+          stood = stood_next p q done (Motes motes) None None initial now now (joined_next p.place (Motes motes) stands (counted.0, counted.1) s.links) s place (λ some. subst (λ (n : ℕ). Counted n (length now)) (sym many) counted) s.cut_fits
+              (ready ∙ unready) s.boards;
           boards_enough = ap (λ (b : Bool). if b then Some motes else None) (not_below (length initial) motes (subst (λ (ds : List Device). motes ≤ length ds) s.boards counted.2));
         } in
         subst (λ (o : Option World). PlayedLine table q done o (Motes motes) told told initial now) e made
 
 lacking_boards : (p : Player) (done : List Line) (w : Option World) (motes boards : ℕ) (initial now : List Device) → p.place.motes ≡ 0 → boards ≡ length now → boards < motes → Stood p done w initial now → LacksBoards (Motes motes) motes boards initial now now
 lacking_boards p done None motes boards initial now none count short s = record { is_motes = refl; have = count ∙ ap (λ (ds : List Device). length ds) s.boards; missing = short; same = refl }
-lacking_boards p done (Some w) motes boards initial now none count short s = absurd (omega (arith, none, s.world.5))
+lacking_boards p done (Some w) motes boards initial now none count short s = absurd (omega (arith, none, s.world.3))
 
-pub motes_as : (table : List Row) (r : Result (Unit {0}) Stop) (p q : Player) (done : List Line) (w : Option World) (motes boards : ℕ) (told : List ℕ) (initial now : List Device) → StandsAt p.place (Motes motes) → Passed p q (Motes motes) → (1 ≤ motes) × (motes ≤ most_motes) → boards ≡ length now
+pub motes_as : (table : List Row) (r : Result (Unit {0}) Stop) (p q : Player) (done : List Line) (w : Option World) (motes boards : ℕ) (told : List ℕ) (initial now : List Device) → StandsAt p.place (Motes motes) → q.place ≡ place_after p.place (Motes motes) → (1 ≤ motes) × (motes ≤ most_motes) → boards ≡ length now
     → OnOk r (motes ≤ boards) → ((stop : Stop) → r ≡ Err stop → (stop ≡ NoBoard motes boards) × (boards < motes)) → Stood p done w initial now → PlayedAs table r q done w (Motes motes) told told initial now now
-motes_as table (Ok u) p q done w motes boards told initial now stands at fits count enough missing s =
-    motes_played p q done w motes told initial now stands at (fits.0, fits.1, subst (λ (n : ℕ). motes ≤ n) count enough) s
-motes_as table (Err stop) p q done w motes boards told initial now stands at fits count enough missing s =
+motes_as table (Ok u) p q done w motes boards told initial now stands place fits count enough missing s =
+    motes_played p q done w motes told initial now stands place (fits.0, fits.1, subst (λ (n : ℕ). motes ≤ n) count enough) s
+motes_as table (Err stop) p q done w motes boards told initial now stands place fits count enough missing s =
     let m = missing stop refl in
     let P : Stop → Type 0 = λ x. PlayedAs table (Err x) q done w (Motes motes) told told initial now now in
     subst P (sym m.0) (lacking_boards p done w motes boards initial now (eqb-true p.place.motes 0 stands.fits) count m.1 s)
 
-pub cut_played : {table : List Row} (p q : Player) (done : List Line) (w : Option World) (cut : CutOfPower) (told : List ℕ) (initial now : List Device) → FitsCut cut → q.place ≡ place_after p.place (Cut cut) → q.cut ≡ Some cut → q.stage ≡ p.stage → Stood p done w initial now
+pub cut_played : {table : List Row} (p q : Player) (done : List Line) (w : Option World) (cut : CutOfPower) (told : List ℕ) (initial now : List Device) → FitsCut cut → q.place ≡ place_after p.place (Cut cut) → q.world ≡ p.world → Stood p done w initial now
     → PlayedLine table q done w (Cut cut) told told initial now
-cut_played p q done w cut told initial now fits place has world s =
+cut_played p q done w cut told initial now fits place world s =
     let motes = ap (λ (x : Place). x.motes) place in
     let ready = ap (λ (x : Place). x.ready) place in
     record {
@@ -112,7 +127,7 @@ cut_played p q done w cut told initial now fits place has world s =
       text = [];
       told_now = sym (append-nil told);
       runs = silent_runs done (Cut cut) w refl (λ g. refl) (λ g played r before. grounded_next g done (Cut cut) refl (λ b. refl) before);
-      stood = stood_next p q done (Cut cut) w w initial now now s.links s place (seated_as p.place q.place (length now) motes s.seats) has (subst (λ (o : Option CutOfPower). IfSome o FitsCut) (sym has) fits)
+      stood = stood_next p q done (Cut cut) w w initial now now s.links s place (seated_as p.place q.place (length now) motes s.seats) fits
           (in_world_as p q w now world motes ready s.world) s.boards;
       boards_enough = refl;
     }
@@ -140,15 +155,15 @@ endured_same initial old new first same =
       endures = subst (λ (ds : List Device). (m : ℕ) (a b : Device) → slice_get ds m ≡ Some a → slice_get new m ≡ Some b → Endures (beneath_of a) (beneath_of b)) first same.endures;
     }
 
-pub golden_played : {table : List Row} (p q : Player) (done : List Line) (w : Option World) (name : List ℕ) (used : ℕ) (content : List ℕ) (motes : ℕ) (v : KeptWorld) (told : List ℕ) (initial old new : List Device)
-    → p.place.ready ≡ false → motes ≡ p.place.motes → Counted motes (length old) → q.place ≡ place_after p.place (Golden name used content) → q.cut ≡ p.cut → q.stage ≡ Playing v
+pub golden_played : {table : List Row} (p q : Player) (done : List Line) (w : Option World) (name : List ℕ) (used : ℕ) (content : List ℕ) (motes : ℕ) (told : List ℕ) (initial old new : List Device)
+    → p.place.ready ≡ false → motes ≡ p.place.motes → Counted motes (length old) → q.place ≡ place_after p.place (Golden name used content)
     → ((m : ℕ) (d : Device) → m < motes → slice_get new m ≡ Some d → Stands d.image (fresh name content used))
     → ((m : ℕ) (d : Device) → m < motes → slice_get old m ≡ Some d → d.stopped ≡ false) → NoneRose old new → FirstBoards motes old new
     → ((boards : List Device) (stores : List Store) (table : List Row) → length stores ≡ motes → motes ≤ length boards
-    → ((m : ℕ) (d : Device) → m < motes → slice_get boards m ≡ Some d → Stands d.image (slice_index_or stores m no_site.store)) → IsWorld v boards (first_world table [] none_narrow stores))
+    → ((m : ℕ) (d : Device) → m < motes → slice_get boards m ≡ Some d → Stands d.image (slice_index_or stores m no_site.store)) → IsWorld q.world boards (first_world table [] none_narrow stores))
     → Stood p done w initial old → PlayedLine table q done w (Golden name used content) told told initial new
-golden_played p q done (Some w) name used content motes v told initial old new unready count counted place cut world formatted awake calm others begins s = false_not p.place.ready s.world.4 unready
-golden_played p q done None name used content motes v told initial old new unready count counted place cut world formatted awake calm others begins s =
+golden_played p q done (Some w) name used content motes told initial old new unready count counted place formatted awake calm others begins s = false_not p.place.ready s.world.2 unready
+golden_played p q done None name used content motes told initial old new unready count counted place formatted awake calm others begins s =
     let first : old ≡ initial = s.boards in
     let chip : Store = fresh name content used in
     let stores : List Store = replicate motes chip in
@@ -156,7 +171,7 @@ golden_played p q done None name used content motes v told initial old new unrea
     let enough : motes ≤ length new = omega (arith, counted.2, others.count) in
     let stores_there : (m : ℕ) (d : Device) → m < motes → slice_get new m ≡ Some d → Stands d.image (slice_index_or stores m no_site.store) =
     λ m d within is. subst (λ (x : Store). Stands d.image x) (sym (get_or-replicate motes m chip no_site.store within)) (formatted m d within is) in
-    let is_world : IsWorld v new z = begins new stores (golden_row name content ∷ []) (length-replicate motes chip) enough stores_there in
+    let is_world : IsWorld q.world new z = begins new stores (golden_row name content ∷ []) (length-replicate motes chip) enough stores_there in
     let many : length z.sites ≡ motes = length-map stores off_site ∙ length-replicate motes chip in
     let same : q.place.motes ≡ motes = ap (λ (x : Place). x.motes) place ∙ sym count in
     record {
@@ -166,9 +181,8 @@ golden_played p q done None name used content motes v told initial old new unrea
       runs = golden_runs done name used content motes (count ∙ s.motes);
       stood = stood_next p q done (Golden name used content) None (Some z) initial old new s.links s place
           (λ some. subst (λ (n : ℕ). Counted n (length new)) (sym same) (counted.0, counted.1, enough))
-          (cut ∙ s.cut)
-          (subst (λ (o : Option CutOfPower). IfSome o FitsCut) (sym cut) s.cut_fits)
-          (v, world, is_world, many ∙ sym same, ap (λ (x : Place). x.ready) place, subst (λ (n : ℕ). 0 < n) (sym same) counted.0)
+          s.cut_fits
+          (is_world, many ∙ sym same, ap (λ (x : Place). x.ready) place, subst (λ (n : ℕ). 0 < n) (sym same) counted.0)
           (record {
             all = endured motes initial old new first others;
             calm = subst (λ (ds : List Device). NoneRose ds new) first calm;
@@ -182,7 +196,7 @@ golden_played p q done None name used content motes v told initial old new unrea
 -- formatting stopped
 pub golden_stopped : (table : List Row) (p q : Player) (done : List Line) (w : Option World) (name : List ℕ) (used : ℕ) (content : List ℕ) (motes : ℕ) (e : FormatStopped) (told : List ℕ) (initial old new : List Device) → p.place.ready ≡ false → motes ≡ p.place.motes
     → FirstBoards motes old new → FormatStops e.board motes (fresh name content used) old new → Stood p done w initial old → PlayedAs table (Err FlashFault) q done w (Golden name used content) told told initial old new
-golden_stopped table p q done (Some w) name used content motes e told initial old new unready count others stops s = false_not p.place.ready s.world.4 unready
+golden_stopped table p q done (Some w) name used content motes e told initial old new unready count others stops s = false_not p.place.ready s.world.2 unready
 golden_stopped table p q done None name used content motes e told initial old new unready count others stops s =
     let first : old ≡ initial = s.boards in
     let here : motes ≡ motes_in done = count ∙ s.motes in
@@ -219,19 +233,19 @@ shaped_stores law (Ok u) motes new enough (stores, stand) = (
 )
 
 -- they were mounted
-pub boards_played : (table : List Row) (p q : Player) (done : List Line) (w : Option World) (motes : ℕ) (v : KeptWorld) (told : List ℕ) (initial old new : List Device)
-    → p.place.ready ≡ false → motes ≡ p.place.motes → Counted motes (length old) → q.place ≡ place_after p.place Boards → q.cut ≡ p.cut → q.stage ≡ Playing v
+pub boards_played : (table : List Row) (p q : Player) (done : List Line) (w : Option World) (motes : ℕ) (told : List ℕ) (initial old new : List Device)
+    → p.place.ready ≡ false → motes ≡ p.place.motes → Counted motes (length old) → q.place ≡ place_after p.place Boards
     → ((stores : List Store) × StandFor motes stores new × ((m : ℕ) → m < motes → IsShaped (store_of stores m)))
     → ((m : ℕ) (d : Device) → m < motes → slice_get old m ≡ Some d → d.stopped ≡ false) → NoneRose old new → SameBoards old new → ((m : ℕ) → motes ≤ m → slice_get new m ≡ slice_get old m)
     → ((boards : List Device) (stores : List Store) (table : List Row) → length stores ≡ motes → motes ≤ length boards
-    → ((m : ℕ) (d : Device) → m < motes → slice_get boards m ≡ Some d → Stands d.image (slice_index_or stores m no_site.store)) → IsWorld v boards (first_world table [] none_narrow stores))
+    → ((m : ℕ) (d : Device) → m < motes → slice_get boards m ≡ Some d → Stands d.image (slice_index_or stores m no_site.store)) → IsWorld q.world boards (first_world table [] none_narrow stores))
     → Stood p done w initial old → PlayedLine table q done w Boards told told initial new
-boards_played table p q done (Some w) motes v told initial old new unready count counted place cut world stand awake calm same others begins s = false_not p.place.ready s.world.4 unready
-boards_played table p q done None motes v told initial old new unready count counted place cut world (stores, stand, shaped) awake calm same others begins s =
+boards_played table p q done (Some w) motes told initial old new unready count counted place stand awake calm same others begins s = false_not p.place.ready s.world.2 unready
+boards_played table p q done None motes told initial old new unready count counted place (stores, stand, shaped) awake calm same others begins s =
     let first : old ≡ initial = s.boards in
     let z : World = first_world table [] none_narrow stores in
     let enough : motes ≤ length new = omega (arith, counted.2, same.count) in
-    let is_world : IsWorld v new z = begins new stores table stand.count enough stand.each in
+    let is_world : IsWorld q.world new z = begins new stores table stand.count enough stand.each in
     let many : length z.sites ≡ motes = length-map stores off_site ∙ stand.count in
     let here : q.place.motes ≡ motes = ap (λ (x : Place). x.motes) place ∙ sym count in
     let known : motes ≡ motes_in done = count ∙ s.motes in
@@ -242,9 +256,8 @@ boards_played table p q done None motes v told initial old new unready count cou
       runs = boards_runs done table stores (subst (λ (n : ℕ). StandFor n stores initial) known (subst (λ (ds : List Device). StandFor motes stores ds) first (stood_before motes stores old new stand same))) (λ m within. shaped m (omega (arith, within, stand.count)));
       stood = stood_next p q done Boards None (Some z) initial old new s.links s place
           (λ some. subst (λ (n : ℕ). Counted n (length new)) (sym here) (counted.0, counted.1, enough))
-          (cut ∙ s.cut)
-          (subst (λ (o : Option CutOfPower). IfSome o FitsCut) (sym cut) s.cut_fits)
-          (v, world, is_world, many ∙ sym here, ap (λ (x : Place). x.ready) place, subst (λ (n : ℕ). 0 < n) (sym here) counted.0)
+          s.cut_fits
+          (is_world, many ∙ sym here, ap (λ (x : Place). x.ready) place, subst (λ (n : ℕ). 0 < n) (sym here) counted.0)
           (record {
             all = endured_same initial old new first same;
             calm = subst (λ (ds : List Device). NoneRose ds new) first calm;
@@ -258,7 +271,7 @@ boards_played table p q done None motes v told initial old new unready count cou
 -- a board stopped while it was mounted
 pub boards_stopped : (table : List Row) (p q : Player) (done : List Line) (w : Option World) (motes board : ℕ) (told : List ℕ) (initial old new : List Device) → p.place.ready ≡ false → motes ≡ p.place.motes
     → SameBoards old new → MountStops board motes old new → Stood p done w initial old → PlayedAs table (Err FlashFault) q done w Boards told told initial old new
-boards_stopped table p q done (Some w) motes board told initial old new unready count same stops s = false_not p.place.ready s.world.4 unready
+boards_stopped table p q done (Some w) motes board told initial old new unready count same stops s = false_not p.place.ready s.world.2 unready
 boards_stopped table p q done None motes board told initial old new unready count same stops s =
     let first : old ≡ initial = s.boards in
     let here : motes ≡ motes_in done = count ∙ s.motes in
@@ -283,7 +296,7 @@ boards_stopped table p q done None motes board told initial old new unready coun
 -- a board is no volume
 pub boards_refused : (table : List Row) (p q : Player) (done : List Line) (w : Option World) (motes board : ℕ) (told : List ℕ) (initial old new : List Device) → p.place.ready ≡ false → motes ≡ p.place.motes
     → SameBoards old new → NoVolumeAt board motes old new → NoneRose old new → Stood p done w initial old → PlayedAs table (Err NotAVolume) q done w Boards told told initial old new
-boards_refused table p q done (Some w) motes board told initial old new unready count same lacking calm s = false_not p.place.ready s.world.4 unready
+boards_refused table p q done (Some w) motes board told initial old new unready count same lacking calm s = false_not p.place.ready s.world.2 unready
 boards_refused table p q done None motes board told initial old new unready count same lacking calm s =
     let first : old ≡ initial = s.boards in
     let here : motes ≡ motes_in done = count ∙ s.motes in (
@@ -306,13 +319,12 @@ boards_ended table p q done w motes (NoVolume board) stop told initial old new i
 
 -- ---- links and narrow motes
 
-pub link_played : (table : List Row) (r : Result (Unit {0}) Stop) (p q : Player) (done : List Line) (w : Option World) (a b : ℕ) (v v2 : KeptWorld) (told : List ℕ) (initial now : List Device)
-    → StandsAt p.place (Link a b) → FitsLine p.place.motes (Link a b) → p.place.ready ≡ true → p.place.events ≡ false → p.stage ≡ Playing v → q.place ≡ place_after p.place (Link a b) → q.cut ≡ p.cut → q.stage ≡ Playing v2
-    → LinkedAs r v v2 (a, b) → Stood p done w initial now → PlayedAs table r q done w (Link a b) told told initial now now
-link_played table r p q done None a b v v2 told initial now stands fits later early has place cut world linked s = false_not p.place.ready later s.world.1
-link_played table (Ok u) p q done (Some w) a b v v2 told initial now stands fits later early has place cut world linked s =
+pub link_played : {table : List Row} (p q : Player) (done : List Line) (w : Option World) (a b : ℕ) (told : List ℕ) (initial now : List Device)
+    → StandsAt p.place (Link a b) → FitsLine p.place.motes (Link a b) → p.place.ready ≡ true → p.place.events ≡ false → q.place ≡ place_after p.place (Link a b)
+    → ((boards : List Device) (u : World) → IsWorld p.world boards u → IsWorld q.world boards (with_link (a, b) u)) → Stood p done w initial now → PlayedLine table q done w (Link a b) told told initial now
+link_played p q done None a b told initial now stands fits later early place linked s = false_not p.place.ready later s.world
+link_played p q done (Some w) a b told initial now stands fits later early place linked s =
     let k = s.world in
-    let kept : IsWorld v now w = subst (λ (x : KeptWorld). IsWorld x now w) (playing_is k.0 v (sym k.1 ∙ has)) k.2 in
     let motes : q.place.motes ≡ p.place.motes = ap (λ (x : Place). x.motes) place in
     let b2 = s.boards in
     record {
@@ -322,26 +334,18 @@ link_played table (Ok u) p q done (Some w) a b v v2 told initial now stands fits
       runs = link_runs done a b w (s.early early);
       stood = stood_next p q done (Link a b) (Some w) (Some (with_link (a, b) w)) initial now now (joined_next p.place (Link a b) stands fits s.links) s place
           (seated_as p.place q.place (length now) motes s.seats)
-          (cut ∙ s.cut)
-          (subst (λ (o : Option CutOfPower). IfSome o FitsCut) (sym cut) s.cut_fits)
-          (v2, world, linked.linked now w kept, k.3 ∙ sym motes, ap (λ (x : Place). x.ready) place ∙ k.4, subst (λ (n : ℕ). 0 < n) (sym motes) k.5)
+          s.cut_fits
+          (linked now w k.0, k.1 ∙ sym motes, ap (λ (x : Place). x.ready) place ∙ k.2, subst (λ (n : ℕ). 0 < n) (sym motes) k.3)
           (record { all = b2.all; calm = b2.calm; stands = b2.stands; came = b2.came; others = b2.others });
       boards_enough = refl;
     }
-link_played table (Err stop) p q done (Some w) a b v v2 told initial now stands fits later early has place cut world linked s =
-    let is : stop ≡ Memory = err_is stop Memory linked.memory in
-    subst (λ (x : Stop). PlayedAs table (Err x) q done (Some w) (Link a b) told told initial now now) (sym is) (memory_line table p q done (Some w) (Link a b) told told initial now s)
-  where
-    err_is : (x y : Stop) → ◌≡◌ {A = Result (Unit {0}) Stop} (Err x) (Err y) → x ≡ y
-    err_is x y e = cc
 
-pub narrow_played : {table : List Row} (p q : Player) (done : List Line) (w : Option World) (m : ℕ) (v v2 : KeptWorld) (told : List ℕ) (initial now : List Device)
-    → StandsAt p.place (Narrow m) → FitsLine p.place.motes (Narrow m) → p.place.ready ≡ true → p.place.events ≡ false → p.stage ≡ Playing v → q.place ≡ place_after p.place (Narrow m) → q.cut ≡ p.cut → q.stage ≡ Playing v2
-    → ((boards : List Device) (u : World) → IsWorld v boards u → IsWorld v2 boards (with_narrow m u)) → Stood p done w initial now → PlayedLine table q done w (Narrow m) told told initial now
-narrow_played p q done None m v v2 told initial now stands fits later early has place cut world narrowed s = false_not p.place.ready later s.world.1
-narrow_played p q done (Some w) m v v2 told initial now stands fits later early has place cut world narrowed s =
+pub narrow_played : {table : List Row} (p q : Player) (done : List Line) (w : Option World) (m : ℕ) (told : List ℕ) (initial now : List Device)
+    → StandsAt p.place (Narrow m) → FitsLine p.place.motes (Narrow m) → p.place.ready ≡ true → p.place.events ≡ false → q.place ≡ place_after p.place (Narrow m)
+    → ((boards : List Device) (u : World) → IsWorld p.world boards u → IsWorld q.world boards (with_narrow m u)) → Stood p done w initial now → PlayedLine table q done w (Narrow m) told told initial now
+narrow_played p q done None m told initial now stands fits later early place narrowed s = false_not p.place.ready later s.world
+narrow_played p q done (Some w) m told initial now stands fits later early place narrowed s =
     let k = s.world in
-    let kept : IsWorld v now w = subst (λ (x : KeptWorld). IsWorld x now w) (playing_is k.0 v (sym k.1 ∙ has)) k.2 in
     let motes : q.place.motes ≡ p.place.motes = ap (λ (x : Place). x.motes) place in
     let b = s.boards in
     record {
@@ -351,9 +355,8 @@ narrow_played p q done (Some w) m v v2 told initial now stands fits later early 
       runs = narrow_runs done m w (s.early early);
       stood = stood_next p q done (Narrow m) (Some w) (Some (with_narrow m w)) initial now now (joined_next p.place (Narrow m) stands fits s.links) s place
           (seated_as p.place q.place (length now) motes s.seats)
-          (cut ∙ s.cut)
-          (subst (λ (o : Option CutOfPower). IfSome o FitsCut) (sym cut) s.cut_fits)
-          (v2, world, narrowed now w kept, k.3 ∙ sym motes, ap (λ (x : Place). x.ready) place ∙ k.4, subst (λ (n : ℕ). 0 < n) (sym motes) k.5)
+          s.cut_fits
+          (narrowed now w k.0, k.1 ∙ sym motes, ap (λ (x : Place). x.ready) place ∙ k.2, subst (λ (n : ℕ). 0 < n) (sym motes) k.3)
           (record { all = b.all; calm = b.calm; stands = b.stands; came = b.came; others = b.others });
       boards_enough = refl;
     }

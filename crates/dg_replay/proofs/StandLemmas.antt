@@ -6,9 +6,8 @@ use Rattle.std.proofs.lemmas.List.{map-append}
 use Rattle.dg_nor.specs.Device.{Device}
 use Rattle.dg_object.specs.Object.{Row}
 use Rattle.dg_volume.specs.Table.{row_at}
-use Rattle.dg_base.specs.declared.events.Cut.{Cut as CutOfPower}
 use Rattle.dg_script.specs.Fitting.{FitsCut, FitsLine, StandsAt}
-use Rattle.dg_script.specs.Items.{Item, Declares, Happens as Happened, item_by, cut_by, cut_behind, place_behind, items_of}
+use Rattle.dg_script.specs.Items.{Item, Declares, Happens as Happened, item_by, place_behind, items_of}
 use Rattle.dg_script.specs.Places.{first_place, place_after, none_narrow}
 use Rattle.dg_script.specs.Report.{report_text}
 use Rattle.dg_script.specs.declared.place.Place.{Place}
@@ -29,7 +28,7 @@ use Rattle.dg_replay.specs.Items.{Ground, no_ground, Beginning, begin_by, beginn
 use Rattle.dg_replay.specs.Outcome.{IsGround, RunsTo, item_played, played_text}
 use Rattle.dg_replay.specs.Playing.{IsDeclaration, Seated, InWorld, Joined, Stood, ItemsRun, ItemsBegun, LineRuns, LineBegun, Grounded}
 use Rattle.dg_replay.specs.declared.player.Player.{Player}
-use Rattle.dg_replay.proofs.ItemLemmas.{some_is, items_next, cut_next, place_next, begin_next, motes_same, runs_append, runs_from_none, plays_none, played_more, items_run_none}
+use Rattle.dg_replay.proofs.ItemLemmas.{some_is, items_next, place_next, begin_next, motes_same, runs_append, runs_from_none, plays_none, played_more, items_run_none}
 
 -- ---- where a replay stands
 
@@ -52,22 +51,22 @@ all_more P [] ys h k = k
 all_more P (x ∷ xs) ys h k = (h.0, all_more P xs ys h.1 k)
 
 -- before the first event, no line but an image has an item
-early_by : (place at : Place) (cut : Option CutOfPower) (line : Line) → (place_after place line).events ≡ false → (place.events ≡ false) × AllByRecursion IsDeclaration (item_by at cut line)
-early_by place at cut Nothing e = (e, tt)
-early_by place at cut (Motes n) e = (e, tt)
-early_by place at cut (Golden name used content) e = (e, tt)
-early_by place at cut Boards e = (e, tt)
-early_by place at cut (Link x y) e = (e, tt)
-early_by place at cut (Narrow m) e = (e, tt)
-early_by place at cut (Image image version name content) e = (e, (tt, tt))
-early_by place at cut (Cut c) e = (e, tt)
-early_by place at cut (Happens event) e = absurd (let f : true ≡ false = e in cc)
-early_by place at cut (Round x y) e = absurd (let f : true ≡ false = e in cc)
-early_by place at cut (Sweeps n) e = absurd (let f : true ≡ false = e in cc)
+early_by : (place at : Place) (line : Line) → (place_after place line).events ≡ false → (place.events ≡ false) × AllByRecursion IsDeclaration (item_by at line)
+early_by place at Nothing e = (e, tt)
+early_by place at (Motes n) e = (e, tt)
+early_by place at (Golden name used content) e = (e, tt)
+early_by place at Boards e = (e, tt)
+early_by place at (Link x y) e = (e, tt)
+early_by place at (Narrow m) e = (e, tt)
+early_by place at (Image image version name content) e = (e, (tt, tt))
+early_by place at (Cut c) e = (e, tt)
+early_by place at (Happens event) e = absurd (let f : true ≡ false = e in cc)
+early_by place at (Round x y) e = absurd (let f : true ≡ false = e in cc)
+early_by place at (Sweeps n) e = absurd (let f : true ≡ false = e in cc)
 
 early_next : (place : Place) (done : List Line) (line : Line) → (place.events ≡ false → AllByRecursion IsDeclaration (items_of done)) → (place_after place line).events ≡ false → AllByRecursion IsDeclaration (items_of (done ++ line ∷ []))
 early_next place done line early e =
-    let one = early_by place (place_behind first_place done) (cut_behind None done) line e in
+    let one = early_by place (place_behind first_place done) line e in
     subst (λ (xs : List Item). AllByRecursion IsDeclaration xs) (sym (items_next done line)) (all_more IsDeclaration (items_of done) _ (early one.0) one.1)
 
 -- where there are no motes, there is no link
@@ -91,14 +90,13 @@ joined_next place (Sweeps n) stands fits all = all
 
 -- the player and the boards behind one more line
 pub stood_next : (p q : Player) (done : List Line) (line : Line) (w v : Option World) (initial old now : List Device) → Joined (place_after p.place line) → Stood p done w initial old
-    → q.place ≡ place_after p.place line → Seated q.place (length now) → q.cut ≡ cut_by (cut_behind None done) line → IfSome q.cut FitsCut → InWorld q v now → BoardsStand v initial now → Stood q (done ++ line ∷ []) v initial now
-stood_next p q done line w v initial old now links s place seats cut cut_fits world boards =
+    → q.place ≡ place_after p.place line → Seated q.place (length now) → IfSome (place_after p.place line).cut FitsCut → InWorld q v now → BoardsStand v initial now → Stood q (done ++ line ∷ []) v initial now
+stood_next p q done line w v initial old now links s place seats cut_fits world boards =
     record {
       seats = seats;
       place = place ∙ ap (λ (at : Place). place_after at line) s.place ∙ sym (place_next first_place done line);
       links = subst (λ (at : Place). Joined at) (sym place) links;
-      cut = cut ∙ sym (cut_next None done line);
-      cut_fits = cut_fits;
+      cut_fits = subst (λ (at : Place). IfSome at.cut FitsCut) (sym place) cut_fits;
       motes = ap (λ (at : Place). at.motes) place ∙ motes_next no_ground p.place (beginning_of no_ground done) line s.motes ∙ ap (λ (b : Beginning). b.motes) (sym (begin_next no_ground no_beginning done line));
       early = λ e. early_next p.place done line s.early (sym (ap (λ (at : Place). at.events) place) ∙ e);
       world = world;
@@ -113,7 +111,7 @@ same_run g done line played v same r =
     subst (λ (b : Beginning). RunsTo b.world played v) (sym (begin_next g no_beginning done line)) (subst (λ (o : Option World). RunsTo o played v) (sym same) r)
 
 -- the items with a line that has none
-same_items : (done : List Line) (line : Line) → item_by (place_behind first_place done) (cut_behind None done) line ≡ [] → items_of done ≡ items_of (done ++ line ∷ [])
+same_items : (done : List Line) (line : Line) → item_by (place_behind first_place done) line ≡ [] → items_of done ≡ items_of (done ++ line ∷ [])
 same_items done line none = sym (items_next done line ∙ ap (λ (xs : List Item). items_of done ++ xs) none ∙ append-nil (items_of done))
 
 -- where boards are used as they are, they were before
@@ -174,7 +172,7 @@ grounded_motes g done n played r = λ uses.
     let some = uses_some g no_beginning done (uses_next done (Motes n) refl uses) in absurd (run_none (beginning_of g done).world played some.0 some.1 r)
 
 -- a line without items
-pub silent_runs : {table : List Row} {initial : List Device} (done : List Line) (line : Line) (w : Option World) → item_by (place_behind first_place done) (cut_behind None done) line ≡ [] → ((g : Ground) → (begin_by g (beginning_of g done) line).world ≡ (beginning_of g done).world)
+pub silent_runs : {table : List Row} {initial : List Device} (done : List Line) (line : Line) (w : Option World) → item_by (place_behind first_place done) line ≡ [] → ((g : Ground) → (begin_by g (beginning_of g done) line).world ≡ (beginning_of g done).world)
     → ((g : Ground) (played : List Played) → RunsTo (beginning_of g done).world played w → Grounded table initial g done → Grounded table initial g (done ++ line ∷ [])) → LineRuns table initial done line w w []
 silent_runs done line w none same ground = λ g played before items r. record {
   ground = g;
@@ -187,7 +185,7 @@ silent_runs done line w none same ground = λ g played before items r. record {
 }
 
 -- a line with items
-pub busy_runs : {table : List Row} {initial : List Device} (done : List Line) (line : Line) (u z : World) (items : List Item) (text : List ℕ) → item_by (place_behind first_place done) (cut_behind None done) line ≡ items → ((g : Ground) → (begin_by g (beginning_of g done) line).world ≡ (beginning_of g done).world)
+pub busy_runs : {table : List Row} {initial : List Device} (done : List Line) (line : Line) (u z : World) (items : List Item) (text : List ℕ) → item_by (place_behind first_place done) line ≡ items → ((g : Ground) → (begin_by g (beginning_of g done) line).world ≡ (beginning_of g done).world)
     → is_boards line ≡ false → ((b : Beginning) → (begin_by no_ground b line).motes ≡ b.motes) → ItemsRun u items z text → LineRuns table initial done line (Some u) (Some z) text
 busy_runs done line u z items text are same plain counts x = λ g played first before r. record {
   ground = g;
@@ -287,7 +285,7 @@ run_set f s None ps w all (none, is) = absurd (let e : Some w ≡ None = is in c
 run_set f s (Some u) ps w all (v, is, plays) = (f w, refl, subst (λ (z : World). Plays (f u) (map (set_in f) ps) (f z)) (sym (some_is w v is)) (plays_set f s u v ps all plays))
 
 -- behind such a line, the same was played from a world of which it says that
-set_runs : {table : List Row} {initial : List Device} (f : World → World) → Sets f → (done : List Line) (line : Line) (w : World) → AllByRecursion IsDeclaration (items_of done) → item_by (place_behind first_place done) (cut_behind None done) line ≡ []
+set_runs : {table : List Row} {initial : List Device} (f : World → World) → Sets f → (done : List Line) (line : Line) (w : World) → AllByRecursion IsDeclaration (items_of done) → item_by (place_behind first_place done) line ≡ []
     → ((g : Ground) (b : Beginning) → (begin_by g b line).world ≡ option_map f b.world) → is_boards line ≡ false → ((b : Beginning) → (begin_by no_ground b line).motes ≡ b.motes) → LineRuns table initial done line (Some w) (Some (f w)) []
 set_runs f s done line w all none begins plain counts = λ g played before items r. record {
   ground = g;
@@ -312,18 +310,18 @@ narrow_runs done m w all = set_runs (with_narrow m) (narrow_sets m) done (Narrow
 -- the world of a player has no more than a million events
 pub few_in : (w : Option World) (p : Player) (now : List Device) → InWorld p w now → IfSome w (λ u. u.events ≤ most_events)
 few_in None p now kept = tt
-few_in (Some w) p now kept = kept.2.few_events
+few_in (Some w) p now kept = kept.0.few_events
 
 -- nothing of it was played
-pub none_begun : {Q : Option World → List Item → List ℕ → Type 0} (p : Player) (done : List Line) (line : Line) (w : Option World) (now : List Device) → InWorld p w now → Q w (item_by (place_behind first_place done) (cut_behind None done) line) [] → LineBegun done line w Q
+pub none_begun : {Q : Option World → List Item → List ℕ → Type 0} (p : Player) (done : List Line) (line : Line) (w : Option World) (now : List Device) → InWorld p w now → Q w (item_by (place_behind first_place done) line) [] → LineBegun done line w Q
 none_begun {Q} p done line w now kept there = from w (few_in w p now kept) there
   where
-    from : (v : Option World) → IfSome v (λ u. u.events ≤ most_events) → Q v (item_by (place_behind first_place done) (cut_behind None done) line) [] → LineBegun done line v Q
+    from : (v : Option World) → IfSome v (λ u. u.events ≤ most_events) → Q v (item_by (place_behind first_place done) line) [] → LineBegun done line v Q
     from None few at = record { begun = []; left = _; parts = refl; world = None; text = []; runs = (refl, refl, refl); there = at }
     from (Some u) few at = record { begun = []; left = _; parts = refl; world = Some u; text = []; runs = (u, refl, items_run_none u few); there = at }
 
 -- its items were
-pub line_begun : {P : World → List Item → List ℕ → Type 0} {Q : Option World → List Item → List ℕ → Type 0} (done : List Line) (line : Line) (w : World) (items : List Item) → item_by (place_behind first_place done) (cut_behind None done) line ≡ items → (b : ItemsBegun w items P)
+pub line_begun : {P : World → List Item → List ℕ → Type 0} {Q : Option World → List Item → List ℕ → Type 0} (done : List Line) (line : Line) (w : World) (items : List Item) → item_by (place_behind first_place done) line ≡ items → (b : ItemsBegun w items P)
     → (P b.world b.left b.text → Q (Some b.world) b.left b.text) → LineBegun done line (Some w) Q
 line_begun done line w items are b then_there =
     record { begun = b.begun; left = b.left; parts = are ∙ b.parts; world = Some b.world; text = b.text; runs = (b.world, refl, b.runs); there = then_there b.there }

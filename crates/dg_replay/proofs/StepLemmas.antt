@@ -1,5 +1,5 @@
 -- What playing one item, and one after the other, answers.
-use Rattle.std.proofs.Common.{◌≡◌, ℕ, zero, suc, ◌+◌, ◌-◌, ◌<◌, ◌≤◌, ◌≢◌, ◌⊎◌, inl, inr, ⊎_elim, Bool, false, if◌then◌else◌, List, [], ◌∷◌, ◌++◌, length, replicate, get_or, take, drop, refl, append-nil, append_assoc, ap, sym, ◌∙◌, subst, arith}
+use Rattle.std.proofs.Common.{◌≡◌, ℕ, zero, suc, ◌+◌, ◌-◌, ◌<◌, ◌≤◌, ◌≢◌, ◌⊎◌, ⊎_elim, Bool, false, if◌then◌else◌, List, [], ◌∷◌, ◌++◌, length, replicate, get_or, take, drop, refl, append-nil, append_assoc, ap, sym, ◌∙◌, subst, arith}
 use Rattle.std.proofs.lemmas.List.{length-set, map-append}
 use Rattle.std.specs.List.{filter, AllByRecursion}
 use Rattle.std.specs.Prelude.{Option, Some, None, Result, Ok, Err, OnOk, OnErr, slice_get}
@@ -14,7 +14,7 @@ use Rattle.dg_script.specs.Items.{Item, Declares, Happens as Happened, quietly}
 use Rattle.dg_script.specs.Report.{report_text}
 use Rattle.dg_script.specs.declared.report.Report.{Report}
 use Rattle.dg_rules.specs.Premises.{LinkFits}
-use Rattle.dg_rules.specs.Ranges.{EventFits, StepFits}
+use Rattle.dg_rules.specs.Ranges.{EventInRange, StepInRange}
 use Rattle.dg_rules.specs.Steps.{DeclareStep, declared_as}
 use Rattle.dg_script.specs.declared.report.Report.TheVariants as report
 use Rattle.dg_volume.specs.Table.{row_at}
@@ -27,12 +27,11 @@ use Rattle.dg_world.specs.Counts.{NoneRose}
 use Rattle.dg_world.specs.declared.world.WorldFault.{WorldFault}
 use Rattle.dg_world.specs.declared.world.WorldFault.TheVariants.{Flash, TooMany as TooManyFault, Memory as MemoryFault}
 use Rattle.dg_world.proofs.CountLemmas.{NoneRose_then}
-use Rattle.dg_world.specs.Applied.{Applied, OneBoard, FlashAt, Ended}
+use Rattle.dg_world.specs.Applied.{Applied, OneBoard, FlashAt, RunEnded}
 use Rattle.dg_world.specs.declared.world.World.{World as KeptWorld}
 use Rattle.dg_completion.proofs.GrowLemmas.{all_append, all_replicate, all_times}
 use Rattle.dg_replay.specs.Boards.{WorldStands, ItemStops, LacksImage, EventNext}
-use Rattle.dg_replay.specs.Steps.{IsOfRound}
-use Rattle.dg_replay.specs.Playing.{GoesOn, ItemsRun, ItemsPlayed, ItemsBegun, ItemsPlayedAs, IsOneTooMany, StopsInItem}
+use Rattle.dg_replay.specs.Playing.{KeepsMotes, ItemsRun, ItemsPlayed, ItemsBegun, ItemsPlayedAs, IsOneTooMany, StopsInItem}
 use Rattle.dg_replay.specs.declared.stop.Stop.{Stop}
 use Rattle.dg_replay.specs.declared.stop.Stop.TheVariants.{Memory, BadInput, WriteFault, FlashFault, TooMany, NoBoard, NoImage, NotAVolume}
 use Rattle.dg_replay.proofs.ItemLemmas.{items_run_none, items_run_one, items_run_join, declared_same, step_counts}
@@ -117,7 +116,7 @@ played_none w kept initial now told is stands =
 sites_same : (k : KeptWorld) (boards : List Device) (w z : World) → IsWorld k boards w → IsWorld k boards z → length w.sites ≡ length z.sites
 sites_same k boards w z a b = a.motes ∙ sym b.motes
 
-event_within : (n : ℕ) (event : Event) → EventFits n event → mote_of event < n
+event_within : (n : ℕ) (event : Event) → EventInRange n event → mote_of event < n
 event_within n (Tick mote dt word) h = h
 event_within n (Hear mote dt word frame) h = h.0
 event_within n (Last from to dt word) h = h.1
@@ -128,7 +127,7 @@ event_within n (Frame mote dt word bytes) h = h.0
 
 -- a world in which the step may be applied
 abbrev MayStep : KeptWorld → List Device → Step → Type 0
-MayStep k old x = (z : World) × IsWorld k old z × StepFits (length z.sites) x
+MayStep k old x = (z : World) × IsWorld k old z × StepInRange (length z.sites) x
 
 step_within : (k : KeptWorld) (old : List Device) (w : World) (x : Step) → IsWorld k old w → MayStep k old x → mote_of x.event < length w.sites
 step_within k old w x is (z, at, fits) = subst (λ (n : ℕ). mote_of x.event < n) (sites_same k old z w at is) (event_within (length z.sites) x.event fits.event)
@@ -181,7 +180,7 @@ stopped_in w x loud v board initial old new told_before told may is few f untold
     (flash_next w x loud [] board initial old new few (step_within v old w x is may) f stands, untold ∙ sym (append-nil told_before))
 
 -- it found no image to start
-ended_stands : (w : World) (x : Step) (v : KeptWorld) (initial old new : List Device) → MayStep v old x → IsWorld v old w → (e : Ended w x old new) → WorldStands w initial old → WorldStands e.world initial new
+ended_stands : (w : World) (x : Step) (v : KeptWorld) (initial old new : List Device) → MayStep v old x → IsWorld v old w → (e : RunEnded w x old new) → WorldStands w initial old → WorldStands e.world initial new
 ended_stands w x v initial old new may is e b =
     let within : mote_of x.event < length w.sites = step_within v old w x is may in
     let count : length e.world.sites ≡ length w.sites = ap (λ (u : World). length u.sites) e.ends.world ∙ length-set w.sites (mote_of x.event) _ in
@@ -195,7 +194,7 @@ ended_stands w x v initial old new may is e b =
           e.boards.others m (other_than m (mote_of x.event) (length w.sites) within far) ∙ b.others m far;
     }
 
-pub ended_in : (w : World) (x : Step) (loud : Bool) (v : KeptWorld) (initial old new : List Device) (told : List ℕ) → MayStep v old x → IsWorld v old w → Ended w x old new → WorldStands w initial old
+pub ended_in : (w : World) (x : Step) (loud : Bool) (v : KeptWorld) (initial old new : List Device) (told : List ℕ) → MayStep v old x → IsWorld v old w → RunEnded w x old new → WorldStands w initial old
     → ItemsBegun w (Happened x loud ∷ []) (λ u left text. LacksImage u left initial new × (told ≡ told ++ text))
 ended_in w x loud v initial old new told may is e stands =
     begun_none w (Happened x loud ∷ []) (λ u left text. LacksImage u left initial new × (told ≡ told ++ text)) is.few_events
@@ -210,7 +209,7 @@ told_as (Err stop) w x loud v v2 initial old new before reports told_before told
     subst (λ (e : Stop). ItemsPlayedAs (Err e) w (Happened x loud ∷ []) v2 initial new told_before told) (sym same) (applied_untold w x loud v v2 initial old new before reports none may a is stands)
 
 -- the world that is kept goes on behind an event
-pub goes_on : (r : Result (Unit {0}) Stop) (k k2 : KeptWorld) (old new : List Device) → ((w : World) → IsWorld k old w → (u : World) × IsWorld k2 new u × (length u.sites ≡ length w.sites)) → GoesOn r k k2 old new
+pub goes_on : (r : Result (Unit {0}) Stop) (k k2 : KeptWorld) (old new : List Device) → ((w : World) → IsWorld k old w → (u : World) × IsWorld k2 new u × (length u.sites ≡ length w.sites)) → KeepsMotes r k k2 old new
 goes_on (Ok u) k k2 old new goes = goes
 goes_on (Err stop) k k2 old new goes = tt
 
@@ -372,10 +371,10 @@ all_get P (x ∷ xs) zero d h each = each.0
 all_get P (x ∷ xs) (suc i) d h each = all_get P xs i d (omega arith) each.1
 
 -- the events of a round are at its two motes
-pub round_fits : (n a b : ℕ) → LinkFits n (a, b) → AllByRecursion (EventFits n) (round a b)
+pub round_fits : (n a b : ℕ) → LinkFits n (a, b) → AllByRecursion (EventInRange n) (round a b)
 unfolding round
 round_fits n a b l =
-    let P : Event → Type 0 = EventFits n in
+    let P : Event → Type 0 = EventInRange n in
     let pages : List Event = times 48 (paced a ∷ passed a b ∷ []) in
     let asks : List Event = passed a b ∷ paced b ∷ passed b a ∷ pages in
     let there : P (passed a b) = (l.first, l.second, l.two) in
@@ -384,22 +383,6 @@ round_fits n a b l =
     let told : AllByRecursion P (replicate 3 (paced a) ++ asks) = all_append P (replicate 3 (paced a)) asks (all_replicate P 3 (paced a) l.first) asked in
     let rested : AllByRecursion P (replicate 50 (paced b) ++ (replicate 3 (paced a) ++ asks)) = all_append P (replicate 50 (paced b)) (replicate 3 (paced a) ++ asks) (all_replicate P 50 (paced b) l.second) told in
     all_append P (replicate 50 (paced a)) (replicate 50 (paced b) ++ (replicate 3 (paced a) ++ asks)) (all_replicate P 50 (paced a) l.first) rested
-
--- each is one of four
-pub round_is : (a b : ℕ) → AllByRecursion (IsOfRound a b) (round a b)
-unfolding round
-round_is a b =
-    let P : Event → Type 0 = IsOfRound a b in
-    let one : P (paced a) = inl refl in
-    let two : P (paced b) = inr (inl refl) in
-    let there : P (passed a b) = inr (inr (inl refl)) in
-    let back : P (passed b a) = inr (inr (inr refl)) in
-    let pages : List Event = times 48 (paced a ∷ passed a b ∷ []) in
-    let asks : List Event = passed a b ∷ paced b ∷ passed b a ∷ pages in
-    let asked : AllByRecursion P asks = (there, (two, (back, all_times P 48 (paced a ∷ passed a b ∷ []) (one, (there, tt))))) in
-    let told : AllByRecursion P (replicate 3 (paced a) ++ asks) = all_append P (replicate 3 (paced a)) asks (all_replicate P 3 (paced a) one) asked in
-    let rested : AllByRecursion P (replicate 50 (paced b) ++ (replicate 3 (paced a) ++ asks)) = all_append P (replicate 50 (paced b)) (replicate 3 (paced a) ++ asks) (all_replicate P 50 (paced b) two) told in
-    all_append P (replicate 50 (paced a)) (replicate 50 (paced b) ++ (replicate 3 (paced a) ++ asks)) (all_replicate P 50 (paced a) one) rested
 
 times_split : {A : Type 0} (m n : ℕ) (xs : List A) → times (m + n) xs ≡ times m xs ++ times n xs
 unfolding times
@@ -424,18 +407,11 @@ events_none all left first old told e = record { so_far = so_far_none first old 
 
 -- the next event may be played
 pub events_may : (all given left others : List Event) (event : Event) (first kept : KeptWorld) (old now : List Device) (told_before told : List ℕ) → EventsSoFar all given left first kept old now told_before told → left ≡ event ∷ others
-    → (z : World) → IsWorld first old z → AllByRecursion (EventFits (length z.sites)) all → (u : World) × IsWorld kept now u × EventFits (length u.sites) event
+    → (z : World) → IsWorld first old z → AllByRecursion (EventInRange (length z.sites)) all → (u : World) × IsWorld kept now u × EventInRange (length u.sites) event
 events_may all given left others event first kept old now told_before told s next z is fits =
     let on = s.so_far.goes z is in
     let at : given ++ event ∷ others ≡ all = ap (λ (xs : List Event). given ++ xs) (sym next) ∙ s.parts in
-    (on.0, on.1, subst (λ (n : ℕ). EventFits n event) (sym on.2) (all_at (EventFits (length z.sites)) given event others all at fits))
-
--- and it is one of those
-pub event_is : (P : Event → Type 0) (all given left others : List Event) (event : Event) (first kept : KeptWorld) (old now : List Device) (told_before told : List ℕ) → EventsSoFar all given left first kept old now told_before told → left ≡ event ∷ others
-    → AllByRecursion P all → P event
-event_is P all given left others event first kept old now told_before told s next each =
-    let at : given ++ event ∷ others ≡ all = ap (λ (xs : List Event). given ++ xs) (sym next) ∙ s.parts in
-    all_at P given event others all at each
+    (on.0, on.1, subst (λ (n : ℕ). EventInRange n event) (sym on.2) (all_at (EventInRange (length z.sites)) given event others all at fits))
 
 pub events_more : (all given left others : List Event) (event : Event) (first k k2 : KeptWorld) (old mid now : List Device) (t0 t1 t2 : List ℕ) → EventsSoFar all given left first k old mid t0 t1 → left ≡ event ∷ others
     → ((w : World) → IsWorld k mid w → (v : World) × IsWorld k2 now v × (length v.sites ≡ length w.sites))

@@ -13,7 +13,7 @@ use Rattle.dg_script.specs.declared.line.Line.TheVariants.{Nothing, Motes, Golde
 use Rattle.dg_script.specs.Items.{Item}
 use Rattle.dg_replay.specs.Items.{Ground, no_ground, Beginning, begin_by, begin_behind, motes_in, next_items}
 use Rattle.dg_replay.specs.Boards.{BoardStopped}
-use Rattle.dg_replay.specs.Ending.{whole_lines, used, is_over, script_of, ending_from}
+use Rattle.dg_replay.specs.Ending.{whole_lines, used, has_unused_bytes, script_of, ending_from}
 use Rattle.dg_replay.specs.Outcome.{IsSettled, AreWhole, DoneIsWhole}
 use Rattle.dg_replay.proofs.EndLemmas.{is_over-true, over_more}
 use Rattle.dg_replay.proofs.GoldenLemmas.{LinesFit, front_fits, not_first, script_of_fits}
@@ -21,7 +21,7 @@ use Rattle.dg_replay.proofs.PlayLemmas.{second_at, later_at, link_at, narrow_at,
 
 -- ---- more bytes than are used
 
-still_over : (input more : List ℕ) → is_over input ≡ true → is_over (input ++ more) ≡ true
+still_over : (input more : List ℕ) → has_unused_bytes input ≡ true → has_unused_bytes (input ++ more) ≡ true
 still_over input more over = is_over-true (input ++ more) (longer input more _ (over_more input over))
   where
     longer : (xs ys : List ℕ) (k : ℕ) → k < length xs → k < length (xs ++ ys)
@@ -30,28 +30,28 @@ still_over input more over = is_over-true (input ++ more) (longer input more _ (
 same_front : (k : ℕ) (xs ys : List ℕ) → k < length xs → take k (xs ++ ys) ≡ take k xs
 same_front k xs ys h = take-append-le k xs ys (omega (arith, h))
 
-over_used : (input more : List ℕ) → is_over input ≡ true → used (input ++ more) ≡ used input
+over_used : (input more : List ℕ) → has_unused_bytes input ≡ true → used (input ++ more) ≡ used input
 over_used input more over =
     ap (λ (b : Bool). if b then whole_lines (take most_used_bytes (input ++ more)) else input ++ more) (still_over input more over)
     ∙ ap whole_lines (same_front _ input more (over_more input over))
     ∙ ap (λ (b : Bool). if b then whole_lines (take most_used_bytes input) else input) (sym over)
 
-over_script : (input more : List ℕ) → is_over input ≡ true → script_of (input ++ more) ≡ script_of input
+over_script : (input more : List ℕ) → has_unused_bytes input ≡ true → script_of (input ++ more) ≡ script_of input
 unfolding script_of
 over_script input more over =
     ap (λ (b : Bool). script_from (not b) first_place 1 (lines (used (input ++ more)))) (still_over input more over ∙ sym over)
-    ∙ ap (λ (xs : List ℕ). script_from (not (is_over input)) first_place 1 (lines xs)) (over_used input more over)
+    ∙ ap (λ (xs : List ℕ). script_from (not (has_unused_bytes input)) first_place 1 (lines xs)) (over_used input more over)
 
-pub over_settled : (boards : ℕ) (input : List ℕ) → is_over input ≡ true → IsSettled boards input
+pub over_settled : (boards : ℕ) (input : List ℕ) → has_unused_bytes input ≡ true → IsSettled boards input
 over_settled boards input over = λ more.
     ap (λ (b : Bool). ending_from boards b (script_of (input ++ more))) (still_over input more over ∙ sym over)
-    ∙ ap (λ (s : Script). ending_from boards (is_over input) s) (over_script input more over)
+    ∙ ap (λ (s : Script). ending_from boards (has_unused_bytes input) s) (over_script input more over)
 
-over_whole : (input : List ℕ) (done rest : List Line) → is_over input ≡ true → done ++ rest ≡ (script_of input).lines → AreWhole input done
+over_whole : (input : List ℕ) (done rest : List Line) → has_unused_bytes input ≡ true → done ++ rest ≡ (script_of input).lines → AreWhole input done
 over_whole input done rest over front = λ more. (rest, front ∙ ap (λ (s : Script). s.lines) (sym (over_script input more over)))
 
 -- the lines that were done, and one that was begun
-pub over_done : (input : List ℕ) (done rest : List Line) (begun left : List Item) → is_over input ≡ true → done ++ rest ≡ (script_of input).lines → next_items done rest ≡ begun ++ left → DoneIsWhole input done rest begun
+pub over_done : (input : List ℕ) (done rest : List Line) (begun left : List Item) → has_unused_bytes input ≡ true → done ++ rest ≡ (script_of input).lines → next_items done rest ≡ begun ++ left → DoneIsWhole input done rest begun
 over_done input done rest [] left over lines parts = over_whole input done rest over lines
 over_done input done [] (x ∷ begun) left over lines parts = absurd (let e : [] ≡ x ∷ (begun ++ left) = parts in cc)
 over_done input done (line ∷ rest) (x ∷ begun) left over lines parts = over_whole input (done ++ line ∷ []) rest over (append_assoc done (line ∷ []) rest ∙ lines)

@@ -2,7 +2,8 @@
 use Rattle.std.specs.Prelude.{ℕ, List, Option}
 use Rattle.dg_nor.specs.Device.{Device}
 
--- what is left of the input, where that is told, how many reads failed, what was written, where that is told, how many writes failed, and the boards
+-- what is left of the input, where that is told, how many reads failed, what was written, where that is told,
+-- how many writes failed, and the boards
 pub record Around : Type 0 where
   pub left : Option (List ℕ)
   pub reads : ℕ
@@ -11,4 +12,10 @@ pub record Around : Type 0 where
   pub boards : List Device
 
 abbrev pub around : (left : Option (List ℕ)) (reads : ℕ) (written : Option (List ℕ)) (writes : ℕ) (boards : List Device) → Around
-around left reads written writes boards = record { left = left; reads = reads; written = written; writes = writes; boards = boards }
+around left reads written writes boards = record {
+  left = left;
+  reads = reads;
+  written = written;
+  writes = writes;
+  boards = boards;
+}

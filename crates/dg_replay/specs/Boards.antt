@@ -1,5 +1,6 @@
 -- What a replay leaves of the boards.
-use Rattle.std.specs.Prelude.{◌≡◌, ◌≢◌, ◌⊎◌, ℕ, ◌-◌, ◌<◌, ◌≤◌, Bool, true, false, List, [], ◌∷◌, length, slice_get, Option, Some, None, IfSome}
+use Rattle.std.specs.Prelude.{◌≡◌, ◌≢◌, ◌⊎◌, ℕ, ◌-◌, ◌<◌, ◌≤◌, Bool, true, false, List, [], ◌∷◌, length, slice_get, Option, Some}
+use Rattle.std.specs.Prelude.{None, IfSome}
 use Rattle.dg_words.specs.Counts.{Rose}
 use Rattle.dg_nor.specs.Device.{Device, Endures}
 use Rattle.dg_nor.specs.Fuse.{beneath_of}
@@ -22,9 +23,11 @@ use Rattle.dg_script.specs.Items.{Item, Happens}
 -- No count of a board fell, and a board is stopped only where it was, or where its count rose.
 pub record BoardsEndure (old new : List Device) : Type 0 where
   pub count : length new ≡ length old
-  pub endures : (m : ℕ) (a b : Device) → slice_get old m ≡ Some a → slice_get new m ≡ Some b → Endures (beneath_of a) (beneath_of b)
+  pub endures : (m : ℕ) (a b : Device) → slice_get old m ≡ Some a → slice_get new m ≡ Some b
+      → Endures (beneath_of a) (beneath_of b)
 
--- The boards of a world's motes stand for its stores, and did not come stopped. All others are as before, and no board's count rose: where one fails, that is told.
+-- The boards of a world's motes stand for its stores, and did not come stopped. All others are as before,
+-- and no board's count rose: where one fails, that is told.
 pub record WorldStands (w : World) (old new : List Device) : Type 0 where
   pub all : BoardsEndure old new
   pub calm : NoneRose old new
@@ -71,7 +74,8 @@ pub record StopsOn (trail : Trail Store) (cut : Option CutOfPower) (image : List
   pub uncut : IfSome cut (λ c. made ≤ c.after - 1)
   pub leaves : MayLeave Stands IsNear trail made image
 
--- The boards were only read up to this one, which stopped. Those before it are volumes, and did not come stopped. Those behind it are as before.
+-- The boards were only read up to this one, which stopped. Those before it are volumes, and did not come stopped.
+-- Those behind it are as before.
 pub record OthersMounted (board : ℕ) (old new : List Device) : Type 0 where
   pub mounted : MountedTo board old new
   pub read : SameBoards old new
@@ -88,7 +92,8 @@ abbrev pub ItemStops : List Item → Option World → (board : ℕ) → List ℕ
 ItemStops (Happens step loud ∷ left) (Some w) board image old new = EventStops w step board image old new
 ItemStops left last board image old new = ⊥
 
--- Where a board stopped in a line, of which these items are left: in formatting, in mounting, or in an event. No other line uses a board.
+-- Where a board stopped in a line, of which these items are left: in formatting, in mounting, or in an event.
+-- No other line uses a board.
 abbrev pub LineStops : Line → List Item → Option World → (board : ℕ) → List ℕ → (old new : List Device) → Type 0
 LineStops (Golden name used content) left None board image old new = OthersFormatted (fresh name content used) board old new
 LineStops Boards left None board image old new = OthersMounted board old new
@@ -100,14 +105,17 @@ BoardStops [] left None board image old new = ⊥
 BoardStops [] left (Some w) board image old new = Stands image (store_at w board) × OthersStand w board old new
 BoardStops (line ∷ rest) left last board image old new = LineStops line left last board image old new
 
--- A board of so many motes is stopped where a replay had come to this world, with these lines to do, and these items of the first of them.
-pub record StoppedIn (motes : ℕ) (rest : List Line) (left : List Item) (last : Option World) (old new : List Device) : Type 0 where
+-- A board of so many motes is stopped where a replay had come to this world, with these lines to do,
+-- and these items of the first of them.
+pub record StoppedIn (motes : ℕ) (rest : List Line) (left : List Item) (last : Option World) (old new : List Device) : Type
+    0 where
   pub stopped : BoardStopped motes old new
   pub there : BoardStops rest left last stopped.board stopped.after.image old new
 
 -- ---- a script that ends before its end
 
--- One of the boards of so many motes, which are used as they are, is no volume. Those before it are volumes, and did not come stopped. All were only read, those behind it are as before, and no board's count rose.
+-- One of the boards of so many motes, which are used as they are, is no volume. Those before it are volumes, and did not come
+-- stopped. All were only read, those behind it are as before, and no board's count rose.
 pub record NoVolumeIn (motes : ℕ) (old new : List Device) : Type 0 where
   pub board : ℕ
   pub at : NoVolumeAt board motes old new
@@ -126,7 +134,8 @@ abbrev pub InSome : Option World → (World → Type 0) → Type 0
 InSome None P = ⊥
 InSome (Some w) P = P w
 
--- The next item is an event, which finds no image to start. The boards stand for the world in which the run ends then, and no board's count rose.
+-- The next item is an event, which finds no image to start. The boards stand for the world in which the run ends then,
+-- and no board's count rose.
 pub record LacksImage (w : World) (left : List Item) (old new : List Device) : Type 0 where
   pub next : EventNext left
   pub after : World

@@ -1,5 +1,6 @@
 -- How the rules say that a script ends, by its bytes and the number of boards alone.
-use Rattle.std.specs.Prelude.{◌≡◌, ℕ, ◌≤◌, ◌==◌, nat_lt, Bool, true, false, not, if◌then◌else◌, List, [], ◌∷◌, ◌++◌, length, take, codes, Option, Some, None}
+use Rattle.std.specs.Prelude.{◌≡◌, ℕ, ◌≤◌, ◌==◌, nat_lt, Bool, true, false, not, if◌then◌else◌, List, [], ◌∷◌, ◌++◌, length, take}
+use Rattle.std.specs.Prelude.{codes, Option, Some, None}
 use Rattle.std.specs.Fmt.{decimal}
 use Rattle.std.specs.Str.Lines.{lines}
 use Rattle.dg_base.specs.declared.answers.Status.{Status}
@@ -25,16 +26,16 @@ whole_lines [] = []
 whole_lines (c ∷ cs) = up_to c (whole_lines cs)
 
 -- an input has more bytes than the 16,777,216 that are used
-abbrev pub is_over : List ℕ → Bool
-is_over input = nat_lt most_used_bytes (length input)
+abbrev pub has_unused_bytes : List ℕ → Bool
+has_unused_bytes input = nat_lt most_used_bytes (length input)
 
 -- the bytes that are used: all, or where there are more the lines that end within the first 16,777,216
 abbrev pub used : List ℕ → List ℕ
-used input = if is_over input then whole_lines (take most_used_bytes input) else input
+used input = if has_unused_bytes input then whole_lines (take most_used_bytes input) else input
 
 -- the script that an input spells
 unfoldable pub script_of : List ℕ → Script
-script_of input = script_from (not (is_over input)) first_place 1 (lines (used input))
+script_of input = script_from (not (has_unused_bytes input)) first_place 1 (lines (used input))
 
 -- how a script ends
 pub data Ending : Type 0 where
@@ -60,14 +61,16 @@ abbrev pub by_boards : Option ℕ → ℕ → Ending → Ending
 by_boards None boards other = other
 by_boards (Some motes) boards other = NoBoards motes boards
 
--- A script needs as many boards as it says that there are motes. Else it ends at the event after 1,000,000, else at its first fault, and else its length ends it where its input is too long.
+-- A script needs as many boards as it says that there are motes. Else it ends at the event after 1,000,000, else at its first
+-- fault, and else its length ends it where its input is too long.
 abbrev pub ending_from : ℕ → Bool → Script → Ending
 ending_from boards over script = by_boards (lacking boards script.lines) boards (by_events over script)
 
 abbrev pub ending_of : ℕ → List ℕ → Ending
-ending_of boards input = ending_from boards (is_over input) (script_of input)
+ending_of boards input = ending_from boards (has_unused_bytes input) (script_of input)
 
--- What was done does not go past the ending: there are boards for the motes of these lines, and no more than a million events among these items.
+-- What was done does not go past the ending: there are boards for the motes of these lines,
+-- and no more than a million events among these items.
 pub record InBounds (boards : ℕ) (done : List Line) (items : List Item) : Type 0 where
   pub boards_enough : lacking boards done ≡ None
   pub few_events : events_among items ≤ most_events

@@ -38,9 +38,12 @@ GivenPlayed (Err TooLong) P = ⊥
 GivenPlayed (Err (Stopped stop)) P = P (Err stop)
 
 -- what reading and playing the next line answers, where these are the bytes that were there and those that came
-abbrev pub NextPlayed : Result Bool Halt → (bytes : List ℕ) → (old new : Reading) → (at_end read_failed nothing : Type 0) → (P : Result (Unit {0}) Stop → (text : List ℕ) → Type 0) → Type 0
+abbrev pub NextPlayed : Result Bool Halt → (bytes : List ℕ) → (old new : Reading) → (at_end read_failed nothing : Type 0)
+    → (P : Result (Unit {0}) Stop → (text : List ℕ) → Type 0) → Type 0
 NextPlayed (Ok true) bytes old new at_end failed nothing P = Gives bytes old new at_end × P (Ok tt) new.text
 NextPlayed (Ok false) bytes old new at_end failed nothing P = IsAtEnd bytes old new at_end × nothing
-NextPlayed (Err ReadFault) bytes old new at_end failed nothing P = failed × HasNoEnd bytes × (old.passed + length bytes ≤ most_used_bytes) × nothing
+NextPlayed (Err ReadFault) bytes old new at_end failed nothing P =
+    failed × HasNoEnd bytes × (old.passed + length bytes ≤ most_used_bytes) × nothing
 NextPlayed (Err TooLong) bytes old new at_end failed nothing P = IsTooLong bytes old × nothing
-NextPlayed (Err (Stopped stop)) bytes old new at_end failed nothing P = (text : List ℕ) × (rest : List ℕ) × LineTaken bytes old at_end text rest × P (Err stop) text
+NextPlayed (Err (Stopped stop)) bytes old new at_end failed nothing P =
+    (text : List ℕ) × (rest : List ℕ) × LineTaken bytes old at_end text rest × P (Err stop) text

@@ -1,14 +1,16 @@
 -- What the lines of a script say of its run: where it begins, and what may come of it.
-use Rattle.std.specs.Prelude.{◌≡◌, ℕ, nat_lt, Bool, true, false, if◌then◌else◌, List, [], ◌∷◌, ◌++◌, replicate, slice_set, Option, Some, None, option_map}
+use Rattle.std.specs.Prelude.{◌≡◌, ℕ, nat_lt, Bool, true, false, if◌then◌else◌, List, [], ◌∷◌, ◌++◌, replicate, slice_set, Option}
+use Rattle.std.specs.Prelude.{Some, None, option_map}
 use Rattle.std.specs.List.{count_by, list_any}
 use Rattle.dg_object.specs.Object.{Row}
 use Rattle.dg_volume.specs.Store.{Store, fresh, golden_row}
 use Rattle.dg_base.specs.declared.events.Event.{Event}
 use Rattle.dg_base.specs.declared.events.Event.TheVariants.{Tick, Hear, Last, Reset, Inject, Order, Frame}
-use Rattle.dg_script.specs.Items.{Item, Declares, Happens as Happened, item_by, cut_behind, place_behind}
+use Rattle.dg_script.specs.Items.{Item, Declares, Happens as Happened, item_by, place_behind}
 use Rattle.dg_script.specs.Places.{first_place, none_narrow}
 use Rattle.dg_script.specs.declared.line.Line.{Line}
-use Rattle.dg_script.specs.declared.line.Line.TheVariants.{Nothing, Motes, Golden, Boards, Link, Narrow, Image, Cut, Happens, Round, Sweeps}
+use Rattle.dg_script.specs.declared.line.Line.TheVariants.{Nothing, Motes, Golden, Boards, Link, Narrow, Image, Cut, Happens}
+use Rattle.dg_script.specs.declared.line.Line.TheVariants.{Round, Sweeps}
 use Rattle.dg_rules.specs.World.{World, first_world}
 
 -- What a script does not say itself: what the boards of its motes stand for where they are used as they are, and the table
@@ -25,7 +27,8 @@ pub record Beginning : Type 0 where
 
 -- the world in which so many motes begin, whose boards are formatted with golden
 abbrev pub golden_world : (motes : ℕ) → (name : List ℕ) → (used : ℕ) → (content : List ℕ) → World
-golden_world motes name used content = first_world (golden_row name content ∷ []) [] none_narrow (replicate motes (fresh name content used))
+golden_world motes name used content =
+    first_world (golden_row name content ∷ []) [] none_narrow (replicate motes (fresh name content used))
 
 -- two motes become neighbours
 abbrev pub with_link : (ℕ × ℕ) → World → World
@@ -129,7 +132,7 @@ IsNoFrame (Sweeps n) = Unit {0}
 -- what the first of these lines does, behind others
 abbrev pub next_items : (done rest : List Line) → List Item
 next_items done [] = []
-next_items done (line ∷ rest) = item_by (place_behind first_place done) (cut_behind None done) line
+next_items done (line ∷ rest) = item_by (place_behind first_place done) line
 
 abbrev pub is_event : Item → Bool
 is_event (Declares row) = false

@@ -8,7 +8,6 @@ pub mod Around
 pub mod Outcome
 pub mod Promised
 pub mod Done
-pub mod Steps
 pub mod Playing
 pub mod Replaying
 pub mod Following

@@ -13,5 +13,5 @@ behind_lines zero bytes = bytes
 behind_lines (suc n) bytes = behind_line (behind_lines n bytes)
 
 -- no more than 300,002 bytes stand behind this line
-abbrev pub IsNear : (line : ℕ) → List ℕ → Type 0
-IsNear line bytes = length (behind_lines line bytes) ≤ most_kept
+abbrev pub FewBytesBehind : (line : ℕ) → List ℕ → Type 0
+FewBytesBehind line bytes = length (behind_lines line bytes) ≤ most_kept

@@ -1,11 +1,13 @@
 -- What a replay did: the items that it played, what it wrote, and how it left the boards.
-use Rattle.std.specs.Prelude.{◌≡◌, ◌≢◌, ◌⊎◌, ℕ, ◌+◌, ◌<◌, ◌≤◌, false, List, [], ◌∷◌, ◌++◌, length, map, take, codes, slice_get, Option, Some, None}
+use Rattle.std.specs.Prelude.{◌≡◌, ◌≢◌, ◌⊎◌, ℕ, ◌+◌, ◌<◌, ◌≤◌, false, List, [], ◌∷◌, ◌++◌, length, map, take, codes, slice_get}
+use Rattle.std.specs.Prelude.{Option, Some, None}
 use Rattle.std.specs.Str.Lines.{lines}
 use Rattle.std.specs.List.{flat_map}
 use Rattle.dg_words.specs.Counts.{Rose}
 use Rattle.dg_base.specs.Outside.{Takes, Puts, AtEnd}
 use Rattle.dg_base.specs.declared.answers.Status.{Status}
-use Rattle.dg_base.specs.declared.answers.Status.TheVariants.{Done, Memory, BadInput, ReadFault, WriteFault, FlashFault, NotAVolume, TooLong, TooMany, NoBoard, NoImage}
+use Rattle.dg_base.specs.declared.answers.Status.TheVariants.{Done, Memory, BadInput, ReadFault, WriteFault, FlashFault}
+use Rattle.dg_base.specs.declared.answers.Status.TheVariants.{NotAVolume, TooLong, TooMany, NoBoard, NoImage}
 use Rattle.dg_nor.specs.Device.{Device}
 use Rattle.dg_script.specs.Report.{report_text}
 use Rattle.dg_script.specs.Fitting.{UsesBoard}
@@ -21,13 +23,14 @@ use Rattle.dg_rules.specs.Changes.{final_lines}
 use Rattle.dg_rules.specs.Runs.{Played, Plays}
 use Rattle.dg_rules.specs.Begins.{AreShaped}
 use Rattle.dg_script.specs.Items.{Item, items_of}
-use Rattle.dg_replay.specs.Near.{IsNear}
+use Rattle.dg_replay.specs.Near.{FewBytesBehind}
 use Rattle.dg_volume.specs.Stands.{IsVolume}
 use Rattle.dg_world.specs.Mounted.{StandFor}
 use Rattle.dg_replay.specs.Boards.{BoardsStand, BoardStopped, StoppedIn, EventNext, InSome, NoVolumeIn, LacksImage}
 use Rattle.dg_replay.specs.Items.{Ground, UsesBoards, beginning_of, motes_in, next_items, events_among}
 use Rattle.dg_replay.specs.Around.{Around}
-use Rattle.dg_replay.specs.Ending.{Ending, Ends, NoBoards, TooManyEvents, FaultAt, Over, InBounds, whole_lines, ending_of, ending_line, status_of, script_of}
+use Rattle.dg_replay.specs.Ending.{Ending, Ends, NoBoards, TooManyEvents, FaultAt, Over, InBounds, whole_lines, ending_of}
+use Rattle.dg_replay.specs.Ending.{ending_line, status_of, script_of}
 
 abbrev pub item_played : Played → Item
 item_played p = p.item
@@ -41,7 +44,8 @@ abbrev pub RunsTo : Option World → List Played → Option World → Type 0
 RunsTo None played last = (played ≡ []) × (last ≡ None)
 RunsTo (Some w) played last = (v : World) × (last ≡ Some v) × Plays w played v
 
--- what the boards of so many motes stand for where they are used as they are, held against this table: a store for each, in its shape
+-- what the boards of so many motes stand for where they are used as they are, held against this table: a store for each,
+-- in its shape
 pub record IsGround (g : Ground) (table : List Row) (motes : ℕ) : Type 0 where
   pub held : g.table ≡ table
   pub count : length g.stores ≡ motes
@@ -82,7 +86,8 @@ pub record AtTooMany (left : List Item) (played : List Played) : Type 0 where
   pub events : events_among (map item_played played) ≡ most_events
   pub next : EventNext left
 
--- What comes before the ending was played: everything, up to the `motes` line where boards are missing, and a million events where there are more.
+-- What comes before the ending was played: everything, up to the `motes` line where boards are missing,
+-- and a million events where there are more.
 abbrev pub ReachesEnding : {table : List Row} {script : Script} → Ending → Progress table script → Type 0
 ReachesEnding (NoBoards motes boards) c = (more : List Line) × (c.rest ≡ Motes motes ∷ more)
 ReachesEnding TooManyEvents c = AtTooMany c.left c.played
@@ -91,7 +96,8 @@ ReachesEnding (FaultAt line fault) c = c.rest ≡ []
 ReachesEnding Over c = c.rest ≡ []
 
 -- the report of the script, up to its end
-pub record IsWholeReport {table : List Row} {script : Script} (ending : Ending) (c : Progress table script) (text : List ℕ) : Type 0 where
+pub record IsWholeReport {table : List Row} {script : Script} (ending : Ending) (c : Progress table script)
+    (text : List ℕ) : Type 0 where
   pub all : ReachesEnding ending c
   pub told : text ≡ played_text c.played ++ closing ending c.last
 
@@ -107,14 +113,19 @@ no_volume_line = codes "notavolume" ++ 10 ∷ []
 abbrev pub no_image_line : List ℕ
 no_image_line = codes "noimage" ++ 10 ∷ []
 
--- Boards that are used as they are end the replay there with this line: the next line uses them, or the next item is an event behind such a line.
+-- Boards that are used as they are end the replay there with this line: the next line uses them,
+-- or the next item is an event behind such a line.
 abbrev pub BoardsEndIt : {table : List Row} {script : Script} → Progress table script → List ℕ → Type 0
-BoardsEndIt c line = ((more : List Line) × (c.rest ≡ Boards ∷ more) × (line ≡ no_volume_line)) ⊎ (UsesBoards c.done × EventNext c.left × (line ≡ no_image_line))
+BoardsEndIt c line = ((more : List Line) × (c.rest ≡ Boards ∷ more) × (line ≡ no_volume_line))
+    ⊎ (UsesBoards c.done × EventNext c.left × (line ≡ no_image_line))
 
 -- a front of the report, whose end may have begun
-pub record IsFrontOfReport {table : List Row} {script : Script} (ending : Ending) (c : Progress table script) (text : List ℕ) : Type 0 where
+pub record IsFrontOfReport {table : List Row} {script : Script} (ending : Ending) (c : Progress table script)
+    (text : List ℕ) : Type 0 where
   pub more : List ℕ
-  pub front : ((text ++ more) ≡ played_text c.played) ⊎ (IsWholeReport ending c (text ++ more) ⊎ ((line : List ℕ) × BoardsEndIt c line × ((text ++ more) ≡ played_text c.played ++ line)))
+  pub front : ((text ++ more) ≡ played_text c.played)
+      ⊎ (IsWholeReport ending c (text ++ more) ⊎ ((line : List ℕ) × BoardsEndIt c line
+      × ((text ++ more) ≡ played_text c.played ++ line)))
 
 -- A board is used by the next line, or in reading what the end of the report tells.
 abbrev pub StopsAt : Ending → List Line → Type 0
@@ -150,10 +161,12 @@ pub record NoVolumeThere {table : List Row} {script : Script} (c : Progress tabl
 abbrev pub NoImageThere : {table : List Row} {script : Script} → Progress table script → (old new : List Device) → Type 0
 NoImageThere c old new = InSome c.last (λ w. LacksImage w c.left old new)
 
--- How the boards are left. Where a board stops within a round or sweeps, what is told of the events before it may fail to be written, and so may the last line where boards that are used as they are end the replay.
+-- How the boards are left. Where a board stops within a round or sweeps, what is told of the events before it may fail to be
+-- written, and so may the last line where boards that are used as they are end the replay.
 abbrev pub BoardsLeft : {table : List Row} {script : Script} → Status → Progress table script → (old new : List Device) → Type 0
 BoardsLeft FlashFault c old new = BoardStoppedThere c old new
-BoardsLeft WriteFault c old new = BoardsStand c.last old new ⊎ (((c.begun ≢ []) × BoardStoppedThere c old new) ⊎ (NoVolumeThere c old new ⊎ (UsesBoards c.done × NoImageThere c old new)))
+BoardsLeft WriteFault c old new = BoardsStand c.last old new
+    ⊎ (((c.begun ≢ []) × BoardStoppedThere c old new) ⊎ (NoVolumeThere c old new ⊎ (UsesBoards c.done × NoImageThere c old new)))
 BoardsLeft NotAVolume c old new = NoVolumeThere c old new
 BoardsLeft NoImage c old new = NoImageThere c old new
 BoardsLeft _ c old new = BoardsStand c.last old new
@@ -168,7 +181,8 @@ IsCaused NotAVolume ending r w b n i = n
 IsCaused NoImage ending r w b n i = i
 IsCaused status ending r w b n i = status ≡ status_of ending
 
--- what a replay of a script in its limits answers, whose boards do not stop: it is done, or memory ran out, or boards that are used as they are lack an image
+-- what a replay of a script in its limits answers, whose boards do not stop: it is done, or memory ran out,
+-- or boards that are used as they are lack an image
 abbrev pub IsComplete : (uses : Type 0) → Status → Type 0
 IsComplete uses status = (status ≡ Done) ⊎ ((status ≡ Memory) ⊎ ((status ≡ NoImage) × uses))
 
@@ -203,12 +217,17 @@ pub record AllRead (texts : List (List ℕ)) (done : List Line) : Type 0 where
 abbrev pub AllWhole : List ℕ → List Line → Type 0
 AllWhole input done = AllRead (lines (whole_lines input)) done
 
--- What was taken of the input is enough for what was done. A status of the rules is that of every input that begins with these bytes, or the input is at its end.
--- A read that failed leaves all whole lines done. Another fault and want of memory leave only whole lines done and begun, or the input is at its end; the line in which a board stopped is whole too.
-abbrev pub ReadEnough : {table : List Row} {script : Script} → Status → (boards : ℕ) → (input : List ℕ) → (at_end : Type 0) → Progress table script → (text : List ℕ) → Type 0
+-- What was taken of the input is enough for what was done.
+-- A status of the rules is that of every input that begins with these bytes, or the input is at its end.
+-- A read that failed leaves all whole lines done. Another fault and want of memory leave only whole lines done and begun, or the
+-- input is at its end; the line in which a board stopped is whole too.
+abbrev pub ReadEnough : {table : List Row} {script : Script} → Status → (boards : ℕ) → (input : List ℕ) → (at_end : Type 0)
+    → Progress table script → (text : List ℕ) → Type 0
 ReadEnough Memory boards input at_end c text = at_end ⊎ DoneIsWhole input c.done c.rest c.begun
 ReadEnough ReadFault boards input at_end c text = AreWhole input c.done × AllWhole input c.done
-ReadEnough WriteFault boards input at_end c text = at_end ⊎ (IsSettled boards input ⊎ ((DoneIsWhole input c.done c.rest c.begun × IsFrontOfLines c.played text) ⊎ ((line : List ℕ) × BoardsEndIt c line × NextIsWhole input c.done c.rest)))
+ReadEnough WriteFault boards input at_end c text = at_end
+    ⊎ (IsSettled boards input ⊎ ((DoneIsWhole input c.done c.rest c.begun × IsFrontOfLines c.played text)
+    ⊎ ((line : List ℕ) × BoardsEndIt c line × NextIsWhole input c.done c.rest)))
 ReadEnough FlashFault boards input at_end c text = at_end ⊎ NextIsWhole input c.done c.rest
 ReadEnough NotAVolume boards input at_end c text = at_end ⊎ NextIsWhole input c.done c.rest
 ReadEnough NoImage boards input at_end c text = at_end ⊎ NextIsWhole input c.done c.rest
@@ -219,32 +238,37 @@ abbrev pub told_of : {table : List Row} {script : Script} → ℕ → Progress t
 told_of n c = played_text (take (length (items_of (take n c.done))) c.played)
 
 -- All that is told of some first lines was written, and what was taken of the input ends near the line behind them.
-pub record ToldAndNear {table : List Row} {script : Script} (input : List ℕ) (c : Progress table script) (text : List ℕ) : Type 0 where
+pub record ToldAndNear {table : List Row} {script : Script} (input : List ℕ) (c : Progress table script)
+    (text : List ℕ) : Type 0 where
   pub lines : ℕ
   pub within : lines ≤ length c.done
   pub more : List ℕ
   pub told : text ≡ told_of lines c ++ more
-  pub near : IsNear (lines + 1) input
+  pub near : FewBytesBehind (lines + 1) input
 
 -- what was taken ends near the line whose fault is the ending
 abbrev pub EndsNear : Ending → (input : List ℕ) → Type 0
-EndsNear (FaultAt line fault) input = IsNear line input
+EndsNear (FaultAt line fault) input = FewBytesBehind line input
 EndsNear ending input = Unit {0}
 
 -- All that is told before the end of the report was written, and the end was begun.
-pub record EndBegun {table : List Row} {script : Script} (ending : Ending) (input : List ℕ) (c : Progress table script) (text : List ℕ) : Type 0 where
+pub record EndBegun {table : List Row} {script : Script} (ending : Ending) (input : List ℕ) (c : Progress table script)
+    (text : List ℕ) : Type 0 where
   pub all : ReachesEnding ending c
   pub more : List ℕ
   pub told : text ≡ played_text c.played ++ more
   pub near : EndsNear ending input
 
--- Not much more was taken than the lines that were needed: no more than 300,002 bytes behind a line with a fault, and behind the first line whose report was not wholly written.
-abbrev pub ReadsNear : {table : List Row} {script : Script} → Status → Ending → (input : List ℕ) → Progress table script → (text : List ℕ) → Type 0
-ReadsNear BadInput (FaultAt line fault) input c text = IsNear line input
+-- Not much more was taken than the lines that were needed: no more than 300,002 bytes behind a line with a fault,
+-- and behind the first line whose report was not wholly written.
+abbrev pub ReadsNear : {table : List Row} {script : Script} → Status → Ending → (input : List ℕ) → Progress table script
+    → (text : List ℕ) → Type 0
+ReadsNear BadInput (FaultAt line fault) input c text = FewBytesBehind line input
 ReadsNear WriteFault ending input c text = ToldAndNear input c text ⊎ EndBegun ending input c text
 ReadsNear _ ending input c text = Unit {0}
 
--- What a replay did. Some bytes were taken from the source: the bytes left before it and after it, where they are told, say which. What was written is told in the same way.
+-- What a replay did. Some bytes were taken from the source: the bytes left before it and after it, where they are told,
+-- say which. What was written is told in the same way.
 pub record Replayed (table : List Row) (status : Status) (a b : Around) : Type 0 where
   -- what was taken of the input, whatever comes of it: no more than one byte past those that are used
   pub input : List ℕ
@@ -266,7 +290,8 @@ pub record Replayed (table : List Row) (status : Status) (a b : Around) : Type 0
   pub boards : BoardsLeft status came a.boards b.boards
   -- the status is the one that the rules give to the input, but for want of memory and faults of the outside
   pub caused : IsCaused status (ending_of (length a.boards) input) (Rose a.reads b.reads) (Rose a.writes b.writes)
-      (BoardStopped (motes_in came.done) a.boards b.boards) (NoVolumeThere came a.boards b.boards) (UsesBoards came.done × NoImageThere came a.boards b.boards)
+      (BoardStopped (motes_in came.done) a.boards b.boards) (NoVolumeThere came a.boards b.boards) (UsesBoards came.done
+      × NoImageThere came a.boards b.boards)
   -- a read or a write that fails is always told: its count rises with its own answer alone
   pub read_faults : status ≢ ReadFault → b.reads ≡ a.reads
   pub write_faults : status ≢ WriteFault → b.writes ≡ a.writes

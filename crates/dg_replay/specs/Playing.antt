@@ -1,5 +1,6 @@
 -- What playing the items of a line, and the line, does.
-use Rattle.std.specs.Prelude.{◌≡◌, ◌⊎◌, ℕ, ◌<◌, ◌≤◌, true, false, List, [], ◌∷◌, ◌++◌, length, map, Option, Some, None, slice_get, IfSome, OnOk, OnErr, Result, Ok, Err}
+use Rattle.std.specs.Prelude.{◌≡◌, ◌⊎◌, ℕ, ◌<◌, ◌≤◌, true, false, List, [], ◌∷◌, ◌++◌, length, map, Option, Some, None, slice_get}
+use Rattle.std.specs.Prelude.{IfSome, OnOk, Result, Ok, Err}
 use Rattle.std.specs.List.{AllByRecursion}
 use Rattle.dg_nor.specs.Device.{Device}
 use Rattle.dg_script.specs.Fitting.{FitsCut, FitsLine, StandsAt, IsPlayed, UsesBoard}
@@ -25,14 +26,15 @@ use Rattle.dg_world.specs.Formatted.{FirstBoards, FormatStops}
 use Rattle.dg_world.specs.declared.format.FormatStopped.{FormatStopped}
 use Rattle.dg_world.specs.Worlds.{IsWorld}
 use Rattle.dg_world.specs.declared.world.World.{World as KeptWorld}
-use Rattle.dg_replay.specs.Boards.{WorldStands, BoardsStand, BoardStopped, ItemStops, StoppedIn, EventNext, InSome, NoVolumeIn, LacksImage}
-use Rattle.dg_script.specs.Items.{Item, Declares, Happens as Happened, item_by, items_of, cut_behind, place_behind}
-use Rattle.dg_replay.specs.Items.{Ground, UsesBoards, beginning_of, motes_in, lacking_by, with_link}
+use Rattle.dg_replay.specs.Boards.{WorldStands, BoardsStand, BoardStopped, ItemStops, StoppedIn, EventNext, InSome, NoVolumeIn}
+use Rattle.dg_replay.specs.Boards.{LacksImage}
+use Rattle.dg_script.specs.Items.{Item, Declares, Happens as Happened, item_by, items_of, place_behind}
+use Rattle.dg_replay.specs.Items.{Ground, UsesBoards, beginning_of, motes_in, lacking_by}
 use Rattle.dg_replay.specs.Outcome.{IsGround, item_played, played_text, RunsTo}
 use Rattle.dg_replay.specs.declared.player.Player.{Player}
-use Rattle.dg_replay.specs.declared.player.Stage.TheVariants.{Waiting, Playing}
 use Rattle.dg_replay.specs.declared.stop.Stop.{Stop}
-use Rattle.dg_replay.specs.declared.stop.Stop.TheVariants.{Memory, BadInput, WriteFault, FlashFault, TooMany, NoBoard, NoImage, NotAVolume}
+use Rattle.dg_replay.specs.declared.stop.Stop.TheVariants.{Memory, BadInput, WriteFault, FlashFault, TooMany, NoBoard, NoImage}
+use Rattle.dg_replay.specs.declared.stop.Stop.TheVariants.{NotAVolume}
 
 -- ---- items
 
@@ -45,7 +47,8 @@ pub record ItemsRun (w : World) (items : List Item) (v : World) (text : List ℕ
   pub few : v.events ≤ most_events
 
 -- Items were played, and the boards, which were `initial` when the replay began, stand for the world then.
-pub record ItemsPlayed (w : World) (items : List Item) (kept : KeptWorld) (initial now : List Device) (told_before told : List ℕ) : Type 0 where
+pub record ItemsPlayed (w : World) (items : List Item) (kept : KeptWorld) (initial now : List Device)
+    (told_before told : List ℕ) : Type 0 where
   pub world : World
   pub text : List ℕ
   pub runs : ItemsRun w items world text
@@ -53,7 +56,8 @@ pub record ItemsPlayed (w : World) (items : List Item) (kept : KeptWorld) (initi
   pub boards : WorldStands world initial now
   pub told_now : told ≡ told_before ++ text
 
--- Of these items the first were played, and P holds of the world then, of those that are left, and of what is told of those that were played.
+-- Of these items the first were played, and P holds of the world then, of those that are left,
+-- and of what is told of those that were played.
 pub record ItemsBegun (w : World) (items : List Item) (P : World → (left : List Item) → (text : List ℕ) → Type 0) : Type 0 where
   pub begun : List Item
   pub left : List Item
@@ -74,20 +78,26 @@ pub record StopsInItem (w : World) (left : List Item) (initial now : List Device
   pub there : ItemStops left (Some w) stopped.board stopped.after.image initial now
 
 -- what playing items answers
-abbrev pub ItemsPlayedAs : Result (Unit {0}) Stop → World → List Item → KeptWorld → (initial now : List Device) → (told_before told : List ℕ) → Type 0
+abbrev pub ItemsPlayedAs : Result (Unit {0}) Stop → World → List Item → KeptWorld → (initial now : List Device)
+    → (told_before told : List ℕ) → Type 0
 ItemsPlayedAs (Ok u) w items kept initial now told_before told = ItemsPlayed w items kept initial now told_before told
-ItemsPlayedAs (Err Memory) w items kept initial now told_before told = ItemsBegun w items (λ v left text. WorldStands v initial now)
-ItemsPlayedAs (Err TooMany) w items kept initial now told_before told = ItemsBegun w items (λ v left text. IsOneTooMany v left × WorldStands v initial now × (told ≡ told_before ++ text))
-ItemsPlayedAs (Err FlashFault) w items kept initial now told_before told = ItemsBegun w items (λ v left text. StopsInItem v left initial now × (told ≡ told_before ++ text))
-ItemsPlayedAs (Err NoImage) w items kept initial now told_before told = ItemsBegun w items (λ v left text. LacksImage v left initial now × (told ≡ told_before ++ text))
+ItemsPlayedAs (Err Memory) w items kept initial now told_before told =
+    ItemsBegun w items (λ v left text. WorldStands v initial now)
+ItemsPlayedAs (Err TooMany) w items kept initial now told_before told =
+    ItemsBegun w items (λ v left text. IsOneTooMany v left × WorldStands v initial now × (told ≡ told_before ++ text))
+ItemsPlayedAs (Err FlashFault) w items kept initial now told_before told =
+    ItemsBegun w items (λ v left text. StopsInItem v left initial now × (told ≡ told_before ++ text))
+ItemsPlayedAs (Err NoImage) w items kept initial now told_before told =
+    ItemsBegun w items (λ v left text. LacksImage v left initial now × (told ≡ told_before ++ text))
 ItemsPlayedAs (Err NotAVolume) w items kept initial now told_before told = ⊥
 ItemsPlayedAs (Err (NoBoard motes boards)) w items kept initial now told_before told = ⊥
 ItemsPlayedAs (Err (BadInput n fault)) w items kept initial now told_before told = ⊥
 ItemsPlayedAs (Err WriteFault) w items kept initial now told_before told = ⊥
 
 -- the world that is kept stands for one with as many motes as before
-abbrev pub GoesOn : Result (Unit {0}) Stop → (before after : KeptWorld) → (old new : List Device) → Type 0
-GoesOn result before after old new = OnOk result ((w : World) → IsWorld before old w → (v : World) × IsWorld after new v × (length v.sites ≡ length w.sites))
+abbrev pub KeepsMotes : Result (Unit {0}) Stop → (before after : KeptWorld) → (old new : List Device) → Type 0
+KeepsMotes result before after old new =
+    OnOk result ((w : World) → IsWorld before old w → (v : World) × IsWorld after new v × (length v.sites ≡ length w.sites))
 
 -- ---- the player
 
@@ -99,10 +109,11 @@ Counted motes boards = (1 ≤ motes) × (motes ≤ most_motes) × (motes ≤ boa
 abbrev pub Seated : Place → ℕ → Type 0
 Seated place boards = 0 < place.motes → Counted place.motes boards
 
--- the world that is kept is this one, None before the boards are formatted
+-- the world that is kept is this one, None before the boards are used
 abbrev pub InWorld : Player → Option World → List Device → Type 0
-InWorld p None boards = (p.stage ≡ Waiting) × (p.place.ready ≡ false)
-InWorld p (Some w) boards = (v : KeptWorld) × (p.stage ≡ Playing v) × IsWorld v boards w × (length w.sites ≡ p.place.motes) × (p.place.ready ≡ true) × (0 < p.place.motes)
+InWorld p None boards = p.place.ready ≡ false
+InWorld p (Some w) boards =
+    IsWorld p.world boards w × (length w.sites ≡ p.place.motes) × (p.place.ready ≡ true) × (0 < p.place.motes)
 
 -- every link joins two motes
 abbrev pub Joined : Place → Type 0
@@ -118,8 +129,7 @@ pub record Stood (p : Player) (done : List Line) (w : Option World) (initial now
   pub seats : Seated p.place (length now)
   pub place : p.place ≡ place_behind first_place done
   pub links : Joined p.place
-  pub cut : p.cut ≡ cut_behind None done
-  pub cut_fits : IfSome p.cut FitsCut
+  pub cut_fits : IfSome p.place.cut FitsCut
   pub motes : p.place.motes ≡ motes_in done
   -- before the first event, all that was played was declared
   pub early : p.place.events ≡ false → AllByRecursion IsDeclaration (items_of done)
@@ -130,24 +140,20 @@ pub record Stood (p : Player) (done : List Line) (w : Option World) (initial now
 pub record Ready (p : Player) (boards : List Device) : Type 0 where
   pub seats : Seated p.place (length boards)
   pub links : Joined p.place
-  pub cut_fits : IfSome p.cut FitsCut
+  pub cut_fits : IfSome p.place.cut FitsCut
   pub world : Option World
   pub kept : InWorld p world boards
 
--- The place of a player went on behind a line, and nothing else.
-pub record Passed (p q : Player) (line : Line) : Type 0 where
-  pub place : q.place ≡ place_after p.place line
-  pub cut : q.cut ≡ p.cut
-  pub stage : q.stage ≡ p.stage
-
--- A line may be played, behind which the place went on already.
-pub record MayPlay (line : Line) (q : Player) (boards : List Device) : Type 0 where
-  pub before : Player
-  pub passed : Passed before q line
-  pub ready : Ready before boards
-  pub stands : StandsAt before.place line
-  pub fits : FitsLine before.place.motes line
+-- A line may be played where the player stands.
+pub record MayPlay (line : Line) (p : Player) (boards : List Device) : Type 0 where
+  pub ready : Ready p boards
+  pub stands : StandsAt p.place line
+  pub fits : FitsLine p.place.motes line
   pub played : IsPlayed line
+
+-- the player whose place went on behind a line
+abbrev pub gone_on : Player → Line → Player
+gone_on p line = record p { place = place_after p.place line }
 
 -- ---- a line
 
@@ -156,7 +162,8 @@ abbrev pub Grounded : (table : List Row) → (initial : List Device) → Ground 
 Grounded table initial g done = UsesBoards done → IsGround g table (motes_in done) × StandFor (motes_in done) g.stores initial
 
 -- The run behind a line: its items are those of the lines up to this one, and it tells this text behind what was told before.
-pub record RunsOn (table : List Row) (initial : List Device) (done : List Line) (line : Line) (v : Option World) (text : List ℕ) (played : List Played) : Type 0 where
+pub record RunsOn (table : List Row) (initial : List Device) (done : List Line) (line : Line) (v : Option World)
+    (text : List ℕ) (played : List Played) : Type 0 where
   pub now : List Played
   pub items : map item_played now ≡ items_of (done ++ line ∷ [])
   pub ground : Ground
@@ -168,11 +175,15 @@ pub record RunsOn (table : List Row) (initial : List Device) (done : List Line) 
 
 -- What a line behind others makes of a run that leads to a world. Behind a link or a narrow mote it is the run of the same
 -- items from a world that has it.
-abbrev pub LineRuns : (table : List Row) → (initial : List Device) → (done : List Line) → (line : Line) → (w v : Option World) → (text : List ℕ) → Type 0
-LineRuns table initial done line w v text = (g : Ground) (played : List Played) → Grounded table initial g done → map item_played played ≡ items_of done → RunsTo (beginning_of g done).world played w → RunsOn table initial done line v text played
+abbrev pub LineRuns : (table : List Row) → (initial : List Device) → (done : List Line) → (line : Line)
+    → (w v : Option World) → (text : List ℕ) → Type 0
+LineRuns table initial done line w v text = (g : Ground) (played : List Played) → Grounded table initial g done
+    → map item_played played ≡ items_of done → RunsTo (beginning_of g done).world played w
+    → RunsOn table initial done line v text played
 
 -- A line was played, and this is told of it.
-pub record PlayedLine (table : List Row) (q : Player) (done : List Line) (w : Option World) (line : Line) (told_before told : List ℕ) (initial now : List Device) : Type 0 where
+pub record PlayedLine (table : List Row) (q : Player) (done : List Line) (w : Option World) (line : Line)
+    (told_before told : List ℕ) (initial now : List Device) : Type 0 where
   pub world : Option World
   pub text : List ℕ
   pub told_now : told ≡ told_before ++ text
@@ -185,11 +196,13 @@ abbrev pub RunsFrom : Option World → List Item → Option World → List ℕ �
 RunsFrom None items v text = (items ≡ []) × (v ≡ None) × (text ≡ [])
 RunsFrom (Some w) items v text = (u : World) × (v ≡ Some u) × ItemsRun w items u text
 
--- A line behind others was begun: of its items the first were played, and P holds of the world then, of those that are left, and of what is told of those that were played.
-pub record LineBegun (done : List Line) (line : Line) (w : Option World) (P : Option World → (left : List Item) → (text : List ℕ) → Type 0) : Type 0 where
+-- A line behind others was begun: of its items the first were played, and P holds of the world then, of those that are left,
+-- and of what is told of those that were played.
+pub record LineBegun (done : List Line) (line : Line) (w : Option World) (P : Option World → (left : List Item)
+    → (text : List ℕ) → Type 0) : Type 0 where
   pub begun : List Item
   pub left : List Item
-  pub parts : item_by (place_behind first_place done) (cut_behind None done) line ≡ begun ++ left
+  pub parts : item_by (place_behind first_place done) line ≡ begun ++ left
   pub world : Option World
   pub text : List ℕ
   pub runs : RunsFrom w begun world text
@@ -203,21 +216,31 @@ pub record LacksBoards (line : Line) (motes boards : ℕ) (initial old new : Lis
   pub same : new ≡ old
 
 -- what playing a line answers, from a player and boards that stand for world w behind these lines
-abbrev pub PlayedAs : (table : List Row) → Result (Unit {0}) Stop → Player → List Line → Option World → Line → (told_before told : List ℕ) → (initial old new : List Device) → Type 0
+abbrev pub PlayedAs : (table : List Row) → Result (Unit {0}) Stop → Player → List Line → Option World → Line
+    → (told_before told : List ℕ) → (initial old new : List Device) → Type 0
 PlayedAs table (Ok u) q done w line told_before told initial old new = PlayedLine table q done w line told_before told initial new
-PlayedAs table (Err Memory) q done w line told_before told initial old new = LineBegun done line w (λ v left text. BoardsStand v initial new)
-PlayedAs table (Err (NoBoard motes boards)) q done w line told_before told initial old new = LacksBoards line motes boards initial old new
-PlayedAs table (Err FlashFault) q done w line told_before told initial old new = UsesBoard line × LineBegun done line w (λ v left text. StoppedIn (motes_in done) (line ∷ []) left v initial new × (told ≡ told_before ++ text))
-PlayedAs table (Err TooMany) q done w line told_before told initial old new = LineBegun done line w (λ v left text. InSome v (λ u. IsOneTooMany u left) × BoardsStand v initial new × (told ≡ told_before ++ text))
-PlayedAs table (Err NoImage) q done w line told_before told initial old new = LineBegun done line w (λ v left text. InSome v (λ u. LacksImage u left initial new) × (told ≡ told_before ++ text))
-PlayedAs table (Err NotAVolume) q done w line told_before told initial old new = (line ≡ Boards) × NoVolumeIn (motes_in done) initial new
+PlayedAs table (Err Memory) q done w line told_before told initial old new =
+    LineBegun done line w (λ v left text. BoardsStand v initial new)
+PlayedAs table (Err (NoBoard motes boards)) q done w line told_before told initial old new =
+    LacksBoards line motes boards initial old new
+PlayedAs table (Err FlashFault) q done w line told_before told initial old new = UsesBoard line
+    × LineBegun done line w (λ v left text. StoppedIn (motes_in done) (line ∷ []) left v initial new
+    × (told ≡ told_before ++ text))
+PlayedAs table (Err TooMany) q done w line told_before told initial old new =
+    LineBegun done line w (λ v left text. InSome v (λ u. IsOneTooMany u left) × BoardsStand v initial new
+    × (told ≡ told_before ++ text))
+PlayedAs table (Err NoImage) q done w line told_before told initial old new =
+    LineBegun done line w (λ v left text. InSome v (λ u. LacksImage u left initial new) × (told ≡ told_before ++ text))
+PlayedAs table (Err NotAVolume) q done w line told_before told initial old new =
+    (line ≡ Boards) × NoVolumeIn (motes_in done) initial new
 PlayedAs table (Err (BadInput n fault)) q done w line told_before told initial old new = ⊥
 PlayedAs table (Err WriteFault) q done w line told_before told initial old new = ⊥
 
 -- ---- the parts of a line
 
 -- what formatting the boards of so many motes answers
-pub record FormattedAs (result : Result (Unit {0}) FormatStopped) (motes : ℕ) (chip : Store) (old new : List Device) : Type 0 where
+pub record FormattedAs (result : Result (Unit {0}) FormatStopped) (motes : ℕ) (chip : Store) (old new : List Device) : Type
+    0 where
   pub formatted : OnOk result ((m : ℕ) (d : Device) → m < motes → slice_get new m ≡ Some d → Stands d.image chip)
   pub calm : OnOk result (NoneRose old new)
   pub awake : OnOk result ((m : ℕ) (d : Device) → m < motes → slice_get old m ≡ Some d → d.stopped ≡ false)
@@ -231,15 +254,11 @@ mount_stop (NoVolume board) = NotAVolume
 
 -- what mounting the boards of so many motes answers
 pub record MountedAs (result : Result (Unit {0}) MountStopped) (motes : ℕ) (old new : List Device) : Type 0 where
-  pub stands : OnOk result ((stores : List Store) × StandFor motes stores new × ((m : ℕ) → m < motes → IsShaped (store_of stores m)))
+  pub stands : OnOk result ((stores : List Store) × StandFor motes stores new
+      × ((m : ℕ) → m < motes → IsShaped (store_of stores m)))
   pub calm : OnOk result (NoneRose old new)
   pub awake : OnOk result ((m : ℕ) (d : Device) → m < motes → slice_get old m ≡ Some d → d.stopped ≡ false)
   pub read : SameBoards old new
   pub others : (m : ℕ) → motes ≤ m → slice_get new m ≡ slice_get old m
   pub stopped : (board : ℕ) → result ≡ Err (Flash board) → MountStops board motes old new
   pub no_volume : (board : ℕ) → result ≡ Err (NoVolume board) → NoVolumeAt board motes old new × NoneRose old new
-
--- what a link answers
-pub record LinkedAs (result : Result (Unit {0}) Stop) (v v2 : KeptWorld) (link : ℕ × ℕ) : Type 0 where
-  pub linked : OnOk result ((boards : List Device) (w : World) → IsWorld v boards w → IsWorld v2 boards (with_link link w))
-  pub memory : OnErr result (result ≡ Err Memory)

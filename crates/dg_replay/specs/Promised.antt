@@ -28,7 +28,8 @@ pub record FramesAreHonest {table : List Row} {script : Script} (c : Progress ta
 abbrev pub HonestWithoutFrames : {table : List Row} {script : Script} → Progress table script → Type 0
 HonestWithoutFrames c = AllByRecursion IsNoFrame c.done → (UsesBoards c.done → ⊥) → FramesAreHonest c
 
--- Where the next event is honest too, each store that the chip may stand for, wherever a stop comes in it, agrees with the table behind it.
+-- Where the next event is honest too, each store that the chip may stand for, wherever a stop comes in it,
+-- agrees with the table behind it.
 abbrev pub HalvesAgree : {table : List Row} {script : Script} → Progress table script → Type 0
 HalvesAgree c = (w : World) (step : Step) (loud : Bool) (more : List Item) → c.last ≡ Some w → c.left ≡ Happens step loud ∷ more
     → HonestEvent w.table step.event → (UsesBoards c.done → HoldsTo c.ground.table w step.event) → StopsAgree w step.event
@@ -45,11 +46,13 @@ RestsComplete c = (w v : World) (n k : ℕ) → c.last ≡ Some v → EndsInRest
 pub record HonestRun {table : List Row} {script : Script} (c : Progress table script) : Type 0 where
   -- each step is legal after those before it
   pub legal : EachAfter IsLegal [] c.played
-  -- no version falls, and a complete page stays unless a newer version of its image replaces it, which a cut may have left half done
+  -- no version falls, and a complete page stays unless a newer version of its image replaces it,
+  -- which a cut may have left half done
   pub keeps : AllByRecursion KeepsAll c.played
   -- what starts is a row of the table of images, byte for byte
   pub starts : AllByRecursion StartsRow c.played
-  -- Every chip, also one that a cut left half done, every mote that is on and every frame that was sent agrees with the table: behind each item, and in the last world.
+  -- Every chip, also one that a cut left half done, every mote that is on and every frame that was sent agrees with the table:
+  -- behind each item, and in the last world.
   pub agrees : AllByRecursion LeavesAgreement c.played × IfSome c.last WorldAgrees
   -- so does the store of each half-done chip, wherever a stop comes in the next event
   pub halves : HalvesAgree c
@@ -70,11 +73,13 @@ pub record StaysConsistent (golden : Row) (played : List Played) (last : Option 
   pub stores : AllByRecursion (LeavesConsistent golden) played
   pub ends : IfSome last (WorldConsistent golden)
   pub starts : AllByRecursion (StartsSound golden) played
-  pub halves : (w : World) (step : Step) (loud : Bool) (more : List Item) → last ≡ Some w → left ≡ Happens step loud ∷ more → StopsConsistent golden w step.event
+  pub halves : (w : World) (step : Step) (loud : Bool) (more : List Item) → last ≡ Some w → left ≡ Happens step loud ∷ more
+      → StopsConsistent golden w step.event
 
 -- Whatever bytes its frames carry: golden is the one row of the table with which the run begins
 abbrev pub StoresStayConsistent : {table : List Row} {script : Script} → Progress table script → Type 0
-StoresStayConsistent c = (UsesBoards c.done → ⊥) → (golden : Row) (w : World) → (beginning_of c.ground c.done).world ≡ Some w → w.table ≡ golden ∷ [] → StaysConsistent golden c.played c.last c.left
+StoresStayConsistent c = (UsesBoards c.done → ⊥) → (golden : Row) (w : World) → (beginning_of c.ground c.done).world ≡ Some w
+    → w.table ≡ golden ∷ [] → StaysConsistent golden c.played c.last c.left
 
 -- ---- the headline
 
@@ -83,5 +88,6 @@ pub record Headline {table : List Row} {script : Script} (c : Progress table scr
   pub honest : FramesAreHonest c → HonestRun c
   -- lines that bring no frame from outside meet that premise
   pub frames : HonestWithoutFrames c
-  -- Whatever bytes its frames carry, every store is consistent: behind each item, in the last world, and wherever a stop comes in the next event. What starts is golden byte for byte, or an object that fits its own descriptor.
+  -- Whatever bytes its frames carry, every store is consistent: behind each item, in the last world, and wherever a stop comes in
+  -- the next event. What starts is golden byte for byte, or an object that fits its own descriptor.
   pub consistent : StoresStayConsistent c

@@ -1,5 +1,6 @@
 -- What the steps of a replay do, text by text.
-use Rattle.std.specs.Prelude.{◌≡◌, ◌≢◌, ◌⊎◌, ℕ, ◌+◌, ◌<◌, ◌≤◌, Bool, true, false, List, [], ◌∷◌, ◌++◌, length, map, Option, Some, None, Result, Ok, Err}
+use Rattle.std.specs.Prelude.{◌≡◌, ◌≢◌, ◌⊎◌, ℕ, ◌+◌, ◌<◌, ◌≤◌, Bool, true, false, List, [], ◌∷◌, ◌++◌, length, map, Option, Some}
+use Rattle.std.specs.Prelude.{None, Result, Ok, Err}
 use Rattle.dg_base.specs.Outside.{Puts, PutsFront}
 use Rattle.dg_nor.specs.Device.{Device}
 use Rattle.dg_script.specs.Fitting.{StandsAt, FitsLine, IsPlayed, UsesBoard}
@@ -21,9 +22,12 @@ use Rattle.dg_script.specs.Items.{Item, items_of}
 use Rattle.dg_replay.specs.Boards.{BoardsStand, BoardStopped, StoppedIn, InSome, NoVolumeIn, LacksImage}
 use Rattle.dg_replay.specs.Items.{Ground, UsesBoards, beginning_of, motes_in, lacking}
 use Rattle.dg_replay.specs.Ending.{Ending, NoBoards, TooManyEvents, FaultAt, script_of, events_in, InBounds, ending_line}
-use Rattle.dg_replay.specs.Near.{behind_lines, IsNear}
-use Rattle.dg_replay.specs.Outcome.{Progress, ReachesEnding, AtTooMany, closing, Wrote, BoardsLeft, BoardStoppedThere, IsCaused, RunsTo, item_played, played_text, told_of, IsSettled, AreWhole, AllWhole, NextIsWhole, DoneIsWhole, ReadEnough, ReadsNear, NoVolumeThere, NoImageThere, no_volume_line, no_image_line}
-use Rattle.dg_replay.specs.Playing.{Passed, Stood, PlayedLine, LineBegun, IsOneTooMany, LacksBoards, Grounded}
+use Rattle.dg_replay.specs.Near.{behind_lines, FewBytesBehind}
+use Rattle.dg_replay.specs.Outcome.{Progress, ReachesEnding, AtTooMany, closing, Wrote, BoardsLeft, BoardStoppedThere, IsCaused}
+use Rattle.dg_replay.specs.Outcome.{RunsTo, item_played, played_text, told_of, IsSettled, AreWhole, AllWhole, NextIsWhole}
+use Rattle.dg_replay.specs.Outcome.{DoneIsWhole, ReadEnough, ReadsNear, NoVolumeThere, NoImageThere, no_volume_line}
+use Rattle.dg_replay.specs.Outcome.{no_image_line}
+use Rattle.dg_replay.specs.Playing.{Stood, PlayedLine, LineBegun, IsOneTooMany, LacksBoards, Grounded}
 use Rattle.dg_replay.specs.declared.player.Player.{Player}
 use Rattle.dg_script.specs.declared.line.Line.{Line}
 use Rattle.dg_script.specs.declared.line.Line.TheVariants.{Motes, Boards}
@@ -32,10 +36,12 @@ use Rattle.dg_world.specs.Mounted.{StandFor}
 use Rattle.dg_replay.specs.declared.halt.Halt.{Halt}
 use Rattle.dg_replay.specs.declared.halt.Halt.TheVariants.{ReadFault, TooLong, Stopped}
 use Rattle.dg_replay.specs.declared.stop.Stop.{Stop}
-use Rattle.dg_replay.specs.declared.stop.Stop.TheVariants.{Memory, BadInput, WriteFault, FlashFault, TooMany, NoBoard, NoImage, NotAVolume}
+use Rattle.dg_replay.specs.declared.stop.Stop.TheVariants.{Memory, BadInput, WriteFault, FlashFault, TooMany, NoBoard, NoImage}
+use Rattle.dg_replay.specs.declared.stop.Stop.TheVariants.{NotAVolume}
 
 -- The line that a text spells was played, from a player and boards that stand for world w behind some lines.
-pub record TextPlayed (table : List Row) (text : List ℕ) (p q : Player) (done : List Line) (w : Option World) (initial now : List Device) : Type 0 where
+pub record TextPlayed (table : List Row) (text : List ℕ) (p q : Player) (done : List Line) (w : Option World)
+    (initial now : List Device) : Type 0 where
   pub line : Line
   pub spelled : line_of p.place text ≡ Ok line
   pub told : List ℕ
@@ -43,12 +49,14 @@ pub record TextPlayed (table : List Row) (text : List ℕ) (p q : Player) (done 
   pub behind : q.place ≡ place_after p.place line
 
 -- and what is told of it was written
-pub record TextTold (table : List Row) (text : List ℕ) (p q : Player) (done : List Line) (w : Option World) (initial now : List Device) (before after : Option (List ℕ)) : Type 0 where
+pub record TextTold (table : List Row) (text : List ℕ) (p q : Player) (done : List Line) (w : Option World)
+    (initial now : List Device) (before after : Option (List ℕ)) : Type 0 where
   pub played : TextPlayed table text p q done w initial now
   pub written : Puts before after played.told
 
 -- or a front of it
-pub record TextCut (table : List Row) (text : List ℕ) (p q : Player) (done : List Line) (w : Option World) (initial now : List Device) (before after : Option (List ℕ)) : Type 0 where
+pub record TextCut (table : List Row) (text : List ℕ) (p q : Player) (done : List Line) (w : Option World)
+    (initial now : List Device) (before after : Option (List ℕ)) : Type 0 where
   pub played : TextPlayed table text p q done w initial now
   pub written : PutsFront before after played.told
 
@@ -68,29 +76,36 @@ pub record StopsAtLine (stop : Stop) (line : ℕ) (fault : LineFault) : Type 0 w
   pub memory : fault ≡ line_fault.Memory → stop ≡ Memory
   pub other : fault ≢ line_fault.Memory → stop ≡ BadInput line fault
 
--- A text spells a line that may stand there, behind which the player's place went on.
-pub record LineFound (p q : Player) (text : List ℕ) (line : Line) : Type 0 where
-  pub spelled : line_of p.place text ≡ Ok line
-  pub stands : StandsAt p.place line
-  pub fits : FitsLine p.place.motes line
+-- A text spells a line that may stand at this place.
+pub record LineFound (place : Place) (text : List ℕ) (line : Line) : Type 0 where
+  pub spelled : line_of place text ≡ Ok line
+  pub stands : StandsAt place line
+  pub fits : FitsLine place.motes line
   pub played : IsPlayed line
-  pub passed : Passed p q line
 
 -- no line was found: there was no memory, or the text spells none
 abbrev pub NotFound : Place → (text : List ℕ) → ℕ → Stop → Type 0
-NotFound place text number stop = (stop ≡ Memory) ⊎ ((fault : LineFault) × (stop ≡ BadInput number fault) × (line_of place text ≡ Err fault))
+NotFound place text number stop =
+    (stop ≡ Memory) ⊎ ((fault : LineFault) × (stop ≡ BadInput number fault) × (line_of place text ≡ Err fault))
 
--- a board stopped within a line of which these items are left, and what is told of the others, which is something, was not all written
-abbrev pub CutAtStop : (done : List Line) → Line → Option World → (left : List Item) → (text : List ℕ) → (initial new : List Device) → (before after : Option (List ℕ)) → Type 0
-CutAtStop done line v left text initial new before after = (text ≢ []) × StoppedIn (motes_in done) (line ∷ []) left v initial new × PutsFront before after text
+-- a board stopped within a line of which these items are left, and what is told of the others, which is something,
+-- was not all written
+abbrev pub CutAtStop : (done : List Line) → Line → Option World → (left : List Item) → (text : List ℕ)
+    → (initial new : List Device) → (before after : Option (List ℕ)) → Type 0
+CutAtStop done line v left text initial new before after =
+    (text ≢ []) × StoppedIn (motes_in done) (line ∷ []) left v initial new × PutsFront before after text
 
 -- the same where an event was not played, since there were a million before it
-abbrev pub CutAtTooMany : Option World → (left : List Item) → (text : List ℕ) → (initial new : List Device) → (before after : Option (List ℕ)) → Type 0
-CutAtTooMany v left text initial new before after = InSome v (λ u. IsOneTooMany u left) × BoardsStand v initial new × PutsFront before after text
+abbrev pub CutAtTooMany : Option World → (left : List Item) → (text : List ℕ) → (initial new : List Device)
+    → (before after : Option (List ℕ)) → Type 0
+CutAtTooMany v left text initial new before after =
+    InSome v (λ u. IsOneTooMany u left) × BoardsStand v initial new × PutsFront before after text
 
 -- the same where an event found no image to start, which no script with golden meets
-abbrev pub CutAtImage : Option World → (left : List Item) → (text : List ℕ) → (initial new : List Device) → (before after : Option (List ℕ)) → Type 0
-CutAtImage v left text initial new before after = (text ≢ []) × InSome v (λ u. LacksImage u left initial new) × PutsFront before after text
+abbrev pub CutAtImage : Option World → (left : List Item) → (text : List ℕ) → (initial new : List Device)
+    → (before after : Option (List ℕ)) → Type 0
+CutAtImage v left text initial new before after =
+    (text ≢ []) × InSome v (λ u. LacksImage u left initial new) × PutsFront before after text
 
 -- all of it was written, or a front
 abbrev pub BegunWrittenOr : Stop → Stop → (text : List ℕ) → (before after : Option (List ℕ)) → (write_failed : Type 0) → Type 0
@@ -105,24 +120,35 @@ BegunWritten NoImage result text before after failed = BegunWrittenOr NoImage re
 BegunWritten stop result text before after failed = (result ≡ stop) × (after ≡ before)
 
 -- what playing a text answers, from player p and world w behind some lines
-abbrev pub TextAnswer : (table : List Row) → Result (Unit {0}) Stop → (text : List ℕ) → ℕ → (p q : Player) → List Line → Option World → (initial old new : List Device) → (before after : Option (List ℕ)) → (write_failed : Type 0) → Type 0
-TextAnswer table (Ok u) text number p q done w initial old new before after failed = TextTold table text p q done w initial new before after
-TextAnswer table (Err Memory) text number p q done w initial old new before after failed = NothingDone old new before after ⊎ (TextRead text p (λ line. LineBegun done line w (λ v left t. BoardsStand v initial new)) × (after ≡ before))
-TextAnswer table (Err (BadInput line fault)) text number p q done w initial old new before after failed = (line ≡ number) × (line_of p.place text ≡ Err fault) × NothingDone old new before after
+abbrev pub TextAnswer : (table : List Row) → Result (Unit {0}) Stop → (text : List ℕ) → ℕ → (p q : Player) → List Line
+    → Option World → (initial old new : List Device) → (before after : Option (List ℕ)) → (write_failed : Type 0) → Type 0
+TextAnswer table (Ok u) text number p q done w initial old new before after failed =
+    TextTold table text p q done w initial new before after
+TextAnswer table (Err Memory) text number p q done w initial old new before after failed = NothingDone old new before after
+    ⊎ (TextRead text p (λ line. LineBegun done line w (λ v left t. BoardsStand v initial new)) × (after ≡ before))
+TextAnswer table (Err (BadInput line fault)) text number p q done w initial old new before after failed =
+    (line ≡ number) × (line_of p.place text ≡ Err fault) × NothingDone old new before after
 TextAnswer table (Err WriteFault) text number p q done w initial old new before after failed =
     failed × (TextCut table text p q done w initial new before after
-    ⊎ TextRead text p (λ line. LineBegun done line w (λ v left t. CutAtStop done line v left t initial new before after ⊎ (CutAtTooMany v left t initial new before after ⊎ CutAtImage v left t initial new before after))))
+    ⊎ TextRead text p (λ line. LineBegun done line w (λ v left t. CutAtStop done line v left t initial new before after
+    ⊎ (CutAtTooMany v left t initial new before after ⊎ CutAtImage v left t initial new before after))))
 TextAnswer table (Err FlashFault) text number p q done w initial old new before after failed =
-    TextRead text p (λ line. UsesBoard line × LineBegun done line w (λ v left t. StoppedIn (motes_in done) (line ∷ []) left v initial new × Puts before after t))
+    TextRead text p (λ line. UsesBoard line × LineBegun done line w
+    (λ v left t. StoppedIn (motes_in done) (line ∷ []) left v initial new × Puts before after t))
 TextAnswer table (Err TooMany) text number p q done w initial old new before after failed =
-    TextRead text p (λ line. LineBegun done line w (λ v left t. InSome v (λ u. IsOneTooMany u left) × BoardsStand v initial new × Puts before after t))
-TextAnswer table (Err (NoBoard motes boards)) text number p q done w initial old new before after failed = TextRead text p (λ line. LacksBoards line motes boards initial old new) × (after ≡ before)
+    TextRead text p (λ line. LineBegun done line w (λ v left t. InSome v (λ u. IsOneTooMany u left)
+    × BoardsStand v initial new × Puts before after t))
+TextAnswer table (Err (NoBoard motes boards)) text number p q done w initial old new before after failed =
+    TextRead text p (λ line. LacksBoards line motes boards initial old new) × (after ≡ before)
 TextAnswer table (Err NoImage) text number p q done w initial old new before after failed =
-    TextRead text p (λ line. LineBegun done line w (λ v left t. InSome v (λ u. LacksImage u left initial new) × Puts before after t))
-TextAnswer table (Err NotAVolume) text number p q done w initial old new before after failed = TextRead text p (λ line. (line ≡ Boards) × NoVolumeIn (motes_in done) initial new) × (after ≡ before)
+    TextRead text p (λ line. LineBegun done line w (λ v left t. InSome v (λ u. LacksImage u left initial new)
+    × Puts before after t))
+TextAnswer table (Err NotAVolume) text number p q done w initial old new before after failed =
+    TextRead text p (λ line. (line ≡ Boards) × NoVolumeIn (motes_in done) initial new) × (after ≡ before)
 
 -- These texts are left of a script, and what comes before them was played.
-pub record Reached (table : List Row) (ends : Bool) (script : Script) (texts : List (List ℕ)) (number : ℕ) (p : Player) (initial now : List Device) (before after : Option (List ℕ)) : Type 0 where
+pub record Reached (table : List Row) (ends : Bool) (script : Script) (texts : List (List ℕ)) (number : ℕ) (p : Player)
+    (initial now : List Device) (before after : Option (List ℕ)) : Type 0 where
   pub done : List Line
   pub played : List Played
   pub last : Option World
@@ -139,8 +165,10 @@ pub record Reached (table : List Row) (ends : Bool) (script : Script) (texts : L
   -- there are boards for the motes of every line that was done
   pub boards_enough : lacking (length initial) done ≡ None
 
--- A script was played so far, what was written is a front of what is told of that, and P holds of how far, and of what was written.
-pub record PlayedFront (table : List Row) (script : Script) (initial : List Device) (before after : Option (List ℕ)) (P : Progress table script → List ℕ → Type 0) : Type 0 where
+-- A script was played so far, what was written is a front of what is told of that, and P holds of how far,
+-- and of what was written.
+pub record PlayedFront (table : List Row) (script : Script) (initial : List Device) (before after : Option (List ℕ))
+    (P : Progress table script → List ℕ → Type 0) : Type 0 where
   pub came : Progress table script
   pub text : List ℕ
   pub more : List ℕ
@@ -151,7 +179,8 @@ pub record PlayedFront (table : List Row) (script : Script) (initial : List Devi
   pub there : P came text
 
 -- A script was played so far, and all that is told of that was written.
-pub record PlayedUpTo (table : List Row) (script : Script) (initial : List Device) (before after : Option (List ℕ)) (P : Progress table script → Type 0) : Type 0 where
+pub record PlayedUpTo (table : List Row) (script : Script) (initial : List Device) (before after : Option (List ℕ))
+    (P : Progress table script → Type 0) : Type 0 where
   pub came : Progress table script
   pub told : Puts before after (played_text came.played)
   pub limits : InBounds (length initial) came.done (map item_played came.played)
@@ -172,28 +201,46 @@ pub record ToldBefore {table : List Row} {script : Script} (line : ℕ) (c : Pro
   pub told : text ≡ told_of lines c ++ more
 
 -- Why playing a script stops at the line of this number, and how far it came: W holds of that, or V where a board stopped.
-abbrev pub StopsAtText : (table : List Row) → Stop → (script : Script) → (W V : Progress table script → Type 0) → (number : ℕ) → (initial now : List Device) → (before after : Option (List ℕ)) → (write_failed : Type 0) → Type 0
-StopsAtText table Memory script W V number initial now before after failed = PlayedFront table script initial before after (λ c text. BoardsStand c.last initial now × W c)
+abbrev pub StopsAtText : (table : List Row) → Stop → (script : Script) → (W V : Progress table script → Type 0)
+    → (number : ℕ) → (initial now : List Device) → (before after : Option (List ℕ)) → (write_failed : Type 0) → Type 0
+StopsAtText table Memory script W V number initial now before after failed =
+    PlayedFront table script initial before after (λ c text. BoardsStand c.last initial now × W c)
 StopsAtText table (BadInput line fault) script W V number initial now before after failed =
-    (line ≡ number) × PlayedUpTo table script initial before after (λ c. (c.rest ≡ []) × (script.fault ≡ Some (line, fault)) × BoardsStand c.last initial now × HasFew script initial × W c)
-StopsAtText table WriteFault script W V number initial now before after failed = failed × PlayedFront table script initial before after (λ c text. BoardsLeft status.WriteFault c initial now × ToldBefore number c text × W c)
-StopsAtText table FlashFault script W V number initial now before after failed = PlayedUpTo table script initial before after (λ c. ((line : Line) × (more : List Line) × (c.rest ≡ line ∷ more) × UsesBoard line) × BoardStoppedThere c initial now × V c)
-StopsAtText table TooMany script W V number initial now before after failed = PlayedUpTo table script initial before after (λ c. AtTooMany c.left c.played × BoardsStand c.last initial now × (lacking (length initial) script.lines ≡ None) × W c)
+    (line ≡ number) × PlayedUpTo table script initial before after (λ c. (c.rest ≡ []) × (script.fault ≡ Some (line, fault))
+    × BoardsStand c.last initial now × HasFew script initial × W c)
+StopsAtText table WriteFault script W V number initial now before after failed = failed
+    × PlayedFront table script initial before after (λ c text. BoardsLeft status.WriteFault c initial now
+    × ToldBefore number c text × W c)
+StopsAtText table FlashFault script W V number initial now before after failed =
+    PlayedUpTo table script initial before after
+    (λ c. ((line : Line) × (more : List Line) × (c.rest ≡ line ∷ more) × UsesBoard line) × BoardStoppedThere c initial now × V c)
+StopsAtText table TooMany script W V number initial now before after failed =
+    PlayedUpTo table script initial before after (λ c. AtTooMany c.left c.played × BoardsStand c.last initial now
+    × (lacking (length initial) script.lines ≡ None) × W c)
 StopsAtText table (NoBoard motes boards) script W V number initial now before after failed =
     PlayedUpTo table script initial before after
-    (λ c. ((boards ≡ length initial) × (boards < motes)) × ((more : List Line) × (c.rest ≡ Motes motes ∷ more)) × BoardsStand c.last initial now × (lacking (length initial) c.done ≡ None) × W c)
+    (λ c. ((boards ≡ length initial) × (boards < motes)) × ((more : List Line) × (c.rest ≡ Motes motes ∷ more))
+    × BoardsStand c.last initial now × (lacking (length initial) c.done ≡ None) × W c)
 StopsAtText table NoImage script W V number initial now before after failed =
-    PlayedUpTo table script initial before after (λ c. ((line : Line) × (more : List Line) × (c.rest ≡ line ∷ more)) × UsesBoards c.done × NoImageThere c initial now × ((more : List ℕ) → ToldBefore number c (played_text c.played ++ more)) × V c)
-StopsAtText table NotAVolume script W V number initial now before after failed = PlayedUpTo table script initial before after (λ c. NoVolumeThere c initial now × ((more : List ℕ) → ToldBefore number c (played_text c.played ++ more)) × V c)
+    PlayedUpTo table script initial before after (λ c. ((line : Line) × (more : List Line) × (c.rest ≡ line ∷ more))
+    × UsesBoards c.done × NoImageThere c initial now
+    × ((more : List ℕ) → ToldBefore number c (played_text c.played ++ more)) × V c)
+StopsAtText table NotAVolume script W V number initial now before after failed =
+    PlayedUpTo table script initial before after (λ c. NoVolumeThere c initial now
+    × ((more : List ℕ) → ToldBefore number c (played_text c.played ++ more)) × V c)
 
 -- the same where nothing more is said of how far it came
-abbrev pub StopsThere : (table : List Row) → Stop → (script : Script) → (number : ℕ) → (initial now : List Device) → (before after : Option (List ℕ)) → (write_failed : Type 0) → Type 0
-StopsThere table stop script number initial now before after failed = StopsAtText table stop script (λ c. Unit {0}) (λ c. Unit {0}) number initial now before after failed
+abbrev pub StopsThere : (table : List Row) → Stop → (script : Script) → (number : ℕ) → (initial now : List Device)
+    → (before after : Option (List ℕ)) → (write_failed : Type 0) → Type 0
+StopsThere table stop script number initial now before after failed =
+    StopsAtText table stop script (λ c. Unit {0}) (λ c. Unit {0}) number initial now before after failed
 
 -- the same where these bytes were taken, which are enough for what was done
-abbrev pub StopsIn : (table : List Row) → Stop → (script : Script) → (input : List ℕ) → (at_end : Type 0) → (number : ℕ) → (initial now : List Device) → (before after : Option (List ℕ)) → (write_failed : Type 0) → Type 0
-StopsIn table stop script input at_end number initial now before after failed =
-    StopsAtText table stop script (λ c. at_end ⊎ DoneIsWhole input c.done c.rest c.begun) (λ c. at_end ⊎ NextIsWhole input c.done c.rest) number initial now before after failed
+abbrev pub StopsInTaken : (table : List Row) → Stop → (script : Script) → (input : List ℕ) → (at_end : Type 0) → (number : ℕ)
+    → (initial now : List Device) → (before after : Option (List ℕ)) → (write_failed : Type 0) → Type 0
+StopsInTaken table stop script input at_end number initial now before after failed =
+    StopsAtText table stop script (λ c. at_end ⊎ DoneIsWhole input c.done c.rest c.begun) (λ c. at_end
+    ⊎ NextIsWhole input c.done c.rest) number initial now before after failed
 
 -- where the rules end the script there, S holds
 abbrev pub ByRules : Stop → Type 0 → Type 0
@@ -203,19 +250,26 @@ ByRules (NoBoard motes boards) S = S
 ByRules stop S = Unit {0}
 
 -- What playing the lines of an input as they are read answers, where these bytes were taken.
-abbrev pub InputAnswer : (table : List Row) → Result (Player × ℕ) Halt → (input : List ℕ) → (at_end read_failed : Type 0) → (initial now : List Device) → (before after : Option (List ℕ)) → (write_failed : Type 0) → Type 0
+abbrev pub InputAnswer : (table : List Row) → Result (Player × ℕ) Halt → (input : List ℕ) → (at_end read_failed : Type 0)
+    → (initial now : List Device) → (before after : Option (List ℕ)) → (write_failed : Type 0) → Type 0
 InputAnswer table (Ok reached) input at_end read_failed initial now before after failed =
-    at_end × (length input ≤ most_used_bytes) × (behind_lines reached.1 input ≡ []) × Reached table true (script_of input) [] reached.1 reached.0 initial now before after
+    at_end × (length input ≤ most_used_bytes) × (behind_lines reached.1 input ≡ [])
+    × Reached table true (script_of input) [] reached.1 reached.0 initial now before after
 InputAnswer table (Err ReadFault) input at_end read_failed initial now before after failed =
-    read_failed × (length input ≤ most_used_bytes) × PlayedUpTo table (script_of input) initial before after (λ c. (c.begun ≡ []) × BoardsStand c.last initial now × AreWhole input c.done × AllWhole input c.done)
+    read_failed × (length input ≤ most_used_bytes)
+    × PlayedUpTo table (script_of input) initial before after (λ c. (c.begun ≡ []) × BoardsStand c.last initial now
+    × AreWhole input c.done × AllWhole input c.done)
 InputAnswer table (Err TooLong) input at_end read_failed initial now before after failed =
-    (length input ≡ most_used_bytes + 1) × ((number : ℕ) × (p : Player) × Reached table false (script_of input) [] number p initial now before after)
+    (length input ≡ most_used_bytes + 1) × ((number : ℕ) × (p : Player)
+    × Reached table false (script_of input) [] number p initial now before after)
 InputAnswer table (Err (Stopped stop)) input at_end read_failed initial now before after failed =
     (length input ≤ most_used_bytes) × ByRules stop (at_end ⊎ IsSettled (length initial) input)
-    × ((number : ℕ) × IsNear number input × StopsIn table stop (script_of input) input at_end number initial now before after failed)
+    × ((number : ℕ) × FewBytesBehind number input
+    × StopsInTaken table stop (script_of input) input at_end number initial now before after failed)
 
 -- A script came to its ending, and the end of its report, which is this piece, is not written yet.
-pub record ReadyToEnd (table : List Row) (script : Script) (ending : Ending) (piece : List ℕ) (initial now : List Device) (before after : Option (List ℕ)) : Type 0 where
+pub record ReadyToEnd (table : List Row) (script : Script) (ending : Ending) (piece : List ℕ) (initial now : List Device)
+    (before after : Option (List ℕ)) : Type 0 where
   pub came : Progress table script
   pub told : Puts before after (played_text came.played)
   pub boards : BoardsStand came.last initial now
@@ -233,27 +287,34 @@ EndsWith result wanted piece before after failed =
 
 -- the same where it asks for no memory
 abbrev pub EndsWritten : Status → Status → List ℕ → (before after : Option (List ℕ)) → (write_failed : Type 0) → Type 0
-EndsWritten result wanted piece before after failed = ((result ≡ wanted) × Puts before after piece) ⊎ ((result ≡ status.WriteFault) × PutsFront before after piece × failed)
+EndsWritten result wanted piece before after failed =
+    ((result ≡ wanted) × Puts before after piece) ⊎ ((result ≡ status.WriteFault) × PutsFront before after piece × failed)
 
 -- how a replay that stopped ends
 abbrev pub StopEnds : Stop → Status → (before after : Option (List ℕ)) → (write_failed : Type 0) → Type 0
 StopEnds Memory result before after failed = (result ≡ status.Memory) × (after ≡ before)
-StopEnds (BadInput line fault) result before after failed = EndsWith result status.BadInput (ending_line (FaultAt line fault)) before after failed
+StopEnds (BadInput line fault) result before after failed =
+    EndsWith result status.BadInput (ending_line (FaultAt line fault)) before after failed
 StopEnds WriteFault result before after failed = (result ≡ status.WriteFault) × (after ≡ before)
 StopEnds FlashFault result before after failed = (result ≡ status.FlashFault) × (after ≡ before)
 StopEnds TooMany result before after failed = EndsWith result status.TooMany (ending_line TooManyEvents) before after failed
-StopEnds (NoBoard motes boards) result before after failed = EndsWith result status.NoBoard (ending_line (NoBoards motes boards)) before after failed
+StopEnds (NoBoard motes boards) result before after failed =
+    EndsWith result status.NoBoard (ending_line (NoBoards motes boards)) before after failed
 StopEnds NoImage result before after failed = EndsWritten result status.NoImage no_image_line before after failed
 StopEnds NotAVolume result before after failed = EndsWritten result status.NotAVolume no_volume_line before after failed
 
 -- how the end of a report that reads its boards ends
-abbrev pub FinishesWith : Status → World → (initial now : List Device) → (before after : Option (List ℕ)) → (write_failed : Type 0) → Type 0
+abbrev pub FinishesWith : Status → World → (initial now : List Device) → (before after : Option (List ℕ))
+    → (write_failed : Type 0) → Type 0
 FinishesWith result w initial now before after failed =
     (EndsWith result status.Done (report_text (final_lines w)) before after failed × BoardsStand (Some w) initial now)
-    ⊎ ((result ≡ status.FlashFault) × ((motes : ℕ) → motes ≡ length w.sites → StoppedIn motes [] [] (Some w) initial now) × (after ≡ before))
+    ⊎ ((result ≡ status.FlashFault) × ((motes : ℕ) → motes ≡ length w.sites → StoppedIn motes [] [] (Some w) initial now)
+    × (after ≡ before))
 
 -- A script was replayed, as its ending and the status say, and these bytes were taken for it.
-pub record ScriptReplayed (table : List Row) (status : Status) (script : Script) (ending : Ending) (input : List ℕ) (at_end : Type 0) (initial now : List Device) (before after : Option (List ℕ)) (read_failed write_failed : Type 0) : Type 0 where
+pub record ScriptReplayed (table : List Row) (status : Status) (script : Script) (ending : Ending) (input : List ℕ)
+    (at_end : Type 0) (initial now : List Device) (before after : Option (List ℕ)) (read_failed write_failed : Type 0) : Type
+    0 where
   pub came : Progress table script
   pub text : List ℕ
   pub written : Puts before after text
@@ -263,4 +324,5 @@ pub record ScriptReplayed (table : List Row) (status : Status) (script : Script)
   pub limits : InBounds (length initial) came.done (map item_played came.played)
   pub stood : UsesBoards came.done → StandFor (motes_in came.done) came.ground.stores initial
   pub boards : BoardsLeft status came initial now
-  pub caused : IsCaused status ending read_failed write_failed (BoardStopped (motes_in came.done) initial now) (NoVolumeThere came initial now) ((UsesBoards came.done) × NoImageThere came initial now)
+  pub caused : IsCaused status ending read_failed write_failed (BoardStopped (motes_in came.done) initial now)
+      (NoVolumeThere came initial now) ((UsesBoards came.done) × NoImageThere came initial now)

@@ -26,7 +26,8 @@ pub fn replay<S: Source, K: Sink, N: Nor>(
     out: &mut K,
     boards: &mut Vec<N>,
 ) -> Status
-    ensures done { ReplayDone result (around (S.left input.old) (S.faults input.old) (K.written out.old) (K.faults out.old) (map N.device boards.old.items))
+    ensures done { ReplayDone result (around (S.left input.old) (S.faults input.old) (K.written out.old) (K.faults out.old)
+        (map N.device boards.old.items))
         (around (S.left input.new) (S.faults input.new) (K.written out.new) (K.faults out.new) (map N.device boards.new.items)) }
     // All arrays of bytes that are alive at once in a mote's call have no more than 256, and beside the outbox and its sets
     // none lies in the value of a mote.

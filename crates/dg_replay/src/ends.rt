@@ -14,11 +14,11 @@ ghost use Rattle.dg_replay.specs.Replaying.{StopEnds, Reached, ScriptReplayed};
 use crate::finish::{end_at_line, end_with, end_without_boards, finish};
 use crate::following::play_lines;
 use crate::halt::Halt;
-use crate::player::{Player, Stage};
+use crate::player::Player;
 use crate::stop::Stop;
 use dg_base::{Sink, Source, Status};
 use dg_nor::Nor;
-use dg_script::{LineFault, LineReader};
+use dg_script::LineReader;
 use std::alloc::Global;
 
 /// The status of a replay that stopped, whose last line is written where it has one.
@@ -49,19 +49,17 @@ fn end_script<K: Sink, N: Nor>(
     out: &mut K,
 ) -> Status
     requires { Ready player.now (map N.device boards.old.items) }
-    ensures ends { (table : List Row) (script : Script) (input : List ℕ) (initial : List Device) (before : Option (List ℕ)) (faults : ℕ) → faults ≤ K.faults out.old → behind_lines number input ≡ []
+    ensures ends { (table : List Row) (script : Script) (input : List ℕ) (initial : List Device) (before : Option (List ℕ))
+        (faults : ℕ) → faults ≤ K.faults out.old → behind_lines number input ≡ []
         → Reached table true script [] number player.now initial (map N.device boards.old.items) before (K.written out.old)
-        → ScriptReplayed table result script (ending_from (length initial) false script) input ⊤ initial (map N.device boards.new.items) before (K.written out.new) ⊥ (Rose faults (K.faults out.new)) }
+        → ScriptReplayed table result script (ending_from (length initial) false script) input ⊤ initial
+        (map N.device boards.new.items) before (K.written out.new) ⊥ (Rose faults (K.faults out.new)) }
     ensures counts { K.faults out.old ≤ K.faults out.new }
     ensures unfailed { result ≢ Status.WriteFault → K.faults out.new ≡ K.faults out.old }
 {
-    match &player.stage {
-        // the second line is missing
-        Stage::Waiting => end_at_line(alloc, out, number, LineFault::Place),
-        Stage::Playing(world) => match player.place.end_fault() {
-            Some(fault) => end_at_line(alloc, out, number, fault),
-            None => finish(alloc, world, boards, out),
-        },
+    match player.place.end_fault() {
+        Some(fault) => end_at_line(alloc, out, number, fault),
+        None => finish(alloc, &player.world, boards, out),
     }
 }
 
@@ -77,8 +75,11 @@ pub fn replay_lines<S: Source, K: Sink, N: Nor>(
     requires unread { reader.old.passed ≡ 0 }
     requires first { reader.old.number ≡ 0 }
     ensures replayed { (bytes : List ℕ) × Takes (S.left input.old) (S.left input.new) bytes × (length bytes ≤ most_used_bytes + 1)
-        × ((table : List Row) → ScriptReplayed table result (script_of bytes) (ending_of (length (map N.device boards.old.items)) bytes) bytes (AtEnd (S.left input.new)) (map N.device boards.old.items) (map N.device boards.new.items)
-        (K.written out.old) (K.written out.new) (Rose (S.faults input.old) (S.faults input.new)) (Rose (K.faults out.old) (K.faults out.new))) }
+        × ((table : List Row) → ScriptReplayed table result (script_of bytes)
+        (ending_of (length (map N.device boards.old.items)) bytes) bytes (AtEnd (S.left input.new))
+        (map N.device boards.old.items) (map N.device boards.new.items)
+        (K.written out.old) (K.written out.new) (Rose (S.faults input.old) (S.faults input.new))
+        (Rose (K.faults out.old) (K.faults out.new))) }
     ensures reads { S.faults input.old ≤ S.faults input.new }
     ensures unread { result ≢ Status.ReadFault → S.faults input.new ≡ S.faults input.old }
     ensures counts { K.faults out.old ≤ K.faults out.new }

@@ -14,14 +14,17 @@ use crate::items::push_reports;
 use dg_base::{Sink, Status, WriteFailed, push_u32};
 use dg_nor::Nor;
 use dg_script::{LineFault, Report};
-use dg_world::{World, WorldFault};
+use dg_world::{FinishFault, World};
 use std::alloc::{AllocError, Global};
 
 /// Ends a replay with the last piece of its report.
 pub fn end_with<K: Sink>(out: &mut K, piece: &[u8], status: Status) -> Status
-    ensures ends { EndsWith result status piece.now (K.written out.old) (K.written out.new) (Rose (K.faults out.old) (K.faults out.new)) }
-    ensures written { ((result ≡ status) × Puts (K.written out.old) (K.written out.new) piece.now × (K.faults out.new ≡ K.faults out.old))
-        ⊎ ((result ≡ Status.WriteFault) × PutsFront (K.written out.old) (K.written out.new) piece.now × Rose (K.faults out.old) (K.faults out.new)) }
+    ensures ends { EndsWith result status piece.now (K.written out.old) (K.written out.new)
+        (Rose (K.faults out.old) (K.faults out.new)) }
+    ensures written { ((result ≡ status) × Puts (K.written out.old) (K.written out.new) piece.now
+        × (K.faults out.new ≡ K.faults out.old))
+        ⊎ ((result ≡ Status.WriteFault) × PutsFront (K.written out.old) (K.written out.new) piece.now
+        × Rose (K.faults out.old) (K.faults out.new)) }
     ensures counts { K.faults out.old ≤ K.faults out.new }
     ensures unfailed { result ≢ Status.WriteFault → K.faults out.new ≡ K.faults out.old }
 {
@@ -44,7 +47,8 @@ fn push_bad_line(piece: &mut Vec<u8>, line: u32, fault: LineFault) -> Result<(),
 
 /// Ends a replay at a line that has a fault.
 pub fn end_at_line<K: Sink>(alloc: Global, out: &mut K, line: u32, fault: LineFault) -> Status
-    ensures ends { EndsWith result Status.BadInput (ending_line (FaultAt line fault)) (K.written out.old) (K.written out.new) (Rose (K.faults out.old) (K.faults out.new)) }
+    ensures ends { EndsWith result Status.BadInput (ending_line (FaultAt line fault)) (K.written out.old) (K.written out.new)
+        (Rose (K.faults out.old) (K.faults out.new)) }
     ensures counts { K.faults out.old ≤ K.faults out.new }
     ensures unfailed { result ≢ Status.WriteFault → K.faults out.new ≡ K.faults out.old }
 {
@@ -68,7 +72,8 @@ fn push_no_board(piece: &mut Vec<u8>, motes: u8, boards: u32) -> Result<(), Allo
 
 /// Ends a replay of a script that has more motes than there are boards.
 pub fn end_without_boards<K: Sink>(alloc: Global, out: &mut K, motes: u8, boards: u32) -> Status
-    ensures ends { EndsWith result Status.NoBoard (ending_line (NoBoards motes boards)) (K.written out.old) (K.written out.new) (Rose (K.faults out.old) (K.faults out.new)) }
+    ensures ends { EndsWith result Status.NoBoard (ending_line (NoBoards motes boards)) (K.written out.old)
+        (K.written out.new) (Rose (K.faults out.old) (K.faults out.new)) }
     ensures counts { K.faults out.old ≤ K.faults out.new }
     ensures unfailed { result ≢ Status.WriteFault → K.faults out.new ≡ K.faults out.old }
 {
@@ -81,7 +86,8 @@ pub fn end_without_boards<K: Sink>(alloc: Global, out: &mut K, motes: u8, boards
 
 /// Ends a replay with these lines.
 fn end_with_lines<K: Sink>(alloc: Global, out: &mut K, reports: &[Report]) -> Status
-    ensures ends { EndsWith result Status.Done (report_text reports.now) (K.written out.old) (K.written out.new) (Rose (K.faults out.old) (K.faults out.new)) }
+    ensures ends { EndsWith result Status.Done (report_text reports.now) (K.written out.old) (K.written out.new)
+        (Rose (K.faults out.old) (K.faults out.new)) }
     ensures counts { K.faults out.old ≤ K.faults out.new }
     ensures unfailed { result ≢ Status.WriteFault → K.faults out.new ≡ K.faults out.old }
 {
@@ -100,18 +106,17 @@ pub fn finish<K: Sink, N: Nor>(
     out: &mut K,
 ) -> Status
     requires { (w : RuleWorld) × IsWorld world.now (map N.device boards.old.items) w }
-    ensures finishes { (w : RuleWorld) (initial : List Device) → IsWorld world.now (map N.device boards.old.items) w → WorldStands w initial (map N.device boards.old.items)
-        → FinishesWith result w initial (map N.device boards.new.items) (K.written out.old) (K.written out.new) (Rose (K.faults out.old) (K.faults out.new)) }
+    ensures finishes { (w : RuleWorld) (initial : List Device) → IsWorld world.now (map N.device boards.old.items) w
+        → WorldStands w initial (map N.device boards.old.items)
+        → FinishesWith result w initial (map N.device boards.new.items) (K.written out.old) (K.written out.new)
+        (Rose (K.faults out.old) (K.faults out.new)) }
     ensures counts { K.faults out.old ≤ K.faults out.new }
     ensures unfailed { result ≢ Status.WriteFault → K.faults out.new ≡ K.faults out.old }
 {
     let mut reports = Vec::new(alloc);
     match world.finish(boards, &mut reports) {
         Ok(()) => end_with_lines(alloc, out, &reports),
-        Err(WorldFault::Memory) => Status::Memory,
-        Err(WorldFault::Flash { .. }) => Status::FlashFault,
-        Err(WorldFault::TooMany) => unreachable!(),
-        Err(WorldFault::NotAVolume) => unreachable!(),
-        Err(WorldFault::NoImage) => unreachable!(),
+        Err(FinishFault::Memory) => Status::Memory,
+        Err(FinishFault::Flash { .. }) => Status::FlashFault,
     }
 }

@@ -13,12 +13,12 @@ ghost use Rattle.dg_replay.specs.Replaying.{TextAnswer, InputAnswer};
 use crate::halt::Halt;
 use crate::items::Told;
 use crate::lines::play_text;
-use crate::player::{Player, Stage};
+use crate::player::Player;
 use crate::stop::Stop;
 use dg_base::{Sink, Source};
 use dg_nor::Nor;
 use dg_rules::scripts_with_golden;
-use dg_script::{LineFault, LineReader, Place, ReadStop};
+use dg_script::{LineFault, LineReader, ReadStop};
 use std::alloc::Global;
 
 /// Why a replay ends at a line that could not be read.
@@ -47,10 +47,14 @@ fn play_next<S: Source, K: Sink, N: Nor>(
 ) -> Result<bool, Halt>
     requires { Ready player.old (map N.device boards.old.items) }
     ensures answer { (more : List ℕ) × Takes (S.left input.old) (S.left input.new) more
-        × NextPlayed result (reader.old.ahead ++ more) reader.old reader.new (AtEnd (S.left input.new)) (Rose (S.faults input.old) (S.faults input.new))
-        (AllAsBefore player.old player.new (map N.device boards.old.items) (map N.device boards.new.items) (K.written out.old) (K.written out.new))
-        (λ r text. (done : List Line) (w : Option World) (initial : List Device) (table : List Row) → Stood player.old done w initial (map N.device boards.old.items)
-        → TextAnswer table r text (reader.old.number + 1) player.old player.new done w initial (map N.device boards.old.items) (map N.device boards.new.items)
+        × NextPlayed result (reader.old.ahead ++ more) reader.old reader.new (AtEnd (S.left input.new))
+        (Rose (S.faults input.old) (S.faults input.new))
+        (AllAsBefore player.old player.new (map N.device boards.old.items) (map N.device boards.new.items)
+        (K.written out.old) (K.written out.new))
+        (λ r text. (done : List Line) (w : Option World) (initial : List Device) (table : List Row)
+        → Stood player.old done w initial (map N.device boards.old.items)
+        → TextAnswer table r text (reader.old.number + 1) player.old player.new done w initial
+        (map N.device boards.old.items) (map N.device boards.new.items)
         (K.written out.old) (K.written out.new) (Rose (K.faults out.old) (K.faults out.new))) }
     ensures reads { S.faults input.old ≤ S.faults input.new }
     ensures unread { result ≢ Err Halt.ReadFault → S.faults input.new ≡ S.faults input.old }
@@ -82,7 +86,8 @@ pub fn play_lines<S: Source, K: Sink, N: Nor>(
     requires unread { reader.old.passed ≡ 0 }
     requires first { reader.old.number ≡ 0 }
     ensures answer { (bytes : List ℕ) × Takes (S.left input.old) (S.left input.new) bytes
-        × ((table : List Row) → InputAnswer table result bytes (AtEnd (S.left input.new)) (Rose (S.faults input.old) (S.faults input.new)) (map N.device boards.old.items) (map N.device boards.new.items)
+        × ((table : List Row) → InputAnswer table result bytes (AtEnd (S.left input.new))
+        (Rose (S.faults input.old) (S.faults input.new)) (map N.device boards.old.items) (map N.device boards.new.items)
         (K.written out.old) (K.written out.new) (Rose (K.faults out.old) (K.faults out.new))) }
     ensures reads { S.faults input.old ≤ S.faults input.new }
     ensures unread { result ≢ Err Halt.ReadFault → S.faults input.new ≡ S.faults input.old }
@@ -90,11 +95,7 @@ pub fn play_lines<S: Source, K: Sink, N: Nor>(
     ensures unfailed { result ≢ Err (Halt.Stopped Stop.WriteFault) → K.faults out.new ≡ K.faults out.old }
 {
     scripts_with_golden();
-    let mut player = Player {
-        place: Place::first(alloc),
-        cut: None,
-        stage: Stage::Waiting,
-    };
+    let mut player = Player::first(alloc);
     let mut told = Told {
         reports: Vec::new(alloc),
         text: Vec::new(alloc),

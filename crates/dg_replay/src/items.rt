@@ -1,25 +1,23 @@
 //! Plays the items of a line: an image that is declared, an event, and the events of rounds and sweeps.
-ghost use Rattle.std.specs.Prelude.{◌≡◌, ◌≤◌, ◌∷◌, ◌++◌, [], ℕ, true, false, List, None, map, length, OnOk, OnErr};
+ghost use Rattle.std.specs.Prelude.{◌≡◌, ◌≤◌, ◌∷◌, ◌++◌, [], ℕ, List, Err, map, length, OnOk, OnErr, option_copied};
 ghost use Rattle.std.specs.List.{AllByRecursion};
-ghost use Rattle.dg_base.specs.declared.events.Step.{Step};
 ghost use Rattle.dg_nor.specs.Device.{Device};
 ghost use Rattle.dg_object.specs.Object.{row_of};
 ghost use Rattle.dg_rounds.specs.Rounds.{times, round, sweep};
-ghost use Rattle.dg_script.specs.Fitting.{IsDeclared};
+ghost use Rattle.dg_script.specs.Fitting.{FitsImage};
 ghost use Rattle.dg_script.specs.Items.{Declares, Happens, quietly};
 ghost use Rattle.dg_script.specs.Report.{report_text};
 ghost use Rattle.dg_rules.specs.Sizes.{most_events};
 ghost use Rattle.dg_rules.specs.World.{World as RuleWorld};
 ghost use Rattle.dg_rules.specs.Premises.{LinkFits};
-ghost use Rattle.dg_rules.specs.Ranges.{EventFits, StepFits};
+ghost use Rattle.dg_rules.specs.Ranges.{StepInRange};
 ghost use Rattle.dg_world.specs.Worlds.{IsWorld};
+ghost use Rattle.dg_world.specs.Occasions.{step_of};
 ghost use Rattle.dg_replay.specs.Boards.{WorldStands};
-ghost use Rattle.dg_replay.specs.Steps.{IsOfRound};
-ghost use Rattle.dg_replay.specs.Playing.{ItemsPlayedAs, GoesOn};
+ghost use Rattle.dg_replay.specs.Playing.{ItemsPlayedAs, KeepsMotes};
 
-use crate::steps::RoundSteps;
 use crate::stop::Stop;
-use dg_base::{Bytes, Event, Key, Step};
+use dg_base::{Bytes, Cut, Event, Key};
 use dg_nor::Nor;
 use dg_rounds::round;
 use dg_script::{Report, write_report};
@@ -68,9 +66,10 @@ pub fn play_image(
     content: Bytes,
     told: &mut Told,
 ) -> Result<(), Stop>
-    requires fits { IsDeclared key.image key.version name content }
+    requires fits { FitsImage key.image key.version name content }
     ensures { (boards initial : List Device) (w : RuleWorld) → IsWorld world.old boards w → WorldStands w initial boards
-        → ItemsPlayedAs result w (Declares (row_of key.image key.version name content) ∷ []) world.new initial boards told.old.text.items told.new.text.items }
+        → ItemsPlayedAs result w (Declares (row_of key.image key.version name content) ∷ []) world.new initial boards
+        told.old.text.items told.new.text.items }
 {
     let Key { image, version } = key;
     told.reports.clear();
@@ -84,22 +83,27 @@ pub fn play_image(
     }
 }
 
-/// Plays an event, whose frame is told where `loud` is true.
-pub fn play_step<N: Nor>(
+/// Plays an event with the cut that waits for it. Its frame is told where `loud` is true.
+pub fn play_event<N: Nor>(
     world: &mut World,
-    step: &Step,
+    event: &Event,
+    cut: Option<&Cut>,
     loud: bool,
     boards: &mut Vec<N>,
     told: &mut Told,
 ) -> Result<(), Stop>
-    requires { (w : RuleWorld) × IsWorld world.old (map N.device boards.old.items) w × StepFits (length w.sites) step.now }
-    ensures goes_on { GoesOn result world.old world.new (map N.device boards.old.items) (map N.device boards.new.items) }
-    ensures full { (w : RuleWorld) → IsWorld world.old (map N.device boards.old.items) w → w.events ≡ most_events → result ≡ Err Stop.TooMany }
-    ensures played { (w : RuleWorld) (initial : List Device) → IsWorld world.old (map N.device boards.old.items) w → WorldStands w initial (map N.device boards.old.items)
-        → ItemsPlayedAs result w (Happens step.now loud ∷ []) world.new initial (map N.device boards.new.items) told.old.text.items told.new.text.items }
+    requires { (w : RuleWorld) × IsWorld world.old (map N.device boards.old.items) w
+        × StepInRange (length w.sites) (step_of event.now (option_copied cut)) }
+    ensures goes_on { KeepsMotes result world.old world.new (map N.device boards.old.items) (map N.device boards.new.items) }
+    ensures full { (w : RuleWorld) → IsWorld world.old (map N.device boards.old.items) w → w.events ≡ most_events
+        → result ≡ Err Stop.TooMany }
+    ensures played { (w : RuleWorld) (initial : List Device) → IsWorld world.old (map N.device boards.old.items) w
+        → WorldStands w initial (map N.device boards.old.items)
+        → ItemsPlayedAs result w (Happens (step_of event.now (option_copied cut.entry)) loud ∷ []) world.new initial
+        (map N.device boards.new.items) told.old.text.items told.new.text.items }
 {
     told.reports.clear();
-    match world.apply(boards, step, loud, &mut told.reports) {
+    match world.apply(boards, event, cut, loud, &mut told.reports) {
         Ok(()) => tell(told),
         Err(WorldFault::Memory) => Err(Stop::Memory),
         Err(WorldFault::Flash { .. }) => Err(Stop::FlashFault),
@@ -109,24 +113,7 @@ pub fn play_step<N: Nor>(
     }
 }
 
-/// Plays an event of a round: its frame is not told.
-fn play_quietly<N: Nor>(
-    world: &mut World,
-    steps: &RoundSteps,
-    event: Event,
-    boards: &mut Vec<N>,
-    told: &mut Told,
-) -> Result<(), Stop>
-    requires world { (w : RuleWorld) × IsWorld world.old (map N.device boards.old.items) w × EventFits (length w.sites) event }
-    requires of_round { IsOfRound steps.now.first steps.now.second event }
-    ensures goes_on { GoesOn result world.old world.new (map N.device boards.old.items) (map N.device boards.new.items) }
-    ensures played { (w : RuleWorld) (initial : List Device) → IsWorld world.old (map N.device boards.old.items) w → WorldStands w initial (map N.device boards.old.items)
-        → ItemsPlayedAs result w (quietly (event ∷ [])) world.new initial (map N.device boards.new.items) told.old.text.items told.new.text.items }
-{
-    play_step(world, steps.of(&event), false, boards, told)
-}
-
-/// Plays the events of a round.
+/// Plays the events of a round. Their frames are not told.
 pub fn play_round<N: Nor>(
     world: &mut World,
     a: u8,
@@ -135,13 +122,14 @@ pub fn play_round<N: Nor>(
     told: &mut Told,
 ) -> Result<(), Stop>
     requires { (w : RuleWorld) × IsWorld world.old (map N.device boards.old.items) w × LinkFits (length w.sites) (a, b) }
-    ensures goes_on { GoesOn result world.old world.new (map N.device boards.old.items) (map N.device boards.new.items) }
-    ensures played { (w : RuleWorld) (initial : List Device) → IsWorld world.old (map N.device boards.old.items) w → WorldStands w initial (map N.device boards.old.items)
-        → ItemsPlayedAs result w (quietly (round a b)) world.new initial (map N.device boards.new.items) told.old.text.items told.new.text.items }
+    ensures goes_on { KeepsMotes result world.old world.new (map N.device boards.old.items) (map N.device boards.new.items) }
+    ensures played { (w : RuleWorld) (initial : List Device) → IsWorld world.old (map N.device boards.old.items) w
+        → WorldStands w initial (map N.device boards.old.items)
+        → ItemsPlayedAs result w (quietly (round a b)) world.new initial (map N.device boards.new.items) told.old.text.items
+        told.new.text.items }
 {
-    let steps = RoundSteps::new(a, b);
     for event in round(a, b) {
-        play_quietly(world, &steps, event, boards, told)?;
+        play_event(world, &event, None, false, boards, told)?;
     }
     Ok(())
 }
@@ -155,9 +143,11 @@ fn play_both<N: Nor>(
     told: &mut Told,
 ) -> Result<(), Stop>
     requires { (w : RuleWorld) × IsWorld world.old (map N.device boards.old.items) w × LinkFits (length w.sites) (a, b) }
-    ensures goes_on { GoesOn result world.old world.new (map N.device boards.old.items) (map N.device boards.new.items) }
-    ensures played { (w : RuleWorld) (initial : List Device) → IsWorld world.old (map N.device boards.old.items) w → WorldStands w initial (map N.device boards.old.items)
-        → ItemsPlayedAs result w (quietly (round a b ++ round b a)) world.new initial (map N.device boards.new.items) told.old.text.items told.new.text.items }
+    ensures goes_on { KeepsMotes result world.old world.new (map N.device boards.old.items) (map N.device boards.new.items) }
+    ensures played { (w : RuleWorld) (initial : List Device) → IsWorld world.old (map N.device boards.old.items) w
+        → WorldStands w initial (map N.device boards.old.items)
+        → ItemsPlayedAs result w (quietly (round a b ++ round b a)) world.new initial (map N.device boards.new.items)
+        told.old.text.items told.new.text.items }
 {
     play_round(world, a, b, boards, told)?;
     play_round(world, b, a, boards, told)?;
@@ -171,10 +161,13 @@ fn play_sweep<N: Nor>(
     boards: &mut Vec<N>,
     told: &mut Told,
 ) -> Result<(), Stop>
-    requires { (w : RuleWorld) × IsWorld world.old (map N.device boards.old.items) w × AllByRecursion (LinkFits (length w.sites)) links.now }
-    ensures goes_on { GoesOn result world.old world.new (map N.device boards.old.items) (map N.device boards.new.items) }
-    ensures played { (w : RuleWorld) (initial : List Device) → IsWorld world.old (map N.device boards.old.items) w → WorldStands w initial (map N.device boards.old.items)
-        → ItemsPlayedAs result w (quietly (sweep links.now)) world.new initial (map N.device boards.new.items) told.old.text.items told.new.text.items }
+    requires { (w : RuleWorld) × IsWorld world.old (map N.device boards.old.items) w
+        × AllByRecursion (LinkFits (length w.sites)) links.now }
+    ensures goes_on { KeepsMotes result world.old world.new (map N.device boards.old.items) (map N.device boards.new.items) }
+    ensures played { (w : RuleWorld) (initial : List Device) → IsWorld world.old (map N.device boards.old.items) w
+        → WorldStands w initial (map N.device boards.old.items)
+        → ItemsPlayedAs result w (quietly (sweep links.now)) world.new initial (map N.device boards.new.items)
+        told.old.text.items told.new.text.items }
 {
     for link in links {
         play_both(world, link.0, link.1, boards, told)?;
@@ -190,9 +183,12 @@ pub fn play_sweeps<N: Nor>(
     boards: &mut Vec<N>,
     told: &mut Told,
 ) -> Result<(), Stop>
-    requires { (w : RuleWorld) × IsWorld world.old (map N.device boards.old.items) w × AllByRecursion (LinkFits (length w.sites)) links.now }
-    ensures { (w : RuleWorld) (initial : List Device) → IsWorld world.old (map N.device boards.old.items) w → WorldStands w initial (map N.device boards.old.items)
-        → ItemsPlayedAs result w (quietly (times count (sweep links.now))) world.new initial (map N.device boards.new.items) told.old.text.items told.new.text.items }
+    requires { (w : RuleWorld) × IsWorld world.old (map N.device boards.old.items) w
+        × AllByRecursion (LinkFits (length w.sites)) links.now }
+    ensures { (w : RuleWorld) (initial : List Device) → IsWorld world.old (map N.device boards.old.items) w
+        → WorldStands w initial (map N.device boards.old.items)
+        → ItemsPlayedAs result w (quietly (times count (sweep links.now))) world.new initial (map N.device boards.new.items)
+        told.old.text.items told.new.text.items }
 {
     for _ in 0..count {
         play_sweep(world, links, boards, told)?;

@@ -14,7 +14,6 @@ mod items;
 mod laws;
 mod lines;
 mod player;
-mod steps;
 mod stop;
 
 pub use call::replay;

@@ -14,8 +14,8 @@ use crate::player::{Player, play_line};
 use crate::stop::Stop;
 use dg_base::{Sink, WriteFailed};
 use dg_nor::Nor;
-use dg_script::{Line, LineFault, read_line};
-use std::alloc::{AllocError, Global};
+use dg_script::{Line, LineFault, Place, read_line};
+use std::alloc::Global;
 
 /// Writes a piece.
 pub fn put_piece<K: Sink>(out: &mut K, piece: &[u8]) -> Result<(), Stop>
@@ -47,7 +47,8 @@ fn write_told<K: Sink>(out: &mut K, text: &[u8]) -> Result<(), Stop>
 
 /// Writes what is told of the items of a line before the one at which the replay stops, and answers why it does.
 fn write_begun<K: Sink>(out: &mut K, text: &[u8], stop: Stop) -> Stop
-    ensures written { BegunWritten stop result text.now (K.written out.old) (K.written out.new) (Rose (K.faults out.old) (K.faults out.new)) }
+    ensures written { BegunWritten stop result text.now (K.written out.old) (K.written out.new)
+        (Rose (K.faults out.old) (K.faults out.new)) }
     ensures counts { K.faults out.old ≤ K.faults out.new }
     ensures unfailed { result ≢ Stop.WriteFault → K.faults out.new ≡ K.faults out.old }
 {
@@ -71,15 +72,12 @@ fn stop_at(line: u32, fault: LineFault) -> Stop
     Stop::BadInput { line, fault }
 }
 
-/// Reads the text of a line. The player's place goes on behind it.
-fn next_line(alloc: Global, text: &[u8], number: u32, player: &mut Player) -> Result<Line, Stop>
-    ensures { MatchResult result (LineFound player.old player.new text.now) (NotFound player.old.place text.now number) }
+/// Reads the text of a line that stands at this place.
+fn next_line(alloc: Global, text: &[u8], number: u32, place: &Place) -> Result<Line, Stop>
+    ensures { MatchResult result (LineFound place.now text.now) (NotFound place.now text.now number) }
 {
-    match read_line(alloc, text, &player.place) {
-        Ok(line) => match player.place.pass(&line) {
-            Ok(()) => Ok(line),
-            Err(AllocError) => Err(Stop::Memory),
-        },
+    match read_line(alloc, text, place) {
+        Ok(line) => Ok(line),
         Err(fault) => Err(stop_at(number, fault)),
     }
 }
@@ -95,15 +93,17 @@ pub fn play_text<K: Sink, N: Nor>(
     told: &mut Told,
 ) -> Result<(), Stop>
     requires { Ready player.old (map N.device boards.old.items) }
-    ensures played { (done : List Line) (w : Option World) (initial : List Device) (table : List Row) → Stood player.old done w initial (map N.device boards.old.items)
-        → TextAnswer table result text.now number player.old player.new done w initial (map N.device boards.old.items) (map N.device boards.new.items)
+    ensures played { (done : List Line) (w : Option World) (initial : List Device) (table : List Row)
+        → Stood player.old done w initial (map N.device boards.old.items)
+        → TextAnswer table result text.now number player.old player.new done w initial (map N.device boards.old.items)
+        (map N.device boards.new.items)
         (K.written out.old) (K.written out.new) (Rose (K.faults out.old) (K.faults out.new)) }
     ensures counts { K.faults out.old ≤ K.faults out.new }
     ensures unfailed { result ≢ Err Stop.WriteFault → K.faults out.new ≡ K.faults out.old }
 {
     told.text.clear();
-    let line = next_line(alloc, text, number, player)?;
-    match play_line(alloc, line, number, player, boards, told) {
+    let line = next_line(alloc, text, number, &player.place)?;
+    match play_line(alloc, line, player, boards, told) {
         Ok(()) => write_told(out, &told.text),
         Err(stop) => Err(write_begun(out, &told.text, stop)),
     }

@@ -1,43 +1,49 @@
 //! Plays the lines of a script over its world.
-ghost use Rattle.std.specs.Prelude.{◌≡◌, ◌<◌, ◌≤◌, ◌∷◌, [], ℕ, true, false, List, Option, Some, None, Err, map, length, OnOk, OnErr, IfOk};
+ghost use Rattle.std.specs.Prelude.{◌≡◌, ◌<◌, ◌≤◌, ◌∷◌, [], ℕ, true, false, List, Option, Some, None, Err, map, length, OnOk};
+ghost use Rattle.std.specs.Prelude.{OnErr, IfOk};
 ghost use Rattle.dg_nor.specs.Device.{Device};
 ghost use Rattle.dg_volume.specs.Store.{fresh};
-ghost use Rattle.dg_script.specs.Fitting.{StandsAt, FitsLine, IsGolden};
+ghost use Rattle.dg_script.specs.Fitting.{IsGolden};
+ghost use Rattle.dg_script.specs.Places.{first_place, place_after};
 ghost use Rattle.dg_rules.specs.World.{World as RuleWorld};
 ghost use Rattle.dg_object.specs.Object.{Row};
-ghost use Rattle.dg_replay.specs.Playing.{Stood, Passed, MayPlay, Counted, PlayedAs, FormattedAs, MountedAs, LinkedAs, mount_stop};
+ghost use Rattle.dg_replay.specs.Playing.{Stood, MayPlay, gone_on, Counted, PlayedAs, FormattedAs, MountedAs, mount_stop};
 
-use crate::items::{Told, play_image, play_round, play_step, play_sweeps};
+use crate::items::{Told, play_event, play_image, play_round, play_sweeps};
 use crate::stop::Stop;
-use dg_base::{Bytes, Cut, Key, Step};
+use dg_base::{Bytes, Key};
 use dg_nor::Nor;
-use dg_script::{Line, LineFault, Place};
+use dg_script::{Line, Place};
 use dg_volume::a_chip_stands_for_a_shaped_store;
 use dg_world::{FormatStopped, MountStopped, World, format_boards, mount_boards};
 use std::alloc::{AllocError, Global};
+use std::mem;
 
 /// Where a replay stands.
 #[derive(Drop)]
 pub struct Player {
     pub place: Place,
-    /// The cut that waits for its event.
-    pub cut: Option<Cut>,
-    pub stage: Stage,
+    /// The world of the motes. It has none before the boards are used.
+    pub world: World,
 }
 
-/// Whether the boards are used yet.
-#[derive(Drop)]
-pub enum Stage {
-    /// They are not: the second line is still to come.
-    Waiting,
-    /// They are, by the motes of this world.
-    Playing(World),
+impl Player {
+    /// The player of the first line of a script.
+    pub fn first(alloc: Global) -> Player
+        ensures { result.place ≡ first_place }
+    {
+        Player {
+            place: Place::first(alloc),
+            world: World::none(alloc),
+        }
+    }
 }
 
 /// There are so many motes, for which boards are needed.
 fn play_motes<N: Nor>(motes: u8, boards: &Vec<N>) -> Result<(), Stop>
     ensures enough { OnOk result (motes ≤ length boards.now.items) }
-    ensures missing { (stop : Stop) → result ≡ Err stop → (stop ≡ Stop.NoBoard motes (length boards.now.items)) × (length boards.now.items < motes) }
+    ensures missing { (stop : Stop) → result ≡ Err stop → (stop ≡ Stop.NoBoard motes (length boards.now.items))
+        × (length boards.now.items < motes) }
 {
     let have = boards.len();
     if have < usize::from(motes) {
@@ -76,7 +82,8 @@ fn format<N: Nor>(
 ) -> Result<(), FormatStopped>
     requires fits { IsGolden name.now used content.now }
     requires counted { Counted motes (length boards.old.items) }
-    ensures { FormattedAs result motes (fresh name.now content.now used) (map N.device boards.old.items) (map N.device boards.new.items) }
+    ensures { FormattedAs result motes (fresh name.now content.now used) (map N.device boards.old.items)
+        (map N.device boards.new.items) }
 {
     format_first(boards.as_mut_slice(), motes, name, used, content)
 }
@@ -92,9 +99,12 @@ fn play_golden<N: Nor>(
 ) -> Result<(), Stop>
     requires fits { IsGolden name.now used content.now }
     requires counted { Counted player.old.place.motes (length boards.old.items) }
-    ensures played { (p : Player) (done : List Line) (w : Option RuleWorld) (initial : List Device) (table : List Row) (told : List ℕ) → Passed p player.old (Line.Golden name.now used content.now)
-        → p.place.ready ≡ false → Stood p done w initial (map N.device boards.old.items)
-        → PlayedAs table result player.new done w (Line.Golden name.now used content.now) told told initial (map N.device boards.old.items) (map N.device boards.new.items) }
+    requires unready { player.old.place.ready ≡ false }
+    ensures played { (done : List Line) (w : Option RuleWorld) (initial : List Device) (table : List Row) (told : List ℕ)
+        → Stood player.old done w initial (map N.device boards.old.items)
+        → PlayedAs table result (gone_on player.new (Line.Golden name.now used content.now)) done w
+        (Line.Golden name.now used content.now) told told initial (map N.device boards.old.items)
+        (map N.device boards.new.items) }
     ensures place { player.new.place ≡ player.old.place }
 {
     let motes = player.place.motes;
@@ -104,7 +114,7 @@ fn play_golden<N: Nor>(
     };
     match format(boards, motes, name, used, content) {
         Ok(()) => {
-            player.stage = Stage::Playing(world);
+            player.world = world;
             Ok(())
         }
         Err(FormatStopped { .. }) => Err(Stop::FlashFault),
@@ -141,9 +151,11 @@ fn mount_stop(stopped: MountStopped) -> Stop
 /// The boards of the motes are used as they are.
 fn play_boards<N: Nor>(alloc: Global, player: &mut Player, boards: &mut Vec<N>) -> Result<(), Stop>
     requires counted { Counted player.old.place.motes (length boards.old.items) }
-    ensures played { (p : Player) (done : List Line) (w : Option RuleWorld) (initial : List Device) (table : List Row) (told : List ℕ) → Passed p player.old Line.Boards
-        → p.place.ready ≡ false → Stood p done w initial (map N.device boards.old.items)
-        → PlayedAs table result player.new done w Line.Boards told told initial (map N.device boards.old.items) (map N.device boards.new.items) }
+    requires unready { player.old.place.ready ≡ false }
+    ensures played { (done : List Line) (w : Option RuleWorld) (initial : List Device) (table : List Row) (told : List ℕ)
+        → Stood player.old done w initial (map N.device boards.old.items)
+        → PlayedAs table result (gone_on player.new Line.Boards) done w Line.Boards told told initial
+        (map N.device boards.old.items) (map N.device boards.new.items) }
     ensures place { player.new.place ≡ player.old.place }
 {
     let motes = player.place.motes;
@@ -153,48 +165,40 @@ fn play_boards<N: Nor>(alloc: Global, player: &mut Player, boards: &mut Vec<N>) 
     };
     match mount(boards, motes) {
         Ok(()) => {
-            player.stage = Stage::Playing(world);
+            player.world = world;
             Ok(())
         }
         Err(stopped) => Err(mount_stop(stopped)),
     }
 }
 
-/// Two motes become neighbours.
-fn play_link(world: &mut World, a: u8, b: u8) -> Result<(), Stop>
-    ensures { LinkedAs result world.old world.new (a, b) }
+/// Takes bytes out of a line.
+fn take_bytes(alloc: Global, bytes: &mut Bytes) -> Bytes
+    ensures { result ≡ bytes.old }
 {
-    match world.link(a, b) {
-        Ok(()) => Ok(()),
-        Err(AllocError) => Err(Stop::Memory),
-    }
+    mem::replace(bytes, Bytes::new(Vec::new(alloc)))
 }
 
-/// The stop at a line that may not stand where it does. The reader lets none come.
-fn misplaced(line: u32) -> Stop {
-    Stop::BadInput {
-        line,
-        fault: LineFault::Place,
-    }
-}
-
-/// Plays a line before the boards are used.
-fn play_early<N: Nor>(
+/// Plays a line where the player stands. The bytes of an image are taken out of it, which its place does not go on by. A cut
+/// waits for its event. What is told of the line is appended.
+fn play_here<N: Nor>(
     alloc: Global,
-    line: &Line,
-    number: u32,
+    line: &mut Line,
     player: &mut Player,
     boards: &mut Vec<N>,
+    told: &mut Told,
 ) -> Result<(), Stop>
-    requires may { MayPlay line.now player.old (map N.device boards.old.items) }
-    requires waits { player.old.stage ≡ Stage.Waiting }
-    ensures played { (p : Player) (done : List Line) (w : Option RuleWorld) (initial : List Device) (table : List Row) (told : List ℕ) → Passed p player.old line.now → StandsAt p.place line.now → FitsLine p.place.motes line.now
-        → Stood p done w initial (map N.device boards.old.items)
-        → PlayedAs table result player.new done w line.now told told initial (map N.device boards.old.items) (map N.device boards.new.items) }
-    ensures place { player.new.place ≡ player.old.place }
+    requires may { MayPlay line.old player.old (map N.device boards.old.items) }
+    ensures played { (done : List Line) (w : Option RuleWorld) (initial : List Device) (table : List Row)
+        → Stood player.old done w initial (map N.device boards.old.items)
+        → PlayedAs table result (gone_on player.new line.new) done w line.old told.old.text.items told.new.text.items initial
+        (map N.device boards.old.items) (map N.device boards.new.items) }
+    ensures behind { place_after player.new.place line.new ≡ place_after player.old.place line.old }
+    ensures linked { (a b : ℕ) → line.new ≡ Line.Link a b → boards.new.items ≡ boards.old.items }
 {
     match line {
         Line::Nothing => Ok(()),
+        Line::Cut(_) => Ok(()),
         Line::Motes(motes) => play_motes(*motes, boards),
         Line::Golden {
             name,
@@ -202,58 +206,59 @@ fn play_early<N: Nor>(
             content,
         } => play_golden(alloc, player, name, *used, content, boards),
         Line::Boards => play_boards(alloc, player, boards),
-        _ => Err(misplaced(number)),
+        Line::Image {
+            image,
+            version,
+            name,
+            content,
+        } => {
+            let key = Key {
+                image: *image,
+                version: *version,
+            };
+            let (name, content) = (take_bytes(alloc, name), take_bytes(alloc, content));
+            play_image(&mut player.world, key, name, content, told)
+        }
+        Line::Happens(event) => {
+            let cut = player.place.cut.as_ref();
+            play_event(&mut player.world, event, cut, true, boards, told)
+        }
+        Line::Link(a, b) => {
+            player.world.link(*a, *b);
+            Ok(())
+        }
+        Line::Narrow(mote) => {
+            player.world.narrow(*mote);
+            Ok(())
+        }
+        Line::Round(a, b) => play_round(&mut player.world, *a, *b, boards, told),
+        Line::Sweeps(count) => {
+            let links = player.place.links.as_slice();
+            play_sweeps(&mut player.world, links, *count, boards, told)
+        }
     }
 }
 
-/// Plays a line that was read, behind which the player's place went on. What is told of it is appended.
+/// Plays a line that was read, and then the player's place goes on behind it. What is told of it is appended.
 pub fn play_line<N: Nor>(
     alloc: Global,
-    line: Line,
-    number: u32,
+    mut line: Line,
     player: &mut Player,
     boards: &mut Vec<N>,
     told: &mut Told,
 ) -> Result<(), Stop>
     requires may { MayPlay line player.old (map N.device boards.old.items) }
-    ensures played { (p : Player) (done : List Line) (w : Option RuleWorld) (initial : List Device) (table : List Row) → Passed p player.old line → StandsAt p.place line → FitsLine p.place.motes line → Stood p done w initial (map N.device boards.old.items)
-        → PlayedAs table result player.new done w line told.old.text.items told.new.text.items initial (map N.device boards.old.items) (map N.device boards.new.items) }
-    ensures place { player.new.place ≡ player.old.place }
+    ensures played { (done : List Line) (w : Option RuleWorld) (initial : List Device) (table : List Row)
+        → Stood player.old done w initial (map N.device boards.old.items)
+        → PlayedAs table result player.new done w line told.old.text.items told.new.text.items initial
+        (map N.device boards.old.items) (map N.device boards.new.items) }
+    ensures behind { OnOk result (player.new.place ≡ place_after player.old.place line) }
 {
-    match &mut player.stage {
-        Stage::Waiting => play_early(alloc, &line, number, player, boards),
-        Stage::Playing(world) => match line {
-            Line::Nothing => Ok(()),
-            Line::Image {
-                image,
-                version,
-                name,
-                content,
-            } => play_image(world, Key { image, version }, name, content, told),
-            Line::Cut(cut) => {
-                player.cut = Some(cut);
-                Ok(())
-            }
-            Line::Happens(event) => {
-                let cut = player.cut.take();
-                play_step(world, &Step { event, cut }, true, boards, told)
-            }
-            Line::Link(a, b) => play_link(world, a, b),
-            Line::Narrow(mote) => {
-                world.narrow(mote);
-                Ok(())
-            }
-            Line::Round(a, b) => play_round(world, a, b, boards, told),
-            Line::Sweeps(count) => {
-                play_sweeps(world, player.place.links.as_slice(), count, boards, told)
-            }
-            Line::Motes(_) => Err(misplaced(number)),
-            Line::Golden {
-                name: _name,
-                used: _used,
-                content: _content,
-            } => Err(misplaced(number)),
-            Line::Boards => Err(misplaced(number)),
+    match play_here(alloc, &mut line, player, boards, told) {
+        Ok(()) => match player.place.pass(line) {
+            Ok(()) => Ok(()),
+            Err(AllocError) => Err(Stop::Memory),
         },
+        Err(stop) => Err(stop),
     }
 }

@@ -14,11 +14,11 @@ use Rattle.dg_object.specs.Sizes.{most_bytes}
 use Rattle.dg_script.specs.Sizes.{most_motes, most_image, most_used, most_sweeps, most_number, most_content}
 use Rattle.dg_script.specs.Results.{allowed_if, or_fault}
 use Rattle.dg_script.specs.Words.{one_of, two_of, three_of, four_of, five_of, six_of}
-use Rattle.dg_script.specs.Contents.{name_of, content_of, sized, sized_content, mask_of}
+use Rattle.dg_script.specs.Contents.{spelled_name, content_of, sized, sized_content, spelled_mask}
 use Rattle.dg_script.specs.Verbs.{is_played, stands, follows, standing, verb_of}
 use Rattle.dg_script.specs.Places.{is_linked, is_narrow}
-use Rattle.dg_script.specs.Fields.{number_in, ranged_in, motes_in, mote_in, other_in, image_in, any_image_in, version_in, counted_in, used_in, sweeps_in}
-use Rattle.dg_script.specs.Lines.{motes_of, golden_of, none_of, boards_of, link_of, narrow_of, image_of, tick_of, hear_of, last_of, reset_of, inject_of, order_of, frame_of, most_by, at_most, cut_with, cut_of, round_of, sweeps_of, fields_of, played_verb}
+use Rattle.dg_script.specs.Fields.{number_in, ranged_in, mote_count_in, mote_in, other_in, image_in, any_image_in, version_in, counted_in, used_in, sweeps_in}
+use Rattle.dg_script.specs.Lines.{motes_of, golden_of, none_of, boards_of, link_of, narrow_of, image_of, tick_of, hear_of, last_line_of, reset_of, inject_of, order_of, frame_of, most_by, at_most, cut_with, cut_of, round_of, sweeps_of, fields_of, played_verb}
 use Rattle.dg_script.specs.Fitting.{StandsBy, StandsAt, FitsLine, IsTimed, IsCounted, IsVersion, AreTwo, IsPlayed}
 use Rattle.dg_script.specs.Reading.{Reads}
 use Rattle.dg_script.specs.declared.fault.LineFault.{LineFault}
@@ -50,7 +50,7 @@ cut_with-ok cut =
 
 -- a cut whose fields are read
 pub cut_of-read : (place : Place) (fields : List (List ℕ)) (operation digits : List ℕ) (cut : CutOfPower) → two_of fields ≡ Ok (operation, digits) → standing verb.Cut place ≡ Ok (tt {0})
-    → counted_in operation ≡ Ok cut.after → mask_of digits ≡ Ok cut.mask → cut_of place fields ≡ Ok (Cut cut)
+    → counted_in operation ≡ Ok cut.after → spelled_mask digits ≡ Ok cut.mask → cut_of place fields ≡ Ok (Cut cut)
 unfolding cut_of
 cut_of-read place fields operation digits cut words stands after mask = rw (words, stands, after, mask, cut_with-ok cut) refl
 
@@ -92,8 +92,8 @@ other_in-other motes mote word n h =
     let below = mote_in-below motes word read.0 read.1 in
     tested (not (read.0 == mote)) fault.Mote read.0 n (λ m. (m < motes) × (m ≢ mote)) read.2 (λ other. (below, eqb-false read.0 mote (not-true _ other)))
 
-name_of-name : (word name : List ℕ) → name_of word ≡ Ok name → spells_name name ≡ true
-unfolding name_of
+name_of-name : (word name : List ℕ) → spelled_name word ≡ Ok name → spells_name name ≡ true
+unfolding spelled_name
 name_of-name word name h = tested (spells_name word) fault.Name word name (λ n. spells_name n ≡ true) h (λ here. here)
 
 -- bytes have their sizes
@@ -116,8 +116,8 @@ sized_content-is least most word bytes h =
     let size = sized-within fault.Content least most read.0 bytes read.2 in
     record { low = size.1; high = size.2; bytes = subst AreBytes size.0 (contents_are_bytes word read.0 (or_fault_ok fault.Content (content_of word) read.0 read.1)) }
 
-mask_of-bytes : (word bytes : List ℕ) → mask_of word ≡ Ok bytes → AreBytes bytes
-unfolding mask_of
+mask_of-bytes : (word bytes : List ℕ) → spelled_mask word ≡ Ok bytes → AreBytes bytes
+unfolding spelled_mask
 mask_of-bytes word bytes h =
     let read = bound (or_fault fault.Mask (hex_bytes word)) _ bytes h in
     let size = sized-within fault.Mask 1 longest_mask read.0 bytes read.2 in
@@ -162,7 +162,7 @@ unfolding motes_of
 motes_known place fields line h =
     let t = bound (one_of fields) _ line h in
     let u = bound (standing verb.Motes place) _ line t.2 in
-    let n = bound (motes_in t.0) _ line u.2 in
+    let n = bound (mote_count_in t.0) _ line u.2 in
     let here : Motes n.0 ≡ line = cc in
     let P : Line → Type 0 = λ l. Known verb.Motes place l in
     subst P here (record { stood = standing-by verb.Motes place u.0 u.1; fitting = ranged_in-within fault.Mote 1 most_motes t.0 n.0 n.1; playing = λ p. p })
@@ -172,7 +172,7 @@ unfolding golden_of
 golden_known place fields line h =
     let t = bound (three_of fields) _ line h in
     let u = bound (standing verb.Golden place) _ line t.2 in
-    let name = bound (name_of t.0.0) _ line u.2 in
+    let name = bound (spelled_name t.0.0) _ line u.2 in
     let used = bound (used_in t.0.1) _ line name.2 in
     let content = bound (sized_content 1 most_bytes t.0.2) _ line used.2 in
     let size = sized_content-is 1 most_bytes t.0.2 content.0 content.1 in
@@ -230,7 +230,7 @@ image_known place fields line h =
     let u = bound (standing verb.Image place) _ line t.2 in
     let image = bound (image_in t.0.0) _ line u.2 in
     let version = bound (version_in t.0.1) _ line image.2 in
-    let name = bound (name_of t.0.2) _ line version.2 in
+    let name = bound (spelled_name t.0.2) _ line version.2 in
     let content = bound (sized_content 0 most_content t.0.3) _ line name.2 in
     let number = ranged_in-within fault.Image 1 most_image t.0.0 image.0 image.1 in
     let some = ranged_in-within fault.Version 1 most_number t.0.1 version.0 version.1 in
@@ -284,8 +284,8 @@ hear_known place fields line h =
       playing = λ p. p;
     })
 
-last_known : (place : Place) (fields : List (List ℕ)) (line : Line) → last_of place fields ≡ Ok line → Known verb.Last place line
-unfolding last_of
+last_known : (place : Place) (fields : List (List ℕ)) (line : Line) → last_line_of place fields ≡ Ok line → Known verb.Last place line
+unfolding last_line_of
 last_known place fields line h =
     let t = bound (four_of fields) _ line h in
     let u = bound (standing verb.Last place) _ line t.2 in
@@ -379,7 +379,7 @@ cut_known place fields line h =
     let t = bound (two_of fields) _ line h in
     let u = bound (standing verb.Cut place) _ line t.2 in
     let after = bound (counted_in t.0.0) _ line u.2 in
-    let mask = bound (mask_of t.0.1) _ line after.2 in
+    let mask = bound (spelled_mask t.0.1) _ line after.2 in
     let cut = bound (cut_with after.0 mask.0) _ line mask.2 in
     let is = cut_with-is after.0 mask.0 cut.0 cut.1 in
     let count = counted t.0.0 after.0 after.1 in

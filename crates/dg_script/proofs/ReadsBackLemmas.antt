@@ -21,11 +21,11 @@ use Rattle.dg_base.proofs.HexLemmas.{hex_bytes-hex_text, length-hex_text}
 use Rattle.dg_object.specs.Sizes.{most_bytes}
 use Rattle.dg_script.specs.Sizes.{most_motes, most_image, most_used, most_sweeps, most_number, most_content, most_line, most_written}
 use Rattle.dg_script.specs.Words.{split_of, with_word, words_of, behind_spaces, spaced}
-use Rattle.dg_script.specs.Contents.{name_of, content_of, sized_content, mask_of}
+use Rattle.dg_script.specs.Contents.{spelled_name, content_of, sized_content, spelled_mask}
 use Rattle.dg_script.specs.Verbs.{word_of, verb_of, is_played, standing}
 use Rattle.dg_script.specs.Places.{is_linked, is_narrow}
 use Rattle.dg_script.specs.Fields.{number_in, ranged_in, mote_in, other_in}
-use Rattle.dg_script.specs.Lines.{motes_of, golden_of, boards_of, link_of, narrow_of, image_of, tick_of, hear_of, last_of, reset_of, inject_of, order_of, frame_of, cut_of, round_of, sweeps_of, fields_of, played_verb, is_comment, line_of}
+use Rattle.dg_script.specs.Lines.{motes_of, golden_of, boards_of, link_of, narrow_of, image_of, tick_of, hear_of, last_line_of, reset_of, inject_of, order_of, frame_of, cut_of, round_of, sweeps_of, fields_of, played_verb, is_comment, line_of}
 use Rattle.dg_script.specs.Fitting.{StandsBy, StandsAt, FitsLine, FitsEvent, IsVersion, AreTwo, IsPlayed, verb_of_event}
 use Rattle.dg_script.specs.Spelling.{content_text, event_words, line_text, IsShort}
 use Rattle.dg_script.specs.declared.fault.LineFault.{LineFault}
@@ -183,10 +183,10 @@ other_mote motes first n is below other = rw (mote motes n is below, ne_eqb n fi
 record IsName (name : List ℕ) : Type 0 where
   word : IsWord name
   short : length name ≤ 16
-  read : name_of name ≡ Ok name
+  read : spelled_name name ≡ Ok name
 
 name : (bytes : List ℕ) → spells_name bytes ≡ true → IsName bytes
-unfolding name_of
+unfolding spelled_name
 name bytes h =
     let outer = and_parts (nat_le 1 (length bytes) && nat_le (length bytes) 16) (list_all is_name_byte bytes) h in
     let low : 1 ≤ length bytes = grind (arith, nat_tests) in
@@ -213,10 +213,10 @@ content least most bytes are low high = record {
 record IsMask (bytes : List ℕ) : Type 0 where
   word : IsWord (hex_text bytes)
   size : length (hex_text bytes) ≡ 2 * length bytes
-  read : mask_of (hex_text bytes) ≡ Ok bytes
+  read : spelled_mask (hex_text bytes) ≡ Ok bytes
 
 mask : (bytes : List ℕ) → AreBytes bytes → 1 ≤ length bytes → length bytes ≤ longest_mask → IsMask bytes
-unfolding mask_of
+unfolding spelled_mask
 mask bytes are low high = record {
   word = record { some = omega (arith, length-hex_text bytes, low); whole = hex_lacks bytes };
   size = length-hex_text bytes;
@@ -326,7 +326,7 @@ hear_read place m d w k stands few fits plays =
     (rw (stood verb.Hear place stands, mote place.motes m a fits.0, b.read, c.read, ranged fault.Number 1 k most_number e fits.2.counted (omega (arith, fits.2.fits))) refl)
 
 last_read : (place : Place) (a b d w : ℕ) → EventReads place (Last a b d w)
-unfolding last_of
+unfolding last_line_of
 last_read place a b d w stands few fits plays =
     let x = number a (omega (arith, few.0.first)) in
     let y = number b (omega (arith, few.0.second)) in

@@ -14,7 +14,7 @@ use Rattle.dg_base.proofs.NumberLemmas.{number_of-decimal}
 use Rattle.dg_base.proofs.HexLemmas.{length-hex_text}
 use Rattle.dg_script.specs.Words.{same, words_of, spaced}
 use Rattle.dg_script.specs.Report.{cause_words, report_words, report_line}
-use Rattle.dg_script.specs.ReportReading.{FitsCause, FitsReport, number_at, digit_value, crc_of, cause_said, said}
+use Rattle.dg_script.specs.ReportReading.{FitsCause, FitsReport, number_at, digit_value, crc_of_digits, cause_said, report_said}
 use Rattle.dg_script.specs.declared.report.Cause.{Cause}
 use Rattle.dg_script.specs.declared.report.Cause.TheVariants as cause
 use Rattle.dg_script.specs.declared.report.Report.{Report}
@@ -106,8 +106,8 @@ address_here n h =
 digit_here : (v : ℕ) → v < 16 → digit_value (hex_digit v) ≡ v
 digit_here v h = eqb-true _ _ (agree_below_at (λ v. digit_value (hex_digit v) == v) (λ _. true) 16 v refl h)
 
-crc_here : (n : ℕ) → n < 2 ^ 16 → crc_of (hex_text (to_be_bytes w16 n)) ≡ n
-unfolding crc_of hex_text
+crc_here : (n : ℕ) → n < 2 ^ 16 → crc_of_digits (hex_text (to_be_bytes w16 n)) ≡ n
+unfolding crc_of_digits hex_text
 crc_here n h =
     let a = digit_here (n / 256 % 256 / 16) (omega arith) in
     let b = digit_here (n / 256 % 256 % 16) (omega arith) in
@@ -145,8 +145,8 @@ cause_here m cause.Taken f = refl
 cause_here m (cause.Worn n) f = ap cause.Worn (number_here n f)
 cause_here m (cause.OldOrder n) f = ap cause.OldOrder (number_here n f)
 
-here : (r : Report) → FitsReport r → said (report_words r) ≡ r
-unfolding said number_at
+here : (r : Report) → FitsReport r → report_said (report_words r) ≡ r
+unfolding report_said number_at
 here (Order m k i v) f = let a = small_here m f.0 in let b = number_here k f.1 in let c = small_here i f.2 in let d = number_here v f.3 in cc
 here (Lost m i) f = let a = small_here m f.0 in let b = small_here i f.1 in cc
 here (Have m i v n) f = let a = small_here m f.0 in let b = small_here i f.1 in let c = number_here v f.2 in let d = small_here n f.3 in cc
@@ -170,11 +170,11 @@ here (Kept m i v n) f = let a = small_here m f.0 in let b = small_here i f.1 in 
 text_of_line : (text : List ℕ) → take (length (text ++ 10 ∷ []) - 1) (text ++ 10 ∷ []) ≡ text
 text_of_line text = take_at text (10 ∷ []) (length (text ++ 10 ∷ []) - 1) (omega (arith, length-append text (10 ∷ [])))
 
-pub said_again : (r : Report) (line : List ℕ) → FitsReport r → report_line r ≡ line → said (words_of (take (length line - 1) line)) ≡ r
+pub said_again : (r : Report) (line : List ℕ) → FitsReport r → report_line r ≡ line → report_said (words_of (take (length line - 1) line)) ≡ r
 unfolding report_line
 said_again r line f e =
-    let P : List ℕ → Type 0 = λ l. said (words_of (take (length l - 1) l)) ≡ r in
-    subst P e (ap (λ t. said (words_of t)) (text_of_line (spaced (report_words r))) ∙ ap said (words r f) ∙ here r f)
+    let P : List ℕ → Type 0 = λ l. report_said (words_of (take (length l - 1) l)) ≡ r in
+    subst P e (ap (λ t. report_said (words_of t)) (text_of_line (spaced (report_words r))) ∙ ap report_said (words r f) ∙ here r f)
 
 pub line_some : (r : Report) (line : List ℕ) → report_line r ≡ line → length line ≡ 0 → ⊥
 unfolding report_line

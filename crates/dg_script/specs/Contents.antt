@@ -1,5 +1,6 @@
 -- Names, contents and masks.
-use Rattle.std.specs.Prelude.{ℕ, ◌+◌, ◌*◌, ◌/◌, ◌%◌, nat_le, ◌&&◌, if◌then◌else◌, List, length, take, drop, codes, Option, None, Result}
+use Rattle.std.specs.Prelude.{ℕ, ◌+◌, ◌*◌, ◌/◌, ◌%◌, nat_le, ◌&&◌, if◌then◌else◌, List, length, take, drop, codes, Option, None}
+use Rattle.std.specs.Prelude.{Result}
 use Rattle.dg_words.specs.Lists.{tabulate}
 use Rattle.dg_base.specs.Numbers.{number_of}
 use Rattle.dg_base.specs.Hexadecimal.{hex_bytes}
@@ -12,8 +13,8 @@ use Rattle.dg_script.specs.Sizes.{most_content}
 use Rattle.dg_script.specs.Words.{same, halves_of}
 
 -- the bytes of a name
-unfoldable pub name_of : List ℕ → Result (List ℕ) LineFault
-name_of word = guarded (spells_name word) Name word
+unfoldable pub spelled_name : List ℕ → Result (List ℕ) LineFault
+spelled_name word = guarded (spells_name word) Name word
 
 -- byte j of those that a seed makes
 abbrev pub generated_byte : (seed j : ℕ) → ℕ
@@ -26,7 +27,8 @@ generated len seed = tabulate len (generated_byte seed)
 -- a length and a seed, with a colon between them
 unfoldable pub generated_of : List ℕ → Option (List ℕ)
 generated_of fields =
-    halves_of fields >>? λ h. number_of h.0 >>? λ len. number_of h.1 >>? λ seed. kept_if (nat_le len most_content) (generated len seed)
+    halves_of fields >>? λ h. number_of h.0 >>? λ len. number_of h.1 >>? λ seed. kept_if (nat_le len most_content)
+    (generated len seed)
 
 -- a content is `hex:` and digits, or `gen:`, a length and a seed
 unfoldable pub content_of : List ℕ → Option (List ℕ)
@@ -44,5 +46,5 @@ unfoldable pub sized_content : (least most : ℕ) → List ℕ → Result (List 
 sized_content least most word = or_fault Content (content_of word) >>= sized Content least most
 
 -- the digits of 1 to 2,048 bytes
-unfoldable pub mask_of : List ℕ → Result (List ℕ) LineFault
-mask_of word = or_fault Mask (hex_bytes word) >>= sized Mask 1 longest_mask
+unfoldable pub spelled_mask : List ℕ → Result (List ℕ) LineFault
+spelled_mask word = or_fault Mask (hex_bytes word) >>= sized Mask 1 longest_mask

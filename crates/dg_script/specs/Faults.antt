@@ -1,7 +1,8 @@
 -- The words by which faults of lines are told.
 use Rattle.std.specs.Prelude.{ℕ, List, codes}
 use Rattle.dg_script.specs.declared.fault.LineFault.{LineFault}
-use Rattle.dg_script.specs.declared.fault.LineFault.TheVariants.{Memory, Verb, Few, Many, Number, Mote, Image, Version, Name, Content, Mask, Place, Cut, Long}
+use Rattle.dg_script.specs.declared.fault.LineFault.TheVariants.{Memory, Verb, Few, Many, Number, Mote, Image, Version, Name}
+use Rattle.dg_script.specs.declared.fault.LineFault.TheVariants.{Content, Mask, Place, Cut, Long}
 
 abbrev pub fault_name : LineFault → List ℕ
 fault_name Memory = codes "memory"

@@ -15,8 +15,8 @@ unfoldable pub ranged_in : (fault : LineFault) → (least most : ℕ) → List �
 ranged_in fault least most word = number_in word >>= λ n. guarded (nat_le least n && nat_le n most) fault n
 
 -- how many motes there are: 1 to 16
-abbrev pub motes_in : List ℕ → Result ℕ LineFault
-motes_in = ranged_in Mote 1 most_motes
+abbrev pub mote_count_in : List ℕ → Result ℕ LineFault
+mote_count_in = ranged_in Mote 1 most_motes
 
 -- one of so many motes
 unfoldable pub mote_in : (motes : ℕ) → List ℕ → Result ℕ LineFault

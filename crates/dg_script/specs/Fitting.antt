@@ -12,7 +12,8 @@ use Rattle.dg_script.specs.Sizes.{most_motes, most_image, most_used, most_conten
 use Rattle.dg_script.specs.Verbs.{is_played, stands, follows}
 use Rattle.dg_script.specs.Places.{is_linked, is_narrow}
 use Rattle.dg_script.specs.declared.line.Line.{Line}
-use Rattle.dg_script.specs.declared.line.Line.TheVariants.{Nothing, Motes, Golden, Boards, Link, Narrow, Image, Cut, Happens, Round, Sweeps}
+use Rattle.dg_script.specs.declared.line.Line.TheVariants.{Nothing, Motes, Golden, Boards, Link, Narrow, Image, Cut, Happens}
+use Rattle.dg_script.specs.declared.line.Line.TheVariants.{Round, Sweeps}
 use Rattle.dg_script.specs.declared.place.Place.{Place}
 use Rattle.dg_script.specs.declared.verbs.Verb.{Verb}
 use Rattle.dg_script.specs.declared.verbs.Verb.TheVariants as verb
@@ -26,7 +27,7 @@ pub record IsGolden (called : List ℕ) (spent : ℕ) (content : List ℕ) : Typ
   pub bytes : AreBytes content
 
 -- an image that is declared has a number from 1 to 6, a version and a name
-pub record IsDeclared (i v : ℕ) (called content : List ℕ) : Type 0 where
+pub record FitsImage (i v : ℕ) (called content : List ℕ) : Type 0 where
   pub image : 1 ≤ i
   pub image_fits : i ≤ most_image
   pub version : 1 ≤ v
@@ -75,7 +76,8 @@ FitsEvent motes (Hear mote dt word frame) = (mote < motes) × IsTimed dt word ×
 FitsEvent motes (Last from to dt word) = AreTwo motes from to × IsTimed dt word
 FitsEvent motes (Reset mote dt word) = (mote < motes) × IsTimed dt word
 FitsEvent motes (Inject mote image version dt word) = (mote < motes) × IsVersion image version × IsTimed dt word
-FitsEvent motes (Order mote number image version dt word) = (mote < motes) × IsCounted number × IsVersion image version × IsTimed dt word
+FitsEvent motes (Order mote number image version dt word) = (mote < motes) × IsCounted number × IsVersion image version
+    × IsTimed dt word
 FitsEvent motes (Frame mote dt word bytes) = (mote < motes) × IsTimed dt word × IsFrame bytes
 
 -- the fields of a line are in their ranges, where there are so many motes
@@ -86,7 +88,7 @@ FitsLine motes (Golden name used content) = IsGolden name used content
 FitsLine motes Boards = Unit {0}
 FitsLine motes (Link a b) = AreTwo motes a b
 FitsLine motes (Narrow mote) = mote < motes
-FitsLine motes (Image image version name content) = IsDeclared image version name content
+FitsLine motes (Image image version name content) = FitsImage image version name content
 FitsLine motes (Cut cut) = FitsCut cut
 FitsLine motes (Happens event) = FitsEvent motes event
 FitsLine motes (Round a b) = AreTwo motes a b

@@ -1,5 +1,7 @@
--- The line that a text spells at a place, or its first fault: first those of the whole line, then the faults of its fields from left to right.
-use Rattle.std.specs.Prelude.{◌≡◌, refl, ℕ, ◌==◌, ◌≤◌, nat_le, not, Bool, true, false, if◌then◌else◌, List, [], ◌∷◌, length, Result, Ok, Err}
+-- The line that a text spells at a place, or its first fault: first those of the whole line,
+-- then the faults of its fields from left to right.
+use Rattle.std.specs.Prelude.{◌≡◌, refl, ℕ, ◌==◌, ◌≤◌, nat_le, not, Bool, true, false, if◌then◌else◌, List, [], ◌∷◌, length}
+use Rattle.std.specs.Prelude.{Result, Ok, Err}
 use Rattle.std.proofs.lemmas.Bool.{leb-true}
 use Rattle.dg_base.specs.Sizes.{longest_frame, longest_mask}
 use Rattle.dg_base.specs.declared.events.Event.TheVariants as event
@@ -8,14 +10,16 @@ use Rattle.dg_object.specs.Sizes.{most_bytes}
 use Rattle.dg_script.specs.Sizes.{most_content, most_line}
 use Rattle.dg_script.specs.Results.{◌>>=◌, guarded, allowed_if, or_fault}
 use Rattle.dg_script.specs.Words.{words_of, one_of, two_of, three_of, four_of, five_of, six_of}
-use Rattle.dg_script.specs.Contents.{name_of, sized_content, mask_of}
+use Rattle.dg_script.specs.Contents.{spelled_name, sized_content, spelled_mask}
 use Rattle.dg_script.specs.Verbs.{standing, verb_of, is_played}
 use Rattle.dg_script.specs.Places.{is_linked, is_narrow}
-use Rattle.dg_script.specs.Fields.{number_in, motes_in, mote_in, other_in, image_in, any_image_in, version_in, counted_in, used_in, sweeps_in}
+use Rattle.dg_script.specs.Fields.{number_in, mote_count_in, mote_in, other_in, image_in, any_image_in, version_in, counted_in}
+use Rattle.dg_script.specs.Fields.{used_in, sweeps_in}
 use Rattle.dg_script.specs.declared.fault.LineFault.{LineFault}
 use Rattle.dg_script.specs.declared.fault.LineFault.TheVariants as fault
 use Rattle.dg_script.specs.declared.line.Line.{Line}
-use Rattle.dg_script.specs.declared.line.Line.TheVariants.{Nothing, Motes, Golden, Boards, Link, Narrow, Image, Cut, Happens, Round, Sweeps}
+use Rattle.dg_script.specs.declared.line.Line.TheVariants.{Nothing, Motes, Golden, Boards, Link, Narrow, Image, Cut, Happens}
+use Rattle.dg_script.specs.declared.line.Line.TheVariants.{Round, Sweeps}
 use Rattle.dg_script.specs.declared.place.Place.{Place}
 use Rattle.dg_script.specs.declared.verbs.Verb.{Verb}
 use Rattle.dg_script.specs.declared.verbs.Verb.TheVariants as verb
@@ -24,12 +28,13 @@ use Rattle.dg_script.specs.declared.verbs.Verb.TheVariants as verb
 
 -- `motes N`
 unfoldable pub motes_of : Place → List (List ℕ) → Result Line LineFault
-motes_of place fields = one_of fields >>= λ word. standing verb.Motes place >>= λ u. motes_in word >>= λ motes. Ok (Motes motes)
+motes_of place fields =
+    one_of fields >>= λ word. standing verb.Motes place >>= λ u. mote_count_in word >>= λ motes. Ok (Motes motes)
 
 -- `golden NAME USED CONTENT`
 unfoldable pub golden_of : Place → List (List ℕ) → Result Line LineFault
 golden_of place fields =
-    three_of fields >>= λ t. standing verb.Golden place >>= λ u. name_of t.0 >>= λ name. used_in t.1 >>= λ used.
+    three_of fields >>= λ t. standing verb.Golden place >>= λ u. spelled_name t.0 >>= λ name. used_in t.1 >>= λ used.
     sized_content 1 most_bytes t.2 >>= λ content. Ok (Golden name used content)
 
 -- `boards`
@@ -55,7 +60,8 @@ narrow_of place fields =
 -- `image I V NAME CONTENT`
 unfoldable pub image_of : Place → List (List ℕ) → Result Line LineFault
 image_of place fields =
-    four_of fields >>= λ t. standing verb.Image place >>= λ u. image_in t.0 >>= λ image. version_in t.1 >>= λ version. name_of t.2 >>= λ name.
+    four_of fields >>= λ t. standing verb.Image place >>= λ u. image_in t.0 >>= λ image. version_in t.1
+    >>= λ version. spelled_name t.2 >>= λ name.
     sized_content 0 most_content t.3 >>= λ content. Ok (Image image version name content)
 
 -- ---- events
@@ -63,43 +69,51 @@ image_of place fields =
 -- `tick M DT WORD`
 unfoldable pub tick_of : Place → List (List ℕ) → Result Line LineFault
 tick_of place fields =
-    three_of fields >>= λ t. standing verb.Tick place >>= λ u. mote_in place.motes t.0 >>= λ mote. number_in t.1 >>= λ dt. number_in t.2 >>= λ word.
+    three_of fields >>= λ t. standing verb.Tick place >>= λ u. mote_in place.motes t.0 >>= λ mote. number_in t.1
+    >>= λ dt. number_in t.2 >>= λ word.
     Ok (Happens (event.Tick mote dt word))
 
 -- `hear M DT WORD K`
 unfoldable pub hear_of : Place → List (List ℕ) → Result Line LineFault
 hear_of place fields =
-    four_of fields >>= λ t. standing verb.Hear place >>= λ u. mote_in place.motes t.0 >>= λ mote. number_in t.1 >>= λ dt. number_in t.2 >>= λ word.
+    four_of fields >>= λ t. standing verb.Hear place >>= λ u. mote_in place.motes t.0 >>= λ mote. number_in t.1
+    >>= λ dt. number_in t.2 >>= λ word.
     counted_in t.3 >>= λ frame. Ok (Happens (event.Hear mote dt word frame))
 
 -- `last A B DT WORD`
-unfoldable pub last_of : Place → List (List ℕ) → Result Line LineFault
-last_of place fields =
-    four_of fields >>= λ t. standing verb.Last place >>= λ u. mote_in place.motes t.0 >>= λ from. other_in place.motes from t.1 >>= λ to.
+unfoldable pub last_line_of : Place → List (List ℕ) → Result Line LineFault
+last_line_of place fields =
+    four_of fields >>= λ t. standing verb.Last place >>= λ u. mote_in place.motes t.0
+    >>= λ from. other_in place.motes from t.1 >>= λ to.
     number_in t.2 >>= λ dt. number_in t.3 >>= λ word. Ok (Happens (event.Last from to dt word))
 
 -- `reset M DT WORD`
 unfoldable pub reset_of : Place → List (List ℕ) → Result Line LineFault
 reset_of place fields =
-    three_of fields >>= λ t. standing verb.Reset place >>= λ u. mote_in place.motes t.0 >>= λ mote. number_in t.1 >>= λ dt. number_in t.2 >>= λ word.
+    three_of fields >>= λ t. standing verb.Reset place >>= λ u. mote_in place.motes t.0 >>= λ mote. number_in t.1
+    >>= λ dt. number_in t.2 >>= λ word.
     Ok (Happens (event.Reset mote dt word))
 
 -- `inject M I V DT WORD`
 unfoldable pub inject_of : Place → List (List ℕ) → Result Line LineFault
 inject_of place fields =
-    five_of fields >>= λ t. standing verb.Inject place >>= λ u. mote_in place.motes t.0 >>= λ mote. any_image_in t.1 >>= λ image. version_in t.2 >>= λ version.
+    five_of fields >>= λ t. standing verb.Inject place >>= λ u. mote_in place.motes t.0 >>= λ mote. any_image_in t.1
+    >>= λ image. version_in t.2 >>= λ version.
     number_in t.3 >>= λ dt. number_in t.4 >>= λ word. Ok (Happens (event.Inject mote image version dt word))
 
 -- `order M K I V DT WORD`
 unfoldable pub order_of : Place → List (List ℕ) → Result Line LineFault
 order_of place fields =
-    six_of fields >>= λ t. standing verb.Order place >>= λ u. mote_in place.motes t.0 >>= λ mote. version_in t.1 >>= λ number. any_image_in t.2 >>= λ image.
-    version_in t.3 >>= λ version. number_in t.4 >>= λ dt. number_in t.5 >>= λ word. Ok (Happens (event.Order mote number image version dt word))
+    six_of fields >>= λ t. standing verb.Order place >>= λ u. mote_in place.motes t.0 >>= λ mote. version_in t.1
+    >>= λ number. any_image_in t.2 >>= λ image.
+    version_in t.3 >>= λ version. number_in t.4 >>= λ dt. number_in t.5
+    >>= λ word. Ok (Happens (event.Order mote number image version dt word))
 
 -- `frame M DT WORD CONTENT`
 unfoldable pub frame_of : Place → List (List ℕ) → Result Line LineFault
 frame_of place fields =
-    four_of fields >>= λ t. standing verb.Frame place >>= λ u. mote_in place.motes t.0 >>= λ mote. number_in t.1 >>= λ dt. number_in t.2 >>= λ word.
+    four_of fields >>= λ t. standing verb.Frame place >>= λ u. mote_in place.motes t.0 >>= λ mote. number_in t.1
+    >>= λ dt. number_in t.2 >>= λ word.
     sized_content 0 longest_frame t.3 >>= λ bytes. Ok (Happens (event.Frame mote dt word bytes))
 
 -- ---- cuts, rounds and sweeps
@@ -115,18 +129,21 @@ at_most low high fault = most_by low high (nat_le low high) refl fault
 -- the cut in this operation, which leaves this mask
 unfoldable pub cut_with : (after : ℕ) (mask : List ℕ) → Result CutOfPower LineFault
 cut_with after mask =
-    at_most 1 after fault.Number >>= λ numbered. at_most 1 (length mask) fault.Mask >>= λ some. at_most (length mask) longest_mask fault.Mask >>= λ within.
+    at_most 1 after fault.Number >>= λ numbered. at_most 1 (length mask) fault.Mask
+    >>= λ some. at_most (length mask) longest_mask fault.Mask >>= λ within.
     Ok (record { after = after; mask = mask; numbered = numbered; some = some; within = within })
 
 -- `cut AT MASK`
 unfoldable pub cut_of : Place → List (List ℕ) → Result Line LineFault
 cut_of place fields =
-    two_of fields >>= λ t. standing verb.Cut place >>= λ u. counted_in t.0 >>= λ after. mask_of t.1 >>= λ mask. cut_with after mask >>= λ cut. Ok (Cut cut)
+    two_of fields >>= λ t. standing verb.Cut place >>= λ u. counted_in t.0 >>= λ after. spelled_mask t.1
+    >>= λ mask. cut_with after mask >>= λ cut. Ok (Cut cut)
 
 -- `round A B`
 unfoldable pub round_of : Place → List (List ℕ) → Result Line LineFault
 round_of place fields =
-    two_of fields >>= λ t. standing verb.Round place >>= λ u. mote_in place.motes t.0 >>= λ a. other_in place.motes a t.1 >>= λ b. Ok (Round a b)
+    two_of fields >>= λ t. standing verb.Round place >>= λ u. mote_in place.motes t.0 >>= λ a. other_in place.motes a t.1
+    >>= λ b. Ok (Round a b)
 
 -- `sweeps N`
 unfoldable pub sweeps_of : Place → List (List ℕ) → Result Line LineFault
@@ -144,7 +161,7 @@ fields_of verb.Narrow place fields = narrow_of place fields
 fields_of verb.Image place fields = image_of place fields
 fields_of verb.Tick place fields = tick_of place fields
 fields_of verb.Hear place fields = hear_of place fields
-fields_of verb.Last place fields = last_of place fields
+fields_of verb.Last place fields = last_line_of place fields
 fields_of verb.Reset place fields = reset_of place fields
 fields_of verb.Inject place fields = inject_of place fields
 fields_of verb.Order place fields = order_of place fields

@@ -13,7 +13,8 @@ HasNoSpace text = AllByRecursion (λ c. c ≢ 32) text
 abbrev pub GoesOnSpaced : List ℕ → Type 0
 GoesOnSpaced text = (text ≡ []) ⊎ ((behind : List ℕ) × (text ≡ 32 ∷ behind))
 
--- The text is spaces, the first word, and what is behind it. The word is not empty, has no space, and is ended by a space or by the end of the text.
+-- The text is spaces, the first word, and what is behind it. The word is not empty, has no space,
+-- and is ended by a space or by the end of the text.
 pub record BeginsWith (text gap word behind : List ℕ) : Type 0 where
   pub parts : text ≡ gap ++ (word ++ behind)
   pub spaces : AreSpaces gap

@@ -1,11 +1,13 @@
 -- Where a line stands, and how that changes behind it.
-use Rattle.std.specs.Prelude.{ℕ, ◌==◌, ◌&&◌, ◌||◌, not, Bool, true, false, if◌then◌else◌, List, [], ◌∷◌, ◌++◌, replicate, slice_index_or, slice_set, Option, Some, None}
+use Rattle.std.specs.Prelude.{ℕ, ◌==◌, ◌&&◌, ◌||◌, not, Bool, true, false, if◌then◌else◌, List, [], ◌∷◌, ◌++◌, replicate}
+use Rattle.std.specs.Prelude.{slice_index_or, slice_set, Option, Some, None, is_some}
 use Rattle.std.specs.List.{list_any}
 use Rattle.dg_script.specs.Sizes.{most_motes}
 use Rattle.dg_script.specs.declared.fault.LineFault.{LineFault}
 use Rattle.dg_script.specs.declared.fault.LineFault.TheVariants as fault
 use Rattle.dg_script.specs.declared.line.Line.{Line}
-use Rattle.dg_script.specs.declared.line.Line.TheVariants.{Nothing, Motes, Golden, Boards, Link, Narrow, Image, Cut, Happens, Round, Sweeps}
+use Rattle.dg_script.specs.declared.line.Line.TheVariants.{Nothing, Motes, Golden, Boards, Link, Narrow, Image, Cut, Happens}
+use Rattle.dg_script.specs.declared.line.Line.TheVariants.{Round, Sweeps}
 use Rattle.dg_script.specs.declared.place.Place.{Place}
 
 -- no mote is narrow
@@ -14,7 +16,7 @@ none_narrow = replicate most_motes false
 
 -- before the first line
 abbrev pub first_place : Place
-first_place = record { motes = 0; ready = false; events = false; cut = false; links = []; narrow = none_narrow }
+first_place = record { motes = 0; ready = false; events = false; cut = None; links = []; narrow = none_narrow }
 
 -- the place behind a line
 abbrev pub place_after : Place → Line → Place
@@ -25,8 +27,8 @@ place_after place Boards = record place { ready = true }
 place_after place (Link a b) = record place { links = place.links ++ (a, b) ∷ [] }
 place_after place (Narrow mote) = record place { narrow = slice_set place.narrow mote true }
 place_after place (Image image version name content) = place
-place_after place (Cut cut) = record place { cut = true }
-place_after place (Happens event) = record place { events = true; cut = false }
+place_after place (Cut cut) = record place { cut = Some cut }
+place_after place (Happens event) = record place { events = true; cut = None }
 place_after place (Round a b) = record place { events = true }
 place_after place (Sweeps n) = record place { events = true }
 
@@ -43,4 +45,4 @@ is_narrow narrow mote = slice_index_or narrow mote false
 
 -- the fault of an input that ends here, if it may not: its second line is missing, or the event behind a cut
 abbrev pub fault_at_end : Place → Option LineFault
-fault_at_end place = if not place.ready then Some fault.Place else if place.cut then Some fault.Cut else None
+fault_at_end place = if not place.ready then Some fault.Place else if is_some place.cut then Some fault.Cut else None

@@ -8,7 +8,8 @@ use Rattle.dg_script.specs.Words.{spaced}
 use Rattle.dg_script.specs.declared.report.Cause.{Cause}
 use Rattle.dg_script.specs.declared.report.Cause.TheVariants as cause
 use Rattle.dg_script.specs.declared.report.Report.{Report}
-use Rattle.dg_script.specs.declared.report.Report.TheVariants.{Order, Lost, Have, Start, Off, SentAdvert, SentRequest, SentData, Refused, Taken, End, MoteOn, MoteOff, Kept}
+use Rattle.dg_script.specs.declared.report.Report.TheVariants.{Order, Lost, Have, Start, Off, SentAdvert, SentRequest, SentData}
+use Rattle.dg_script.specs.declared.report.Report.TheVariants.{Refused, Taken, End, MoteOn, MoteOff, Kept}
 
 -- why an event was refused, with the number that it is refused for
 abbrev pub cause_words : Cause → List (List ℕ)
@@ -26,7 +27,8 @@ cause_words (cause.OldOrder number) = codes "oldorder" ∷ decimal number ∷ []
 
 -- the words of a line
 abbrev pub report_words : Report → List (List ℕ)
-report_words (Order mote number image version) = codes "order" ∷ decimal mote ∷ decimal number ∷ decimal image ∷ decimal version ∷ []
+report_words (Order mote number image version) =
+    codes "order" ∷ decimal mote ∷ decimal number ∷ decimal image ∷ decimal version ∷ []
 report_words (Lost mote image) = codes "none" ∷ decimal mote ∷ decimal image ∷ []
 report_words (Have mote image version pages) = codes "have" ∷ decimal mote ∷ decimal image ∷ decimal version ∷ decimal pages ∷ []
 report_words (Start mote image version length crc) =
@@ -34,7 +36,8 @@ report_words (Start mote image version length crc) =
 report_words (Off mote) = codes "off" ∷ decimal mote ∷ []
 report_words (SentAdvert mote) = codes "sent" ∷ decimal mote ∷ codes "advert" ∷ []
 report_words (SentRequest mote to image version page count) =
-    codes "sent" ∷ decimal mote ∷ codes "request" ∷ decimal to ∷ decimal image ∷ decimal version ∷ decimal page ∷ decimal count ∷ []
+    codes "sent" ∷ decimal mote ∷ codes "request" ∷ decimal to ∷ decimal image ∷ decimal version ∷ decimal page
+    ∷ decimal count ∷ []
 report_words (SentData mote image version page packet) =
     codes "sent" ∷ decimal mote ∷ codes "data" ∷ decimal image ∷ decimal version ∷ decimal page ∷ decimal packet ∷ []
 report_words (Refused mote why) = codes "no" ∷ decimal mote ∷ cause_words why

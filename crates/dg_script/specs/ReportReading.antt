@@ -1,11 +1,13 @@
 -- What a line of a report says. A line is one exactly where what it says is written as this line.
-use Rattle.std.specs.Prelude.{ℕ, ◌+◌, ◌-◌, ◌*◌, ◌%◌, ◌^◌, ◌<◌, ◌==◌, nat_le, List, [], length, codes, slice_index, slice_index_or, unwrap_or, if◌then◌else◌}
+use Rattle.std.specs.Prelude.{ℕ, ◌+◌, ◌-◌, ◌*◌, ◌%◌, ◌^◌, ◌<◌, ◌==◌, nat_le, List, [], length, codes, slice_index, slice_index_or}
+use Rattle.std.specs.Prelude.{unwrap_or, if◌then◌else◌}
 use Rattle.dg_base.specs.Numbers.{number_of}
 use Rattle.dg_script.specs.Words.{same}
 use Rattle.dg_script.specs.declared.report.Cause.{Cause}
 use Rattle.dg_script.specs.declared.report.Cause.TheVariants as cause
 use Rattle.dg_script.specs.declared.report.Report.{Report}
-use Rattle.dg_script.specs.declared.report.Report.TheVariants.{Order, Lost, Have, Start, Off, SentAdvert, SentRequest, SentData, Refused, Taken, End, MoteOn, MoteOff, Kept}
+use Rattle.dg_script.specs.declared.report.Report.TheVariants.{Order, Lost, Have, Start, Off, SentAdvert, SentRequest, SentData}
+use Rattle.dg_script.specs.declared.report.Report.TheVariants.{Refused, Taken, End, MoteOn, MoteOff, Kept}
 
 -- ---- the numbers of a line are in the ranges of its fields
 
@@ -26,11 +28,14 @@ abbrev pub FitsReport : Report → Type 0
 FitsReport (Order mote number image version) = IsSmall mote × IsNumber number × IsSmall image × IsNumber version
 FitsReport (Lost mote image) = IsSmall mote × IsSmall image
 FitsReport (Have mote image version pages) = IsSmall mote × IsSmall image × IsNumber version × IsSmall pages
-FitsReport (Start mote image version length crc) = IsSmall mote × IsSmall image × IsNumber version × IsNumber length × (crc < 2 ^ 16)
+FitsReport (Start mote image version length crc) = IsSmall mote × IsSmall image × IsNumber version × IsNumber length
+    × (crc < 2 ^ 16)
 FitsReport (Off mote) = IsSmall mote
 FitsReport (SentAdvert mote) = IsSmall mote
-FitsReport (SentRequest mote to image version page count) = IsSmall mote × (to < 2 ^ 16) × IsSmall image × IsNumber version × IsSmall page × IsSmall count
-FitsReport (SentData mote image version page packet) = IsSmall mote × IsSmall image × IsNumber version × IsSmall page × IsSmall packet
+FitsReport (SentRequest mote to image version page count) = IsSmall mote × (to < 2 ^ 16) × IsSmall image × IsNumber version
+    × IsSmall page × IsSmall count
+FitsReport (SentData mote image version page packet) = IsSmall mote × IsSmall image × IsNumber version × IsSmall page
+    × IsSmall packet
 FitsReport (Refused mote why) = IsSmall mote × FitsCause why
 FitsReport (Taken image version) = IsSmall image × IsNumber version
 FitsReport (End events) = IsNumber events
@@ -55,9 +60,10 @@ address_at ws k = number_at ws k % 65536
 abbrev pub digit_value : ℕ → ℕ
 digit_value c = (if nat_le c 57 then c - 48 else c - 87) % 16
 
-unfoldable pub crc_of : List ℕ → ℕ
-crc_of digits =
-    if length digits == 4 then ((digit_value (slice_index digits 0) * 16 + digit_value (slice_index digits 1)) * 16 + digit_value (slice_index digits 2)) * 16 + digit_value (slice_index digits 3)
+unfoldable pub crc_of_digits : List ℕ → ℕ
+crc_of_digits digits =
+    if length digits == 4 then ((digit_value (slice_index digits 0) * 16 + digit_value (slice_index digits 1)) * 16
+    + digit_value (slice_index digits 2)) * 16 + digit_value (slice_index digits 3)
     else 0
 
 abbrev pub kept_said : List (List ℕ) → Report
@@ -70,12 +76,14 @@ abbrev pub order_said : List (List ℕ) → Report
 order_said ws = Order (small_at ws 1) (number_at ws 2) (small_at ws 3) (number_at ws 4)
 
 abbrev pub start_said : List (List ℕ) → Report
-start_said ws = Start (small_at ws 1) (small_at ws 2) (number_at ws 3) (number_at ws 4) (crc_of (word_at ws 5))
+start_said ws = Start (small_at ws 1) (small_at ws 2) (number_at ws 3) (number_at ws 4) (crc_of_digits (word_at ws 5))
 
 abbrev pub sent_said : List (List ℕ) → Report
 sent_said ws =
-    if same (word_at ws 2) (codes "data") then SentData (small_at ws 1) (small_at ws 3) (number_at ws 4) (small_at ws 5) (small_at ws 6)
-    else if same (word_at ws 2) (codes "request") then SentRequest (small_at ws 1) (address_at ws 3) (small_at ws 4) (number_at ws 5) (small_at ws 6) (small_at ws 7)
+    if same (word_at ws 2) (codes "data") then SentData (small_at ws 1) (small_at ws 3) (number_at ws 4) (small_at ws 5)
+    (small_at ws 6)
+    else if same (word_at ws 2) (codes "request")
+    then SentRequest (small_at ws 1) (address_at ws 3) (small_at ws 4) (number_at ws 5) (small_at ws 6) (small_at ws 7)
     else SentAdvert (small_at ws 1)
 
 abbrev pub cause_said : List (List ℕ) → Cause
@@ -102,8 +110,8 @@ mote_said ws =
     if same (word_at ws 2) (codes "on") then MoteOn (small_at ws 1) (small_at ws 3) (number_at ws 4)
     else MoteOff (small_at ws 1)
 
-unfoldable pub said : List (List ℕ) → Report
-said ws =
+unfoldable pub report_said : List (List ℕ) → Report
+report_said ws =
     if same (word_at ws 0) (codes "sent") then sent_said ws
     else if same (word_at ws 0) (codes "have") then have_said ws
     else if same (word_at ws 0) (codes "no") then refused_said ws

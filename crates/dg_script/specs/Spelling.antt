@@ -8,7 +8,8 @@ use Rattle.dg_base.specs.declared.events.Event.TheVariants.{Tick, Hear, Last, Re
 use Rattle.dg_script.specs.Sizes.{most_written}
 use Rattle.dg_script.specs.Words.{spaced}
 use Rattle.dg_script.specs.declared.line.Line.{Line}
-use Rattle.dg_script.specs.declared.line.Line.TheVariants.{Nothing, Motes, Golden, Boards, Link, Narrow, Image, Cut, Happens, Round, Sweeps}
+use Rattle.dg_script.specs.declared.line.Line.TheVariants.{Nothing, Motes, Golden, Boards, Link, Narrow, Image, Cut, Happens}
+use Rattle.dg_script.specs.declared.line.Line.TheVariants.{Round, Sweeps}
 use Rattle.dg_script.specs.declared.spelling.Field.{Field}
 use Rattle.dg_script.specs.declared.spelling.Field.TheVariants as field
 
@@ -34,7 +35,8 @@ event_words (Tick mote dt word) = codes "tick" ∷ decimal mote ∷ decimal dt �
 event_words (Hear mote dt word frame) = codes "hear" ∷ decimal mote ∷ decimal dt ∷ decimal word ∷ decimal frame ∷ []
 event_words (Last from to dt word) = codes "last" ∷ decimal from ∷ decimal to ∷ decimal dt ∷ decimal word ∷ []
 event_words (Reset mote dt word) = codes "reset" ∷ decimal mote ∷ decimal dt ∷ decimal word ∷ []
-event_words (Inject mote image version dt word) = codes "inject" ∷ decimal mote ∷ decimal image ∷ decimal version ∷ decimal dt ∷ decimal word ∷ []
+event_words (Inject mote image version dt word) =
+    codes "inject" ∷ decimal mote ∷ decimal image ∷ decimal version ∷ decimal dt ∷ decimal word ∷ []
 event_words (Order mote number image version dt word) =
     codes "order" ∷ decimal mote ∷ decimal number ∷ decimal image ∷ decimal version ∷ decimal dt ∷ decimal word ∷ []
 event_words (Frame mote dt word bytes) = codes "frame" ∷ decimal mote ∷ decimal dt ∷ decimal word ∷ content_text bytes ∷ []

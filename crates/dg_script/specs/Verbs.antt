@@ -1,12 +1,14 @@
 -- The table of the verbs: the word of each, where its lines stand, and whether they are played.
-use Rattle.std.specs.Prelude.{ℕ, ◌==◌, nat_lt, ◌&&◌, not, Bool, true, false, if◌then◌else◌, List, [], ◌∷◌, codes, Option, Some, None, Result}
+use Rattle.std.specs.Prelude.{ℕ, ◌==◌, nat_lt, ◌&&◌, not, Bool, true, false, if◌then◌else◌, List, [], ◌∷◌, codes, Option, Some}
+use Rattle.std.specs.Prelude.{None, is_some, Result}
 use Rattle.dg_script.specs.Results.{◌>>=◌, allowed_if}
 use Rattle.dg_script.specs.Words.{same}
 use Rattle.dg_script.specs.declared.fault.LineFault.{LineFault}
 use Rattle.dg_script.specs.declared.fault.LineFault.TheVariants as fault
 use Rattle.dg_script.specs.declared.place.Place.{Place}
 use Rattle.dg_script.specs.declared.verbs.Verb.{Verb}
-use Rattle.dg_script.specs.declared.verbs.Verb.TheVariants.{Motes, Golden, Boards, Link, Narrow, Image, Tick, Hear, Last, Reset, Inject, Order, Frame, Cut, Round, Sweeps}
+use Rattle.dg_script.specs.declared.verbs.Verb.TheVariants.{Motes, Golden, Boards, Link, Narrow, Image, Tick, Hear, Last, Reset}
+use Rattle.dg_script.specs.declared.verbs.Verb.TheVariants.{Inject, Order, Frame, Cut, Round, Sweeps}
 
 abbrev pub word_of : Verb → List ℕ
 word_of Motes = codes "motes"
@@ -64,7 +66,8 @@ is_event_verb Cut = false
 is_event_verb Round = false
 is_event_verb Sweeps = false
 
--- The first line that says something is `motes`, and the second is `golden` or `boards`. These come once. Links and narrow motes come before the first event, round or sweep.
+-- The first line that says something is `motes`, and the second is `golden` or `boards`. These come once.
+-- Links and narrow motes come before the first event, round or sweep.
 abbrev pub is_second : Place → Bool
 is_second place = nat_lt 0 place.motes && not place.ready
 
@@ -91,7 +94,7 @@ stands Sweeps place = is_later place
 
 -- no cut waits, or this is the event for which it waits
 abbrev pub follows : Verb → Place → Bool
-follows verb place = if place.cut then is_event_verb verb else true
+follows verb place = if is_some place.cut then is_event_verb verb else true
 
 -- a line of the verb stands at its place, which is told before what follows a cut
 unfoldable pub standing : Verb → Place → Result (Unit {0}) LineFault
@@ -102,8 +105,8 @@ abbrev pub verb_among : List Verb → List ℕ → Option Verb
 verb_among [] word = None
 verb_among (verb ∷ verbs) word = if same word (word_of verb) then Some verb else verb_among verbs word
 
-abbrev pub event_verb_of : List ℕ → Option Verb
-event_verb_of = verb_among (Tick ∷ Last ∷ Hear ∷ Frame ∷ Reset ∷ Inject ∷ Order ∷ [])
+abbrev pub event_verb_in : List ℕ → Option Verb
+event_verb_in = verb_among (Tick ∷ Last ∷ Hear ∷ Frame ∷ Reset ∷ Inject ∷ Order ∷ [])
 
 abbrev pub other_verb_of : List ℕ → Option Verb
 other_verb_of = verb_among (Round ∷ Sweeps ∷ Cut ∷ Image ∷ Link ∷ Narrow ∷ Golden ∷ Boards ∷ Motes ∷ [])
@@ -113,4 +116,4 @@ or_else (Some verb) other = Some verb
 or_else None other = other
 
 unfoldable pub verb_of : List ℕ → Option Verb
-verb_of word = or_else (event_verb_of word) (other_verb_of word)
+verb_of word = or_else (event_verb_in word) (other_verb_of word)

@@ -76,14 +76,16 @@ abbrev pub four_of : List (List ℕ) → Result (List ℕ × List ℕ × List �
 four_of [] = Err Few
 four_of (a ∷ more) = four_from a (three_of more)
 
-abbrev pub five_from : List ℕ → Result (List ℕ × List ℕ × List ℕ × List ℕ) LineFault → Result (List ℕ × List ℕ × List ℕ × List ℕ × List ℕ) LineFault
+abbrev pub five_from : List ℕ → Result (List ℕ × List ℕ × List ℕ × List ℕ) LineFault
+    → Result (List ℕ × List ℕ × List ℕ × List ℕ × List ℕ) LineFault
 five_from a rest = each_as (λ t. (a, t.0, t.1, t.2, t.3)) rest
 
 abbrev pub five_of : List (List ℕ) → Result (List ℕ × List ℕ × List ℕ × List ℕ × List ℕ) LineFault
 five_of [] = Err Few
 five_of (a ∷ more) = five_from a (four_of more)
 
-abbrev pub six_from : List ℕ → Result (List ℕ × List ℕ × List ℕ × List ℕ × List ℕ) LineFault → Result (List ℕ × List ℕ × List ℕ × List ℕ × List ℕ × List ℕ) LineFault
+abbrev pub six_from : List ℕ → Result (List ℕ × List ℕ × List ℕ × List ℕ × List ℕ) LineFault
+    → Result (List ℕ × List ℕ × List ℕ × List ℕ × List ℕ × List ℕ) LineFault
 six_from a rest = each_as (λ t. (a, t.0, t.1, t.2, t.3, t.4)) rest
 
 abbrev pub six_of : List (List ℕ) → Result (List ℕ × List ℕ × List ℕ × List ℕ × List ℕ × List ℕ) LineFault

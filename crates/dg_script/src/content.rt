@@ -3,7 +3,7 @@ ghost use Rattle.std.specs.Prelude.{◌≡◌, ◌≤◌, Ok, Some, IfOk, length
 ghost use Rattle.dg_base.specs.Hexadecimal.{hex_bytes};
 ghost use Rattle.dg_script.specs.Sizes.{most_content};
 ghost use Rattle.dg_script.specs.Results.{or_fault};
-ghost use Rattle.dg_script.specs.Contents.{generated, generated_of, content_of, sized, sized_content, mask_of, name_of};
+ghost use Rattle.dg_script.specs.Contents.{generated, generated_of, content_of, sized, sized_content, spelled_mask, spelled_name};
 ghost use Rattle.dg_script.specs.Reading.{Reads};
 
 use crate::fault::LineFault;
@@ -12,9 +12,9 @@ use dg_base::{Bytes, HexFault, LONGEST_MASK, MOST_CONTENT, is_name, parse_hex, p
 use std::alloc::{AllocError, Global};
 
 /// The bytes of a name.
-#[tactic(auto, unfolding(crate::specs::Contents::name_of))]
+#[tactic(auto, unfolding(crate::specs::Contents::spelled_name))]
 pub fn name(alloc: Global, word: &[u8]) -> Result<Bytes, LineFault>
-    ensures { Reads result (name_of word.now) }
+    ensures { Reads result (spelled_name word.now) }
 {
     if !is_name(word) {
         return Err(LineFault::Name);
@@ -128,9 +128,9 @@ pub fn sized_content(
 }
 
 /// The bytes of a mask, 1 to 2,048.
-#[tactic(auto, unfolding(crate::specs::Contents::mask_of))]
+#[tactic(auto, unfolding(crate::specs::Contents::spelled_mask))]
 pub fn mask(alloc: Global, word: &[u8]) -> Result<Bytes, LineFault>
-    ensures read { Reads result (mask_of word.now) }
+    ensures read { Reads result (spelled_mask word.now) }
     ensures low { IfOk result (λ b. 1 ≤ length b) }
     ensures high { IfOk result (λ b. length b ≤ LONGEST_MASK) }
 {

@@ -1,7 +1,7 @@
 //! Reads the lines of events.
 ghost use Rattle.std.specs.Prelude.{◌≡◌};
 ghost use Rattle.dg_script.specs.Words.{words_of};
-ghost use Rattle.dg_script.specs.Lines.{tick_of, hear_of, last_of, reset_of, inject_of, order_of, frame_of};
+ghost use Rattle.dg_script.specs.Lines.{tick_of, hear_of, last_line_of, reset_of, inject_of, order_of, frame_of};
 ghost use Rattle.dg_script.specs.Reading.{Reads};
 
 use crate::content::sized_content;
@@ -47,9 +47,9 @@ pub fn hear_line(fields: &[u8], place: &Place) -> Result<Line, LineFault>
 }
 
 /// `last A B DT WORD`
-#[tactic(auto, unfolding(crate::specs::Lines::last_of))]
+#[tactic(auto, unfolding(crate::specs::Lines::last_line_of))]
 pub fn last_line(fields: &[u8], place: &Place) -> Result<Line, LineFault>
-    ensures { result ≡ last_of place.now (words_of fields.now) }
+    ensures { result ≡ last_line_of place.now (words_of fields.now) }
 {
     let (from, to, dt, word) = four_words(fields)?;
     Verb::Last.stand(place)?;

@@ -1,6 +1,7 @@
 //! The fields of lines.
 ghost use Rattle.std.specs.Prelude.{◌≡◌, ◌≤◌, ◌<◌, ◌^◌, IfOk};
-ghost use Rattle.dg_script.specs.Fields.{number_in, ranged_in, motes_in, mote_in, other_in, image_in, any_image_in, version_in, counted_in, used_in, sweeps_in};
+ghost use Rattle.dg_script.specs.Fields.{number_in, ranged_in, mote_count_in, mote_in, other_in, image_in, any_image_in};
+ghost use Rattle.dg_script.specs.Fields.{version_in, counted_in, used_in, sweeps_in};
 
 use crate::fault::LineFault;
 use crate::sizes::{MOST_IMAGE, MOST_SWEEPS};
@@ -37,7 +38,7 @@ fn ranged(word: &[u8], least: u32, most: u32, fault: LineFault) -> Result<u32, L
 
 /// How many motes there are, 1 to 16.
 pub fn motes(word: &[u8]) -> Result<u8, LineFault>
-    ensures { result ≡ motes_in word.now }
+    ensures { result ≡ mote_count_in word.now }
 {
     let motes = ranged(word, 1, MOST_MOTES as u32, LineFault::Mote)?;
     Ok(motes as u8)

@@ -4,7 +4,7 @@ ghost use Rattle.dg_script.specs.Places.{first_place, place_after, fault_at_end,
 
 use crate::fault::LineFault;
 use crate::line::Line;
-use dg_base::{MOST_MOTES, Pairs};
+use dg_base::{Cut, MOST_MOTES, Pairs};
 use std::alloc::{AllocError, Global};
 
 /// Where a line stands: what the lines before it said decides which line may come.
@@ -16,8 +16,8 @@ pub struct Place {
     pub ready: bool,
     /// Whether an event, a round or a sweep was read.
     pub events: bool,
-    /// Whether a cut waits for its event.
-    pub cut: bool,
+    /// The cut that waits for its event.
+    pub cut: Option<Cut>,
     /// The links so far.
     pub links: Pairs,
     /// Which motes are narrow, by their numbers.
@@ -33,51 +33,44 @@ impl Place {
             motes: 0,
             ready: false,
             events: false,
-            cut: false,
+            cut: None,
             links: Pairs::new(Vec::new(alloc)),
             narrow: [false; MOST_MOTES as usize],
         }
     }
 
-    /// Goes on to the place behind a line. Without memory nothing changes.
-    pub fn pass(&mut self, line: &Line) -> Result<(), AllocError>
-        ensures ok { OnOk result (self.new ≡ place_after self.old line.now) }
+    /// Goes on to the place behind a line. Without memory, for which a link alone asks, nothing changes.
+    pub fn pass(&mut self, line: Line) -> Result<(), AllocError>
+        ensures ok { OnOk result (self.new ≡ place_after self.old line) }
         ensures err { OnErr result (self.new ≡ self.old) }
+        ensures cause { OnErr result ((a : ℕ) × (b : ℕ) × (line ≡ Line.Link a b)) }
     {
         match line {
             Line::Nothing => Ok(()),
             Line::Motes(motes) => {
-                self.motes = *motes;
+                self.motes = motes;
                 Ok(())
             }
-            Line::Golden { .. } => {
+            Line::Golden { .. } | Line::Boards => {
                 self.ready = true;
                 Ok(())
             }
-            Line::Boards => {
-                self.ready = true;
-                Ok(())
-            }
-            Line::Link(a, b) => self.links.push((*a, *b)),
+            Line::Link(a, b) => self.links.push((a, b)),
             Line::Narrow(mote) => {
-                mark(&mut self.narrow, usize::from(*mote));
+                mark(&mut self.narrow, usize::from(mote));
                 Ok(())
             }
             Line::Image { .. } => Ok(()),
-            Line::Cut(_) => {
-                self.cut = true;
+            Line::Cut(cut) => {
+                self.cut = Some(cut);
                 Ok(())
             }
             Line::Happens(_) => {
                 self.events = true;
-                self.cut = false;
+                self.cut = None;
                 Ok(())
             }
-            Line::Round(_, _) => {
-                self.events = true;
-                Ok(())
-            }
-            Line::Sweeps(_) => {
+            Line::Round(_, _) | Line::Sweeps(_) => {
                 self.events = true;
                 Ok(())
             }
@@ -91,7 +84,11 @@ impl Place {
         if !self.ready {
             return Some(LineFault::Place);
         }
-        if self.cut { Some(LineFault::Cut) } else { None }
+        if self.cut.is_some() {
+            Some(LineFault::Cut)
+        } else {
+            None
+        }
     }
 
     /// Whether there is a link between two motes.

@@ -2,10 +2,13 @@
 ghost use Rattle.std.specs.Prelude.{◌≡◌, ◌⊎◌, ◌<◌, ◌≤◌, Ok, Err, IfOk};
 ghost use Rattle.dg_script.specs.Words.{same, words_of};
 ghost use Rattle.dg_script.specs.Report.{report_line};
-ghost use Rattle.dg_script.specs.ReportReading.{FitsReport, word_at, number_at, small_at, address_at, digit_value, crc_of, kept_said, have_said, order_said, start_said, sent_said, cause_said, refused_said, mote_said, said};
+ghost use Rattle.dg_script.specs.ReportReading.{FitsReport, word_at, number_at, small_at, address_at, digit_value, crc_of_digits};
+ghost use Rattle.dg_script.specs.ReportReading.{kept_said, have_said, order_said, start_said, sent_said, cause_said};
+ghost use Rattle.dg_script.specs.ReportReading.{refused_said, mote_said, report_said};
 ghost use Rattle.dg_script.specs.declared.report.Report.{Report};
 
-use crate::report::{Cause, Report, write_report};
+use crate::report::{Cause, Report};
+use crate::report_writing::write_report;
 use crate::words::next_word;
 use dg_base::parse_u32;
 use std::alloc::AllocError;
@@ -74,9 +77,9 @@ fn digit_value(digit: u8) -> u16
 }
 
 // The number that four hex digits write, or 0.
-#[tactic(auto, unfolding(crate::specs::ReportReading::crc_of))]
+#[tactic(auto, unfolding(crate::specs::ReportReading::crc_of_digits))]
 fn crc(digits: &[u8]) -> u16
-    ensures { result ≡ crc_of digits.now }
+    ensures { result ≡ crc_of_digits digits.now }
 {
     if digits.len() != 4 {
         return 0;
@@ -242,9 +245,9 @@ fn mote(text: &[u8]) -> Report
 }
 
 // What a text says, if it is that of a report's line.
-#[tactic(auto, unfolding(crate::specs::ReportReading::said))]
+#[tactic(auto, unfolding(crate::specs::ReportReading::report_said))]
 fn said(text: &[u8]) -> Report
-    ensures { result ≡ said (words_of text.now) }
+    ensures { result ≡ report_said (words_of text.now) }
 {
     let verb = word(text, 0);
     if is_same(verb, b"sent") {
@@ -289,7 +292,8 @@ fn said(text: &[u8]) -> Report
 /// What is written is read again, and nothing else is: the line is read as what it says where that is written as this
 /// line, which [`write_report`] decides.
 pub fn read_report(line: &[u8], scratch: &mut Vec<u8>) -> Result<Report, ReportFault>
-    ensures written { (report : Report) → FitsReport report → report_line report ≡ line.now → (result ≡ Ok report) ⊎ (result ≡ Err ReportFault.Memory) }
+    ensures written { (report : Report) → FitsReport report → report_line report ≡ line.now → (result ≡ Ok report)
+        ⊎ (result ≡ Err ReportFault.Memory) }
     ensures nothing_else { IfOk result (λ report. report_line report ≡ line.now) }
 {
     if line.is_empty() {

@@ -1,7 +1,8 @@
 //! Reads the lines that are no events.
 ghost use Rattle.std.specs.Prelude.{◌≡◌};
 ghost use Rattle.dg_script.specs.Words.{words_of};
-ghost use Rattle.dg_script.specs.Lines.{motes_of, golden_of, boards_of, link_of, narrow_of, image_of, cut_of, round_of, sweeps_of};
+ghost use Rattle.dg_script.specs.Lines.{motes_of, golden_of, boards_of, link_of, narrow_of, image_of, cut_of, round_of};
+ghost use Rattle.dg_script.specs.Lines.{sweeps_of};
 ghost use Rattle.dg_script.specs.Reading.{Reads};
 
 use crate::content::{mask, name, sized_content};

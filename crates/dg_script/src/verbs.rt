@@ -1,7 +1,8 @@
 //! The table of the verbs: the word of each, where its lines stand, and whether they are played.
 ghost use Rattle.std.specs.Prelude.{◌≡◌};
 ghost use Rattle.dg_script.specs.Words.{same};
-ghost use Rattle.dg_script.specs.Verbs.{is_played, is_event_verb, is_second, is_later, stands, follows, standing, event_verb_of, other_verb_of, verb_of};
+ghost use Rattle.dg_script.specs.Verbs.{is_played, is_event_verb, is_second, is_later, stands, follows, standing, event_verb_in};
+ghost use Rattle.dg_script.specs.Verbs.{other_verb_of, verb_of};
 
 use crate::fault::LineFault;
 use crate::place::Place;
@@ -35,7 +36,7 @@ fn is_same(word: &[u8], other: &[u8]) -> bool
 
 // The verb of an event.
 fn event_verb(word: &[u8]) -> Option<Verb>
-    ensures { result ≡ event_verb_of word.now }
+    ensures { result ≡ event_verb_in word.now }
 {
     if is_same(word, b"tick") {
         return Some(Verb::Tick);
@@ -151,7 +152,11 @@ impl Verb {
     fn follows(self, place: &Place) -> bool
         ensures { result ≡ follows self place.now }
     {
-        if place.cut { self.is_event() } else { true }
+        if place.cut.is_some() {
+            self.is_event()
+        } else {
+            true
+        }
     }
 
     /// Whether a line of the verb may stand at a place. It may not at another one, and not in place of the

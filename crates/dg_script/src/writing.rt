@@ -10,7 +10,7 @@ ghost use Rattle.dg_script.specs.declared.place.Place.{Place};
 
 use crate::line::Line;
 use crate::spelling::{Field, push_line};
-use dg_base::Event;
+use dg_base::{Cut, Event};
 use std::alloc::AllocError;
 
 // Appends the line of an event whose fields are its mote and its time.
@@ -21,8 +21,10 @@ fn push_timed(
     dt: u32,
     word: u32,
 ) -> Result<(), AllocError>
-    ensures ok { OnOk result (out.new.items ≡ out.old.items ++ (spaced (verb.now ∷ decimal mote ∷ decimal dt ∷ decimal word ∷ []) ++ 10 ∷ [])) }
-    ensures err { OnErr result (IsFrontOf out.new.items (out.old.items ++ (spaced (verb.now ∷ decimal mote ∷ decimal dt ∷ decimal word ∷ []) ++ 10 ∷ []))) }
+    ensures ok { OnOk result (out.new.items ≡ out.old.items
+        ++ (spaced (verb.now ∷ decimal mote ∷ decimal dt ∷ decimal word ∷ []) ++ 10 ∷ [])) }
+    ensures err { OnErr result (IsFrontOf out.new.items
+        (out.old.items ++ (spaced (verb.now ∷ decimal mote ∷ decimal dt ∷ decimal word ∷ []) ++ 10 ∷ []))) }
     ensures kept { length out.old.items ≤ length out.new.items }
 {
     push_line(
@@ -41,8 +43,11 @@ fn push_heard(
     word: u32,
     frame: Field,
 ) -> Result<(), AllocError>
-    ensures ok { OnOk result (out.new.items ≡ out.old.items ++ (spaced (verb.now ∷ decimal mote ∷ decimal dt ∷ decimal word ∷ field_text frame.entry ∷ []) ++ 10 ∷ [])) }
-    ensures err { OnErr result (IsFrontOf out.new.items (out.old.items ++ (spaced (verb.now ∷ decimal mote ∷ decimal dt ∷ decimal word ∷ field_text frame.entry ∷ []) ++ 10 ∷ []))) }
+    ensures ok { OnOk result (out.new.items ≡ out.old.items
+        ++ (spaced (verb.now ∷ decimal mote ∷ decimal dt ∷ decimal word ∷ field_text frame.entry ∷ []) ++ 10 ∷ [])) }
+    ensures err { OnErr result (IsFrontOf out.new.items
+        (out.old.items ++ (spaced (verb.now ∷ decimal mote ∷ decimal dt ∷ decimal word ∷ field_text frame.entry ∷ []) ++ 10
+        ∷ []))) }
     ensures kept { length out.old.items ≤ length out.new.items }
 {
     push_line(
@@ -60,7 +65,8 @@ fn push_heard(
 // Appends the line of a frame that is heard last.
 fn push_last(out: &mut Vec<u8>, from: u8, to: u8, dt: u32, word: u32) -> Result<(), AllocError>
     ensures ok { OnOk result (out.new.items ≡ out.old.items ++ (spaced (event_words (Last from to dt word)) ++ 10 ∷ [])) }
-    ensures err { OnErr result (IsFrontOf out.new.items (out.old.items ++ (spaced (event_words (Last from to dt word)) ++ 10 ∷ []))) }
+    ensures err { OnErr result (IsFrontOf out.new.items
+        (out.old.items ++ (spaced (event_words (Last from to dt word)) ++ 10 ∷ []))) }
     ensures kept { length out.old.items ≤ length out.new.items }
 {
     push_line(
@@ -84,8 +90,10 @@ fn push_inject(
     dt: u32,
     word: u32,
 ) -> Result<(), AllocError>
-    ensures ok { OnOk result (out.new.items ≡ out.old.items ++ (spaced (event_words (Inject mote image version dt word)) ++ 10 ∷ [])) }
-    ensures err { OnErr result (IsFrontOf out.new.items (out.old.items ++ (spaced (event_words (Inject mote image version dt word)) ++ 10 ∷ []))) }
+    ensures ok { OnOk result (out.new.items ≡ out.old.items
+        ++ (spaced (event_words (Inject mote image version dt word)) ++ 10 ∷ [])) }
+    ensures err { OnErr result (IsFrontOf out.new.items
+        (out.old.items ++ (spaced (event_words (Inject mote image version dt word)) ++ 10 ∷ []))) }
     ensures kept { length out.old.items ≤ length out.new.items }
 {
     push_line(
@@ -111,8 +119,10 @@ fn push_order(
     dt: u32,
     word: u32,
 ) -> Result<(), AllocError>
-    ensures ok { OnOk result (out.new.items ≡ out.old.items ++ (spaced (event_words (Order mote number image version dt word)) ++ 10 ∷ [])) }
-    ensures err { OnErr result (IsFrontOf out.new.items (out.old.items ++ (spaced (event_words (Order mote number image version dt word)) ++ 10 ∷ []))) }
+    ensures ok { OnOk result (out.new.items ≡ out.old.items
+        ++ (spaced (event_words (Order mote number image version dt word)) ++ 10 ∷ [])) }
+    ensures err { OnErr result (IsFrontOf out.new.items
+        (out.old.items ++ (spaced (event_words (Order mote number image version dt word)) ++ 10 ∷ []))) }
     ensures kept { length out.old.items ≤ length out.new.items }
 {
     push_line(
@@ -233,21 +243,32 @@ fn push_said(out: &mut Vec<u8>, line: &Line) -> Result<(), AllocError>
                 Field::Content(content.as_slice()),
             ],
         ),
-        Line::Cut(cut) => push_line(
-            out,
-            b"cut",
-            &[Field::Number(cut.after), Field::Digits(cut.mask.as_slice())],
-        ),
+        Line::Cut(cut) => push_cut(out, cut),
         Line::Happens(event) => push_event(out, event),
         Line::Round(a, b) => push_pair(out, b"round", *a, *b),
         Line::Sweeps(number) => push_line(out, b"sweeps", &[Field::Number(*number)]),
     }
 }
 
+// Appends the line of a cut.
+#[tactic(auto, unfolding(crate::specs::Spelling::line_text))]
+fn push_cut(out: &mut Vec<u8>, cut: &Cut) -> Result<(), AllocError>
+    ensures ok { OnOk result (out.new.items ≡ out.old.items ++ (line_text (Line.Cut cut.now) ++ 10 ∷ [])) }
+    ensures err { OnErr result (IsFrontOf out.new.items (out.old.items ++ (line_text (Line.Cut cut.now) ++ 10 ∷ []))) }
+    ensures kept { length out.old.items ≤ length out.new.items }
+{
+    push_line(
+        out,
+        b"cut",
+        &[Field::Number(cut.after), Field::Digits(cut.mask.as_slice())],
+    )
+}
+
 // Appends a line whose fields are two motes.
 fn push_pair(out: &mut Vec<u8>, word: &[u8], a: u8, b: u8) -> Result<(), AllocError>
     ensures ok { OnOk result (out.new.items ≡ out.old.items ++ (spaced (word.now ∷ decimal a ∷ decimal b ∷ []) ++ 10 ∷ [])) }
-    ensures err { OnErr result (IsFrontOf out.new.items (out.old.items ++ (spaced (word.now ∷ decimal a ∷ decimal b ∷ []) ++ 10 ∷ []))) }
+    ensures err { OnErr result (IsFrontOf out.new.items
+        (out.old.items ++ (spaced (word.now ∷ decimal a ∷ decimal b ∷ []) ++ 10 ∷ []))) }
     ensures kept { length out.old.items ≤ length out.new.items }
 {
     push_line(out, word, &[Field::Small(a), Field::Small(b)])

@@ -1,16 +1,15 @@
 use Rattle.std.proofs.Common.{◌∙◌, sym}
-use Rattle.dg_replay.proofs.EndLemmas.{short_ends, script_ends, waiting_ends}
+use Rattle.dg_replay.proofs.EndLemmas.{short_ends, script_ends, finishes_in}
 use Rattle.dg_replay.proofs.BoardLemmas.{rose_later}
 use Rattle.dg_replay.proofs.ends.end_script.Goals as goal
 
+pub finish-requires : goal.finish-requires
+finish-requires g c = finishes_in c.args.player.now _ (sym c.end_fault.ensures ∙ c.in-None.is) c.requires
+
 pub returns-in-Some-clause-ends : goal.returns-in-Some-clause-ends
 returns-in-Some-clause-ends g c = λ table script input initial before faults below behind r.
-    short_ends c.end_at_line-in-Some.result script input _ c.in-Some.fault _ initial _ before _ _ _ ⊥ _ (rose_later faults _ _ below) (sym c.end_fault.ensures ∙ c.in-Some.is) behind r c.end_at_line-in-Some.ensures.ends
+    short_ends c.end_at_line.result script input _ c.in-Some.fault _ initial _ before _ _ _ ⊥ _ (rose_later faults _ _ below) (sym c.end_fault.ensures ∙ c.in-Some.is) behind r c.end_at_line.ensures.ends
 
 pub returns-in-None-clause-ends : goal.returns-in-None-clause-ends
 returns-in-None-clause-ends g c = λ table script input initial before faults below behind r.
-    script_ends c.finish.result script input _ _ c.in-Playing.world initial _ _ before _ _ _ ⊥ _ (rose_later faults _ _ below) (sym c.end_fault.ensures ∙ c.in-None.is) c.in-Playing.is r (λ w is stands. c.finish.ensures.finishes w initial is stands)
-
-pub returns-in-Waiting-clause-ends : goal.returns-in-Waiting-clause-ends
-returns-in-Waiting-clause-ends g c = λ table script input initial before faults below behind r.
-    short_ends c.end_at_line.result script input _ _ _ initial _ before _ _ _ ⊥ _ (rose_later faults _ _ below) (waiting_ends c.args.player.now _ _ c.in-Waiting.is r.stood.world) behind r c.end_at_line.ensures.ends
+    script_ends c.finish.result script input _ _ initial _ _ before _ _ _ ⊥ _ (rose_later faults _ _ below) (sym c.end_fault.ensures ∙ c.in-None.is) r (λ w is stands. c.finish.ensures.finishes w initial is stands)

@@ -14,7 +14,7 @@ pub returns-in-Err-Memory-clause-finishes : goal.returns-in-Err-Memory-clause-fi
 returns-in-Err-Memory-clause-finishes g c = λ w initial is stands.
     inl (inr (inr (refl, refl)), stands_read w initial _ _ c.finish.ensures.boards (c.in-Err-Memory.ensures.calm_memory (ap Err c.in-Err-Memory.field-0-is)) (c.finish.ensures.others w is) stands)
 
-pub returns-in-Err-Flash-clause-finishes : goal.returns-in-Err-Flash-clause-finishes
-returns-in-Err-Flash-clause-finishes g c = λ w initial is stands.
+pub returns-clause-finishes : goal.returns-clause-finishes
+returns-clause-finishes g c = λ w initial is stands.
     let e = ap Err c.in-Err-Flash.field-0-is in
     inr (refl, read_stopped w c.in-Err-Flash.field-0-0 initial _ _ (c.in-Err-Flash.ensures.known_board c.in-Err-Flash.field-0-0 e w is) c.finish.ensures.boards (c.finish.ensures.others w is) (c.in-Err-Flash.ensures.flash c.in-Err-Flash.field-0-0 e) stands, refl)

@@ -9,7 +9,7 @@ use Rattle.dg_replay.proofs.following.play_lines.Goals as goal
 
 pub loop-told-init : goal.loop-told-init
 loop-told-init g c =
-    (lines_first (g.S.Source.left c.args.input.now) c.args.reader.now _ (map g.N.Nor.device c.args.boards.now.items) (g.K.Sink.written c.args.out.now) c.requires.none c.requires.unread c.requires.first c.first.ensures refl refl, refl, refl)
+    (lines_first (g.S.Source.left c.args.input.now) c.args.reader.now _ (map g.N.Nor.device c.args.boards.now.items) (g.K.Sink.written c.args.out.now) c.requires.none c.requires.unread c.requires.first c.first-player.ensures, refl, refl)
 
 pub play_next-requires : goal.play_next-requires
 play_next-requires g c =

@@ -1,4 +1,3 @@
-use Rattle.std.proofs.Common.{◌∙◌}
 use Rattle.std.proofs.lemmas.Result.{err_from_is_err_and}
 use Rattle.dg_replay.proofs.TextLemmas.{told_as, begun_as, not_found_as}
 use Rattle.dg_replay.proofs.lines.play_text.Goals as goal
@@ -6,7 +5,7 @@ use Rattle.dg_replay.proofs.lines.play_text.Goals as goal
 pub play_line-requires : goal.play_line-requires
 play_line-requires g c =
     let found = c.in_ok-line.ensures in
-    record { may = record { before = c.args.player.now; passed = found.passed; ready = c.requires; stands = found.stands; fits = found.fits; played = found.played } }
+    record { may = record { ready = c.requires; stands = found.stands; fits = found.fits; played = found.played } }
 
 pub returns-in_err-line-clause-played : goal.returns-in_err-line-clause-played
 returns-in_err-line-clause-played g c =
@@ -17,13 +16,13 @@ returns-in_err-line-clause-played g c =
 pub returns-in-Ok-clause-played : goal.returns-in-Ok-clause-played
 returns-in-Ok-clause-played g c = λ done w initial table stood.
     let found = c.in_ok-line.ensures in
-    let to = rw c.clear.ensures.items at (c.in-Ok.ensures.played c.args.player.now done w initial table found.passed found.stands found.fits stood) in
-    told_as table c.write_told.result c.args.text.now c.args.number _ _ done w initial _ _ _ _ _ c.in_ok-line.line c.play_line.new.told.text.items found.spelled to (c.in-Ok.ensures.place ∙ found.passed.place)
+    let to = rw c.clear.ensures.items at (c.in-Ok.ensures.played done w initial table stood) in
+    told_as table c.write_told.result c.args.text.now c.args.number _ _ done w initial _ _ _ _ _ c.in_ok-line.line c.play_line.new.told.text.items found.spelled to c.in-Ok.ensures.behind
     (rw (← c.deref.ensures.value) c.write_told.ensures.ok) (rw (← c.deref.ensures.value) c.write_told.ensures.cut) c.write_told.ensures.cause
 
 pub returns-in-Err-clause-played : goal.returns-in-Err-clause-played
 returns-in-Err-clause-played g c = λ done w initial table stood.
     let found = c.in_ok-line.ensures in
-    let to = rw c.clear.ensures.items at (c.in-Err.ensures.played c.args.player.now done w initial table found.passed found.stands found.fits stood) in
+    let to = rw c.clear.ensures.items at (c.in-Err.ensures.played done w initial table stood) in
     begun_as table c.in-Err.stop c.write_begun.result c.args.text.now c.args.number _ _ done w initial _ _ _ _ _ c.in_ok-line.line c.play_line.new.told.text.items found.spelled to
     (rw (← c.deref-in-Err.ensures.value) c.write_begun.ensures.written)

@@ -1,18 +1,17 @@
-use Rattle.std.proofs.Common.{ap, refl, arith}
+use Rattle.std.proofs.Common.{refl, arith}
 use Rattle.std.proofs.lemmas.List.{length-map}
-use Rattle.dg_script.specs.declared.place.Place.{Place}
 use Rattle.dg_replay.proofs.SilentLemmas.{memory_line, golden_played, golden_stopped}
 use Rattle.dg_replay.proofs.player.play_golden.Goals as goal
 
 pub returns-in-Err-clause-played : goal.returns-in-Err-clause-played
-returns-in-Err-clause-played g c = λ p done w initial table told at unready stood. memory_line table p p done w _ told told initial _ stood
+returns-in-Err-clause-played g c = λ done w initial table told stood. memory_line table c.args.player.now c.args.player.now done w _ told told initial _ stood
 
 pub returns-in-Err-format-clause-played : goal.returns-in-Err-format-clause-played
-returns-in-Err-format-clause-played g c = λ p done w initial table told at unready stood.
-    golden_stopped table p p done w c.args.name.now c.args.used c.args.content.now c.args.player.now.place.motes c.in-Err-format.field-0 told initial _ _ unready (ap (λ (x : Place). x.motes) at.place) c.format.ensures.others (c.format.ensures.stopped c.in-Err-format.field-0 c.in-Err-format.is) stood
+returns-in-Err-format-clause-played g c = λ done w initial table told stood.
+    golden_stopped table c.args.player.now c.args.player.now done w c.args.name.now c.args.used c.args.content.now c.args.player.now.place.motes c.in-Err-format.field-0 told initial _ _ c.requires.unready refl c.format.ensures.others (c.format.ensures.stopped c.in-Err-format.field-0 c.in-Err-format.is) stood
 
 pub returns-in-Ok-format-clause-played : goal.returns-in-Ok-format-clause-played
-returns-in-Ok-format-clause-played g c = λ p done w initial table told at unready stood.
+returns-in-Ok-format-clause-played g c = λ done w initial table told stood.
     let count = length-map c.args.boards.now.items g.N.Nor.device in
-    golden_played p _ done w c.args.name.now c.args.used c.args.content.now c.args.player.now.place.motes c.in-Ok.world told initial _ _ unready (ap (λ (x : Place). x.motes) at.place) (c.requires.counted.0, c.requires.counted.1, omega (arith, c.requires.counted.2, count)) at.place at.cut refl
+    golden_played c.args.player.now _ done w c.args.name.now c.args.used c.args.content.now c.args.player.now.place.motes told initial _ _ c.requires.unready refl (c.requires.counted.0, c.requires.counted.1, omega (arith, c.requires.counted.2, count)) refl
     c.in-Ok-format.ensures.formatted c.in-Ok-format.ensures.awake c.in-Ok-format.ensures.calm c.format.ensures.others c.in-Ok.ensures.begins stood
