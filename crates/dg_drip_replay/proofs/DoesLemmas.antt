@@ -1,10 +1,10 @@
 -- What each kind of event does, with what is told of it.
 use Rattle.std.proofs.Common.{◌≡◌, ℕ, ◌+◌, ◌&&◌, ◌<◌, Bool, true, false, cond, List, [], ◌∷◌, ◌++◌, length, set, append-nil, refl, ap, sym, ◌∙◌, subst}
-use Rattle.std.specs.Prelude.{Option, Some, None, Result, Ok, Err}
+use Rattle.std.specs.Prelude.{Option, Some, None, Ok, Err}
 use Rattle.dg_drip.specs.Sizes.{key_count}
 use Rattle.dg_drip.specs.Cells.{tells, heard_cell, outcome, set_outcome}
-use Rattle.dg_drip.specs.Network.{Network, entry_at, is_linked, numbered, last_of, from_neighbour, heard, told_if, happens}
-use Rattle.dg_drip.specs.Nodes.{Node, cell_of, with_cell, set_answer, after_set, after_tick, said_by, told_by}
+use Rattle.dg_drip.specs.Network.{Network, is_linked, frame_numbered, last_said, from_neighbour, heard, told_if, happens}
+use Rattle.dg_drip.specs.Nodes.{Node, cell_of, with_cell, set_answer, after_set, node_after_tick, said_by, told_by}
 use Rattle.dg_drip.specs.declared.entry.Entry.{Entry}
 use Rattle.dg_drip.specs.declared.frame.Said.{Said}
 use Rattle.dg_drip.specs.declared.node.Cell.{Cell}
@@ -13,7 +13,7 @@ use Rattle.dg_drip.specs.declared.node.SetFault.TheVariants as fault
 use Rattle.dg_drip.specs.declared.node.DripHeard.{DripHeard}
 use Rattle.dg_drip.specs.declared.node.DripHeard.TheVariants as what
 use Rattle.dg_drip.specs.declared.events.DripEvent.TheVariants.{Set, Tick, Hear, Last}
-use Rattle.dg_drip_replay.specs.Reports.{got, told_of, told_of_frame, told_of_last}
+use Rattle.dg_drip_replay.specs.Reports.{got, told_of_frame, told_of_last}
 use Rattle.dg_drip_replay.specs.Standing.{Stands, Does, Hears, node_at}
 use Rattle.dg_drip_replay.specs.declared.network.DripNetwork.{DripNetwork}
 use Rattle.dg_drip_replay.specs.declared.report.DripReport.{DripReport}
@@ -57,7 +57,7 @@ and_false true c e = e
 and_false false c e = refl
 
 pub tick_none : (d e : DripNetwork) (w : Network) (loud : Bool) (node key dt word : ℕ) → Stands d w → node < length d.nodes.items → key < key_count
-    → e.moment ≡ d.moment + dt → e.links.items ≡ d.links.items → e.sent.items ≡ d.sent.items → e.nodes.items ≡ set d.nodes.items node (after_tick (node_at d.nodes.items node) (d.moment + dt) word key)
+    → e.moment ≡ d.moment + dt → e.links.items ≡ d.links.items → e.sent.items ≡ d.sent.items → e.nodes.items ≡ set d.nodes.items node (node_after_tick (node_at d.nodes.items node) (d.moment + dt) word key)
     → None ≡ told_by (node_at d.nodes.items node) (d.moment + dt) key → Does e w loud (Tick node key dt word) None
 tick_none d e w loud node key dt word s h l moment links sent nodes told =
     let n : Node = node_at d.nodes.items node in
@@ -70,7 +70,7 @@ tick_none d e w loud node key dt word s h l moment links sent nodes told =
 
 -- the network behind a tick that tells
 tells_stands : (d e : DripNetwork) (w : Network) (node key dt word : ℕ) (said : Said) → Stands d w → node < length d.nodes.items → key < key_count
-    → e.moment ≡ d.moment + dt → e.links.items ≡ d.links.items → e.sent.items ≡ d.sent.items ++ said ∷ [] → e.nodes.items ≡ set d.nodes.items node (after_tick (node_at d.nodes.items node) (d.moment + dt) word key)
+    → e.moment ≡ d.moment + dt → e.links.items ≡ d.links.items → e.sent.items ≡ d.sent.items ++ said ∷ [] → e.nodes.items ≡ set d.nodes.items node (node_after_tick (node_at d.nodes.items node) (d.moment + dt) word key)
     → Some said ≡ told_by (node_at d.nodes.items node) (d.moment + dt) key → Stands e (happens w (Tick node key dt word))
 tells_stands d e w node key dt word said s h l moment links sent nodes told =
     let n : Node = node_at d.nodes.items node in
@@ -79,7 +79,7 @@ tells_stands d e w node key dt word said s h l moment links sent nodes told =
     (sent ∙ sym (ap (λ (b : Bool). d.sent.items ++ told_if b (said_by n key)) parts.0 ∙ ap (λ (x : Said). d.sent.items ++ x ∷ []) parts.1))
 
 pub tick_quiet : (d e : DripNetwork) (w : Network) (loud : Bool) (node key dt word : ℕ) (said : Said) → Stands d w → node < length d.nodes.items → key < key_count
-    → e.moment ≡ d.moment + dt → e.links.items ≡ d.links.items → e.sent.items ≡ d.sent.items ++ said ∷ [] → e.nodes.items ≡ set d.nodes.items node (after_tick (node_at d.nodes.items node) (d.moment + dt) word key)
+    → e.moment ≡ d.moment + dt → e.links.items ≡ d.links.items → e.sent.items ≡ d.sent.items ++ said ∷ [] → e.nodes.items ≡ set d.nodes.items node (node_after_tick (node_at d.nodes.items node) (d.moment + dt) word key)
     → Some said ≡ told_by (node_at d.nodes.items node) (d.moment + dt) key → loud ≡ false → Does e w loud (Tick node key dt word) None
 tick_quiet d e w loud node key dt word said s h l moment links sent nodes told quiet = record {
   after = tells_stands d e w node key dt word said s h l moment links sent nodes told;
@@ -87,7 +87,7 @@ tick_quiet d e w loud node key dt word said s h l moment links sent nodes told q
 }
 
 pub tick_loud : (d e : DripNetwork) (w : Network) (loud : Bool) (node key dt word : ℕ) (said : Said) → Stands d w → node < length d.nodes.items → key < key_count
-    → e.moment ≡ d.moment + dt → e.links.items ≡ d.links.items → e.sent.items ≡ d.sent.items ++ said ∷ [] → e.nodes.items ≡ set d.nodes.items node (after_tick (node_at d.nodes.items node) (d.moment + dt) word key)
+    → e.moment ≡ d.moment + dt → e.links.items ≡ d.links.items → e.sent.items ≡ d.sent.items ++ said ∷ [] → e.nodes.items ≡ set d.nodes.items node (node_after_tick (node_at d.nodes.items node) (d.moment + dt) word key)
     → Some said ≡ told_by (node_at d.nodes.items node) (d.moment + dt) key → loud ≡ true → Does e w loud (Tick node key dt word) (Some (Sent node key said.entry))
 tick_loud d e w loud node key dt word said s h l moment links sent nodes told is =
     let n : Node = node_at d.nodes.items node in
@@ -129,9 +129,9 @@ later w dt = record w { moment = w.moment + dt }
 
 pub hear_none : (d e : DripNetwork) (w : Network) (loud : Bool) (node dt word frame : ℕ) → Stands d w
     → e.moment ≡ d.moment + dt → e.links.items ≡ d.links.items → e.sent.items ≡ d.sent.items → e.nodes.items ≡ d.nodes.items
-    → None ≡ numbered d.sent.items frame → Does e w loud (Hear node dt word frame) (Some (Refused node cause.Frame))
+    → None ≡ frame_numbered d.sent.items frame → Does e w loud (Hear node dt word frame) (Some (Refused node cause.Frame))
 hear_none d e w loud node dt word frame s moment links sent nodes none =
-    let is : None ≡ numbered w.sent frame = none ∙ ap (λ (xs : List Said). numbered xs frame) s.sent in
+    let is : None ≡ frame_numbered w.sent frame = none ∙ ap (λ (xs : List Said). frame_numbered xs frame) s.sent in
     record {
       after = subst (λ (r : Option Said). Stands e (heard w node (w.moment + dt) word (from_neighbour w.links node r))) is (later_stands d e w dt s moment links sent nodes);
       told_is = ap (λ (r : Option Said). told_of_frame w (happens w (Hear node dt word frame)) node r) is;
@@ -139,9 +139,9 @@ hear_none d e w loud node dt word frame s moment links sent nodes none =
 
 pub hear_link : (d e : DripNetwork) (w : Network) (loud : Bool) (node dt word frame : ℕ) (x : Said) → Stands d w
     → e.moment ≡ d.moment + dt → e.links.items ≡ d.links.items → e.sent.items ≡ d.sent.items → e.nodes.items ≡ d.nodes.items
-    → Some x ≡ numbered d.sent.items frame → is_linked d.links.items x.source node ≡ false → Does e w loud (Hear node dt word frame) (Some (Refused node cause.Link))
+    → Some x ≡ frame_numbered d.sent.items frame → is_linked d.links.items x.source node ≡ false → Does e w loud (Hear node dt word frame) (Some (Refused node cause.Link))
 hear_link d e w loud node dt word frame x s moment links sent nodes some far =
-    let is : Some x ≡ numbered w.sent frame = some ∙ ap (λ (xs : List Said). numbered xs frame) s.sent in
+    let is : Some x ≡ frame_numbered w.sent frame = some ∙ ap (λ (xs : List Said). frame_numbered xs frame) s.sent in
     let off : is_linked w.links x.source node ≡ false = ap (λ (ls : List (ℕ × ℕ)). is_linked ls x.source node) (sym s.links) ∙ far in
     record {
       after = subst (λ (r : Option Said). Stands e (heard w node (w.moment + dt) word (from_neighbour w.links node r))) is
@@ -151,9 +151,9 @@ hear_link d e w loud node dt word frame x s moment links sent nodes some far =
     }
 
 pub hear_takes : (d e : DripNetwork) (w : Network) (loud : Bool) (node dt word frame : ℕ) (x : Said) (told : Option DripReport) → Stands d w
-    → Some x ≡ numbered d.sent.items frame → is_linked d.links.items x.source node ≡ true → Hears e (later w dt) node word x told → Does e w loud (Hear node dt word frame) told
+    → Some x ≡ frame_numbered d.sent.items frame → is_linked d.links.items x.source node ≡ true → Hears e (later w dt) node word x told → Does e w loud (Hear node dt word frame) told
 hear_takes d e w loud node dt word frame x told s some near h =
-    let is : Some x ≡ numbered w.sent frame = some ∙ ap (λ (xs : List Said). numbered xs frame) s.sent in
+    let is : Some x ≡ frame_numbered w.sent frame = some ∙ ap (λ (xs : List Said). frame_numbered xs frame) s.sent in
     let on : is_linked w.links x.source node ≡ true = ap (λ (ls : List (ℕ × ℕ)). is_linked ls x.source node) (sym s.links) ∙ near in
     let there : heard w node (w.moment + dt) word (Some x) ≡ happens w (Hear node dt word frame) =
     sym (ap (λ (b : Bool). heard w node (w.moment + dt) word (cond b (Some x) None)) on) ∙ ap (λ (r : Option Said). heard w node (w.moment + dt) word (from_neighbour w.links node r)) is in
@@ -165,18 +165,18 @@ hear_takes d e w loud node dt word frame x told s some near h =
           ∙ ap (λ (r : Option Said). told_of_frame w (happens w (Hear node dt word frame)) node r) is;
     }
 
-pub last_none : (d : DripNetwork) (w : Network) (loud : Bool) (from to key : ℕ) → Stands d w → None ≡ last_of d.sent.items from key → Does d w loud (Last from to key) None
+pub last_none : (d : DripNetwork) (w : Network) (loud : Bool) (from to key : ℕ) → Stands d w → None ≡ last_said d.sent.items from key → Does d w loud (Last from to key) None
 last_none d w loud from to key s none =
-    let is : None ≡ last_of w.sent from key = none ∙ ap (λ (xs : List Said). last_of xs from key) s.sent in
+    let is : None ≡ last_said w.sent from key = none ∙ ap (λ (xs : List Said). last_said xs from key) s.sent in
     record {
       after = subst (λ (r : Option Said). Stands d (heard w to w.moment 0 r)) is (record { moment = s.moment; links = s.links; sent = s.sent; long = s.long; ids = s.ids; cells = s.cells });
       told_is = ap (λ (r : Option Said). told_of_last w (happens w (Last from to key)) to r) is;
     }
 
-pub last_takes : (d e : DripNetwork) (w : Network) (loud : Bool) (from to key : ℕ) (x : Said) (told : Option DripReport) → Stands d w → Some x ≡ last_of d.sent.items from key
+pub last_takes : (d e : DripNetwork) (w : Network) (loud : Bool) (from to key : ℕ) (x : Said) (told : Option DripReport) → Stands d w → Some x ≡ last_said d.sent.items from key
     → Hears e w to 0 x told → Does e w loud (Last from to key) told
 last_takes d e w loud from to key x told s some h =
-    let is : Some x ≡ last_of w.sent from key = some ∙ ap (λ (xs : List Said). last_of xs from key) s.sent in
+    let is : Some x ≡ last_said w.sent from key = some ∙ ap (λ (xs : List Said). last_said xs from key) s.sent in
     let there : heard w to w.moment 0 (Some x) ≡ happens w (Last from to key) = ap (λ (r : Option Said). heard w to w.moment 0 r) is in
     record {
       after = subst (λ (v : Network). Stands e v) there h.after;

@@ -1,13 +1,13 @@
 -- What an event does to a network, and what is told of it.
-use Rattle.std.proofs.Common.{◌≡◌, ◌⊎◌, inl, inr, ℕ, ◌+◌, ◌==◌, ◌&&◌, ◌<◌, nat_lt, Bool, true, false, cond, List, [], ◌∷◌, ◌++◌, length, set, refl, ap, sym, ◌∙◌, subst, arith}
+use Rattle.std.proofs.Common.{◌≡◌, inl, inr, ℕ, ◌+◌, ◌==◌, ◌&&◌, ◌<◌, nat_lt, Bool, true, false, cond, List, ◌++◌, length, set, refl, ap, sym, ◌∙◌, subst, arith}
 use Rattle.std.specs.Prelude.{Option, Some, None, Result, Ok, Err}
 use Rattle.std.proofs.lemmas.Bool.{cases_Bool, eq-eqb, ne_eqb, both_ways, or_cases, and_parts, ltb-true}
 use Rattle.dg_drip.specs.Sizes.{key_count}
 use Rattle.dg_drip.specs.Cells.{is_last, next_entry, is_same, set_outcome, set_cell, ticked, tells, heard_cell, outcome}
 use Rattle.dg_trickle.specs.Steps.{after_same, after_other}
-use Rattle.dg_drip.specs.Entries.{is_less, greater, IsAtMost}
-use Rattle.dg_drip.specs.Network.{Network, entry_at, is_linked, numbered, last_of, with_cell_at, from_neighbour, heard, told_if, happens}
-use Rattle.dg_drip.specs.Nodes.{Node, cell_of, with_cell, after_set, after_tick, said_by, told_by}
+use Rattle.dg_drip.specs.Entries.{is_less, greater}
+use Rattle.dg_drip.specs.Network.{Network, entry_at, with_cell_at, heard, told_if, happens}
+use Rattle.dg_drip.specs.Nodes.{Node, cell_of, with_cell, after_set, node_after_tick, said_by}
 use Rattle.dg_drip.specs.declared.entry.Entry.{Entry}
 use Rattle.dg_drip.specs.declared.frame.Said.{Said}
 use Rattle.dg_drip.specs.declared.node.Cell.{Cell}
@@ -15,11 +15,10 @@ use Rattle.dg_drip.specs.declared.node.SetFault.{SetFault}
 use Rattle.dg_drip.specs.declared.node.SetFault.TheVariants as fault
 use Rattle.dg_drip.specs.declared.node.DripHeard.{DripHeard}
 use Rattle.dg_drip.specs.declared.node.DripHeard.TheVariants as what
-use Rattle.dg_drip.specs.declared.events.DripEvent.{DripEvent}
-use Rattle.dg_drip.specs.declared.events.DripEvent.TheVariants.{Set, Tick, Hear, Last}
-use Rattle.dg_drip.proofs.OrderLemmas.{less_true, less_false, at_most_anti, is_same_true}
-use Rattle.dg_drip_replay.specs.Reports.{got_if_other, got, told_of, told_of_frame}
-use Rattle.dg_drip_replay.specs.Standing.{Stands, Does, Hears, node_at}
+use Rattle.dg_drip.specs.declared.events.DripEvent.TheVariants.{Set, Tick}
+use Rattle.dg_drip.proofs.OrderLemmas.{less_true, less_false, at_most_anti}
+use Rattle.dg_drip_replay.specs.Reports.{got_if_other, got, told_of}
+use Rattle.dg_drip_replay.specs.Standing.{Stands, node_at}
 use Rattle.dg_drip_replay.specs.declared.network.DripNetwork.{DripNetwork}
 use Rattle.dg_drip_replay.specs.declared.report.DripReport.{DripReport}
 use Rattle.dg_drip_replay.specs.declared.report.DripReport.TheVariants.{Refused, Sent, Got}
@@ -113,7 +112,7 @@ set_stands d e w node key value dt word s h l moment links sent nodes =
 -- ---- ticks
 
 pub tick_stands : (d e : DripNetwork) (w : Network) (node key dt word : ℕ) → Stands d w → node < length d.nodes.items → key < key_count
-    → e.moment ≡ d.moment + dt → e.links.items ≡ d.links.items → e.nodes.items ≡ set d.nodes.items node (after_tick (node_at d.nodes.items node) (d.moment + dt) word key)
+    → e.moment ≡ d.moment + dt → e.links.items ≡ d.links.items → e.nodes.items ≡ set d.nodes.items node (node_after_tick (node_at d.nodes.items node) (d.moment + dt) word key)
     → e.sent.items ≡ d.sent.items ++ told_if (tells (cell_of (node_at d.nodes.items node) key) (d.moment + dt)) (said_by (node_at d.nodes.items node) key)
     → Stands e (happens w (Tick node key dt word))
 tick_stands d e w node key dt word s h l moment links nodes sent =

@@ -5,8 +5,7 @@ use Rattle.dg_drip.specs.declared.frame.Said.{Said}
 use Rattle.dg_drip.specs.declared.events.DripEvent.{DripEvent}
 use Rattle.dg_drip.specs.declared.events.DripEvent.TheVariants.{Set, Tick, Hear, Last}
 use Rattle.dg_drip.specs.Cells.{is_last, is_same, tells}
-use Rattle.dg_drip.specs.Network.{Network, entry_at, is_linked, numbered, last_of, happens}
-use Rattle.dg_drip_replay.specs.declared.report.DripCause.{DripCause}
+use Rattle.dg_drip.specs.Network.{Network, entry_at, is_linked, frame_numbered, last_said, happens}
 use Rattle.dg_drip_replay.specs.declared.report.DripCause.TheVariants as cause
 use Rattle.dg_drip_replay.specs.declared.report.DripReport.{DripReport}
 use Rattle.dg_drip_replay.specs.declared.report.DripReport.TheVariants.{Refused, Sent, Got}
@@ -22,7 +21,8 @@ got old new node key = got_if_other node key (entry_at old node key) (entry_at n
 -- a node hears a frame of a neighbour, and no other
 abbrev pub told_of_frame : (old new : Network) → ℕ → Option Said → Option DripReport
 told_of_frame old new node None = Some (Refused node cause.Frame)
-told_of_frame old new node (Some s) = if is_linked old.links s.source node then got old new node s.key else Some (Refused node cause.Link)
+told_of_frame old new node (Some s) =
+    if is_linked old.links s.source node then got old new node s.key else Some (Refused node cause.Link)
 
 -- in a round nothing is refused
 abbrev pub told_of_last : (old new : Network) → ℕ → Option Said → Option DripReport
@@ -32,7 +32,10 @@ told_of_last old new node (Some s) = got old new node s.key
 -- What is told of an event. In rounds it is not told that a frame was sent.
 abbrev pub told_of : Network → (loud : Bool) → DripEvent → Option DripReport
 told_of w loud (Set node key value dt word) =
-    if is_last (entry_at w node key) then Some (Refused node cause.Last) else got w (happens w (Set node key value dt word)) node key
-told_of w loud (Tick node key dt word) = if loud && tells (w.cells node key) (w.moment + dt) then Some (Sent node key (entry_at w node key)) else None
-told_of w loud (Hear node dt word frame) = told_of_frame w (happens w (Hear node dt word frame)) node (numbered w.sent frame)
-told_of w loud (Last from to key) = told_of_last w (happens w (Last from to key)) to (last_of w.sent from key)
+    if is_last (entry_at w node key) then Some (Refused node cause.Last)
+    else got w (happens w (Set node key value dt word)) node key
+told_of w loud (Tick node key dt word) =
+    if loud && tells (w.cells node key) (w.moment + dt) then Some (Sent node key (entry_at w node key)) else None
+told_of w loud (Hear node dt word frame) =
+    told_of_frame w (happens w (Hear node dt word frame)) node (frame_numbered w.sent frame)
+told_of w loud (Last from to key) = told_of_last w (happens w (Last from to key)) to (last_said w.sent from key)

@@ -1,5 +1,6 @@
 -- What the code keeps of a network.
-use Rattle.std.specs.Prelude.{◌≡◌, ℕ, ◌+◌, ◌<◌, Bool, List, length, slice_index_or, Option, Some, All, if◌then◌else◌, ◌++◌, ◌∷◌, []}
+use Rattle.std.specs.Prelude.{◌≡◌, ℕ, ◌+◌, ◌<◌, Bool, List, length, slice_index_or, Option, Some, All, if◌then◌else◌, ◌++◌, ◌∷◌}
+use Rattle.std.specs.Prelude.{[]}
 use Rattle.dg_drip.specs.Sizes.{key_count}
 use Rattle.dg_drip.specs.declared.events.DripEvent.{DripEvent}
 use Rattle.dg_drip.specs.declared.events.DripEvent.TheVariants.{Set, Tick, Hear, Last}

@@ -1,9 +1,10 @@
 //! A network of nodes, and what happens in it.
-ghost use Rattle.std.specs.Prelude.{◌≡◌, ℕ, ◌+◌, ◌-◌, ◌==◌, ◌&&◌, ◌||◌, ◌<◌, ◌≤◌, ◌^◌, [], Ok, Some, Bool, Option, IfOk, OnOk, length, slice_set, slice_index_or};
+ghost use Rattle.std.specs.Prelude.{◌≡◌, ℕ, ◌+◌, ◌-◌, ◌==◌, ◌&&◌, ◌||◌, ◌<◌, ◌≤◌, ◌^◌, [], Ok, Some, Bool, Option, IfOk, OnOk};
+ghost use Rattle.std.specs.Prelude.{length, slice_set, slice_index_or};
 ghost use Rattle.dg_drip.specs.Sizes.{key_count};
 ghost use Rattle.dg_drip.specs.Cells.{outcome, heard_cell};
-ghost use Rattle.dg_drip.specs.Network.{Network, start, entry_at, is_linked, numbered, is_of, last_of};
-ghost use Rattle.dg_drip.specs.Nodes.{cell_of, with_cell, set_answer, after_set, told_by, after_tick};
+ghost use Rattle.dg_drip.specs.Network.{Network, start, entry_at, is_linked, frame_numbered, is_of, last_said};
+ghost use Rattle.dg_drip.specs.Nodes.{cell_of, with_cell, set_answer, after_set, told_by, node_after_tick};
 ghost use Rattle.dg_drip.specs.declared.events.DripEvent.TheVariants.{Set, Tick, Hear, Last};
 ghost use Rattle.dg_drip_replay.specs.Reports.{told_of};
 ghost use Rattle.dg_drip_replay.specs.Standing.{Stands, FitsEvent, AreKeyed, Does, Hears, Passes, node_at, time_of, with_link};
@@ -45,7 +46,7 @@ fn tick_at(nodes: &mut [DripNode], at: u8, now: u64, word: u32, key: u8) -> Opti
     requires moment { now < 2 ^ 62 }
     requires key { key < key_count }
     ensures told { result ≡ told_by (node_at nodes.old at) now key }
-    ensures after { nodes.new ≡ slice_set nodes.old at (after_tick (node_at nodes.old at) now word key) }
+    ensures after { nodes.new ≡ slice_set nodes.old at (node_after_tick (node_at nodes.old at) now word key) }
 {
     nodes[usize::from(at)].tell(now, word, key)
 }
@@ -56,7 +57,9 @@ fn hear_at(nodes: &mut [DripNode], at: u8, now: u64, word: u32, said: &Said) -> 
     requires moment { now < 2 ^ 62 }
     requires key { said.now.key < key_count }
     ensures answer { result ≡ outcome (cell_of (node_at nodes.old at) said.now.key) said.now.key said.now.entry }
-    ensures after { nodes.new ≡ slice_set nodes.old at (with_cell (node_at nodes.old at) said.now.key (heard_cell (cell_of (node_at nodes.old at) said.now.key) now word said.now.entry)) }
+    ensures after { nodes.new ≡ slice_set nodes.old at
+        (with_cell (node_at nodes.old at) said.now.key
+        (heard_cell (cell_of (node_at nodes.old at) said.now.key) now word said.now.entry)) }
 {
     nodes[usize::from(at)].hear_entry(now, word, said.key, said.entry)
 }
@@ -79,7 +82,7 @@ fn is_linked(links: &[(u8, u8)], a: u16, b: u8) -> bool
 
 // The frame with this number, counted from 1.
 fn numbered(sent: &[Said], number: u32) -> Option<Said>
-    ensures { result ≡ numbered sent.now number }
+    ensures { result ≡ frame_numbered sent.now number }
 {
     if number == 0 {
         return None;
@@ -96,7 +99,7 @@ fn is_of(said: &Said, node: u8, key: u8) -> bool
 
 // The last frame of a node that tells of a key.
 fn last_of(sent: &[Said], node: u8, key: u8) -> Option<Said>
-    ensures { result ≡ last_of sent.now node key }
+    ensures { result ≡ last_said sent.now node key }
 {
     let mut left = sent.len();
     while left > 0 {
@@ -135,7 +138,8 @@ impl DripNetwork {
         requires key { key < key_count }
         requires moment { self.old.moment + dt < 2 ^ 62 }
         requires keyed { AreKeyed self.old.sent.items }
-        ensures does { (w : Network) (loud : Bool) → Stands self.old w → Does self.new w loud (Set node key value dt word) (Some result) }
+        ensures does { (w : Network) (loud : Bool) → Stands self.old w
+            → Does self.new w loud (Set node key value dt word) (Some result) }
         ensures passes { Passes self.old self.new dt }
     {
         self.moment += u64::from(dt);

@@ -6,10 +6,10 @@ use Rattle.dg_drip.specs.Network.{Network, start}
 use Rattle.dg_drip_replay.specs.Standing.{Stands, FitsEvent, Does, Passes, time_of}
 use Rattle.dg_drip_replay.specs.declared.report.DripReport.{DripReport}
 use Rattle.dg_drip_script.specs.Reports.{told_text}
-use Rattle.dg_drip_script.specs.Scripts.{Item, Script, with_items, network_of, events_of, report_of}
+use Rattle.dg_drip_script.specs.Scripts.{DripItem, DripScript, with_items, network_of, events_of, report_of}
 use Rattle.dg_drip_script.specs.Sizes.{most_events}
 use Rattle.std.specs.Prelude.{Result, Ok, Err, OnOk, OnErr}
-use Rattle.dg_drip_run.specs.Playing.{Plays, Filled, IsPlaying, GoesOn, Ran}
+use Rattle.dg_drip_run.specs.Playing.{Plays, Filled, IsPlaying, GoesOn, DripItemsPlayed}
 use Rattle.dg_drip_run.specs.declared.player.PlayStop.{PlayStop}
 use Rattle.dg_drip_run.specs.declared.player.PlayStop.TheVariants.{TooMany, Memory}
 use Rattle.dg_drip_run.specs.declared.player.Player.{Player}
@@ -23,19 +23,19 @@ some_node n (Tick node key dt word) h = let l = h.0 in omega (arith, l)
 some_node n (Hear node dt word frame) h = omega (arith, h)
 some_node n (Last from to key) h = let l = h.0 in omega (arith, l)
 
-one_more : (is : List Item) (i : Item) → length (is ++ i ∷ []) ≡ length is + 1
+one_more : (is : List DripItem) (i : DripItem) → length (is ++ i ∷ []) ≡ length is + 1
 one_more is i = length-append is (i ∷ [])
 
 later : (m dt n : ℕ) → m ≤ n * 2 ^ 32 → dt < 2 ^ 32 → m + dt ≤ (n + 1) * 2 ^ 32
 later m dt n h l = omega (arith, h, l)
 
-pub happened : (p q : Player) (s : Script) (before : List ℕ) (e : DripEvent) (loud : Bool) (told : Option DripReport) → Plays p s before
+pub happened : (p q : Player) (s : DripScript) (before : List ℕ) (e : DripEvent) (loud : Bool) (told : Option DripReport) → Plays p s before
     → FitsEvent p.standing.nodes e → time_of e < 2 ^ 32 → p.standing.begun ≡ true → p.events < most_events
     → Does q.network (network_of s) loud e told → Passes p.network q.network (time_of e)
     → q.standing ≡ p.standing → q.events ≡ p.events + 1 → q.text.items ≡ p.text.items ++ told_text told
     → Plays q (with_items s (record { event = e; loud = loud } ∷ [])) before
 happened p q s before e loud told h fits short on few does passes standing events text =
-    let i : Item = record { event = e; loud = loud } in
+    let i : DripItem = record { event = e; loud = loud } in
     let nodes_is : p.standing.nodes ≡ s.nodes = ap (λ t. t.nodes) h.standing in
     let begun_is : s.begun ≡ true = sym (ap (λ t. t.begun) h.standing) ∙ on in
     record {
@@ -57,17 +57,17 @@ happened p q s before e loud told h fits short on few does passes standing event
     }
 
 -- no event more is played, where there are as many as may be
-pub filled : (p : Player) (s : Script) (before : List ℕ) (i : Item) → Plays p s before → most_events ≤ p.events → Filled p p (i ∷ []) s before
+pub filled : (p : Player) (s : DripScript) (before : List ℕ) (i : DripItem) → Plays p s before → most_events ≤ p.events → Filled p p (i ∷ []) s before
 filled p s before i h full = record {
   front = [];
   next = i;
   back = [];
   parts = refl;
   full = let none : length (s.items ++ []) ≡ length s.items + 0 = length-append s.items [] in let count = h.events in let few = h.few in omega (arith, full, none, count, few);
-  after = subst (λ (t : Script). Plays p t before) (sym (no_items s)) h;
+  after = subst (λ (t : DripScript). Plays p t before) (sym (no_items s)) h;
 }
 
-pub links_of_player : (p : Player) (s : Script) (before : List ℕ) → Plays p s before → p.network.links.items ≡ s.links
+pub links_of_player : (p : Player) (s : DripScript) (before : List ℕ) → Plays p s before → p.network.links.items ≡ s.links
 links_of_player p s before h = h.stands.links ∙ run_links (start s.links) (events_of s.items)
 
 -- what is told of an event was kept, or memory ran out
@@ -75,14 +75,14 @@ pub happen_ran : (r : Result (Unit {0}) PlayStop) (p q : Player) (e : DripEvent)
     → OnOk r (q.text.items ≡ p.text.items ++ told_text told) → OnErr r (r ≡ Err Memory)
     → FitsEvent p.standing.nodes e → time_of e < 2 ^ 32 → p.standing.begun ≡ true → p.events < most_events
     → ((w : Network) → Stands p.network w → Does q.network w loud e told) → Passes p.network q.network (time_of e)
-    → q.standing ≡ p.standing → q.events ≡ p.events + 1 → Ran r p q (record { event = e; loud = loud } ∷ [])
+    → q.standing ≡ p.standing → q.events ≡ p.events + 1 → DripItemsPlayed r p q (record { event = e; loud = loud } ∷ [])
 happen_ran (Ok u) p q e loud told text stop fits short on few does passes standing events = λ s before h.
     happened p q s before e loud told h fits short on few (does (network_of s) h.stands) passes standing events text
 happen_ran (Err TooMany) p q e loud told text stop fits short on few does passes standing events = absurd (let e = stop in cc)
 happen_ran (Err Memory) p q e loud told text stop fits short on few does passes standing events = tt
 
 -- behind events that were all played a player can play on
-pub goes_on : (r : Result (Unit {0}) PlayStop) (p q : Player) (items : List Item) → IsPlaying p → q.standing ≡ p.standing → Ran r p q items → OnOk r (GoesOn p q)
+pub goes_on : (r : Result (Unit {0}) PlayStop) (p q : Player) (items : List DripItem) → IsPlaying p → q.standing ≡ p.standing → DripItemsPlayed r p q items → OnOk r (GoesOn p q)
 goes_on (Ok u) p q items playing standing ran =
     let k = ran playing.0 playing.1 playing.2 in
     record {

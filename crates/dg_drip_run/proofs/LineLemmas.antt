@@ -5,12 +5,12 @@ use Rattle.std.proofs.lemmas.List.{take_all, take-append-le}
 use Rattle.std.specs.declared.alloc.AllocError.{AllocError}
 use Rattle.dg_drip.specs.Network.{Network, start, run, is_linked}
 use Rattle.dg_drip_replay.specs.Standing.{Stands, Passes, with_link}
-use Rattle.dg_drip_script.specs.Scripts.{Item, Script, begun, with_line, with_items, network_of, events_of, told_of_run}
+use Rattle.dg_drip_script.specs.Scripts.{DripItem, DripScript, begun_script, with_drip_line, with_items, network_of, events_of, told_of_run}
 use Rattle.dg_drip_script.specs.Sizes.{most_events}
 use Rattle.dg_drip_script.specs.declared.line.DripLine.{DripLine}
 use Rattle.dg_drip_script.specs.declared.line.DripLine.TheVariants.{Link}
 use Rattle.dg_drip_script.specs.declared.line.Standing.{Standing}
-use Rattle.dg_drip_run.specs.Playing.{Plays, IsPlaying, Ran, LinePlayed, AreBelow}
+use Rattle.dg_drip_run.specs.Playing.{Plays, IsPlaying, DripItemsPlayed, LinePlayed, AreBelow}
 use Rattle.dg_drip_run.specs.declared.player.Player.{Player}
 use Rattle.dg_drip_run.specs.declared.player.PlayStop.{PlayStop}
 use Rattle.dg_drip_run.specs.declared.player.PlayStop.TheVariants.{TooMany, Memory}
@@ -21,7 +21,7 @@ use Rattle.dg_drip_run.proofs.RoundLemmas.{below_more}
 abbrev pub begun_player : Player → Player
 begun_player p = record { network = p.network; standing = record { nodes = p.standing.nodes; begun = true }; events = p.events; text = p.text }
 
-pub begun_plays : (p : Player) (s : Script) (before : List ℕ) → Plays p s before → Plays (begun_player p) (begun s) before
+pub begun_plays : (p : Player) (s : DripScript) (before : List ℕ) → Plays p s before → Plays (begun_player p) (begun_script s) before
 begun_plays p s before h =
     let at : ℕ → Standing = λ n. record { nodes = n; begun = true } in
     record {
@@ -39,33 +39,33 @@ begun_plays p s before h =
     }
 
 pub begun_playing : (p : Player) → IsPlaying p → IsPlaying (begun_player p)
-begun_playing p h = (begun h.0, h.1, begun_plays p h.0 h.1 h.2)
+begun_playing p h = (begun_script h.0, h.1, begun_plays p h.0 h.1 h.2)
 
-cut_front : (n : ℕ) (all a b : List Item) → all ≡ a ++ b → length a ≡ n → 0 < length b → (n < length all) × (take n all ≡ a)
+cut_front : (n : ℕ) (all a b : List DripItem) → all ≡ a ++ b → length a ≡ n → 0 < length b → (n < length all) × (take n all ≡ a)
 cut_front n all a b parts long some = (
   omega (arith, ap length parts, length-append a b, long, some),
   ap (take n) parts ∙ (take-append-le n a b (omega (arith, long)) ∙ take_all n a (omega (arith, long))),
 )
 
-some_of : (i : Item) (is : List Item) → 0 < length (i ∷ is)
+some_of : (i : DripItem) (is : List DripItem) → 0 < length (i ∷ is)
 some_of i is = omega arith
 
-pub events_played : (r : Result (Unit {0}) PlayStop) (p q : Player) (line : DripLine) (items : List Item)
-    → ((s : Script) (before : List ℕ) → Plays p s before → with_items (begun s) items ≡ with_line s line) → Ran r (begun_player p) q items → LinePlayed r p q line
-events_played (Ok u) p q line items same ran = λ s before h. subst (λ (t : Script). Plays q t before) (same s before h) (ran (begun s) before (begun_plays p s before h))
+pub events_played : (r : Result (Unit {0}) PlayStop) (p q : Player) (line : DripLine) (items : List DripItem)
+    → ((s : DripScript) (before : List ℕ) → Plays p s before → with_items (begun_script s) items ≡ with_drip_line s line) → DripItemsPlayed r (begun_player p) q items → LinePlayed r p q line
+events_played (Ok u) p q line items same ran = λ s before h. subst (λ (t : DripScript). Plays q t before) (same s before h) (ran (begun_script s) before (begun_plays p s before h))
 events_played (Err TooMany) p q line items same ran = λ s before h.
-    let f = ran (begun s) before (begun_plays p s before h) in
-    let parts : s.items ++ items ≡ (s.items ++ f.front) ++ f.next ∷ f.back = ap (λ (is : List Item). s.items ++ is) f.parts ∙ sym (append_assoc s.items f.front (f.next ∷ f.back)) in
+    let f = ran (begun_script s) before (begun_plays p s before h) in
+    let parts : s.items ++ items ≡ (s.items ++ f.front) ++ f.next ∷ f.back = ap (λ (is : List DripItem). s.items ++ is) f.parts ∙ sym (append_assoc s.items f.front (f.next ∷ f.back)) in
     let c = cut_front most_events (s.items ++ items) (s.items ++ f.front) (f.next ∷ f.back) parts f.full (some_of f.next f.back) in
-    subst (λ (t : Script). (most_events < length t.items) × Plays q (record t { items = take most_events t.items }) before) (same s before h)
-    (c.0, subst (λ (is : List Item). Plays q (record (begun s) { items = is }) before) (sym c.1) f.after)
+    subst (λ (t : DripScript). (most_events < length t.items) × Plays q (record t { items = take most_events t.items }) before) (same s before h)
+    (c.0, subst (λ (is : List DripItem). Plays q (record (begun_script s) { items = is }) before) (sym c.1) f.after)
 events_played (Err Memory) p q line items same ran = tt
 
 -- ---- a link
 
-link_plays : (p q : Player) (s : Script) (before : List ℕ) (a b : ℕ) → Plays p s before → Stands q.network (with_link (network_of s) a b) → Passes p.network q.network 0
+link_plays : (p q : Player) (s : DripScript) (before : List ℕ) (a b : ℕ) → Plays p s before → Stands q.network (with_link (network_of s) a b) → Passes p.network q.network 0
     → p.standing.begun ≡ false → a < p.standing.nodes → b < p.standing.nodes → q.standing ≡ p.standing → q.events ≡ p.events → q.text.items ≡ p.text.items
-    → Plays q (with_line s (Link a b)) before
+    → Plays q (with_drip_line s (Link a b)) before
 link_plays p q s before a b h stands passes early less few standing events text =
     by_flag (is_linked s.links a b) (subst (λ (w : Network). Stands q.network (with_link w a b)) (behind s.links) stands)
   where
@@ -76,7 +76,7 @@ link_plays p q s before a b h stands passes early less few standing events text 
     none = h.early (sym (ap (λ t. t.begun) h.standing) ∙ early)
 
     behind : (links : List (ℕ × ℕ)) → run (start links) (events_of s.items) ≡ start links
-    behind links = ap (λ (is : List Item). run (start links) (events_of is)) none
+    behind links = ap (λ (is : List DripItem). run (start links) (events_of is)) none
 
     told_none : (links : List (ℕ × ℕ)) → told_of_run (start links) s.items ≡ []
     told_none links = ap (told_of_run (start links)) none

@@ -3,21 +3,21 @@ use Rattle.std.proofs.Common.{◌≡◌, ◌∙◌, ℕ, List, [], ◌∷◌, �
 use Rattle.dg_drip.specs.declared.events.DripEvent.{DripEvent}
 use Rattle.dg_drip.specs.declared.events.DripEvent.TheVariants.{Set, Tick, Hear, Last}
 use Rattle.dg_drip.specs.declared.frame.Said.{Said}
-use Rattle.dg_drip.specs.Network.{Network, run, happens, heard, from_neighbour, numbered, last_of}
+use Rattle.dg_drip.specs.Network.{Network, run, happens, heard, from_neighbour, frame_numbered, last_said}
 use Rattle.dg_drip_replay.specs.Reports.{told_of}
 use Rattle.dg_drip_script.specs.Reports.{told_text}
-use Rattle.dg_drip_script.specs.Scripts.{Item, events_of, told_of_run}
+use Rattle.dg_drip_script.specs.Scripts.{DripItem, events_of, told_of_run}
 use Rattle.std.specs.Prelude.{Option, Some, None}
 
 pub run_then : (w : Network) (es fs : List DripEvent) → run w (es ++ fs) ≡ run (run w es) fs
 run_then w [] fs = refl
 run_then w (e ∷ es) fs = run_then (happens w e) es fs
 
-pub run_more : (w : Network) (is : List Item) (i : Item) → run w (events_of (is ++ i ∷ [])) ≡ happens (run w (events_of is)) i.event
+pub run_more : (w : Network) (is : List DripItem) (i : DripItem) → run w (events_of (is ++ i ∷ [])) ≡ happens (run w (events_of is)) i.event
 run_more w [] i = refl
 run_more w (j ∷ is) i = run_more (happens w j.event) is i
 
-pub told_more : (w : Network) (is : List Item) (i : Item)
+pub told_more : (w : Network) (is : List DripItem) (i : DripItem)
     → told_of_run w (is ++ i ∷ []) ≡ told_of_run w is ++ told_text (told_of (run w (events_of is)) i.loud i.event)
 told_more w [] i = append-nil (told_text (told_of w i.loud i.event))
 told_more w (j ∷ is) i =
@@ -33,8 +33,8 @@ heard_links w node now word (Some s) = refl
 happens_links : (w : Network) (e : DripEvent) → (happens w e).links ≡ w.links
 happens_links w (Set node key value dt word) = refl
 happens_links w (Tick node key dt word) = refl
-happens_links w (Hear node dt word frame) = heard_links w node _ word (from_neighbour w.links node (numbered w.sent frame))
-happens_links w (Last from to key) = heard_links w to w.moment 0 (last_of w.sent from key)
+happens_links w (Hear node dt word frame) = heard_links w node _ word (from_neighbour w.links node (frame_numbered w.sent frame))
+happens_links w (Last from to key) = heard_links w to w.moment 0 (last_said w.sent from key)
 
 pub run_links : (w : Network) (es : List DripEvent) → (run w es).links ≡ w.links
 run_links w [] = refl

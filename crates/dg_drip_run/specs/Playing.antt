@@ -1,7 +1,7 @@
 -- What a player of a script keeps, and what it does with events.
 use Rattle.std.specs.Prelude.{◌≡◌, ℕ, ◌*◌, ◌^◌, ◌<◌, ◌≤◌, false, List, [], ◌∷◌, ◌++◌, length, take, Result, Ok, Err}
 use Rattle.dg_drip_replay.specs.Standing.{Stands, AreKeyed}
-use Rattle.dg_drip_script.specs.Scripts.{Item, Script, standing_of, with_items, with_line, network_of, report_of}
+use Rattle.dg_drip_script.specs.Scripts.{DripItem, DripScript, standing_of, with_items, with_drip_line, network_of, report_of}
 use Rattle.dg_drip_script.specs.Sizes.{most_events}
 use Rattle.dg_drip_script.specs.declared.line.DripLine.{DripLine}
 use Rattle.dg_drip_run.specs.declared.player.Player.{Player}
@@ -14,7 +14,7 @@ AreBelow nodes [] = Unit {0}
 AreBelow nodes (l ∷ links) = (l.0 < nodes) × (l.1 < nodes) × AreBelow nodes links
 
 -- A player stands behind a script, of whose report these bytes came before those that it keeps.
-pub record Plays (p : Player) (s : Script) (before : List ℕ) : Type 0 where
+pub record Plays (p : Player) (s : DripScript) (before : List ℕ) : Type 0 where
   pub standing : p.standing ≡ standing_of s
   pub stands : Stands p.network (network_of s)
   pub nodes : length p.network.nodes.items ≡ s.nodes
@@ -30,7 +30,7 @@ pub record Plays (p : Player) (s : Script) (before : List ℕ) : Type 0 where
 
 -- a player stands behind some script
 abbrev pub IsPlaying : Player → Type 0
-IsPlaying p = (s : Script) × (before : List ℕ) × Plays p s before
+IsPlaying p = (s : DripScript) × (before : List ℕ) × Plays p s before
 
 -- it can play on: nodes and links are as before
 pub record GoesOn (old new : Player) : Type 0 where
@@ -39,23 +39,27 @@ pub record GoesOn (old new : Player) : Type 0 where
   pub links : new.network.links.items ≡ old.network.links.items
 
 -- some of these events are left, and the others are all that a script may have
-pub record Filled (old new : Player) (items : List Item) (s : Script) (before : List ℕ) : Type 0 where
-  pub front : List Item
-  pub next : Item
-  pub back : List Item
+pub record Filled (old new : Player) (items : List DripItem) (s : DripScript) (before : List ℕ) : Type 0 where
+  pub front : List DripItem
+  pub next : DripItem
+  pub back : List DripItem
   pub parts : items ≡ front ++ next ∷ back
   pub full : length (s.items ++ front) ≡ most_events
   pub after : Plays new (with_items s front) before
 
 -- what playing events does
-abbrev pub Ran : Result (Unit {0}) PlayStop → (old new : Player) → List Item → Type 0
-Ran (Ok done) old new items = (s : Script) (before : List ℕ) → Plays old s before → Plays new (with_items s items) before
-Ran (Err TooMany) old new items = (s : Script) (before : List ℕ) → Plays old s before → Filled old new items s before
-Ran (Err Memory) old new items = Unit {0}
+abbrev pub DripItemsPlayed : Result (Unit {0}) PlayStop → (old new : Player) → List DripItem → Type 0
+DripItemsPlayed (Ok done) old new items =
+    (s : DripScript) (before : List ℕ) → Plays old s before → Plays new (with_items s items) before
+DripItemsPlayed (Err TooMany) old new items =
+    (s : DripScript) (before : List ℕ) → Plays old s before → Filled old new items s before
+DripItemsPlayed (Err Memory) old new items = Unit {0}
 
 -- What playing a line does. Where there are more events than a script may have, the first ones were played.
 abbrev pub LinePlayed : Result (Unit {0}) PlayStop → (old new : Player) → DripLine → Type 0
-LinePlayed (Ok done) old new line = (s : Script) (before : List ℕ) → Plays old s before → Plays new (with_line s line) before
-LinePlayed (Err TooMany) old new line = (s : Script) (before : List ℕ) → Plays old s before
-    → (most_events < length (with_line s line).items) × Plays new (record (with_line s line) { items = take most_events (with_line s line).items }) before
+LinePlayed (Ok done) old new line =
+    (s : DripScript) (before : List ℕ) → Plays old s before → Plays new (with_drip_line s line) before
+LinePlayed (Err TooMany) old new line = (s : DripScript) (before : List ℕ) → Plays old s before
+    → (most_events < length (with_drip_line s line).items)
+    × Plays new (record (with_drip_line s line) { items = take most_events (with_drip_line s line).items }) before
 LinePlayed (Err Memory) old new line = Unit {0}

@@ -6,27 +6,49 @@ use Rattle.dg_drip.specs.declared.entry.Entry.{Entry}
 use Rattle.dg_drip.specs.declared.events.DripEvent.{DripEvent}
 use Rattle.dg_drip.specs.Entries.{none, IsAtMost, IsAmong, IsGreatestOf}
 use Rattle.dg_drip.specs.Network.{start, run, entry_at}
-use Rattle.dg_drip.specs.Spread.{came, made_in, round, sweeps, HasRounds, IsWithin, IsGreatestAt, AreWithin}
-use Rattle.dg_drip_script.specs.Scripts.{Script, events_of, network_of}
+use Rattle.dg_drip.specs.Spread.{came, made_in, drip_round, sweeps, HasRounds, IsWithin, IsGreatestAt, AreWithin}
+use Rattle.dg_base.specs.declared.answers.Status.{Status}
+use Rattle.dg_drip_script.specs.Scripts.{DripScript, events_of, network_of}
+use Rattle.dg_drip_run.specs.AroundDrip.{AroundDrip}
+use Rattle.dg_drip_run.specs.Outcome.{Dripped, played}
 
 -- each node keeps of a key the greatest among none, what was set there, and what it heard
-abbrev pub GreatestIsKept : Script → Type 0
-GreatestIsKept s = (node key : ℕ) → IsGreatestOf (entry_at (network_of s) node key) (came (start s.links) (events_of s.items) node key)
+abbrev pub GreatestIsKept : DripScript → Type 0
+GreatestIsKept s =
+    (node key : ℕ) → IsGreatestOf (entry_at (network_of s) node key) (came (start s.links) (events_of s.items) node key)
 
 -- what a node keeps never falls
-abbrev pub NothingFalls : Script → Type 0
-NothingFalls s = (front back : List DripEvent) (node key : ℕ) → events_of s.items ≡ front ++ back → IsAtMost (entry_at (run (start s.links) front) node key) (entry_at (network_of s) node key)
+abbrev pub NothingFalls : DripScript → Type 0
+NothingFalls s = (front back : List DripEvent) (node key : ℕ) → events_of s.items ≡ front ++ back
+    → IsAtMost (entry_at (run (start s.links) front) node key) (entry_at (network_of s) node key)
 
 -- what a node keeps was set at some node of this run
-abbrev pub SetsMakeAll : Script → Type 0
-SetsMakeAll s = (node key : ℕ) → (entry_at (network_of s) node key ≡ none) ⊎ IsAmong (entry_at (network_of s) node key) (made_in (start s.links) (events_of s.items) key)
+abbrev pub SetsMakeAll : DripScript → Type 0
+SetsMakeAll s = (node key : ℕ) → (entry_at (network_of s) node key ≡ none)
+    ⊎ IsAmong (entry_at (network_of s) node key) (made_in (start s.links) (events_of s.items) key)
 
 -- behind a round the second node keeps no less than the first one kept
-abbrev pub RoundsRaise : Script → Type 0
-RoundsRaise s = (front back : List DripEvent) (a b key : ℕ) → key < key_count → events_of s.items ≡ front ++ (round a b ++ back)
-    → IsAtMost (entry_at (run (start s.links) front) a key) (entry_at (run (run (start s.links) front) (round a b)) b key)
+abbrev pub RoundsRaise : DripScript → Type 0
+RoundsRaise s =
+    (front back : List DripEvent) (a b key : ℕ) → key < key_count → events_of s.items ≡ front ++ (drip_round a b ++ back)
+    → IsAtMost (entry_at (run (start s.links) front) a key) (entry_at (run (run (start s.links) front) (drip_round a b)) b key)
 
 -- where each two nodes are within h links, h sweeps at the end with no set between them bring all to the greatest entry
-abbrev pub SweepsBringTheGreatest : Script → Type 0
-SweepsBringTheGreatest s = (front rest : List DripEvent) (h key : ℕ) (e : Entry) → key < key_count → events_of s.items ≡ front ++ rest → AllByRecursion (IsWithin s.nodes) front
-    → AreWithin s.nodes s.links h → HasRounds (sweeps h s.links) rest → IsGreatestAt (run (start s.links) front) s.nodes key e → (node : ℕ) → node < s.nodes → entry_at (network_of s) node key ≡ e
+abbrev pub SweepsBringTheGreatest : DripScript → Type 0
+SweepsBringTheGreatest s = (front rest : List DripEvent) (h key : ℕ) (e : Entry) → key < key_count
+    → events_of s.items ≡ front ++ rest → AllByRecursion (IsWithin s.nodes) front
+    → AreWithin s.nodes s.links h → HasRounds (sweeps h s.links) rest
+    → IsGreatestAt (run (start s.links) front) s.nodes key e → (node : ℕ) → node < s.nodes → entry_at (network_of s) node key ≡ e
+
+-- all of this, of whatever run a replay may have played
+pub record ValuesSpread (status : Status) (a b : AroundDrip) : Type 0 where
+  -- each node keeps of a key the greatest among none, what was set there, and what it heard
+  pub greatest : (x : Dripped status a b) → GreatestIsKept (played x.script)
+  -- what it keeps never falls
+  pub rises : (x : Dripped status a b) → NothingFalls (played x.script)
+  -- it was set at some node of this run
+  pub made : (x : Dripped status a b) → SetsMakeAll (played x.script)
+  -- behind a round the second node keeps no less than the first one kept
+  pub rounds : (x : Dripped status a b) → RoundsRaise (played x.script)
+  -- where each two nodes are within h links, h sweeps at the end with no set between them bring all to the greatest entry
+  pub sweeps : (x : Dripped status a b) → SweepsBringTheGreatest (played x.script)

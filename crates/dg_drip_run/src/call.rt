@@ -1,10 +1,10 @@
 //! The call that replays a script of nodes.
 ghost use Rattle.std.specs.Prelude.{◌≡◌, ◌≤◌, ℕ, ◌++◌, [], List, OnOk};
-ghost use Rattle.dg_words.specs.Counts.{Rose};
-ghost use Rattle.dg_base.specs.Outside.{Takes, AtEnd};
-ghost use Rattle.dg_drip_script.specs.Scripts.{Script, first_script};
-ghost use Rattle.dg_drip_run.specs.Outcome.{Dripped, NextPlays, LinesAnswer, played};
-ghost use Rattle.dg_drip_run.specs.Promised.{GreatestIsKept, NothingFalls, SetsMakeAll, RoundsRaise, SweepsBringTheGreatest};
+ghost use Rattle.dg_base.specs.Outside.{Takes};
+ghost use Rattle.dg_drip_script.specs.Scripts.{DripScript, first_script};
+ghost use Rattle.dg_drip_run.specs.AroundDrip.{around_drip};
+ghost use Rattle.dg_drip_run.specs.Outcome.{Dripped, NextPlays, LinesAnswer, drip_stage};
+ghost use Rattle.dg_drip_run.specs.Promised.{ValuesSpread};
 ghost use Rattle.dg_drip_run.specs.Playing.{Plays, IsPlaying};
 
 use crate::finish::{end_at_line, end_script, end_with};
@@ -26,8 +26,11 @@ fn play_next<S: Source, K: Sink>(
 ) -> Result<bool, Status>
     requires { IsPlaying player.old }
     ensures answer { (more : List ℕ) × Takes (S.left input.old) (S.left input.new) more
-        × ((s : Script) (before : List ℕ) → Plays player.old s before → NextPlays result (reader.old.ahead ++ more) reader.old reader.new s player.old player.new (AtEnd (S.left input.new))
-        (Rose (S.faults input.old) (S.faults input.new)) (Rose (K.faults out.old) (K.faults out.new)) (K.written out.old) (K.written out.new)) }
+        × ((s : DripScript) (before : List ℕ) → Plays player.old s before → NextPlays result (reader.old.ahead ++ more) s
+        (drip_stage reader.old player.old
+        (around_drip (S.left input.old) (S.faults input.old) (K.written out.old) (K.faults out.old)))
+        (drip_stage reader.new player.new
+        (around_drip (S.left input.new) (S.faults input.new) (K.written out.new) (K.faults out.new)))) }
     ensures unread { OnOk result (S.faults input.new ≡ S.faults input.old) }
     ensures still { OnOk result (K.faults out.new ≡ K.faults out.old) }
     ensures reads { S.faults input.old ≤ S.faults input.new }
@@ -58,8 +61,10 @@ fn play_lines<S: Source, K: Sink>(
     requires unread { reader.old.passed ≡ 0 }
     requires first { reader.old.number ≡ 0 }
     requires playing { Plays player.old first_script [] }
-    ensures answer { LinesAnswer result (S.left input.old) (S.left input.new) reader.new player.new
-        (Rose (S.faults input.old) (S.faults input.new)) (Rose (K.faults out.old) (K.faults out.new)) (K.written out.old) (K.written out.new) }
+    ensures answer { LinesAnswer result
+        (around_drip (S.left input.old) (S.faults input.old) (K.written out.old) (K.faults out.old))
+        (drip_stage reader.new player.new
+        (around_drip (S.left input.new) (S.faults input.new) (K.written out.new) (K.faults out.new))) }
     ensures still { OnOk result (K.faults out.new ≡ K.faults out.old) }
     ensures reads { S.faults input.old ≤ S.faults input.new }
     ensures counts { K.faults out.old ≤ K.faults out.new }
@@ -76,8 +81,8 @@ fn play_lines<S: Source, K: Sink>(
 
 /// Reads the script that `input` spells line by line, and replays it.
 fn read_and_play<S: Source, K: Sink>(alloc: Global, input: &mut S, out: &mut K) -> Status
-    ensures replayed { Dripped result (S.left input.old) (S.left input.new) (K.written out.old) (K.written out.new)
-        (Rose (S.faults input.old) (S.faults input.new)) (Rose (K.faults out.old) (K.faults out.new)) }
+    ensures replayed { Dripped result (around_drip (S.left input.old) (S.faults input.old) (K.written out.old) (K.faults out.old))
+        (around_drip (S.left input.new) (S.faults input.new) (K.written out.new) (K.faults out.new)) }
     ensures reads { S.faults input.old ≤ S.faults input.new }
     ensures counts { K.faults out.old ≤ K.faults out.new }
 {
@@ -101,23 +106,13 @@ fn read_and_play<S: Source, K: Sink>(alloc: Global, input: &mut S, out: &mut K) 
 pub fn drip<S: Source, K: Sink>(alloc: Global, input: &mut S, out: &mut K) -> Status
     // The bytes written are the report of the run of the script's events from nodes that keep nothing, and each status comes
     // where the rules say.
-    ensures replayed { Dripped result (S.left input.old) (S.left input.new) (K.written out.old) (K.written out.new)
-        (Rose (S.faults input.old) (S.faults input.new)) (Rose (K.faults out.old) (K.faults out.new)) }
-    // Each node keeps of a key the greatest among none, what was set there, and what it heard.
-    ensures greatest { (x : Dripped result (S.left input.old) (S.left input.new) (K.written out.old) (K.written out.new)
-        (Rose (S.faults input.old) (S.faults input.new)) (Rose (K.faults out.old) (K.faults out.new))) → GreatestIsKept (played x.script) }
-    // What it keeps never falls.
-    ensures rises { (x : Dripped result (S.left input.old) (S.left input.new) (K.written out.old) (K.written out.new)
-        (Rose (S.faults input.old) (S.faults input.new)) (Rose (K.faults out.old) (K.faults out.new))) → NothingFalls (played x.script) }
-    // It was set at some node of this run.
-    ensures made { (x : Dripped result (S.left input.old) (S.left input.new) (K.written out.old) (K.written out.new)
-        (Rose (S.faults input.old) (S.faults input.new)) (Rose (K.faults out.old) (K.faults out.new))) → SetsMakeAll (played x.script) }
-    // Behind a round the second node keeps no less than the first one kept.
-    ensures rounds { (x : Dripped result (S.left input.old) (S.left input.new) (K.written out.old) (K.written out.new)
-        (Rose (S.faults input.old) (S.faults input.new)) (Rose (K.faults out.old) (K.faults out.new))) → RoundsRaise (played x.script) }
-    // Where each two nodes are within h links, h sweeps at the end with no set between them bring all to the greatest entry.
-    ensures sweeps { (x : Dripped result (S.left input.old) (S.left input.new) (K.written out.old) (K.written out.new)
-        (Rose (S.faults input.old) (S.faults input.new)) (Rose (K.faults out.old) (K.faults out.new))) → SweepsBringTheGreatest (played x.script) }
+    ensures replayed { Dripped result
+        (around_drip (S.left input.old) (S.faults input.old) (K.written out.old) (K.faults out.old))
+        (around_drip (S.left input.new) (S.faults input.new) (K.written out.new) (K.faults out.new)) }
+    // Of the run that it played all laws of how values spread hold.
+    ensures spread { ValuesSpread result
+        (around_drip (S.left input.old) (S.faults input.old) (K.written out.old) (K.faults out.old))
+        (around_drip (S.left input.new) (S.faults input.new) (K.written out.new) (K.faults out.new)) }
     ensures reads { S.faults input.old ≤ S.faults input.new }
     ensures writes { K.faults out.old ≤ K.faults out.new }
 {

@@ -6,7 +6,7 @@ ghost use Rattle.std.specs.List.{flat_map, range_with_len};
 ghost use Rattle.dg_drip.specs.Network.{Network};
 ghost use Rattle.dg_drip_replay.specs.Standing.{Stands};
 ghost use Rattle.dg_drip_script.specs.Reports.{value_text, node_text, final_text, bad_line};
-ghost use Rattle.dg_drip_script.specs.Scripts.{Script, network_of};
+ghost use Rattle.dg_drip_script.specs.Scripts.{DripScript, network_of};
 ghost use Rattle.dg_drip_run.specs.Outcome.{Closed};
 ghost use Rattle.dg_drip_run.specs.Playing.{Plays, IsPlaying};
 
@@ -41,7 +41,8 @@ fn push_node(text: &mut Vec<u8>, network: &DripNetwork, node: u8) -> Result<(), 
 // Appends what so many nodes keep, by node and key.
 fn push_nodes(text: &mut Vec<u8>, network: &DripNetwork, nodes: u8) -> Result<(), AllocError>
     requires { nodes ≤ length network.now.nodes.items }
-    ensures { (w : Network) → Stands network.now w → OnOk result (text.new.items ≡ text.old.items ++ flat_map (node_text w) (range_with_len 0 nodes)) }
+    ensures { (w : Network) → Stands network.now w
+        → OnOk result (text.new.items ≡ text.old.items ++ flat_map (node_text w) (range_with_len 0 nodes)) }
 {
     for node in 0..nodes {
         push_node(text, network, node)?;
@@ -52,7 +53,8 @@ fn push_nodes(text: &mut Vec<u8>, network: &DripNetwork, nodes: u8) -> Result<()
 // Appends the last lines of a script.
 fn push_final(text: &mut Vec<u8>, player: &Player) -> Result<(), AllocError>
     requires { player.now.standing.nodes ≤ length player.now.network.nodes.items }
-    ensures { (s : Script) (before : List ℕ) → Plays player.now s before → OnOk result (text.new.items ≡ text.old.items ++ final_text (network_of s) s.nodes (length s.items)) }
+    ensures { (s : DripScript) (before : List ℕ) → Plays player.now s before
+        → OnOk result (text.new.items ≡ text.old.items ++ final_text (network_of s) s.nodes (length s.items)) }
 {
     push_end(text, player.events)?;
     push_nodes(text, &player.network, player.standing.nodes)
@@ -60,9 +62,11 @@ fn push_final(text: &mut Vec<u8>, player: &Player) -> Result<(), AllocError>
 
 /// Writes a last piece, and answers the status.
 pub fn end_with<K: Sink>(out: &mut K, piece: &[u8], status: Status) -> Status
-    ensures ends { Closed result status [] piece.now (K.written out.old) (K.written out.new) (Rose (K.faults out.old) (K.faults out.new)) }
+    ensures ends { Closed result status [] piece.now (K.written out.old) (K.written out.new)
+        (Rose (K.faults out.old) (K.faults out.new)) }
     ensures put { ((result ≡ status) × Puts (K.written out.old) (K.written out.new) piece.now)
-        ⊎ ((result ≡ Status.WriteFault) × Rose (K.faults out.old) (K.faults out.new) × PutsFront (K.written out.old) (K.written out.new) piece.now) }
+        ⊎ ((result ≡ Status.WriteFault) × Rose (K.faults out.old) (K.faults out.new)
+        × PutsFront (K.written out.old) (K.written out.new) piece.now) }
     ensures counts { K.faults out.old ≤ K.faults out.new }
 {
     match out.write(piece) {
@@ -73,7 +77,8 @@ pub fn end_with<K: Sink>(out: &mut K, piece: &[u8], status: Status) -> Status
 
 /// Writes the last line where a line of the script has a fault.
 pub fn end_at_line<K: Sink>(alloc: Global, out: &mut K, line: u32, fault: DripFault) -> Status
-    ensures ends { Closed result Status.BadInput [] (bad_line line fault) (K.written out.old) (K.written out.new) (Rose (K.faults out.old) (K.faults out.new)) }
+    ensures ends { Closed result Status.BadInput [] (bad_line line fault) (K.written out.old) (K.written out.new)
+        (Rose (K.faults out.old) (K.faults out.new)) }
     ensures counts { K.faults out.old ≤ K.faults out.new }
 {
     let mut text = Vec::new(alloc);
@@ -86,8 +91,9 @@ pub fn end_at_line<K: Sink>(alloc: Global, out: &mut K, line: u32, fault: DripFa
 /// Writes the last lines of a script.
 fn finish<K: Sink>(alloc: Global, out: &mut K, player: &Player) -> Status
     requires { player.now.standing.nodes ≤ length player.now.network.nodes.items }
-    ensures ends { (s : Script) (before : List ℕ) → Plays player.now s before
-        → Closed result Status.Done [] (final_text (network_of s) s.nodes (length s.items)) (K.written out.old) (K.written out.new) (Rose (K.faults out.old) (K.faults out.new)) }
+    ensures ends { (s : DripScript) (before : List ℕ) → Plays player.now s before
+        → Closed result Status.Done [] (final_text (network_of s) s.nodes (length s.items)) (K.written out.old)
+        (K.written out.new) (Rose (K.faults out.old) (K.faults out.new)) }
     ensures counts { K.faults out.old ≤ K.faults out.new }
 {
     let mut text = Vec::new(alloc);
@@ -100,9 +106,11 @@ fn finish<K: Sink>(alloc: Global, out: &mut K, player: &Player) -> Status
 /// Ends a script whose lines were all played, `line` being the one after the last.
 pub fn end_script<K: Sink>(alloc: Global, out: &mut K, player: &Player, line: u32) -> Status
     requires { IsPlaying player.now }
-    ensures ends { (s : Script) (before : List ℕ) → Plays player.now s before
-        → ((s.nodes ≡ 0) × Closed result Status.BadInput [] (bad_line line DripFault.Place) (K.written out.old) (K.written out.new) (Rose (K.faults out.old) (K.faults out.new)))
-        ⊎ ((0 < s.nodes) × Closed result Status.Done [] (final_text (network_of s) s.nodes (length s.items)) (K.written out.old) (K.written out.new) (Rose (K.faults out.old) (K.faults out.new))) }
+    ensures ends { (s : DripScript) (before : List ℕ) → Plays player.now s before
+        → ((s.nodes ≡ 0) × Closed result Status.BadInput [] (bad_line line DripFault.Place) (K.written out.old)
+        (K.written out.new) (Rose (K.faults out.old) (K.faults out.new)))
+        ⊎ ((0 < s.nodes) × Closed result Status.Done [] (final_text (network_of s) s.nodes (length s.items))
+        (K.written out.old) (K.written out.new) (Rose (K.faults out.old) (K.faults out.new))) }
     ensures counts { K.faults out.old ≤ K.faults out.new }
 {
     if player.standing.nodes == 0 {

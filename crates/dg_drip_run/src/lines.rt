@@ -2,8 +2,8 @@
 ghost use Rattle.std.specs.Prelude.{◌≡◌, ◌≤◌, ℕ, ◌++◌, ◌∷◌, [], List, codes, OnOk, OnErr};
 ghost use Rattle.dg_words.specs.Counts.{Rose};
 ghost use Rattle.dg_base.specs.Outside.{Puts, PutsFront};
-ghost use Rattle.dg_drip_script.specs.Lines.{FitsLine, StandsAt};
-ghost use Rattle.dg_drip_script.specs.Scripts.{Script, with_line};
+ghost use Rattle.dg_drip_script.specs.Lines.{FitsDripLine, DripStandsAt};
+ghost use Rattle.dg_drip_script.specs.Scripts.{DripScript, with_drip_line};
 ghost use Rattle.dg_drip_run.specs.Outcome.{Closed, LineAnswer, TextAnswer};
 ghost use Rattle.dg_drip_run.specs.Playing.{Plays, IsPlaying};
 
@@ -29,7 +29,8 @@ fn put_told<K: Sink>(out: &mut K, text: &[u8]) -> Result<(), WriteFailed>
 
 // What follows a line whose events were played as far as they may be.
 fn end_full<K: Sink>(out: &mut K, text: &[u8]) -> Status
-    ensures ends { Closed result Status.TooMany text.now (codes "toomany" ++ 10 ∷ []) (K.written out.old) (K.written out.new) (Rose (K.faults out.old) (K.faults out.new)) }
+    ensures ends { Closed result Status.TooMany text.now (codes "toomany" ++ 10 ∷ []) (K.written out.old) (K.written out.new)
+        (Rose (K.faults out.old) (K.faults out.new)) }
     ensures counts { K.faults out.old ≤ K.faults out.new }
 {
     match put_told(out, text) {
@@ -46,10 +47,11 @@ fn play_read<K: Sink>(
     out: &mut K,
 ) -> Result<(), Status>
     requires playing { IsPlaying player.old }
-    requires stands { StandsAt player.old.standing line.now }
-    requires fits { FitsLine player.old.standing.nodes line.now }
-    ensures answer { (s : Script) (before : List ℕ) → Plays player.old s before
-        → LineAnswer result s (with_line s line.now) player.new (K.written out.old) (K.written out.new) (Rose (K.faults out.old) (K.faults out.new)) }
+    requires stands { DripStandsAt player.old.standing line.now }
+    requires fits { FitsDripLine player.old.standing.nodes line.now }
+    ensures answer { (s : DripScript) (before : List ℕ) → Plays player.old s before
+        → LineAnswer result s (with_drip_line s line.now) player.new (K.written out.old) (K.written out.new)
+        (Rose (K.faults out.old) (K.faults out.new)) }
     ensures still { OnOk result (K.faults out.new ≡ K.faults out.old) }
     ensures counts { K.faults out.old ≤ K.faults out.new }
 {
@@ -73,8 +75,9 @@ pub fn play_text<K: Sink>(
     out: &mut K,
 ) -> Result<(), Status>
     requires { IsPlaying player.old }
-    ensures answer { (s : Script) (before : List ℕ) → Plays player.old s before
-        → TextAnswer result s text.now number player.new (K.written out.old) (K.written out.new) (Rose (K.faults out.old) (K.faults out.new)) }
+    ensures answer { (s : DripScript) (before : List ℕ) → Plays player.old s before
+        → TextAnswer result s (record { text = text.now; number = number }) player.new (K.written out.old)
+        (K.written out.new) (Rose (K.faults out.old) (K.faults out.new)) }
     ensures still { OnOk result (K.faults out.new ≡ K.faults out.old) }
     ensures counts { K.faults out.old ≤ K.faults out.new }
 {

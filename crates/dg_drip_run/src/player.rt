@@ -1,13 +1,13 @@
 //! Plays the events of a script, and keeps what is told of them.
 ghost use Rattle.std.specs.Prelude.{◌≡◌, ℕ, ◌+◌, ◌∷◌, ◌++◌, [], ◌<◌, true, false, List, Ok, length, OnOk, OnErr, IfOk, IsOk, Err};
 ghost use Rattle.dg_drip.specs.Sizes.{key_count};
-ghost use Rattle.dg_drip.specs.Spread.{round, round_of_key, sweeps};
+ghost use Rattle.dg_drip.specs.Spread.{drip_round, round_of_key, sweeps};
 ghost use Rattle.dg_rounds.specs.Rounds.{rounds_of};
 ghost use Rattle.dg_drip_replay.specs.Standing.{FitsEvent, time_of};
-ghost use Rattle.dg_drip_script.specs.Lines.{FitsLine, StandsAt};
+ghost use Rattle.dg_drip_script.specs.Lines.{FitsDripLine, DripStandsAt};
 ghost use Rattle.dg_drip_script.specs.Reports.{told_text};
-ghost use Rattle.dg_drip_script.specs.Scripts.{first_script, quiet, rounds_items, with_line};
-ghost use Rattle.dg_drip_run.specs.Playing.{Plays, IsPlaying, GoesOn, Ran, LinePlayed};
+ghost use Rattle.dg_drip_script.specs.Scripts.{first_script, quiet, rounds_items, with_drip_line};
+ghost use Rattle.dg_drip_run.specs.Playing.{Plays, IsPlaying, GoesOn, DripItemsPlayed, LinePlayed};
 
 use dg_drip::{DripEvent, KEYS};
 use dg_drip_replay::{DripNetwork, DripReport};
@@ -87,7 +87,7 @@ impl Player {
         requires playing { IsPlaying self.old }
         requires begun { self.old.standing.begun ≡ true }
         requires fits { FitsEvent self.old.standing.nodes event.now }
-        ensures ran { Ran result self.old self.new (record { event = event.now; loud = loud } ∷ []) }
+        ensures ran { DripItemsPlayed result self.old self.new (record { event = event.now; loud = loud } ∷ []) }
         ensures on { OnOk result (GoesOn self.old self.new) }
     {
         let _short = dt_of(event);
@@ -107,7 +107,7 @@ impl Player {
         requires playing { IsPlaying self.old }
         requires begun { self.old.standing.begun ≡ true }
         requires fits { (a < self.old.standing.nodes) × (b < self.old.standing.nodes) × (key < key_count) }
-        ensures ran { Ran result self.old self.new (quiet (round_of_key a b key)) }
+        ensures ran { DripItemsPlayed result self.old self.new (quiet (round_of_key a b key)) }
         ensures on { OnOk result (GoesOn self.old self.new) }
     {
         let tick = DripEvent::Tick {
@@ -133,7 +133,7 @@ impl Player {
         requires playing { IsPlaying self.old }
         requires begun { self.old.standing.begun ≡ true }
         requires fits { (a < self.old.standing.nodes) × (b < self.old.standing.nodes) }
-        ensures ran { Ran result self.old self.new (quiet (round a b)) }
+        ensures ran { DripItemsPlayed result self.old self.new (quiet (drip_round a b)) }
         ensures on { OnOk result (GoesOn self.old self.new) }
     {
         for key in 0..KEYS as u8 {
@@ -146,7 +146,7 @@ impl Player {
     fn play_sweep(&mut self) -> Result<(), PlayStop>
         requires playing { IsPlaying self.old }
         requires begun { self.old.standing.begun ≡ true }
-        ensures ran { Ran result self.old self.new (rounds_items (rounds_of self.old.network.links.items)) }
+        ensures ran { DripItemsPlayed result self.old self.new (rounds_items (rounds_of self.old.network.links.items)) }
         ensures on { OnOk result (GoesOn self.old self.new) }
     {
         for at in 0..self.network.link_count() {
@@ -161,7 +161,7 @@ impl Player {
     fn play_sweeps(&mut self, count: u32) -> Result<(), PlayStop>
         requires playing { IsPlaying self.old }
         requires begun { self.old.standing.begun ≡ true }
-        ensures { Ran result self.old self.new (rounds_items (sweeps count self.old.network.links.items)) }
+        ensures { DripItemsPlayed result self.old self.new (rounds_items (sweeps count self.old.network.links.items)) }
     {
         for done in 0..count {
             self.play_sweep()?;
@@ -197,8 +197,8 @@ impl Player {
     /// Plays a line.
     pub fn play_line(&mut self, alloc: Global, line: &DripLine) -> Result<(), PlayStop>
         requires playing { IsPlaying self.old }
-        requires stands { StandsAt self.old.standing line.now }
-        requires fits { FitsLine self.old.standing.nodes line.now }
+        requires stands { DripStandsAt self.old.standing line.now }
+        requires fits { FitsDripLine self.old.standing.nodes line.now }
         ensures { LinePlayed result self.old self.new line.now }
     {
         match *line {

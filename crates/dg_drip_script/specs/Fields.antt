@@ -7,35 +7,35 @@ use Rattle.dg_script.specs.Results.{◌>>?◌, kept_if}
 abbrev pub Field : Type 0
 Field = Option ℕ
 
-abbrev pub fields_of : List (List ℕ) → List Field
-fields_of words = map number_of words
+abbrev pub numbers_of_words : List (List ℕ) → List Field
+numbers_of_words words = map number_of words
 
 -- exactly one field, exactly two, and so on
-abbrev pub one_of : List Field → Option Field
-one_of [] = None
-one_of (a ∷ []) = Some a
-one_of (a ∷ b ∷ more) = None
+abbrev pub one_number : List Field → Option Field
+one_number [] = None
+one_number (a ∷ []) = Some a
+one_number (a ∷ b ∷ more) = None
 
-abbrev pub two_of : List Field → Option (Field × Field)
-two_of [] = None
-two_of (a ∷ more) = option_map (λ b. (a, b)) (one_of more)
+abbrev pub two_numbers : List Field → Option (Field × Field)
+two_numbers [] = None
+two_numbers (a ∷ more) = option_map (λ b. (a, b)) (one_number more)
 
-abbrev pub three_of : List Field → Option (Field × Field × Field)
-three_of [] = None
-three_of (a ∷ more) = option_map (λ t. (a, t.0, t.1)) (two_of more)
+abbrev pub three_numbers : List Field → Option (Field × Field × Field)
+three_numbers [] = None
+three_numbers (a ∷ more) = option_map (λ t. (a, t.0, t.1)) (two_numbers more)
 
-abbrev pub four_of : List Field → Option (Field × Field × Field × Field)
-four_of [] = None
-four_of (a ∷ more) = option_map (λ t. (a, t.0, t.1, t.2)) (three_of more)
+abbrev pub four_numbers : List Field → Option (Field × Field × Field × Field)
+four_numbers [] = None
+four_numbers (a ∷ more) = option_map (λ t. (a, t.0, t.1, t.2)) (three_numbers more)
 
-abbrev pub five_of : List Field → Option (Field × Field × Field × Field × Field)
-five_of [] = None
-five_of (a ∷ more) = option_map (λ t. (a, t.0, t.1, t.2, t.3)) (four_of more)
+abbrev pub five_numbers : List Field → Option (Field × Field × Field × Field × Field)
+five_numbers [] = None
+five_numbers (a ∷ more) = option_map (λ t. (a, t.0, t.1, t.2, t.3)) (four_numbers more)
 
 -- ---- numbers in their ranges
 
-abbrev pub below : (bound : ℕ) → Field → Option ℕ
-below bound field = field >>? λ n. kept_if (nat_lt n bound) n
+abbrev pub field_below : (bound : ℕ) → Field → Option ℕ
+field_below bound field = field >>? λ n. kept_if (nat_lt n bound) n
 
 abbrev pub from_one_to : (most : ℕ) → Field → Option ℕ
 from_one_to most field = field >>? λ n. kept_if (nat_le 1 n && nat_le n most) n

@@ -1,12 +1,14 @@
 -- The lines of a script of nodes.
-use Rattle.std.specs.Prelude.{◌≡◌, false, ℕ, ◌<◌, ◌≤◌, ◌==◌, ◌&&◌, not, nat_lt, Bool, if◌then◌else◌, List, [], ◌∷◌, length, codes, Option, Some, None, Result, Ok, Err}
+use Rattle.std.specs.Prelude.{◌≡◌, false, ℕ, ◌<◌, ◌≤◌, ◌==◌, ◌&&◌, not, nat_lt, Bool, if◌then◌else◌, List, [], ◌∷◌, length, codes}
+use Rattle.std.specs.Prelude.{Option, Some, None, Result, Ok, Err}
 use Rattle.dg_script.specs.Lines.{is_comment}
 use Rattle.dg_script.specs.Results.{◌>>?◌, kept_if}
 use Rattle.dg_script.specs.Words.{words_of, same}
 use Rattle.dg_drip.specs.declared.events.DripEvent.{DripEvent}
 use Rattle.dg_drip.specs.declared.events.DripEvent.TheVariants as event
 use Rattle.dg_drip_replay.specs.Standing.{FitsEvent}
-use Rattle.dg_drip_script.specs.Fields.{Field, fields_of, one_of, two_of, four_of, five_of, below, from_one_to}
+use Rattle.dg_drip_script.specs.Fields.{Field, numbers_of_words, one_number, two_numbers, four_numbers, five_numbers, field_below}
+use Rattle.dg_drip_script.specs.Fields.{from_one_to}
 use Rattle.dg_drip_script.specs.Sizes.{most_nodes, most_sweeps, most_line, most_number, key_count}
 use Rattle.dg_drip_script.specs.declared.line.DripLine.{DripLine}
 use Rattle.dg_drip_script.specs.declared.line.DripLine.TheVariants.{Nothing, Nodes, Link, Happens, Round, Sweeps}
@@ -16,13 +18,13 @@ use Rattle.dg_drip_script.specs.declared.line.Standing.{Standing}
 
 -- ---- the faults of a line in their order: its number of fields, its place, its numbers
 
-abbrev pub numbered : Option DripLine → Result DripLine DripFault
-numbered None = Err Number
-numbered (Some line) = Ok line
+abbrev pub or_number_fault : Option DripLine → Result DripLine DripFault
+or_number_fault None = Err Number
+or_number_fault (Some line) = Ok line
 
 abbrev pub shaped : {A : Type 0} → Option A → (stands : Bool) → (A → Option DripLine) → Result DripLine DripFault
 shaped None stands read = Err Verb
-shaped (Some fields) stands read = if stands then numbered (read fields) else Err Place
+shaped (Some fields) stands read = if stands then or_number_fault (read fields) else Err Place
 
 -- `nodes` comes first and once, and `link` before the first event
 abbrev pub has_nodes : Standing → Bool
@@ -33,42 +35,46 @@ may_link at = has_nodes at && not at.begun
 
 -- two nodes that are not the same
 abbrev pub pair_of : (nodes : ℕ) → Field × Field → Option (ℕ × ℕ)
-pair_of nodes fields = below nodes fields.0 >>? λ a. below nodes fields.1 >>? λ b. kept_if (not (b == a)) (a, b)
+pair_of nodes fields = field_below nodes fields.0 >>? λ a. field_below nodes fields.1 >>? λ b. kept_if (not (b == a)) (a, b)
 
-abbrev pub tick_of : (nodes : ℕ) → Field × Field × Field × Field → Option DripEvent
-tick_of nodes fields =
-    below nodes fields.0 >>? λ node. below key_count fields.1 >>? λ key. fields.2 >>? λ dt. fields.3 >>? λ word. Some (event.Tick node key dt word)
+abbrev pub drip_tick_of : (nodes : ℕ) → Field × Field × Field × Field → Option DripEvent
+drip_tick_of nodes fields =
+    field_below nodes fields.0 >>? λ node. field_below key_count fields.1 >>? λ key. fields.2 >>? λ dt. fields.3 >>? λ word.
+    Some (event.Tick node key dt word)
 
-abbrev pub hear_of : (nodes : ℕ) → Field × Field × Field × Field → Option DripEvent
-hear_of nodes fields =
-    below nodes fields.0 >>? λ node. fields.1 >>? λ dt. fields.2 >>? λ word. from_one_to most_number fields.3 >>? λ frame. Some (event.Hear node dt word frame)
+abbrev pub drip_hear_of : (nodes : ℕ) → Field × Field × Field × Field → Option DripEvent
+drip_hear_of nodes fields =
+    field_below nodes fields.0 >>? λ node. fields.1 >>? λ dt. fields.2 >>? λ word. from_one_to most_number fields.3 >>?
+    λ frame. Some (event.Hear node dt word frame)
 
 abbrev pub set_of : (nodes : ℕ) → Field × Field × Field × Field × Field → Option DripEvent
 set_of nodes fields =
-    below nodes fields.0 >>? λ node. below key_count fields.1 >>? λ key. fields.2 >>? λ value. fields.3 >>? λ dt. fields.4 >>? λ word. Some (event.Set node key value dt word)
+    field_below nodes fields.0 >>? λ node. field_below key_count fields.1 >>? λ key. fields.2 >>? λ value. fields.3 >>? λ dt.
+    fields.4 >>? λ word. Some (event.Set node key value dt word)
 
 -- ---- each verb's line
 
 abbrev pub nodes_line : Standing → List Field → Result DripLine DripFault
-nodes_line at fields = shaped (one_of fields) (at.nodes == 0) (λ n. from_one_to most_nodes n >>? λ count. Some (Nodes count))
+nodes_line at fields = shaped (one_number fields) (at.nodes == 0) (λ n. from_one_to most_nodes n >>? λ count. Some (Nodes count))
 
 abbrev pub sweeps_line : Standing → List Field → Result DripLine DripFault
-sweeps_line at fields = shaped (one_of fields) (has_nodes at) (λ n. from_one_to most_sweeps n >>? λ count. Some (Sweeps count))
+sweeps_line at fields =
+    shaped (one_number fields) (has_nodes at) (λ n. from_one_to most_sweeps n >>? λ count. Some (Sweeps count))
 
 abbrev pub link_line : Standing → List Field → Result DripLine DripFault
-link_line at fields = shaped (two_of fields) (may_link at) (λ ends. pair_of at.nodes ends >>? λ p. Some (Link p.0 p.1))
+link_line at fields = shaped (two_numbers fields) (may_link at) (λ ends. pair_of at.nodes ends >>? λ p. Some (Link p.0 p.1))
 
 abbrev pub round_line : Standing → List Field → Result DripLine DripFault
-round_line at fields = shaped (two_of fields) (has_nodes at) (λ ends. pair_of at.nodes ends >>? λ p. Some (Round p.0 p.1))
+round_line at fields = shaped (two_numbers fields) (has_nodes at) (λ ends. pair_of at.nodes ends >>? λ p. Some (Round p.0 p.1))
 
 abbrev pub tick_line : Standing → List Field → Result DripLine DripFault
-tick_line at fields = shaped (four_of fields) (has_nodes at) (λ f. tick_of at.nodes f >>? λ e. Some (Happens e))
+tick_line at fields = shaped (four_numbers fields) (has_nodes at) (λ f. drip_tick_of at.nodes f >>? λ e. Some (Happens e))
 
 abbrev pub hear_line : Standing → List Field → Result DripLine DripFault
-hear_line at fields = shaped (four_of fields) (has_nodes at) (λ f. hear_of at.nodes f >>? λ e. Some (Happens e))
+hear_line at fields = shaped (four_numbers fields) (has_nodes at) (λ f. drip_hear_of at.nodes f >>? λ e. Some (Happens e))
 
 abbrev pub set_line : Standing → List Field → Result DripLine DripFault
-set_line at fields = shaped (five_of fields) (has_nodes at) (λ f. set_of at.nodes f >>? λ e. Some (Happens e))
+set_line at fields = shaped (five_numbers fields) (has_nodes at) (λ f. set_of at.nodes f >>? λ e. Some (Happens e))
 
 -- the line of a verb
 abbrev pub event_line : Standing → (verb : List ℕ) → List Field → Result DripLine DripFault
@@ -87,28 +93,28 @@ verb_line at verb fields =
     else event_line at verb fields
 
 -- the line of words. A line without words, and one whose first word begins with `#`, say nothing
-abbrev pub said : Standing → List (List ℕ) → Result DripLine DripFault
-said at [] = Ok Nothing
-said at (word ∷ fields) = if is_comment word then Ok Nothing else verb_line at word (fields_of fields)
+abbrev pub drip_said : Standing → List (List ℕ) → Result DripLine DripFault
+drip_said at [] = Ok Nothing
+drip_said at (word ∷ fields) = if is_comment word then Ok Nothing else verb_line at word (numbers_of_words fields)
 
 -- the line that a text spells behind others, or its fault
-unfoldable pub line_of : Standing → List ℕ → Result DripLine DripFault
-line_of at text = if nat_lt most_line (length text) then Err Long else said at (words_of text)
+unfoldable pub drip_line_of : Standing → List ℕ → Result DripLine DripFault
+drip_line_of at text = if nat_lt most_line (length text) then Err Long else drip_said at (words_of text)
 
 -- the numbers of a line are nodes of which there are so many, keys, and in their ranges
-abbrev pub FitsLine : (nodes : ℕ) → DripLine → Type 0
-FitsLine nodes Nothing = Unit {0}
-FitsLine nodes (Nodes count) = (1 ≤ count) × (count ≤ most_nodes)
-FitsLine nodes (Link a b) = (a < nodes) × (b < nodes)
-FitsLine nodes (Happens event) = FitsEvent nodes event
-FitsLine nodes (Round a b) = (a < nodes) × (b < nodes)
-FitsLine nodes (Sweeps count) = 1 ≤ count
+abbrev pub FitsDripLine : (nodes : ℕ) → DripLine → Type 0
+FitsDripLine nodes Nothing = Unit {0}
+FitsDripLine nodes (Nodes count) = (1 ≤ count) × (count ≤ most_nodes)
+FitsDripLine nodes (Link a b) = (a < nodes) × (b < nodes)
+FitsDripLine nodes (Happens event) = FitsEvent nodes event
+FitsDripLine nodes (Round a b) = (a < nodes) × (b < nodes)
+FitsDripLine nodes (Sweeps count) = 1 ≤ count
 
 -- the line may stand there
-abbrev pub StandsAt : Standing → DripLine → Type 0
-StandsAt at Nothing = Unit {0}
-StandsAt at (Nodes count) = at.nodes ≡ 0
-StandsAt at (Link a b) = at.begun ≡ false
-StandsAt at (Happens event) = Unit {0}
-StandsAt at (Round a b) = Unit {0}
-StandsAt at (Sweeps count) = Unit {0}
+abbrev pub DripStandsAt : Standing → DripLine → Type 0
+DripStandsAt at Nothing = Unit {0}
+DripStandsAt at (Nodes count) = at.nodes ≡ 0
+DripStandsAt at (Link a b) = at.begun ≡ false
+DripStandsAt at (Happens event) = Unit {0}
+DripStandsAt at (Round a b) = Unit {0}
+DripStandsAt at (Sweeps count) = Unit {0}

@@ -25,16 +25,16 @@ abbrev pub entry_line : (word : List ℕ) → (node key : ℕ) → Entry → Lis
 entry_line word node key e = word ++ numbers_text (node ∷ key ∷ e.number ∷ e.value ∷ []) ++ 10 ∷ []
 
 -- the text of a line of a report, with its end
-abbrev pub report_line : DripReport → List ℕ
-report_line (Refused node cause) = codes "no" ++ numbers_text (node ∷ []) ++ 32 ∷ cause_word cause ++ 10 ∷ []
-report_line (Sent node key e) = entry_line (codes "sent") node key e
-report_line (Got node key e) = entry_line (codes "got") node key e
-report_line (End events) = codes "end" ++ numbers_text (events ∷ []) ++ 10 ∷ []
-report_line (Value node key e) = entry_line (codes "value") node key e
+abbrev pub drip_report_line : DripReport → List ℕ
+drip_report_line (Refused node cause) = codes "no" ++ numbers_text (node ∷ []) ++ 32 ∷ cause_word cause ++ 10 ∷ []
+drip_report_line (Sent node key e) = entry_line (codes "sent") node key e
+drip_report_line (Got node key e) = entry_line (codes "got") node key e
+drip_report_line (End events) = codes "end" ++ numbers_text (events ∷ []) ++ 10 ∷ []
+drip_report_line (Value node key e) = entry_line (codes "value") node key e
 
 abbrev pub told_text : Option DripReport → List ℕ
 told_text None = []
-told_text (Some report) = report_line report
+told_text (Some report) = drip_report_line report
 
 -- ---- the last lines
 
@@ -47,7 +47,7 @@ node_text w node = flat_map (λ key. value_text node key (entry_at w node key)) 
 
 -- how many events there were, and each entry that is not none, by node and key
 abbrev pub final_text : Network → (nodes events : ℕ) → List ℕ
-final_text w nodes events = report_line (End events) ++ flat_map (node_text w) (range_with_len 0 nodes)
+final_text w nodes events = drip_report_line (End events) ++ flat_map (node_text w) (range_with_len 0 nodes)
 
 abbrev pub fault_word : DripFault → List ℕ
 fault_word fault.Long = codes "long"

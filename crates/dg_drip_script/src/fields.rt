@@ -1,17 +1,18 @@
 //! The fields of a line, as numbers.
 ghost use Rattle.std.specs.Prelude.{◌≡◌, ◌≤◌, ◌<◌, IfSome};
 ghost use Rattle.dg_script.specs.Words.{words_of};
-ghost use Rattle.dg_drip_script.specs.Fields.{below, from_one_to, fields_of, one_of, two_of, three_of, four_of, five_of};
+ghost use Rattle.dg_drip_script.specs.Fields.{field_below, from_one_to, numbers_of_words, one_number, two_numbers, three_numbers};
+ghost use Rattle.dg_drip_script.specs.Fields.{four_numbers, five_numbers};
 
-use crate::words::next_word;
 use dg_base::parse_u32;
+use dg_script::next_word;
 
 /// The number that a field writes, where it is one.
 pub type Field = Option<u32>;
 
 /// The only field of a text.
 pub fn one_field(text: &[u8]) -> Option<Field>
-    ensures { result ≡ one_of (fields_of (words_of text.now)) }
+    ensures { result ≡ one_number (numbers_of_words (words_of text.now)) }
 {
     let (first, rest) = next_word(text)?;
     if next_word(rest).is_some() {
@@ -22,7 +23,7 @@ pub fn one_field(text: &[u8]) -> Option<Field>
 
 /// The fields of a text that has two.
 pub fn two_fields(text: &[u8]) -> Option<(Field, Field)>
-    ensures { result ≡ two_of (fields_of (words_of text.now)) }
+    ensures { result ≡ two_numbers (numbers_of_words (words_of text.now)) }
 {
     let (first, rest) = next_word(text)?;
     let second = one_field(rest)?;
@@ -31,7 +32,7 @@ pub fn two_fields(text: &[u8]) -> Option<(Field, Field)>
 
 /// The fields of a text that has three.
 pub fn three_fields(text: &[u8]) -> Option<(Field, Field, Field)>
-    ensures { result ≡ three_of (fields_of (words_of text.now)) }
+    ensures { result ≡ three_numbers (numbers_of_words (words_of text.now)) }
 {
     let (first, rest) = next_word(text)?;
     let (second, third) = two_fields(rest)?;
@@ -40,7 +41,7 @@ pub fn three_fields(text: &[u8]) -> Option<(Field, Field, Field)>
 
 /// The fields of a text that has four.
 pub fn four_fields(text: &[u8]) -> Option<(Field, Field, Field, Field)>
-    ensures { result ≡ four_of (fields_of (words_of text.now)) }
+    ensures { result ≡ four_numbers (numbers_of_words (words_of text.now)) }
 {
     let (first, rest) = next_word(text)?;
     let (second, third, fourth) = three_fields(rest)?;
@@ -49,7 +50,7 @@ pub fn four_fields(text: &[u8]) -> Option<(Field, Field, Field, Field)>
 
 /// The fields of a text that has five.
 pub fn five_fields(text: &[u8]) -> Option<(Field, Field, Field, Field, Field)>
-    ensures { result ≡ five_of (fields_of (words_of text.now)) }
+    ensures { result ≡ five_numbers (numbers_of_words (words_of text.now)) }
 {
     let (first, rest) = next_word(text)?;
     let (second, third, fourth, fifth) = four_fields(rest)?;
@@ -58,7 +59,7 @@ pub fn five_fields(text: &[u8]) -> Option<(Field, Field, Field, Field, Field)>
 
 /// A number below a bound.
 pub fn below(field: Field, bound: u8) -> Option<u8>
-    ensures is { result ≡ below bound field }
+    ensures is { result ≡ field_below bound field }
     ensures bound { IfSome result (λ n. n < bound) }
 {
     let number = field?;

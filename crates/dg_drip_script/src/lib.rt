@@ -6,7 +6,6 @@ mod line;
 mod reading;
 mod reports;
 mod sizes;
-mod words;
 
 pub use line::{DripFault, DripLine, Standing};
 pub use reading::read_line;

@@ -1,8 +1,10 @@
 //! Reads a line of a script of nodes.
 ghost use Rattle.std.specs.Prelude.{◌≡◌, ◌<◌, IfSome, IfOk};
 ghost use Rattle.dg_script.specs.Words.{same, words_of};
-ghost use Rattle.dg_drip_script.specs.Fields.{fields_of};
-ghost use Rattle.dg_drip_script.specs.Lines.{has_nodes, may_link, pair_of, tick_of, hear_of, set_of, nodes_line, sweeps_line, link_line, round_line, tick_line, hear_line, set_line, event_line, verb_line, line_of, FitsLine, StandsAt};
+ghost use Rattle.dg_drip_script.specs.Fields.{numbers_of_words};
+ghost use Rattle.dg_drip_script.specs.Lines.{has_nodes, may_link, pair_of, drip_tick_of, drip_hear_of, set_of, nodes_line};
+ghost use Rattle.dg_drip_script.specs.Lines.{sweeps_line, link_line, round_line, tick_line, hear_line, set_line, event_line};
+ghost use Rattle.dg_drip_script.specs.Lines.{verb_line, drip_line_of, FitsDripLine, DripStandsAt};
 ghost use Rattle.dg_drip_replay.specs.Standing.{FitsEvent};
 
 use crate::MOST_NODES;
@@ -10,9 +12,8 @@ use crate::fields::{
     Field, below, five_fields, four_fields, from_one_to, one_field, small_from_one_to, two_fields,
 };
 use crate::line::{DripFault, DripLine, Standing};
-use crate::words::next_word;
 use dg_drip::{DripEvent, KEYS};
-use dg_script::{LONGEST, MOST_SWEEPS};
+use dg_script::{LONGEST, MOST_SWEEPS, next_word};
 
 fn has_nodes(at: Standing) -> bool
     ensures { result ≡ has_nodes at }
@@ -40,7 +41,7 @@ fn pair(nodes: u8, fields: (Field, Field)) -> Option<(u8, u8)>
 }
 
 fn tick(nodes: u8, fields: (Field, Field, Field, Field)) -> Option<DripEvent>
-    ensures is { result ≡ tick_of nodes fields }
+    ensures is { result ≡ drip_tick_of nodes fields }
     ensures fits { IfSome result (λ e. FitsEvent nodes e) }
 {
     let node = below(fields.0, nodes)?;
@@ -56,7 +57,7 @@ fn tick(nodes: u8, fields: (Field, Field, Field, Field)) -> Option<DripEvent>
 }
 
 fn hear(nodes: u8, fields: (Field, Field, Field, Field)) -> Option<DripEvent>
-    ensures is { result ≡ hear_of nodes fields }
+    ensures is { result ≡ drip_hear_of nodes fields }
     ensures fits { IfSome result (λ e. FitsEvent nodes e) }
 {
     let node = below(fields.0, nodes)?;
@@ -90,8 +91,8 @@ fn set(nodes: u8, fields: (Field, Field, Field, Field, Field)) -> Option<DripEve
 }
 
 fn read_nodes(at: Standing, text: &[u8]) -> Result<DripLine, DripFault>
-    ensures is { result ≡ nodes_line at (fields_of (words_of text.now)) }
-    ensures fits { IfOk result (λ l. FitsLine at.nodes l × StandsAt at l) }
+    ensures is { result ≡ nodes_line at (numbers_of_words (words_of text.now)) }
+    ensures fits { IfOk result (λ l. FitsDripLine at.nodes l × DripStandsAt at l) }
 {
     let Some(count) = one_field(text) else {
         return Err(DripFault::Verb);
@@ -106,8 +107,8 @@ fn read_nodes(at: Standing, text: &[u8]) -> Result<DripLine, DripFault>
 }
 
 fn read_sweeps(at: Standing, text: &[u8]) -> Result<DripLine, DripFault>
-    ensures is { result ≡ sweeps_line at (fields_of (words_of text.now)) }
-    ensures fits { IfOk result (λ l. FitsLine at.nodes l × StandsAt at l) }
+    ensures is { result ≡ sweeps_line at (numbers_of_words (words_of text.now)) }
+    ensures fits { IfOk result (λ l. FitsDripLine at.nodes l × DripStandsAt at l) }
 {
     let Some(count) = one_field(text) else {
         return Err(DripFault::Verb);
@@ -122,8 +123,8 @@ fn read_sweeps(at: Standing, text: &[u8]) -> Result<DripLine, DripFault>
 }
 
 fn read_link(at: Standing, text: &[u8]) -> Result<DripLine, DripFault>
-    ensures is { result ≡ link_line at (fields_of (words_of text.now)) }
-    ensures fits { IfOk result (λ l. FitsLine at.nodes l × StandsAt at l) }
+    ensures is { result ≡ link_line at (numbers_of_words (words_of text.now)) }
+    ensures fits { IfOk result (λ l. FitsDripLine at.nodes l × DripStandsAt at l) }
 {
     let Some(ends) = two_fields(text) else {
         return Err(DripFault::Verb);
@@ -138,8 +139,8 @@ fn read_link(at: Standing, text: &[u8]) -> Result<DripLine, DripFault>
 }
 
 fn read_round(at: Standing, text: &[u8]) -> Result<DripLine, DripFault>
-    ensures is { result ≡ round_line at (fields_of (words_of text.now)) }
-    ensures fits { IfOk result (λ l. FitsLine at.nodes l × StandsAt at l) }
+    ensures is { result ≡ round_line at (numbers_of_words (words_of text.now)) }
+    ensures fits { IfOk result (λ l. FitsDripLine at.nodes l × DripStandsAt at l) }
 {
     let Some(ends) = two_fields(text) else {
         return Err(DripFault::Verb);
@@ -154,8 +155,8 @@ fn read_round(at: Standing, text: &[u8]) -> Result<DripLine, DripFault>
 }
 
 fn read_tick(at: Standing, text: &[u8]) -> Result<DripLine, DripFault>
-    ensures is { result ≡ tick_line at (fields_of (words_of text.now)) }
-    ensures fits { IfOk result (λ l. FitsLine at.nodes l × StandsAt at l) }
+    ensures is { result ≡ tick_line at (numbers_of_words (words_of text.now)) }
+    ensures fits { IfOk result (λ l. FitsDripLine at.nodes l × DripStandsAt at l) }
 {
     let Some(fields) = four_fields(text) else {
         return Err(DripFault::Verb);
@@ -170,8 +171,8 @@ fn read_tick(at: Standing, text: &[u8]) -> Result<DripLine, DripFault>
 }
 
 fn read_hear(at: Standing, text: &[u8]) -> Result<DripLine, DripFault>
-    ensures is { result ≡ hear_line at (fields_of (words_of text.now)) }
-    ensures fits { IfOk result (λ l. FitsLine at.nodes l × StandsAt at l) }
+    ensures is { result ≡ hear_line at (numbers_of_words (words_of text.now)) }
+    ensures fits { IfOk result (λ l. FitsDripLine at.nodes l × DripStandsAt at l) }
 {
     let Some(fields) = four_fields(text) else {
         return Err(DripFault::Verb);
@@ -186,8 +187,8 @@ fn read_hear(at: Standing, text: &[u8]) -> Result<DripLine, DripFault>
 }
 
 fn read_set(at: Standing, text: &[u8]) -> Result<DripLine, DripFault>
-    ensures is { result ≡ set_line at (fields_of (words_of text.now)) }
-    ensures fits { IfOk result (λ l. FitsLine at.nodes l × StandsAt at l) }
+    ensures is { result ≡ set_line at (numbers_of_words (words_of text.now)) }
+    ensures fits { IfOk result (λ l. FitsDripLine at.nodes l × DripStandsAt at l) }
 {
     let Some(fields) = five_fields(text) else {
         return Err(DripFault::Verb);
@@ -208,8 +209,8 @@ fn is_same(word: &[u8], other: &[u8]) -> bool
 }
 
 fn read_event(at: Standing, verb: &[u8], fields: &[u8]) -> Result<DripLine, DripFault>
-    ensures is { result ≡ event_line at verb.now (fields_of (words_of fields.now)) }
-    ensures fits { IfOk result (λ l. FitsLine at.nodes l × StandsAt at l) }
+    ensures is { result ≡ event_line at verb.now (numbers_of_words (words_of fields.now)) }
+    ensures fits { IfOk result (λ l. FitsDripLine at.nodes l × DripStandsAt at l) }
 {
     if is_same(verb, b"set") {
         return read_set(at, fields);
@@ -224,8 +225,8 @@ fn read_event(at: Standing, verb: &[u8], fields: &[u8]) -> Result<DripLine, Drip
 }
 
 fn read_verb(at: Standing, verb: &[u8], fields: &[u8]) -> Result<DripLine, DripFault>
-    ensures is { result ≡ verb_line at verb.now (fields_of (words_of fields.now)) }
-    ensures fits { IfOk result (λ l. FitsLine at.nodes l × StandsAt at l) }
+    ensures is { result ≡ verb_line at verb.now (numbers_of_words (words_of fields.now)) }
+    ensures fits { IfOk result (λ l. FitsDripLine at.nodes l × DripStandsAt at l) }
 {
     if is_same(verb, b"nodes") {
         return read_nodes(at, fields);
@@ -243,11 +244,11 @@ fn read_verb(at: Standing, verb: &[u8], fields: &[u8]) -> Result<DripLine, DripF
 }
 
 /// The line that a text spells where it stands, or its first fault.
-#[tactic(auto, unfolding(crate::specs::Lines::line_of))]
+#[tactic(auto, unfolding(crate::specs::Lines::drip_line_of))]
 pub fn read_line(at: Standing, text: &[u8]) -> Result<DripLine, DripFault>
-    ensures is { result ≡ line_of at text.now }
+    ensures is { result ≡ drip_line_of at text.now }
     // Its nodes and keys are there, its numbers are in their ranges, and it may stand where it does.
-    ensures fits { IfOk result (λ l. FitsLine at.nodes l × StandsAt at l) }
+    ensures fits { IfOk result (λ l. FitsDripLine at.nodes l × DripStandsAt at l) }
 {
     if text.len() > LONGEST {
         return Err(DripFault::Long);

@@ -1,7 +1,7 @@
 //! Writes the lines of a report.
 ghost use Rattle.std.specs.Prelude.{◌≡◌, ◌++◌, ◌∷◌, [], OnOk};
 ghost use Rattle.std.specs.Fmt.{decimal};
-ghost use Rattle.dg_drip_script.specs.Reports.{numbers_text, cause_word, entry_line, report_line, fault_word, bad_line};
+ghost use Rattle.dg_drip_script.specs.Reports.{numbers_text, cause_word, entry_line, drip_report_line, fault_word, bad_line};
 ghost use Rattle.dg_drip_script.specs.declared.line.DripFault.{DripFault};
 ghost use Rattle.dg_drip_replay.specs.declared.report.DripReport.TheVariants.{Refused};
 
@@ -51,7 +51,7 @@ fn fault_word<'a>(fault: DripFault) -> &'a [u8]
 }
 
 fn push_refused(out: &mut Vec<u8>, node: u8, cause: DripCause) -> Result<(), AllocError>
-    ensures { OnOk result (out.new.items ≡ out.old.items ++ report_line (Refused node cause)) }
+    ensures { OnOk result (out.new.items ≡ out.old.items ++ drip_report_line (Refused node cause)) }
 {
     out.extend_from_slice(b"no")?;
     push_number(out, u32::from(node))?;
@@ -82,7 +82,7 @@ pub fn push_entry(
 
 /// Appends the line of an end.
 pub fn push_end(out: &mut Vec<u8>, events: u32) -> Result<(), AllocError>
-    ensures { OnOk result (out.new.items ≡ out.old.items ++ report_line (DripReport.End events)) }
+    ensures { OnOk result (out.new.items ≡ out.old.items ++ drip_report_line (DripReport.End events)) }
 {
     out.extend_from_slice(b"end")?;
     push_numbers(out, &[events])?;
@@ -92,7 +92,7 @@ pub fn push_end(out: &mut Vec<u8>, events: u32) -> Result<(), AllocError>
 
 /// Appends a line of a report.
 pub fn push_report(out: &mut Vec<u8>, report: &DripReport) -> Result<(), AllocError>
-    ensures { OnOk result (out.new.items ≡ out.old.items ++ report_line report.now) }
+    ensures { OnOk result (out.new.items ≡ out.old.items ++ drip_report_line report.now) }
 {
     match *report {
         DripReport::Refused { node, cause } => push_refused(out, node, cause),

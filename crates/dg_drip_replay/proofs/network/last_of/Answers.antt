@@ -1,4 +1,4 @@
-use Rattle.std.proofs.Common.{◌≡◌, sym, ◌∙◌, arith}
+use Rattle.std.proofs.Common.{sym, ◌∙◌, arith}
 use Rattle.dg_drip_replay.proofs.SentLemmas.{last_here, last_not}
 use Rattle.dg_drip_replay.proofs.network.last_of.Goals as goal
 

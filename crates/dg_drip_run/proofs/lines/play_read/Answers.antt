@@ -1,6 +1,6 @@
 use Rattle.std.proofs.Common.{refl}
 use Rattle.dg_words.specs.Counts.{Rose}
-use Rattle.dg_drip_script.specs.Scripts.{with_line, report_of}
+use Rattle.dg_drip_script.specs.Scripts.{with_drip_line, report_of}
 use Rattle.dg_drip_run.proofs.ToldLemmas.{cleared_plays, cleared_playing, line_ok, line_cut, line_full}
 use Rattle.dg_drip_run.proofs.lines.play_read.Goals as goal
 
@@ -11,12 +11,12 @@ play_line-requires-clause-playing g c =
 pub returns-in-Ok-put_told-clause-answer : goal.returns-in-Ok-put_told-clause-answer
 returns-in-Ok-put_told-clause-answer g c = λ s before h.
     let k = cleared_plays c.args.player.now (record { network = c.args.player.now.network; standing = c.args.player.now.standing; events = c.args.player.now.events; text = c.clear.new.self }) s before h refl refl refl c.clear.ensures.items in
-    line_ok c.play_line.new.self s (with_line s c.args.line.now) c.deref.result.now (g.K.Sink.written c.args.out.now) (g.K.Sink.written c.put_told.new.out) (c.in-Ok.ensures s (report_of s) k) c.deref.ensures.value c.in-Ok-put_told.ensures.ok
+    line_ok c.play_line.new.self s (with_drip_line s c.args.line.now) c.deref.result.now (g.K.Sink.written c.args.out.now) (g.K.Sink.written c.put_told.new.out) (c.in-Ok.ensures s (report_of s) k) c.deref.ensures.value c.in-Ok-put_told.ensures.ok
 
 pub returns-in-Err-clause-answer : goal.returns-in-Err-clause-answer
 returns-in-Err-clause-answer g c = λ s before h.
     let k = cleared_plays c.args.player.now (record { network = c.args.player.now.network; standing = c.args.player.now.standing; events = c.args.player.now.events; text = c.clear.new.self }) s before h refl refl refl c.clear.ensures.items in
-    line_cut c.play_line.new.self s (with_line s c.args.line.now) c.deref.result.now (g.K.Sink.written c.args.out.now) (g.K.Sink.written c.put_told.new.out) (Rose (g.K.Sink.faults c.args.out.now) (g.K.Sink.faults c.put_told.new.out))
+    line_cut c.play_line.new.self s (with_drip_line s c.args.line.now) c.deref.result.now (g.K.Sink.written c.args.out.now) (g.K.Sink.written c.put_told.new.out) (Rose (g.K.Sink.faults c.args.out.now) (g.K.Sink.faults c.put_told.new.out))
     (c.in-Ok.ensures s (report_of s) k) c.deref.ensures.value c.in-Err.ensures.failed c.in-Err.ensures.err
 
 pub returns-in-Err-TooMany-clause-answer : goal.returns-in-Err-TooMany-clause-answer

@@ -1,5 +1,5 @@
-use Rattle.std.proofs.Common.{◌≡◌, ℕ, ◌+◌, List, refl, sym, ap, ◌∙◌}
-use Rattle.dg_drip.specs.Network.{numbered, is_linked}
+use Rattle.std.proofs.Common.{ℕ, ◌+◌, List, refl, sym, ap, ◌∙◌}
+use Rattle.dg_drip.specs.Network.{frame_numbered, is_linked}
 use Rattle.dg_drip.specs.declared.frame.Said.{Said}
 use Rattle.dg_drip_replay.proofs.EventLemmas.{later_stands}
 use Rattle.dg_drip_replay.proofs.DoesLemmas.{later, hear_none, hear_takes}
@@ -9,19 +9,19 @@ use Rattle.dg_drip_replay.proofs.network.DripNetwork.hear.Goals as goal
 pub returns-in_default-clause-does : goal.returns-in_default-clause-does
 returns-in_default-clause-does c =
     let d = c.args.self.now in
-    let none = sym c.in_default.is ∙ c.numbered.ensures ∙ ap (λ (xs : List Said). numbered xs c.args.frame) c.deref.ensures.value in
+    let none = sym c.in_default.is ∙ c.numbered.ensures ∙ ap (λ (xs : List Said). frame_numbered xs c.args.frame) c.deref.ensures.value in
     λ w loud s. hear_none d _ w loud c.args.node c.args.dt c.args.word c.args.frame s (ap (λ (n : ℕ). d.moment + n) c.from.ensures) refl refl refl none
 
 pub take-requires-clause-key : goal.take-requires-clause-key
 take-requires-clause-key c =
     keyed_numbered c.args.self.now.sent.items c.args.frame c.in-Some.said c.requires.keyed
-    (ap (λ (xs : List Said). numbered xs c.args.frame) (sym c.deref.ensures.value) ∙ sym c.numbered.ensures ∙ c.in-Some.is)
+    (ap (λ (xs : List Said). frame_numbered xs c.args.frame) (sym c.deref.ensures.value) ∙ sym c.numbered.ensures ∙ c.in-Some.is)
 
 pub returns-clause-does : goal.returns-clause-does
 returns-clause-does c =
     let d = c.args.self.now in
     let x : Said = c.in-Some.said in
-    let some = sym c.in-Some.is ∙ c.numbered.ensures ∙ ap (λ (xs : List Said). numbered xs c.args.frame) c.deref.ensures.value in
+    let some = sym c.in-Some.is ∙ c.numbered.ensures ∙ ap (λ (xs : List Said). frame_numbered xs c.args.frame) c.deref.ensures.value in
     let near = ap (λ (ls : List (ℕ × ℕ)). is_linked ls x.source c.args.node) (sym c.deref-2.ensures.value) ∙ sym c.is_linked.ensures ∙ c.if-not-is_linked.false in
     λ w loud s.
     hear_takes d _ w loud c.args.node c.args.dt c.args.word c.args.frame x c.take.result s some near

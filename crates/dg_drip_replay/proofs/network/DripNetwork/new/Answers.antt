@@ -1,4 +1,4 @@
-use Rattle.std.proofs.Common.{◌≡◌, ℕ, ◌+◌, List, refl, sym, ap, ◌∙◌, subst, arith}
+use Rattle.std.proofs.Common.{ℕ, ◌+◌, List, refl, sym, ap, ◌∙◌, subst, arith}
 use Rattle.dg_drip.specs.Nodes.{Node, new_node}
 use Rattle.dg_drip_replay.proofs.StartLemmas.{AreNew, new_none, new_more, stands_start}
 use Rattle.dg_drip_replay.proofs.network.DripNetwork.new.Goals as goal

@@ -1,4 +1,4 @@
-use Rattle.std.proofs.Common.{◌≡◌, ℕ, List, length, take, drop, set, refl, sym, ap, ◌∙◌}
+use Rattle.std.proofs.Common.{◌≡◌, List, length, drop, set, refl, sym, ap, ◌∙◌}
 use Rattle.std.proofs.lemmas.List.{take_at, length-set}
 use Rattle.dg_drip.specs.Cells.{heard_cell, outcome}
 use Rattle.dg_drip.specs.Nodes.{Node, cell_of, with_cell}

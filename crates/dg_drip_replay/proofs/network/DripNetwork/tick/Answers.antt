@@ -1,8 +1,6 @@
-use Rattle.std.proofs.Common.{◌≡◌, ℕ, ◌+◌, ◌∷◌, ◌++◌, [], List, length, take, drop, set, Some, None, refl, sym, ap, ◌∙◌, subst}
-use Rattle.std.specs.Prelude.{Option}
+use Rattle.std.proofs.Common.{◌≡◌, ℕ, ◌+◌, List, length, drop, set, refl, sym, ap, ◌∙◌}
 use Rattle.std.proofs.lemmas.List.{take_at, length-set}
-use Rattle.dg_drip.specs.Nodes.{Node, after_tick, told_by}
-use Rattle.dg_drip.specs.declared.frame.Said.{Said}
+use Rattle.dg_drip.specs.Nodes.{Node, node_after_tick, told_by}
 use Rattle.dg_drip_replay.specs.Standing.{node_at}
 use Rattle.dg_drip_replay.proofs.DoesLemmas.{tick_none, tick_quiet, tick_loud}
 use Rattle.dg_drip_replay.proofs.network.DripNetwork.tick.Goals as goal
@@ -15,8 +13,8 @@ returns-in_default-clause-does c =
     let long : length new ≡ d.nodes.len = ap length c.tick_at.ensures.after ∙ length-set _ _ _ ∙ ap length c.deref_mut.ensures.value ∙ sym d.nodes.ok.0 in
     let moment = ap (λ (n : ℕ). d.moment + n) c.from.ensures in
     let nodes = take_at new (drop (length new) old) d.nodes.len long ∙ c.tick_at.ensures.after
-    ∙ ap (λ (xs : List Node). set xs c.args.node (after_tick (node_at xs c.args.node) (d.moment + c.from.result) c.args.word c.args.key)) c.deref_mut.ensures.value
-    ∙ ap (λ (n : ℕ). set old c.args.node (after_tick (node_at old c.args.node) n c.args.word c.args.key)) moment in
+    ∙ ap (λ (xs : List Node). set xs c.args.node (node_after_tick (node_at xs c.args.node) (d.moment + c.from.result) c.args.word c.args.key)) c.deref_mut.ensures.value
+    ∙ ap (λ (n : ℕ). set old c.args.node (node_after_tick (node_at old c.args.node) n c.args.word c.args.key)) moment in
     let told = sym c.in_default.is ∙ c.tick_at.ensures.told
     ∙ ap (λ (xs : List Node). told_by (node_at xs c.args.node) (d.moment + c.from.result) c.args.key) c.deref_mut.ensures.value
     ∙ ap (λ (n : ℕ). told_by (node_at old c.args.node) n c.args.key) moment in
@@ -30,8 +28,8 @@ returns-then-not-loud-clause-does c =
     let long : length new ≡ d.nodes.len = ap length c.tick_at.ensures.after ∙ length-set _ _ _ ∙ ap length c.deref_mut.ensures.value ∙ sym d.nodes.ok.0 in
     let moment = ap (λ (n : ℕ). d.moment + n) c.from.ensures in
     let nodes = take_at new (drop (length new) old) d.nodes.len long ∙ c.tick_at.ensures.after
-    ∙ ap (λ (xs : List Node). set xs c.args.node (after_tick (node_at xs c.args.node) (d.moment + c.from.result) c.args.word c.args.key)) c.deref_mut.ensures.value
-    ∙ ap (λ (n : ℕ). set old c.args.node (after_tick (node_at old c.args.node) n c.args.word c.args.key)) moment in
+    ∙ ap (λ (xs : List Node). set xs c.args.node (node_after_tick (node_at xs c.args.node) (d.moment + c.from.result) c.args.word c.args.key)) c.deref_mut.ensures.value
+    ∙ ap (λ (n : ℕ). set old c.args.node (node_after_tick (node_at old c.args.node) n c.args.word c.args.key)) moment in
     let told = sym c.in-Some.is ∙ c.tick_at.ensures.told
     ∙ ap (λ (xs : List Node). told_by (node_at xs c.args.node) (d.moment + c.from.result) c.args.key) c.deref_mut.ensures.value
     ∙ ap (λ (n : ℕ). told_by (node_at old c.args.node) n c.args.key) moment in
@@ -45,8 +43,8 @@ returns-clause-does c =
     let long : length new ≡ d.nodes.len = ap length c.tick_at.ensures.after ∙ length-set _ _ _ ∙ ap length c.deref_mut.ensures.value ∙ sym d.nodes.ok.0 in
     let moment = ap (λ (n : ℕ). d.moment + n) c.from.ensures in
     let nodes = take_at new (drop (length new) old) d.nodes.len long ∙ c.tick_at.ensures.after
-    ∙ ap (λ (xs : List Node). set xs c.args.node (after_tick (node_at xs c.args.node) (d.moment + c.from.result) c.args.word c.args.key)) c.deref_mut.ensures.value
-    ∙ ap (λ (n : ℕ). set old c.args.node (after_tick (node_at old c.args.node) n c.args.word c.args.key)) moment in
+    ∙ ap (λ (xs : List Node). set xs c.args.node (node_after_tick (node_at xs c.args.node) (d.moment + c.from.result) c.args.word c.args.key)) c.deref_mut.ensures.value
+    ∙ ap (λ (n : ℕ). set old c.args.node (node_after_tick (node_at old c.args.node) n c.args.word c.args.key)) moment in
     let told = sym c.in-Some.is ∙ c.tick_at.ensures.told
     ∙ ap (λ (xs : List Node). told_by (node_at xs c.args.node) (d.moment + c.from.result) c.args.key) c.deref_mut.ensures.value
     ∙ ap (λ (n : ℕ). told_by (node_at old c.args.node) n c.args.key) moment in

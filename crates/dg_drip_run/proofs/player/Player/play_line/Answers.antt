@@ -1,6 +1,6 @@
 use Rattle.std.proofs.Common.{◌∷◌, [], List, ℕ, refl, ap, true}
-use Rattle.dg_drip.specs.Spread.{round, sweeps}
-use Rattle.dg_drip_script.specs.Scripts.{quiet, rounds_items, with_items, begun}
+use Rattle.dg_drip.specs.Spread.{drip_round, sweeps}
+use Rattle.dg_drip_script.specs.Scripts.{quiet, rounds_items, with_items, begun_script}
 use Rattle.dg_drip_script.specs.declared.line.DripLine.TheVariants.{Happens, Round, Sweeps}
 use Rattle.dg_drip_run.proofs.HappenLemmas.{links_of_player}
 use Rattle.dg_drip_run.proofs.LineLemmas.{begun_playing, events_played}
@@ -21,10 +21,10 @@ returns-in-Happens c =
 
 pub returns-in-Round : goal.returns-in-Round
 returns-in-Round c =
-    rw c.in-Round.is (events_played c.play_round.result c.args.self.now c.play_round.new.self (Round c.in-Round.a c.in-Round.b) (quiet (round c.in-Round.a c.in-Round.b)) (λ s before h. refl) c.play_round.ensures.ran)
+    rw c.in-Round.is (events_played c.play_round.result c.args.self.now c.play_round.new.self (Round c.in-Round.a c.in-Round.b) (quiet (drip_round c.in-Round.a c.in-Round.b)) (λ s before h. refl) c.play_round.ensures.ran)
 
 pub returns-in-Sweeps : goal.returns-in-Sweeps
 returns-in-Sweeps c =
     rw c.in-Sweeps.is
     (events_played c.play_sweeps.result c.args.self.now c.play_sweeps.new.self (Sweeps c.in-Sweeps.count) (rounds_items (sweeps c.in-Sweeps.count c.args.self.now.network.links.items))
-    (λ s before h. ap (λ (links : List (ℕ × ℕ)). with_items (begun s) (rounds_items (sweeps c.in-Sweeps.count links))) (links_of_player c.args.self.now s before h)) c.play_sweeps.ensures)
+    (λ s before h. ap (λ (links : List (ℕ × ℕ)). with_items (begun_script s) (rounds_items (sweeps c.in-Sweeps.count links))) (links_of_player c.args.self.now s before h)) c.play_sweeps.ensures)

@@ -1,0 +1,13 @@
+-- What stands around a replay of nodes: its source and its sink.
+use Rattle.std.specs.Prelude.{ℕ, List, Option}
+
+-- what is left of the input, where that is told, how many reads failed, what was written, where that is told,
+-- and how many writes failed
+pub record AroundDrip : Type 0 where
+  pub left : Option (List ℕ)
+  pub reads : ℕ
+  pub written : Option (List ℕ)
+  pub writes : ℕ
+
+abbrev pub around_drip : (left : Option (List ℕ)) (reads : ℕ) (written : Option (List ℕ)) (writes : ℕ) → AroundDrip
+around_drip left reads written writes = record { left = left; reads = reads; written = written; writes = writes }
