@@ -17,7 +17,7 @@ use Rattle.dg_mote.specs.Model.{MoteState}
 use Rattle.dg_mote.specs.Effects.{tick_effect, frame_effect, reset_effect}
 use Rattle.dg_mote.specs.Agreement.{IsHonest}
 use Rattle.dg_mote.specs.Well.{StoreIsWell, IsWell, EffectIsWell}
-use Rattle.dg_serial_base.specs.Deeds.{Base, At, Deed, Hears, Ticks, moment_at, word_at, powered, power_effect, effect_of, after, Runs}
+use Rattle.dg_serial_base.specs.Deeds.{Base, At, Deed, Hears, Ticks, moment_at, drawn_word_at, powered, power_effect, effect_of, after_deed, DeedsRun}
 use Rattle.dg_serial_base.specs.Based.{Outside, Came, FlashStopped, AtPower, Later, EndsBy, Based}
 use Rattle.dg_serial_base.specs.Agreeing.{HonestDeed, HonestLine, StandsWell, ChipAgrees}
 
@@ -42,20 +42,20 @@ next_moment step events = let e = mul-suc step events in omega (arith, e)
 module _ (laws : Laws) (table : List Row) (is : IsTable table) (b : Base) where
   deed_well : (a : At) (m : MoteState) (d : Deed) → HonestDeed table d → IsWell table m a.store (b.step * a.events) → EffectIsWell table (effect_of b m a d) (moment_at b a.events)
   deed_well a m (Hears bytes) honest well =
-      laws.heard table m a.store (moment_at b a.events) (word_at b a.events) bytes is honest (laws.later table m a.store (b.step * a.events) (moment_at b a.events) (next_moment b.step a.events) well)
+      laws.heard table m a.store (moment_at b a.events) (drawn_word_at b a.events) bytes is honest (laws.later table m a.store (b.step * a.events) (moment_at b a.events) (next_moment b.step a.events) well)
   deed_well a m Ticks honest well =
-      laws.ticked table m a.store (moment_at b a.events) (word_at b a.events) is (laws.later table m a.store (b.step * a.events) (moment_at b a.events) (next_moment b.step a.events) well)
+      laws.ticked table m a.store (moment_at b a.events) (drawn_word_at b a.events) is (laws.later table m a.store (b.step * a.events) (moment_at b a.events) (next_moment b.step a.events) well)
 
-  well_run : (ds : List Deed) → AllByRecursion (HonestDeed table) ds → (a z : At) → StandsWell table b a → Runs b a ds z → StandsWell table b z
-  unfolding Runs
+  well_run : (ds : List Deed) → AllByRecursion (HonestDeed table) ds → (a z : At) → StandsWell table b a → DeedsRun b a ds z → StandsWell table b z
+  unfolding DeedsRun
   well_run [] honest a z well r = subst (StandsWell table b) (sym r) well
   well_run (d ∷ ds) honest a z well r =
-      well_run ds honest.1 (after b r.0 a d) z (deed_well a r.0 d honest.0 (some_well (λ m. IsWell table m a.store (b.step * a.events)) a.mote r.0 r.1 well)).mote r.2
+      well_run ds honest.1 (after_deed b r.0 a d) z (deed_well a r.0 d honest.0 (some_well (λ m. IsWell table m a.store (b.step * a.events)) a.mote r.0 r.1 well)).mote r.2
 
   powered_well : (s : Store) → StoreIsWell table s → StandsWell table b (powered b s)
-  powered_well s well = (laws.reset table s b.id (moment_at b 0) (word_at b 0) true is well).mote
+  powered_well s well = (laws.reset table s b.id (moment_at b 0) (drawn_word_at b 0) true is well).mote
 
-  pub run_well : (s : Store) (done : List Deed) (there : At) → StoreIsWell table s → AllByRecursion (HonestDeed table) done → Runs b (powered b s) done there → StandsWell table b there
+  pub run_well : (s : Store) (done : List Deed) (there : At) → StoreIsWell table s → AllByRecursion (HonestDeed table) done → DeedsRun b (powered b s) done there → StandsWell table b there
   run_well s done there well honest r = well_run done honest (powered b s) there (powered_well s well) r
 
   all_front : (xs ys : List Deed) → AllByRecursion (HonestDeed table) (xs ++ ys) → AllByRecursion (HonestDeed table) xs
@@ -82,27 +82,27 @@ module _ (laws : Laws) (table : List Row) (is : IsTable table) (b : Base) where
 
     flash_agrees : (text : List ℕ) (old new : Device) → FlashStopped b s input text old new → ChipAgrees table new.image
     flash_agrees text old new (AtPower between none stands stops) =
-        stop_agrees (power_effect b s).trail between new (laws.reset table s b.id (moment_at b 0) (word_at b 0) true is well).way stops
+        stop_agrees (power_effect b s).trail between new (laws.reset table s b.id (moment_at b 0) (drawn_word_at b 0) true is well).way stops
     flash_agrees text old new (Later c between m d more on rest same stands stops) =
         let h : AllByRecursion (HonestDeed table) (d ∷ more) = subst (λ (ds : List Deed). AllByRecursion (HonestDeed table) ds) rest (all_back c.done c.rest (parts_honest c)) in
         stop_agrees (effect_of b m c.there d).trail between new
         (deed_well c.there m d h.0 (some_well (λ x. IsWell table x c.there.store (b.step * c.there.events)) c.there.mote m on (came_well c))).way stops
 
-    ends_agree : (answer : Status) (text : List ℕ) (left : Option (List ℕ)) (old new : Device) → EndsBy answer b s input text left old new → ChipAgrees table new.image
-    ends_agree status.FlashFault text left old new e = flash_agrees text old new e
-    ends_agree status.Done text left old new e = came_agrees e.0 new.image e.2
-    ends_agree status.Memory text left old new e = came_agrees e.0 new.image e.2
-    ends_agree status.Usage text left old new e = came_agrees e.0 new.image e.2
-    ends_agree status.BadInput text left old new e = came_agrees e.0 new.image e.2
-    ends_agree status.ReadFault text left old new e = came_agrees e.0 new.image e.2
-    ends_agree status.WriteFault text left old new e = came_agrees e.0 new.image e.2
-    ends_agree status.NotAVolume text left old new e = came_agrees e.0 new.image e.2
-    ends_agree status.Refused text left old new e = came_agrees e.0 new.image e.2
-    ends_agree status.LinkFault text left old new e = came_agrees e.0 new.image e.2
-    ends_agree status.TooLong text left old new e = came_agrees e.0 new.image e.2
-    ends_agree status.TooMany text left old new e = came_agrees e.0 new.image e.2
-    ends_agree status.NoBoard text left old new e = came_agrees e.0 new.image e.2
-    ends_agree status.NoImage text left old new e = came_agrees e.0 new.image e.2
+    ends_agree : (answer : Status) (text : List ℕ) (before now : Outside) → EndsBy answer b s input text before now → ChipAgrees table now.chip.image
+    ends_agree status.FlashFault text before now e = flash_agrees text before.chip now.chip e
+    ends_agree status.Done text before now e = came_agrees e.0 now.chip.image e.2
+    ends_agree status.Memory text before now e = came_agrees e.0 now.chip.image e.2
+    ends_agree status.Usage text before now e = came_agrees e.0 now.chip.image e.2
+    ends_agree status.BadInput text before now e = came_agrees e.0 now.chip.image e.2
+    ends_agree status.ReadFault text before now e = came_agrees e.0 now.chip.image e.2
+    ends_agree status.WriteFault text before now e = came_agrees e.0 now.chip.image e.2
+    ends_agree status.NotAVolume text before now e = came_agrees e.0 now.chip.image e.2
+    ends_agree status.Refused text before now e = came_agrees e.0 now.chip.image e.2
+    ends_agree status.LinkFault text before now e = came_agrees e.0 now.chip.image e.2
+    ends_agree status.TooLong text before now e = came_agrees e.0 now.chip.image e.2
+    ends_agree status.TooMany text before now e = came_agrees e.0 now.chip.image e.2
+    ends_agree status.NoBoard text before now e = came_agrees e.0 now.chip.image e.2
+    ends_agree status.NoImage text before now e = came_agrees e.0 now.chip.image e.2
 
 pub based_agrees : Laws → (answer : Status) (b : Base) (s : Store) (before now : Outside) (x : Based answer b s before now) (table : List Row) → IsTable table → StoreIsWell table s → HonestLine table x.input → ChipAgrees table now.chip.image
-based_agrees laws answer b s before now x table is well honest = ends_agree laws table is b s well x.input honest answer x.text now.left before.chip now.chip x.ends
+based_agrees laws answer b s before now x table is well honest = ends_agree laws table is b s well x.input honest answer x.text before now x.ends

@@ -27,7 +27,7 @@ use Rattle.dg_mote.specs.Consistency.{AsksForKnown, StoreIsConsistent, TurnIsCon
 use Rattle.dg_mote.specs.declared.mote.Did.{Did}
 use Rattle.dg_mote.specs.declared.mote.Did.TheVariants.{Sent, Idle, Restart}
 use Rattle.dg_mote.proofs.KeepLemmas.{through_then, through_both}
-use Rattle.dg_serial_base.specs.Deeds.{Base, At, Deed, Hears, Ticks, moment_at, word_at, powered, power_effect, effect_of, after, deeds_of, Runs as RunsTo}
+use Rattle.dg_serial_base.specs.Deeds.{Base, At, Deed, Hears, Ticks, moment_at, drawn_word_at, powered, power_effect, effect_of, after_deed, deeds_of, DeedsRun}
 use Rattle.dg_serial_base.specs.Based.{Outside, Came, FlashStopped, AtPower, Later, EndsBy, Based}
 use Rattle.dg_serial_base.specs.Consistency.{StartsSound, AllStartSound, StaysConsistent}
 use Rattle.dg_serial_base.proofs.AgreeLemmas.{some_well}
@@ -111,8 +111,8 @@ module _ (golden : Row) (laws : Laws golden) where
       pub mote : IsSomeAnd a.mote (λ m. AsksForKnown m.mode)
 
     deed_holds : (a : At) (m : MoteState) (d : Deed) → P a.store → AsksForKnown m.mode → Holds (effect_of b m a d)
-    deed_holds a m (Hears bytes) p asks = frame_holds m a.store (moment_at b a.events) (word_at b a.events) bytes p asks
-    deed_holds a m Ticks p asks = tick_holds m a.store (moment_at b a.events) (word_at b a.events) p asks
+    deed_holds a m (Hears bytes) p asks = frame_holds m a.store (moment_at b a.events) (drawn_word_at b a.events) bytes p asks
+    deed_holds a m Ticks p asks = tick_holds m a.store (moment_at b a.events) (drawn_word_at b a.events) p asks
 
     asks_of : (a : At) (m : MoteState) → IsKnown a → a.mote ≡ Some m → AsksForKnown m.mode
     asks_of a m known e = some_well (λ m. AsksForKnown m.mode) a.mote m e known.mote
@@ -120,24 +120,24 @@ module _ (golden : Row) (laws : Laws golden) where
     deed_of : (a : At) (m : MoteState) (d : Deed) → IsKnown a → a.mote ≡ Some m → Holds (effect_of b m a d)
     deed_of a m d known e = deed_holds a m d known.store (asks_of a m known e)
 
-    after_known : (a : At) (m : MoteState) (d : Deed) → Holds (effect_of b m a d) → IsKnown (after b m a d)
+    after_known : (a : At) (m : MoteState) (d : Deed) → Holds (effect_of b m a d) → IsKnown (after_deed b m a d)
     after_known a m d h = record { store = Through-last P (effect_of b m a d).trail h.way; mote = h.mote }
 
-    run_known : (ds : List Deed) (a z : At) → IsKnown a → RunsTo b a ds z → IsKnown z
-    unfolding RunsTo
+    run_known : (ds : List Deed) (a z : At) → IsKnown a → DeedsRun b a ds z → IsKnown z
+    unfolding DeedsRun
     run_known [] a z known r = subst IsKnown (sym r) known
-    run_known (d ∷ ds) a z known r = run_known ds (after b r.0 a d) z (after_known a r.0 d (deed_of a r.0 d known r.1)) r.2
+    run_known (d ∷ ds) a z known r = run_known ds (after_deed b r.0 a d) z (after_known a r.0 d (deed_of a r.0 d known r.1)) r.2
 
     all_sound : (ds : List Deed) (a : At) → IsKnown a → AllStartSound golden b a ds
     unfolding AllStartSound
     all_sound [] a known = tt
     all_sound (d ∷ ds) a known = λ m e.
         let h = deed_of a m d known e in
-        (h.starts, all_sound ds (after b m a d) (after_known a m d h))
+        (h.starts, all_sound ds (after_deed b m a d) (after_known a m d h))
 
     module _ (s : Store) (p : P s) where
       power_holds : Holds (power_effect b s)
-      power_holds = reset_holds s b.id true (moment_at b 0) (word_at b 0) p
+      power_holds = reset_holds s b.id true (moment_at b 0) (drawn_word_at b 0) p
 
       powered_known : IsKnown (powered b s)
       powered_known = record { store = Through-last P (power_effect b s).trail power_holds.way; mote = power_holds.mote }
@@ -157,35 +157,35 @@ module _ (golden : Row) (laws : Laws golden) where
         flash_chip text old new (Later c between m d more on rest same stands stops) =
             stop_chip (effect_of b m c.there d).trail between new (deed_of c.there m d (came_known c) on).way stops
 
-        ends_chip : (answer : Status) (text : List ℕ) (left : Option (List ℕ)) (old new : Device) → EndsBy answer b s input text left old new → ChipIsConsistent golden new.image
-        ends_chip status.FlashFault text left old new e = flash_chip text old new e
-        ends_chip status.Done text left old new e = came_chip e.0 new.image e.2
-        ends_chip status.Memory text left old new e = came_chip e.0 new.image e.2
-        ends_chip status.Usage text left old new e = came_chip e.0 new.image e.2
-        ends_chip status.BadInput text left old new e = came_chip e.0 new.image e.2
-        ends_chip status.ReadFault text left old new e = came_chip e.0 new.image e.2
-        ends_chip status.WriteFault text left old new e = came_chip e.0 new.image e.2
-        ends_chip status.NotAVolume text left old new e = came_chip e.0 new.image e.2
-        ends_chip status.Refused text left old new e = came_chip e.0 new.image e.2
-        ends_chip status.LinkFault text left old new e = came_chip e.0 new.image e.2
-        ends_chip status.TooLong text left old new e = came_chip e.0 new.image e.2
-        ends_chip status.TooMany text left old new e = came_chip e.0 new.image e.2
-        ends_chip status.NoBoard text left old new e = came_chip e.0 new.image e.2
-        ends_chip status.NoImage text left old new e = came_chip e.0 new.image e.2
+        ends_chip : (answer : Status) (text : List ℕ) (before now : Outside) → EndsBy answer b s input text before now → ChipIsConsistent golden now.chip.image
+        ends_chip status.FlashFault text before now e = flash_chip text before.chip now.chip e
+        ends_chip status.Done text before now e = came_chip e.0 now.chip.image e.2
+        ends_chip status.Memory text before now e = came_chip e.0 now.chip.image e.2
+        ends_chip status.Usage text before now e = came_chip e.0 now.chip.image e.2
+        ends_chip status.BadInput text before now e = came_chip e.0 now.chip.image e.2
+        ends_chip status.ReadFault text before now e = came_chip e.0 now.chip.image e.2
+        ends_chip status.WriteFault text before now e = came_chip e.0 now.chip.image e.2
+        ends_chip status.NotAVolume text before now e = came_chip e.0 now.chip.image e.2
+        ends_chip status.Refused text before now e = came_chip e.0 now.chip.image e.2
+        ends_chip status.LinkFault text before now e = came_chip e.0 now.chip.image e.2
+        ends_chip status.TooLong text before now e = came_chip e.0 now.chip.image e.2
+        ends_chip status.TooMany text before now e = came_chip e.0 now.chip.image e.2
+        ends_chip status.NoBoard text before now e = came_chip e.0 now.chip.image e.2
+        ends_chip status.NoImage text before now e = came_chip e.0 now.chip.image e.2
 
         is_on : (o : Option MoteState) → IsSomeAnd o (λ m. AsksForKnown m.mode) → o ≡ None → ⊥
         is_on None some e = some
         is_on (Some m) some e = absurd cc
 
-        never_none : (answer : Status) (text : List ℕ) (left : Option (List ℕ)) (old new : Device) → EndsBy answer b s input text left old new → answer ≢ status.NoImage
-        never_none answer text left old new e is =
-            let x = subst (λ (t : Status). EndsBy t b s input text left old new) is e in
+        never_none : (answer : Status) (text : List ℕ) (before now : Outside) → EndsBy answer b s input text before now → answer ≢ status.NoImage
+        never_none answer text before now e is =
+            let x = subst (λ (t : Status). EndsBy t b s input text before now) is e in
             is_on x.0.there.mote (came_known x.0).mote x.1.0
 
 pub based_consistent : (golden : Row) → Laws golden → (answer : Status) (b : Base) (s : Store) (before now : Outside) (x : Based answer b s before now) → StoreIsConsistent golden s → StaysConsistent golden answer b s x.input now.chip.image
 based_consistent golden laws answer b s before now x p = record {
   power = (power_holds golden laws b s p).starts;
   deeds = all_sound golden laws b (deeds_of (take most_input x.input)) (powered b s) (powered_known golden laws b s p);
-  found = never_none golden laws b s p x.input answer x.text now.left before.chip now.chip x.ends;
-  chip = ends_chip golden laws b s p x.input answer x.text now.left before.chip now.chip x.ends;
+  found = never_none golden laws b s p x.input answer x.text before now x.ends;
+  chip = ends_chip golden laws b s p x.input answer x.text before now x.ends;
 }

@@ -25,8 +25,8 @@ use Rattle.dg_mote.specs.declared.mote.Heard.{Heard}
 use Rattle.dg_mote.specs.declared.mote.Mote.{Mote}
 use Rattle.dg_serial.specs.Line.{line_of}
 use Rattle.dg_serial_base.specs.Based.{IsFront}
-use Rattle.dg_serial_base.specs.Deeds.{Base, At, Deed, Hears, Ticks, powered, moment_at, word_at, effect_of, after, sent_too, said}
-use Rattle.dg_serial_base.specs.Standing.{IsLeft, LeavesNone, StopsOn, FailedBy, EffectEnds, IsTime, Stood, IsStood, one_if, DoneOne, LacksIn, StopsIn, DeedFails, DeedEnds, SendFails, StoppedBy, Halted, WentOn}
+use Rattle.dg_serial_base.specs.Deeds.{Base, At, Deed, Hears, Ticks, powered, moment_at, drawn_word_at, effect_of, after_deed, sent_too, said}
+use Rattle.dg_serial_base.specs.Standing.{Outset, code_at, DeedLeft, deed_left, IsLeft, LeavesNone, StopsOn, FailedBy, EffectEnds, IsTime, Stood, IsStood, one_if, DoneOne, LacksIn, StopsInDeed, DeedFails, DeedEnds, SendFails, StoppedBy, DeedsHalted, WentOn}
 use Rattle.dg_serial_base.specs.declared.running.Running.{Running}
 use Rattle.dg_serial_base.specs.declared.stop.Stop.{Stop}
 use Rattle.dg_serial_base.specs.declared.stop.Stop.TheVariants as stop
@@ -41,10 +41,10 @@ module _ (b : Base) (s : Store) (done : List Deed) (d : Deed) (before : At) (v :
   e = effect_of b stood.state before d
 
   pub one_done : (u : Running) (new : Device) (frame : Option (List ℕ)) → IsTime u.timeline b (suc before.events) → frame ≡ option_map frame_of e.sent → IsLeft e new.image u.mote u.timeline.moment
-      → DoneOne b s done d before u new.image frame
+      → DoneOne b s done d before (deed_left u new frame)
   one_done u new frame time sent left =
       record {
-        there = after b stood.state before d;
+        there = after_deed b stood.state before d;
         stood = record {
           state = left.state;
           run = run_goes b done (powered b s) before d stood.state stood.run stood.on;
@@ -59,7 +59,7 @@ module _ (b : Base) (s : Store) (done : List Deed) (d : Deed) (before : At) (v :
   lacks : (new : Device) → LeavesNone e new.image → LacksIn b s done d before new.image
   lacks new l =
       record {
-        there = after b stood.state before d;
+        there = after_deed b stood.state before d;
         run = run_goes b done (powered b s) before d stood.state stood.run stood.on;
         none = l.none;
         sent = ap (sent_too before.sent) l.silent;
@@ -75,8 +75,8 @@ module _ (b : Base) (s : Store) (done : List Deed) (d : Deed) (before : At) (v :
   fails stop.NotAVolume new x = x
   fails stop.TooLong new x = x
 
-  pub deed_ends : {T : Type 0} (r : Result T Stop) (u : Running) (new : Device) (frame : Option (List ℕ)) → IsTime u.timeline b (suc before.events)
-      → ((x : T) → r ≡ Ok x → frame ≡ option_map frame_of e.sent) → EffectEnds r before.store e u.timeline.moment new u.mote → DeedEnds r b s done d before u new frame
+  pub deed_ends : (r : Result (Unit {0}) Stop) (u : Running) (new : Device) (frame : Option (List ℕ)) → IsTime u.timeline b (suc before.events)
+      → ((x : Unit {0}) → r ≡ Ok x → frame ≡ option_map frame_of e.sent) → EffectEnds r before.store e u.timeline.moment new u.mote → DeedEnds r b s done d before (deed_left u new frame)
   deed_ends (Ok x) u new frame time sent ends = one_done u new frame time (sent x refl) ends
   deed_ends (Err why) u new frame time sent ends = fails why new ends
 
@@ -87,7 +87,7 @@ timely_next law m moment step new now t p q = let le : moment ≤ now = omega (a
 
 -- a frame is heard
 module _ (b : Base) (s : Store) (done : List Deed) (before : At) (v : Running) (c : List ℕ) (stood : Stood b s done v c before) (bytes : List ℕ) (now word : ℕ)
-    (drawn : (now ≡ moment_at b before.events) × (word ≡ word_at b before.events)) where
+    (drawn : (now ≡ moment_at b before.events) × (word ≡ drawn_word_at b before.events)) where
   frame_is : frame_effect stood.state before.store now word bytes ≡ effect_of b stood.state before (Hears bytes)
   frame_is =
       ap (λ (x : ℕ). frame_effect stood.state before.store x word bytes) drawn.0
@@ -95,14 +95,14 @@ module _ (b : Base) (s : Store) (done : List Deed) (before : At) (v : Running) (
 
   pub hear_done : Timely stood.state now → ((m : MoteState) (s : Store) (now word : ℕ) (bytes : List ℕ) → Timely m now → Timely (heard_of m s now word bytes).mote now)
       → (u : Running) (old new : Device) (d : Heard) → now ≡ u.timeline.moment → IsTime u.timeline b (suc before.events) → Done (heard_of stood.state before.store now word bytes) old new u.mote d
-      → DoneOne b s done (Hears bytes) before u new.image None
+      → DoneOne b s done (Hears bytes) before (deed_left u new None)
   hear_done timely law u old new d at time x =
       let left = hear_leaves stood.state before.store now word bytes old new u.mote d x (law stood.state before.store now word bytes timely) in
       one_done b s done (Hears bytes) before v c stood u new None time
       (sym (ap (λ (e : Effect). option_map frame_of e.sent) (sym frame_is) ∙ ap (option_map frame_of) (hear_silent stood.state before.store now word bytes)))
       (subst (λ (n : ℕ). IsLeft (effect_of b stood.state before (Hears bytes)) new.image u.mote n) at (subst (λ (e : Effect). IsLeft e new.image u.mote now) frame_is left))
 
-  pub hear_fails : (old new : Device) → Stands old.image before.store → Stops (heard_of stood.state before.store now word bytes).trail old new → StopsIn b (Hears bytes) before new
+  pub hear_fails : (old new : Device) → Stands old.image before.store → Stops (heard_of stood.state before.store now word bytes).trail old new → StopsInDeed b (Hears bytes) before new
   hear_fails old new stands stops =
       record {
         state = stood.state;
@@ -114,10 +114,10 @@ module _ (b : Base) (s : Store) (done : List Deed) (before : At) (v : Running) (
 abbrev SendsBy : {T : Type 0} → Result T Stop → (c : List ℕ) → Mote → (now word : ℕ) → Option (List ℕ) → Type 0
 SendsBy r c v now word frame = OnOk r ((m : MoteState) (s : Store) → IsMote c v m s → Timely m now → frame ≡ option_map frame_of (tick_effect m s now word).sent)
 
-pub tick_done : {T : Type 0} (r : Result T Stop) (b : Base) (s : Store) (done : List Deed) (before : At) (v : Running) (c : List ℕ) (stood : Stood b s done v c before) (now word : ℕ)
-    → (now ≡ moment_at b before.events) × (word ≡ word_at b before.events) → (u : Running) (new : Device) (frame : Option (List ℕ)) → now ≡ u.timeline.moment → IsTime u.timeline b (suc before.events)
-    → Timely stood.state now → SendsBy r c v.mote now word frame → EffectEnds r before.store (tick_effect stood.state before.store now word) now new u.mote → DeedEnds r b s done Ticks before u new frame
-tick_done {T} r b s done before v c stood now word drawn u new frame at time timely sends ends =
+pub tick_done : (r : Result (Unit {0}) Stop) (b : Base) (s : Store) (done : List Deed) (before : At) (v : Running) (c : List ℕ) (stood : Stood b s done v c before) (now word : ℕ)
+    → (now ≡ moment_at b before.events) × (word ≡ drawn_word_at b before.events) → (u : Running) (new : Device) (frame : Option (List ℕ)) → now ≡ u.timeline.moment → IsTime u.timeline b (suc before.events)
+    → Timely stood.state now → SendsBy r c v.mote now word frame → EffectEnds r before.store (tick_effect stood.state before.store now word) now new u.mote → DeedEnds r b s done Ticks before (deed_left u new frame)
+tick_done r b s done before v c stood now word drawn u new frame at time timely sends ends =
     let e : Effect = effect_of b stood.state before Ticks in
     let is : tick_effect stood.state before.store now word ≡ e =
     ap (λ (x : ℕ). tick_effect stood.state before.store x word) drawn.0 ∙ ap (λ (x : ℕ). tick_effect stood.state before.store (moment_at b before.events) x) drawn.1 in
@@ -126,8 +126,8 @@ tick_done {T} r b s done before v c stood now word drawn u new frame at time tim
     ∙ ap (λ (y : Effect). option_map frame_of y.sent) is)
     (subst (λ (n : ℕ). EffectEnds r before.store e n new u.mote) at (subst (λ (y : Effect). EffectEnds r before.store y now new u.mote) is ends))
 
-pub ends_stood : {T : Type 0} (r : Result T Stop) (b : Base) (s : Store) (done : List Deed) (d : Deed) (before : At) (u : Running) (new : Device) (frame : Option (List ℕ))
-    → DeedEnds r b s done d before u new frame → OnOk r (IsStood u new.image)
+pub ends_stood : (r : Result (Unit {0}) Stop) (b : Base) (s : Store) (done : List Deed) (d : Deed) (before : At) (u : Running) (new : Device) (frame : Option (List ℕ))
+    → DeedEnds r b s done d before (deed_left u new frame) → OnOk r (IsStood u new.image)
 ends_stood (Ok x) b s done d before u new frame one = (b, s, done ++ d ∷ [], one.there, one.stood)
 ends_stood (Err why) b s done d before u new frame one = tt
 
@@ -162,24 +162,24 @@ ends_frame (Err why) m s now word frame mote timely sends = tt
 -- ---- and what is written
 
 -- a deed that failed is the last one
-pub deed_halts : (why : Stop) (b : Base) (s : Store) (done : List Deed) (d : Deed) (before : At) (v : Running) (c : List ℕ) (first now : Option (List ℕ)) (new : Device)
-    → Stood b s done v c before → Puts first now (said before) → DeedFails why b s done d before new → Halted why b s (done ++ d ∷ []) first now new
-deed_halts stop.Flash b s done d before v c first now new stood put x =
+pub deed_halts : (why : Stop) (a : Outset) (done : List Deed) (d : Deed) (before : At) (v : Running) (c : List ℕ) (now : Option (List ℕ)) (new : Device)
+    → Stood a.base a.store done v c before → Puts a.written now (said before) → DeedFails why a.base a.store done d before new → DeedsHalted why a (done ++ d ∷ []) now new
+deed_halts stop.Flash a done d before v c now new stood put x =
     record { done = done; rest = d ∷ []; parts = refl; there = before; run = stood.run; by = (x.state, d, [], x.on, refl, put, x.stops) }
-deed_halts stop.NoImage b s done d before v c first now new stood put x =
+deed_halts stop.NoImage a done d before v c now new stood put x =
     record {
       done = done ++ d ∷ [];
       rest = [];
       parts = append-nil (done ++ d ∷ []);
       there = x.there;
       run = x.run;
-      by = (x.none, subst (λ (sent : List Message). Puts first now (line_of (map frame_of sent))) (sym x.sent) put, x.stands);
+      by = (x.none, subst (λ (sent : List Message). Puts a.written now (line_of (map frame_of sent))) (sym x.sent) put, x.stands);
     }
-deed_halts stop.Memory b s done d before v c first now new stood put x = absurd x
-deed_halts stop.Read b s done d before v c first now new stood put x = absurd x
-deed_halts stop.Write b s done d before v c first now new stood put x = absurd x
-deed_halts stop.NotAVolume b s done d before v c first now new stood put x = absurd x
-deed_halts stop.TooLong b s done d before v c first now new stood put x = absurd x
+deed_halts stop.Memory a done d before v c now new stood put x = absurd x
+deed_halts stop.Read a done d before v c now new stood put x = absurd x
+deed_halts stop.Write a done d before v c now new stood put x = absurd x
+deed_halts stop.NotAVolume a done d before v c now new stood put x = absurd x
+deed_halts stop.TooLong a done d before v c now new stood put x = absurd x
 
 stopped_more : (why : Stop) (b : Base) (there : At) (rest more : List Deed) (first now : Option (List ℕ)) (new : Device) → StoppedBy why b there rest first now new → StoppedBy why b there (rest ++ more) first now new
 stopped_more stop.Memory b there rest more first now new x = x
@@ -191,47 +191,46 @@ stopped_more stop.NotAVolume b there rest more first now new x = x
 stopped_more stop.TooLong b there rest more first now new x = x
 
 -- it halted before deeds that follow
-pub halted_more : (why : Stop) (b : Base) (s : Store) (all more : List Deed) (first now : Option (List ℕ)) (new : Device) → Halted why b s all first now new → Halted why b s (all ++ more) first now new
-halted_more why b s all more first now new h =
+pub halted_more : (why : Stop) (a : Outset) (all more : List Deed) (now : Option (List ℕ)) (new : Device) → DeedsHalted why a all now new → DeedsHalted why a (all ++ more) now new
+halted_more why a all more now new h =
     record {
       done = h.done;
       rest = h.rest ++ more;
       parts = sym (append_assoc h.done h.rest more) ∙ ap (λ (x : List Deed). x ++ more) h.parts;
       there = h.there;
       run = h.run;
-      by = stopped_more why b h.there h.rest more first now new h.by;
+      by = stopped_more why a.base h.there h.rest more a.written now new h.by;
     }
 
 -- ---- a deed, and what it sent goes onto the line
 
-module _ (b : Base) (s : Store) (done : List Deed) (d : Deed) (before : At) (first old now : Option (List ℕ)) (put : Puts first old (said before)) where
+module _ (a : Outset) (done : List Deed) (d : Deed) (before : At) (old now : Option (List ℕ)) (put : Puts a.written old (said before)) where
   -- what is said behind the deed
   said_then : (there : At) (frame : Option (List ℕ)) → map frame_of there.sent ≡ map frame_of before.sent ++ one_if frame → said there ≡ said before ++ line_of (one_if frame)
   said_then there frame e = ap line_of e ∙ said_one (map frame_of before.sent) (one_if frame)
 
-  pub sent_goes : (v : Running) (new : Device) (frame : Option (List ℕ)) → DoneOne b s done d before v new.image frame → Puts old now (line_of (one_if frame)) → WentOn b s (done ++ d ∷ []) first now v new
-  sent_goes v new frame one w =
+  pub sent_goes : (left : DeedLeft) → DoneOne a.base a.store done d before left → Puts old now (line_of (one_if left.frame)) → WentOn a (done ++ d ∷ []) (code_at now left.mote left.chip)
+  sent_goes left one w =
       record {
         there = one.there;
         stood = one.stood;
-        put = subst (λ (text : List ℕ). Puts first now text) (sym (said_then one.there frame one.sent)) (puts_then first old now (said before) (line_of (one_if frame)) put w);
+        put = subst (λ (text : List ℕ). Puts a.written now text) (sym (said_then one.there left.frame one.sent)) (puts_then a.written old now (said before) (line_of (one_if left.frame)) put w);
       }
 
-  halts_behind : (why : Stop) (v : Running) (new : Device) (frame : Option (List ℕ)) (one : DoneOne b s done d before v new.image frame) → StoppedBy why b one.there [] first now new → Halted why b s (done ++ d ∷ []) first now new
-  halts_behind why v new frame one by =
+  halts_behind : (why : Stop) (left : DeedLeft) (one : DoneOne a.base a.store done d before left) → StoppedBy why a.base one.there [] a.written now left.chip → DeedsHalted why a (done ++ d ∷ []) now left.chip
+  halts_behind why left one by =
       record { done = done ++ d ∷ []; rest = []; parts = append-nil (done ++ d ∷ []); there = one.there; run = one.stood.run; by = by }
 
-  pub send_fails : (why : Stop) (v : Running) (new : Device) (frame : Option (List ℕ)) → DoneOne b s done d before v new.image frame
-      → SendFails why (line_of (one_if frame)) old now → Halted why b s (done ++ d ∷ []) first now new
-  send_fails stop.Write v new frame one w =
-      let x = puts_front_then first old now (said before) (line_of (one_if frame)) put w in
-      halts_behind stop.Write v new frame one
-      (x.text, x.put, subst (IsFront x.text) (sym (said_then one.there frame one.sent)) x.front, one.stood.mote.mounted.stands)
-  send_fails stop.Memory v new frame one w =
-      halts_behind stop.Memory v new frame one
-      (said before, w ∙ put, (line_of (one_if frame), sym (said_then one.there frame one.sent)), one.stood.mote.mounted.stands)
-  send_fails stop.Flash v new frame one w = absurd w
-  send_fails stop.NoImage v new frame one w = absurd w
-  send_fails stop.Read v new frame one w = absurd w
-  send_fails stop.NotAVolume v new frame one w = absurd w
-  send_fails stop.TooLong v new frame one w = absurd w
+  pub send_fails : (why : Stop) (left : DeedLeft) → DoneOne a.base a.store done d before left → SendFails why (line_of (one_if left.frame)) old now → DeedsHalted why a (done ++ d ∷ []) now left.chip
+  send_fails stop.Write left one w =
+      let x = puts_front_then a.written old now (said before) (line_of (one_if left.frame)) put w in
+      halts_behind stop.Write left one
+      (x.text, x.put, subst (IsFront x.text) (sym (said_then one.there left.frame one.sent)) x.front, one.stood.mote.mounted.stands)
+  send_fails stop.Memory left one w =
+      halts_behind stop.Memory left one
+      (said before, w ∙ put, (line_of (one_if left.frame), sym (said_then one.there left.frame one.sent)), one.stood.mote.mounted.stands)
+  send_fails stop.Flash left one w = absurd w
+  send_fails stop.NoImage left one w = absurd w
+  send_fails stop.Read left one w = absurd w
+  send_fails stop.NotAVolume left one w = absurd w
+  send_fails stop.TooLong left one w = absurd w

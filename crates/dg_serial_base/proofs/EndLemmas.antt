@@ -16,8 +16,8 @@ use Rattle.dg_serial.specs.Line.{line_of}
 use Rattle.dg_serial.specs.Reading.{Reading}
 use Rattle.dg_serial_base.specs.Deeds.{Base, deeds_of, powered, said}
 use Rattle.dg_serial_base.specs.Based.{Outside, closing, Came, AtPower, Later, Based, Refused, Causes}
-use Rattle.dg_serial_base.specs.Standing.{Calm, WhyStopped, Played, Halted, InputEnds, Counts, WriteCounts, ReadCounts}
-use Rattle.dg_serial_base.specs.Ending.{Tells, TellsStop, TellsResult, FailsAtPower, LineEnds, LineRefused}
+use Rattle.dg_serial_base.specs.Standing.{Calm, WhyStopped, Outset, code_on_line, Played, DeedsHalted, InputEnds, Counts, WriteCounts, ReadCounts}
+use Rattle.dg_serial_base.specs.Ending.{TellsStatus, TellsStop, TellsResult, outset_of, FailsAtPower, LineEnds, LineRefused}
 use Rattle.dg_serial_base.specs.declared.running.Running.{Running}
 use Rattle.dg_serial_base.specs.declared.stop.Stop.{Stop}
 use Rattle.dg_serial_base.specs.declared.stop.Stop.TheVariants as stop
@@ -40,19 +40,26 @@ module _ (b : Base) (s : Store) (before after : Outside) (now : Option (List ℕ
   abbrev new : Device
   new = after.chip
 
+  abbrev a : Outset
+  a = outset_of b s before
+
+  -- before the last line was told, where so many writes had failed
+  abbrev mid : ℕ → Outside
+  mid f = record after { written = now; writes = f }
+
   abbrev Ends : Status → Type 0
   Ends answer = Based answer b s before after
 
   -- all was played
-  abbrev came_all : (input : List ℕ) (v : Running) (line : Reading) → Played b s (take most_input input) first now v line new → Came b s input
+  abbrev came_all : (input : List ℕ) (v : Running) (line : Reading) → Played a (take most_input input) (code_on_line now v line new) → Came b s input
   came_all input v line p =
       record { done = deeds_of (take most_input input); rest = []; parts = append-nil (deeds_of (take most_input input)); there = p.went.there; run = p.went.stood.run }
 
-  abbrev came_some : (why : Stop) (input : List ℕ) → Halted why b s (deeds_of (take most_input input)) first now new → Came b s input
+  abbrev came_some : (why : Stop) (input : List ℕ) → DeedsHalted why a (deeds_of (take most_input input)) now new → Came b s input
   came_some why input h = record { done = h.done; rest = h.rest; parts = h.parts; there = h.there; run = h.run }
 
   -- the input ended, and nothing is told of it
-  done_ends : (input : List ℕ) → Takes left_old left_new input → length input ≤ most_input + 1 → (v : Running) (line : Reading) → Played b s (take most_input input) first now v line new → AtEnd left_new → length input ≤ most_input
+  done_ends : (input : List ℕ) → Takes left_old left_new input → length input ≤ most_input + 1 → (v : Running) (line : Reading) → Played a (take most_input input) (code_on_line now v line new) → AtEnd left_new → length input ≤ most_input
       → last ≡ now → Ends status.Done
   done_ends input taken few v line p at_end most same =
       record {
@@ -64,7 +71,7 @@ module _ (b : Base) (s : Store) (before after : Outside) (now : Option (List ℕ
         ends = (came_all input v line p, ((refl, (p.went.stood.state, p.went.stood.on)), refl, at_end, most), p.went.stood.mote.mounted.stands);
       }
 
-  read_ends : (input : List ℕ) → Takes left_old left_new input → length input ≤ most_input + 1 → (v : Running) (line : Reading) → Played b s (take most_input input) first now v line new → length input ≤ most_input → last ≡ now
+  read_ends : (input : List ℕ) → Takes left_old left_new input → length input ≤ most_input + 1 → (v : Running) (line : Reading) → Played a (take most_input input) (code_on_line now v line new) → length input ≤ most_input → last ≡ now
       → Ends status.ReadFault
   read_ends input taken few v line p most same =
       record {
@@ -83,8 +90,8 @@ module _ (b : Base) (s : Store) (before after : Outside) (now : Option (List ℕ
       let x = puts_front_then first now last (said c.there) (closing wanted) put front in
       record { input = input; taken = taken; few = few; text = x.text; put = x.put; ends = (c, (wanted, x.front), stands) }
 
-  long_ends : (input : List ℕ) → Takes left_old left_new input → length input ≤ most_input + 1 → (v : Running) (line : Reading) → Played b s (take most_input input) first now v line new → most_input < length input
-      → (answer : Status) (f g : ℕ) → Tells answer status.TooLong (closing status.TooLong) now last f g → Ends answer
+  long_ends : (input : List ℕ) → Takes left_old left_new input → length input ≤ most_input + 1 → (v : Running) (line : Reading) → Played a (take most_input input) (code_on_line now v line new) → most_input < length input
+      → (answer : Status) (f g : ℕ) → TellsStatus answer status.TooLong (closing status.TooLong) now last f g → Ends answer
   long_ends input taken few v line p more answer f g (inl x) =
       subst Ends (sym x.0)
       (record {
@@ -98,8 +105,8 @@ module _ (b : Base) (s : Store) (before after : Outside) (now : Option (List ℕ
   long_ends input taken few v line p more answer f g (inr x) =
       subst Ends (sym x.0) (front_ends input taken few (came_all input v line p) p.went.stood.mote.mounted.stands status.TooLong p.went.put x.1)
 
-  lack_ends : (input : List ℕ) → Takes left_old left_new input → length input ≤ most_input + 1 → Halted stop.NoImage b s (deeds_of (take most_input input)) first now new
-      → (answer : Status) (f g : ℕ) → Tells answer status.NoImage (closing status.NoImage) now last f g → Ends answer
+  lack_ends : (input : List ℕ) → Takes left_old left_new input → length input ≤ most_input + 1 → DeedsHalted stop.NoImage a (deeds_of (take most_input input)) now new
+      → (answer : Status) (f g : ℕ) → TellsStatus answer status.NoImage (closing status.NoImage) now last f g → Ends answer
   lack_ends input taken few h answer f g (inl x) =
       subst Ends (sym x.0)
       (record {
@@ -114,11 +121,11 @@ module _ (b : Base) (s : Store) (before after : Outside) (now : Option (List ℕ
       subst Ends (sym x.0) (front_ends input taken few (came_some stop.NoImage input h) h.by.2 status.NoImage h.by.1 x.1)
 
   -- the mote halted, and nothing is told of it
-  memory_ends : (input : List ℕ) → Takes left_old left_new input → length input ≤ most_input + 1 → Halted stop.Memory b s (deeds_of (take most_input input)) first now new → last ≡ now → Ends status.Memory
+  memory_ends : (input : List ℕ) → Takes left_old left_new input → length input ≤ most_input + 1 → DeedsHalted stop.Memory a (deeds_of (take most_input input)) now new → last ≡ now → Ends status.Memory
   memory_ends input taken few h same =
       record { input = input; taken = taken; few = few; text = h.by.0; put = same ∙ h.by.1; ends = (came_some stop.Memory input h, h.by.2, h.by.3) }
 
-  write_ends : (input : List ℕ) → Takes left_old left_new input → length input ≤ most_input + 1 → Halted stop.Write b s (deeds_of (take most_input input)) first now new → last ≡ now → Ends status.WriteFault
+  write_ends : (input : List ℕ) → Takes left_old left_new input → length input ≤ most_input + 1 → DeedsHalted stop.Write a (deeds_of (take most_input input)) now new → last ≡ now → Ends status.WriteFault
   write_ends input taken few h same =
       record {
         input = input;
@@ -129,7 +136,7 @@ module _ (b : Base) (s : Store) (before after : Outside) (now : Option (List ℕ
         ends = (came_some stop.Write input h, (status.Done, (h.by.2.0, h.by.2.1 ∙ sym (append-nil (said h.there)))), h.by.3);
       }
 
-  flash_ends : (input : List ℕ) → Takes left_old left_new input → length input ≤ most_input + 1 → Halted stop.Flash b s (deeds_of (take most_input input)) first now new → last ≡ now → Ends status.FlashFault
+  flash_ends : (input : List ℕ) → Takes left_old left_new input → length input ≤ most_input + 1 → DeedsHalted stop.Flash a (deeds_of (take most_input input)) now new → last ≡ now → Ends status.FlashFault
   flash_ends input taken few h same =
       record {
         input = input;
@@ -140,7 +147,7 @@ module _ (b : Base) (s : Store) (before after : Outside) (now : Option (List ℕ
         ends = Later (came_some stop.Flash input h) h.by.6.between h.by.0 h.by.1 h.by.2 h.by.3 h.by.4 refl h.by.6.stands h.by.6.stops;
       }
 
-  input_ends : (r : Result (Unit {0}) Stop) (v : Running) (line : Reading) (x : InputEnds r b s left_old left_new first now v line new) (answer : Status) (f g : ℕ) → TellsResult r answer now last f g → Ends answer
+  input_ends : (r : Result (Unit {0}) Stop) (v : Running) (line : Reading) (x : InputEnds r a left_old left_new (code_on_line now v line new)) (answer : Status) (f g : ℕ) → TellsResult r answer now last f g → Ends answer
   input_ends (Ok done) v line x answer f g t = subst Ends (sym t.0) (done_ends x.input x.taken x.few v line x.by.0 x.by.1 x.by.2 t.1)
   input_ends (Err stop.Read) v line x answer f g t = subst Ends (sym t.0) (read_ends x.input x.taken x.few v line x.by.0 x.by.1 t.1)
   input_ends (Err stop.TooLong) v line x answer f g t = long_ends x.input x.taken x.few v line x.by.0 x.by.1 answer f g t
@@ -162,8 +169,8 @@ module _ (b : Base) (s : Store) (before after : Outside) (now : Option (List ℕ
   none_said : (powered b s).sent ≡ [] → said (powered b s) ≡ []
   none_said e = ap (λ (sent : List Message). line_of (map frame_of sent)) e
 
-  power_lacks : FailsAtPower stop.NoImage b s left_old left_new first now new → Halted stop.NoImage b s (deeds_of (take most_input [])) first now new
-  power_lacks x =
+  power_lacks : (f : ℕ) → FailsAtPower stop.NoImage b s before (mid f) → DeedsHalted stop.NoImage a (deeds_of (take most_input [])) now new
+  power_lacks f x =
       record {
         done = [];
         rest = deeds_of (take most_input []);
@@ -173,8 +180,8 @@ module _ (b : Base) (s : Store) (before after : Outside) (now : Option (List ℕ
         by = (x.failed.none, subst (λ (text : List ℕ). Puts first now text) (sym (none_said x.silent)) (x.unwritten ∙ puts_nothing first), x.failed.stands);
       }
 
-  power_stops : FailsAtPower stop.Flash b s left_old left_new first now new → last ≡ now → Ends status.FlashFault
-  power_stops x same =
+  power_stops : (f : ℕ) → FailsAtPower stop.Flash b s before (mid f) → last ≡ now → Ends status.FlashFault
+  power_stops f x same =
       record {
         input = [];
         taken = none_taken x.unread;
@@ -184,18 +191,18 @@ module _ (b : Base) (s : Store) (before after : Outside) (now : Option (List ℕ
         ends = AtPower x.failed.between refl x.failed.stands x.failed.stops;
       }
 
-  power_ends : (why : Stop) → FailsAtPower why b s left_old left_new first now new → (answer : Status) (f g : ℕ) → TellsStop why answer now last f g → Ends answer
-  power_ends stop.NoImage x answer f g t = lack_ends [] (none_taken x.unread) (omega arith) (power_lacks x) answer f g t
-  power_ends stop.Flash x answer f g t = subst Ends (sym t.0) (power_stops x t.1)
-  power_ends stop.Memory x answer f g t = absurd x.failed
-  power_ends stop.Read x answer f g t = absurd x.failed
-  power_ends stop.Write x answer f g t = absurd x.failed
-  power_ends stop.NotAVolume x answer f g t = absurd x.failed
-  power_ends stop.TooLong x answer f g t = absurd x.failed
+  power_ends : (why : Stop) (f : ℕ) → FailsAtPower why b s before (mid f) → (answer : Status) (g : ℕ) → TellsStop why answer now last f g → Ends answer
+  power_ends stop.NoImage f x answer g t = lack_ends [] (none_taken x.unread) (omega arith) (power_lacks f x) answer f g t
+  power_ends stop.Flash f x answer g t = subst Ends (sym t.0) (power_stops f x t.1)
+  power_ends stop.Memory f x answer g t = absurd x.failed
+  power_ends stop.Read f x answer g t = absurd x.failed
+  power_ends stop.Write f x answer g t = absurd x.failed
+  power_ends stop.NotAVolume f x answer g t = absurd x.failed
+  power_ends stop.TooLong f x answer g t = absurd x.failed
 
-  pub line_ends : (r : Result (Unit {0}) Stop) (answer : Status) (f g : ℕ) → LineEnds r b s left_old left_new first now new → TellsResult r answer now last f g → Ends answer
+  pub line_ends : (r : Result (Unit {0}) Stop) (answer : Status) (f g : ℕ) → LineEnds r b s before (mid f) → TellsResult r answer now last f g → Ends answer
   line_ends (Ok x) answer f g l t = input_ends (Ok x) l.mote l.reading l.ends answer f g t
-  line_ends (Err why) answer f g (inl x) t = power_ends why x answer f g t
+  line_ends (Err why) answer f g (inl x) t = power_ends why f x answer g t
   line_ends (Err why) answer f g (inr l) t = input_ends (Err why) l.mote l.reading l.ends answer f g t
 
 -- ---- counts
@@ -241,7 +248,7 @@ write_causes before after reads rose le calm =
 
 -- a last line
 last_causes : (answer wanted : Status) (line : List ℕ) (before after : Outside) (now : Option (List ℕ)) (mid : ℕ) → wanted ≢ status.ReadFault → wanted ≢ status.WriteFault → wanted ≢ status.FlashFault → after.reads ≡ before.reads
-    → mid ≡ before.writes → Calm before.chip after.chip → Tells answer wanted line now after.written mid after.writes → Causes answer before after
+    → mid ≡ before.writes → Calm before.chip after.chip → TellsStatus answer wanted line now after.written mid after.writes → Causes answer before after
 last_causes answer wanted line before after now mid nr nw nf reads writes calm (inl x) =
     subst (λ (a : Status). Causes a before after) (sym x.0) (calm_causes wanted before after nr nw nf reads (x.2 ∙ writes) calm)
 last_causes answer wanted line before after now mid nr nw nf reads writes calm (inr x) =
@@ -273,7 +280,7 @@ line_causes (Err stop.TooLong) answer before after now mid c w r t = last_causes
 -- ---- a chip that is no volume
 
 refuses : (before after : Outside) (now : Option (List ℕ)) (f : ℕ) (answer : Status) → Looked before.chip after.chip → after.left ≡ before.left → now ≡ before.written
-    → Tells answer status.NotAVolume (closing status.NotAVolume) now after.written f after.writes → Refused answer before after
+    → TellsStatus answer status.NotAVolume (closing status.NotAVolume) now after.written f after.writes → Refused answer before after
 refuses before after now f answer looked unread same (inl x) =
     subst (λ (a : Status). Refused a before after) (sym x.0)
     (record {
@@ -287,7 +294,7 @@ refuses before after now f answer looked unread same (inr x) =
     subst (λ (a : Status). Refused a before after) (sym x.0)
     (record { unread = unread; text = y.text; put = y.put; ends = (y.front, looked) })
 
-pub line_refused : (r : Result (Unit {0}) Stop) (answer : Status) (before after : Outside) (now : Option (List ℕ)) (f : ℕ) → LineRefused r before.left after.left before.written now before.chip after.chip
+pub line_refused : (r : Result (Unit {0}) Stop) (answer : Status) (before after : Outside) (now : Option (List ℕ)) (f : ℕ) → LineRefused r before (record after { written = now; writes = f })
     → TellsResult r answer now after.written f after.writes → Refused answer before after
 line_refused (Ok x) answer before after now f l t = absurd l
 line_refused (Err stop.NotAVolume) answer before after now f l t = refuses before after now f answer l.0 l.1 l.2 t

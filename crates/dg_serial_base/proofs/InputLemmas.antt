@@ -6,11 +6,8 @@ use Rattle.dg_base.specs.Outside.{Takes, AtEnd}
 use Rattle.dg_base.specs.Sizes.{most_input}
 use Rattle.dg_base.proofs.OutsideLemmas.{Takes-join}
 use Rattle.dg_nor.specs.Device.{Device}
-use Rattle.dg_volume.specs.Store.{Store}
-use Rattle.dg_serial.specs.Reading.{Reading}
-use Rattle.dg_serial_base.specs.Deeds.{Base, deeds_of}
-use Rattle.dg_serial_base.specs.Standing.{Calm, Counts, WriteCounts, Halted, Played, PieceRead, PieceHalted, PieceFails, LastEnds, Consumed, InputBy, InputEnds}
-use Rattle.dg_serial_base.specs.declared.running.Running.{Running}
+use Rattle.dg_serial_base.specs.Deeds.{deeds_of}
+use Rattle.dg_serial_base.specs.Standing.{Calm, Counts, Outset, LineAt, WriteCounts, DeedsHalted, Played, PieceRead, PieceHalted, PieceFails, LastEnds, Consumed, InputBy, InputEnds}
 use Rattle.dg_serial_base.specs.declared.stop.Stop.{Stop}
 use Rattle.dg_serial_base.specs.declared.stop.Stop.TheVariants as stop
 use Rattle.dg_serial_base.proofs.PlayLemmas.{played_along}
@@ -21,46 +18,45 @@ takes_nothing (Some rest) = refl
 
 -- ---- a piece
 
-pub piece_read : (b : Base) (s : Store) (stream bytes more : List ℕ) (most count : ℕ) (left_old left_now first now : Option (List ℕ)) (v : Running) (line : Reading) (new : Device) → bytes ≡ more → Takes left_old left_now more → length more ≤ most
-    → count ≡ length more → (count ≡ 0 → AtEnd left_now) → Played b s (stream ++ bytes) first now v line new → PieceRead b s stream most count left_old left_now first now v line new
-piece_read b s stream bytes more most count left_old left_now first now v line new e taken few count_is ended p =
+pub piece_read : (a : Outset) (stream bytes more : List ℕ) (most count : ℕ) (left_old left_now : Option (List ℕ)) (now : LineAt) → bytes ≡ more → Takes left_old left_now more → length more ≤ most
+    → count ≡ length more → (count ≡ 0 → AtEnd left_now) → Played a (stream ++ bytes) now → PieceRead a stream most count left_old left_now now
+piece_read a stream bytes more most count left_old left_now now e taken few count_is ended p =
     record {
       more = more;
       taken = taken;
       few = few;
       counted = sym count_is;
-      played = played_along b s (stream ++ bytes) (stream ++ more) first now v line new (ap (λ (x : List ℕ). stream ++ x) e) p;
+      played = played_along a (stream ++ bytes) (stream ++ more) now (ap (λ (x : List ℕ). stream ++ x) e) p;
       ended = ended;
     }
 
-piece_fails : (why : Stop) (b : Base) (s : Store) (stream : List ℕ) (most : ℕ) (left_old left_now first now : Option (List ℕ)) (v : Running) (line : Reading) (new : Device) → PieceHalted why b s stream most left_old left_now first now new
-    → PieceFails why b s stream most left_old left_now first now v line new
-piece_fails stop.Read b s stream most left_old left_now first now v line new h = absurd h.halted.by
-piece_fails stop.Memory b s stream most left_old left_now first now v line new h = h
-piece_fails stop.Write b s stream most left_old left_now first now v line new h = h
-piece_fails stop.Flash b s stream most left_old left_now first now v line new h = h
-piece_fails stop.NoImage b s stream most left_old left_now first now v line new h = h
-piece_fails stop.NotAVolume b s stream most left_old left_now first now v line new h = h
-piece_fails stop.TooLong b s stream most left_old left_now first now v line new h = h
+piece_fails : (why : Stop) (a : Outset) (stream : List ℕ) (most : ℕ) (left_old left_now : Option (List ℕ)) (now : LineAt) → PieceHalted why a stream most left_old left_now now.code → PieceFails why a stream most left_old left_now now
+piece_fails stop.Read a stream most left_old left_now now h = absurd h.halted.by
+piece_fails stop.Memory a stream most left_old left_now now h = h
+piece_fails stop.Write a stream most left_old left_now now h = h
+piece_fails stop.Flash a stream most left_old left_now now h = h
+piece_fails stop.NoImage a stream most left_old left_now now h = h
+piece_fails stop.NotAVolume a stream most left_old left_now now h = h
+piece_fails stop.TooLong a stream most left_old left_now now h = h
 
-pub piece_halts : (why : Stop) (b : Base) (s : Store) (stream bytes more : List ℕ) (most : ℕ) (left_old left_now first now : Option (List ℕ)) (v : Running) (line : Reading) (new : Device) → bytes ≡ more → Takes left_old left_now more → length more ≤ most
-    → Halted why b s (deeds_of (stream ++ bytes)) first now new → PieceFails why b s stream most left_old left_now first now v line new
-piece_halts why b s stream bytes more most left_old left_now first now v line new e taken few h =
-    piece_fails why b s stream most left_old left_now first now v line new
-    (record { more = more; taken = taken; few = few; halted = subst (λ (x : List ℕ). Halted why b s (deeds_of (stream ++ x)) first now new) e h })
+pub piece_halts : (why : Stop) (a : Outset) (stream bytes more : List ℕ) (most : ℕ) (left_old left_now : Option (List ℕ)) (now : LineAt) → bytes ≡ more → Takes left_old left_now more → length more ≤ most
+    → DeedsHalted why a (deeds_of (stream ++ bytes)) now.code.written now.code.chip → PieceFails why a stream most left_old left_now now
+piece_halts why a stream bytes more most left_old left_now now e taken few h =
+    piece_fails why a stream most left_old left_now now
+    (record { more = more; taken = taken; few = few; halted = subst (λ (x : List ℕ). DeedsHalted why a (deeds_of (stream ++ x)) now.code.written now.code.chip) e h })
 
-pub piece_unread : (why : Stop) (b : Base) (s : Store) (stream more : List ℕ) (most : ℕ) (left_old left_now first now : Option (List ℕ)) (v : Running) (line : Reading) (new : Device) → why ≡ stop.Read → more ≡ [] → Takes left_old left_now more
-    → Played b s stream first now v line new → PieceFails why b s stream most left_old left_now first now v line new
-piece_unread why b s stream more most left_old left_now first now v line new is none taken p =
-    subst (λ (x : Stop). PieceFails x b s stream most left_old left_now first now v line new) (sym is) (subst (λ (x : List ℕ). Takes left_old left_now x) none taken, p)
+pub piece_unread : (why : Stop) (a : Outset) (stream more : List ℕ) (most : ℕ) (left_old left_now : Option (List ℕ)) (now : LineAt) → why ≡ stop.Read → more ≡ [] → Takes left_old left_now more
+    → Played a stream now → PieceFails why a stream most left_old left_now now
+piece_unread why a stream more most left_old left_now now is none taken p =
+    subst (λ (x : Stop). PieceFails x a stream most left_old left_now now) (sym is) (subst (λ (x : List ℕ). Takes left_old left_now x) none taken, p)
 
 -- ---- pieces one behind the other
 
-pub consumed_none : (b : Base) (s : Store) (left first : Option (List ℕ)) (now : Option (List ℕ)) (v : Running) (line : Reading) (new : Device) → Played b s [] first now v line new → Consumed b s 0 left left first now v line new
-consumed_none b s left first now v line new p = record { stream = []; counted = refl; taken = takes_nothing left; played = p }
+pub consumed_none : (a : Outset) (left : Option (List ℕ)) (now : LineAt) → Played a [] now → Consumed a 0 left left now
+consumed_none a left now p = record { stream = []; counted = refl; taken = takes_nothing left; played = p }
 
-module _ (b : Base) (s : Store) (used : ℕ) (left_old left_mid left_now first mid now : Option (List ℕ)) (v u : Running) (before line : Reading) (old new : Device) (c : Consumed b s used left_old left_mid first mid v before old) where
-  pub consumed_more : (most count : ℕ) → PieceRead b s c.stream most count left_mid left_now first now u line new → Consumed b s (used + count) left_old left_now first now u line new
+module _ (a : Outset) (used : ℕ) (left_old left_mid left_now : Option (List ℕ)) (mid now : LineAt) (c : Consumed a used left_old left_mid mid) where
+  pub consumed_more : (most count : ℕ) → PieceRead a c.stream most count left_mid left_now now → Consumed a (used + count) left_old left_now now
   consumed_more most count x =
       record {
         stream = c.stream ++ x.more;
@@ -69,11 +65,11 @@ module _ (b : Base) (s : Store) (used : ℕ) (left_old left_mid left_now first m
         played = x.played;
       }
 
-  used_all : (input : List ℕ) → length input ≤ most_input → Played b s input first now u line new → Played b s (take most_input input) first now u line new
-  used_all input few p = played_along b s input (take most_input input) first now u line new (sym (take_all most_input input few)) p
+  used_all : (input : List ℕ) → length input ≤ most_input → Played a input now → Played a (take most_input input) now
+  used_all input few p = played_along a input (take most_input input) now (sym (take_all most_input input few)) p
 
   -- no byte came
-  pub input_ends : (count : ℕ) → count ≡ 0 → used ≤ most_input → PieceRead b s c.stream (most_input - used) count left_mid left_now first now u line new → InputEnds (Ok tt) b s left_old left_now first now u line new
+  pub input_ends : (count : ℕ) → count ≡ 0 → used ≤ most_input → PieceRead a c.stream (most_input - used) count left_mid left_now now → InputEnds (Ok tt) a left_old left_now now
   input_ends count none le x =
       let whole : List ℕ = c.stream ++ x.more in
       let few : length whole ≤ most_input = omega (arith, length-append c.stream x.more, c.counted, x.counted, none, le) in
@@ -84,11 +80,11 @@ module _ (b : Base) (s : Store) (used : ℕ) (left_old left_mid left_now first m
         by = (used_all whole few x.played, x.ended none, few);
       }
 
-  halted_all : (why : Stop) (input : List ℕ) → length input ≤ most_input → Halted why b s (deeds_of input) first now new → Halted why b s (deeds_of (take most_input input)) first now new
-  halted_all why input few h = subst (λ (x : List ℕ). Halted why b s (deeds_of x) first now new) (sym (take_all most_input input few)) h
+  halted_all : (why : Stop) (input : List ℕ) → length input ≤ most_input → DeedsHalted why a (deeds_of input) now.code.written now.code.chip → DeedsHalted why a (deeds_of (take most_input input)) now.code.written now.code.chip
+  halted_all why input few h = subst (λ (x : List ℕ). DeedsHalted why a (deeds_of x) now.code.written now.code.chip) (sym (take_all most_input input few)) h
 
-  input_halts : (why : Stop) → ((input : List ℕ) → Halted why b s (deeds_of (take most_input input)) first now new → InputBy (Err why) b s input left_now first now u line new) → used ≤ most_input
-      → PieceHalted why b s c.stream (most_input - used) left_mid left_now first now new → InputEnds (Err why) b s left_old left_now first now u line new
+  input_halts : (why : Stop) → ((input : List ℕ) → DeedsHalted why a (deeds_of (take most_input input)) now.code.written now.code.chip → InputBy (Err why) a input left_now now) → used ≤ most_input
+      → PieceHalted why a c.stream (most_input - used) left_mid left_now now.code → InputEnds (Err why) a left_old left_now now
   input_halts why by le x =
       let whole : List ℕ = c.stream ++ x.more in
       let few : length whole ≤ most_input = omega (arith, length-append c.stream x.more, c.counted, x.few, le) in
@@ -99,7 +95,7 @@ module _ (b : Base) (s : Store) (used : ℕ) (left_old left_mid left_now first m
         by = by whole (halted_all why whole few x.halted);
       }
 
-  pub input_fails : (why : Stop) → used ≤ most_input → PieceFails why b s c.stream (most_input - used) left_mid left_now first now u line new → InputEnds (Err why) b s left_old left_now first now u line new
+  pub input_fails : (why : Stop) → used ≤ most_input → PieceFails why a c.stream (most_input - used) left_mid left_now now → InputEnds (Err why) a left_old left_now now
   input_fails stop.Read le x =
       let whole : List ℕ = c.stream ++ [] in
       let few : length whole ≤ most_input = omega (arith, length-append c.stream [], c.counted, le) in
@@ -107,7 +103,7 @@ module _ (b : Base) (s : Store) (used : ℕ) (left_old left_mid left_now first m
         input = whole;
         taken = Takes-join left_old left_mid left_now c.stream [] c.taken x.0;
         few = omega (arith, few);
-        by = (used_all whole few (played_along b s c.stream whole first now u line new (sym (append-nil c.stream)) x.1), few);
+        by = (used_all whole few (played_along a c.stream whole now (sym (append-nil c.stream)) x.1), few);
       }
   input_fails stop.Memory le x = input_halts stop.Memory (λ input h. h) le x
   input_fails stop.Write le x = input_halts stop.Write (λ input h. h) le x
@@ -116,18 +112,18 @@ module _ (b : Base) (s : Store) (used : ℕ) (left_old left_mid left_now first m
   input_fails stop.NotAVolume le x = absurd x.halted.by
   input_fails stop.TooLong le x = absurd x.halted.by
 
-module _ (b : Base) (s : Store) (left_old left_mid left_now first now : Option (List ℕ)) (v : Running) (line : Reading) (new : Device) (c : Consumed b s most_input left_old left_mid first now v line new) where
+module _ (a : Outset) (left_old left_mid left_now : Option (List ℕ)) (now : LineAt) (c : Consumed a most_input left_old left_mid now) where
   used_whole : (more : List ℕ) → take most_input (c.stream ++ more) ≡ c.stream
   used_whole more =
       let le : most_input ≤ length c.stream = omega (arith, c.counted) in
       let all : length c.stream ≤ most_input = omega (arith, c.counted) in
       take-append-le most_input c.stream more le ∙ take_all most_input c.stream all
 
-  played_whole : (more : List ℕ) → Played b s (take most_input (c.stream ++ more)) first now v line new
-  played_whole more = played_along b s c.stream (take most_input (c.stream ++ more)) first now v line new (sym (used_whole more)) c.played
+  played_whole : (more : List ℕ) → Played a (take most_input (c.stream ++ more)) now
+  played_whole more = played_along a c.stream (take most_input (c.stream ++ more)) now (sym (used_whole more)) c.played
 
   -- the bytes that are used were all played, and what stands behind them was looked for
-  pub last_ends : (r : Result (Unit {0}) Stop) → LastEnds r left_mid left_now → InputEnds r b s left_old left_now first now v line new
+  pub last_ends : (r : Result (Unit {0}) Stop) → LastEnds r left_mid left_now → InputEnds r a left_old left_now now
   last_ends (Ok x) l =
       let few : length (c.stream ++ []) ≤ most_input = omega (arith, length-append c.stream [], c.counted) in
       record { input = c.stream ++ []; taken = Takes-join left_old left_mid left_now c.stream [] c.taken l.0; few = omega (arith, few); by = (played_whole [], l.1, few) }

@@ -8,8 +8,7 @@ use Rattle.dg_serial.specs.Line.{line_of}
 use Rattle.dg_serial.specs.Reading.{Reading, told, Feeds}
 use Rattle.dg_serial.specs.declared.unstuffing.Fed.{Fed}
 use Rattle.dg_serial_base.specs.Deeds.{Base, At, Deed, Ticks, deeds_of_items, deeds_of}
-use Rattle.dg_serial_base.specs.Standing.{Calm, CountsBy, Counts, WritesBy, ReadsBy, ReadCounts, one_if, DoneOne, DeedFails, SendFails, SendEnds, Halted, WentOn, GoesEnds, Played, PlayEnds}
-use Rattle.dg_serial_base.specs.declared.running.Running.{Running}
+use Rattle.dg_serial_base.specs.Standing.{Calm, CountsBy, Counts, Outset, CodeAt, code_at, LineAt, DeedLeft, WritesBy, ReadsBy, ReadCounts, one_if, DoneOne, DeedFails, SendFails, SendEnds, DeedsHalted, WentOn, GoesEnds, Played, PlayEnds}
 use Rattle.dg_serial_base.specs.declared.stop.Stop.{Stop}
 use Rattle.dg_serial_base.specs.declared.stop.Stop.TheVariants as stop
 use Rattle.dg_serial_base.proofs.DeedLemmas.{sent_goes, send_fails}
@@ -17,10 +16,10 @@ use Rattle.dg_serial_base.proofs.LineLemmas.{GoOn, went_along, halted_along, dee
 
 -- ---- a tick
 
-pub pass_goes : (r : Result (Unit {0}) Stop) (b : Base) (s : Store) (done : List Deed) (first old now : Option (List ℕ)) (v u : Running) (a new : Device) (frame : Option (List ℕ)) (went : WentOn b s done first old v a)
-    → DoneOne b s done Ticks went.there u new.image frame → SendEnds r (line_of (one_if frame)) old now → GoesEnds r b s (done ++ Ticks ∷ []) first now u new
-pass_goes (Ok x) b s done first old now v u a new frame went one w = sent_goes b s done Ticks went.there first old now went.put u new frame one w
-pass_goes (Err why) b s done first old now v u a new frame went one w = send_fails b s done Ticks went.there first old now went.put why u new frame one w
+pub pass_goes : (r : Result (Unit {0}) Stop) (a : Outset) (done : List Deed) (old : CodeAt) (now : Option (List ℕ)) (left : DeedLeft) (went : WentOn a done old)
+    → DoneOne a.base a.store done Ticks went.there left → SendEnds r (line_of (one_if left.frame)) old.written now → GoesEnds r a (done ++ Ticks ∷ []) (code_at now left.mote left.chip)
+pass_goes (Ok x) a done old now left went one w = sent_goes a done Ticks went.there old.written now went.put left one w
+pass_goes (Err why) a done old now left went one w = send_fails a done Ticks went.there old.written now went.put why left one w
 
 -- a write stops no chip
 send_calm : (why : Stop) (text : List ℕ) (before now : Option (List ℕ)) (a b : Device) → Calm a b → SendFails why text before now → CountsBy why a b
@@ -71,15 +70,15 @@ send_reads (Err why) text before now n w = send_unread why text before now n w
 
 -- ---- a byte
 
-pub byte_goes : (r : Result (Unit {0}) Stop) (b : Base) (s : Store) (stream : List ℕ) (byte : ℕ) (first now : Option (List ℕ)) (u : Running) (before line : Reading) (new : Device) (fed : Fed) → Feeds stream byte fed before → line ≡ before
-    → GoesEnds r b s (deeds_of stream ++ deeds_of_items (told fed)) first now u new → PlayEnds r b s (stream ++ byte ∷ []) first now u line new
-byte_goes (Ok x) b s stream byte first now u before line new fed f l g =
-    record { line = l ∙ f.behind; went = went_along b s (deeds_of stream ++ deeds_of_items (told fed)) (deeds_of (stream ++ byte ∷ [])) first now u new (deeds_longer stream byte fed before f) g }
-byte_goes (Err why) b s stream byte first now u before line new fed f l g =
-    halted_along why b s (deeds_of stream ++ deeds_of_items (told fed)) (deeds_of (stream ++ byte ∷ [])) first now new (deeds_longer stream byte fed before f) g
+pub byte_goes : (r : Result (Unit {0}) Stop) (a : Outset) (stream : List ℕ) (byte : ℕ) (now : LineAt) (before : Reading) (fed : Fed) → Feeds stream byte fed before → now.reading ≡ before
+    → GoesEnds r a (deeds_of stream ++ deeds_of_items (told fed)) now.code → PlayEnds r a (stream ++ byte ∷ []) now
+byte_goes (Ok x) a stream byte now before fed f l g =
+    record { line = l ∙ f.behind; went = went_along a (deeds_of stream ++ deeds_of_items (told fed)) (deeds_of (stream ++ byte ∷ [])) now.code (deeds_longer stream byte fed before f) g }
+byte_goes (Err why) a stream byte now before fed f l g =
+    halted_along why a (deeds_of stream ++ deeds_of_items (told fed)) (deeds_of (stream ++ byte ∷ [])) now.code.written now.code.chip (deeds_longer stream byte fed before f) g
 
-pub played_along : (b : Base) (s : Store) (x y : List ℕ) (first now : Option (List ℕ)) (v : Running) (line : Reading) (new : Device) → x ≡ y → Played b s x first now v line new → Played b s y first now v line new
-played_along b s x y first now v line new e p = subst (λ (stream : List ℕ). Played b s stream first now v line new) e p
+pub played_along : (a : Outset) (x y : List ℕ) (now : LineAt) → x ≡ y → Played a x now → Played a y now
+played_along a x y now e p = subst (λ (stream : List ℕ). Played a stream now) e p
 
 -- ---- bytes one after the other
 
@@ -89,8 +88,8 @@ next_byte stream bytes i lt = append_assoc stream (take i bytes) (get_or bytes i
 pub front_bytes : (stream bytes : List ℕ) (i : ℕ) → (stream ++ take i bytes) ++ drop i bytes ≡ stream ++ bytes
 front_bytes stream bytes i = append_assoc stream (take i bytes) (drop i bytes) ∙ ap (λ (xs : List ℕ). stream ++ xs) (take-append-drop i bytes)
 
-pub halted_bytes : GoOn → (why : Stop) (b : Base) (s : Store) (stream bytes : List ℕ) (i : ℕ) (first now : Option (List ℕ)) (new : Device) → i < length bytes
-    → Halted why b s (deeds_of ((stream ++ take i bytes) ++ get_or bytes i 0 ∷ [])) first now new → Halted why b s (deeds_of (stream ++ bytes)) first now new
-halted_bytes law why b s stream bytes i first now new lt h =
-    halted_front law why b s (stream ++ take (i + 1) bytes) (drop (i + 1) bytes) (stream ++ bytes) first now new (front_bytes stream bytes (i + 1))
-    (subst (λ (x : List ℕ). Halted why b s (deeds_of x) first now new) (next_byte stream bytes i lt) h)
+pub halted_bytes : GoOn → (why : Stop) (a : Outset) (stream bytes : List ℕ) (i : ℕ) (now : Option (List ℕ)) (new : Device) → i < length bytes
+    → DeedsHalted why a (deeds_of ((stream ++ take i bytes) ++ get_or bytes i 0 ∷ [])) now new → DeedsHalted why a (deeds_of (stream ++ bytes)) now new
+halted_bytes law why a stream bytes i now new lt h =
+    halted_front law why a (stream ++ take (i + 1) bytes) (drop (i + 1) bytes) (stream ++ bytes) now new (front_bytes stream bytes (i + 1))
+    (subst (λ (x : List ℕ). DeedsHalted why a (deeds_of x) now new) (next_byte stream bytes i lt) h)

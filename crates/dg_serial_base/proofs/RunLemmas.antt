@@ -7,16 +7,16 @@ use Rattle.dg_frame.specs.Spelling.{frame_of}
 use Rattle.dg_frame.specs.declared.Message.{Message}
 use Rattle.dg_mote.specs.Model.{MoteState}
 use Rattle.dg_serial.specs.Line.{Item, line_of, stuffed}
-use Rattle.dg_serial_base.specs.Deeds.{Base, At, Deed, deeds_of_item, deeds_of_items, after, sent_too, Runs}
+use Rattle.dg_serial_base.specs.Deeds.{Base, At, Deed, deeds_of_item, deeds_of_items, after_deed, sent_too, DeedsRun}
 use Rattle.dg_serial_base.specs.Standing.{one_if}
 
-pub run_goes : (b : Base) (ds : List Deed) (a y : At) (d : Deed) (m : MoteState) → Runs b a ds y → y.mote ≡ Some m → Runs b a (ds ++ d ∷ []) (after b m y d)
-unfolding Runs
-run_goes b [] a y d m r on = (m, ap (λ (x : At). x.mote) (sym r) ∙ on, ap (λ (x : At). after b m x d) r)
-run_goes b (e ∷ ds) a y d m r on = (r.0, r.1, run_goes b ds (after b r.0 a e) y d m r.2 on)
+pub run_goes : (b : Base) (ds : List Deed) (a y : At) (d : Deed) (m : MoteState) → DeedsRun b a ds y → y.mote ≡ Some m → DeedsRun b a (ds ++ d ∷ []) (after_deed b m y d)
+unfolding DeedsRun
+run_goes b [] a y d m r on = (m, ap (λ (x : At). x.mote) (sym r) ∙ on, ap (λ (x : At). after_deed b m x d) r)
+run_goes b (e ∷ ds) a y d m r on = (r.0, r.1, run_goes b ds (after_deed b r.0 a e) y d m r.2 on)
 
-pub run_rests : (b : Base) (a : At) → Runs b a [] a
-unfolding Runs
+pub run_rests : (b : Base) (a : At) → DeedsRun b a [] a
+unfolding DeedsRun
 run_rests b a = refl
 
 pub deeds_goes : (xs ys : List Item) → deeds_of_items (xs ++ ys) ≡ deeds_of_items xs ++ deeds_of_items ys

@@ -14,7 +14,7 @@ use Rattle.dg_volume.proofs.BeginLemmas.{boot_begins}
 use Rattle.dg_frame.specs.Spelling.{frame_of}
 use Rattle.dg_boot.specs.Started.{Starts, Lacks}
 use Rattle.dg_boot.specs.declared.Started.{Started}
-use Rattle.dg_mote.specs.Model.{MoteState, Turn, begun}
+use Rattle.dg_mote.specs.Model.{MoteState, Turn, begun_mote}
 use Rattle.dg_mote.specs.Ticks.{tick_of}
 use Rattle.dg_mote.specs.Hears.{heard_of}
 use Rattle.dg_mote.specs.Effects.{Effect, boot_by, boots, on, tick_by, tick_effect, frame_effect, reset_effect}
@@ -66,11 +66,11 @@ module _ (k : Kind) (s : Store) (id : ℕ) (wide : Bool) (now word : ℕ) where
   abbrev starts : Option Runs → Effect
   starts o = boot_by o t id wide now word
 
-  pub started : (a b : Device) (told : Started) (v : Mote) → Starts (boot k s) a b told → IsMote b.image v (begun id wide now word) (last t) → Timely (begun id wide now word) now
+  pub started : (a b : Device) (told : Started) (v : Mote) → Starts (boot k s) a b told → IsMote b.image v (begun_mote id wide now word) (last t) → Timely (begun_mote id wide now word) now
       → IsLeft (boots k s id wide now word) b.image v now
   started a b told v g is timely =
       subst (λ (e : Effect). IsLeft e b.image v now) (sym (ap starts g.chosen))
-      (record { state = begun id wide now word; on = refl; mote = is; timely = timely })
+      (record { state = begun_mote id wide now word; on = refl; mote = is; timely = timely })
 
   pub start_lacks : (a b : Device) → Lacks (boot k s) a b → LeavesNone (boots k s id wide now word) b.image
   start_lacks a b l =

@@ -11,7 +11,7 @@ use Rattle.dg_volume.specs.Store.{Store}
 use Rattle.dg_volume.specs.Stands.{Stands}
 use Rattle.dg_volume.specs.Acts.{Stops}
 use Rattle.dg_mote.specs.Model.{MoteState}
-use Rattle.dg_serial_base.specs.Deeds.{Base, At, Deed, deeds_of, powered, power_effect, effect_of, Runs, said}
+use Rattle.dg_serial_base.specs.Deeds.{Base, At, Deed, deeds_of, powered, power_effect, effect_of, DeedsRun, said}
 
 -- What is outside of a base mote, before it or behind it: the bytes that are left to be read, what was written, the counts of
 -- failed reads and writes, and the chip.
@@ -21,6 +21,10 @@ pub record Outside : Type 0 where
   pub written : Option (List ℕ)
   pub writes : ℕ
   pub chip : Device
+
+abbrev pub outside_base : (left : Option (List ℕ)) (reads : ℕ) (written : Option (List ℕ)) (writes : ℕ) (chip : Device) → Outside
+outside_base left reads written writes chip =
+    record { left = left; reads = reads; written = written; writes = writes; chip = chip }
 
 -- the last line of a status
 abbrev pub closing : Status → List ℕ
@@ -35,24 +39,26 @@ IsFront front whole = (more : List ℕ) × (front ++ more ≡ whole)
 abbrev pub IsOn : At → Type 0
 IsOn a = (m : MoteState) × (a.mote ≡ Some m)
 
--- From a chip that stood for s, by the rules: what happened to the mote, what was left of the items of the bytes that were taken, and where
--- the mote stands then. No byte but the first 16,777,216 is used.
+-- From a chip that stood for s, by the rules: what happened to the mote, what was left of the items of the bytes that were
+-- taken, and where the mote stands then. No byte but the first 16,777,216 is used.
 pub record Came (b : Base) (s : Store) (input : List ℕ) : Type 0 where
   pub done : List Deed
   pub rest : List Deed
   pub parts : done ++ rest ≡ deeds_of (take most_input input)
   pub there : At
-  pub run : Runs b (powered b s) done there
+  pub run : DeedsRun b (powered b s) done there
 
 -- All items were played.
 abbrev pub PlayedAll : {b : Base} {s : Store} {input : List ℕ} → Came b s input → Type 0
 PlayedAll c = (c.rest ≡ []) × IsOn c.there
 
 -- what was written, by the status
-abbrev pub WroteBy : Status → {b : Base} {s : Store} {input : List ℕ} → Came b s input → (text : List ℕ) → (left : Option (List ℕ)) → Type 0
+abbrev pub WroteBy : Status → {b : Base} {s : Store} {input : List ℕ} → Came b s input → (text : List ℕ)
+    → (left : Option (List ℕ)) → Type 0
 WroteBy status.Done {b} {s} {input} c text left = PlayedAll c × (text ≡ said c.there) × AtEnd left × (length input ≤ most_input)
 WroteBy status.ReadFault {b} {s} {input} c text left = PlayedAll c × (text ≡ said c.there) × (length input ≤ most_input)
-WroteBy status.TooLong {b} {s} {input} c text left = PlayedAll c × (text ≡ said c.there ++ closing status.TooLong) × (most_input < length input)
+WroteBy status.TooLong {b} {s} {input} c text left =
+    PlayedAll c × (text ≡ said c.there ++ closing status.TooLong) × (most_input < length input)
 WroteBy status.NoImage {b} {s} {input} c text left = (c.there.mote ≡ None) × (text ≡ said c.there ++ closing status.NoImage)
 WroteBy status.Memory {b} {s} {input} c text left = IsFront text (said c.there)
 WroteBy status.WriteFault {b} {s} {input} c text left = (answer : Status) × IsFront text (said c.there ++ closing answer)
@@ -60,13 +66,17 @@ WroteBy answer {b} {s} {input} c text left = ⊥
 
 -- The chip stopped as the power came, or in the next deed.
 pub data FlashStopped (b : Base) (s : Store) (input text : List ℕ) (old new : Device) : Type 0 where
-  AtPower : (between : Device) → text ≡ [] → Stands between.image s → Stops (power_effect b s).trail between new → FlashStopped b s input text old new
-  Later : (c : Came b s input) (between : Device) (m : MoteState) (d : Deed) (more : List Deed) → c.there.mote ≡ Some m → c.rest ≡ d ∷ more → text ≡ said c.there
-      → Stands between.image c.there.store → Stops (effect_of b m c.there d).trail between new → FlashStopped b s input text old new
+  AtPower : (between : Device) → text ≡ [] → Stands between.image s → Stops (power_effect b s).trail between new
+      → FlashStopped b s input text old new
+  Later : (c : Came b s input) (between : Device) (m : MoteState) (d : Deed) (more : List Deed) → c.there.mote ≡ Some m
+      → c.rest ≡ d ∷ more → text ≡ said c.there
+      → Stands between.image c.there.store → Stops (effect_of b m c.there d).trail between new
+      → FlashStopped b s input text old new
 
-abbrev pub EndsBy : Status → (b : Base) (s : Store) (input text : List ℕ) (left : Option (List ℕ)) (old new : Device) → Type 0
-EndsBy status.FlashFault b s input text left old new = FlashStopped b s input text old new
-EndsBy answer b s input text left old new = (c : Came b s input) × WroteBy answer c text left × Stands new.image c.there.store
+abbrev pub EndsBy : Status → (b : Base) (s : Store) (input text : List ℕ) (before now : Outside) → Type 0
+EndsBy status.FlashFault b s input text before now = FlashStopped b s input text before.chip now.chip
+EndsBy answer b s input text before now =
+    (c : Came b s input) × WroteBy answer c text now.left × Stands now.chip.image c.there.store
 
 -- What a base mote did from a chip that stood for s. Some bytes were taken from the source, and some written to the sink, where
 -- they are told.
@@ -76,7 +86,7 @@ pub record Based (answer : Status) (b : Base) (s : Store) (before now : Outside)
   pub few : length input ≤ most_input + 1
   pub text : List ℕ
   pub put : Puts before.written now.written text
-  pub ends : EndsBy answer b s input text now.left before.chip now.chip
+  pub ends : EndsBy answer b s input text before now
 
 -- what it answers where the chip is no volume
 abbrev pub RefusedBy : Status → (text : List ℕ) → (old new : Device) → Type 0

@@ -10,7 +10,7 @@ use Rattle.dg_volume.specs.Store.{Store}
 use Rattle.dg_mote.specs.Model.{MoteState}
 use Rattle.dg_mote.specs.Effects.{Effect}
 use Rattle.dg_mote.specs.Consistency.{ChipIsConsistent}
-use Rattle.dg_serial_base.specs.Deeds.{Base, At, Deed, deeds_of, powered, power_effect, effect_of, after}
+use Rattle.dg_serial_base.specs.Deeds.{Base, At, Deed, deeds_of, powered, power_effect, effect_of, after_deed}
 
 -- what an event starts, if anything, is golden byte for byte, or pages that fit the descriptor before them
 abbrev pub StartsSound : Row → Effect → Type 0
@@ -19,7 +19,8 @@ StartsSound golden e = IfSome e.started (λ r. IsSoundApp golden (app_of r))
 -- so does each of these deeds, one behind the other
 unfoldable pub AllStartSound : Row → Base → At → List Deed → Type 0
 AllStartSound golden b a [] = Unit {0}
-AllStartSound golden b a (d ∷ ds) = (m : MoteState) → a.mote ≡ Some m → StartsSound golden (effect_of b m a d) × AllStartSound golden b (after b m a d) ds
+AllStartSound golden b a (d ∷ ds) =
+    (m : MoteState) → a.mote ≡ Some m → StartsSound golden (effect_of b m a d) × AllStartSound golden b (after_deed b m a d) ds
 
 -- From a chip that stood for s, however the line ended: what the power and the deeds of the input start is sound, no start
 -- lacked an image, and the chip stands for a consistent store.

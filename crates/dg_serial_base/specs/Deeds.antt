@@ -1,4 +1,5 @@
--- What happens to a base mote: its power comes, and then for each item of its line it hears the frame, if the item is one, and ticks.
+-- What happens to a base mote: its power comes, and then for each item of its line it hears the frame, if the item is one,
+-- and ticks.
 use Rattle.std.specs.Prelude.{◌≡◌, ℕ, suc, ◌*◌, true, List, [], ◌∷◌, ◌++◌, map, Option, Some, None}
 use Rattle.std.specs.List.{flat_map}
 use Rattle.dg_nor.specs.Trail.{last}
@@ -44,36 +45,36 @@ pub record At : Type 0 where
 abbrev pub moment_at : Base → ℕ → ℕ
 moment_at b events = b.step * suc events
 
-abbrev pub word_at : Base → ℕ → ℕ
-word_at b events = word_of b.seed events
+abbrev pub drawn_word_at : Base → ℕ → ℕ
+drawn_word_at b events = word_of b.seed events
 
 abbrev pub sent_too : List Message → Option Message → List Message
 sent_too sent None = sent
 sent_too sent (Some message) = sent ++ message ∷ []
 
 -- behind an event of this effect
-abbrev pub behind : Effect → (events : ℕ) → (sent : List Message) → At
-behind e events sent = record { mote = e.mote; store = last e.trail; events = suc events; sent = sent_too sent e.sent }
+abbrev pub behind_event : Effect → (events : ℕ) → (sent : List Message) → At
+behind_event e events sent = record { mote = e.mote; store = last e.trail; events = suc events; sent = sent_too sent e.sent }
 
 -- the power comes, in the first event
 abbrev pub power_effect : Base → Store → Effect
-power_effect b s = reset_effect s b.id true (moment_at b 0) (word_at b 0)
+power_effect b s = reset_effect s b.id true (moment_at b 0) (drawn_word_at b 0)
 
 abbrev pub powered : Base → Store → At
-powered b s = behind (power_effect b s) 0 []
+powered b s = behind_event (power_effect b s) 0 []
 
 -- what a deed does to a mote that stands there
 abbrev pub effect_of : Base → MoteState → At → Deed → Effect
-effect_of b m a (Hears bytes) = frame_effect m a.store (moment_at b a.events) (word_at b a.events) bytes
-effect_of b m a Ticks = tick_effect m a.store (moment_at b a.events) (word_at b a.events)
+effect_of b m a (Hears bytes) = frame_effect m a.store (moment_at b a.events) (drawn_word_at b a.events) bytes
+effect_of b m a Ticks = tick_effect m a.store (moment_at b a.events) (drawn_word_at b a.events)
 
-abbrev pub after : Base → MoteState → At → Deed → At
-after b m a d = behind (effect_of b m a d) a.events a.sent
+abbrev pub after_deed : Base → MoteState → At → Deed → At
+after_deed b m a d = behind_event (effect_of b m a d) a.events a.sent
 
 -- these happen, one behind the other, and the mote is on before each
-unfoldable pub Runs : Base → At → List Deed → At → Type 0
-Runs b a [] z = z ≡ a
-Runs b a (d ∷ ds) z = (m : MoteState) × (a.mote ≡ Some m) × Runs b (after b m a d) ds z
+unfoldable pub DeedsRun : Base → At → List Deed → At → Type 0
+DeedsRun b a [] z = z ≡ a
+DeedsRun b a (d ∷ ds) z = (m : MoteState) × (a.mote ≡ Some m) × DeedsRun b (after_deed b m a d) ds z
 
 -- what stands on the line of a mote that sent this: the frames of its messages, stuffed, in order
 abbrev pub said : At → List ℕ

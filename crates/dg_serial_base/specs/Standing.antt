@@ -1,5 +1,6 @@
 -- Where the code of a base mote stands, and how its calls go on from there.
-use Rattle.std.specs.Prelude.{◌≡◌, ◌⊎◌, ℕ, ◌+◌, ◌*◌, ◌<◌, ◌≤◌, true, List, [], ◌∷◌, ◌++◌, length, take, map, Option, Some, None, Result, Ok, Err}
+use Rattle.std.specs.Prelude.{◌≡◌, ◌⊎◌, ℕ, ◌+◌, ◌*◌, ◌<◌, ◌≤◌, true, List, [], ◌∷◌, ◌++◌, length, take, map, Option, Some, None}
+use Rattle.std.specs.Prelude.{Result, Ok, Err}
 use Rattle.dg_words.specs.Counts.{Rose}
 use Rattle.dg_base.specs.Outside.{Takes, Puts, PutsFront, AtEnd}
 use Rattle.dg_base.specs.Sizes.{most_input}
@@ -17,7 +18,7 @@ use Rattle.dg_mote.specs.Timely.{Timely}
 use Rattle.dg_mote.specs.declared.mote.Mote.{Mote}
 use Rattle.dg_seed.specs.Words.{generator_of, generator_after}
 use Rattle.dg_serial.specs.Reading.{Reading, reading_behind}
-use Rattle.dg_serial_base.specs.Deeds.{Base, At, Deed, deeds_of, powered, power_effect, effect_of, Runs, said}
+use Rattle.dg_serial_base.specs.Deeds.{Base, At, Deed, deeds_of, powered, power_effect, effect_of, DeedsRun, said}
 use Rattle.dg_serial_base.specs.Based.{IsFront}
 use Rattle.dg_serial_base.specs.declared.timeline.Timeline.{Timeline}
 use Rattle.dg_serial_base.specs.declared.running.Running.{Running}
@@ -48,6 +49,40 @@ CountsBy stop.TooLong old new = Calm old new
 abbrev pub Counts : {T : Type 0} → Result T Stop → (old new : Device) → Type 0
 Counts (Ok x) old new = Calm old new
 Counts (Err why) old new = CountsBy why old new
+
+-- ---- where the code stands
+
+-- where a line begins: the base mote, what its chip stood for as its power came, and what was written by then
+pub record Outset : Type 0 where
+  pub base : Base
+  pub store : Store
+  pub written : Option (List ℕ)
+
+-- what is written by now, and the code's mote over its chip
+pub record CodeAt : Type 0 where
+  pub written : Option (List ℕ)
+  pub mote : Running
+  pub chip : Device
+
+abbrev pub code_at : (written : Option (List ℕ)) → (mote : Running) → (chip : Device) → CodeAt
+code_at written mote chip = record { written = written; mote = mote; chip = chip }
+
+-- the same on a line, of which this was read
+pub record LineAt : Type 0 where
+  pub code : CodeAt
+  pub reading : Reading
+
+abbrev pub code_on_line : (written : Option (List ℕ)) → (mote : Running) → (reading : Reading) → (chip : Device) → LineAt
+code_on_line written mote reading chip = record { code = code_at written mote chip; reading = reading }
+
+-- what a deed leaves: the code's mote over its chip, and the frame that is to be written, if there is one
+pub record DeedLeft : Type 0 where
+  pub mote : Running
+  pub chip : Device
+  pub frame : Option (List ℕ)
+
+abbrev pub deed_left : (mote : Running) → (chip : Device) → (frame : Option (List ℕ)) → DeedLeft
+deed_left mote chip frame = record { mote = mote; chip = chip; frame = frame }
 
 -- ---- one event at the mote
 
@@ -117,7 +152,7 @@ pub record IsTime (t : Timeline) (b : Base) (events : ℕ) : Type 0 where
 -- These deeds were done, and the code's mote over a chip of these bytes is the mote then.
 pub record Stood (b : Base) (s : Store) (done : List Deed) (v : Running) (c : List ℕ) (there : At) : Type 0 where
   pub state : MoteState
-  pub run : Runs b (powered b s) done there
+  pub run : DeedsRun b (powered b s) done there
   pub on : there.mote ≡ Some state
   pub mote : IsMote c v.mote state there.store
   pub timely : Timely state v.timeline.moment
@@ -137,27 +172,27 @@ one_if None = []
 one_if (Some frame) = frame ∷ []
 
 -- One deed more was done, in which this frame was sent, if any.
-pub record DoneOne (b : Base) (s : Store) (done : List Deed) (d : Deed) (before : At) (v : Running) (c : List ℕ) (frame : Option (List ℕ)) : Type 0 where
+pub record DoneOne (b : Base) (s : Store) (done : List Deed) (d : Deed) (before : At) (left : DeedLeft) : Type 0 where
   pub there : At
-  pub stood : Stood b s (done ++ d ∷ []) v c there
-  pub sent : map frame_of there.sent ≡ map frame_of before.sent ++ one_if frame
+  pub stood : Stood b s (done ++ d ∷ []) left.mote left.chip.image there
+  pub sent : map frame_of there.sent ≡ map frame_of before.sent ++ one_if left.frame
 
 -- A deed found no image to start.
 pub record LacksIn (b : Base) (s : Store) (done : List Deed) (d : Deed) (before : At) (c : List ℕ) : Type 0 where
   pub there : At
-  pub run : Runs b (powered b s) (done ++ d ∷ []) there
+  pub run : DeedsRun b (powered b s) (done ++ d ∷ []) there
   pub none : there.mote ≡ None
   pub sent : there.sent ≡ before.sent
   pub stands : Stands c there.store
 
 -- The chip stopped in a deed.
-pub record StopsIn (b : Base) (d : Deed) (before : At) (new : Device) : Type 0 where
+pub record StopsInDeed (b : Base) (d : Deed) (before : At) (new : Device) : Type 0 where
   pub state : MoteState
   pub on : before.mote ≡ Some state
   pub stops : StopsOn before.store (effect_of b state before d) new
 
 abbrev pub DeedFails : Stop → (b : Base) (s : Store) (done : List Deed) (d : Deed) (before : At) → Device → Type 0
-DeedFails stop.Flash b s done d before new = StopsIn b d before new
+DeedFails stop.Flash b s done d before new = StopsInDeed b d before new
 DeedFails stop.NoImage b s done d before new = LacksIn b s done d before new.image
 DeedFails stop.Memory b s done d before new = ⊥
 DeedFails stop.Read b s done d before new = ⊥
@@ -165,9 +200,10 @@ DeedFails stop.Write b s done d before new = ⊥
 DeedFails stop.NotAVolume b s done d before new = ⊥
 DeedFails stop.TooLong b s done d before new = ⊥
 
-abbrev pub DeedEnds : {T : Type 0} → Result T Stop → (b : Base) (s : Store) (done : List Deed) (d : Deed) (before : At) → Running → Device → Option (List ℕ) → Type 0
-DeedEnds (Ok x) b s done d before v new frame = DoneOne b s done d before v new.image frame
-DeedEnds (Err why) b s done d before v new frame = DeedFails why b s done d before new
+abbrev pub DeedEnds : Result (Unit {0}) Stop → (b : Base) (s : Store) (done : List Deed) (d : Deed) (before : At) → DeedLeft
+    → Type 0
+DeedEnds (Ok x) b s done d before left = DoneOne b s done d before left
+DeedEnds (Err why) b s done d before left = DeedFails why b s done d before left.chip
 
 -- ---- writing
 
@@ -214,77 +250,84 @@ ReadCounts (Err why) old new = ReadsBy why old new
 
 -- why the mote goes no further, and what was written by then
 abbrev pub StoppedBy : Stop → (b : Base) (there : At) (rest : List Deed) (first now : Option (List ℕ)) → Device → Type 0
-StoppedBy stop.Memory b there rest first now new = (text : List ℕ) × Puts first now text × IsFront text (said there) × Stands new.image there.store
-StoppedBy stop.Write b there rest first now new = (text : List ℕ) × Puts first now text × IsFront text (said there) × Stands new.image there.store
-StoppedBy stop.NoImage b there rest first now new = (there.mote ≡ None) × Puts first now (said there) × Stands new.image there.store
+StoppedBy stop.Memory b there rest first now new =
+    (text : List ℕ) × Puts first now text × IsFront text (said there) × Stands new.image there.store
+StoppedBy stop.Write b there rest first now new =
+    (text : List ℕ) × Puts first now text × IsFront text (said there) × Stands new.image there.store
+StoppedBy stop.NoImage b there rest first now new =
+    (there.mote ≡ None) × Puts first now (said there) × Stands new.image there.store
 StoppedBy stop.Flash b there rest first now new =
-    (m : MoteState) × (d : Deed) × (more : List Deed) × (there.mote ≡ Some m) × (rest ≡ d ∷ more) × Puts first now (said there) × StopsOn there.store (effect_of b m there d) new
+    (m : MoteState) × (d : Deed) × (more : List Deed) × (there.mote ≡ Some m) × (rest ≡ d ∷ more)
+    × Puts first now (said there) × StopsOn there.store (effect_of b m there d) new
 StoppedBy stop.Read b there rest first now new = ⊥
 StoppedBy stop.NotAVolume b there rest first now new = ⊥
 StoppedBy stop.TooLong b there rest first now new = ⊥
 
 -- Some of these deeds were done, and then the mote stopped.
-pub record Halted (why : Stop) (b : Base) (s : Store) (all : List Deed) (first now : Option (List ℕ)) (new : Device) : Type 0 where
+pub record DeedsHalted (why : Stop) (a : Outset) (all : List Deed) (now : Option (List ℕ)) (new : Device) : Type 0 where
   pub done : List Deed
   pub rest : List Deed
   pub parts : done ++ rest ≡ all
   pub there : At
-  pub run : Runs b (powered b s) done there
-  pub by : StoppedBy why b there rest first now new
+  pub run : DeedsRun a.base (powered a.base a.store) done there
+  pub by : StoppedBy why a.base there rest a.written now new
 
 -- These deeds were done, and what was sent is written.
-pub record WentOn (b : Base) (s : Store) (all : List Deed) (first now : Option (List ℕ)) (v : Running) (new : Device) : Type 0 where
+pub record WentOn (a : Outset) (all : List Deed) (now : CodeAt) : Type 0 where
   pub there : At
-  pub stood : Stood b s all v new.image there
-  pub put : Puts first now (said there)
+  pub stood : Stood a.base a.store all now.mote now.chip.image there
+  pub put : Puts a.written now.written (said there)
 
-abbrev pub GoesEnds : {T : Type 0} → Result T Stop → (b : Base) (s : Store) (all : List Deed) (first now : Option (List ℕ)) → Running → Device → Type 0
-GoesEnds (Ok x) b s all first now v new = WentOn b s all first now v new
-GoesEnds (Err why) b s all first now v new = Halted why b s all first now new
+abbrev pub GoesEnds : {T : Type 0} → Result T Stop → Outset → (all : List Deed) → CodeAt → Type 0
+GoesEnds (Ok x) a all now = WentOn a all now
+GoesEnds (Err why) a all now = DeedsHalted why a all now.written now.chip
 
 -- ---- the line
 
 -- The bytes of the line were played.
-pub record Played (b : Base) (s : Store) (stream : List ℕ) (first now : Option (List ℕ)) (v : Running) (reading : Reading) (new : Device) : Type 0 where
-  pub line : reading ≡ reading_behind stream
-  pub went : WentOn b s (deeds_of stream) first now v new
+pub record Played (a : Outset) (stream : List ℕ) (now : LineAt) : Type 0 where
+  pub line : now.reading ≡ reading_behind stream
+  pub went : WentOn a (deeds_of stream) now.code
 
-abbrev pub PlayEnds : {T : Type 0} → Result T Stop → (b : Base) (s : Store) (stream : List ℕ) (first now : Option (List ℕ)) → Running → Reading → Device → Type 0
-PlayEnds (Ok x) b s stream first now v line new = Played b s stream first now v line new
-PlayEnds (Err why) b s stream first now v line new = Halted why b s (deeds_of stream) first now new
+abbrev pub PlayEnds : {T : Type 0} → Result T Stop → Outset → (stream : List ℕ) → LineAt → Type 0
+PlayEnds (Ok x) a stream now = Played a stream now
+PlayEnds (Err why) a stream now = DeedsHalted why a (deeds_of stream) now.code.written now.code.chip
 
 -- ---- the input
 
 -- A piece was read and played behind a stream.
-pub record PieceRead (b : Base) (s : Store) (stream : List ℕ) (most count : ℕ) (left_old left_now first now : Option (List ℕ)) (v : Running) (reading : Reading) (new : Device) : Type 0 where
+pub record PieceRead (a : Outset) (stream : List ℕ) (most count : ℕ)
+    (left_old left_now : Option (List ℕ)) (now : LineAt) : Type 0 where
   pub more : List ℕ
   pub taken : Takes left_old left_now more
   pub few : length more ≤ most
   pub counted : length more ≡ count
-  pub played : Played b s (stream ++ more) first now v reading new
+  pub played : Played a (stream ++ more) now
   pub ended : count ≡ 0 → AtEnd left_now
 
 -- The mote halted in a piece.
-pub record PieceHalted (why : Stop) (b : Base) (s : Store) (stream : List ℕ) (most : ℕ) (left_old left_now first now : Option (List ℕ)) (new : Device) : Type 0 where
+pub record PieceHalted (why : Stop) (a : Outset) (stream : List ℕ) (most : ℕ)
+    (left_old left_now : Option (List ℕ)) (now : CodeAt) : Type 0 where
   pub more : List ℕ
   pub taken : Takes left_old left_now more
   pub few : length more ≤ most
-  pub halted : Halted why b s (deeds_of (stream ++ more)) first now new
+  pub halted : DeedsHalted why a (deeds_of (stream ++ more)) now.written now.chip
 
-abbrev pub PieceFails : Stop → (b : Base) (s : Store) (stream : List ℕ) (most : ℕ) (left_old left_now first now : Option (List ℕ)) → Running → Reading → Device → Type 0
-PieceFails stop.Read b s stream most left_old left_now first now v reading new = Takes left_old left_now [] × Played b s stream first now v reading new
-PieceFails why b s stream most left_old left_now first now v reading new = PieceHalted why b s stream most left_old left_now first now new
+abbrev pub PieceFails : Stop → Outset → (stream : List ℕ) (most : ℕ) (left_old left_now : Option (List ℕ)) → LineAt → Type 0
+PieceFails stop.Read a stream most left_old left_now now = Takes left_old left_now [] × Played a stream now
+PieceFails why a stream most left_old left_now now = PieceHalted why a stream most left_old left_now now.code
 
-abbrev pub PieceEnds : Result ℕ Stop → (b : Base) (s : Store) (stream : List ℕ) (most : ℕ) (left_old left_now first now : Option (List ℕ)) → Running → Reading → Device → Type 0
-PieceEnds (Ok count) b s stream most left_old left_now first now v reading new = PieceRead b s stream most count left_old left_now first now v reading new
-PieceEnds (Err why) b s stream most left_old left_now first now v reading new = PieceFails why b s stream most left_old left_now first now v reading new
+abbrev pub PieceEnds : Result ℕ Stop → Outset → (stream : List ℕ) (most : ℕ) (left_old left_now : Option (List ℕ)) → LineAt
+    → Type 0
+PieceEnds (Ok count) a stream most left_old left_now now = PieceRead a stream most count left_old left_now now
+PieceEnds (Err why) a stream most left_old left_now now = PieceFails why a stream most left_old left_now now
 
 -- so many bytes were taken and played
-pub record Consumed (b : Base) (s : Store) (used : ℕ) (left_old left_now first now : Option (List ℕ)) (v : Running) (line : Reading) (new : Device) : Type 0 where
+pub record Consumed (a : Outset) (used : ℕ) (left_old left_now : Option (List ℕ)) (now : LineAt) : Type 0 where
   pub stream : List ℕ
   pub counted : length stream ≡ used
   pub taken : Takes left_old left_now stream
-  pub played : Played b s stream first now v line new
+  pub played : Played a stream now
 
 -- The bytes behind those that are used were looked for.
 abbrev pub LastEnds : Result (Unit {0}) Stop → (left_old left_now : Option (List ℕ)) → Type 0
@@ -298,14 +341,14 @@ LastEnds (Err stop.NoImage) left_old left_now = ⊥
 LastEnds (Err stop.NotAVolume) left_old left_now = ⊥
 
 -- how the input ended, of which these bytes were taken
-abbrev pub InputBy : Result (Unit {0}) Stop → (b : Base) (s : Store) (input : List ℕ) (left first now : Option (List ℕ)) → Running → Reading → Device → Type 0
-InputBy (Ok x) b s input left first now v reading new = Played b s (take most_input input) first now v reading new × AtEnd left × (length input ≤ most_input)
-InputBy (Err stop.Read) b s input left first now v reading new = Played b s (take most_input input) first now v reading new × (length input ≤ most_input)
-InputBy (Err stop.TooLong) b s input left first now v reading new = Played b s (take most_input input) first now v reading new × (most_input < length input)
-InputBy (Err why) b s input left first now v reading new = Halted why b s (deeds_of (take most_input input)) first now new
+abbrev pub InputBy : Result (Unit {0}) Stop → Outset → (input : List ℕ) (left : Option (List ℕ)) → LineAt → Type 0
+InputBy (Ok x) a input left now = Played a (take most_input input) now × AtEnd left × (length input ≤ most_input)
+InputBy (Err stop.Read) a input left now = Played a (take most_input input) now × (length input ≤ most_input)
+InputBy (Err stop.TooLong) a input left now = Played a (take most_input input) now × (most_input < length input)
+InputBy (Err why) a input left now = DeedsHalted why a (deeds_of (take most_input input)) now.code.written now.code.chip
 
-pub record InputEnds (r : Result (Unit {0}) Stop) (b : Base) (s : Store) (left_old left_now first now : Option (List ℕ)) (v : Running) (reading : Reading) (new : Device) : Type 0 where
+pub record InputEnds (r : Result (Unit {0}) Stop) (a : Outset) (left_old left_now : Option (List ℕ)) (now : LineAt) : Type 0 where
   pub input : List ℕ
   pub taken : Takes left_old left_now input
   pub few : length input ≤ most_input + 1
-  pub by : InputBy r b s input left_now first now v reading new
+  pub by : InputBy r a input left_now now

@@ -7,9 +7,9 @@ ghost use Rattle.dg_volume.specs.Table.{IsTable};
 ghost use Rattle.dg_mote.specs.Well.{StoreIsWell};
 ghost use Rattle.dg_mote.specs.Consistency.{StoreIsConsistent};
 ghost use Rattle.dg_serial_base.specs.Agreeing.{HonestLine, ChipAgrees};
-ghost use Rattle.dg_serial_base.specs.Based.{Based, Refused, Causes};
+ghost use Rattle.dg_serial_base.specs.Based.{outside_base, Based, Refused, Causes};
 ghost use Rattle.dg_serial_base.specs.Consistency.{StaysConsistent};
-ghost use Rattle.dg_serial_base.specs.Ending.{Tells, TellsStop, TellsResult, LineEnds, LineRefused};
+ghost use Rattle.dg_serial_base.specs.Ending.{TellsStatus, TellsStop, TellsResult, LineEnds, LineRefused};
 ghost use Rattle.dg_serial_base.specs.Standing.{Counts, WriteCounts, ReadCounts};
 
 use crate::playing::Player;
@@ -26,7 +26,7 @@ use std::alloc::Global;
 
 /// Writes the last line of a status, and answers the status, unless the line cannot be written.
 fn tell_last<K: Sink>(line: &[u8], status: Status, out: &mut K) -> Status
-    ensures { Tells result status line.now (K.written out.old) (K.written out.new) (K.faults out.old) (K.faults out.new) }
+    ensures { TellsStatus result status line.now (K.written out.old) (K.written out.new) (K.faults out.old) (K.faults out.new) }
 {
     match out.write(line) {
         Ok(()) => status,
@@ -71,9 +71,13 @@ fn play_line<S: Source, K: Sink, N: Nor>(
 ) -> Result<(), Stop>
     requires little { step ≤ 60000 }
     ensures ends { (s : Store) → Stands (N.device nor.old).image s
-        → LineEnds result (record { id = id; step = step; seed = seed }) s (S.left input.old) (S.left input.new) (K.written out.old) (K.written out.new) (N.device nor.new) }
+        → LineEnds result (record { id = id; step = step; seed = seed }) s
+        (outside_base (S.left input.old) (S.faults input.old) (K.written out.old) (K.faults out.old) (N.device nor.old))
+        (outside_base (S.left input.new) (S.faults input.new) (K.written out.new) (K.faults out.new) (N.device nor.new)) }
     ensures refused { IsNoVolume (N.device nor.old).image
-        → LineRefused result (S.left input.old) (S.left input.new) (K.written out.old) (K.written out.new) (N.device nor.old) (N.device nor.new) }
+        → LineRefused result
+        (outside_base (S.left input.old) (S.faults input.old) (K.written out.old) (K.faults out.old) (N.device nor.old))
+        (outside_base (S.left input.new) (S.faults input.new) (K.written out.new) (K.faults out.new) (N.device nor.new)) }
     ensures counts { Counts result (N.device nor.old) (N.device nor.new) }
     ensures writes { WriteCounts result (K.faults out.old) (K.faults out.new) }
     ensures reads { ReadCounts result (S.faults input.old) (S.faults input.new) }
@@ -112,28 +116,30 @@ pub fn base<S: Source, K: Sink, N: Nor>(
     requires little { step ≤ 60000 }
     // From a chip that is a volume: the bytes written are the stuffed frames of the mote's rules over the items, and each
     // status comes where they say.
-    ensures based { (s : Store) → Stands (N.device nor.old).image s → Based result (record { id = id; step = step; seed = seed }) s
-        (record { left = S.left input.old; reads = S.faults input.old; written = K.written out.old; writes = K.faults out.old; chip = N.device nor.old })
-        (record { left = S.left input.new; reads = S.faults input.new; written = K.written out.new; writes = K.faults out.new; chip = N.device nor.new }) }
+    ensures based { (s : Store) → Stands (N.device nor.old).image s
+        → Based result (record { id = id; step = step; seed = seed }) s
+        (outside_base (S.left input.old) (S.faults input.old) (K.written out.old) (K.faults out.old) (N.device nor.old))
+        (outside_base (S.left input.new) (S.faults input.new) (K.written out.new) (K.faults out.new) (N.device nor.new)) }
     // A chip that is no volume is left as it was.
     ensures refused { IsNoVolume (N.device nor.old).image → Refused result
-        (record { left = S.left input.old; reads = S.faults input.old; written = K.written out.old; writes = K.faults out.old; chip = N.device nor.old })
-        (record { left = S.left input.new; reads = S.faults input.new; written = K.written out.new; writes = K.faults out.new; chip = N.device nor.new }) }
+        (outside_base (S.left input.old) (S.faults input.old) (K.written out.old) (K.faults out.old) (N.device nor.old))
+        (outside_base (S.left input.new) (S.faults input.new) (K.written out.new) (K.faults out.new) (N.device nor.new)) }
     // A fault of the outside is told, and with its own answer alone.
     ensures causes { Causes result
-        (record { left = S.left input.old; reads = S.faults input.old; written = K.written out.old; writes = K.faults out.old; chip = N.device nor.old })
-        (record { left = S.left input.new; reads = S.faults input.new; written = K.written out.new; writes = K.faults out.new; chip = N.device nor.new }) }
+        (outside_base (S.left input.old) (S.faults input.old) (K.written out.old) (K.faults out.old) (N.device nor.old))
+        (outside_base (S.left input.new) (S.faults input.new) (K.written out.new) (K.faults out.new) (N.device nor.new)) }
     // With honest frames a chip that agrees with a table of images agrees with it behind the line, however it ended.
     ensures agrees { (s : Store) (table : List Row) (x : Based result (record { id = id; step = step; seed = seed }) s
-        (record { left = S.left input.old; reads = S.faults input.old; written = K.written out.old; writes = K.faults out.old; chip = N.device nor.old })
-        (record { left = S.left input.new; reads = S.faults input.new; written = K.written out.new; writes = K.faults out.new; chip = N.device nor.new }))
+        (outside_base (S.left input.old) (S.faults input.old) (K.written out.old) (K.faults out.old) (N.device nor.old))
+        (outside_base (S.left input.new) (S.faults input.new) (K.written out.new) (K.faults out.new) (N.device nor.new)))
         → IsTable table → StoreIsWell table s → HonestLine table x.input → ChipAgrees table (N.device nor.new).image }
     // Whatever bytes come as frames, a consistent chip stays so, however the line ended: golden is whole. No start lacks an
     // image, and what starts is golden byte for byte, or pages that fit the descriptor before them.
     ensures consistent { (s : Store) (golden : Row) (x : Based result (record { id = id; step = step; seed = seed }) s
-        (record { left = S.left input.old; reads = S.faults input.old; written = K.written out.old; writes = K.faults out.old; chip = N.device nor.old })
-        (record { left = S.left input.new; reads = S.faults input.new; written = K.written out.new; writes = K.faults out.new; chip = N.device nor.new }))
-        → IsRow golden → StoreIsConsistent golden s → StaysConsistent golden result (record { id = id; step = step; seed = seed }) s x.input (N.device nor.new).image }
+        (outside_base (S.left input.old) (S.faults input.old) (K.written out.old) (K.faults out.old) (N.device nor.old))
+        (outside_base (S.left input.new) (S.faults input.new) (K.written out.new) (K.faults out.new) (N.device nor.new)))
+        → IsRow golden → StoreIsConsistent golden s
+        → StaysConsistent golden result (record { id = id; step = step; seed = seed }) s x.input (N.device nor.new).image }
 {
     a_mote_stays_well();
     a_mote_keeps_consistency();

@@ -1,10 +1,10 @@
 //! The bytes of the line, played one after the other.
-ghost use Rattle.std.specs.Prelude.{◌≡◌, ℕ, ◌+◌, ◌*◌, ◌^◌, ◌<◌, ◌≤◌, List, [], ◌∷◌, ◌++◌, length, Option, OnOk};
+ghost use Rattle.std.specs.Prelude.{◌≡◌, ℕ, ◌+◌, ◌*◌, ◌^◌, ◌<◌, ◌≤◌, List, [], ◌∷◌, ◌++◌, length, OnOk};
 ghost use Rattle.dg_base.specs.Sizes.{longest_frame};
-ghost use Rattle.dg_volume.specs.Store.{Store};
 ghost use Rattle.dg_serial.specs.Reading.{told};
-ghost use Rattle.dg_serial_base.specs.Deeds.{Base, Deed, Hears, Ticks, deeds_of_items};
-ghost use Rattle.dg_serial_base.specs.Standing.{Counts, WriteCounts, ReadCounts, IsStood, WentOn, GoesEnds, Played, PlayEnds};
+ghost use Rattle.dg_serial_base.specs.Deeds.{Deed, Hears, Ticks, deeds_of_items};
+ghost use Rattle.dg_serial_base.specs.Standing.{Counts, WriteCounts, ReadCounts, Outset, code_at, code_on_line};
+ghost use Rattle.dg_serial_base.specs.Standing.{IsStood, WentOn, GoesEnds, Played, PlayEnds};
 
 use crate::running::Running;
 use crate::sending::send;
@@ -28,8 +28,9 @@ impl Player {
         requires stood { IsStood self.old.running (N.device nor.old).image }
         requires early { self.old.running.timeline.moment < 2 ^ 61 }
         requires little { self.old.running.timeline.step ≤ 60000 }
-        ensures ends { (b : Base) (s : Store) (done : List Deed) (first : Option (List ℕ)) → WentOn b s done first (K.written out.old) self.old.running (N.device nor.old)
-            → GoesEnds result b s (done ++ Ticks ∷ []) first (K.written out.new) self.new.running (N.device nor.new) }
+        ensures ends { (a : Outset) (done : List Deed)
+            → WentOn a done (code_at (K.written out.old) self.old.running (N.device nor.old))
+            → GoesEnds result a (done ++ Ticks ∷ []) (code_at (K.written out.new) self.new.running (N.device nor.new)) }
         ensures stood { OnOk result (IsStood self.new.running (N.device nor.new).image) }
         ensures counts { Counts result (N.device nor.old) (N.device nor.new) }
         ensures writes { WriteCounts result (K.faults out.old) (K.faults out.new) }
@@ -55,8 +56,10 @@ impl Player {
         requires stood { IsStood self.old.running (N.device nor.old).image }
         requires early { self.old.running.timeline.moment < 2 ^ 60 }
         requires little { self.old.running.timeline.step ≤ 60000 }
-        ensures ends { (b : Base) (s : Store) (done : List Deed) (first : Option (List ℕ)) → WentOn b s done first (K.written out.old) self.old.running (N.device nor.old)
-            → GoesEnds result b s (done ++ Hears bytes.now ∷ Ticks ∷ []) first (K.written out.new) self.new.running (N.device nor.new) }
+        ensures ends { (a : Outset) (done : List Deed)
+            → WentOn a done (code_at (K.written out.old) self.old.running (N.device nor.old))
+            → GoesEnds result a (done ++ Hears bytes.now ∷ Ticks ∷ [])
+            (code_at (K.written out.new) self.new.running (N.device nor.new)) }
         ensures stood { OnOk result (IsStood self.new.running (N.device nor.new).image) }
         ensures counts { Counts result (N.device nor.old) (N.device nor.new) }
         ensures writes { WriteCounts result (K.faults out.old) (K.faults out.new) }
@@ -76,8 +79,10 @@ impl Player {
         requires stood { IsStood self.old.running (N.device nor.old).image }
         requires early { self.old.running.timeline.moment < 2 ^ 60 }
         requires little { self.old.running.timeline.step ≤ 60000 }
-        ensures ends { (b : Base) (s : Store) (done : List Deed) (first : Option (List ℕ)) → WentOn b s done first (K.written out.old) self.old.running (N.device nor.old)
-            → GoesEnds result b s (done ++ deeds_of_items (told fed.now)) first (K.written out.new) self.new.running (N.device nor.new) }
+        ensures ends { (a : Outset) (done : List Deed)
+            → WentOn a done (code_at (K.written out.old) self.old.running (N.device nor.old))
+            → GoesEnds result a (done ++ deeds_of_items (told fed.now))
+            (code_at (K.written out.new) self.new.running (N.device nor.new)) }
         ensures stood { OnOk result (IsStood self.new.running (N.device nor.new).image) }
         ensures counts { Counts result (N.device nor.old) (N.device nor.new) }
         ensures writes { WriteCounts result (K.faults out.old) (K.faults out.new) }
@@ -99,8 +104,10 @@ impl Player {
         requires stood { IsStood self.old.running (N.device nor.old).image }
         requires early { self.old.running.timeline.moment < 2 ^ 60 }
         requires little { self.old.running.timeline.step ≤ 60000 }
-        ensures ends { (b : Base) (s : Store) (stream : List ℕ) (first : Option (List ℕ)) → Played b s stream first (K.written out.old) self.old.running self.old.line (N.device nor.old)
-            → PlayEnds result b s (stream ++ byte ∷ []) first (K.written out.new) self.new.running self.new.line (N.device nor.new) }
+        ensures ends { (a : Outset) (stream : List ℕ)
+            → Played a stream (code_on_line (K.written out.old) self.old.running self.old.line (N.device nor.old))
+            → PlayEnds result a (stream ++ byte ∷ [])
+            (code_on_line (K.written out.new) self.new.running self.new.line (N.device nor.new)) }
         ensures stood { OnOk result (IsStood self.new.running (N.device nor.new).image) }
         ensures counts { Counts result (N.device nor.old) (N.device nor.new) }
         ensures writes { WriteCounts result (K.faults out.old) (K.faults out.new) }
@@ -122,13 +129,16 @@ impl Player {
         requires stood { IsStood self.old.running (N.device nor.old).image }
         requires early { self.old.running.timeline.moment + 120000 * length bytes.now < 2 ^ 60 }
         requires little { self.old.running.timeline.step ≤ 60000 }
-        ensures ends { (b : Base) (s : Store) (stream : List ℕ) (first : Option (List ℕ)) → Played b s stream first (K.written out.old) self.old.running self.old.line (N.device nor.old)
-            → PlayEnds result b s (stream ++ bytes.now) first (K.written out.new) self.new.running self.new.line (N.device nor.new) }
+        ensures ends { (a : Outset) (stream : List ℕ)
+            → Played a stream (code_on_line (K.written out.old) self.old.running self.old.line (N.device nor.old))
+            → PlayEnds result a (stream ++ bytes.now)
+            (code_on_line (K.written out.new) self.new.running self.new.line (N.device nor.new)) }
         ensures stood { OnOk result (IsStood self.new.running (N.device nor.new).image) }
         ensures counts { Counts result (N.device nor.old) (N.device nor.new) }
         ensures writes { WriteCounts result (K.faults out.old) (K.faults out.new) }
         ensures reads { (n : ℕ) → ReadCounts result n n }
-        ensures moment { OnOk result (self.new.running.timeline.moment ≤ self.old.running.timeline.moment + 120000 * length bytes.now) }
+        ensures moment { OnOk result (self.new.running.timeline.moment
+            ≤ self.old.running.timeline.moment + 120000 * length bytes.now) }
         ensures step { OnOk result (self.new.running.timeline.step ≡ self.old.running.timeline.step) }
     {
         streams_go_on();

@@ -1,10 +1,9 @@
 //! The input of a base mote, read piece by piece.
-ghost use Rattle.std.specs.Prelude.{◌≡◌, ℕ, ◌+◌, ◌-◌, ◌*◌, ◌^◌, ◌<◌, ◌≤◌, List, [], length, take, Option, Ok, IfOk, IfErr, OnOk, OnErr};
+ghost use Rattle.std.specs.Prelude.{◌≡◌, ℕ, ◌+◌, ◌-◌, ◌*◌, ◌^◌, ◌<◌, ◌≤◌, List, [], length, take, Ok, IfOk, IfErr, OnOk, OnErr};
 ghost use Rattle.dg_base.specs.Outside.{Takes, AtEnd};
 ghost use Rattle.dg_base.specs.Sizes.{most_input};
-ghost use Rattle.dg_volume.specs.Store.{Store};
-ghost use Rattle.dg_serial_base.specs.Deeds.{Base};
-ghost use Rattle.dg_serial_base.specs.Standing.{Counts, WriteCounts, ReadCounts, IsStood, Played, PieceEnds, InputEnds, LastEnds};
+ghost use Rattle.dg_serial_base.specs.Standing.{Counts, WriteCounts, ReadCounts, Outset, code_on_line};
+ghost use Rattle.dg_serial_base.specs.Standing.{IsStood, Played, PieceEnds, InputEnds, LastEnds};
 
 use crate::playing::Player;
 use crate::stop::Stop;
@@ -18,13 +17,13 @@ pub(crate) const PIECE: usize = 4_096;
 fn read_piece<S: Source>(input: &mut S, piece: &mut [u8], most: usize) -> Result<usize, Stop>
     requires some { 0 < length piece.old }
     requires most { 0 < most }
-    ensures taken { (more : List ℕ) × Takes (S.left input.old) (S.left input.new) more × (length more ≤ most) × IfOk result (λ n. (n ≡ length more) × (take n piece.new ≡ more)) × OnErr result (more ≡ []) }
+    ensures taken { (more : List ℕ) × Takes (S.left input.old) (S.left input.new) more × (length more ≤ most)
+        × IfOk result (λ n. (n ≡ length more) × (take n piece.new ≡ more)) × OnErr result (more ≡ []) }
     ensures ended { result ≡ Ok 0 → AtEnd (S.left input.new) }
     ensures why { IfErr result (λ why. why ≡ Stop.Read) }
     ensures counts { ReadCounts result (S.faults input.old) (S.faults input.new) }
 {
-    let most = piece.len().min(most);
-    match input.read(&mut piece[..most]) {
+    match dg_input::read_piece(input, piece, most) {
         Ok(count) => Ok(count),
         Err(ReadFailed) => Err(Stop::Read),
     }
@@ -56,14 +55,17 @@ impl Player {
         requires stood { IsStood self.old.running (N.device nor.old).image }
         requires early { self.old.running.timeline.moment + 120000 * most < 2 ^ 60 }
         requires little { self.old.running.timeline.step ≤ 60000 }
-        ensures ends { (b : Base) (s : Store) (stream : List ℕ) (first : Option (List ℕ)) → Played b s stream first (K.written out.old) self.old.running self.old.line (N.device nor.old)
-            → PieceEnds result b s stream most (S.left input.old) (S.left input.new) first (K.written out.new) self.new.running self.new.line (N.device nor.new) }
+        ensures ends { (a : Outset) (stream : List ℕ)
+            → Played a stream (code_on_line (K.written out.old) self.old.running self.old.line (N.device nor.old))
+            → PieceEnds result a stream most (S.left input.old) (S.left input.new)
+            (code_on_line (K.written out.new) self.new.running self.new.line (N.device nor.new)) }
         ensures few { IfOk result (λ count. count ≤ most) }
         ensures stood { OnOk result (IsStood self.new.running (N.device nor.new).image) }
         ensures counts { Counts result (N.device nor.old) (N.device nor.new) }
         ensures writes { WriteCounts result (K.faults out.old) (K.faults out.new) }
         ensures reads { ReadCounts result (S.faults input.old) (S.faults input.new) }
-        ensures moment { IfOk result (λ count. self.new.running.timeline.moment ≤ self.old.running.timeline.moment + 120000 * count) }
+        ensures moment { IfOk result (λ count. self.new.running.timeline.moment
+            ≤ self.old.running.timeline.moment + 120000 * count) }
         ensures step { OnOk result (self.new.running.timeline.step ≡ self.old.running.timeline.step) }
     {
         match read_piece(input, piece, most) {
@@ -87,8 +89,10 @@ impl Player {
         requires stood { IsStood self.old.running (N.device nor.old).image }
         requires early { self.old.running.timeline.moment ≤ 60000 }
         requires little { self.old.running.timeline.step ≤ 60000 }
-        ensures ends { (b : Base) (s : Store) (first : Option (List ℕ)) → Played b s [] first (K.written out.old) self.old.running self.old.line (N.device nor.old)
-            → InputEnds result b s (S.left input.old) (S.left input.new) first (K.written out.new) self.new.running self.new.line (N.device nor.new) }
+        ensures ends { (a : Outset)
+            → Played a [] (code_on_line (K.written out.old) self.old.running self.old.line (N.device nor.old))
+            → InputEnds result a (S.left input.old) (S.left input.new)
+            (code_on_line (K.written out.new) self.new.running self.new.line (N.device nor.new)) }
         ensures counts { Counts result (N.device nor.old) (N.device nor.new) }
         ensures writes { WriteCounts result (K.faults out.old) (K.faults out.new) }
         ensures reads { ReadCounts result (S.faults input.old) (S.faults input.new) }

@@ -8,7 +8,8 @@ ghost use Rattle.dg_mote.specs.Effects.{boots, tick_effect};
 ghost use Rattle.dg_mote.specs.Motes.{IsMote, sent_in};
 ghost use Rattle.dg_mote.specs.Timely.{Timely};
 ghost use Rattle.dg_serial_base.specs.Deeds.{Base, At, Deed, Hears, Ticks};
-ghost use Rattle.dg_serial_base.specs.Standing.{EffectEnds, NoneEnds, PowerEnds, DeedEnds, IsTimely, Counts, WriteCounts, ReadCounts, Stood, IsStood};
+ghost use Rattle.dg_serial_base.specs.Standing.{EffectEnds, NoneEnds, PowerEnds, DeedEnds, deed_left};
+ghost use Rattle.dg_serial_base.specs.Standing.{IsTimely, Counts, WriteCounts, ReadCounts, Stood, IsStood};
 
 use crate::starting::start_mote;
 use crate::stop::Stop;
@@ -33,7 +34,8 @@ fn restart<N: Nor>(
     draw: Draw,
 ) -> Result<(), Stop>
     requires moment { draw.now < 2 ^ 62 }
-    ensures ends { (s : Store) → Stands (N.device nor.old).image s → EffectEnds result s (boots Kind.Order s id wide draw.now draw.word) draw.now (N.device nor.new) mote.new }
+    ensures ends { (s : Store) → Stands (N.device nor.old).image s
+        → EffectEnds result s (boots Kind.Order s id wide draw.now draw.word) draw.now (N.device nor.new) mote.new }
     ensures timely { OnOk result (IsTimely (N.device nor.new).image mote.new draw.now) }
     ensures counts { Counts result (N.device nor.old) (N.device nor.new) }
 {
@@ -56,8 +58,10 @@ fn tick_mote<N: Nor>(
     requires mote { IsTimely (N.device nor.old).image mote.old draw.now }
     requires moment { draw.now < 2 ^ 62 }
     requires empty { sent_in outbox.old ≡ None }
-    ensures ends { (m : MoteState) (s : Store) → IsMote (N.device nor.old).image mote.old m s → Timely m draw.now → EffectEnds result s (tick_effect m s draw.now draw.word) draw.now (N.device nor.new) mote.new }
-    ensures sent { OnOk result ((m : MoteState) (s : Store) → IsMote (N.device nor.old).image mote.old m s → Timely m draw.now → sent_in outbox.new ≡ option_map frame_of (tick_effect m s draw.now draw.word).sent) }
+    ensures ends { (m : MoteState) (s : Store) → IsMote (N.device nor.old).image mote.old m s → Timely m draw.now
+        → EffectEnds result s (tick_effect m s draw.now draw.word) draw.now (N.device nor.new) mote.new }
+    ensures sent { OnOk result ((m : MoteState) (s : Store) → IsMote (N.device nor.old).image mote.old m s
+        → Timely m draw.now → sent_in outbox.new ≡ option_map frame_of (tick_effect m s draw.now draw.word).sent) }
     ensures timely { OnOk result (IsTimely (N.device nor.new).image mote.new draw.now) }
     ensures counts { Counts result (N.device nor.old) (N.device nor.new) }
 {
@@ -80,7 +84,8 @@ impl Running {
     /// The power of a chip comes: it starts, and its mote, which is wide, is made.
     pub(crate) fn power<N: Nor>(nor: &mut N, id: u16, step: u32, seed: u32) -> Result<Running, Stop>
         requires little { step ≤ 60000 }
-        ensures ends { (s : Store) → Stands (N.device nor.old).image s → PowerEnds result (record { id = id; step = step; seed = seed }) s (N.device nor.new) }
+        ensures ends { (s : Store) → Stands (N.device nor.old).image s
+            → PowerEnds result (record { id = id; step = step; seed = seed }) s (N.device nor.new) }
         ensures none { IsNoVolume (N.device nor.old).image → NoneEnds result (N.device nor.old) (N.device nor.new) }
         ensures stood { IfOk result (λ v. IsStood v (N.device nor.new).image) }
         ensures counts { Counts result (N.device nor.old) (N.device nor.new) }
@@ -102,7 +107,9 @@ impl Running {
         requires stood { IsStood self.old (N.device nor.old).image }
         requires early { self.old.timeline.moment < 2 ^ 61 }
         requires little { self.old.timeline.step ≤ 60000 }
-        ensures ends { (b : Base) (s : Store) (done : List Deed) (before : At) → Stood b s done self.old (N.device nor.old).image before → DeedEnds result b s done (Hears bytes.now) before self.new (N.device nor.new) None }
+        ensures ends { (b : Base) (s : Store) (done : List Deed) (before : At)
+            → Stood b s done self.old (N.device nor.old).image before
+            → DeedEnds result b s done (Hears bytes.now) before (deed_left self.new (N.device nor.new) None) }
         ensures stood { OnOk result (IsStood self.new (N.device nor.new).image) }
         ensures counts { Counts result (N.device nor.old) (N.device nor.new) }
         ensures moment { self.new.timeline.moment ≤ self.old.timeline.moment + 60000 }
@@ -122,7 +129,9 @@ impl Running {
         requires early { self.old.timeline.moment < 2 ^ 61 }
         requires little { self.old.timeline.step ≤ 60000 }
         requires empty { sent_in outbox.old ≡ None }
-        ensures ends { (b : Base) (s : Store) (done : List Deed) (before : At) → Stood b s done self.old (N.device nor.old).image before → DeedEnds result b s done Ticks before self.new (N.device nor.new) (sent_in outbox.new) }
+        ensures ends { (b : Base) (s : Store) (done : List Deed) (before : At)
+            → Stood b s done self.old (N.device nor.old).image before
+            → DeedEnds result b s done Ticks before (deed_left self.new (N.device nor.new) (sent_in outbox.new)) }
         ensures stood { OnOk result (IsStood self.new (N.device nor.new).image) }
         ensures frame { OnOk result (IfSome (sent_in outbox.new) (λ frame. 1 ≤ length frame)) }
         ensures counts { Counts result (N.device nor.old) (N.device nor.new) }

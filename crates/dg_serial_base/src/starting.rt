@@ -20,7 +20,8 @@ pub(crate) fn start_mote<N: Nor>(
     draw: Draw,
 ) -> Result<Mote, Stop>
     requires moment { draw.now < 2 ^ 62 }
-    ensures ends { (s : Store) → Stands (N.device nor.old).image s → StartEnds result s (boots kind s id wide draw.now draw.word) draw.now (N.device nor.new) }
+    ensures ends { (s : Store) → Stands (N.device nor.old).image s
+        → StartEnds result s (boots kind s id wide draw.now draw.word) draw.now (N.device nor.new) }
     ensures volume { OnOk result (IsVolume (N.device nor.old).image) }
     ensures timely { IfOk result (λ v. IsTimely (N.device nor.new).image v draw.now) }
     ensures counts { Counts result (N.device nor.old) (N.device nor.new) }

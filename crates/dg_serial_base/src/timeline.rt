@@ -1,6 +1,6 @@
 //! When events happen, and the words that they draw.
 ghost use Rattle.std.specs.Prelude.{◌≡◌, ℕ, suc, ◌+◌, ◌^◌, ◌<◌, ◌≤◌};
-ghost use Rattle.dg_serial_base.specs.Deeds.{Base, moment_at, word_at};
+ghost use Rattle.dg_serial_base.specs.Deeds.{Base, moment_at, drawn_word_at};
 ghost use Rattle.dg_serial_base.specs.Standing.{IsTime};
 
 use dg_seed::Words;
@@ -40,7 +40,8 @@ impl Timeline {
         requires early { self.old.moment < 2 ^ 61 }
         requires little { self.old.step ≤ 60000 }
         ensures time { (b : Base) (n : ℕ) → IsTime self.old b n → IsTime self.new b (suc n) }
-        ensures drawn { (b : Base) (n : ℕ) → IsTime self.old b n → (result.now ≡ moment_at b n) × (result.word ≡ word_at b n) }
+        ensures drawn { (b : Base) (n : ℕ) → IsTime self.old b n → (result.now ≡ moment_at b n)
+            × (result.word ≡ drawn_word_at b n) }
         ensures now { result.now ≡ self.new.moment }
         ensures moment { self.new.moment ≡ self.old.moment + self.old.step }
         ensures step { self.new.step ≡ self.old.step }

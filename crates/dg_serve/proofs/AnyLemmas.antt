@@ -1,5 +1,5 @@
 -- What holds of a service whatever bytes its frames carry, and that a replay of its trace leads to the same world.
-use Rattle.std.proofs.Common.{◌≡◌, ℕ, ◌+◌, ◌<◌, Bool, true, false, List, [], ◌∷◌, ◌++◌, length, map, append-nil, append_assoc, refl, sym, ap, subst, ◌∙◌, inl, inr}
+use Rattle.std.proofs.Common.{◌≡◌, ℕ, ◌<◌, Bool, true, List, [], ◌∷◌, ◌++◌, length, map, append-nil, append_assoc, refl, sym, ap, subst, ◌∙◌, inl, inr}
 use Rattle.std.specs.Prelude.{Option, Some, None}
 use Rattle.std.specs.List.{AllByRecursion}
 use Rattle.std.proofs.Math.ListN.{get_or-map}
@@ -8,34 +8,35 @@ use Rattle.dg_base.specs.declared.answers.Status.{Status}
 use Rattle.dg_base.specs.declared.answers.Status.TheVariants as status
 use Rattle.dg_base.specs.declared.events.Event.{Event}
 use Rattle.dg_base.specs.declared.events.Event.TheVariants.{Tick, Reset}
+use Rattle.dg_base.specs.declared.events.Cut.{Cut as CutOfPower}
 use Rattle.dg_base.specs.declared.events.Step.{Step}
 use Rattle.dg_netcfg.specs.declared.profile.NetProfile.{NetProfile}
 use Rattle.dg_nor.specs.Device.{Device}
 use Rattle.dg_object.specs.Object.{Row}
 use Rattle.dg_volume.specs.Store.{Store, fresh}
 use Rattle.dg_volume.specs.Table.{row_at}
-use Rattle.dg_rules.specs.World.{World, Running, site, off_site, no_site, first_world}
-use Rattle.dg_rules.specs.Events.{Deed, Does, Refuses, Goes, does, mote_of, dt_of}
+use Rattle.dg_rules.specs.World.{World, Running, site, off_site, first_world}
+use Rattle.dg_rules.specs.Events.{Does, Refuses, Goes, does, mote_of, dt_of}
 use Rattle.dg_rules.specs.Steps.{WorldStep, StepDoes, DeclareStep, EndsRun, done_world}
-use Rattle.dg_rules.specs.Runs.{Played, ItemStep, Plays, EachAfter}
-use Rattle.dg_rules.specs.Ranges.{EventFits, StepFits}
+use Rattle.dg_rules.specs.Runs.{Played, ItemStep, Plays}
+use Rattle.dg_rules.specs.Ranges.{EventInRange, StepInRange}
 use Rattle.dg_rules.specs.Begins.{store_of}
-use Rattle.dg_rules.specs.Premises.{IsDeclared, ItemInRange, IsInRange}
+use Rattle.dg_rules.specs.Premises.{IsDeclared, ItemInRange, PlayedInRange}
 use Rattle.dg_rules.specs.Consistency.{SiteConsistent, WorldConsistent, LeavesConsistent, StartsSoundDoes, StartsSoundItem, StartsSound, StopsConsistent}
 use Rattle.dg_rules.specs.Golden.{SiteKeepsGolden, WorldKeepsGolden, FindsImage}
-use Rattle.dg_rules.proofs.PlayLemmas.{Ended, plays, all_then}
+use Rattle.dg_rules.proofs.PlayLemmas.{plays, all_then}
 use Rattle.dg_rules.proofs.SoundLemmas.{At, declared_sites}
 use Rattle.dg_rules.proofs.StepLemmas.{step_count}
 use Rattle.dg_script.specs.Items.{Item, Declares, Happens, items_of, items_behind, place_behind}
 use Rattle.dg_script.specs.Places.{first_place, none_narrow}
 use Rattle.dg_script.specs.declared.line.Line.{Line}
-use Rattle.dg_script.specs.declared.line.Line.TheVariants.{Motes, Boards, Link, Happens as HappensLine}
+use Rattle.dg_script.specs.declared.line.Line.TheVariants.{Link, Happens as HappensLine}
 use Rattle.dg_script.specs.declared.place.Place.{Place}
 use Rattle.dg_script.specs.declared.report.Report.{Report}
 use Rattle.dg_world.specs.Alone.{uncut}
-use Rattle.dg_serve.specs.Promised.{item_by, item_played, RunOf, StoresConsistent, StoresKeepGolden, StaysConsistent, LeavesGolden, StaysGolden, world_by, ReplaysTo}
-use Rattle.dg_serve.specs.Traces.{IsScript, head_lines, trace, trace_lines}
-use Rattle.dg_serve.specs.Services.{Part, Begins, Looks, Ticks, Moment}
+use Rattle.dg_serve.specs.Promised.{event_item, item_played, RunOf, StoresConsistent, StoresKeepGolden, StaysConsistent, LeavesGolden, ServiceKeepsGolden, world_by, ReplaysTo}
+use Rattle.dg_serve.specs.Traces.{IsScript, trace, trace_lines}
+use Rattle.dg_serve.specs.Services.{Part, Begins, Looks, Ticks, Moment, Course, course}
 use Rattle.dg_serve.specs.Endings.{StoresOf, FindsNoImage, EndsInNext, event_of}
 use Rattle.dg_serve.specs.Served.{Outside, LeftBy, Wrote, Began}
 use Rattle.dg_serve.specs.declared.stop.Stop.{Stop}
@@ -68,16 +69,16 @@ module _ (table : List Row) (stores : List Store) (links : List (ℕ × ℕ)) wh
 -- the motes are as many behind each item
 item_count : (motes : ℕ) (item : Item) (w v : World) (reports : List Report) → length w.sites ≡ motes → ItemInRange motes item → ItemStep w item v reports → length v.sites ≡ motes
 item_count motes (Declares row) w v reports count range did = ap length (ap (λ (u : World). u.sites) did.world ∙ declared_sites (row_at w.declared row.image row.version) w row) ∙ count
-item_count motes (Happens x loud) w v reports count range did = step_count w x v did.0 (subst (λ (n : ℕ). StepFits n x) (sym count) range) did.1 ∙ count
+item_count motes (Happens x loud) w v reports count range did = step_count w x v did.0 (subst (λ (n : ℕ). StepInRange n x) (sym count) range) did.1 ∙ count
 
 -- ---- stores stay consistent
 
 -- what is known of steps
 pub record AnyLaws : Type 0 where
-  pub stepped : (golden : Row) (w v : World) (x : Step) (reports : List Report) → WorldConsistent golden w → StepFits (length w.sites) x → WorldStep w x v reports → WorldConsistent golden v
-  pub stopped : (golden : Row) (w : World) (e : Event) → WorldConsistent golden w → EventFits (length w.sites) e → StopsConsistent golden w e
+  pub stepped : (golden : Row) (w v : World) (x : Step) (reports : List Report) → WorldConsistent golden w → StepInRange (length w.sites) x → WorldStep w x v reports → WorldConsistent golden v
+  pub stopped : (golden : Row) (w : World) (e : Event) → WorldConsistent golden w → EventInRange (length w.sites) e → StopsConsistent golden w e
   pub declared : (golden : Row) (w v : World) (row : Row) (reports : List Report) → WorldConsistent golden w → IsDeclared row → DeclareStep w row v reports → WorldConsistent golden v
-  pub starts : (golden : Row) (w : World) (e : Event) → WorldConsistent golden w → EventFits (length w.sites) e → StartsSoundDoes golden (does w e)
+  pub starts : (golden : Row) (w : World) (e : Event) → WorldConsistent golden w → EventInRange (length w.sites) e → StartsSoundDoes golden (does w e)
 
 record Holds (golden : Row) (motes : ℕ) (w : World) : Type 0 where
   world : WorldConsistent golden w
@@ -90,35 +91,35 @@ record Has (golden : Row) (p : Played) : Type 0 where
 module _ (laws : AnyLaws) (golden : Row) (motes : ℕ) where
   item_consistent : (item : Item) (w v : World) (reports : List Report) → Holds golden motes w → ItemInRange motes item → ItemStep w item v reports → WorldConsistent golden v
   item_consistent (Declares row) w v reports h range did = laws.declared golden w v row reports h.world range did
-  item_consistent (Happens x loud) w v reports h range did = laws.stepped golden w v x did.0 h.world (subst (λ (n : ℕ). StepFits n x) (sym h.count) range) did.1
+  item_consistent (Happens x loud) w v reports h range did = laws.stepped golden w v x did.0 h.world (subst (λ (n : ℕ). StepInRange n x) (sym h.count) range) did.1
 
   item_starts : (item : Item) (w : World) → Holds golden motes w → ItemInRange motes item → StartsSoundItem golden item w
   item_starts (Declares row) w h range = tt
-  item_starts (Happens x loud) w h range = laws.starts golden w x.event h.world (subst (λ (n : ℕ). StepFits n x) (sym h.count) range).event
+  item_starts (Happens x loud) w h range = laws.starts golden w x.event h.world (subst (λ (n : ℕ). StepInRange n x) (sym h.count) range).event
 
-  played_holds : (past : List Played) (p : Played) → Holds golden motes p.before → IsInRange motes p → ItemStep p.before p.item p.after p.reports → Holds golden motes p.after × Has golden p
+  played_holds : (past : List Played) (p : Played) → Holds golden motes p.before → PlayedInRange motes p → ItemStep p.before p.item p.after p.reports → Holds golden motes p.after × Has golden p
   played_holds past p h range did =
       let world = item_consistent p.item p.before p.after p.reports h range did in
       (record { world = world; count = item_count motes p.item p.before p.after p.reports h.count range did }, record { leaves = world; starts = item_starts p.item p.before h range })
 
 pub stays_consistent : AnyLaws → (golden : Row) (motes : ℕ) (table : List Row) (stores : List Store) (links : List (ℕ × ℕ)) (played : List Played) (v : World) → length stores ≡ motes → StoresConsistent golden stores → Plays (first_world table links none_narrow stores) played v
-    → AllByRecursion (IsInRange motes) played → StaysConsistent golden motes played v
+    → AllByRecursion (PlayedInRange motes) played → StaysConsistent golden motes played v
 stays_consistent laws golden motes table stores links played v count h run ranges =
     let first : Holds golden motes (first_world table links none_narrow stores) = record { world = first_consistent table stores links golden h; count = first_count table stores links ∙ count } in
-    let all = plays (λ past w. Holds golden motes w) (IsInRange motes) (λ past p. Has golden p) (played_holds laws golden motes) [] played (first_world table links none_narrow stores) v run ranges first in
+    let all = plays (λ past w. Holds golden motes w) (PlayedInRange motes) (λ past p. Has golden p) (played_holds laws golden motes) [] played (first_world table links none_narrow stores) v run ranges first in
     record {
       stores = all_then (λ past p. Has golden p) (LeavesConsistent golden) (λ past p has. has.leaves) [] played all.1;
       ends = all.0.holds.world;
       starts = all_then (λ past p. Has golden p) (StartsSound golden) (λ past p has. has.starts) [] played all.1;
-      halves = λ e fits. laws.stopped golden v e all.0.holds.world (subst (λ (n : ℕ). EventFits n e) (sym all.0.holds.count) fits);
+      halves = λ e fits. laws.stopped golden v e all.0.holds.world (subst (λ (n : ℕ). EventInRange n e) (sym all.0.holds.count) fits);
     }
 
 -- ---- golden is kept
 
 pub record GoldenLaws : Type 0 where
-  pub stepped : (w v : World) (x : Step) (reports : List Report) → WorldKeepsGolden w → StepFits (length w.sites) x → WorldStep w x v reports → WorldKeepsGolden v
-  pub found : (w : World) (e : Event) → WorldKeepsGolden w → EventFits (length w.sites) e → FindsImage (does w e)
-  pub goes_on : (w v : World) (x : Step) → WorldKeepsGolden w → StepFits (length w.sites) x → EndsRun w x v → ⊥
+  pub stepped : (w v : World) (x : Step) (reports : List Report) → WorldKeepsGolden w → StepInRange (length w.sites) x → WorldStep w x v reports → WorldKeepsGolden v
+  pub found : (w : World) (e : Event) → WorldKeepsGolden w → EventInRange (length w.sites) e → FindsImage (does w e)
+  pub goes_on : (w v : World) (x : Step) → WorldKeepsGolden w → StepInRange (length w.sites) x → EndsRun w x v → ⊥
 
 pub record Keeps (motes : ℕ) (w : World) : Type 0 where
   pub golden : WorldKeepsGolden w
@@ -128,30 +129,30 @@ module _ (laws : GoldenLaws) (motes : ℕ) where
   item_golden : (item : Item) (w v : World) (reports : List Report) → Keeps motes w → ItemInRange motes item → ItemStep w item v reports → WorldKeepsGolden v
   item_golden (Declares row) w v reports k range did =
       subst (At (λ m y. SiteKeepsGolden y)) (sym (ap (λ (u : World). u.sites) did.world ∙ declared_sites (row_at w.declared row.image row.version) w row)) k.golden
-  item_golden (Happens x loud) w v reports k range did = laws.stepped w v x did.0 k.golden (subst (λ (n : ℕ). StepFits n x) (sym k.count) range) did.1
+  item_golden (Happens x loud) w v reports k range did = laws.stepped w v x did.0 k.golden (subst (λ (n : ℕ). StepInRange n x) (sym k.count) range) did.1
 
-  played_keeps : (past : List Played) (p : Played) → Keeps motes p.before → IsInRange motes p → ItemStep p.before p.item p.after p.reports → Keeps motes p.after × LeavesGolden p
+  played_keeps : (past : List Played) (p : Played) → Keeps motes p.before → PlayedInRange motes p → ItemStep p.before p.item p.after p.reports → Keeps motes p.after × LeavesGolden p
   played_keeps past p k range did =
       let golden = item_golden p.item p.before p.after p.reports k range did in
       (record { golden = golden; count = item_count motes p.item p.before p.after p.reports k.count range did }, golden)
 
 pub stays_golden : GoldenLaws → (motes : ℕ) (table : List Row) (stores : List Store) (links : List (ℕ × ℕ)) (played : List Played) (v : World) → length stores ≡ motes → StoresKeepGolden stores → Plays (first_world table links none_narrow stores) played v
-    → AllByRecursion (IsInRange motes) played → StaysGolden motes played v
+    → AllByRecursion (PlayedInRange motes) played → ServiceKeepsGolden motes played v
 stays_golden laws motes table stores links played v count h run ranges =
     let first : Keeps motes (first_world table links none_narrow stores) = record { golden = first_golden table stores links h; count = first_count table stores links ∙ count } in
-    let all = plays (λ past w. Keeps motes w) (IsInRange motes) (λ past p. LeavesGolden p) (played_keeps laws motes) [] played (first_world table links none_narrow stores) v run ranges first in
+    let all = plays (λ past w. Keeps motes w) (PlayedInRange motes) (λ past p. LeavesGolden p) (played_keeps laws motes) [] played (first_world table links none_narrow stores) v run ranges first in
     record {
       kept = all_then (λ past p. LeavesGolden p) LeavesGolden (λ past p has. has) [] played all.1;
       ends = all.0.holds.golden;
-      found = λ e fits. laws.found v e all.0.holds.golden (subst (λ (n : ℕ). EventFits n e) (sym all.0.holds.count) fits);
+      found = λ e fits. laws.found v e all.0.holds.golden (subst (λ (n : ℕ). EventInRange n e) (sym all.0.holds.count) fits);
     }
 
 -- the world behind it
 pub keeps_behind : GoldenLaws → (motes : ℕ) (table : List Row) (stores : List Store) (links : List (ℕ × ℕ)) (played : List Played) (v : World) → length stores ≡ motes → StoresKeepGolden stores → Plays (first_world table links none_narrow stores) played v
-    → AllByRecursion (IsInRange motes) played → Keeps motes v
+    → AllByRecursion (PlayedInRange motes) played → Keeps motes v
 keeps_behind laws motes table stores links played v count h run ranges =
     let first : Keeps motes (first_world table links none_narrow stores) = record { golden = first_golden table stores links h; count = first_count table stores links ∙ count } in
-    (plays (λ past w. Keeps motes w) (IsInRange motes) (λ past p. LeavesGolden p) (played_keeps laws motes) [] played (first_world table links none_narrow stores) v run ranges first).0.holds
+    (plays (λ past w. Keeps motes w) (PlayedInRange motes) (λ past p. LeavesGolden p) (played_keeps laws motes) [] played (first_world table links none_narrow stores) v run ranges first).0.holds
 
 -- no part of a plan finds that there is no image
 part_finds : GoldenLaws → (motes : ℕ) (w : World) (part : Part) (dt word : ℕ) (bytes : List ℕ) (old new : List Device) → Keeps motes w → PartFits motes part → FindsNoImage w (event_of part dt word bytes) old new → ⊥
@@ -166,23 +167,23 @@ next_finds laws motes s left old new k fits n =
     part_finds laws motes s.world n.part n.dt n.word n.bytes old new k (subst (AllByRecursion (PartFits motes)) n.is fits).0 n.ends
 
 -- a service ends so only where its last part did
-pub ends_found : (why : Option Stop) (answer : Status) (profile : NetProfile) (boards : ℕ) (s : Moment) (done : List Part) (events : List Event) (last : Moment) (left : List Part) (first : List Device) (after : Outside) (text : List ℕ)
-    → Wrote why answer profile boards events text → LeftBy why profile.motes s done events last left first after → (EndsInNext stop.NoImage last left first after.boards → ⊥) → answer ≡ status.NoImage → ⊥
-ends_found None answer profile boards s done events last left first after text wrote ends never is = let e = wrote.0 in absurd cc
-ends_found (Some stop.Memory) answer profile boards s done events last left first after text wrote ends never is = let e = wrote.0 in absurd cc
-ends_found (Some stop.Write) answer profile boards s done events last left first after text wrote ends never is = let e = wrote.0 in absurd cc
-ends_found (Some stop.Link) answer profile boards s done events last left first after text wrote ends never is = let e = wrote.0 in absurd cc
-ends_found (Some stop.Flash) answer profile boards s done events last left first after text wrote ends never is = let e = wrote.0 in absurd cc
-ends_found (Some stop.NotAVolume) answer profile boards s done events last left first after text (inl wrote) ends never is = let e = wrote.0 in absurd cc
-ends_found (Some stop.NotAVolume) answer profile boards s done events last left first after text (inr wrote) ends never is = let e = wrote.0 in absurd cc
-ends_found (Some stop.NoImage) answer profile boards s done events last left first after text wrote ends never is = never ends.0
+pub ends_found : (why : Option Stop) (answer : Status) (profile : NetProfile) (boards : ℕ) (s : Moment) (c : Course) (last : Moment) (first : List Device) (after : Outside) (text : List ℕ)
+    → Wrote why answer profile boards c.events text → LeftBy why profile.motes s c last first after → (EndsInNext stop.NoImage last c.left first after.boards → ⊥) → answer ≡ status.NoImage → ⊥
+ends_found None answer profile boards s c last first after text wrote ends never is = let e = wrote.0 in absurd cc
+ends_found (Some stop.Memory) answer profile boards s c last first after text wrote ends never is = let e = wrote.0 in absurd cc
+ends_found (Some stop.Write) answer profile boards s c last first after text wrote ends never is = let e = wrote.0 in absurd cc
+ends_found (Some stop.Link) answer profile boards s c last first after text wrote ends never is = let e = wrote.0 in absurd cc
+ends_found (Some stop.Flash) answer profile boards s c last first after text wrote ends never is = let e = wrote.0 in absurd cc
+ends_found (Some stop.NotAVolume) answer profile boards s c last first after text (inl wrote) ends never is = let e = wrote.0 in absurd cc
+ends_found (Some stop.NotAVolume) answer profile boards s c last first after text (inr wrote) ends never is = let e = wrote.0 in absurd cc
+ends_found (Some stop.NoImage) answer profile boards s c last first after text wrote ends never is = never ends.0
 
 pub finds_golden : GoldenLaws → (answer : Status) (profile : NetProfile) (seed turns : ℕ) (before after : Outside) (x : Began answer profile seed turns before after) (table : List Row) (stores : List Store) (fits : StoresOf profile.motes before.boards stores)
     → RunOf profile.motes (first_world table profile.links none_narrow stores) x.events (x.came table stores fits).last.world → StoresKeepGolden stores → answer ≡ status.NoImage → ⊥
 finds_golden laws answer profile seed turns before after x table stores fits run h is =
     let came = x.came table stores fits in
     let keeps = keeps_behind laws profile.motes table stores profile.links run.played came.last.world fits.count h run.plays run.ranges in
-    ends_found x.why answer profile (length before.boards) _ x.done x.events came.last x.left before.boards after x.text x.wrote came.ends
+    ends_found x.why answer profile (length before.boards) _ (course x.done x.events x.left) came.last before.boards after x.text x.wrote came.ends
     (λ n. next_finds laws profile.motes came.last x.left before.boards after.boards keeps (left_fits profile.motes turns x.done x.left x.parts) n) is
 
 -- ---- an uncut event leads to one world
@@ -204,41 +205,43 @@ others_are x y xs ys e = cc
 none_is_some : (x : Item) (xs : List Item) → x ∷ xs ≡ [] → ⊥
 none_is_some x xs e = absurd cc
 
-stepped_by : (u : World) (p : Played) (event : Event) → p.before ≡ u → p.item ≡ item_by event → ItemStep p.before p.item p.after p.reports → ItemStep u (item_by event) p.after p.reports
+stepped_by : (u : World) (p : Played) (event : Event) → p.before ≡ u → p.item ≡ event_item event → ItemStep p.before p.item p.after p.reports → ItemStep u (event_item event) p.after p.reports
 stepped_by u p event before item did = subst (λ (i : Item). ItemStep u i p.after p.reports) item (subst (λ (b : World). ItemStep b p.item p.after p.reports) before did)
 
 -- and so do uncut events one after the other
-one_end : (events : List Event) (u v w : World) (ps qs : List Played) → map item_played ps ≡ map item_by events → map item_played qs ≡ map item_by events → Plays u ps v → Plays u qs w → w ≡ v
+one_end : (events : List Event) (u v w : World) (ps qs : List Played) → map item_played ps ≡ map event_item events → map item_played qs ≡ map event_item events → Plays u ps v → Plays u qs w → w ≡ v
 unfolding Plays
 one_end [] u v w [] [] e f h k = sym k ∙ h
 one_end [] u v w (p ∷ ps) qs e f h k = absurd (none_is_some (item_played p) (map item_played ps) e)
 one_end [] u v w [] (q ∷ qs) e f h k = absurd (none_is_some (item_played q) (map item_played qs) f)
-one_end (x ∷ xs) u v w [] qs e f h k = absurd (none_is_some (item_by x) (map item_by xs) (sym e))
-one_end (x ∷ xs) u v w (p ∷ ps) [] e f h k = absurd (none_is_some (item_by x) (map item_by xs) (sym f))
+one_end (x ∷ xs) u v w [] qs e f h k = absurd (none_is_some (event_item x) (map event_item xs) (sym e))
+one_end (x ∷ xs) u v w (p ∷ ps) [] e f h k = absurd (none_is_some (event_item x) (map event_item xs) (sym f))
 one_end (x ∷ xs) u v w (p ∷ ps) (q ∷ qs) e f h k =
-    let a = stepped_by u p x h.0 (first_is (item_played p) (item_by x) (map item_played ps) (map item_by xs) e) h.1 in
-    let b = stepped_by u q x k.0 (first_is (item_played q) (item_by x) (map item_played qs) (map item_by xs) f) k.1 in
+    let a = stepped_by u p x h.0 (first_is (item_played p) (event_item x) (map item_played ps) (map event_item xs) e) h.1 in
+    let b = stepped_by u q x k.0 (first_is (item_played q) (event_item x) (map item_played qs) (map event_item xs) f) k.1 in
     let same : q.after ≡ p.after = one_world u q.after p.after x b.0 a.0 b.1 a.1 in
-    one_end xs p.after v w ps qs (others_are (item_played p) (item_by x) (map item_played ps) (map item_by xs) e) (others_are (item_played q) (item_by x) (map item_played qs) (map item_by xs) f) h.2 (subst (λ (z : World). Plays z qs w) same k.2)
+    one_end xs p.after v w ps qs (others_are (item_played p) (event_item x) (map item_played ps) (map event_item xs) e) (others_are (item_played q) (event_item x) (map item_played qs) (map event_item xs) f) h.2 (subst (λ (z : World). Plays z qs w) same k.2)
 
 -- ---- the items of a trace, and where its run begins
 
 abbrev link_line : ℕ × ℕ → Line
 link_line = λ l. Link l.0 l.1
 
-events_items : (place : Place) (events : List Event) → items_behind place None (map HappensLine events) ≡ map item_by events
+events_items : (place : Place) (events : List Event) → place.cut ≡ None → items_behind place (map HappensLine events) ≡ map event_item events
 unfolding items_behind
-events_items place [] = refl
-events_items place (e ∷ es) = ap (λ (l : List Item). item_by e ∷ l) (events_items (record place { events = true; cut = false }) es)
+events_items place [] none = refl
+events_items place (e ∷ es) none =
+    ap (λ (o : Option CutOfPower). Happens (record { event = e; cut = o }) true ∷ items_behind (record place { events = true; cut = None }) (map HappensLine es)) none
+    ∙ ap (λ (l : List Item). event_item e ∷ l) (events_items (record place { events = true; cut = None }) es refl)
 
-links_items : (place : Place) (links : List (ℕ × ℕ)) (events : List Event) → items_behind place None (map link_line links ++ map HappensLine events) ≡ map item_by events
+links_items : (place : Place) (links : List (ℕ × ℕ)) (events : List Event) → place.cut ≡ None → items_behind place (map link_line links ++ map HappensLine events) ≡ map event_item events
 unfolding items_behind
-links_items place [] events = events_items place events
-links_items place (l ∷ ls) events = links_items (record place { links = place.links ++ (l.0, l.1) ∷ [] }) ls events
+links_items place [] events none = events_items place events none
+links_items place (l ∷ ls) events none = links_items (record place { links = place.links ++ (l.0, l.1) ∷ [] }) ls events none
 
-trace_items : (profile : NetProfile) (events : List Event) → items_of (trace_lines profile events) ≡ map item_by events
+trace_items : (profile : NetProfile) (events : List Event) → items_of (trace_lines profile events) ≡ map event_item events
 unfolding items_behind
-trace_items profile events = links_items _ profile.links events
+trace_items profile events = links_items _ profile.links events refl
 
 -- the links of a place, and its narrow motes
 record IsAt (links : List (ℕ × ℕ)) (place : Place) : Type 0 where
@@ -248,7 +251,7 @@ record IsAt (links : List (ℕ × ℕ)) (place : Place) : Type 0 where
 events_at : (links : List (ℕ × ℕ)) (place : Place) (events : List Event) → IsAt links place → IsAt links (place_behind place (map HappensLine events))
 unfolding place_behind
 events_at links place [] at = at
-events_at links place (e ∷ es) at = events_at links (record place { events = true; cut = false }) es (record { are = at.are; wide = at.wide })
+events_at links place (e ∷ es) at = events_at links (record place { events = true; cut = None }) es (record { are = at.are; wide = at.wide })
 
 links_at : (before links : List (ℕ × ℕ)) (place : Place) (events : List Event) → IsAt before place → IsAt (before ++ links) (place_behind place (map link_line links ++ map HappensLine events))
 unfolding place_behind

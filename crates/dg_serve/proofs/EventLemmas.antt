@@ -1,39 +1,33 @@
 -- An event at a board, as a step of a service.
-use Rattle.std.proofs.Common.{◌≡◌, ◌≢◌, ◌⊎◌, ℕ, zero, suc, ◌+◌, ◌<◌, ◌≤◌, true, List, [], ◌∷◌, ◌++◌, length, drop, get_or, set, append-nil, refl, ap, sym, ◌∙◌, subst, ⊎_elim, inl, inr, arith}
-use Rattle.std.specs.Prelude.{slice_get, slice_index_or, take, Option, Some, None, option_map, Result, Ok, Err}
+use Rattle.std.proofs.Common.{◌≡◌, ◌≢◌, ◌⊎◌, ℕ, zero, suc, ◌+◌, ◌<◌, ◌≤◌, true, List, [], ◌∷◌, ◌++◌, length, drop, get_or, set, refl, ap, sym, ◌∙◌, subst, ⊎_elim, arith}
+use Rattle.std.specs.Prelude.{slice_get, slice_index_or, Option, Some, None, option_map}
 use Rattle.std.proofs.Math.ListN.{length-set}
 use Rattle.std.proofs.lemmas.Bool.{cases_lt}
 use Rattle.std.proofs.lemmas.List.{get_or-set_same, get_or-set_other}
 use Rattle.std.proofs.lemmas.Option.{same_Some}
 use Rattle.dg_base.specs.declared.events.Event.{Event}
 use Rattle.dg_link.specs.Inboxes.{Inboxes}
-use Rattle.dg_mote.specs.Motes.{sent_in}
-use Rattle.dg_mote.specs.declared.outbox.Outbox.{Outbox}
-use Rattle.dg_nor.specs.Device.{Device, Endures}
-use Rattle.dg_nor.specs.Fuse.{beneath_of}
+use Rattle.dg_nor.specs.Device.{Device}
 use Rattle.dg_nor.specs.Trail.{last}
 use Rattle.dg_volume.specs.Store.{Store}
 use Rattle.dg_volume.specs.Stands.{Stands, IsVolume, IsNoVolume}
-use Rattle.dg_rules.specs.World.{World, Site, Sent, Running, no_site, site, store_at}
+use Rattle.dg_rules.specs.World.{World, Site, Sent, no_site, site, store_at}
 use Rattle.dg_rules.specs.Premises.{WorldTimely}
 use Rattle.dg_rules.specs.Events.{does, mote_of, dt_of}
-use Rattle.dg_rules.specs.Steps.{WorldStep, cut_world, EndsRun}
+use Rattle.dg_rules.specs.Steps.{cut_world}
 use Rattle.dg_script.specs.declared.report.Report.{Report}
 use Rattle.dg_world.specs.Airs.{sent_now}
 use Rattle.dg_world.specs.Cuts.{IsStopped, IsLacking}
-use Rattle.dg_world.specs.Worlds.{MoteStands, SiteStands}
+use Rattle.dg_world.specs.Worlds.{SiteStands}
 use Rattle.dg_world.specs.Stepped.{StepDone}
-use Rattle.dg_world.specs.Alone.{uncut, IsReset, AloneDone, PlaysAlone, Powers, CountKeeps}
-use Rattle.dg_world.specs.declared.telling.Fault.{Fault}
-use Rattle.dg_world.specs.declared.telling.Fault.TheVariants as fault
+use Rattle.dg_world.specs.Alone.{uncut}
 use Rattle.dg_world.specs.declared.world.RunningMote.{RunningMote}
 use Rattle.dg_world.proofs.PlaceLemmas.{is_or}
-use Rattle.dg_serve.specs.Services.{Moment, Steps, new_frames, handed, neighbours_by}
-use Rattle.dg_serve.specs.Endings.{BoardStands, BoardsStandBut, BoardsStand, StopsIn, FindsNoVolume, FindsNoImage, EventEnds}
-use Rattle.dg_serve.specs.Standings.{Standing, StandsFor, BoardsAreUsed, BoardsAreCalm, PlayedAt, handed_by, HandedToSome, stop_by}
-use Rattle.dg_serve.specs.declared.stop.Stop.{Stop}
-use Rattle.dg_serve.specs.declared.stop.Stop.TheVariants as stop
-use Rattle.dg_serve.proofs.BoardLemmas.{get_set_same, get_set_other, got_within, used_one, calm_one}
+use Rattle.dg_seed.specs.Words.{generator_of}
+use Rattle.dg_serve.specs.Services.{Moment, Steps, new_frames, handed}
+use Rattle.dg_serve.specs.Endings.{BoardStands, BoardsStandBut, BoardsStand, StopsInEvent, FindsNoVolume, FindsNoImage}
+use Rattle.dg_serve.specs.Standings.{Standing, StandsFor, handed_by}
+use Rattle.dg_serve.proofs.BoardLemmas.{get_set_same, get_set_other, got_within}
 
 -- ---- lists by their indices
 
@@ -176,7 +170,7 @@ module _ (links : List (ℕ × ℕ)) (motes begun on ahead : ℕ) (event : Event
     stands_then same_clock handed_on = record {
       moment = let e = ap (λ t. t.moment) h.timeline in let n = d.moment in omega (arith, e, n, moment);
       reading = ap (λ t. t.reading) h.timeline ∙ h.stands.reading;
-      words = ap (λ t. t.words) h.timeline ∙ h.stands.words;
+      words = ap (λ t. generator_of t.words) h.timeline ∙ h.stands.words;
       clock = same_clock ∙ h.stands.clock;
       inboxes = handed_on
           ∙ ap (option_map (handed_by links motes (mote_of event) frame)) h.stands.inboxes
@@ -201,7 +195,7 @@ module _ (links : List (ℕ × ℕ)) (motes begun on ahead : ℕ) (event : Event
   -- ---- it was not done
 
   pub stops_in : after.stopped ≡ true → ((a : Device) → slice_get first (mote_of event) ≡ Some a → IsVolume a.image → IsStopped s.world (mote_of event) (does s.world event) None after)
-      → ((a : Device) → slice_get first (mote_of event) ≡ Some a → IsNoVolume a.image → after.image ≡ before.image) → StopsIn s.world event first q.boards
+      → ((a : Device) → slice_get first (mote_of event) ≡ Some a → IsNoVolume a.image → after.image ≡ before.image) → StopsInEvent s.world event first q.boards
   stops_in stopped halts same = record {
     before = here.0;
     after = after;

@@ -1,5 +1,5 @@
 -- Parts that are done one after the other.
-use Rattle.std.proofs.Common.{◌≡◌, ◌≢◌, ◌⊎◌, ℕ, ◌+◌, ◌-◌, ◌*◌, ◌^◌, ◌<◌, ◌≤◌, List, [], ◌∷◌, ◌++◌, length, take, map, append-nil, append_assoc, refl, ap, sym, ◌∙◌, subst, ⊎_elim, inl, inr, arith, length-append}
+use Rattle.std.proofs.Common.{◌≡◌, ℕ, ◌<◌, ◌≤◌, List, [], ◌∷◌, ◌++◌, take, map, append-nil, append_assoc, refl, ap, sym, ◌∙◌, subst, ⊎_elim, inl, inr, arith, length-append}
 use Rattle.std.specs.Prelude.{slice_get, Option, Some, None, Result, Ok, Err}
 use Rattle.std.specs.List.{flat_map}
 use Rattle.std.proofs.lemmas.List.{map-append}
@@ -14,20 +14,20 @@ use Rattle.dg_nor.specs.Device.{Device}
 use Rattle.dg_volume.specs.Stands.{IsVolume}
 use Rattle.dg_script.specs.Spelling.{line_text}
 use Rattle.dg_script.specs.declared.line.Line.TheVariants.{Happens}
-use Rattle.dg_serve.specs.Services.{Part, Moment, PartDone, Serves}
+use Rattle.dg_serve.specs.Services.{Part, Moment, PartDone, PartsDone}
 use Rattle.dg_serve.specs.Traces.{UntoldLast, event_lines}
 use Rattle.dg_serve.specs.Endings.{EndsInNext, BoardsLeft, FoundBy, PartlyHanded, LinkLeft}
-use Rattle.dg_serve.specs.Standings.{Standing, StandsFor, Ready, BoardsAreUsed, BoardsAreCalm, Went, Leaves, CountsBy, Halted, GoesOn}
+use Rattle.dg_serve.specs.Standings.{Standing, Ready, Went, CountsBy, PartsHalted, GoesOn, stretch}
 use Rattle.dg_serve.specs.declared.stop.Stop.{Stop}
 use Rattle.dg_serve.specs.declared.stop.Stop.TheVariants as stop
 use Rattle.dg_serve.proofs.BoardLemmas.{used_same, used_then, used_more, all_calm, calm_all_then}
 
 -- ---- services
 
-pub serves_then : (motes : ℕ) (s t u : Moment) (ps qs : List Part) (es fs : List Event) → Serves motes s ps es t → Serves motes t qs fs u → Serves motes s (ps ++ qs) (es ++ fs) u
-unfolding Serves
+pub serves_then : (motes : ℕ) (s t u : Moment) (ps qs : List Part) (es fs : List Event) → PartsDone motes s ps es t → PartsDone motes t qs fs u → PartsDone motes s (ps ++ qs) (es ++ fs) u
+unfolding PartsDone
 serves_then motes s t u [] qs es fs first second =
-    let P : Moment → List Event → Type 0 = λ m l. Serves motes m qs (l ++ fs) u in
+    let P : Moment → List Event → Type 0 = λ m l. PartsDone motes m qs (l ++ fs) u in
     subst (λ l. P s l) (sym first.0) (subst (λ m. P m []) first.1 second)
 serves_then motes s t u (p ∷ ps) qs es fs first second = (
   first.0,
@@ -38,12 +38,12 @@ serves_then motes s t u (p ∷ ps) qs es fs first second = (
   serves_then motes first.0 t u ps qs first.2 fs first.5 second,
 )
 
-pub one_part : (motes : ℕ) (s t : Moment) (part : Part) (es : List Event) → PartDone motes part s es t → Serves motes s (part ∷ []) es t
-unfolding Serves
+pub one_part : (motes : ℕ) (s t : Moment) (part : Part) (es : List Event) → PartDone motes part s es t → PartsDone motes s (part ∷ []) es t
+unfolding PartsDone
 one_part motes s t part es done = (t, es, [], done, sym (append-nil es), (refl, refl))
 
-pub no_part : (motes : ℕ) (s : Moment) → Serves motes s [] [] s
-unfolding Serves
+pub no_part : (motes : ℕ) (s : Moment) → PartsDone motes s [] [] s
+unfolding PartsDone
 no_part motes s = (refl, refl)
 
 pub lines_then : (es fs : List Event) → event_lines (es ++ fs) ≡ event_lines es ++ event_lines fs
@@ -121,7 +121,7 @@ left_more stop.NotAVolume s left more old new h = next_more stop.NotAVolume s le
 left_more stop.NoImage s left more old new h = next_more stop.NoImage s left more old new h
 
 -- further parts are left
-pub halts_more : (why : Stop) (motes begun : ℕ) (links : List (ℕ × ℕ)) (ps more : List Part) (p q : Standing) → Halted why motes begun links ps p q → Halted why motes begun links (ps ++ more) p q
+pub halts_more : (why : Stop) (motes begun : ℕ) (links : List (ℕ × ℕ)) (ps more : List Part) (p q : Standing) → PartsHalted why motes begun links ps p q → PartsHalted why motes begun links (ps ++ more) p q
 halts_more why motes begun links ps more p q h = record {
   events = h.events;
   done = h.done;
@@ -139,8 +139,8 @@ halts_more why motes begun links ps more p q h = record {
   counts = h.counts;
 }
 
-pub halts_as : (why : Stop) (motes begun : ℕ) (links : List (ℕ × ℕ)) (ps qs : List Part) (p q : Standing) → ps ≡ qs → Halted why motes begun links ps p q → Halted why motes begun links qs p q
-halts_as why motes begun links ps qs p q e h = subst (λ l. Halted why motes begun links l p q) e h
+pub halts_as : (why : Stop) (motes begun : ℕ) (links : List (ℕ × ℕ)) (ps qs : List Part) (p q : Standing) → ps ≡ qs → PartsHalted why motes begun links ps p q → PartsHalted why motes begun links qs p q
+halts_as why motes begun links ps qs p q e h = subst (λ l. PartsHalted why motes begun links l p q) e h
 
 counts_then : (why : Stop) (p q r : Standing) → q.faults ≡ p.faults → q.failures ≡ p.failures → p.reached ≤ q.reached → CountsBy why q r → CountsBy why p r
 counts_then why p q r faults failures reached c = record {
@@ -154,7 +154,7 @@ counts_then why p q r faults failures reached c = record {
 }
 
 -- what the last event found, also where others came before
-found_then : (motes : ℕ) (s t u : Moment) (ps qs : List Part) (es fs : List Event) (found : Option Inboxes) → Serves motes s ps es t → FoundBy motes t qs fs u found → FoundBy motes s (ps ++ qs) (es ++ fs) u found
+found_then : (motes : ℕ) (s t u : Moment) (ps qs : List Part) (es fs : List Event) (found : Option Inboxes) → PartsDone motes s ps es t → FoundBy motes t qs fs u found → FoundBy motes s (ps ++ qs) (es ++ fs) u found
 found_then motes s t u ps qs es fs found first n = record {
   earlier = ps ++ n.earlier;
   part = n.part;
@@ -168,11 +168,11 @@ found_then motes s t u ps qs es fs found first n = record {
   takes = n.takes;
 }
 
-partly_then : (motes : ℕ) (s t u : Moment) (ps qs : List Part) (es fs : List Event) (after : Option Inboxes) → Serves motes s ps es t → PartlyHanded motes t qs fs u after → PartlyHanded motes s (ps ++ qs) (es ++ fs) u after
+partly_then : (motes : ℕ) (s t u : Moment) (ps qs : List Part) (es fs : List Event) (after : Option Inboxes) → PartsDone motes s ps es t → PartlyHanded motes t qs fs u after → PartlyHanded motes s (ps ++ qs) (es ++ fs) u after
 unfolding found_then
 partly_then motes s t u ps qs es fs after first h = record { found = h.found; by = found_then motes s t u ps qs es fs h.found first h.by; first = h.first }
 
-link_then : (why : Stop) (motes : ℕ) (s t u : Moment) (ps qs : List Part) (es fs : List Event) (after : Option Inboxes) → Serves motes s ps es t → LinkLeft why motes t qs fs u after → LinkLeft why motes s (ps ++ qs) (es ++ fs) u after
+link_then : (why : Stop) (motes : ℕ) (s t u : Moment) (ps qs : List Part) (es fs : List Event) (after : Option Inboxes) → PartsDone motes s ps es t → LinkLeft why motes t qs fs u after → LinkLeft why motes s (ps ++ qs) (es ++ fs) u after
 link_then stop.Memory motes s t u ps qs es fs after first left = left
 link_then stop.Write motes s t u ps qs es fs after first left = found_then motes s t u ps qs es fs after first left
 link_then stop.Link motes s t u ps qs es fs after first (inl same) = inl same
@@ -194,7 +194,7 @@ untold_then es fs text u =
     }
 
 -- some parts were done, and then a stop came in others
-pub went_halts : (why : Stop) (motes begun mid : ℕ) (links : List (ℕ × ℕ)) (ps qs : List Part) (p q r : Standing) → mid ≤ motes → Went motes begun mid links ps p q → Halted why motes mid links qs q r → Halted why motes begun links (ps ++ qs) p r
+pub went_halts : (why : Stop) (motes begun mid : ℕ) (links : List (ℕ × ℕ)) (ps qs : List Part) (p q r : Standing) → mid ≤ motes → Went motes begun mid links ps p q → PartsHalted why motes mid links qs q r → PartsHalted why motes begun links (ps ++ qs) p r
 went_halts why motes begun mid links ps qs p q r order a h = record {
   events = a.events ++ h.events;
   done = ps ++ h.done;
@@ -217,6 +217,6 @@ went_halts why motes begun mid links ps qs p q r order a h = record {
 }
 
 -- parts, and then others, each done or stopped in
-pub goes_then : (x : Result (Unit {0}) Stop) (motes begun mid on : ℕ) (links : List (ℕ × ℕ)) (ps qs : List Part) (p q r : Standing) → mid ≤ on → mid ≤ motes → Went motes begun mid links ps p q → GoesOn x motes mid on links qs q r → GoesOn x motes begun on links (ps ++ qs) p r
+pub goes_then : (x : Result (Unit {0}) Stop) (motes begun mid on : ℕ) (links : List (ℕ × ℕ)) (ps qs : List Part) (p q r : Standing) → mid ≤ on → mid ≤ motes → Went motes begun mid links ps p q → GoesOn x motes links (stretch mid on qs) q r → GoesOn x motes links (stretch begun on (ps ++ qs)) p r
 goes_then (Ok u) motes begun mid on links ps qs p q r order within a b = went_then motes begun mid on links ps qs p q r order a b
 goes_then (Err why) motes begun mid on links ps qs p q r order within a b = went_halts why motes begun mid links ps qs p q r within a b

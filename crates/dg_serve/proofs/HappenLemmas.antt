@@ -1,6 +1,6 @@
 -- How an event ends, from what the calls of it did.
-use Rattle.std.proofs.Common.{◌≡◌, ◌≢◌, ◌⊎◌, ℕ, ◌+◌, ◌<◌, ◌≤◌, List, [], ◌∷◌, ◌++◌, length, get_or, set, append-nil, refl, ap, sym, ◌∙◌, subst, ⊎_elim, inl, inr, arith}
-use Rattle.std.specs.Prelude.{slice_get, slice_index_or, take, option_map, Option, Some, None, Result, Ok, Err, IsErrAnd}
+use Rattle.std.proofs.Common.{◌≡◌, ◌≢◌, ◌⊎◌, ℕ, ◌<◌, ◌≤◌, List, [], ◌∷◌, ◌++◌, length, get_or, set, append-nil, refl, ap, sym, ◌∙◌, subst, inl, inr, arith}
+use Rattle.std.specs.Prelude.{slice_get, slice_index_or, take, option_map, Option, None, Result, Ok, Err, IsErrAnd}
 use Rattle.std.proofs.Math.ListN.{length-set}
 use Rattle.std.specs.Vec.{with_items}
 use Rattle.std.proofs.lemmas.List.{take_all, with_items_is}
@@ -10,14 +10,13 @@ use Rattle.dg_base.specs.Clock.{Answers}
 use Rattle.dg_base.specs.Outside.{Puts, PutsFront}
 use Rattle.dg_base.specs.declared.events.Event.{Event}
 use Rattle.dg_base.specs.declared.events.Event.TheVariants.{Tick, Hear, Last, Reset, Inject, Order, Frame}
-use Rattle.dg_link.specs.Inboxes.{Inboxes}
 use Rattle.dg_mote.specs.Motes.{sent_in}
 use Rattle.dg_mote.specs.declared.outbox.Outbox.{Outbox}
 use Rattle.dg_nor.specs.Device.{Device, Endures}
 use Rattle.dg_nor.specs.Fuse.{beneath_of}
 use Rattle.dg_volume.specs.Stands.{IsVolume}
 use Rattle.dg_rules.specs.Events.{mote_of, dt_of}
-use Rattle.dg_rules.specs.Ranges.{EventFits}
+use Rattle.dg_rules.specs.Ranges.{EventInRange}
 use Rattle.dg_script.specs.Sizes.{most_motes}
 use Rattle.dg_script.specs.Fitting.{FitsEvent, FitsLine}
 use Rattle.dg_script.specs.Spelling.{line_text}
@@ -27,16 +26,16 @@ use Rattle.dg_world.specs.Alone.{IsAlone, IsReset, CountKeeps}
 use Rattle.dg_world.specs.declared.telling.Fault.{Fault}
 use Rattle.dg_world.specs.declared.telling.Fault.TheVariants as fault
 use Rattle.dg_world.specs.declared.world.RunningMote.{RunningMote}
-use Rattle.dg_serve.specs.Services.{Moment, Steps, handed}
+use Rattle.dg_serve.specs.Services.{Moment}
 use Rattle.dg_serve.specs.Traces.{event_lines, IsEventLine}
 use Rattle.dg_serve.specs.Endings.{BoardsStand}
-use Rattle.dg_serve.specs.Standings.{Standing, StandsFor, Ready, BoardsAreUsed, BoardsAreCalm, CountsBy, PlayedAt, HappensAt, DoesNotHappen, HappensPartly, HappenEnds, HandedToSome, FailuresBy, begun_before, begun_behind, handed_by, stop_by, stops_by}
+use Rattle.dg_serve.specs.Standings.{Standing, StandsFor, Ready, BoardsAreUsed, BoardsAreCalm, PlayedAt, at_mote, HappensAt, DoesNotHappen, HappensPartly, HappenEnds, HandedToSome, FailuresBy, begun_before, begun_behind, handed_by, stop_by, stops_by}
 use Rattle.dg_serve.specs.declared.service.Service.{Service}
 use Rattle.dg_serve.specs.declared.stop.Stop.{Stop}
 use Rattle.dg_serve.specs.declared.stop.Stop.TheVariants as stop
 use Rattle.dg_serve.proofs.BoardLemmas.{used_same, used_one, all_calm, calm_one}
 use Rattle.dg_serve.proofs.EventLemmas.{same_of, stands_boards}
-use Rattle.dg_serve.proofs.PlayLemmas.{KeepsTime, ran_at, Setting, ForSome, kept, then, steps_then, stands_behind, boards_behind, frames_behind, some_handed, failed_run}
+use Rattle.dg_serve.proofs.PlayLemmas.{KeepsTime, ran_at, Setting, kept, then, steps_then, stands_behind, boards_behind, frames_behind, some_handed, failed_run}
 
 -- ---- the line of an event
 
@@ -73,10 +72,10 @@ pub written_back : (s : Service) (ms ns : List (Option RunningMote)) (mote : ℕ
 written_back s ms ns mote x items put = with_items_is s.motes ns (ap length put ∙ length-set ms mote x ∙ ap length items ∙ sym s.motes.ok.0)
 
 pub setting_of : (motes mote : ℕ) (event read : Event) (r : Result Outbox Fault) (p q : Standing) (ms ns : List (Option RunningMote)) → event ≡ read → ms ≡ p.service.motes.items → q.service.motes.items ≡ ns → ns ≡ set ms mote (slice_index_or ns mote None)
-    → PlayedAt r read mote p.service.timeline.moment (slice_index_or ms mote None) (slice_index_or ns mote None) p.boards q.boards → q.service.timeline ≡ p.service.timeline → mote < motes → length p.service.motes.items ≡ motes → (IsReset event → ran_at p mote ≡ None) → Setting motes mote event r p q
+    → PlayedAt r read mote p.service.timeline.moment (at_mote (slice_index_or ms mote None) p.boards) (at_mote (slice_index_or ns mote None) q.boards) → q.service.timeline ≡ p.service.timeline → mote < motes → length p.service.motes.items ≡ motes → (IsReset event → ran_at p mote ≡ None) → Setting motes mote event r p q
 setting_of motes mote event read r p q ms ns same items back put played timeline known many off = record {
-  played = subst (λ xs. PlayedAt r event mote p.service.timeline.moment (ran_at p mote) (slice_index_or xs mote None) p.boards q.boards) (sym back)
-      (subst (λ xs. PlayedAt r event mote p.service.timeline.moment (slice_index_or xs mote None) (slice_index_or ns mote None) p.boards q.boards) items (subst (λ e. PlayedAt r e mote p.service.timeline.moment (slice_index_or ms mote None) (slice_index_or ns mote None) p.boards q.boards) (sym same) played));
+  played = subst (λ xs. PlayedAt r event mote p.service.timeline.moment (at_mote (ran_at p mote) p.boards) (at_mote (slice_index_or xs mote None) q.boards)) (sym back)
+      (subst (λ xs. PlayedAt r event mote p.service.timeline.moment (at_mote (slice_index_or xs mote None) p.boards) (at_mote (slice_index_or ns mote None) q.boards)) items (subst (λ e. PlayedAt r e mote p.service.timeline.moment (at_mote (slice_index_or ms mote None) p.boards) (at_mote (slice_index_or ns mote None) q.boards)) (sym same) played));
   put = back ∙ put ∙ ap (λ xs. set xs mote (slice_index_or ns mote None)) items ∙ ap (λ xs. set p.service.motes.items mote (slice_index_or xs mote None)) (sym back);
   timeline = timeline;
   known = known;
@@ -170,7 +169,7 @@ pub record IsPlayed (motes : ℕ) (links : List (ℕ × ℕ)) (event : Event) (o
   pub alone : IsAlone event
   pub set : Setting motes (mote_of event) event (Ok out) p q
   pub time : KeepsTime
-  pub fits : EventFits motes event
+  pub fits : EventInRange motes event
   pub known : IsKnown motes links event p
   pub reached : q.reached ≡ p.reached
 
@@ -266,7 +265,7 @@ module _ (motes : ℕ) (links : List (ℕ × ℕ)) (event : Event) (out : Outbox
     faults = faults;
   }
 
-pub is_played : (motes mote : ℕ) (links : List (ℕ × ℕ)) (event : Event) (r : Result Outbox Fault) (out : Outbox) (p q : Standing) → Ok out ≡ stops_by r → IsAlone event → mote_of event ≡ mote → Setting motes mote event r p q → KeepsTime → EventFits motes event → IsKnown motes links event p → q.reached ≡ p.reached → IsPlayed motes links event out p q
+pub is_played : (motes mote : ℕ) (links : List (ℕ × ℕ)) (event : Event) (r : Result Outbox Fault) (out : Outbox) (p q : Standing) → Ok out ≡ stops_by r → IsAlone event → mote_of event ≡ mote → Setting motes mote event r p q → KeepsTime → EventInRange motes event → IsKnown motes links event p → q.reached ≡ p.reached → IsPlayed motes links event out p q
 is_played motes mote links event r out p q e alone at s time fits known reached = record {
   alone = alone;
   set = setting_done motes (mote_of event) event r out p q e (subst (λ m. Setting motes m event r p q) (sym at) s);

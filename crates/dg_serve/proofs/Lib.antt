@@ -8,6 +8,7 @@ pub mod PlayedLemmas
 pub mod HandLemmas
 pub mod HappenLemmas
 pub mod TurnLemmas
+pub mod LookLemmas
 pub mod HeadLemmas
 pub mod LoopLemmas
 pub mod StartLemmas

@@ -7,21 +7,21 @@ use Rattle.dg_base.specs.Outside.{Takes, Puts, AtEnd}
 use Rattle.dg_base.specs.declared.answers.Status.{Status}
 use Rattle.dg_base.specs.declared.answers.Status.TheVariants as status
 use Rattle.dg_netcfg.specs.Profile.{netprofile}
-use Rattle.dg_netcfg.specs.Readings.{Reads as ReadsAs}
+use Rattle.dg_netcfg.specs.Readings.{Reads}
 use Rattle.dg_netcfg.specs.declared.profile.NetProfile.{NetProfile}
 use Rattle.dg_netcfg.specs.declared.profile.ProfileFault.{ProfileFault}
 use Rattle.dg_netcfg.specs.declared.profile.ProfileFault.TheVariants as fault
 use Rattle.dg_script.specs.Sizes.{most_used_bytes}
 use Rattle.dg_serve.specs.Served.{Outside, Hindered, Served, TooFewBoards}
 use Rattle.dg_serve.specs.Traces.{last_line}
-use Rattle.dg_serve.specs.Networks.{Opening, Over, FaultAt, TooFew, Serves, by_boards, by_profile, opening_of, over_line, fault_line, TellsAlone, DoneBy, NotRead, WasRead, NetworkServed}
-use Rattle.dg_serve.specs.Spelled.{none_of, SpellsNone, Spells, Reads, ReadsNone, NetworkRead, TellsLine, TellsNone}
+use Rattle.dg_serve.specs.Networks.{Opening, Over, FaultAt, TooFew, Serves, by_boards, by_profile, opening_of, over_line, fault_line, TellsAlone, DoneBy, AroundService, around_service, NotRead, WasRead, NetworkServed}
+use Rattle.dg_serve.specs.Spelled.{no_profile_of, SpellsNone, Spells, ReadsProfile, ReadsNone, NetworkRead, TellsLine, TellsNone}
 use Rattle.dg_serve.specs.declared.network.NoProfile.{NoProfile}
 use Rattle.dg_serve.specs.declared.network.NoProfile.TheVariants as none
 
 -- ---- a text
 
-spells_by : (f : ProfileFault) (text : List ℕ) → length text ≤ most_used_bytes → ReadsAs (Err f) (netprofile text) → SpellsNone (none_of f) text
+spells_by : (f : ProfileFault) (text : List ℕ) → length text ≤ most_used_bytes → Reads (Err f) (netprofile text) → SpellsNone (no_profile_of f) text
 spells_by fault.Memory text few h = tt
 spells_by fault.NotToml text few h = (few, sym h)
 spells_by fault.Key text few h = (few, sym h)
@@ -29,7 +29,7 @@ spells_by fault.Id text few h = (few, sym h)
 spells_by fault.Link text few h = (few, sym h)
 spells_by fault.Port text few h = (few, sym h)
 
-pub spells_fault : (f : ProfileFault) (why : NoProfile) (text : List ℕ) → length text ≤ most_used_bytes → ReadsAs (Err f) (netprofile text) → why ≡ none_of f → SpellsNone why text
+pub spells_fault : (f : ProfileFault) (why : NoProfile) (text : List ℕ) → length text ≤ most_used_bytes → Reads (Err f) (netprofile text) → why ≡ no_profile_of f → SpellsNone why text
 spells_fault f why text few h is = subst (λ (x : NoProfile). SpellsNone x text) (sym is) (spells_by f text few h)
 
 -- ---- an input that was read to its end
@@ -40,7 +40,7 @@ none_spelled none.ReadFault input at_end before after h e calm = absurd h
 none_spelled none.TooLong input at_end before after h e calm = (h, e, calm)
 none_spelled (none.Fault f) input at_end before after h e calm = (h, e, calm)
 
-reads_spelled : (r : Result NetProfile NoProfile) (input : List ℕ) (at_end : Type 0) (before after : ℕ) → Spells r input → (at_end ⊎ (most_used_bytes < length input)) → after ≡ before → Reads r input at_end before after
+reads_spelled : (r : Result NetProfile NoProfile) (input : List ℕ) (at_end : Type 0) (before after : ℕ) → Spells r input → (at_end ⊎ (most_used_bytes < length input)) → after ≡ before → ReadsProfile r input at_end before after
 reads_spelled (Ok profile) input at_end before after h e calm = (h, e, calm)
 reads_spelled (Err why) input at_end before after h e calm = none_spelled why input at_end before after h e calm
 
@@ -95,17 +95,17 @@ done_boards : (n : ℕ) (profile : NetProfile) (answer : Status) (seed turns : �
 done_boards n profile answer seed turns before after few enough =
     by_test (nat_lt n profile.motes) profile answer seed turns before after (λ e. few (less_by n profile.motes e)) (λ e. enough (least_by n profile.motes e))
 
-pub served_by : (profile : NetProfile) (n : ℕ) (answer : Status) (seed turns : ℕ) (left_before left_after : Option (List ℕ)) (reads_before reads_after : ℕ) (before after : Outside) → n ≡ length before.boards → NetworkRead (Ok profile) left_before left_after reads_before reads_after
-    → (profile.motes ≤ n → Served answer profile seed turns before after) → (n < profile.motes → TooFewBoards answer profile before after) → NetworkServed answer seed turns left_before left_after reads_before reads_after before after
-served_by profile n answer seed turns left_before left_after reads_before reads_after before after count read enough few = record {
+pub served_by : (profile : NetProfile) (n : ℕ) (answer : Status) (seed turns : ℕ) (a b : AroundService) → n ≡ length a.outside.boards → NetworkRead (Ok profile) a.left b.left a.reads b.reads
+    → (profile.motes ≤ n → Served answer profile seed turns a.outside b.outside) → (n < profile.motes → TooFewBoards answer profile a.outside b.outside) → NetworkServed answer seed turns a b
+served_by profile n answer seed turns a b count read enough few = record {
   input = read.input;
   taken = read.taken;
   few_bytes = read.few_bytes;
   done = inr (record {
     enough = read.reads.1;
     reads = read.reads.2;
-    done = subst (λ (o : Opening). DoneBy o answer seed turns before after) (sym (opens_by (length before.boards) read.input (Ok profile) read.reads.0.0 read.reads.0.1))
-        (subst (λ (k : ℕ). DoneBy (by_boards k profile) answer seed turns before after) count (done_boards n profile answer seed turns before after few enough));
+    done = subst (λ (o : Opening). DoneBy o answer seed turns a.outside b.outside) (sym (opens_by (length a.outside.boards) read.input (Ok profile) read.reads.0.0 read.reads.0.1))
+        (subst (λ (k : ℕ). DoneBy (by_boards k profile) answer seed turns a.outside b.outside) count (done_boards n profile answer seed turns a.outside b.outside few enough));
   });
 }
 
@@ -118,7 +118,7 @@ alone : (answer of : Status) (line : List ℕ) (before : Outside) (w : Option (L
 alone answer of line before w f told = record { boards = refl; clock = refl; link = refl; failures = refl; told = told }
 
 pub none_served : (why : NoProfile) (answer : Status) (seed turns : ℕ) (left_before left_after : Option (List ℕ)) (reads_before reads_after : ℕ) (before : Outside) (w : Option (List ℕ)) (f : ℕ) → NetworkRead (Err why) left_before left_after reads_before reads_after
-    → TellsNone why answer before.written w before.faults f → NetworkServed answer seed turns left_before left_after reads_before reads_after before (record before { written = w; faults = f })
+    → TellsNone why answer before.written w before.faults f → NetworkServed answer seed turns (around_service left_before reads_before before) (around_service left_after reads_after (record before { written = w; faults = f }))
 none_served none.Memory answer seed turns left_before left_after reads_before reads_after before w f read told = record {
   input = read.input;
   taken = read.taken;
@@ -204,12 +204,12 @@ done_rises (Serves profile) answer seed turns before after h = served_rises answ
 same_rises : (before after : Outside) → after ≡ before → Rises before after
 same_rises before after e = subst (λ (x : Outside). Rises before x) (sym e) (omega arith, omega arith)
 
-pub network_rises : (answer : Status) (seed turns : ℕ) (left_before left_after : Option (List ℕ)) (reads_before reads_after : ℕ) (before after : Outside) → NetworkServed answer seed turns left_before left_after reads_before reads_after before after → Rises before after
-network_rises answer seed turns left_before left_after reads_before reads_after before after h = by h.done
+pub network_rises : (answer : Status) (seed turns : ℕ) (a b : AroundService) → NetworkServed answer seed turns a b → Rises a.outside b.outside
+network_rises answer seed turns a b h = by h.done
   where
-    by : NotRead answer reads_before reads_after before after ⊎ WasRead h.input (AtEnd left_after) answer seed turns reads_before reads_after before after → Rises before after
-    by (inl x) = same_rises before after x.same
-    by (inr x) = done_rises (opening_of (length before.boards) h.input) answer seed turns before after x.done
+    by : NotRead answer a b ⊎ WasRead h.input answer seed turns a b → Rises a.outside b.outside
+    by (inl x) = same_rises a.outside b.outside x.same
+    by (inr x) = done_rises (opening_of (length a.outside.boards) h.input) answer seed turns a.outside b.outside x.done
 
 -- ---- a link that fails
 
@@ -262,13 +262,13 @@ done_linked (FaultAt f) answer seed turns before after h e = absurd (alone_unlin
 done_linked (TooFew profile) answer seed turns before after h e = absurd (few_unlinked answer profile before after h e)
 done_linked (Serves profile) answer seed turns before after h e = served_linked answer profile seed turns before after h e
 
-pub network_linked : (answer : Status) (seed turns : ℕ) (left_before left_after : Option (List ℕ)) (reads_before reads_after : ℕ) (before after : Outside) → NetworkServed answer seed turns left_before left_after reads_before reads_after before after → answer ≡ status.LinkFault → Rose before.failures after.failures
-network_linked answer seed turns left_before left_after reads_before reads_after before after h e = by h.done
+pub network_linked : (answer : Status) (seed turns : ℕ) (a b : AroundService) → NetworkServed answer seed turns a b → answer ≡ status.LinkFault → Rose a.outside.failures b.outside.failures
+network_linked answer seed turns a b h e = by h.done
   where
-    by : NotRead answer reads_before reads_after before after ⊎ WasRead h.input (AtEnd left_after) answer seed turns reads_before reads_after before after → Rose before.failures after.failures
+    by : NotRead answer a b ⊎ WasRead h.input answer seed turns a b → Rose a.outside.failures b.outside.failures
     by (inl x) = absurd (unread x.cause)
       where
-        unread : ((answer ≡ status.Memory) × (reads_after ≡ reads_before)) ⊎ ((answer ≡ status.ReadFault) × Rose reads_before reads_after) → ⊥
+        unread : ((answer ≡ status.Memory) × (b.reads ≡ a.reads)) ⊎ ((answer ≡ status.ReadFault) × Rose a.reads b.reads) → ⊥
         unread (inl y) = unlike answer status.Memory status.LinkFault y.0 e memory_apart
         unread (inr y) = unlike answer status.ReadFault status.LinkFault y.0 e read_apart
-    by (inr x) = done_linked (opening_of (length before.boards) h.input) answer seed turns before after x.done e
+    by (inr x) = done_linked (opening_of (length a.outside.boards) h.input) answer seed turns a.outside b.outside x.done e

@@ -1,15 +1,13 @@
 -- A service that is opened.
-use Rattle.std.proofs.Common.{◌≡◌, ℕ, zero, suc, ◌+◌, ◌<◌, ◌≤◌, List, [], ◌∷◌, ◌++◌, length, take, add-one, refl, ap, sym, ◌∙◌, subst, inl, inr, arith}
-use Rattle.std.specs.Prelude.{slice_index_or, replicate, Option, Some, None, option_map, Result, Ok, Err, IsErrAnd}
+use Rattle.std.proofs.Common.{◌≡◌, ℕ, zero, suc, ◌+◌, List, [], ◌∷◌, ◌++◌, length, take, add-one, refl, ap, sym, ◌∙◌, subst, arith}
+use Rattle.std.specs.Prelude.{slice_index_or, replicate, Option, None, Result, Ok, Err, IsErrAnd}
 use Rattle.std.proofs.lemmas.List.{take_all}
-use Rattle.dg_words.specs.Counts.{Rose}
-use Rattle.dg_base.specs.Outside.{Puts, PutsFront}
-use Rattle.dg_link.specs.Inboxes.{Inboxes, emptied}
+use Rattle.dg_base.specs.Outside.{Puts}
 use Rattle.dg_netcfg.specs.declared.profile.NetProfile.{NetProfile}
 use Rattle.dg_world.specs.declared.world.RunningMote.{RunningMote}
-use Rattle.dg_serve.specs.Traces.{written, head_lines}
+use Rattle.dg_serve.specs.Traces.{lines_text, head_lines}
 use Rattle.dg_serve.specs.Served.{Outside, Hindered}
-use Rattle.dg_serve.specs.Ran.{status_of, Opens, OpensLink}
+use Rattle.dg_serve.specs.Ran.{status_of, ServiceOpens, OpensLink}
 use Rattle.dg_serve.specs.declared.service.Service.{Service}
 use Rattle.dg_serve.specs.declared.stop.Stop.{Stop}
 use Rattle.dg_serve.specs.declared.stop.Stop.TheVariants as stop
@@ -41,13 +39,13 @@ none_many xs n same = ap length same ∙ many_in None n
 
 -- ---- where it was not opened
 
-pub opens_err : (r : Result Service Stop) (why : Stop) (profile : NetProfile) (seed : ℕ) (before : Outside) (addressees reached : ℕ) (after : Outside) → IsErrAnd r (λ e. e ≡ why) → Hindered (status_of why) profile before after → after.clock ≡ before.clock → Opens r profile seed before addressees reached after
+pub opens_err : (r : Result Service Stop) (why : Stop) (profile : NetProfile) (seed : ℕ) (before : Outside) (addressees reached : ℕ) (after : Outside) → IsErrAnd r (λ e. e ≡ why) → Hindered (status_of why) profile before after → after.clock ≡ before.clock → ServiceOpens r profile seed before addressees reached after
 opens_err (Ok v) why profile seed before addressees reached after is hindered clock = absurd is
-opens_err (Err e) why profile seed before addressees reached after is hindered clock = subst (λ (w : Stop). Opens (Err w) profile seed before addressees reached after) (sym is) (hindered, clock)
+opens_err (Err e) why profile seed before addressees reached after is hindered clock = subst (λ (w : Stop). ServiceOpens (Err w) profile seed before addressees reached after) (sym is) (hindered, clock)
 
-pub open_hindered : (why : Stop) (profile : NetProfile) (before after : Outside) (f g addressees : ℕ) → OpensLink (Err why) profile.motes before.inboxes after.inboxes before.failures after.failures addressees → Puts before.written after.written (written (head_lines profile)) → after.faults ≡ before.faults → Hindered (status_of why) profile before after
+pub open_hindered : (why : Stop) (profile : NetProfile) (before after : Outside) (f g addressees : ℕ) → OpensLink (Err why) profile.motes before.inboxes after.inboxes before.failures after.failures addressees → Puts before.written after.written (lines_text (head_lines profile)) → after.faults ≡ before.faults → Hindered (status_of why) profile before after
 open_hindered stop.Memory profile before after f g addressees opens put faults =
-    ((length (written (head_lines profile)), subst (λ l. Puts before.written after.written l) (sym (take_all (length (written (head_lines profile))) (written (head_lines profile)) (omega arith))) put), faults, opens)
+    ((length (lines_text (head_lines profile)), subst (λ l. Puts before.written after.written l) (sym (take_all (length (lines_text (head_lines profile))) (lines_text (head_lines profile)) (omega arith))) put), faults, opens)
 open_hindered stop.Link profile before after f g addressees opens put faults = (put, faults, opens.1, opens.0, opens.2)
 open_hindered stop.Write profile before after f g addressees opens put faults = absurd opens
 open_hindered stop.Flash profile before after f g addressees opens put faults = absurd opens

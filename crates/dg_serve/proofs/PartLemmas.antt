@@ -1,16 +1,15 @@
 -- The parts of a service, from what their calls did.
-use Rattle.std.proofs.Common.{◌≡◌, ◌≢◌, ◌⊎◌, ℕ, ◌+◌, ◌-◌, ◌*◌, ◌^◌, ◌<◌, ◌≤◌, List, [], ◌∷◌, ◌++◌, length, take, refl, ap, sym, ◌∙◌, subst, ⊎_elim, inl, inr, arith}
-use Rattle.std.specs.Prelude.{slice_get, slice_index_or, Option, Some, None, Result, Ok, Err}
-use Rattle.rand_pcg.specs.Lcg.{Lcg}
+use Rattle.std.proofs.Common.{◌≡◌, ℕ, ◌+◌, ◌≤◌, List, [], ◌∷◌, length, refl, ap, sym, ◌∙◌, subst, arith}
+use Rattle.std.specs.Prelude.{slice_get, slice_index_or, Option, None}
 use Rattle.rand_pcg.specs.Pcg.{pcg32}
 use Rattle.dg_base.specs.Clock.{Answers, Answered}
 use Rattle.dg_base.specs.declared.events.Event.{Event}
-use Rattle.dg_base.specs.declared.events.Event.TheVariants.{Tick, Reset, Frame}
 use Rattle.dg_nor.specs.Device.{Device}
 use Rattle.dg_rules.specs.World.{site}
 use Rattle.dg_script.specs.Fitting.{IsTimed}
 use Rattle.dg_world.specs.Worlds.{SiteStands}
-use Rattle.dg_serve.specs.Services.{Part, Begins, Looks, Ticks, Moment, Reads, Steps, Happened, PartDone, later, at_reading}
+use Rattle.dg_seed.specs.Words.{generator_of}
+use Rattle.dg_serve.specs.Services.{Moment, ReadsClock, Steps, Happened, later, at_reading}
 use Rattle.dg_serve.specs.Standings.{Standing, StandsFor}
 use Rattle.dg_serve.specs.declared.timeline.Timeline.{Timeline}
 
@@ -19,15 +18,15 @@ pub record Draws (old new : Timeline) (dt word : ℕ) (told told_then : Option A
   pub dt_is : dt ≡ later old.reading new.reading
   pub rises : old.reading ≤ new.reading
   pub answered : Answered told told_then new.reading
-  pub word_is : (word, new.words) ≡ pcg32 old.words
+  pub word_is : (word, generator_of new.words) ≡ pcg32 (generator_of old.words)
   pub fits : IsTimed dt word
   pub moment : new.moment ≡ old.moment + dt
 
 -- the moment between the draw and the event
 abbrev pub drawn : Moment → Timeline → Option Answers → Moment
-drawn s new told_then = at_reading s new.reading told_then new.words
+drawn s new told_then = at_reading s new.reading told_then (generator_of new.words)
 
-pub reads_of : (s : Moment) (old new : Timeline) (dt word : ℕ) (told told_then : Option Answers) → old.reading ≡ s.reading → old.words ≡ s.words → told ≡ s.clock → Draws old new dt word told told_then → Reads s dt word (drawn s new told_then)
+pub reads_of : (s : Moment) (old new : Timeline) (dt word : ℕ) (told told_then : Option Answers) → old.reading ≡ s.reading → generator_of old.words ≡ s.words → told ≡ s.clock → Draws old new dt word told told_then → ReadsClock s dt word (drawn s new told_then)
 reads_of s old new dt word told told_then reading words clock d = record {
   answer = new.reading;
   fits = d.fits;
@@ -59,5 +58,5 @@ stands_drawn motes begun links first s p q dt word st d boards motes_same inboxe
 }
 
 -- an event that happened after a draw
-pub happened_of : (motes : ℕ) (s t : Moment) (new : Timeline) (told_then : Option Answers) (event : (dt word : ℕ) → Event) (dt word : ℕ) → Reads s dt word (drawn s new told_then) → Steps motes (drawn s new told_then) (event dt word) t → Happened motes s event (event dt word ∷ []) t
+pub happened_of : (motes : ℕ) (s t : Moment) (new : Timeline) (told_then : Option Answers) (event : (dt word : ℕ) → Event) (dt word : ℕ) → ReadsClock s dt word (drawn s new told_then) → Steps motes (drawn s new told_then) (event dt word) t → Happened motes s event (event dt word ∷ []) t
 happened_of motes s t new told_then event dt word reads steps = record { dt = dt; word = word; between = drawn s new told_then; reads = reads; one = refl; steps = steps }

@@ -1,7 +1,6 @@
 -- What an event at a board is by its kind: a reset, a tick, or a frame.
-use Rattle.std.proofs.Common.{◌≡◌, ◌≢◌, ◌⊎◌, ℕ, ◌+◌, ◌<◌, ◌≤◌, List, [], ◌∷◌, length, set, refl, ap, sym, ◌∙◌, subst, ⊎_elim, inl, inr, arith}
+use Rattle.std.proofs.Common.{◌≡◌, ◌⊎◌, ℕ, ◌<◌, List, length, set, ap, sym, ◌∙◌, subst, ⊎_elim, inl, inr, arith}
 use Rattle.std.specs.Prelude.{Bool, not, true, false, slice_get, slice_index_or, take, option_map, Option, Some, None, Result, Ok, Err}
-use Rattle.std.proofs.lemmas.Option.{same_Some}
 use Rattle.dg_base.specs.declared.events.Event.{Event}
 use Rattle.dg_base.specs.declared.events.Event.TheVariants.{Tick, Hear, Last, Reset, Inject, Order, Frame}
 use Rattle.dg_mote.specs.Motes.{sent_in}
@@ -10,15 +9,15 @@ use Rattle.dg_nor.specs.Device.{Device, Endures}
 use Rattle.dg_nor.specs.Fuse.{beneath_of}
 use Rattle.dg_volume.specs.Stands.{Stands, IsVolume, IsNoVolume}
 use Rattle.dg_script.specs.Places.{none_narrow}
-use Rattle.dg_rules.specs.World.{World, Running, site, wide_in, wide_at, store_at}
+use Rattle.dg_rules.specs.World.{World, Running, site, is_wide_mote, wide_at, store_at}
 use Rattle.dg_rules.specs.Premises.{WorldTimely}
-use Rattle.dg_rules.specs.Ranges.{EventFits, StepFits}
-use Rattle.dg_rules.specs.Events.{does, mote_of, dt_of}
+use Rattle.dg_rules.specs.Ranges.{EventInRange, StepInRange}
+use Rattle.dg_rules.specs.Events.{mote_of, dt_of}
 use Rattle.dg_rules.specs.Steps.{WorldStep}
 use Rattle.dg_base.specs.declared.events.Step.{Step}
 use Rattle.dg_script.specs.declared.report.Report.{Report}
 use Rattle.dg_world.specs.Worlds.{MoteStands, SiteStands}
-use Rattle.dg_world.specs.Alone.{uncut, IsAlone, IsReset, AloneDone, PlaysAlone, Powers, CountKeeps}
+use Rattle.dg_world.specs.Alone.{uncut, IsAlone, IsReset, AloneDone, PlaysAlone, CountKeeps}
 use Rattle.dg_world.specs.declared.telling.Fault.{Fault}
 use Rattle.dg_world.specs.declared.telling.Fault.TheVariants as fault
 use Rattle.dg_world.specs.declared.world.RunningMote.{RunningMote}
@@ -26,16 +25,14 @@ use Rattle.dg_link.specs.Inboxes.{Inboxes}
 use Rattle.dg_world.specs.Airs.{sent_now}
 use Rattle.dg_serve.specs.Services.{Moment, Steps, new_frames, handed_to, neighbours_by}
 use Rattle.dg_serve.specs.Endings.{BoardsStand, EventEnds, HandedToFirst}
-use Rattle.dg_serve.specs.Standings.{Standing, StandsFor, Ready, BoardsAreUsed, BoardsAreCalm, PlayedAt, begun_before, begun_behind, handed_by, HandedToSome, stop_by}
-use Rattle.dg_serve.specs.declared.stop.Stop.{Stop}
-use Rattle.dg_serve.specs.declared.stop.Stop.TheVariants as stop
+use Rattle.dg_serve.specs.Standings.{Standing, StandsFor, PlayedAt, at_mote, begun_before, begun_behind, handed_by, HandedToSome, stop_by}
 use Rattle.dg_serve.proofs.OpenLemmas.{one_in}
-use Rattle.dg_serve.proofs.BoardLemmas.{got_within, used_one, used_more, calm_one}
-use Rattle.dg_serve.proofs.EventLemmas.{got_some, same_of, behind, steps_on, frames_of, IsHere, stands_then, boards_then, stops_in, finds_no_volume, finds_no_image}
+use Rattle.dg_serve.proofs.BoardLemmas.{got_within}
+use Rattle.dg_serve.proofs.EventLemmas.{got_some, behind, steps_on, frames_of, IsHere, stands_then, boards_then, stops_in, finds_no_volume, finds_no_image}
 
 -- the law that keeps motes in time
 abbrev pub KeepsTime : Type 0
-KeepsTime = (w v : World) (x : Step) (reports : List Report) → WorldTimely w → StepFits (length w.sites) x → WorldStep w x v reports → WorldTimely v
+KeepsTime = (w v : World) (x : Step) (reports : List Report) → WorldTimely w → StepInRange (length w.sites) x → WorldStep w x v reports → WorldTimely v
 
 -- what ran at a mote
 abbrev pub ran_at : Standing → ℕ → Option RunningMote
@@ -43,7 +40,7 @@ ran_at p mote = slice_index_or p.service.motes.items mote None
 
 -- An event was played at the board of this mote.
 pub record Setting (motes mote : ℕ) (event : Event) (r : Result Outbox Fault) (p q : Standing) : Type 0 where
-  pub played : PlayedAt r event mote p.service.timeline.moment (ran_at p mote) (ran_at q mote) p.boards q.boards
+  pub played : PlayedAt r event mote p.service.timeline.moment (at_mote (ran_at p mote) p.boards) (at_mote (ran_at q mote) q.boards)
   pub put : q.service.motes.items ≡ set p.service.motes.items mote (ran_at q mote)
   pub timeline : q.service.timeline ≡ p.service.timeline
   pub known : mote < motes
@@ -127,7 +124,7 @@ volume_on links motes (Order m number image version dt word) r first s p q alone
 
 -- every mote of a service is wide
 is_wide : (w : World) (m : ℕ) → w.narrow ≡ none_narrow → wide_at w m ≡ true
-is_wide w m none = ap (λ (narrow : List Bool). wide_in narrow m) none ∙ ap not (one_in false 16 m)
+is_wide w m none = ap (λ (narrow : List Bool). is_wide_mote narrow m) none ∙ ap not (one_in false 16 m)
 
 -- ---- what is known of the board without a moment
 
@@ -170,7 +167,7 @@ kept links motes (Order m number image version dt word) r p q alone x known = ab
 
 -- ---- it was done
 
-module _ (links : List (ℕ × ℕ)) (motes : ℕ) (event : Event) (out : Outbox) (p q : Standing) (alone : IsAlone event) (x : Setting motes (mote_of event) event (Ok out) p q) (time : KeepsTime) (fits : EventFits motes event) (first : List Device) (s : Moment) (st : StandsFor motes (begun_before motes event) links (dt_of event) first s p) where
+module _ (links : List (ℕ × ℕ)) (motes : ℕ) (event : Event) (out : Outbox) (p q : Standing) (alone : IsAlone event) (x : Setting motes (mote_of event) event (Ok out) p q) (time : KeepsTime) (fits : EventInRange motes event) (first : List Device) (s : Moment) (st : StandsFor motes (begun_before motes event) links (dt_of event) first s p) where
   volume : (a : Device) → slice_get first (mote_of event) ≡ Some a → IsVolume a.image
   volume = volume_on links motes event (Ok out) first s p q alone x st (λ reset. (x.played.powers reset).ends)
 
@@ -183,7 +180,7 @@ module _ (links : List (ℕ × ℕ)) (motes : ℕ) (event : Event) (out : Outbox
   then = behind motes s done_at.done.world
 
   timely_then : WorldTimely done_at.done.world
-  timely_then = time s.world done_at.done.world (uncut event) done_at.done.reports st.timely (record { event = subst (λ n. EventFits n event) (sym st.sites) fits; cut = tt }) done_at.done.step
+  timely_then = time s.world done_at.done.world (uncut event) done_at.done.reports st.timely (record { event = subst (λ n. EventInRange n event) (sym st.sites) fits; cut = tt }) done_at.done.step
 
   pub steps_then : Steps motes s event then
   unfolding then

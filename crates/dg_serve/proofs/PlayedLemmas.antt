@@ -1,5 +1,5 @@
 -- An event at the board at an index.
-use Rattle.std.proofs.Common.{◌≡◌, ℕ, ◌+◌, ◌<◌, List, length, get_or, set, map, refl, ap, sym, ◌∙◌, subst}
+use Rattle.std.proofs.Common.{◌≡◌, ℕ, ◌+◌, ◌<◌, List, length, get_or, set, map, ap, sym, ◌∙◌, subst}
 use Rattle.std.specs.Prelude.{true, slice_get, slice_index_or, Option, Some, None, Result}
 use Rattle.std.proofs.lemmas.List.{map-set, get_or-set_same, get_or_read}
 use Rattle.dg_base.specs.declared.events.Event.{Event}
@@ -12,7 +12,7 @@ use Rattle.dg_world.specs.Alone.{IsReset, PlaysAlone, Powers}
 use Rattle.dg_world.specs.declared.telling.Fault.{Fault}
 use Rattle.dg_world.specs.declared.world.RunningMote.{RunningMote}
 use Rattle.dg_world.proofs.PlaceLemmas.{got_or}
-use Rattle.dg_serve.specs.Standings.{PlayedAt}
+use Rattle.dg_serve.specs.Standings.{PlayedAt, at_mote}
 
 module _ {N : Type 0} (device : N → Device) (r : Result Outbox Fault) (event : Event) (now i : ℕ) (motes : List (Option RunningMote)) (boards : List N) (v u : Option RunningMote) (a b : N) (many : i < length motes) (wide : i < length boards) (ran : v ≡ get_or motes i v) (stood : a ≡ get_or boards i a) (at : mote_of event ≡ i) (plays : (w : World) → SiteStands (device a) v (site w (mote_of event)) → mote_of event < length w.sites → now ≡ w.moment + dt_of event → wide_at w (mote_of event) ≡ true → PlaysAlone r w event u (device a) (device b)) (powers : IsReset event → Powers r (device a) (device b)) where
   ran_is : slice_index_or motes i None ≡ v
@@ -21,7 +21,7 @@ module _ {N : Type 0} (device : N → Device) (r : Result Outbox Fault) (event :
   runs_is : slice_index_or (set motes i u) i None ≡ u
   runs_is = get_or-set_same motes i u None many
 
-  played_here : PlayedAt r event i now v u (map device boards) (map device (set boards i b))
+  played_here : PlayedAt r event i now (at_mote v (map device boards)) (at_mote u (map device (set boards i b)))
   played_here = record {
     before = device a;
     after = device b;
@@ -31,9 +31,9 @@ module _ {N : Type 0} (device : N → Device) (r : Result Outbox Fault) (event :
     powers = powers;
   }
 
-  pub played_at : (mote : ℕ) → i ≡ mote → PlayedAt r event mote now (slice_index_or motes mote None) (slice_index_or (set motes i u) mote None) (map device boards) (map device (set boards i b))
+  pub played_at : (mote : ℕ) → i ≡ mote → PlayedAt r event mote now (at_mote (slice_index_or motes mote None) (map device boards)) (at_mote (slice_index_or (set motes i u) mote None) (map device (set boards i b)))
   played_at mote same =
-      let P : ℕ → Option RunningMote → Option RunningMote → Type 0 = λ m x y. PlayedAt r event m now x y (map device boards) (map device (set boards i b)) in
+      let P : ℕ → Option RunningMote → Option RunningMote → Type 0 = λ m x y. PlayedAt r event m now (at_mote x (map device boards)) (at_mote y (map device (set boards i b))) in
       subst (λ m. P m (slice_index_or motes m None) (slice_index_or (set motes i u) m None)) same (subst (λ x. P i x (slice_index_or (set motes i u) i None)) (sym ran_is) (subst (λ y. P i v y) (sym runs_is) played_here))
 
 -- the mote at the index may run

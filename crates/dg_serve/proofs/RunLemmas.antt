@@ -1,6 +1,5 @@
 -- The events of a service are a run of the rules.
-use Rattle.std.proofs.Common.{◌≡◌, ℕ, zero, suc, ◌<◌, ◌≤◌, true, List, [], ◌∷◌, ◌++◌, length, map, Some, refl, sym, ap, subst, ◌∙◌, inl, inr, arith}
-use Rattle.std.specs.Prelude.{All}
+use Rattle.std.proofs.Common.{◌≡◌, ℕ, zero, suc, ◌<◌, true, List, [], ◌∷◌, ◌++◌, length, map, refl, sym, ap, subst, ◌∙◌, inl, inr, arith}
 use Rattle.std.specs.List.{AllByRecursion, filter}
 use Rattle.std.proofs.lemmas.List.{map-append}
 use Rattle.std.proofs.lemmas.List.Elements.{recursion_from_All}
@@ -14,16 +13,16 @@ use Rattle.dg_rules.specs.World.{World, first_world}
 use Rattle.dg_rules.specs.Changes.{is_told}
 use Rattle.dg_rules.specs.Steps.{WorldStep}
 use Rattle.dg_rules.specs.Runs.{Played, Plays}
-use Rattle.dg_rules.specs.Ranges.{EventFits}
+use Rattle.dg_rules.specs.Ranges.{EventInRange}
 use Rattle.dg_rules.specs.Begins.{AreShaped, PlaysBoards}
-use Rattle.dg_rules.specs.Premises.{IsInRange, LinkFits}
+use Rattle.dg_rules.specs.Premises.{PlayedInRange, LinkFits}
 use Rattle.dg_script.specs.Places.{none_narrow}
 use Rattle.dg_script.specs.Items.{Item, Happens}
 use Rattle.dg_script.specs.declared.report.Report.{Report}
 use Rattle.dg_world.specs.Alone.{uncut}
 use Rattle.dg_serve.specs.Each.{each}
-use Rattle.dg_serve.specs.Services.{Part, Begins, Looks, Ticks, Moment, Reads, at_reading, Happened, PartDone, Serves, plan, beginning, turn_of_all}
-use Rattle.dg_serve.specs.Promised.{item_by, item_played, RunOf}
+use Rattle.dg_serve.specs.Services.{Part, Begins, Looks, Ticks, Moment, Happened, PartDone, PartsDone, plan, beginning, turn_of_all}
+use Rattle.dg_serve.specs.Promised.{event_item, item_played, RunOf}
 use Rattle.dg_serve.proofs.EachLemmas.{each_more, each_none}
 
 -- ---- all of a list
@@ -81,7 +80,7 @@ plays_one u v event reports step = (refl, (reports, step, refl), refl)
 no_run : (motes : ℕ) (u v : World) → u ≡ v → RunOf motes u [] v
 no_run motes u v same = record { played = []; items = refl; plays = plays_none u v same; ranges = tt }
 
-one_run : (motes : ℕ) (u v : World) (event : Event) (reports : List Report) → EventFits motes event → WorldStep u (uncut event) v reports → RunOf motes u (event ∷ []) v
+one_run : (motes : ℕ) (u v : World) (event : Event) (reports : List Report) → EventInRange motes event → WorldStep u (uncut event) v reports → RunOf motes u (event ∷ []) v
 one_run motes u v event reports fits step = record {
   played = record { item = Happens (uncut event) true; before = u; after = v; reports = filter (is_told true) reports } ∷ [];
   items = refl;
@@ -92,14 +91,14 @@ one_run motes u v event reports fits step = record {
 runs_both : (motes : ℕ) (u v w : World) (es fs : List Event) → RunOf motes u es v → RunOf motes v fs w → RunOf motes u (es ++ fs) w
 runs_both motes u v w es fs a b = record {
   played = a.played ++ b.played;
-  items = map-append item_played a.played b.played ∙ ap (λ (xs : List Item). xs ++ map item_played b.played) a.items ∙ ap (λ (ys : List Item). map item_by es ++ ys) b.items ∙ sym (map-append item_by es fs);
+  items = map-append item_played a.played b.played ∙ ap (λ (xs : List Item). xs ++ map item_played b.played) a.items ∙ ap (λ (ys : List Item). map event_item es ++ ys) b.items ∙ sym (map-append event_item es fs);
   plays = plays_both u v w a.played b.played a.plays b.plays;
-  ranges = all_both (IsInRange motes) a.played b.played a.ranges b.ranges;
+  ranges = all_both (PlayedInRange motes) a.played b.played a.ranges b.ranges;
 }
 
 -- ---- what the parts did
 
-happened_run : (motes : ℕ) (s : Moment) (event : (dt word : ℕ) → Event) (es : List Event) (t : Moment) → ((dt word : ℕ) → EventFits motes (event dt word)) → Happened motes s event es t → RunOf motes s.world es t.world
+happened_run : (motes : ℕ) (s : Moment) (event : (dt word : ℕ) → Event) (es : List Event) (t : Moment) → ((dt word : ℕ) → EventInRange motes (event dt word)) → Happened motes s event es t → RunOf motes s.world es t.world
 happened_run motes s event es t fits h =
     let same : h.between.world ≡ s.world = ap (λ (m : Moment). m.world) h.reads.same in
     subst (λ (l : List Event). RunOf motes s.world l t.world) (sym h.one)
@@ -113,8 +112,8 @@ part_run motes (Looks m) s es t fits (inl h) =
 part_run motes (Looks m) s es t fits (inr h) =
     happened_run motes (record s { inboxes = h.taken }) (λ dt word. Frame m dt word h.bytes) es t (λ dt word. (fits, h.fits.few, h.fits.bytes)) h.heard
 
-pub serves_run : (motes : ℕ) (s : Moment) (parts : List Part) (es : List Event) (t : Moment) → AllByRecursion (PartFits motes) parts → Serves motes s parts es t → RunOf motes s.world es t.world
-unfolding Serves
+pub serves_run : (motes : ℕ) (s : Moment) (parts : List Part) (es : List Event) (t : Moment) → AllByRecursion (PartFits motes) parts → PartsDone motes s parts es t → RunOf motes s.world es t.world
+unfolding PartsDone
 serves_run motes s [] es t fits h =
     subst (λ (l : List Event). RunOf motes s.world l t.world) (sym h.0) (no_run motes s.world t.world (ap (λ (x : Moment). x.world) (sym h.1)))
 serves_run motes s (part ∷ parts) es t fits h =
@@ -137,5 +136,5 @@ plays_boards profile table stores events v allowed count shaped r = record {
   plays = r.plays;
   few = omega (arith, count, allowed.motes.1);
   links_fit = subst (λ (n : ℕ). AllByRecursion (LinkFits n) profile.links) (sym count) (links_fit profile.motes profile.links (recursion_from_All (Joins profile.motes) profile.links allowed.links));
-  ranges = subst (λ (n : ℕ). AllByRecursion (IsInRange n) r.played) (sym count) r.ranges;
+  ranges = subst (λ (n : ℕ). AllByRecursion (PlayedInRange n) r.played) (sym count) r.ranges;
 }

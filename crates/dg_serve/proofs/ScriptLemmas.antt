@@ -1,8 +1,8 @@
 -- The trace of a service is a script.
-use Rattle.std.proofs.Common.{◌≡◌, ◌≢◌, ◌⊎◌, ℕ, zero, suc, ◌+◌, ◌-◌, ◌<◌, ◌≤◌, ◌^◌, ◌==◌, ◌||◌, ◌&&◌, not, Bool, true, false, cond, Decides, List, [], ◌∷◌, ◌++◌, length, map, take, append_assoc, decimal, Ok, refl, sym, ap, subst, ◌∙◌, inl, inr, arith}
-use Rattle.std.specs.Prelude.{All, AllPairs, slice_index, nat_lt, codes, None, Result}
+use Rattle.std.proofs.Common.{◌≡◌, ◌≢◌, ℕ, suc, ◌+◌, ◌-◌, ◌<◌, ◌≤◌, ◌^◌, ◌==◌, ◌||◌, ◌&&◌, not, Bool, true, false, cond, Decides, List, [], ◌∷◌, ◌++◌, length, map, take, append_assoc, decimal, Ok, refl, sym, ap, subst, ◌∙◌, inl, inr, arith}
+use Rattle.std.specs.Prelude.{AllPairs, slice_index, nat_lt, codes, None, Result}
 use Rattle.std.specs.Char.{is_ascii_digit}
-use Rattle.std.specs.List.{AllByRecursion, flat_map, list_any, slice_split, onto_first}
+use Rattle.std.specs.List.{AllByRecursion, list_any, slice_split, onto_first}
 use Rattle.std.specs.Str.{all_ascii_digits}
 use Rattle.std.specs.Str.Lines.{lines, lines_of_parts, strip_carriage_return}
 use Rattle.std.specs.Str.Parse.{digits_value}
@@ -18,22 +18,20 @@ use Rattle.dg_base.specs.declared.events.Event.{Event}
 use Rattle.dg_base.specs.declared.events.Event.TheVariants.{Tick, Hear, Last, Reset, Inject, Order, Frame}
 use Rattle.dg_netcfg.specs.Readings.{IsAllowed, IsSameLink}
 use Rattle.dg_netcfg.specs.declared.profile.NetProfile.{NetProfile}
-use Rattle.dg_script.specs.Fitting.{StandsBy, StandsAt, FitsLine, FitsEvent, IsTimed, AreTwo}
+use Rattle.dg_script.specs.Fitting.{FitsEvent, IsTimed, AreTwo}
 use Rattle.dg_script.specs.Lines.{line_of}
 use Rattle.dg_script.specs.Places.{first_place, place_after, joins, is_linked, none_narrow}
 use Rattle.dg_script.specs.Script.{Script, script_from, with_line}
 use Rattle.dg_script.specs.Sizes.{most_motes}
 use Rattle.dg_script.specs.Spelling.{content_text, line_text}
-use Rattle.dg_script.specs.Words.{behind_spaces, spaced}
+use Rattle.dg_script.specs.Words.{behind_spaces}
 use Rattle.dg_script.specs.declared.fault.LineFault.{LineFault}
 use Rattle.dg_script.specs.declared.line.Line.{Line}
 use Rattle.dg_script.specs.declared.line.Line.TheVariants.{Nothing, Motes, Golden, Boards, Link, Image, Cut, Happens, Round, Sweeps, Narrow}
 use Rattle.dg_script.specs.declared.place.Place.{Place}
-use Rattle.dg_script.specs.declared.verbs.Verb.{Verb}
-use Rattle.dg_script.specs.declared.verbs.Verb.TheVariants as verb
 use Rattle.dg_script.proofs.ReadsBackLemmas.{line_reads}
-use Rattle.dg_serve.specs.Services.{Part, Begins, Looks, Ticks, Moment, Happened, PartDone, Serves}
-use Rattle.dg_serve.specs.Traces.{head_lines, written, event_lines, trace, IsScript}
+use Rattle.dg_serve.specs.Services.{Part, Begins, Looks, Ticks, Moment, Happened, PartDone, PartsDone}
+use Rattle.dg_serve.specs.Traces.{head_lines, lines_text, trace, IsScript}
 use Rattle.dg_serve.proofs.HappenLemmas.{fits_more}
 use Rattle.dg_serve.proofs.RunLemmas.{PartFits, all_both}
 
@@ -165,10 +163,10 @@ lines_one : (t rest : List ℕ) → Plain t → lines (t ++ 10 ∷ rest) ≡ t �
 lines_one t rest h =
     ap lines_of_parts (split_plain t rest h) ∙ parts_cons t (slice_split feed rest) (omega (arith, length-slice_split feed rest)) ∙ ap (λ (x : List ℕ). x ∷ lines rest) (strip_plain t h)
 
-lines_written : (ls : List Line) → AllByRecursion Told ls → lines (written ls) ≡ map line_text ls
+lines_written : (ls : List Line) → AllByRecursion Told ls → lines (lines_text ls) ≡ map line_text ls
 lines_written [] h = refl
 lines_written (l ∷ ls) h =
-    ap lines (append_assoc (line_text l) (10 ∷ []) (written ls)) ∙ lines_one (line_text l) (written ls) (plain_line l h.0) ∙ ap (λ (xs : List (List ℕ)). line_text l ∷ xs) (lines_written ls h.1)
+    ap lines (append_assoc (line_text l) (10 ∷ []) (lines_text ls)) ∙ lines_one (line_text l) (lines_text ls) (plain_line l h.0) ∙ ap (λ (xs : List (List ℕ)). line_text l ∷ xs) (lines_written ls h.1)
 
 -- ---- the lines are read at their places
 
@@ -179,7 +177,7 @@ script_next place n line texts s reads rest =
     ap (λ (r : Result Line LineFault). with_line r (λ l. script_from true (place_after place l) (n + 1) texts) n) reads ∙ ap (λ (x : Script). record { lines = line ∷ x.lines; fault = x.fault }) rest
 
 abbrev behind_head : (motes : ℕ) (events : Bool) (links : List (ℕ × ℕ)) → Place
-behind_head motes events links = record { motes = motes; ready = true; events = events; cut = false; links = links; narrow = none_narrow }
+behind_head motes events links = record { motes = motes; ready = true; events = events; cut = None; links = links; narrow = none_narrow }
 
 some_motes : (motes : ℕ) → 1 ≤ motes → nat_lt 0 motes ≡ true
 some_motes motes h = grind (arith, nat_tests)
@@ -278,7 +276,7 @@ all_new [] = tt
 all_new (l ∷ ls) = (refl, all_new ls)
 
 abbrev motes_place : ℕ → Place
-motes_place motes = record { motes = motes; ready = false; events = false; cut = false; links = []; narrow = none_narrow }
+motes_place motes = record { motes = motes; ready = false; events = false; cut = None; links = []; narrow = none_narrow }
 
 lines_read : (profile : NetProfile) (events : List Event) → IsAllowed profile → AllByRecursion (IsServed profile.motes) events
     → script_from true first_place 1 (map line_text (head_lines profile ++ map Happens events)) ≡ record { lines = head_lines profile ++ map Happens events; fault = None }
@@ -316,7 +314,7 @@ is_script profile events allowed served =
     let few = allowed.motes.1 in
     let told : AllByRecursion Told (head_lines profile ++ map Happens events) =
     (omega (arith, few), (tt, all_both Told (map link_line profile.links) (map Happens events) (told_links profile.motes profile.links few (recursion_from_All (Joins profile.motes) profile.links allowed.links)) (told_events profile.motes events few served))) in
-    let bytes : trace profile events ≡ written (head_lines profile ++ map Happens events) = sym (flat_map-append (λ l. line_text l ++ 10 ∷ []) (head_lines profile) (map Happens events)) in
+    let bytes : trace profile events ≡ lines_text (head_lines profile ++ map Happens events) = sym (flat_map-append (λ l. line_text l ++ 10 ∷ []) (head_lines profile) (map Happens events)) in
     ap (λ (xs : List (List ℕ)). script_from true first_place 1 xs) (ap lines bytes ∙ lines_written (head_lines profile ++ map Happens events) told) ∙ lines_read profile events allowed served
 
 -- ---- the events of a service
@@ -330,8 +328,8 @@ part_served motes (Ticks m) s es t fits h = happened_served motes s (λ dt word.
 part_served motes (Looks m) s es t fits (inl h) = subst (AllByRecursion (IsServed motes)) (sym h.nothing) tt
 part_served motes (Looks m) s es t fits (inr h) = happened_served motes (record s { inboxes = h.taken }) (λ dt word. Frame m dt word h.bytes) es t (λ dt word timed. (fits, timed, h.fits)) h.heard
 
-pub all_served : (motes : ℕ) (s : Moment) (parts : List Part) (es : List Event) (t : Moment) → AllByRecursion (PartFits motes) parts → Serves motes s parts es t → AllByRecursion (IsServed motes) es
-unfolding Serves
+pub all_served : (motes : ℕ) (s : Moment) (parts : List Part) (es : List Event) (t : Moment) → AllByRecursion (PartFits motes) parts → PartsDone motes s parts es t → AllByRecursion (IsServed motes) es
+unfolding PartsDone
 all_served motes s [] es t fits h = subst (AllByRecursion (IsServed motes)) (sym h.0) tt
 all_served motes s (part ∷ parts) es t fits h =
     subst (AllByRecursion (IsServed motes)) (sym h.4) (all_both (IsServed motes) h.1 h.2 (part_served motes part s h.1 h.0 fits.0 h.3) (all_served motes h.0 parts h.2 t fits.1 h.5))

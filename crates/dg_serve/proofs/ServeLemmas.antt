@@ -1,26 +1,26 @@
 -- A service from its first line to its last.
-use Rattle.std.proofs.Common.{◌≡◌, ◌≢◌, ◌⊎◌, ℕ, ◌+◌, ◌-◌, ◌*◌, ◌^◌, ◌<◌, ◌≤◌, List, [], ◌∷◌, ◌++◌, length, take, append-nil, append_assoc, refl, ap, sym, ◌∙◌, subst, ⊎_elim, inl, inr, arith}
-use Rattle.std.specs.Prelude.{slice_get, slice_index_or, Option, Some, None, option_map, Result, Ok, Err, IsErrAnd}
+use Rattle.std.proofs.Common.{◌≡◌, ◌≢◌, ◌⊎◌, ℕ, ◌≤◌, List, [], ◌∷◌, ◌++◌, length, take, append-nil, append_assoc, refl, ap, sym, ◌∙◌, subst, inl, inr, arith}
+use Rattle.std.specs.Prelude.{slice_get, Option, Some, None, option_map, Result, Ok, Err, IsErrAnd}
 use Rattle.std.proofs.lemmas.Option.{same_Some}
 use Rattle.dg_words.specs.Counts.{Rose}
-use Rattle.dg_base.specs.Clock.{Answers}
 use Rattle.dg_base.specs.Outside.{Puts}
 use Rattle.dg_base.proofs.OutsideLemmas.{Puts-join}
 use Rattle.dg_base.specs.declared.answers.Status.{Status}
 use Rattle.dg_base.specs.declared.answers.Status.TheVariants as status
 use Rattle.dg_base.specs.declared.events.Event.{Event}
-use Rattle.dg_link.specs.Inboxes.{Inboxes, emptied}
+use Rattle.dg_link.specs.Inboxes.{emptied}
 use Rattle.dg_netcfg.specs.declared.profile.NetProfile.{NetProfile}
 use Rattle.dg_nor.specs.Device.{Device, Endures}
 use Rattle.dg_nor.specs.Fuse.{beneath_of}
 use Rattle.dg_object.specs.Object.{Row}
 use Rattle.dg_volume.specs.Store.{Store}
-use Rattle.dg_serve.specs.Services.{Part, Moment, plan, words_of_seed}
-use Rattle.dg_serve.specs.Endings.{StoresOf, begins, BoardsStand}
-use Rattle.dg_serve.specs.Traces.{UntoldLast, trace, written, head_lines, event_lines, last_line}
-use Rattle.dg_serve.specs.Standings.{Standing, StandsFor, Ready, BoardEndures, BoardIsCalm, BoardsAreUsed, BoardsAreCalm, Went, Halted, GoesOn}
-use Rattle.dg_serve.specs.Served.{Outside, LeftBy, Came, Wrote, WroteLast, BoardsEndure, Causes, Began, Hindered, DidNotBegin, Served, TooFewBoards}
-use Rattle.dg_serve.specs.Ran.{status_of, IsOpened, Opens, WroteBy, CountedBy, Ran, WasHindered, RanTo, Tells, TellsStop, TellsTooFew}
+use Rattle.dg_seed.specs.Words.{first_generator}
+use Rattle.dg_serve.specs.Services.{Moment, Course, course, plan}
+use Rattle.dg_serve.specs.Endings.{StoresOf, begins}
+use Rattle.dg_serve.specs.Traces.{UntoldLast, trace, lines_text, head_lines, event_lines, last_line}
+use Rattle.dg_serve.specs.Standings.{Standing, StandsFor, Ready, BoardEndures, BoardIsCalm, BoardsAreUsed, Went, PartsHalted, GoesOn, stretch}
+use Rattle.dg_serve.specs.Served.{Outside, LeftBy, Wrote, BoardsEndure, Causes, Began, Hindered, Served, TooFewBoards}
+use Rattle.dg_serve.specs.Ran.{status_of, IsOpened, WroteBy, ServiceRan, RanTo, LineWritten, TellsStop, TellsTooFew}
 use Rattle.dg_serve.specs.declared.stop.Stop.{Stop}
 use Rattle.dg_serve.specs.declared.stop.Stop.TheVariants as stop
 use Rattle.dg_serve.proofs.EventLemmas.{stands_boards}
@@ -59,9 +59,9 @@ wrote_by stop.NoImage head events text front whole = ap (λ l. head ++ l) (whole
 
 module _ (profile : NetProfile) (seed turns : ℕ) (b : Outside) (p q : Standing) (o : IsOpened profile seed (record b { boards = p.boards }) p.service p.addressees p.reached (outside_of p)) where
   stands_opened : (table : List Row) (stores : List Store) → StoresOf profile.motes p.boards stores → StandsFor profile.motes 0 profile.links 0 p.boards (begins table profile.links stores p.service.timeline.reading p.clock seed (option_map (emptied profile.motes) b.inboxes)) p
-  stands_opened table stores of = stands_first profile.motes profile.links table stores p.service.timeline.reading p.clock (words_of_seed seed) (option_map (emptied profile.motes) b.inboxes) p of o.moment refl o.words refl o.inboxes
+  stands_opened table stores of = stands_first profile.motes profile.links table stores p.service.timeline.reading p.clock (first_generator seed) (option_map (emptied profile.motes) b.inboxes) p of o.moment refl o.words refl o.inboxes
 
-  ran_all : Went profile.motes 0 profile.motes profile.links (plan profile.motes turns) p q → Ran None profile seed turns (record b { boards = p.boards }) (outside_of q)
+  ran_all : Went profile.motes 0 profile.motes profile.links (plan profile.motes turns) p q → ServiceRan None profile seed turns (record b { boards = p.boards }) (outside_of q)
   ran_all w = record {
     origin = p.service.timeline.reading;
     clock = p.clock;
@@ -74,8 +74,8 @@ module _ (profile : NetProfile) (seed turns : ℕ) (b : Outside) (p q : Standing
     came = λ table stores of.
         let x = w.run p.boards (begins table profile.links stores p.service.timeline.reading p.clock seed (option_map (emptied profile.motes) b.inboxes)) (stands_opened table stores of) in
         record { last = x.0; serves = x.1; ends = (stands_boards profile.motes profile.motes 0 profile.links p.boards x.0 q x.2, x.2.inboxes, x.2.clock) };
-    text = written (head_lines profile) ++ event_lines w.events;
-    put = Puts-join b.written p.written q.written (written (head_lines profile)) (event_lines w.events) o.put w.put;
+    text = lines_text (head_lines profile) ++ event_lines w.events;
+    put = Puts-join b.written p.written q.written (lines_text (head_lines profile)) (event_lines w.events) o.put w.put;
     wrote = refl;
     boards = boards_endure profile.motes p.boards q.boards w.boards;
     counts = record {
@@ -89,7 +89,7 @@ module _ (profile : NetProfile) (seed turns : ℕ) (b : Outside) (p q : Standing
     };
   }
 
-  ran_some : (why : Stop) → Halted why profile.motes 0 profile.links (plan profile.motes turns) p q → Ran (Some why) profile seed turns (record b { boards = p.boards }) (outside_of q)
+  ran_some : (why : Stop) → PartsHalted why profile.motes 0 profile.links (plan profile.motes turns) p q → ServiceRan (Some why) profile seed turns (record b { boards = p.boards }) (outside_of q)
   ran_some why h = record {
     origin = p.service.timeline.reading;
     clock = p.clock;
@@ -102,9 +102,9 @@ module _ (profile : NetProfile) (seed turns : ℕ) (b : Outside) (p q : Standing
     came = λ table stores of.
         let x = h.run p.boards (begins table profile.links stores p.service.timeline.reading p.clock seed (option_map (emptied profile.motes) b.inboxes)) (stands_opened table stores of) in
         record { last = x.0; serves = x.1; ends = (x.2.boards, x.2.link, x.2.clock) };
-    text = written (head_lines profile) ++ h.text;
-    put = Puts-join b.written p.written q.written (written (head_lines profile)) h.text o.put h.put;
-    wrote = wrote_by why (written (head_lines profile)) h.events h.text h.front h.whole;
+    text = lines_text (head_lines profile) ++ h.text;
+    put = Puts-join b.written p.written q.written (lines_text (head_lines profile)) h.text o.put h.put;
+    wrote = wrote_by why (lines_text (head_lines profile)) h.events h.text h.front h.whole;
     boards = boards_endure profile.motes p.boards q.boards h.boards;
     counts = record {
       wrote = λ is. subst (λ n. Rose n q.faults) o.faults (h.counts.wrote (same_Some why stop.Write is));
@@ -117,7 +117,7 @@ module _ (profile : NetProfile) (seed turns : ℕ) (b : Outside) (p q : Standing
     };
   }
 
-  pub ran_to : (r : Result (Unit {0}) Stop) → GoesOn r profile.motes 0 profile.motes profile.links (plan profile.motes turns) p q → RanTo r profile seed turns (record b { boards = p.boards }) (outside_of q)
+  pub ran_to : (r : Result (Unit {0}) Stop) → GoesOn r profile.motes profile.links (stretch 0 profile.motes (plan profile.motes turns)) p q → RanTo r profile seed turns (record b { boards = p.boards }) (outside_of q)
   ran_to (Ok u) w = ran_all w
   ran_to (Err why) h = inr (ran_some why h)
 
@@ -136,11 +136,11 @@ hindered_to (Err e) why profile seed turns before after is boards h =
 abbrev told_after : Outside → Option (List ℕ) → ℕ → Outside
 told_after mid v g = record mid { written = v; faults = g }
 
-left_same : (why : Option Stop) (motes : ℕ) (s : Moment) (done : List Part) (events : List Event) (last : Moment) (left : List Part) (first : List Device) (mid : Outside) (v : Option (List ℕ)) (g : ℕ) → LeftBy why motes s done events last left first mid → LeftBy why motes s done events last left first (told_after mid v g)
-left_same None motes s done events last left first mid v g l = l
-left_same (Some why) motes s done events last left first mid v g l = l
+left_same : (why : Option Stop) (motes : ℕ) (s : Moment) (c : Course) (last : Moment) (first : List Device) (mid : Outside) (v : Option (List ℕ)) (g : ℕ) → LeftBy why motes s c last first mid → LeftBy why motes s c last first (told_after mid v g)
+left_same None motes s c last first mid v g l = l
+left_same (Some why) motes s c last first mid v g l = l
 
-began : (why : Option Stop) (answer : Status) (profile : NetProfile) (seed turns : ℕ) (before mid : Outside) (v : Option (List ℕ)) (g : ℕ) (text : List ℕ) (r : Ran why profile seed turns before mid) → Puts before.written v text → Wrote why answer profile (length before.boards) r.events text → Causes answer before (told_after mid v g)
+began : (why : Option Stop) (answer : Status) (profile : NetProfile) (seed turns : ℕ) (before mid : Outside) (v : Option (List ℕ)) (g : ℕ) (text : List ℕ) (r : ServiceRan why profile seed turns before mid) → Puts before.written v text → Wrote why answer profile (length before.boards) r.events text → Causes answer before (told_after mid v g)
     → Began answer profile seed turns before (told_after mid v g)
 began why answer profile seed turns before mid v g text r put wrote causes = record {
   origin = r.origin;
@@ -154,7 +154,7 @@ began why answer profile seed turns before mid v g text r put wrote causes = rec
   all = r.all;
   came = λ table stores of.
       let x = r.came table stores of in
-      record { last = x.last; serves = x.serves; ends = left_same why profile.motes _ r.done r.events x.last r.left before.boards mid v g x.ends };
+      record { last = x.last; serves = x.serves; ends = left_same why profile.motes _ (course r.done r.events r.left) x.last before.boards mid v g x.ends };
   text = text;
   put = put;
   wrote = wrote;
@@ -163,7 +163,7 @@ began why answer profile seed turns before mid v g text r put wrote causes = rec
 }
 
 -- all turns were played
-pub served_done : (profile : NetProfile) (seed turns : ℕ) (before mid : Outside) → Ran None profile seed turns before mid → Served status.Done profile seed turns before mid
+pub served_done : (profile : NetProfile) (seed turns : ℕ) (before mid : Outside) → ServiceRan None profile seed turns before mid → Served status.Done profile seed turns before mid
 served_done profile seed turns before mid r = inr (began None status.Done profile seed turns before mid mid.written mid.faults r.text r r.put (refl, r.wrote) (record {
   write_fault = λ is. absurd cc;
   writes = λ other. r.counts.faults (λ x. absurd cc);
@@ -228,7 +228,7 @@ module _ (profile : NetProfile) (seed turns : ℕ) (before mid : Outside) where
   last_written : (line whole text : List ℕ) → text ≡ whole → text ++ line ≡ whole ++ line
   last_written line whole text e = ap (λ l. l ++ line) e
 
-  calm_told : (why : Stop) (answer : Status) (v : Option (List ℕ)) (g : ℕ) → Ran (Some why) profile seed turns before mid → why ≢ stop.Write → why ≢ stop.Link → why ≢ stop.Flash → answer ≢ status.WriteFault → answer ≢ status.LinkFault → answer ≢ status.Done → g ≡ mid.faults → Causes answer before (told_after mid v g)
+  calm_told : (why : Stop) (answer : Status) (v : Option (List ℕ)) (g : ℕ) → ServiceRan (Some why) profile seed turns before mid → why ≢ stop.Write → why ≢ stop.Link → why ≢ stop.Flash → answer ≢ status.WriteFault → answer ≢ status.LinkFault → answer ≢ status.Done → g ≡ mid.faults → Causes answer before (told_after mid v g)
   calm_told why answer v g r writes sends stops a b c same = record {
     write_fault = λ is. absurd (a is);
     writes = λ other. same ∙ r.counts.faults (λ x. writes (same_Some why stop.Write x));
@@ -239,7 +239,7 @@ module _ (profile : NetProfile) (seed turns : ℕ) (before mid : Outside) where
     sends_rise = r.counts.failures_rise;
   }
 
-  failed_told : (why : Stop) (v : Option (List ℕ)) (g : ℕ) → Ran (Some why) profile seed turns before mid → why ≢ stop.Write → why ≢ stop.Flash → Rose mid.faults g → mid.faults ≤ g → Causes status.WriteFault before (told_after mid v g)
+  failed_told : (why : Stop) (v : Option (List ℕ)) (g : ℕ) → ServiceRan (Some why) profile seed turns before mid → why ≢ stop.Write → why ≢ stop.Flash → Rose mid.faults g → mid.faults ≤ g → Causes status.WriteFault before (told_after mid v g)
   failed_told why v g r writes stops rose rise = record {
     write_fault = λ is. subst (λ n. Rose n g) (r.counts.faults (λ x. writes (same_Some why stop.Write x))) rose;
     writes = λ other. absurd (other refl);
@@ -250,7 +250,7 @@ module _ (profile : NetProfile) (seed turns : ℕ) (before mid : Outside) where
     sends_rise = r.counts.failures_rise;
   }
 
-  ends_no_volume : (answer : Status) (v : Option (List ℕ)) (g : ℕ) → Ran (Some stop.NotAVolume) profile seed turns before mid → Tells answer status.NotAVolume (last_line status.NotAVolume 0 0) mid.written v mid.faults g → Began answer profile seed turns before (told_after mid v g)
+  ends_no_volume : (answer : Status) (v : Option (List ℕ)) (g : ℕ) → ServiceRan (Some stop.NotAVolume) profile seed turns before mid → LineWritten answer status.NotAVolume (last_line status.NotAVolume 0 0) mid.written v mid.faults g → Began answer profile seed turns before (told_after mid v g)
   ends_no_volume answer v g r (inl t) =
       subst (λ (a : Status). Began a profile seed turns before (told_after mid v g)) (sym t.0)
       (began (Some stop.NotAVolume) status.NotAVolume profile seed turns before mid v g (r.text ++ last_line status.NotAVolume 0 0) r (Puts-join before.written mid.written v r.text (last_line status.NotAVolume 0 0) r.put t.1)
@@ -262,7 +262,7 @@ module _ (profile : NetProfile) (seed turns : ℕ) (before mid : Outside) where
       (inr (refl, (t.1.0, last_written (take t.1.0 (last_line status.NotAVolume 0 0)) (trace profile r.events) r.text r.wrote)))
       (failed_told stop.NotAVolume v g r (λ x. absurd cc) (λ x. absurd cc) t.2 t.3))
 
-  ends_no_image : (answer : Status) (v : Option (List ℕ)) (g : ℕ) → Ran (Some stop.NoImage) profile seed turns before mid → Tells answer status.NoImage (last_line status.NoImage 0 0) mid.written v mid.faults g → Began answer profile seed turns before (told_after mid v g)
+  ends_no_image : (answer : Status) (v : Option (List ℕ)) (g : ℕ) → ServiceRan (Some stop.NoImage) profile seed turns before mid → LineWritten answer status.NoImage (last_line status.NoImage 0 0) mid.written v mid.faults g → Began answer profile seed turns before (told_after mid v g)
   ends_no_image answer v g r (inl t) =
       subst (λ (a : Status). Began a profile seed turns before (told_after mid v g)) (sym t.0)
       (began (Some stop.NoImage) status.NoImage profile seed turns before mid v g (r.text ++ last_line status.NoImage 0 0) r (Puts-join before.written mid.written v r.text (last_line status.NoImage 0 0) r.put t.1)

@@ -1,12 +1,12 @@
 -- How a part of a service ends, from the draw before its event, and from how that ended.
-use Rattle.std.proofs.Common.{◌≡◌, ◌≢◌, ◌⊎◌, ℕ, ◌+◌, ◌-◌, ◌*◌, ◌^◌, ◌<◌, ◌≤◌, List, [], ◌∷◌, ◌++◌, length, take, append-nil, refl, ap, sym, ◌∙◌, subst, ⊎_elim, inl, inr, arith}
-use Rattle.std.specs.Prelude.{slice_get, slice_index_or, Option, Some, None, Result, Ok, Err, IfSome, IsErrAnd}
+use Rattle.std.proofs.Common.{◌≡◌, ◌≢◌, ◌⊎◌, ℕ, ◌+◌, ◌^◌, ◌<◌, ◌≤◌, List, [], ◌∷◌, length, append-nil, refl, ap, sym, ◌∙◌, subst, ⊎_elim, inl, inr, arith}
+use Rattle.std.specs.Prelude.{slice_get, slice_index_or, Option, Some, None, Result, Ok, Err, IfSome}
 use Rattle.dg_words.specs.Counts.{Rose}
 use Rattle.dg_base.specs.Clock.{Answers, Answered}
 use Rattle.dg_base.specs.Outside.{Puts}
 use Rattle.dg_base.specs.declared.events.Event.{Event}
 use Rattle.dg_base.specs.declared.events.Event.TheVariants.{Tick, Reset, Frame}
-use Rattle.dg_link.specs.Inboxes.{Inboxes, Takes, IsEmptyAt}
+use Rattle.dg_link.specs.Inboxes.{Inboxes, TakesFrame}
 use Rattle.dg_script.specs.Fitting.{IsFrame}
 use Rattle.dg_nor.specs.Device.{Device}
 use Rattle.dg_volume.specs.Stands.{IsVolume}
@@ -19,14 +19,14 @@ use Rattle.dg_mote.proofs.TimelyLemmas.{timely_later}
 use Rattle.dg_world.specs.Alone.{IsReset}
 use Rattle.dg_world.specs.Worlds.{MayRun, MoteStands}
 use Rattle.dg_world.specs.declared.world.RunningMote.{RunningMote}
-use Rattle.dg_serve.specs.Services.{Part, Begins, Looks, Ticks, Moment, Reads, Steps, Happened, PartDone}
+use Rattle.dg_serve.specs.Services.{Part, Begins, Looks, Ticks, Moment, Steps, Happened, PartDone}
 use Rattle.dg_serve.specs.Traces.{event_lines}
 use Rattle.dg_serve.specs.Endings.{BoardsStand, FindsNoImage, FindsNoVolume, EventEnds, EndsInNext, BoardsLeft, TakesFor, FoundBy, HandedToFirst, PartlyHanded, LinkLeft, ClockLeft, OneTaken, event_of}
-use Rattle.dg_serve.specs.Standings.{Standing, StandsFor, StandsForSome, Ready, BoardsAreUsed, BoardsAreCalm, Went, Leaves, Halted, CountsBy, GoesOn, HappensAt, DoesNotHappen, HandedThen, HappensPartly, HappenEnds, ReceivedAt, FailuresBy, begun_before, begun_behind}
+use Rattle.dg_serve.specs.Standings.{Standing, StandsFor, StandsForSome, Ready, BoardsAreUsed, BoardsAreCalm, Went, PartsHalted, GoesOn, stretch, HappensAt, DoesNotHappen, HandedThen, HappensPartly, HappenEnds, begun_before, begun_behind}
 use Rattle.dg_serve.specs.declared.stop.Stop.{Stop}
 use Rattle.dg_serve.specs.declared.stop.Stop.TheVariants as stop
-use Rattle.dg_serve.proofs.BoardLemmas.{used_same, all_calm, got_within}
-use Rattle.dg_serve.proofs.EventLemmas.{got_some, stands_boards}
+use Rattle.dg_serve.proofs.BoardLemmas.{got_within}
+use Rattle.dg_serve.proofs.EventLemmas.{got_some}
 use Rattle.dg_serve.proofs.GoLemmas.{one_part, no_part}
 use Rattle.dg_serve.proofs.PartLemmas.{Draws, drawn, reads_of, stands_drawn, happened_of}
 
@@ -62,7 +62,7 @@ pub record IsPart (motes begun on : ℕ) (part : Part) (event : (dt word : ℕ) 
   pub within : on ≤ motes
   pub rises : begun ≤ on
   pub done : (s t : Moment) (es : List Event) → s.inboxes ≡ before → Happened motes (looked s taken) event es t → PartDone motes part s es t
-  pub link : (taken ≡ before) ⊎ ((mote : ℕ) × Takes mote bytes before taken)
+  pub link : (taken ≡ before) ⊎ ((mote : ℕ) × TakesFrame mote bytes before taken)
   pub takes_for : (dt word : ℕ) → TakesFor (event dt word) before taken
   -- where a frame was taken, its mote had begun, and starts nothing
   pub untaken : (dt word : ℕ) (w : World) (old new : List Device) → FindsNoVolume w (event dt word) old new ⊎ FindsNoImage w (event dt word) old new → ((m : ℕ) (a : Device) → mote_of (event dt word) ≡ m → m < begun → slice_get old m ≡ Some a → IsVolume a.image) → taken ≡ before
@@ -171,7 +171,7 @@ module _ (motes begun on : ℕ) (links : List (ℕ × ℕ)) (part : Part) (event
   taken_left first s st same =
       ⊎_elim
       (λ none. inl (same ∙ none ∙ st.inboxes))
-      (λ one. inr (one.0, bytes, subst (λ (o : Option Inboxes). Takes one.0 bytes o q.inboxes) st.inboxes (subst (λ (o : Option Inboxes). Takes one.0 bytes p.inboxes o) (sym same) one.1)))
+      (λ one. inr (one.0, bytes, subst (λ (o : Option Inboxes). TakesFrame one.0 bytes o q.inboxes) st.inboxes (subst (λ (o : Option Inboxes). TakesFrame one.0 bytes p.inboxes o) (sym same) one.1)))
       h.link
 
   volumes_before : (first : List Device) (s : Moment) → StandsFor motes begun links 0 first s p → Ready motes begun p → (k : ℕ) (a : Device) → mote_of (event dt word) ≡ k → k < begun → slice_get first k ≡ Some a → IsVolume a.image
@@ -181,7 +181,7 @@ module _ (motes begun on : ℕ) (links : List (ℕ × ℕ)) (part : Part) (event
       (st.on k a b.0 within was b.1).0
 
   untold_halts : (why : Stop) → Ready motes begun p → DoesNotHappen why motes links (event dt word) m q → (why ≢ stop.Write) → (why ≢ stop.Link) → q.reached ≡ m.reached → q.clock ≡ m.clock
-      → ((first : List Device) (s : Moment) → StandsFor motes begun links 0 first s p → BoardsLeft why s (part ∷ []) first q.boards × LinkLeft why motes s [] [] s q.inboxes) → Halted why motes begun links (part ∷ []) p q
+      → ((first : List Device) (s : Moment) → StandsFor motes begun links 0 first s p → BoardsLeft why s (part ∷ []) first q.boards × LinkLeft why motes s [] [] s q.inboxes) → PartsHalted why motes begun links (part ∷ []) p q
   untold_halts why ready e writes sends reached clock left = record {
     events = [];
     done = [];
@@ -208,7 +208,7 @@ module _ (motes begun on : ℕ) (links : List (ℕ × ℕ)) (part : Part) (event
   -- the event happened, and its line was not written, or what it sent not handed to all
   partly_halts : (why : Stop) → HappensPartly why motes links (event dt word) m q → q.clock ≡ m.clock → ((s : Moment) (first : List Device) → BoardsStand s.world first q.boards → BoardsLeft why s [] first q.boards)
       → ((first : List Device) (s t : Moment) → StandsFor motes begun links 0 first s p → PartDone motes part s (event dt word ∷ []) t → HandedThen why motes s.world t.world m.inboxes q.inboxes → LinkLeft why motes s (part ∷ []) (event dt word ∷ []) t q.inboxes)
-      → Halted why motes begun links (part ∷ []) p q
+      → PartsHalted why motes begun links (part ∷ []) p q
   partly_halts why e clock boards_left link_left = record {
     events = event dt word ∷ [];
     done = part ∷ [];
@@ -257,7 +257,7 @@ module _ (motes begun on : ℕ) (links : List (ℕ × ℕ)) (part : Part) (event
 
   -- ---- however the event ended
 
-  pub part_ends : (r : Result (Unit {0}) Stop) → Ready motes begun p → HappenEnds r motes links (event dt word) m q → q.reached ≡ m.reached → q.clock ≡ m.clock → GoesOn r motes begun on links (part ∷ []) p q
+  pub part_ends : (r : Result (Unit {0}) Stop) → Ready motes begun p → HappenEnds r motes links (event dt word) m q → q.reached ≡ m.reached → q.clock ≡ m.clock → GoesOn r motes links (stretch begun on (part ∷ [])) p q
   part_ends (Ok u) ready e reached clock = part_went ready e reached
   part_ends (Err stop.Memory) ready e reached clock =
       untold_halts stop.Memory ready e (λ x. absurd cc) (λ x. absurd cc) reached clock
@@ -330,7 +330,7 @@ pub frame_runs : (w : World) (m dt word : ℕ) (bytes : List ℕ) (deed : Deed) 
 unfolding does
 frame_runs w m dt word bytes deed e none = heard_runs w m dt word bytes deed (site w m).runs e none
 
-pub looks_part : (motes mote : ℕ) (bytes : List ℕ) (before taken : Option Inboxes) → mote < motes → Takes mote bytes before taken → IsFrame bytes → IsPart motes motes motes (Looks mote) (λ dt word. Frame mote dt word bytes) bytes before taken
+pub looks_part : (motes mote : ℕ) (bytes : List ℕ) (before taken : Option Inboxes) → mote < motes → TakesFrame mote bytes before taken → IsFrame bytes → IsPart motes motes motes (Looks mote) (λ dt word. Frame mote dt word bytes) bytes before taken
 looks_part motes mote bytes before taken known takes fits = record {
   dt_is = λ dt word. refl;
   before_is = λ dt word. refl;
@@ -338,7 +338,7 @@ looks_part motes mote bytes before taken known takes fits = record {
   event_is = λ dt word. refl;
   within = omega arith;
   rises = omega arith;
-  done = λ s t es same x. inr (record { bytes = bytes; fits = fits; taken = taken; takes = subst (λ (o : Option Inboxes). Takes mote bytes o taken) (sym same) takes; heard = x });
+  done = λ s t es same x. inr (record { bytes = bytes; fits = fits; taken = taken; takes = subst (λ (o : Option Inboxes). TakesFrame mote bytes o taken) (sym same) takes; heard = x });
   link = inr (mote, takes);
   takes_for = λ dt word. takes;
   untaken = λ dt word w old new ends volumes.
@@ -348,88 +348,3 @@ looks_part motes mote bytes before taken known takes fits = record {
       ends;
   new_volumes = λ dt word boards told m a low high was. absurd (omega (arith, low, high));
 }
-
--- ---- a look that found none
-
-none_came_at : (motes mote : ℕ) (links : List (ℕ × ℕ)) (p q : Standing) → Ready motes motes p → IsEmptyAt mote p.inboxes → q ≡ p → Went motes motes motes links (Looks mote ∷ []) p q
-none_came_at motes mote links p q ready none same = subst (λ x. Went motes motes motes links (Looks mote ∷ []) p x) (sym same) (record {
-  events = [];
-  put = puts_none p.written p.written refl;
-  run = λ first s st. (
-    s,
-    one_part motes s s (Looks mote) [] (inl (record { none = subst (IsEmptyAt mote) st.inboxes none; nothing = refl; same = refl })),
-    st,
-  );
-  ready = ready;
-  volumes = λ m a low high was. absurd (omega (arith, low, high));
-  boards = used_same motes p.boards;
-  calm = all_calm p.boards;
-  moved = omega arith;
-  failures = refl;
-  faults = refl;
-  reached = omega arith;
-})
-
-same_standing : (p : Standing) (i : Option Inboxes) (a n : ℕ) → i ≡ p.inboxes → a ≡ p.addressees → n ≡ p.failures → record p { inboxes = i; addressees = a; failures = n } ≡ p
-same_standing p i a n e f h =
-    ap (λ (x : Option Inboxes). record p { inboxes = x; addressees = a; failures = n }) e ∙ ap (λ (x : ℕ). record p { addressees = x; failures = n }) f ∙ ap (λ (x : ℕ). record p { failures = x }) h
-
-pub none_came : (motes mote : ℕ) (links : List (ℕ × ℕ)) (p : Standing) (i : Option Inboxes) (a n : ℕ) → i ≡ p.inboxes → a ≡ p.addressees → n ≡ p.failures → Ready motes motes p → IsEmptyAt mote p.inboxes → Went motes motes motes links (Looks mote ∷ []) p (record p { inboxes = i; addressees = a; failures = n })
-none_came motes mote links p i a n e f h ready none = none_came_at motes mote links p (record p { inboxes = i; addressees = a; failures = n }) ready none (same_standing p i a n e f h)
-
--- ---- a look that failed
-
-module _ (motes mote : ℕ) (links : List (ℕ × ℕ)) (p q : Standing) (boards : q.boards ≡ p.boards) (written : q.written ≡ p.written) (faults : q.faults ≡ p.faults) (clock : q.clock ≡ p.clock) (reached : q.reached ≡ p.reached) where
-  unlooked : (why : Stop) → why ≢ stop.Write → ((first : List Device) (s : Moment) → BoardsStand s.world first q.boards → BoardsLeft why s (Looks mote ∷ []) first q.boards) → ((s : Moment) → p.inboxes ≡ s.inboxes → LinkLeft why motes s [] [] s q.inboxes)
-      → (why ≡ stop.Link → Rose p.failures q.failures) → (why ≢ stop.Link → q.failures ≡ p.failures) → p.failures ≤ q.failures → Halted why motes motes links (Looks mote ∷ []) p q
-  unlooked why writes boards_left link_left sent failures rise = record {
-    events = [];
-    done = [];
-    left = Looks mote ∷ [];
-    all = refl;
-    text = [];
-    put = puts_none p.written q.written written;
-    front = λ is. absurd (writes is);
-    whole = λ other. refl;
-    run = λ first s st. (
-      s,
-      no_part motes s,
-      record {
-        boards = boards_left first s (subst (λ bs. BoardsStand s.world first bs) (sym boards) (stands_boards motes motes 0 links first s p st));
-        link = link_left s st.inboxes;
-        clock = inl (clock ∙ st.clock);
-      },
-    );
-    boards = subst (λ bs. BoardsAreUsed motes p.boards bs) (sym boards) (used_same motes p.boards);
-    calm = λ other. subst (λ bs. BoardsAreCalm p.boards bs) (sym boards) (all_calm p.boards);
-    counts = record {
-      wrote = λ is. absurd (writes is);
-      faults = λ other. faults;
-      faults_rise = omega (arith, faults);
-      sent = sent;
-      failures = failures;
-      failures_rise = rise;
-      reached = omega (arith, reached);
-    };
-  }
-
-  pub look_fails : (why : Stop) → ReceivedAt (Err why) mote p.inboxes q.inboxes → FailuresBy {T = Option (List ℕ)} (Err why) p.failures q.failures → Halted why motes motes links (Looks mote ∷ []) p q
-  look_fails stop.Memory received counts =
-      unlooked stop.Memory (λ x. absurd cc) (λ first s x. x) (λ s same. inr (mote, received.0, subst (λ (o : Option Inboxes). Takes mote received.0 o q.inboxes) same received.1)) (λ x. absurd cc) (λ other. counts) (omega (arith, counts))
-  look_fails stop.Link received counts =
-      unlooked stop.Link (λ x. absurd cc) (λ first s x. x) (λ s same. inl (received ∙ same)) (λ x. counts.0) (λ other. absurd (other refl)) counts.1
-  look_fails stop.Write received counts = absurd counts
-  look_fails stop.Flash received counts = absurd counts
-  look_fails stop.NotAVolume received counts = absurd counts
-  look_fails stop.NoImage received counts = absurd counts
-
-pub look_exit : (motes mote : ℕ) (links : List (ℕ × ℕ)) (p q : Standing) (r : Result (Unit {0}) Stop) (why : Stop) → IsErrAnd r (λ e. e ≡ why) → Halted why motes motes links (Looks mote ∷ []) p q → GoesOn r motes motes motes links (Looks mote ∷ []) p q
-look_exit motes mote links p q (Ok u) why is h = absurd is
-look_exit motes mote links p q (Err e) why is h = subst (λ (w : Stop). Halted w motes motes links (Looks mote ∷ []) p q) (sym is) h
-
--- what came, if anything did
-pub came_is : (o : Option (List ℕ)) (bytes : List ℕ) (mote : ℕ) (before after : Option Inboxes) → o ≡ Some bytes → ReceivedAt (Ok o) mote before after → Takes mote bytes before after × IsFrame bytes
-came_is o bytes mote before after is came = subst (λ (x : Option (List ℕ)). ReceivedAt (Ok x) mote before after) is came
-
-pub none_is : (o : Option (List ℕ)) (mote : ℕ) (before after : Option Inboxes) → o ≡ None → ReceivedAt (Ok o) mote before after → IsEmptyAt mote before × (after ≡ before)
-none_is o mote before after is came = subst (λ (x : Option (List ℕ)). ReceivedAt (Ok x) mote before after) is came

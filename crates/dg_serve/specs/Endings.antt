@@ -1,12 +1,11 @@
 -- How a service leaves its boards, its link and its clock, where it ends.
-use Rattle.std.specs.Prelude.{◌≡◌, ◌⊎◌, ℕ, ◌<◌, ◌≤◌, true, List, [], ◌∷◌, ◌++◌, length, take, slice_get, slice_index_or, Option, Some, None, option_map}
-use Rattle.dg_words.specs.Counts.{Rose}
+use Rattle.std.specs.Prelude.{◌≡◌, ◌⊎◌, ℕ, ◌<◌, ◌≤◌, true, List, [], ◌∷◌, ◌++◌, length, take, slice_get, slice_index_or, Option}
+use Rattle.std.specs.Prelude.{Some, option_map}
 use Rattle.dg_base.specs.Clock.{Answers, Answered}
 use Rattle.dg_base.specs.declared.events.Event.{Event}
 use Rattle.dg_base.specs.declared.events.Event.TheVariants.{Tick, Reset, Frame}
-use Rattle.dg_link.specs.Inboxes.{Inboxes, Takes}
-use Rattle.dg_nor.specs.Device.{Device, Endures}
-use Rattle.dg_nor.specs.Fuse.{beneath_of}
+use Rattle.dg_link.specs.Inboxes.{Inboxes, TakesFrame}
+use Rattle.dg_nor.specs.Device.{Device}
 use Rattle.dg_nor.specs.Trail.{operations, MayLeave}
 use Rattle.dg_object.specs.Object.{Row}
 use Rattle.dg_volume.specs.Store.{Store, IsNear}
@@ -16,7 +15,9 @@ use Rattle.dg_rules.specs.World.{World, Sent, first_world, store_at, no_site}
 use Rattle.dg_rules.specs.Events.{does, mote_of, trail_of}
 use Rattle.dg_rules.specs.Steps.{EndsRun}
 use Rattle.dg_world.specs.Alone.{uncut}
-use Rattle.dg_serve.specs.Services.{Part, Begins, Looks, Ticks, Moment, Reads, PartDone, Serves, new_frames, handed_to, neighbours, words_of_seed}
+use Rattle.dg_seed.specs.Words.{first_generator}
+use Rattle.dg_serve.specs.Services.{Part, Begins, Looks, Ticks, Moment, ReadsClock, PartDone, PartsDone, new_frames, handed_to}
+use Rattle.dg_serve.specs.Services.{neighbours}
 use Rattle.dg_serve.specs.declared.stop.Stop.{Stop}
 use Rattle.dg_serve.specs.declared.stop.Stop.TheVariants.{Memory, Write, Link, Flash, NotAVolume, NoImage}
 
@@ -25,7 +26,8 @@ use Rattle.dg_serve.specs.declared.stop.Stop.TheVariants.{Memory, Write, Link, F
 -- What the boards stand for, one for each mote. A board that is no volume stands for any store.
 pub record StoresOf (motes : ℕ) (boards : List Device) (stores : List Store) : Type 0 where
   pub count : length stores ≡ motes
-  pub stands : (m : ℕ) (d : Device) → m < motes → slice_get boards m ≡ Some d → Stands d.image (slice_index_or stores m no_site.store) ⊎ IsNoVolume d.image
+  pub stands : (m : ℕ) (d : Device) → m < motes → slice_get boards m ≡ Some d
+      → Stands d.image (slice_index_or stores m no_site.store) ⊎ IsNoVolume d.image
 
 -- wide motes begin from these stores, at this first answer of the clock
 abbrev pub begins : List Row → List (ℕ × ℕ) → List Store → (origin : ℕ) → Option Answers → (seed : ℕ) → Option Inboxes → Moment
@@ -33,7 +35,7 @@ begins table links stores origin clock seed inboxes = record {
   world = first_world table links none_narrow stores;
   reading = origin;
   clock = clock;
-  words = words_of_seed seed;
+  words = first_generator seed;
   inboxes = inboxes;
 }
 
@@ -45,7 +47,8 @@ BoardStands w m a b = (IsVolume a.image → Stands b.image (store_at w m)) × (I
 
 -- So does each but perhaps one.
 abbrev pub BoardsStandBut : (ℕ → Type 0) → World → (old new : List Device) → Type 0
-BoardsStandBut P w old new = (m : ℕ) (a b : Device) → m < length w.sites → (P m → ⊥) → slice_get old m ≡ Some a → slice_get new m ≡ Some b → BoardStands w m a b
+BoardsStandBut P w old new = (m : ℕ) (a b : Device) → m < length w.sites → (P m → ⊥) → slice_get old m ≡ Some a
+    → slice_get new m ≡ Some b → BoardStands w m a b
 
 -- So do all.
 abbrev pub BoardsStand : World → (old new : List Device) → Type 0
@@ -53,7 +56,7 @@ BoardsStand w old new = BoardsStandBut (λ m. ⊥) w old new
 
 -- A board stopped in an event, and stands for a store that its trail leaves where so many operations were done. One that is no
 -- volume has its bytes as before.
-pub record StopsIn (w : World) (event : Event) (old new : List Device) : Type 0 where
+pub record StopsInEvent (w : World) (event : Event) (old new : List Device) : Type 0 where
   pub before : Device
   pub after : Device
   pub was : slice_get old (mote_of event) ≡ Some before
@@ -82,7 +85,7 @@ abbrev pub EventEnds : Stop → World → Event → (old new : List Device) → 
 EventEnds Memory w event old new = BoardsStand w old new
 EventEnds Write w event old new = ⊥
 EventEnds Link w event old new = ⊥
-EventEnds Flash w event old new = StopsIn w event old new
+EventEnds Flash w event old new = StopsInEvent w event old new
 EventEnds NotAVolume w event old new = FindsNoVolume w event old new
 EventEnds NoImage w event old new = FindsNoImage w event old new
 
@@ -92,7 +95,8 @@ event_of (Begins m) dt word bytes = Reset m dt word
 event_of (Looks m) dt word bytes = Frame m dt word bytes
 event_of (Ticks m) dt word bytes = Tick m dt word
 
--- The event in which the service ended did not happen. It is that of the next part, the clock was read and a word was drawn for it.
+-- The event in which the service ended did not happen. It is that of the next part,
+-- the clock was read and a word was drawn for it.
 pub record EndsInNext (stop : Stop) (s : Moment) (left : List Part) (old new : List Device) : Type 0 where
   pub part : Part
   pub rest : List Part
@@ -101,7 +105,7 @@ pub record EndsInNext (stop : Stop) (s : Moment) (left : List Part) (old new : L
   pub dt : ℕ
   pub word : ℕ
   pub after : Moment
-  pub reads : Reads s dt word after
+  pub reads : ReadsClock s dt word after
   pub ends : EventEnds stop s.world (event_of part dt word bytes) old new
 
 -- how the boards are left
@@ -117,15 +121,17 @@ BoardsLeft NoImage s left old new = EndsInNext NoImage s left old new
 
 -- A frame was taken for an event that did not happen.
 abbrev pub OneTaken : Moment → Option Inboxes → Type 0
-OneTaken s after = (mote : ℕ) × (bytes : List ℕ) × Takes mote bytes s.inboxes after
+OneTaken s after = (mote : ℕ) × (bytes : List ℕ) × TakesFrame mote bytes s.inboxes after
 
 -- what an event takes from the link before it happens: the frame that is heard, and else nothing
 abbrev pub TakesFor : Event → Option Inboxes → Option Inboxes → Type 0
-TakesFor (Frame mote dt word bytes) before after = Takes mote bytes before after
+TakesFor (Frame mote dt word bytes) before after = TakesFrame mote bytes before after
 TakesFor event before after = after ≡ before
 
--- The last event found the link like this: all that the events before it sent was handed on, and the frame that it hears is taken.
-pub record FoundBy (motes : ℕ) (s : Moment) (done : List Part) (events : List Event) (last : Moment) (found : Option Inboxes) : Type 0 where
+-- The last event found the link like this: all that the events before it sent was handed on,
+-- and the frame that it hears is taken.
+pub record FoundBy (motes : ℕ) (s : Moment) (done : List Part) (events : List Event) (last : Moment)
+    (found : Option Inboxes) : Type 0 where
   pub earlier : List Part
   pub part : Part
   pub parts_are : done ≡ earlier ++ part ∷ []
@@ -133,7 +139,7 @@ pub record FoundBy (motes : ℕ) (s : Moment) (done : List Part) (events : List 
   pub event : Event
   pub events_are : events ≡ told ++ event ∷ []
   pub before : Moment
-  pub serves : Serves motes s earlier told before
+  pub serves : PartsDone motes s earlier told before
   pub happened : PartDone motes part before (event ∷ []) last
   pub takes : TakesFor event before.inboxes found
 
@@ -145,7 +151,8 @@ pub record HandedToFirst (motes : ℕ) (before after : World) (old new : Option 
   pub some : new ≡ option_map (handed_to (take k (neighbours after motes frame.by)) frame.bytes) old
 
 -- So was the last event's.
-pub record PartlyHanded (motes : ℕ) (s : Moment) (done : List Part) (events : List Event) (last : Moment) (after : Option Inboxes) : Type 0 where
+pub record PartlyHanded (motes : ℕ) (s : Moment) (done : List Part) (events : List Event) (last : Moment)
+    (after : Option Inboxes) : Type 0 where
   pub found : Option Inboxes
   pub by : FoundBy motes s done events last found
   pub first : HandedToFirst motes by.before.world last.world found after

@@ -1,5 +1,6 @@
 -- A service of the network that an input spells.
-use Rattle.std.specs.Prelude.{◌≡◌, ◌⊎◌, ℕ, ◌+◌, ◌<◌, ◌≤◌, nat_lt, if◌then◌else◌, List, [], ◌∷◌, ◌++◌, length, codes, Option, Result, Ok, Err}
+use Rattle.std.specs.Prelude.{◌≡◌, ◌⊎◌, ℕ, ◌+◌, ◌<◌, ◌≤◌, nat_lt, if◌then◌else◌, List, [], ◌∷◌, ◌++◌, length, codes, Option}
+use Rattle.std.specs.Prelude.{Result, Ok, Err}
 use Rattle.dg_words.specs.Counts.{Rose}
 use Rattle.dg_base.specs.Outside.{Takes, AtEnd}
 use Rattle.dg_base.specs.declared.answers.Status.{Status}
@@ -9,7 +10,7 @@ use Rattle.dg_netcfg.specs.Profile.{netprofile}
 use Rattle.dg_netcfg.specs.declared.profile.NetProfile.{NetProfile}
 use Rattle.dg_netcfg.specs.declared.profile.ProfileFault.{ProfileFault}
 use Rattle.dg_script.specs.Sizes.{most_used_bytes}
-use Rattle.dg_serve.specs.Ran.{Tells}
+use Rattle.dg_serve.specs.Ran.{LineWritten}
 use Rattle.dg_serve.specs.Served.{Outside, Served, TooFewBoards}
 
 -- ---- how the rules say that it goes, by the input and the number of boards alone
@@ -51,7 +52,8 @@ pub record TellsAlone (answer of : Status) (line : List ℕ) (before after : Out
   pub clock : after.clock ≡ before.clock
   pub link : after.inboxes ≡ before.inboxes
   pub failures : after.failures ≡ before.failures
-  pub told : Tells answer of line before.written after.written before.faults after.faults ⊎ ((answer ≡ status.Memory) × (after.written ≡ before.written) × (after.faults ≡ before.faults))
+  pub told : LineWritten answer of line before.written after.written before.faults after.faults
+      ⊎ ((answer ≡ status.Memory) × (after.written ≡ before.written) × (after.faults ≡ before.faults))
 
 abbrev pub DoneBy : Opening → (answer : Status) → (seed turns : ℕ) → (before after : Outside) → Type 0
 DoneBy Over answer seed turns before after = TellsAlone answer status.TooLong over_line before after
@@ -59,20 +61,30 @@ DoneBy (FaultAt fault) answer seed turns before after = TellsAlone answer status
 DoneBy (TooFew profile) answer seed turns before after = TooFewBoards answer profile before after
 DoneBy (Serves profile) answer seed turns before after = Served answer profile seed turns before after
 
+-- What stands around a service that reads its network: what is left of the input, where that is told, how many reads failed, and
+-- what is outside of the service.
+pub record AroundService : Type 0 where
+  pub left : Option (List ℕ)
+  pub reads : ℕ
+  pub outside : Outside
+
+abbrev pub around_service : (left : Option (List ℕ)) (reads : ℕ) (outside : Outside) → AroundService
+around_service left reads outside = record { left = left; reads = reads; outside = outside }
+
 -- Memory ran out over the input, or a read of it failed. Nothing was done.
-pub record NotRead (answer : Status) (reads_before reads_after : ℕ) (before after : Outside) : Type 0 where
-  pub cause : ((answer ≡ status.Memory) × (reads_after ≡ reads_before)) ⊎ ((answer ≡ status.ReadFault) × Rose reads_before reads_after)
-  pub same : after ≡ before
+pub record NotRead (answer : Status) (a b : AroundService) : Type 0 where
+  pub cause : ((answer ≡ status.Memory) × (b.reads ≡ a.reads)) ⊎ ((answer ≡ status.ReadFault) × Rose a.reads b.reads)
+  pub same : b.outside ≡ a.outside
 
 -- It was read to its end, or one byte past those that are used, and what the rules say was done.
-pub record WasRead (input : List ℕ) (at_end : Type 0) (answer : Status) (seed turns : ℕ) (reads_before reads_after : ℕ) (before after : Outside) : Type 0 where
-  pub enough : at_end ⊎ (most_used_bytes < length input)
-  pub reads : reads_after ≡ reads_before
-  pub done : DoneBy (opening_of (length before.boards) input) answer seed turns before after
+pub record WasRead (input : List ℕ) (answer : Status) (seed turns : ℕ) (a b : AroundService) : Type 0 where
+  pub enough : AtEnd b.left ⊎ (most_used_bytes < length input)
+  pub reads : b.reads ≡ a.reads
+  pub done : DoneBy (opening_of (length a.outside.boards) input) answer seed turns a.outside b.outside
 
 -- some bytes were taken of the input, and this was done
-pub record NetworkServed (answer : Status) (seed turns : ℕ) (left_before left_after : Option (List ℕ)) (reads_before reads_after : ℕ) (before after : Outside) : Type 0 where
+pub record NetworkServed (answer : Status) (seed turns : ℕ) (a b : AroundService) : Type 0 where
   pub input : List ℕ
-  pub taken : Takes left_before left_after input
+  pub taken : Takes a.left b.left input
   pub few_bytes : length input ≤ most_used_bytes + 1
-  pub done : NotRead answer reads_before reads_after before after ⊎ WasRead input (AtEnd left_after) answer seed turns reads_before reads_after before after
+  pub done : NotRead answer a b ⊎ WasRead input answer seed turns a b

@@ -6,9 +6,9 @@ use Rattle.dg_object.specs.Object.{Row}
 use Rattle.dg_volume.specs.Store.{Store}
 use Rattle.dg_rules.specs.World.{World, first_world}
 use Rattle.dg_rules.specs.Runs.{Played, Plays, EachAfter}
-use Rattle.dg_rules.specs.Ranges.{EventFits}
+use Rattle.dg_rules.specs.Ranges.{EventInRange}
 use Rattle.dg_rules.specs.Begins.{store_of, StoresAgree, HoldsTo, HoldsToThen}
-use Rattle.dg_rules.specs.Premises.{IsInRange, LeavesAgreement, WorldAgrees}
+use Rattle.dg_rules.specs.Premises.{PlayedInRange, LeavesAgreement, WorldAgrees}
 use Rattle.dg_rules.specs.Promises.{IsLegal, KeepsAll, StartsRow, StopsAgree}
 use Rattle.dg_rules.specs.Events.{does}
 use Rattle.dg_rules.specs.Consistency.{WorldConsistent, LeavesConsistent, StartsSound, StopsConsistent}
@@ -22,8 +22,8 @@ use Rattle.dg_world.specs.Alone.{uncut}
 use Rattle.dg_serve.specs.Traces.{IsScript}
 
 -- an event of a service as an item of a run: no power is cut in it
-abbrev pub item_by : Event → Item
-item_by event = Happens (uncut event) true
+abbrev pub event_item : Event → Item
+event_item event = Happens (uncut event) true
 
 abbrev pub item_played : Played → Item
 item_played p = p.item
@@ -31,9 +31,9 @@ item_played p = p.item
 -- a run of the rules over these events, between these worlds
 pub record RunOf (motes : ℕ) (u : World) (events : List Event) (v : World) : Type 0 where
   pub played : List Played
-  pub items : map item_played played ≡ map item_by events
+  pub items : map item_played played ≡ map event_item events
   pub plays : Plays u played v
-  pub ranges : AllByRecursion (IsInRange motes) played
+  pub ranges : AllByRecursion (PlayedInRange motes) played
 
 -- What the boards stand for agrees with the table, and each frame that came is honest by it.
 pub record FramesAreHonest (table : List Row) (stores : List Store) (played : List Played) : Type 0 where
@@ -58,22 +58,23 @@ pub record StaysConsistent (golden : Row) (motes : ℕ) (played : List Played) (
   -- what starts is golden byte for byte, or an object that fits its own descriptor
   pub starts : AllByRecursion (StartsSound golden) played
   -- wherever a stop comes in the next event, each store that the chip may then stand for is consistent
-  pub halves : (e : Event) → EventFits motes e → StopsConsistent golden v e
+  pub halves : (e : Event) → EventInRange motes e → StopsConsistent golden v e
 
 abbrev pub LeavesGolden : Played → Type 0
 LeavesGolden p = WorldKeepsGolden p.after
 
-pub record StaysGolden (motes : ℕ) (played : List Played) (v : World) : Type 0 where
+pub record ServiceKeepsGolden (motes : ℕ) (played : List Played) (v : World) : Type 0 where
   -- every mote keeps golden whole and asks for other images, behind each event and in the last world
   pub kept : AllByRecursion LeavesGolden played
   pub ends : WorldKeepsGolden v
   -- the next event finds an image to start, golden if no other
-  pub found : (e : Event) → EventFits motes e → FindsImage (does v e)
+  pub found : (e : Event) → EventInRange motes e → FindsImage (does v e)
 
 -- ---- what a service keeps
 
 -- The events are those of a run of wide motes, of which there holds what is promised of a script over boards as they are.
-pub record KeepsRules (table : List Row) (stores : List Store) (links : List (ℕ × ℕ)) (motes : ℕ) (events : List Event) (v : World) : Type 0 where
+pub record KeepsRules (table : List Row) (stores : List Store) (links : List (ℕ × ℕ)) (motes : ℕ) (events : List Event)
+    (v : World) : Type 0 where
   pub run : RunOf motes (first_world table links none_narrow stores) events v
   -- where its frames are honest, each step is legal after those before it
   pub legal : FramesAreHonest table stores run.played → EachAfter IsLegal [] run.played
@@ -83,18 +84,21 @@ pub record KeepsRules (table : List Row) (stores : List Store) (links : List (�
   pub starts : FramesAreHonest table stores run.played → AllByRecursion StartsRow run.played
   -- there the world behind each event agrees with its table, and so does the last world
   pub agrees : FramesAreHonest table stores run.played → AllByRecursion LeavesAgreement run.played × WorldAgrees v
-  -- there each store that the chip may stand for, wherever a stop comes in the next event, agrees with the table, where that event is honest too
-  pub halves : (e : Event) → FramesAreHonest table stores run.played → EventFits motes e → HoldsTo table v e → StopsAgree v e
-  -- with any frames at all, over consistent boards: each store stays consistent, and what starts is golden or fits its own descriptor
+  -- there each store that the chip may stand for, wherever a stop comes in the next event, agrees with the table,
+  -- where that event is honest too
+  pub halves : (e : Event) → FramesAreHonest table stores run.played → EventInRange motes e → HoldsTo table v e → StopsAgree v e
+  -- with any frames at all, over consistent boards: each store stays consistent,
+  -- and what starts is golden or fits its own descriptor
   pub consistent : (golden : Row) → StoresConsistent golden stores → StaysConsistent golden motes run.played v
   -- with any frames at all, over boards that keep golden whole: they still do, and a start finds it
-  pub golden : StoresKeepGolden stores → StaysGolden motes run.played v
+  pub golden : StoresKeepGolden stores → ServiceKeepsGolden motes run.played v
 
 -- ---- what a replay of its trace comes to
 
 -- the world in which the run of these lines begins, over boards as they are that stand for these stores
 abbrev pub world_by : List Line → List Row → List Store → World
-world_by lines table stores = first_world table (place_behind first_place lines).links (place_behind first_place lines).narrow stores
+world_by lines table stores =
+    first_world table (place_behind first_place lines).links (place_behind first_place lines).narrow stores
 
 -- The bytes are a script over so many boards as they are. Where these stand for these stores, a run of the rules over its items
 -- leads to this world, and no run over them to another.
@@ -106,4 +110,5 @@ pub record ReplaysTo (bytes : List ℕ) (motes : ℕ) (table : List Row) (stores
   pub played : List Played
   pub items : map item_played played ≡ items_of lines
   pub plays : Plays (world_by lines table stores) played v
-  pub only : (others : List Played) (w : World) → map item_played others ≡ items_of lines → Plays (world_by lines table stores) others w → w ≡ v
+  pub only : (others : List Played) (w : World) → map item_played others ≡ items_of lines
+      → Plays (world_by lines table stores) others w → w ≡ v

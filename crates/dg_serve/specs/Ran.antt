@@ -1,5 +1,6 @@
 -- What the calls of a service did before its last line was written.
-use Rattle.std.specs.Prelude.{◌≡◌, ◌≢◌, ◌⊎◌, ℕ, ◌<◌, ◌≤◌, List, [], ◌++◌, length, take, slice_get, slice_index_or, Option, Some, None, option_map, Result, Ok, Err}
+use Rattle.std.specs.Prelude.{◌≡◌, ◌≢◌, ◌⊎◌, ℕ, ◌≤◌, List, [], ◌++◌, length, take, slice_get, slice_index_or, Option, Some}
+use Rattle.std.specs.Prelude.{None, option_map, Result, Ok, Err}
 use Rattle.dg_words.specs.Counts.{Rose}
 use Rattle.dg_base.specs.Clock.{Answers, Answered}
 use Rattle.dg_base.specs.Outside.{Puts}
@@ -11,11 +12,11 @@ use Rattle.dg_netcfg.specs.declared.profile.NetProfile.{NetProfile}
 use Rattle.dg_nor.specs.Device.{Device}
 use Rattle.dg_object.specs.Object.{Row}
 use Rattle.dg_volume.specs.Store.{Store}
-use Rattle.dg_world.specs.declared.world.RunningMote.{RunningMote}
-use Rattle.dg_serve.specs.Services.{Part, plan, words_of_seed}
+use Rattle.dg_seed.specs.Words.{first_generator, generator_of}
+use Rattle.dg_serve.specs.Services.{Part, course, plan}
 use Rattle.dg_serve.specs.Endings.{StoresOf, begins}
-use Rattle.dg_serve.specs.Served.{Outside, Came, BoardsEndure, Hindered, DidNotBegin}
-use Rattle.dg_serve.specs.Traces.{UntoldLast, written, head_lines, event_lines, last_line}
+use Rattle.dg_serve.specs.Served.{Outside, Came, BoardsEndure, Hindered}
+use Rattle.dg_serve.specs.Traces.{UntoldLast, lines_text, head_lines, event_lines, last_line}
 use Rattle.dg_serve.specs.declared.service.Service.{Service}
 use Rattle.dg_serve.specs.declared.stop.Stop.{Stop}
 use Rattle.dg_serve.specs.declared.stop.Stop.TheVariants as stop
@@ -30,22 +31,25 @@ status_of stop.NotAVolume = status.NotAVolume
 status_of stop.NoImage = status.NoImage
 
 -- The service is about to begin: its motes are off, the head of its trace is written, its link is open, and its clock was read.
-pub record IsOpened (profile : NetProfile) (seed : ℕ) (before : Outside) (v : Service) (addressees reached : ℕ) (after : Outside) : Type 0 where
+pub record IsOpened (profile : NetProfile) (seed : ℕ) (before : Outside) (v : Service) (addressees reached : ℕ)
+    (after : Outside) : Type 0 where
   pub motes : length v.motes.items ≡ profile.motes
   pub off : (m : ℕ) → slice_index_or v.motes.items m None ≡ None
   pub moment : v.timeline.moment ≡ 0
-  pub words : v.timeline.words ≡ words_of_seed seed
+  pub words : generator_of v.timeline.words ≡ first_generator seed
   pub told : Answered before.clock after.clock v.timeline.reading
   pub known : v.timeline.reading ≤ reached
   pub addressees_are : addressees ≡ profile.motes
-  pub put : Puts before.written after.written (written (head_lines profile))
+  pub put : Puts before.written after.written (lines_text (head_lines profile))
   pub inboxes : after.inboxes ≡ option_map (emptied profile.motes) before.inboxes
   pub faults : after.faults ≡ before.faults
   pub failures : after.failures ≡ before.failures
 
-abbrev pub Opens : Result Service Stop → NetProfile → (seed : ℕ) → (before : Outside) → (addressees reached : ℕ) → (after : Outside) → Type 0
-Opens (Ok v) profile seed before addressees reached after = IsOpened profile seed before v addressees reached after
-Opens (Err why) profile seed before addressees reached after = Hindered (status_of why) profile before after × (after.clock ≡ before.clock)
+abbrev pub ServiceOpens : Result Service Stop → NetProfile → (seed : ℕ) → (before : Outside) → (addressees reached : ℕ)
+    → (after : Outside) → Type 0
+ServiceOpens (Ok v) profile seed before addressees reached after = IsOpened profile seed before v addressees reached after
+ServiceOpens (Err why) profile seed before addressees reached after =
+    Hindered (status_of why) profile before after × (after.clock ≡ before.clock)
 
 -- what was written of a trace, by why the service ended before its turns were over, if it did
 abbrev pub WroteBy : Option Stop → (head : List ℕ) → List Event → (text : List ℕ) → Type 0
@@ -65,10 +69,11 @@ pub record CountedBy (why : Option Stop) (before after : Outside) : Type 0 where
   pub sent : why ≡ Some stop.Link → Rose before.failures after.failures
   pub failures : why ≢ Some stop.Link → after.failures ≡ before.failures
   pub failures_rise : before.failures ≤ after.failures
-  pub calm : why ≢ Some stop.Flash → (m : ℕ) (a b : Device) → slice_get before.boards m ≡ Some a → slice_get after.boards m ≡ Some b → b.faults ≡ a.faults
+  pub calm : why ≢ Some stop.Flash → (m : ℕ) (a b : Device) → slice_get before.boards m ≡ Some a
+      → slice_get after.boards m ≡ Some b → b.faults ≡ a.faults
 
 -- The service began, and came as far as this.
-pub record Ran (why : Option Stop) (profile : NetProfile) (seed turns : ℕ) (before after : Outside) : Type 0 where
+pub record ServiceRan (why : Option Stop) (profile : NetProfile) (seed turns : ℕ) (before after : Outside) : Type 0 where
   pub origin : ℕ
   pub clock : Option Answers
   pub first : Answered before.clock clock origin
@@ -78,10 +83,12 @@ pub record Ran (why : Option Stop) (profile : NetProfile) (seed turns : ℕ) (be
   pub parts : done ++ left ≡ plan profile.motes turns
   pub all : why ≡ None → left ≡ []
   pub came : (table : List Row) (stores : List Store) → StoresOf profile.motes before.boards stores
-      → Came why profile.motes (begins table profile.links stores origin clock seed (option_map (emptied profile.motes) before.inboxes)) done events left before.boards after
+      → Came why profile.motes (begins table profile.links stores origin clock seed
+      (option_map (emptied profile.motes) before.inboxes))
+      (course done events left) before.boards after
   pub text : List ℕ
   pub put : Puts before.written after.written text
-  pub wrote : WroteBy why (written (head_lines profile)) events text
+  pub wrote : WroteBy why (lines_text (head_lines profile)) events text
   pub boards : BoardsEndure profile.motes before.boards after.boards
   pub counts : CountedBy why before after
 
@@ -92,14 +99,16 @@ pub record WasHindered (why : Stop) (profile : NetProfile) (before after : Outsi
   pub clock : after.clock ≡ before.clock
 
 abbrev pub RanTo : Result (Unit {0}) Stop → NetProfile → (seed turns : ℕ) → (before after : Outside) → Type 0
-RanTo (Ok u) profile seed turns before after = Ran None profile seed turns before after
-RanTo (Err why) profile seed turns before after = WasHindered why profile before after ⊎ Ran (Some why) profile seed turns before after
+RanTo (Ok u) profile seed turns before after = ServiceRan None profile seed turns before after
+RanTo (Err why) profile seed turns before after =
+    WasHindered why profile before after ⊎ ServiceRan (Some why) profile seed turns before after
 
 -- ---- the last line
 
 -- a line was written, or some front of it, where that failed
-abbrev pub Tells : (answer of : Status) → (line : List ℕ) → (w v : Option (List ℕ)) → (f g : ℕ) → Type 0
-Tells answer of line w v f g = ((answer ≡ of) × Puts w v line × (g ≡ f)) ⊎ ((answer ≡ status.WriteFault) × ((n : ℕ) × Puts w v (take n line)) × Rose f g × (f ≤ g))
+abbrev pub LineWritten : (answer of : Status) → (line : List ℕ) → (w v : Option (List ℕ)) → (f g : ℕ) → Type 0
+LineWritten answer of line w v f g = ((answer ≡ of) × Puts w v line × (g ≡ f))
+    ⊎ ((answer ≡ status.WriteFault) × ((n : ℕ) × Puts w v (take n line)) × Rose f g × (f ≤ g))
 
 -- what is answered for a stop
 abbrev pub TellsStop : Stop → (answer : Status) → (w v : Option (List ℕ)) → (f g : ℕ) → Type 0
@@ -107,12 +116,12 @@ TellsStop stop.Memory answer w v f g = (answer ≡ status.Memory) × (v ≡ w) �
 TellsStop stop.Write answer w v f g = (answer ≡ status.WriteFault) × (v ≡ w) × (g ≡ f)
 TellsStop stop.Link answer w v f g = (answer ≡ status.LinkFault) × (v ≡ w) × (g ≡ f)
 TellsStop stop.Flash answer w v f g = (answer ≡ status.FlashFault) × (v ≡ w) × (g ≡ f)
-TellsStop stop.NotAVolume answer w v f g = Tells answer status.NotAVolume (last_line status.NotAVolume 0 0) w v f g
-TellsStop stop.NoImage answer w v f g = Tells answer status.NoImage (last_line status.NoImage 0 0) w v f g
+TellsStop stop.NotAVolume answer w v f g = LineWritten answer status.NotAVolume (last_line status.NotAVolume 0 0) w v f g
+TellsStop stop.NoImage answer w v f g = LineWritten answer status.NoImage (last_line status.NoImage 0 0) w v f g
 
 -- what is answered where there are too few boards
 abbrev pub TellsTooFew : (answer : Status) → (line : List ℕ) → (w v : Option (List ℕ)) → (f g : ℕ) → Type 0
-TellsTooFew answer line w v f g = Tells answer status.NoBoard line w v f g ⊎ ((answer ≡ status.Memory) × (v ≡ w) × (g ≡ f))
+TellsTooFew answer line w v f g = LineWritten answer status.NoBoard line w v f g ⊎ ((answer ≡ status.Memory) × (v ≡ w) × (g ≡ f))
 
 -- ---- the link is opened
 

@@ -1,5 +1,5 @@
 -- What a service did: the events that happened, what it wrote, and how it left the boards, the link and the clock.
-use Rattle.std.specs.Prelude.{◌≡◌, ◌≢◌, ◌⊎◌, ℕ, ◌<◌, ◌≤◌, List, [], ◌++◌, length, take, slice_get, Option, Some, None, option_map}
+use Rattle.std.specs.Prelude.{◌≡◌, ◌≢◌, ◌⊎◌, ℕ, ◌≤◌, List, [], ◌++◌, length, take, slice_get, Option, Some, None, option_map}
 use Rattle.dg_words.specs.Counts.{Rose}
 use Rattle.dg_base.specs.Clock.{Answers, Answered}
 use Rattle.dg_base.specs.Outside.{Puts}
@@ -12,9 +12,9 @@ use Rattle.dg_nor.specs.Device.{Device, Endures}
 use Rattle.dg_nor.specs.Fuse.{beneath_of}
 use Rattle.dg_object.specs.Object.{Row}
 use Rattle.dg_volume.specs.Store.{Store}
-use Rattle.dg_serve.specs.Services.{Part, Moment, Serves, plan}
+use Rattle.dg_serve.specs.Services.{Part, Moment, PartsDone, Course, course, plan}
 use Rattle.dg_serve.specs.Endings.{StoresOf, begins, BoardsStand, BoardsLeft, LinkLeft, ClockLeft}
-use Rattle.dg_serve.specs.Traces.{UntoldLast, trace, written, head_lines, last_line}
+use Rattle.dg_serve.specs.Traces.{UntoldLast, trace, lines_text, head_lines, last_line}
 use Rattle.dg_serve.specs.declared.stop.Stop.{Stop}
 use Rattle.dg_serve.specs.declared.stop.Stop.TheVariants as stop
 
@@ -29,37 +29,44 @@ pub record Outside : Type 0 where
   pub boards : List Device
 
 -- how the boards, the link and the clock are left, by why the service ended before its turns were over, if it did
-abbrev pub LeftBy : Option Stop → (motes : ℕ) → Moment → List Part → List Event → (last : Moment) → List Part → List Device → Outside → Type 0
-LeftBy None motes s done events last left first after = BoardsStand last.world first after.boards × (after.inboxes ≡ last.inboxes) × (after.clock ≡ last.clock)
-LeftBy (Some why) motes s done events last left first after =
-    BoardsLeft why last left first after.boards × LinkLeft why motes s done events last after.inboxes × ClockLeft last.clock after.clock
+abbrev pub LeftBy : Option Stop → (motes : ℕ) → Moment → Course → (last : Moment) → List Device → Outside → Type 0
+LeftBy None motes s c last first after =
+    BoardsStand last.world first after.boards × (after.inboxes ≡ last.inboxes) × (after.clock ≡ last.clock)
+LeftBy (Some why) motes s c last first after =
+    BoardsLeft why last c.left first after.boards × LinkLeft why motes s c.done c.events last after.inboxes
+    × ClockLeft last.clock after.clock
 
 -- From this moment on the service came as far as this.
-pub record Came (why : Option Stop) (motes : ℕ) (s : Moment) (done : List Part) (events : List Event) (left : List Part) (first : List Device) (after : Outside) : Type 0 where
+pub record Came (why : Option Stop) (motes : ℕ) (s : Moment) (c : Course) (first : List Device) (after : Outside) : Type 0 where
   pub last : Moment
-  pub serves : Serves motes s done events last
-  pub ends : LeftBy why motes s done events last left first after
+  pub serves : PartsDone motes s c.done c.events last
+  pub ends : LeftBy why motes s c last first after
 
 -- The bytes are the trace and the last line of the status. Only where that line could not be written they are the trace and a
 -- front of it.
 abbrev pub WroteLast : Status → Status → (whole line text : List ℕ) → Type 0
-WroteLast answer of whole line text = ((answer ≡ of) × (text ≡ whole ++ line)) ⊎ ((answer ≡ status.WriteFault) × ((n : ℕ) × (text ≡ whole ++ take n line)))
+WroteLast answer of whole line text =
+    ((answer ≡ of) × (text ≡ whole ++ line)) ⊎ ((answer ≡ status.WriteFault) × ((n : ℕ) × (text ≡ whole ++ take n line)))
 
 -- What was written of the trace of these events. Where a line of it could not be written, it is that of the last event.
 abbrev pub Wrote : Option Stop → Status → NetProfile → (boards : ℕ) → List Event → (text : List ℕ) → Type 0
 Wrote None answer profile boards events text = (answer ≡ status.Done) × (text ≡ trace profile events)
 Wrote (Some stop.Memory) answer profile boards events text = (answer ≡ status.Memory) × (text ≡ trace profile events)
-Wrote (Some stop.Write) answer profile boards events text = (answer ≡ status.WriteFault) × UntoldLast (written (head_lines profile)) events text
+Wrote (Some stop.Write) answer profile boards events text =
+    (answer ≡ status.WriteFault) × UntoldLast (lines_text (head_lines profile)) events text
 Wrote (Some stop.Link) answer profile boards events text = (answer ≡ status.LinkFault) × (text ≡ trace profile events)
 Wrote (Some stop.Flash) answer profile boards events text = (answer ≡ status.FlashFault) × (text ≡ trace profile events)
-Wrote (Some stop.NotAVolume) answer profile boards events text = WroteLast answer status.NotAVolume (trace profile events) (last_line status.NotAVolume profile.motes boards) text
-Wrote (Some stop.NoImage) answer profile boards events text = WroteLast answer status.NoImage (trace profile events) (last_line status.NoImage profile.motes boards) text
+Wrote (Some stop.NotAVolume) answer profile boards events text =
+    WroteLast answer status.NotAVolume (trace profile events) (last_line status.NotAVolume profile.motes boards) text
+Wrote (Some stop.NoImage) answer profile boards events text =
+    WroteLast answer status.NoImage (trace profile events) (last_line status.NoImage profile.motes boards) text
 
 -- No board but those of the motes was used. No count fell, and a board is stopped only where it was, or where its count rose.
 pub record BoardsEndure (motes : ℕ) (old new : List Device) : Type 0 where
   pub count : length new ≡ length old
   pub others : (m : ℕ) → motes ≤ m → slice_get new m ≡ slice_get old m
-  pub endures : (m : ℕ) (a b : Device) → slice_get old m ≡ Some a → slice_get new m ≡ Some b → Endures (beneath_of a) (beneath_of b)
+  pub endures : (m : ℕ) (a b : Device) → slice_get old m ≡ Some a → slice_get new m ≡ Some b
+      → Endures (beneath_of a) (beneath_of b)
 
 -- A fault of the outside is told, and with its own answer alone.
 pub record Causes (answer : Status) (before after : Outside) : Type 0 where
@@ -67,7 +74,8 @@ pub record Causes (answer : Status) (before after : Outside) : Type 0 where
   pub writes : answer ≢ status.WriteFault → after.faults ≡ before.faults
   pub link_fault : answer ≡ status.LinkFault → Rose before.failures after.failures
   pub sends : answer ≡ status.Done → after.failures ≡ before.failures
-  pub calm : answer ≢ status.FlashFault → (m : ℕ) (a b : Device) → slice_get before.boards m ≡ Some a → slice_get after.boards m ≡ Some b → b.faults ≡ a.faults
+  pub calm : answer ≢ status.FlashFault → (m : ℕ) (a b : Device) → slice_get before.boards m ≡ Some a
+      → slice_get after.boards m ≡ Some b → b.faults ≡ a.faults
   pub writes_rise : before.faults ≤ after.faults
   pub sends_rise : before.failures ≤ after.failures
 
@@ -85,7 +93,9 @@ pub record Began (answer : Status) (profile : NetProfile) (seed turns : ℕ) (be
   pub all : why ≡ None → left ≡ []
   -- from whatever the boards stand for, and whatever the table of images is: the rules of a service look at none
   pub came : (table : List Row) (stores : List Store) → StoresOf profile.motes before.boards stores
-      → Came why profile.motes (begins table profile.links stores origin clock seed (option_map (emptied profile.motes) before.inboxes)) done events left before.boards after
+      → Came why profile.motes (begins table profile.links stores origin clock seed
+      (option_map (emptied profile.motes) before.inboxes))
+      (course done events left) before.boards after
   pub text : List ℕ
   pub put : Puts before.written after.written text
   pub wrote : Wrote why answer profile (length before.boards) events text
@@ -94,10 +104,15 @@ pub record Began (answer : Status) (profile : NetProfile) (seed turns : ℕ) (be
 
 -- why a service did not begin, where the head of its trace could not be written, or the link could not be opened
 abbrev pub Hindered : Status → NetProfile → (before after : Outside) → Type 0
-Hindered status.Memory profile before after = ((n : ℕ) × Puts before.written after.written (take n (written (head_lines profile)))) × (after.faults ≡ before.faults) × (after.failures ≡ before.failures)
-Hindered status.WriteFault profile before after = ((n : ℕ) × Puts before.written after.written (take n (written (head_lines profile)))) × Rose before.faults after.faults × (after.failures ≡ before.failures)
+Hindered status.Memory profile before after =
+    ((n : ℕ) × Puts before.written after.written (take n (lines_text (head_lines profile)))) × (after.faults ≡ before.faults)
+    × (after.failures ≡ before.failures)
+Hindered status.WriteFault profile before after =
+    ((n : ℕ) × Puts before.written after.written (take n (lines_text (head_lines profile)))) × Rose before.faults after.faults
+    × (after.failures ≡ before.failures)
     × (after.inboxes ≡ before.inboxes) × (before.faults ≤ after.faults)
-Hindered status.LinkFault profile before after = Puts before.written after.written (written (head_lines profile)) × (after.faults ≡ before.faults) × Rose before.failures after.failures
+Hindered status.LinkFault profile before after = Puts before.written after.written (lines_text (head_lines profile))
+    × (after.faults ≡ before.faults) × Rose before.failures after.failures
     × (after.inboxes ≡ option_map (emptied 0) before.inboxes) × (before.failures ≤ after.failures)
 Hindered answer profile before after = ⊥
 
@@ -108,7 +123,8 @@ pub record DidNotBegin (answer : Status) (profile : NetProfile) (before after : 
   pub clock : after.clock ≡ before.clock
 
 abbrev pub Served : Status → NetProfile → (seed turns : ℕ) → (before after : Outside) → Type 0
-Served answer profile seed turns before after = DidNotBegin answer profile before after ⊎ Began answer profile seed turns before after
+Served answer profile seed turns before after =
+    DidNotBegin answer profile before after ⊎ Began answer profile seed turns before after
 
 -- There are too few boards: nothing is done, and one line is written.
 pub record TooFewBoards (answer : Status) (profile : NetProfile) (before after : Outside) : Type 0 where
@@ -116,6 +132,9 @@ pub record TooFewBoards (answer : Status) (profile : NetProfile) (before after :
   pub clock : after.clock ≡ before.clock
   pub link : after.inboxes ≡ before.inboxes
   pub failures : after.failures ≡ before.failures
-  pub told : ((answer ≡ status.NoBoard) × Puts before.written after.written (last_line status.NoBoard profile.motes (length before.boards)) × (after.faults ≡ before.faults))
-      ⊎ (((n : ℕ) × (answer ≡ status.WriteFault) × Puts before.written after.written (take n (last_line status.NoBoard profile.motes (length before.boards))) × Rose before.faults after.faults × (before.faults ≤ after.faults))
+  pub told : ((answer ≡ status.NoBoard) × Puts before.written after.written
+      (last_line status.NoBoard profile.motes (length before.boards)) × (after.faults ≡ before.faults))
+      ⊎ (((n : ℕ) × (answer ≡ status.WriteFault) × Puts before.written after.written
+      (take n (last_line status.NoBoard profile.motes (length before.boards))) × Rose before.faults after.faults
+      × (before.faults ≤ after.faults))
       ⊎ ((answer ≡ status.Memory) × (after.written ≡ before.written) × (after.faults ≡ before.faults)))

@@ -1,12 +1,12 @@
 -- A service by the rules: motes over a link, by a clock, with the words of a seed.
-use Rattle.std.specs.Prelude.{◌≡◌, ◌⊎◌, ℕ, ◌-◌, ◌^◌, ◌≤◌, min, if◌then◌else◌, List, [], ◌∷◌, ◌++◌, length, drop, Option, option_map}
-use Rattle.rand_core.specs.Pcg32Seed.{pcg32_seed}
+use Rattle.std.specs.Prelude.{◌≡◌, ◌⊎◌, ℕ, ◌-◌, ◌^◌, ◌≤◌, min, if◌then◌else◌, List, [], ◌∷◌, ◌++◌, length, drop, Option}
+use Rattle.std.specs.Prelude.{option_map}
 use Rattle.rand_pcg.specs.Lcg.{Lcg}
-use Rattle.rand_pcg.specs.Pcg.{pcg32, pcg32_of_seed}
+use Rattle.rand_pcg.specs.Pcg.{pcg32}
 use Rattle.dg_base.specs.Clock.{Answers, Answered}
 use Rattle.dg_base.specs.declared.events.Event.{Event}
 use Rattle.dg_base.specs.declared.events.Event.TheVariants.{Tick, Reset, Frame}
-use Rattle.dg_link.specs.Inboxes.{Inboxes, Takes, IsEmptyAt, delivered}
+use Rattle.dg_link.specs.Inboxes.{Inboxes, TakesFrame, IsEmptyAt, delivered}
 use Rattle.dg_rules.specs.World.{World, Sent}
 use Rattle.dg_rules.specs.Steps.{WorldStep}
 use Rattle.dg_script.specs.Fitting.{IsFrame, IsTimed}
@@ -47,10 +47,6 @@ pub record Moment : Type 0 where
   -- the frames that wait, where the link tells them
   pub inboxes : Option Inboxes
 
--- the words of a seed
-abbrev pub words_of_seed : ℕ → Lcg
-words_of_seed seed = pcg32_of_seed (pcg32_seed 16 seed)
-
 -- how much later an answer of the clock is, as far as an event can say it
 abbrev pub later : (before after : ℕ) → ℕ
 later before after = min (after - before) (2 ^ 32 - 1)
@@ -60,7 +56,7 @@ abbrev pub at_reading : Moment → ℕ → Option Answers → Lcg → Moment
 at_reading s answer clock words = record s { reading = answer; clock = clock; words = words }
 
 -- Before an event the clock is read and a word is drawn. Nothing else changes.
-pub record Reads (s : Moment) (dt word : ℕ) (t : Moment) : Type 0 where
+pub record ReadsClock (s : Moment) (dt word : ℕ) (t : Moment) : Type 0 where
   pub answer : ℕ
   pub rises : s.reading ≤ answer
   pub told : Answered s.clock t.clock answer
@@ -108,7 +104,7 @@ pub record Happened (motes : ℕ) (s : Moment) (event : (dt word : ℕ) → Even
   pub dt : ℕ
   pub word : ℕ
   pub between : Moment
-  pub reads : Reads s dt word between
+  pub reads : ReadsClock s dt word between
   pub one : done ≡ event dt word ∷ []
   pub steps : Steps motes between (event dt word) t
 
@@ -123,7 +119,7 @@ pub record OneCame (motes mote : ℕ) (s : Moment) (done : List Event) (t : Mome
   pub bytes : List ℕ
   pub fits : IsFrame bytes
   pub taken : Option Inboxes
-  pub takes : Takes mote bytes s.inboxes taken
+  pub takes : TakesFrame mote bytes s.inboxes taken
   pub heard : Happened motes (record s { inboxes = taken }) (λ dt word. Frame mote dt word bytes) done t
 
 abbrev pub PartDone : (motes : ℕ) → Part → Moment → List Event → Moment → Type 0
@@ -132,7 +128,17 @@ PartDone motes (Looks m) s done t = NoneCame m s done t ⊎ OneCame motes m s do
 PartDone motes (Ticks m) s done t = Happened motes s (λ dt word. Tick m dt word) done t
 
 -- these parts were done, one after the other, and gave these events
-unfoldable pub Serves : (motes : ℕ) → Moment → List Part → List Event → Moment → Type 0
-Serves motes s [] events t = (events ≡ []) × (t ≡ s)
-Serves motes s (part ∷ parts) events t =
-    (between : Moment) × (first : List Event) × (rest : List Event) × PartDone motes part s first between × (events ≡ first ++ rest) × Serves motes between parts rest t
+unfoldable pub PartsDone : (motes : ℕ) → Moment → List Part → List Event → Moment → Type 0
+PartsDone motes s [] events t = (events ≡ []) × (t ≡ s)
+PartsDone motes s (part ∷ parts) events t =
+    (between : Moment) × (first : List Event) × (rest : List Event) × PartDone motes part s first between
+    × (events ≡ first ++ rest) × PartsDone motes between parts rest t
+
+-- how far a service came: the parts that were done, the events that they gave, and the parts that are left
+pub record Course : Type 0 where
+  pub done : List Part
+  pub events : List Event
+  pub left : List Part
+
+abbrev pub course : (done : List Part) (events : List Event) (left : List Part) → Course
+course done events left = record { done = done; events = events; left = left }

@@ -10,14 +10,14 @@ use Rattle.dg_netcfg.specs.declared.profile.ProfileFault.{ProfileFault}
 use Rattle.dg_netcfg.specs.declared.profile.ProfileFault.TheVariants as fault
 use Rattle.dg_script.specs.Sizes.{most_used_bytes}
 use Rattle.dg_serve.specs.Networks.{over_line, fault_line}
-use Rattle.dg_serve.specs.Ran.{Tells}
+use Rattle.dg_serve.specs.Ran.{LineWritten}
 use Rattle.dg_serve.specs.declared.network.NoProfile.{NoProfile}
 use Rattle.dg_serve.specs.declared.network.NoProfile.TheVariants as none
 
 -- what a fault of a profile makes of a service
-abbrev pub none_of : ProfileFault → NoProfile
-none_of fault.Memory = none.Memory
-none_of fault = none.Fault fault
+abbrev pub no_profile_of : ProfileFault → NoProfile
+no_profile_of fault.Memory = none.Memory
+no_profile_of fault = none.Fault fault
 
 -- what a text comes to that gives no profile
 abbrev pub SpellsNone : NoProfile → List ℕ → Type 0
@@ -35,23 +35,27 @@ Spells (Err why) text = SpellsNone why text
 abbrev pub ReadsNone : NoProfile → List ℕ → (at_end : Type 0) → (reads_before reads_after : ℕ) → Type 0
 ReadsNone none.Memory input at_end before after = after ≡ before
 ReadsNone none.ReadFault input at_end before after = Rose before after
-ReadsNone none.TooLong input at_end before after = SpellsNone none.TooLong input × (at_end ⊎ (most_used_bytes < length input)) × (after ≡ before)
-ReadsNone (none.Fault fault) input at_end before after = SpellsNone (none.Fault fault) input × (at_end ⊎ (most_used_bytes < length input)) × (after ≡ before)
+ReadsNone none.TooLong input at_end before after =
+    SpellsNone none.TooLong input × (at_end ⊎ (most_used_bytes < length input)) × (after ≡ before)
+ReadsNone (none.Fault fault) input at_end before after =
+    SpellsNone (none.Fault fault) input × (at_end ⊎ (most_used_bytes < length input)) × (after ≡ before)
 
-abbrev pub Reads : Result NetProfile NoProfile → List ℕ → (at_end : Type 0) → (reads_before reads_after : ℕ) → Type 0
-Reads (Ok profile) input at_end before after = Spells (Ok profile) input × (at_end ⊎ (most_used_bytes < length input)) × (after ≡ before)
-Reads (Err why) input at_end before after = ReadsNone why input at_end before after
+abbrev pub ReadsProfile : Result NetProfile NoProfile → List ℕ → (at_end : Type 0) → (reads_before reads_after : ℕ) → Type 0
+ReadsProfile (Ok profile) input at_end before after =
+    Spells (Ok profile) input × (at_end ⊎ (most_used_bytes < length input)) × (after ≡ before)
+ReadsProfile (Err why) input at_end before after = ReadsNone why input at_end before after
 
 -- the profile of an input was read
-pub record NetworkRead (told : Result NetProfile NoProfile) (left_before left_after : Option (List ℕ)) (reads_before reads_after : ℕ) : Type 0 where
+pub record NetworkRead (told : Result NetProfile NoProfile) (left_before left_after : Option (List ℕ))
+    (reads_before reads_after : ℕ) : Type 0 where
   pub input : List ℕ
   pub taken : Takes left_before left_after input
   pub few_bytes : length input ≤ most_used_bytes + 1
-  pub reads : Reads told input (AtEnd left_after) reads_before reads_after
+  pub reads : ReadsProfile told input (AtEnd left_after) reads_before reads_after
 
 -- a line was written, or a front of it, where that failed; or memory ran out
 abbrev pub TellsLine : (answer of : Status) → (line : List ℕ) → (w v : Option (List ℕ)) → (f g : ℕ) → Type 0
-TellsLine answer of line w v f g = Tells answer of line w v f g ⊎ ((answer ≡ status.Memory) × (v ≡ w) × (g ≡ f))
+TellsLine answer of line w v f g = LineWritten answer of line w v f g ⊎ ((answer ≡ status.Memory) × (v ≡ w) × (g ≡ f))
 
 -- what is answered where there is no profile
 abbrev pub TellsNone : NoProfile → (answer : Status) → (w v : Option (List ℕ)) → (f g : ℕ) → Type 0

@@ -1,11 +1,12 @@
 -- Where the code of a service stands, and how its calls go on from there.
-use Rattle.std.specs.Prelude.{◌≡◌, ◌≢◌, ◌⊎◌, ℕ, ◌+◌, ◌-◌, ◌*◌, ◌^◌, ◌<◌, ◌≤◌, true, List, [], ◌∷◌, ◌++◌, length, take, slice_get, slice_index_or, slice_set, option_map, Option, Some, None, Result, Ok, Err}
+use Rattle.std.specs.Prelude.{◌≡◌, ◌≢◌, ◌⊎◌, ℕ, ◌+◌, ◌-◌, ◌*◌, ◌^◌, ◌<◌, ◌≤◌, true, List, [], ◌∷◌, ◌++◌, length, take, slice_get}
+use Rattle.std.specs.Prelude.{slice_index_or, slice_set, option_map, Option, Some, None, Result, Ok, Err}
 use Rattle.dg_words.specs.Counts.{Rose}
 use Rattle.dg_base.specs.Clock.{Answers}
 use Rattle.dg_base.specs.Outside.{Puts}
 use Rattle.dg_base.specs.declared.events.Event.{Event}
 use Rattle.dg_base.specs.declared.events.Event.TheVariants.{Tick, Hear, Last, Reset, Inject, Order, Frame}
-use Rattle.dg_link.specs.Inboxes.{Inboxes, Takes, IsEmptyAt}
+use Rattle.dg_link.specs.Inboxes.{Inboxes, TakesFrame, IsEmptyAt}
 use Rattle.dg_nor.specs.Device.{Device, Endures}
 use Rattle.dg_nor.specs.Fuse.{beneath_of}
 use Rattle.dg_volume.specs.Stands.{Stands, IsVolume, IsNoVolume}
@@ -20,7 +21,8 @@ use Rattle.dg_world.specs.Alone.{IsReset, PlaysAlone, Powers}
 use Rattle.dg_world.specs.declared.telling.Fault.{Fault}
 use Rattle.dg_world.specs.declared.telling.Fault.TheVariants as fault
 use Rattle.dg_world.specs.declared.world.RunningMote.{RunningMote}
-use Rattle.dg_serve.specs.Services.{Part, Moment, Serves, Steps, handed_to, neighbours_by}
+use Rattle.dg_seed.specs.Words.{generator_of}
+use Rattle.dg_serve.specs.Services.{Part, Moment, PartsDone, Course, course, Steps, handed_to, neighbours_by}
 use Rattle.dg_serve.specs.Traces.{UntoldLast, event_lines}
 use Rattle.dg_serve.specs.Endings.{BoardsStand, EventEnds, BoardsLeft, HandedToFirst, LinkLeft, ClockLeft}
 use Rattle.dg_serve.specs.declared.service.Service.{Service}
@@ -41,10 +43,11 @@ pub record Standing : Type 0 where
 
 -- The code stands for a moment of a service whose boards were these when it began. The power of the first motes came, and
 -- its time is ahead of the rules' by so much.
-pub record StandsFor (motes begun : ℕ) (links : List (ℕ × ℕ)) (ahead : ℕ) (first : List Device) (s : Moment) (p : Standing) : Type 0 where
+pub record StandsFor (motes begun : ℕ) (links : List (ℕ × ℕ)) (ahead : ℕ) (first : List Device) (s : Moment)
+    (p : Standing) : Type 0 where
   pub moment : p.service.timeline.moment ≡ s.world.moment + ahead
   pub reading : p.service.timeline.reading ≡ s.reading
-  pub words : p.service.timeline.words ≡ s.words
+  pub words : generator_of p.service.timeline.words ≡ s.words
   pub clock : p.clock ≡ s.clock
   pub inboxes : p.inboxes ≡ s.inboxes
   pub linked : s.world.links ≡ links
@@ -90,15 +93,12 @@ BoardsAreCalm old new = (m : ℕ) → BoardIsCalm (slice_get old m) (slice_get n
 
 -- ---- parts
 
--- from this moment on these parts give these events
-abbrev pub Gives : (motes begun : ℕ) → List (ℕ × ℕ) → List Device → Moment → List Part → List Event → Standing → Type 0
-Gives motes begun links first s parts events q = (t : Moment) × Serves motes s parts events t × StandsFor motes begun links 0 first t q
-
 -- These parts were done. Then the power of the first `on` motes came.
 pub record Went (motes begun on : ℕ) (links : List (ℕ × ℕ)) (parts : List Part) (p q : Standing) : Type 0 where
   pub events : List Event
   pub put : Puts p.written q.written (event_lines events)
-  pub run : (first : List Device) (s : Moment) → StandsFor motes begun links 0 first s p → Gives motes on links first s parts events q
+  pub run : (first : List Device) (s : Moment) → StandsFor motes begun links 0 first s p
+      → (t : Moment) × PartsDone motes s parts events t × StandsFor motes on links 0 first t q
   pub ready : Ready motes on q
   pub volumes : (m : ℕ) (a : Device) → begun ≤ m → m < on → slice_get p.boards m ≡ Some a → IsVolume a.image
   pub boards : BoardsAreUsed on p.boards q.boards
@@ -109,13 +109,11 @@ pub record Went (motes begun on : ℕ) (links : List (ℕ × ℕ)) (parts : List
   pub reached : p.reached ≤ q.reached
 
 -- how a stop leaves what is outside
-pub record Leaves (why : Stop) (motes : ℕ) (s : Moment) (done : List Part) (events : List Event) (last : Moment) (left : List Part) (first : List Device) (q : Standing) : Type 0 where
-  pub boards : BoardsLeft why last left first q.boards
-  pub link : LinkLeft why motes s done events last q.inboxes
+pub record StopLeaves (why : Stop) (motes : ℕ) (s : Moment) (c : Course) (last : Moment) (first : List Device)
+    (q : Standing) : Type 0 where
+  pub boards : BoardsLeft why last c.left first q.boards
+  pub link : LinkLeft why motes s c.done c.events last q.inboxes
   pub clock : ClockLeft last.clock q.clock
-
-abbrev pub GivesThen : Stop → (motes : ℕ) → List Device → Moment → (done : List Part) → List Event → (left : List Part) → Standing → Type 0
-GivesThen why motes first s done events left q = (t : Moment) × Serves motes s done events t × Leaves why motes s done events t left first q
 
 -- the counts of the sink and of the link, by why a service stopped
 pub record CountsBy (why : Stop) (p q : Standing) : Type 0 where
@@ -128,7 +126,7 @@ pub record CountsBy (why : Stop) (p q : Standing) : Type 0 where
   pub reached : p.reached ≤ q.reached
 
 -- Some of these parts were done, and then the service stopped.
-pub record Halted (why : Stop) (motes begun : ℕ) (links : List (ℕ × ℕ)) (parts : List Part) (p q : Standing) : Type 0 where
+pub record PartsHalted (why : Stop) (motes begun : ℕ) (links : List (ℕ × ℕ)) (parts : List Part) (p q : Standing) : Type 0 where
   pub events : List Event
   pub done : List Part
   pub left : List Part
@@ -137,15 +135,25 @@ pub record Halted (why : Stop) (motes begun : ℕ) (links : List (ℕ × ℕ)) (
   pub put : Puts p.written q.written text
   pub front : why ≡ stop.Write → UntoldLast [] events text
   pub whole : why ≢ stop.Write → text ≡ event_lines events
-  pub run : (first : List Device) (s : Moment) → StandsFor motes begun links 0 first s p → GivesThen why motes first s done events left q
+  pub run : (first : List Device) (s : Moment) → StandsFor motes begun links 0 first s p
+      → (t : Moment) × PartsDone motes s done events t × StopLeaves why motes s (course done events left) t first q
   pub boards : BoardsAreUsed motes p.boards q.boards
   pub calm : why ≢ stop.Flash → BoardsAreCalm p.boards q.boards
   pub counts : CountsBy why p q
 
+-- parts that are to be done: before them the power of the first `begun` motes came, and behind them that of the first `on`
+pub record Stretch : Type 0 where
+  pub begun : ℕ
+  pub on : ℕ
+  pub parts : List Part
+
+abbrev pub stretch : (begun on : ℕ) (parts : List Part) → Stretch
+stretch begun on parts = record { begun = begun; on = on; parts = parts }
+
 -- how a call ends that does these parts
-abbrev pub GoesOn : Result (Unit {0}) Stop → (motes begun on : ℕ) → List (ℕ × ℕ) → List Part → Standing → Standing → Type 0
-GoesOn (Ok u) motes begun on links parts p q = Went motes begun on links parts p q
-GoesOn (Err why) motes begun on links parts p q = Halted why motes begun links parts p q
+abbrev pub GoesOn : Result (Unit {0}) Stop → (motes : ℕ) → List (ℕ × ℕ) → Stretch → Standing → Standing → Type 0
+GoesOn (Ok u) motes links x p q = Went motes x.begun x.on links x.parts p q
+GoesOn (Err why) motes links x p q = PartsHalted why motes x.begun links x.parts p q
 
 -- it stands for some moment
 abbrev pub StandsForSome : (motes begun : ℕ) → List (ℕ × ℕ) → Standing → Type 0
@@ -172,13 +180,22 @@ begun_behind motes (Inject mote image version dt word) = motes
 begun_behind motes (Order mote number image version dt word) = motes
 begun_behind motes (Frame mote dt word bytes) = motes
 
+-- what a mote runs, and the boards
+pub record AtMote : Type 0 where
+  pub runs : Option RunningMote
+  pub boards : List Device
+
+abbrev pub at_mote : (runs : Option RunningMote) (boards : List Device) → AtMote
+at_mote runs boards = record { runs = runs; boards = boards }
+
 -- An event at the board of a mote, which ran this before and behind it.
-pub record PlayedAt (r : Result Outbox Fault) (event : Event) (mote now : ℕ) (v u : Option RunningMote) (old new : List Device) : Type 0 where
+pub record PlayedAt (r : Result Outbox Fault) (event : Event) (mote now : ℕ) (x y : AtMote) : Type 0 where
   pub before : Device
   pub after : Device
-  pub was : slice_get old mote ≡ Some before
-  pub put : new ≡ slice_set old mote after
-  pub plays : (w : World) → SiteStands before v (site w mote) → mote < length w.sites → now ≡ w.moment + dt_of event → wide_at w mote ≡ true → PlaysAlone r w event u before after
+  pub was : slice_get x.boards mote ≡ Some before
+  pub put : y.boards ≡ slice_set x.boards mote after
+  pub plays : (w : World) → SiteStands before x.runs (site w mote) → mote < length w.sites → now ≡ w.moment + dt_of event
+      → wide_at w mote ≡ true → PlaysAlone r w event y.runs before after
   pub powers : IsReset event → Powers r before after
 
 -- The event happened, was told and what it sent was handed on.
@@ -198,7 +215,8 @@ pub record HappensAt (motes : ℕ) (links : List (ℕ × ℕ)) (event : Event) (
 pub record DoesNotHappen (why : Stop) (motes : ℕ) (links : List (ℕ × ℕ)) (event : Event) (p q : Standing) : Type 0 where
   pub untold : q.written ≡ p.written
   pub link : q.inboxes ≡ p.inboxes
-  pub run : (first : List Device) (s : Moment) → StandsFor motes (begun_before motes event) links (dt_of event) first s p → EventEnds why s.world event first q.boards
+  pub run : (first : List Device) (s : Moment) → StandsFor motes (begun_before motes event) links (dt_of event) first s p
+      → EventEnds why s.world event first q.boards
   pub boards : BoardsAreUsed motes p.boards q.boards
   pub calm : why ≢ stop.Flash → BoardsAreCalm p.boards q.boards
   pub failures : q.failures ≡ p.failures
@@ -216,7 +234,8 @@ pub record HappensPartly (why : Stop) (motes : ℕ) (links : List (ℕ × ℕ)) 
   pub front : (n : ℕ) × (text ≡ take n (event_lines (event ∷ [])))
   pub whole : why ≢ stop.Write → text ≡ event_lines (event ∷ [])
   pub run : (first : List Device) (s : Moment) → StandsFor motes (begun_before motes event) links (dt_of event) first s p
-      → (t : Moment) × Steps motes s event t × BoardsStand t.world first q.boards × HandedThen why motes s.world t.world p.inboxes q.inboxes
+      → (t : Moment) × Steps motes s event t × BoardsStand t.world first q.boards
+      × HandedThen why motes s.world t.world p.inboxes q.inboxes
   pub boards : BoardsAreUsed motes p.boards q.boards
   pub calm : BoardsAreCalm p.boards q.boards
   pub counts : CountsBy why p q
@@ -235,8 +254,8 @@ HappenEnds (Err stop.NoImage) motes links event p q = DoesNotHappen stop.NoImage
 -- what was received at a mote, if anything
 abbrev pub ReceivedAt : Result (Option (List ℕ)) Stop → ℕ → Option Inboxes → Option Inboxes → Type 0
 ReceivedAt (Ok None) mote before after = IsEmptyAt mote before × (after ≡ before)
-ReceivedAt (Ok (Some bytes)) mote before after = Takes mote bytes before after × IsFrame bytes
-ReceivedAt (Err stop.Memory) mote before after = (bytes : List ℕ) × Takes mote bytes before after
+ReceivedAt (Ok (Some bytes)) mote before after = TakesFrame mote bytes before after × IsFrame bytes
+ReceivedAt (Err stop.Memory) mote before after = (bytes : List ℕ) × TakesFrame mote bytes before after
 ReceivedAt (Err stop.Write) mote before after = ⊥
 ReceivedAt (Err stop.Link) mote before after = after ≡ before
 ReceivedAt (Err stop.Flash) mote before after = ⊥
@@ -261,7 +280,8 @@ handed_by links motes mote (Some bytes) boxes = handed_to (neighbours_by links m
 -- there was one, and it was handed to the first k of them
 abbrev pub HandedToSome : List (ℕ × ℕ) → (motes mote : ℕ) → Option (List ℕ) → Option Inboxes → Option Inboxes → Type 0
 HandedToSome links motes mote None before after = ⊥
-HandedToSome links motes mote (Some bytes) before after = (k : ℕ) × (after ≡ option_map (handed_to (take k (neighbours_by links motes mote)) bytes) before)
+HandedToSome links motes mote (Some bytes) before after =
+    (k : ℕ) × (after ≡ option_map (handed_to (take k (neighbours_by links motes mote)) bytes) before)
 
 -- why a service ends in an event that was not done
 abbrev pub stop_by : Fault → Stop

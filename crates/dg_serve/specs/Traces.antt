@@ -18,15 +18,15 @@ abbrev pub head_lines : NetProfile → List Line
 head_lines p = Motes p.motes ∷ Boards ∷ map (λ l. Link l.0 l.1) p.links
 
 -- lines as they are written, each with its line end
-abbrev pub written : List Line → List ℕ
-written ls = flat_map (λ l. line_text l ++ 10 ∷ []) ls
+abbrev pub lines_text : List Line → List ℕ
+lines_text ls = flat_map (λ l. line_text l ++ 10 ∷ []) ls
 
 -- the lines of events
 abbrev pub event_lines : List Event → List ℕ
-event_lines events = written (map Happens events)
+event_lines events = lines_text (map Happens events)
 
 abbrev pub trace : NetProfile → List Event → List ℕ
-trace p events = written (head_lines p) ++ event_lines events
+trace p events = lines_text (head_lines p) ++ event_lines events
 
 -- Behind this head the lines of all events but the last were written, and of its line a front.
 pub record UntoldLast (head : List ℕ) (events : List Event) (text : List ℕ) : Type 0 where

@@ -1,5 +1,6 @@
 //! Frames over the link.
-ghost use Rattle.std.specs.Prelude.{◌≡◌, ◌<◌, ◌≤◌, ◌∷◌, [], if◌then◌else◌, length, option_map, Some, IfErr, OnOk, OnErr, MatchResult};
+ghost use Rattle.std.specs.Prelude.{◌≡◌, ◌<◌, ◌≤◌, ◌∷◌, [], if◌then◌else◌, length, option_map, Some, IfErr, OnOk, OnErr};
+ghost use Rattle.std.specs.Prelude.{MatchResult};
 ghost use Rattle.dg_base.specs.Sizes.{longest_frame};
 ghost use Rattle.dg_script.specs.Fitting.{IsFrame};
 ghost use Rattle.dg_script.specs.Places.{is_linked, joins};
@@ -49,8 +50,10 @@ pub(crate) fn hand_on<L: Link>(
 ) -> Result<(), Stop>
     requires known { mote < profile.now.motes }
     requires addressees { L.mote_count link.old ≡ profile.now.motes }
-    ensures ok { OnOk result (L.inboxes link.new ≡ option_map (handed_by profile.now.links profile.now.motes mote (sent_in out.now)) (L.inboxes link.old)) }
-    ensures err { OnErr result (HandedToSome profile.now.links profile.now.motes mote (sent_in out.now) (L.inboxes link.old) (L.inboxes link.new)) }
+    ensures ok { OnOk result (L.inboxes link.new
+        ≡ option_map (handed_by profile.now.links profile.now.motes mote (sent_in out.now)) (L.inboxes link.old)) }
+    ensures err { OnErr result (HandedToSome profile.now.links profile.now.motes mote (sent_in out.now) (L.inboxes link.old)
+        (L.inboxes link.new)) }
     ensures cause { IfErr result (λ why. why ≡ Stop.Link) }
     ensures counts { FailuresBy result (L.faults link.old) (L.faults link.new) }
     ensures same_motes { L.mote_count link.new ≡ L.mote_count link.old }
@@ -71,8 +74,10 @@ fn hand_to_neighbours<L: Link>(
     requires known { mote < profile.now.motes }
     requires addressees { L.mote_count link.old ≡ profile.now.motes }
     requires fits { length frame.now ≤ longest_frame }
-    ensures ok { OnOk result (L.inboxes link.new ≡ option_map (handed_to (neighbours_by profile.now.links profile.now.motes mote) frame.now) (L.inboxes link.old)) }
-    ensures err { OnErr result (HandedToSome profile.now.links profile.now.motes mote (Some frame.now) (L.inboxes link.old) (L.inboxes link.new)) }
+    ensures ok { OnOk result (L.inboxes link.new
+        ≡ option_map (handed_to (neighbours_by profile.now.links profile.now.motes mote) frame.now) (L.inboxes link.old)) }
+    ensures err { OnErr result (HandedToSome profile.now.links profile.now.motes mote (Some frame.now) (L.inboxes link.old)
+        (L.inboxes link.new)) }
     ensures cause { IfErr result (λ why. why ≡ Stop.Link) }
     ensures counts { FailuresBy result (L.faults link.old) (L.faults link.new) }
     ensures same_motes { L.mote_count link.new ≡ L.mote_count link.old }
@@ -94,7 +99,9 @@ fn hand_to<L: Link>(
     requires known { mote < L.mote_count link.old }
     requires other_known { other < L.mote_count link.old }
     requires fits { length frame.now ≤ longest_frame }
-    ensures ok { OnOk result (L.inboxes link.new ≡ option_map (handed_to (if is_linked profile.now.links mote other then other ∷ [] else []) frame.now) (L.inboxes link.old)) }
+    ensures ok { OnOk result (L.inboxes link.new
+        ≡ option_map (handed_to (if is_linked profile.now.links mote other then other ∷ [] else []) frame.now)
+        (L.inboxes link.old)) }
     ensures err { OnErr result (L.inboxes link.new ≡ L.inboxes link.old) }
     ensures cause { IfErr result (λ why. why ≡ Stop.Link) }
     ensures counts { FailuresBy result (L.faults link.old) (L.faults link.new) }

@@ -22,14 +22,20 @@ use dg_rules::{consistency_is_kept, golden_is_found, scripts_with_boards};
 /// replay of that over boards that stand for what those of the service stood for leads to the world to which the service
 /// came, so that it leaves the same stores.
 pub fn services_keep_the_rules()
-    ensures kept { (answer : Status) (profile : NetProfile) (seed turns : ℕ) (before after : Outside) → IsAllowed profile → (x : Began answer profile seed turns before after)
+    ensures kept { (answer : Status) (profile : NetProfile) (seed turns : ℕ) (before after : Outside) → IsAllowed profile
+        → (x : Began answer profile seed turns before after)
         → (table : List Row) (stores : List Store) → (fits : StoresOf profile.motes before.boards stores) → AreShaped stores
         → KeepsRules table stores profile.links profile.motes x.events (x.came table stores fits).last.world }
-    ensures script { (answer : Status) (profile : NetProfile) (seed turns : ℕ) (before after : Outside) → IsAllowed profile → (x : Began answer profile seed turns before after)
-        → (stores : List Store) → StoresOf profile.motes before.boards stores → IsScript (trace profile x.events) (trace_lines profile x.events) }
-    ensures golden { (answer : Status) (profile : NetProfile) (seed turns : ℕ) (before after : Outside) → IsAllowed profile → (x : Began answer profile seed turns before after)
-        → (stores : List Store) → StoresOf profile.motes before.boards stores → StoresKeepGolden stores → answer ≢ Status.NoImage }
-    ensures replayed { (answer : Status) (profile : NetProfile) (seed turns : ℕ) (before after : Outside) → IsAllowed profile → (x : Began answer profile seed turns before after)
+    ensures script { (answer : Status) (profile : NetProfile) (seed turns : ℕ) (before after : Outside) → IsAllowed profile
+        → (x : Began answer profile seed turns before after)
+        → (stores : List Store) → StoresOf profile.motes before.boards stores
+        → IsScript (trace profile x.events) (trace_lines profile x.events) }
+    ensures golden { (answer : Status) (profile : NetProfile) (seed turns : ℕ) (before after : Outside) → IsAllowed profile
+        → (x : Began answer profile seed turns before after)
+        → (stores : List Store) → StoresOf profile.motes before.boards stores → StoresKeepGolden stores
+        → answer ≢ Status.NoImage }
+    ensures replayed { (answer : Status) (profile : NetProfile) (seed turns : ℕ) (before after : Outside) → IsAllowed profile
+        → (x : Began answer profile seed turns before after)
         → (table : List Row) (stores : List Store) → (fits : StoresOf profile.motes before.boards stores)
         → ReplaysTo (trace profile x.events) profile.motes table stores (x.came table stores fits).last.world }
 {

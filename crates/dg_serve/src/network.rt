@@ -4,8 +4,8 @@ ghost use Rattle.dg_words.specs.Counts.{Rose};
 ghost use Rattle.dg_base.specs.declared.answers.Status.TheVariants.{BadInput};
 ghost use Rattle.dg_mote.specs.Sizes.{BuffersFit, ValuesAreSmall};
 ghost use Rattle.dg_netcfg.specs.Readings.{IsAllowed};
-ghost use Rattle.dg_serve.specs.Networks.{NetworkServed, fault_line};
-ghost use Rattle.dg_serve.specs.Spelled.{NetworkRead, Spells, TellsNone, TellsLine, none_of};
+ghost use Rattle.dg_serve.specs.Networks.{NetworkServed, around_service, fault_line};
+ghost use Rattle.dg_serve.specs.Spelled.{NetworkRead, Spells, TellsNone, TellsLine, no_profile_of};
 
 use crate::serving::{serve, tell_last};
 use dg_base::{Clock, Sink, Source, Status};
@@ -44,9 +44,25 @@ pub fn serve_network<S: Source, K: Sink, N: Nor, L: Link, C: Clock>(
     out: &mut K,
 ) -> Status
     requires turns { turns ≤ 1000000 }
-    ensures served { NetworkServed result seed turns (S.left input.old) (S.left input.new) (S.faults input.old) (S.faults input.new)
-        (record { written = K.written out.old; faults = K.faults out.old; clock = C.told clock.old; inboxes = L.inboxes link.old; failures = L.faults link.old; boards = map N.device boards.old.items })
-        (record { written = K.written out.new; faults = K.faults out.new; clock = C.told clock.new; inboxes = L.inboxes link.new; failures = L.faults link.new; boards = map N.device boards.new.items }) }
+    ensures served { NetworkServed result seed turns
+        (around_service (S.left input.old) (S.faults input.old)
+        (record {
+          written = K.written out.old;
+          faults = K.faults out.old;
+          clock = C.told clock.old;
+          inboxes = L.inboxes link.old;
+          failures = L.faults link.old;
+          boards = map N.device boards.old.items;
+        }))
+        (around_service (S.left input.new) (S.faults input.new)
+        (record {
+          written = K.written out.new;
+          faults = K.faults out.new;
+          clock = C.told clock.new;
+          inboxes = L.inboxes link.new;
+          failures = L.faults link.new;
+          boards = map N.device boards.new.items;
+        })) }
     // All arrays of bytes that are alive at once in a mote's call have no more than 256, and beside the outbox and its sets
     // none lies in the value of a mote.
     ensures buffers { BuffersFit × ValuesAreSmall }
@@ -91,7 +107,7 @@ fn profile_of(alloc: Global, text: &[u8]) -> Result<NetProfile, NoProfile>
 
 /// What a fault of a profile makes of a service.
 fn none_at(fault: ProfileFault) -> NoProfile
-    ensures { result ≡ none_of fault }
+    ensures { result ≡ no_profile_of fault }
 {
     match fault {
         ProfileFault::Memory => NoProfile::Memory,
@@ -113,7 +129,8 @@ fn tell_none<K: Sink>(alloc: Global, why: NoProfile, out: &mut K) -> Status
 
 /// Tells why an input is no profile.
 fn tell_fault<K: Sink>(alloc: Global, fault: ProfileFault, out: &mut K) -> Status
-    ensures { TellsLine result BadInput (fault_line fault) (K.written out.old) (K.written out.new) (K.faults out.old) (K.faults out.new) }
+    ensures { TellsLine result BadInput (fault_line fault) (K.written out.old) (K.written out.new) (K.faults out.old)
+        (K.faults out.new) }
 {
     match profile_line(alloc, fault) {
         Ok(line) => tell_last(line.as_slice(), Status::BadInput, out),

@@ -6,7 +6,7 @@ ghost use Rattle.dg_mote.specs.declared.outbox.Outbox.{Outbox};
 ghost use Rattle.dg_world.specs.declared.telling.Fault.{Fault};
 ghost use Rattle.dg_world.specs.Alone.{IsAlone};
 ghost use Rattle.dg_world.specs.Worlds.{MayRun};
-ghost use Rattle.dg_serve.specs.Standings.{PlayedAt, stop_by, stops_by};
+ghost use Rattle.dg_serve.specs.Standings.{PlayedAt, at_mote, stop_by, stops_by};
 
 use crate::stop::Stop;
 use dg_base::Event;
@@ -26,10 +26,13 @@ pub(crate) fn play<N: Nor>(
     requires at { mote_of event.now ≡ mote }
     requires motes { mote < length motes.old }
     requires boards { mote < length boards.old }
-    requires may { (a : Device) → slice_get (map N.device boards.old) mote ≡ Some a → MayRun a.image now (slice_index_or motes.old mote None) }
+    requires may { (a : Device) → slice_get (map N.device boards.old) mote ≡ Some a
+        → MayRun a.image now (slice_index_or motes.old mote None) }
     requires moment { now < 2 ^ 62 }
     ensures motes { motes.new ≡ slice_set motes.old mote (slice_index_or motes.new mote None) }
-    ensures played { (r : Result Outbox Fault) × (result ≡ stops_by r) × PlayedAt r event.now mote now (slice_index_or motes.old mote None) (slice_index_or motes.new mote None) (map N.device boards.old) (map N.device boards.new) }
+    ensures played { (r : Result Outbox Fault) × (result ≡ stops_by r) × PlayedAt r event.now mote now
+        (at_mote (slice_index_or motes.old mote None) (map N.device boards.old))
+        (at_mote (slice_index_or motes.new mote None) (map N.device boards.new)) }
 {
     let index = usize::from(mote);
     let runs = &mut motes[index];

@@ -1,10 +1,11 @@
 //! A service, part by part.
-ghost use Rattle.std.specs.Prelude.{◌≡◌, ◌⊎◌, ℕ, ◌+◌, ◌^◌, ◌<◌, ◌≤◌, List, [], ◌∷◌, length, map, slice_get, slice_index_or, Option, Some, None};
+ghost use Rattle.std.specs.Prelude.{◌≡◌, ◌⊎◌, ℕ, ◌+◌, ◌^◌, ◌<◌, ◌≤◌, List, [], ◌∷◌, length, map, slice_get, slice_index_or};
+ghost use Rattle.std.specs.Prelude.{Option, Some, None};
 ghost use Rattle.dg_base.specs.Clock.{Answers};
 ghost use Rattle.dg_netcfg.specs.Readings.{IsAllowed};
 ghost use Rattle.dg_nor.specs.Device.{Device};
 ghost use Rattle.dg_rules.specs.Events.{mote_of, dt_of};
-ghost use Rattle.dg_rules.specs.Ranges.{EventFits};
+ghost use Rattle.dg_rules.specs.Ranges.{EventInRange};
 ghost use Rattle.dg_script.specs.Fitting.{FitsLine};
 ghost use Rattle.dg_script.specs.Spelling.{IsShort};
 ghost use Rattle.dg_script.specs.declared.line.Line.TheVariants.{Happens};
@@ -12,7 +13,7 @@ ghost use Rattle.dg_world.specs.Alone.{IsAlone, IsReset};
 ghost use Rattle.dg_world.specs.Worlds.{MayRun};
 ghost use Rattle.dg_serve.specs.Each.{each};
 ghost use Rattle.dg_serve.specs.Services.{Begins, Looks, Ticks, Moment, beginning, turn_of_all, plan};
-ghost use Rattle.dg_serve.specs.Standings.{Ready, StandsFor, StandsForSome, GoesOn, HappenEnds, begun_before};
+ghost use Rattle.dg_serve.specs.Standings.{Ready, StandsFor, StandsForSome, GoesOn, HappenEnds, begun_before, stretch};
 
 use crate::handing::{hand_on, receive};
 use crate::playing::play;
@@ -52,7 +53,7 @@ impl Service {
         requires allowed { IsAllowed profile.now }
         requires fits { FitsLine profile.now.motes (Happens event) }
         requires short { IsShort (Happens event) }
-        requires ranges { EventFits profile.now.motes event }
+        requires ranges { EventInRange profile.now.motes event }
         requires alone { IsAlone event }
         requires at { mote_of event ≡ mote }
         requires known { mote < profile.now.motes }
@@ -60,12 +61,45 @@ impl Service {
         requires boards { profile.now.motes ≤ length boards.old }
         requires addressees { L.mote_count link.old ≡ profile.now.motes }
         requires moment { self.old.timeline.moment < 2 ^ 62 }
-        requires may { (a : Device) → slice_get (map N.device boards.old) mote ≡ Some a → MayRun a.image self.old.timeline.moment (slice_index_or self.old.motes.items mote None) }
+        requires may { (a : Device) → slice_get (map N.device boards.old) mote ≡ Some a
+            → MayRun a.image self.old.timeline.moment (slice_index_or self.old.motes.items mote None) }
         requires off { IsReset event → slice_index_or self.old.motes.items mote None ≡ None }
-        requires some { IsReset event ⊎ ((told : Option Answers) × (reached : ℕ) × (first : List Device) × (s : Moment) × StandsFor profile.now.motes (begun_before profile.now.motes event) profile.now.links (dt_of event) first s (record { service = self.old; boards = map N.device boards.old; inboxes = L.inboxes link.old; addressees = L.mote_count link.old; failures = L.faults link.old; clock = told; reached = reached; written = K.written out.old; faults = K.faults out.old })) }
+        requires some { IsReset event ⊎ ((told : Option Answers) × (reached : ℕ) × (first : List Device) × (s : Moment)
+            × StandsFor profile.now.motes (begun_before profile.now.motes event) profile.now.links (dt_of event) first s
+            (record {
+              service = self.old;
+              boards = map N.device boards.old;
+              inboxes = L.inboxes link.old;
+              addressees = L.mote_count link.old;
+              failures = L.faults link.old;
+              clock = told;
+              reached = reached;
+              written = K.written out.old;
+              faults = K.faults out.old;
+            })) }
         ensures ends { (told : Option Answers) (reached : ℕ) → HappenEnds result profile.now.motes profile.now.links event
-            (record { service = self.old; boards = map N.device boards.old; inboxes = L.inboxes link.old; addressees = L.mote_count link.old; failures = L.faults link.old; clock = told; reached = reached; written = K.written out.old; faults = K.faults out.old })
-            (record { service = self.new; boards = map N.device boards.new; inboxes = L.inboxes link.new; addressees = L.mote_count link.new; failures = L.faults link.new; clock = told; reached = reached; written = K.written out.new; faults = K.faults out.new }) }
+            (record {
+              service = self.old;
+              boards = map N.device boards.old;
+              inboxes = L.inboxes link.old;
+              addressees = L.mote_count link.old;
+              failures = L.faults link.old;
+              clock = told;
+              reached = reached;
+              written = K.written out.old;
+              faults = K.faults out.old;
+            })
+            (record {
+              service = self.new;
+              boards = map N.device boards.new;
+              inboxes = L.inboxes link.new;
+              addressees = L.mote_count link.new;
+              failures = L.faults link.new;
+              clock = told;
+              reached = reached;
+              written = K.written out.new;
+              faults = K.faults out.new;
+            }) }
     {
         agreement_is_kept();
         let line = Line::Happens(event);
@@ -90,11 +124,42 @@ impl Service {
     ) -> Result<(), Stop>
         requires allowed { IsAllowed profile.now }
         requires known { mote < profile.now.motes }
-        requires ready { Ready profile.now.motes mote (record { service = self.old; boards = map N.device boards.old; inboxes = L.inboxes link.old; addressees = L.mote_count link.old; failures = L.faults link.old; clock = C.told clock.old; reached = C.reached clock.old; written = K.written out.old; faults = K.faults out.old }) }
+        requires ready { Ready profile.now.motes mote
+            (record {
+              service = self.old;
+              boards = map N.device boards.old;
+              inboxes = L.inboxes link.old;
+              addressees = L.mote_count link.old;
+              failures = L.faults link.old;
+              clock = C.told clock.old;
+              reached = C.reached clock.old;
+              written = K.written out.old;
+              faults = K.faults out.old;
+            }) }
         requires early { self.old.timeline.moment < 2 ^ 60 }
-        ensures goes { GoesOn result profile.now.motes mote (mote + 1) profile.now.links (Begins mote ∷ [])
-            (record { service = self.old; boards = map N.device boards.old; inboxes = L.inboxes link.old; addressees = L.mote_count link.old; failures = L.faults link.old; clock = C.told clock.old; reached = C.reached clock.old; written = K.written out.old; faults = K.faults out.old })
-            (record { service = self.new; boards = map N.device boards.new; inboxes = L.inboxes link.new; addressees = L.mote_count link.new; failures = L.faults link.new; clock = C.told clock.new; reached = C.reached clock.new; written = K.written out.new; faults = K.faults out.new }) }
+        ensures goes { GoesOn result profile.now.motes profile.now.links (stretch mote (mote + 1) (Begins mote ∷ []))
+            (record {
+              service = self.old;
+              boards = map N.device boards.old;
+              inboxes = L.inboxes link.old;
+              addressees = L.mote_count link.old;
+              failures = L.faults link.old;
+              clock = C.told clock.old;
+              reached = C.reached clock.old;
+              written = K.written out.old;
+              faults = K.faults out.old;
+            })
+            (record {
+              service = self.new;
+              boards = map N.device boards.new;
+              inboxes = L.inboxes link.new;
+              addressees = L.mote_count link.new;
+              failures = L.faults link.new;
+              clock = C.told clock.new;
+              reached = C.reached clock.new;
+              written = K.written out.new;
+              faults = K.faults out.new;
+            }) }
     {
         let draw = self.timeline.draw(clock);
         let event = Event::Reset {
@@ -117,12 +182,55 @@ impl Service {
     ) -> Result<(), Stop>
         requires allowed { IsAllowed profile.now }
         requires known { mote < profile.now.motes }
-        requires ready { Ready profile.now.motes profile.now.motes (record { service = self.old; boards = map N.device boards.old; inboxes = L.inboxes link.old; addressees = L.mote_count link.old; failures = L.faults link.old; clock = C.told clock.old; reached = C.reached clock.old; written = K.written out.old; faults = K.faults out.old }) }
+        requires ready { Ready profile.now.motes profile.now.motes
+            (record {
+              service = self.old;
+              boards = map N.device boards.old;
+              inboxes = L.inboxes link.old;
+              addressees = L.mote_count link.old;
+              failures = L.faults link.old;
+              clock = C.told clock.old;
+              reached = C.reached clock.old;
+              written = K.written out.old;
+              faults = K.faults out.old;
+            }) }
         requires early { self.old.timeline.moment < 2 ^ 60 }
-        requires some { StandsForSome profile.now.motes profile.now.motes profile.now.links (record { service = self.old; boards = map N.device boards.old; inboxes = L.inboxes link.old; addressees = L.mote_count link.old; failures = L.faults link.old; clock = C.told clock.old; reached = C.reached clock.old; written = K.written out.old; faults = K.faults out.old }) }
-        ensures goes { GoesOn result profile.now.motes profile.now.motes profile.now.motes profile.now.links (Looks mote ∷ [])
-            (record { service = self.old; boards = map N.device boards.old; inboxes = L.inboxes link.old; addressees = L.mote_count link.old; failures = L.faults link.old; clock = C.told clock.old; reached = C.reached clock.old; written = K.written out.old; faults = K.faults out.old })
-            (record { service = self.new; boards = map N.device boards.new; inboxes = L.inboxes link.new; addressees = L.mote_count link.new; failures = L.faults link.new; clock = C.told clock.new; reached = C.reached clock.new; written = K.written out.new; faults = K.faults out.new }) }
+        requires some { StandsForSome profile.now.motes profile.now.motes profile.now.links
+            (record {
+              service = self.old;
+              boards = map N.device boards.old;
+              inboxes = L.inboxes link.old;
+              addressees = L.mote_count link.old;
+              failures = L.faults link.old;
+              clock = C.told clock.old;
+              reached = C.reached clock.old;
+              written = K.written out.old;
+              faults = K.faults out.old;
+            }) }
+        ensures goes { GoesOn result profile.now.motes profile.now.links
+            (stretch profile.now.motes profile.now.motes (Looks mote ∷ []))
+            (record {
+              service = self.old;
+              boards = map N.device boards.old;
+              inboxes = L.inboxes link.old;
+              addressees = L.mote_count link.old;
+              failures = L.faults link.old;
+              clock = C.told clock.old;
+              reached = C.reached clock.old;
+              written = K.written out.old;
+              faults = K.faults out.old;
+            })
+            (record {
+              service = self.new;
+              boards = map N.device boards.new;
+              inboxes = L.inboxes link.new;
+              addressees = L.mote_count link.new;
+              failures = L.faults link.new;
+              clock = C.told clock.new;
+              reached = C.reached clock.new;
+              written = K.written out.new;
+              faults = K.faults out.new;
+            }) }
     {
         match receive(self.alloc, link, mote)? {
             Some(bytes) => {
@@ -151,12 +259,55 @@ impl Service {
     ) -> Result<(), Stop>
         requires allowed { IsAllowed profile.now }
         requires known { mote < profile.now.motes }
-        requires ready { Ready profile.now.motes profile.now.motes (record { service = self.old; boards = map N.device boards.old; inboxes = L.inboxes link.old; addressees = L.mote_count link.old; failures = L.faults link.old; clock = C.told clock.old; reached = C.reached clock.old; written = K.written out.old; faults = K.faults out.old }) }
+        requires ready { Ready profile.now.motes profile.now.motes
+            (record {
+              service = self.old;
+              boards = map N.device boards.old;
+              inboxes = L.inboxes link.old;
+              addressees = L.mote_count link.old;
+              failures = L.faults link.old;
+              clock = C.told clock.old;
+              reached = C.reached clock.old;
+              written = K.written out.old;
+              faults = K.faults out.old;
+            }) }
         requires early { self.old.timeline.moment < 2 ^ 60 }
-        requires some { StandsForSome profile.now.motes profile.now.motes profile.now.links (record { service = self.old; boards = map N.device boards.old; inboxes = L.inboxes link.old; addressees = L.mote_count link.old; failures = L.faults link.old; clock = C.told clock.old; reached = C.reached clock.old; written = K.written out.old; faults = K.faults out.old }) }
-        ensures goes { GoesOn result profile.now.motes profile.now.motes profile.now.motes profile.now.links (Ticks mote ∷ [])
-            (record { service = self.old; boards = map N.device boards.old; inboxes = L.inboxes link.old; addressees = L.mote_count link.old; failures = L.faults link.old; clock = C.told clock.old; reached = C.reached clock.old; written = K.written out.old; faults = K.faults out.old })
-            (record { service = self.new; boards = map N.device boards.new; inboxes = L.inboxes link.new; addressees = L.mote_count link.new; failures = L.faults link.new; clock = C.told clock.new; reached = C.reached clock.new; written = K.written out.new; faults = K.faults out.new }) }
+        requires some { StandsForSome profile.now.motes profile.now.motes profile.now.links
+            (record {
+              service = self.old;
+              boards = map N.device boards.old;
+              inboxes = L.inboxes link.old;
+              addressees = L.mote_count link.old;
+              failures = L.faults link.old;
+              clock = C.told clock.old;
+              reached = C.reached clock.old;
+              written = K.written out.old;
+              faults = K.faults out.old;
+            }) }
+        ensures goes { GoesOn result profile.now.motes profile.now.links
+            (stretch profile.now.motes profile.now.motes (Ticks mote ∷ []))
+            (record {
+              service = self.old;
+              boards = map N.device boards.old;
+              inboxes = L.inboxes link.old;
+              addressees = L.mote_count link.old;
+              failures = L.faults link.old;
+              clock = C.told clock.old;
+              reached = C.reached clock.old;
+              written = K.written out.old;
+              faults = K.faults out.old;
+            })
+            (record {
+              service = self.new;
+              boards = map N.device boards.new;
+              inboxes = L.inboxes link.new;
+              addressees = L.mote_count link.new;
+              failures = L.faults link.new;
+              clock = C.told clock.new;
+              reached = C.reached clock.new;
+              written = K.written out.new;
+              faults = K.faults out.new;
+            }) }
     {
         let draw = self.timeline.draw(clock);
         let event = Event::Tick {
@@ -179,12 +330,55 @@ impl Service {
     ) -> Result<(), Stop>
         requires allowed { IsAllowed profile.now }
         requires known { mote < profile.now.motes }
-        requires ready { Ready profile.now.motes profile.now.motes (record { service = self.old; boards = map N.device boards.old; inboxes = L.inboxes link.old; addressees = L.mote_count link.old; failures = L.faults link.old; clock = C.told clock.old; reached = C.reached clock.old; written = K.written out.old; faults = K.faults out.old }) }
+        requires ready { Ready profile.now.motes profile.now.motes
+            (record {
+              service = self.old;
+              boards = map N.device boards.old;
+              inboxes = L.inboxes link.old;
+              addressees = L.mote_count link.old;
+              failures = L.faults link.old;
+              clock = C.told clock.old;
+              reached = C.reached clock.old;
+              written = K.written out.old;
+              faults = K.faults out.old;
+            }) }
         requires early { self.old.timeline.moment < 2 ^ 59 }
-        requires some { StandsForSome profile.now.motes profile.now.motes profile.now.links (record { service = self.old; boards = map N.device boards.old; inboxes = L.inboxes link.old; addressees = L.mote_count link.old; failures = L.faults link.old; clock = C.told clock.old; reached = C.reached clock.old; written = K.written out.old; faults = K.faults out.old }) }
-        ensures goes { GoesOn result profile.now.motes profile.now.motes profile.now.motes profile.now.links (Looks mote ∷ Ticks mote ∷ [])
-            (record { service = self.old; boards = map N.device boards.old; inboxes = L.inboxes link.old; addressees = L.mote_count link.old; failures = L.faults link.old; clock = C.told clock.old; reached = C.reached clock.old; written = K.written out.old; faults = K.faults out.old })
-            (record { service = self.new; boards = map N.device boards.new; inboxes = L.inboxes link.new; addressees = L.mote_count link.new; failures = L.faults link.new; clock = C.told clock.new; reached = C.reached clock.new; written = K.written out.new; faults = K.faults out.new }) }
+        requires some { StandsForSome profile.now.motes profile.now.motes profile.now.links
+            (record {
+              service = self.old;
+              boards = map N.device boards.old;
+              inboxes = L.inboxes link.old;
+              addressees = L.mote_count link.old;
+              failures = L.faults link.old;
+              clock = C.told clock.old;
+              reached = C.reached clock.old;
+              written = K.written out.old;
+              faults = K.faults out.old;
+            }) }
+        ensures goes { GoesOn result profile.now.motes profile.now.links
+            (stretch profile.now.motes profile.now.motes (Looks mote ∷ Ticks mote ∷ []))
+            (record {
+              service = self.old;
+              boards = map N.device boards.old;
+              inboxes = L.inboxes link.old;
+              addressees = L.mote_count link.old;
+              failures = L.faults link.old;
+              clock = C.told clock.old;
+              reached = C.reached clock.old;
+              written = K.written out.old;
+              faults = K.faults out.old;
+            })
+            (record {
+              service = self.new;
+              boards = map N.device boards.new;
+              inboxes = L.inboxes link.new;
+              addressees = L.mote_count link.new;
+              failures = L.faults link.new;
+              clock = C.told clock.new;
+              reached = C.reached clock.new;
+              written = K.written out.new;
+              faults = K.faults out.new;
+            }) }
     {
         self.look(profile, mote, boards, link, clock, out)?;
         self.tick(profile, mote, boards, link, clock, out)?;
@@ -201,11 +395,43 @@ impl Service {
         out: &mut K,
     ) -> Result<(), Stop>
         requires allowed { IsAllowed profile.now }
-        requires ready { Ready profile.now.motes 0 (record { service = self.old; boards = map N.device boards.old; inboxes = L.inboxes link.old; addressees = L.mote_count link.old; failures = L.faults link.old; clock = C.told clock.old; reached = C.reached clock.old; written = K.written out.old; faults = K.faults out.old }) }
+        requires ready { Ready profile.now.motes 0
+            (record {
+              service = self.old;
+              boards = map N.device boards.old;
+              inboxes = L.inboxes link.old;
+              addressees = L.mote_count link.old;
+              failures = L.faults link.old;
+              clock = C.told clock.old;
+              reached = C.reached clock.old;
+              written = K.written out.old;
+              faults = K.faults out.old;
+            }) }
         requires early { self.old.timeline.moment ≡ 0 }
-        ensures goes { GoesOn result profile.now.motes 0 profile.now.motes profile.now.links (beginning profile.now.motes)
-            (record { service = self.old; boards = map N.device boards.old; inboxes = L.inboxes link.old; addressees = L.mote_count link.old; failures = L.faults link.old; clock = C.told clock.old; reached = C.reached clock.old; written = K.written out.old; faults = K.faults out.old })
-            (record { service = self.new; boards = map N.device boards.new; inboxes = L.inboxes link.new; addressees = L.mote_count link.new; failures = L.faults link.new; clock = C.told clock.new; reached = C.reached clock.new; written = K.written out.new; faults = K.faults out.new }) }
+        ensures goes { GoesOn result profile.now.motes profile.now.links
+            (stretch 0 profile.now.motes (beginning profile.now.motes))
+            (record {
+              service = self.old;
+              boards = map N.device boards.old;
+              inboxes = L.inboxes link.old;
+              addressees = L.mote_count link.old;
+              failures = L.faults link.old;
+              clock = C.told clock.old;
+              reached = C.reached clock.old;
+              written = K.written out.old;
+              faults = K.faults out.old;
+            })
+            (record {
+              service = self.new;
+              boards = map N.device boards.new;
+              inboxes = L.inboxes link.new;
+              addressees = L.mote_count link.new;
+              failures = L.faults link.new;
+              clock = C.told clock.new;
+              reached = C.reached clock.new;
+              written = K.written out.new;
+              faults = K.faults out.new;
+            }) }
     {
         for mote in 0..profile.motes {
             self.begin(profile, mote, boards, link, clock, out)?;
@@ -223,12 +449,55 @@ impl Service {
         out: &mut K,
     ) -> Result<(), Stop>
         requires allowed { IsAllowed profile.now }
-        requires ready { Ready profile.now.motes profile.now.motes (record { service = self.old; boards = map N.device boards.old; inboxes = L.inboxes link.old; addressees = L.mote_count link.old; failures = L.faults link.old; clock = C.told clock.old; reached = C.reached clock.old; written = K.written out.old; faults = K.faults out.old }) }
+        requires ready { Ready profile.now.motes profile.now.motes
+            (record {
+              service = self.old;
+              boards = map N.device boards.old;
+              inboxes = L.inboxes link.old;
+              addressees = L.mote_count link.old;
+              failures = L.faults link.old;
+              clock = C.told clock.old;
+              reached = C.reached clock.old;
+              written = K.written out.old;
+              faults = K.faults out.old;
+            }) }
         requires early { self.old.timeline.moment < 2 ^ 58 }
-        requires some { StandsForSome profile.now.motes profile.now.motes profile.now.links (record { service = self.old; boards = map N.device boards.old; inboxes = L.inboxes link.old; addressees = L.mote_count link.old; failures = L.faults link.old; clock = C.told clock.old; reached = C.reached clock.old; written = K.written out.old; faults = K.faults out.old }) }
-        ensures goes { GoesOn result profile.now.motes profile.now.motes profile.now.motes profile.now.links (turn_of_all profile.now.motes)
-            (record { service = self.old; boards = map N.device boards.old; inboxes = L.inboxes link.old; addressees = L.mote_count link.old; failures = L.faults link.old; clock = C.told clock.old; reached = C.reached clock.old; written = K.written out.old; faults = K.faults out.old })
-            (record { service = self.new; boards = map N.device boards.new; inboxes = L.inboxes link.new; addressees = L.mote_count link.new; failures = L.faults link.new; clock = C.told clock.new; reached = C.reached clock.new; written = K.written out.new; faults = K.faults out.new }) }
+        requires some { StandsForSome profile.now.motes profile.now.motes profile.now.links
+            (record {
+              service = self.old;
+              boards = map N.device boards.old;
+              inboxes = L.inboxes link.old;
+              addressees = L.mote_count link.old;
+              failures = L.faults link.old;
+              clock = C.told clock.old;
+              reached = C.reached clock.old;
+              written = K.written out.old;
+              faults = K.faults out.old;
+            }) }
+        ensures goes { GoesOn result profile.now.motes profile.now.links
+            (stretch profile.now.motes profile.now.motes (turn_of_all profile.now.motes))
+            (record {
+              service = self.old;
+              boards = map N.device boards.old;
+              inboxes = L.inboxes link.old;
+              addressees = L.mote_count link.old;
+              failures = L.faults link.old;
+              clock = C.told clock.old;
+              reached = C.reached clock.old;
+              written = K.written out.old;
+              faults = K.faults out.old;
+            })
+            (record {
+              service = self.new;
+              boards = map N.device boards.new;
+              inboxes = L.inboxes link.new;
+              addressees = L.mote_count link.new;
+              failures = L.faults link.new;
+              clock = C.told clock.new;
+              reached = C.reached clock.new;
+              written = K.written out.new;
+              faults = K.faults out.new;
+            }) }
     {
         for mote in 0..profile.motes {
             self.take_part(profile, mote, boards, link, clock, out)?;
@@ -248,11 +517,43 @@ impl Service {
     ) -> Result<(), Stop>
         requires allowed { IsAllowed profile.now }
         requires few { turns ≤ 1000000 }
-        requires ready { Ready profile.now.motes 0 (record { service = self.old; boards = map N.device boards.old; inboxes = L.inboxes link.old; addressees = L.mote_count link.old; failures = L.faults link.old; clock = C.told clock.old; reached = C.reached clock.old; written = K.written out.old; faults = K.faults out.old }) }
+        requires ready { Ready profile.now.motes 0
+            (record {
+              service = self.old;
+              boards = map N.device boards.old;
+              inboxes = L.inboxes link.old;
+              addressees = L.mote_count link.old;
+              failures = L.faults link.old;
+              clock = C.told clock.old;
+              reached = C.reached clock.old;
+              written = K.written out.old;
+              faults = K.faults out.old;
+            }) }
         requires early { self.old.timeline.moment ≡ 0 }
-        ensures goes { GoesOn result profile.now.motes 0 profile.now.motes profile.now.links (plan profile.now.motes turns)
-            (record { service = self.old; boards = map N.device boards.old; inboxes = L.inboxes link.old; addressees = L.mote_count link.old; failures = L.faults link.old; clock = C.told clock.old; reached = C.reached clock.old; written = K.written out.old; faults = K.faults out.old })
-            (record { service = self.new; boards = map N.device boards.new; inboxes = L.inboxes link.new; addressees = L.mote_count link.new; failures = L.faults link.new; clock = C.told clock.new; reached = C.reached clock.new; written = K.written out.new; faults = K.faults out.new }) }
+        ensures goes { GoesOn result profile.now.motes profile.now.links
+            (stretch 0 profile.now.motes (plan profile.now.motes turns))
+            (record {
+              service = self.old;
+              boards = map N.device boards.old;
+              inboxes = L.inboxes link.old;
+              addressees = L.mote_count link.old;
+              failures = L.faults link.old;
+              clock = C.told clock.old;
+              reached = C.reached clock.old;
+              written = K.written out.old;
+              faults = K.faults out.old;
+            })
+            (record {
+              service = self.new;
+              boards = map N.device boards.new;
+              inboxes = L.inboxes link.new;
+              addressees = L.mote_count link.new;
+              failures = L.faults link.new;
+              clock = C.told clock.new;
+              reached = C.reached clock.new;
+              written = K.written out.new;
+              faults = K.faults out.new;
+            }) }
     {
         self.begin_all(profile, boards, link, clock, out)?;
         self.play_turns(turns, profile, boards, link, clock, out)?;
@@ -271,12 +572,55 @@ impl Service {
     ) -> Result<(), Stop>
         requires allowed { IsAllowed profile.now }
         requires few { turns ≤ 1000000 }
-        requires ready { Ready profile.now.motes profile.now.motes (record { service = self.old; boards = map N.device boards.old; inboxes = L.inboxes link.old; addressees = L.mote_count link.old; failures = L.faults link.old; clock = C.told clock.old; reached = C.reached clock.old; written = K.written out.old; faults = K.faults out.old }) }
+        requires ready { Ready profile.now.motes profile.now.motes
+            (record {
+              service = self.old;
+              boards = map N.device boards.old;
+              inboxes = L.inboxes link.old;
+              addressees = L.mote_count link.old;
+              failures = L.faults link.old;
+              clock = C.told clock.old;
+              reached = C.reached clock.old;
+              written = K.written out.old;
+              faults = K.faults out.old;
+            }) }
         requires early { self.old.timeline.moment < 2 ^ 40 }
-        requires some { StandsForSome profile.now.motes profile.now.motes profile.now.links (record { service = self.old; boards = map N.device boards.old; inboxes = L.inboxes link.old; addressees = L.mote_count link.old; failures = L.faults link.old; clock = C.told clock.old; reached = C.reached clock.old; written = K.written out.old; faults = K.faults out.old }) }
-        ensures goes { GoesOn result profile.now.motes profile.now.motes profile.now.motes profile.now.links (each turns (λ turn. turn_of_all profile.now.motes))
-            (record { service = self.old; boards = map N.device boards.old; inboxes = L.inboxes link.old; addressees = L.mote_count link.old; failures = L.faults link.old; clock = C.told clock.old; reached = C.reached clock.old; written = K.written out.old; faults = K.faults out.old })
-            (record { service = self.new; boards = map N.device boards.new; inboxes = L.inboxes link.new; addressees = L.mote_count link.new; failures = L.faults link.new; clock = C.told clock.new; reached = C.reached clock.new; written = K.written out.new; faults = K.faults out.new }) }
+        requires some { StandsForSome profile.now.motes profile.now.motes profile.now.links
+            (record {
+              service = self.old;
+              boards = map N.device boards.old;
+              inboxes = L.inboxes link.old;
+              addressees = L.mote_count link.old;
+              failures = L.faults link.old;
+              clock = C.told clock.old;
+              reached = C.reached clock.old;
+              written = K.written out.old;
+              faults = K.faults out.old;
+            }) }
+        ensures goes { GoesOn result profile.now.motes profile.now.links
+            (stretch profile.now.motes profile.now.motes (each turns (λ turn. turn_of_all profile.now.motes)))
+            (record {
+              service = self.old;
+              boards = map N.device boards.old;
+              inboxes = L.inboxes link.old;
+              addressees = L.mote_count link.old;
+              failures = L.faults link.old;
+              clock = C.told clock.old;
+              reached = C.reached clock.old;
+              written = K.written out.old;
+              faults = K.faults out.old;
+            })
+            (record {
+              service = self.new;
+              boards = map N.device boards.new;
+              inboxes = L.inboxes link.new;
+              addressees = L.mote_count link.new;
+              failures = L.faults link.new;
+              clock = C.told clock.new;
+              reached = C.reached clock.new;
+              written = K.written out.new;
+              faults = K.faults out.new;
+            }) }
     {
         for _turn in 0..turns {
             self.play_turn(profile, boards, link, clock, out)?;

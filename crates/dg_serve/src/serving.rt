@@ -7,7 +7,7 @@ ghost use Rattle.dg_netcfg.specs.Readings.{IsAllowed};
 ghost use Rattle.dg_nor.specs.Device.{Device};
 ghost use Rattle.dg_serve.specs.Traces.{last_line};
 ghost use Rattle.dg_serve.specs.Served.{Served, TooFewBoards};
-ghost use Rattle.dg_serve.specs.Ran.{Opens, OpensLink, RanTo, Tells, TellsStop, TellsTooFew};
+ghost use Rattle.dg_serve.specs.Ran.{ServiceOpens, OpensLink, RanTo, LineWritten, TellsStop, TellsTooFew};
 
 use crate::service::Service;
 use crate::stop::Stop;
@@ -36,11 +36,39 @@ pub fn serve<K: Sink, N: Nor, L: Link, C: Clock>(
     requires allowed { IsAllowed profile.now }
     requires turns { turns ≤ 1000000 }
     ensures served { profile.now.motes ≤ vec_len boards.old → Served result profile.now seed turns
-        (record { written = K.written out.old; faults = K.faults out.old; clock = C.told clock.old; inboxes = L.inboxes link.old; failures = L.faults link.old; boards = map N.device boards.old.items })
-        (record { written = K.written out.new; faults = K.faults out.new; clock = C.told clock.new; inboxes = L.inboxes link.new; failures = L.faults link.new; boards = map N.device boards.new.items }) }
+        (record {
+          written = K.written out.old;
+          faults = K.faults out.old;
+          clock = C.told clock.old;
+          inboxes = L.inboxes link.old;
+          failures = L.faults link.old;
+          boards = map N.device boards.old.items;
+        })
+        (record {
+          written = K.written out.new;
+          faults = K.faults out.new;
+          clock = C.told clock.new;
+          inboxes = L.inboxes link.new;
+          failures = L.faults link.new;
+          boards = map N.device boards.new.items;
+        }) }
     ensures too_few { vec_len boards.old < profile.now.motes → TooFewBoards result profile.now
-        (record { written = K.written out.old; faults = K.faults out.old; clock = C.told clock.old; inboxes = L.inboxes link.old; failures = L.faults link.old; boards = map N.device boards.old.items })
-        (record { written = K.written out.new; faults = K.faults out.new; clock = C.told clock.new; inboxes = L.inboxes link.new; failures = L.faults link.new; boards = map N.device boards.new.items }) }
+        (record {
+          written = K.written out.old;
+          faults = K.faults out.old;
+          clock = C.told clock.old;
+          inboxes = L.inboxes link.old;
+          failures = L.faults link.old;
+          boards = map N.device boards.old.items;
+        })
+        (record {
+          written = K.written out.new;
+          faults = K.faults out.new;
+          clock = C.told clock.new;
+          inboxes = L.inboxes link.new;
+          failures = L.faults link.new;
+          boards = map N.device boards.new.items;
+        }) }
     // All arrays of bytes that are alive at once in a mote's call have no more than 256, and beside the outbox and its sets
     // none lies in the value of a mote.
     ensures buffers { BuffersFit × ValuesAreSmall }
@@ -79,8 +107,22 @@ fn serve_boards<K: Sink, N: Nor, L: Link, C: Clock>(
     requires turns { turns ≤ 1000000 }
     requires enough { profile.now.motes ≤ length boards.old }
     ensures ran { RanTo result profile.now seed turns
-        (record { written = K.written out.old; faults = K.faults out.old; clock = C.told clock.old; inboxes = L.inboxes link.old; failures = L.faults link.old; boards = map N.device boards.old })
-        (record { written = K.written out.new; faults = K.faults out.new; clock = C.told clock.new; inboxes = L.inboxes link.new; failures = L.faults link.new; boards = map N.device boards.new }) }
+        (record {
+          written = K.written out.old;
+          faults = K.faults out.old;
+          clock = C.told clock.old;
+          inboxes = L.inboxes link.old;
+          failures = L.faults link.old;
+          boards = map N.device boards.old;
+        })
+        (record {
+          written = K.written out.new;
+          faults = K.faults out.new;
+          clock = C.told clock.new;
+          inboxes = L.inboxes link.new;
+          failures = L.faults link.new;
+          boards = map N.device boards.new;
+        }) }
 {
     let mut service = open_service(alloc, profile, link, clock, seed, out)?;
     service.run(turns, profile, boards, link, clock, out)
@@ -96,9 +138,24 @@ fn open_service<K: Sink, L: Link, C: Clock>(
     out: &mut K,
 ) -> Result<Service, Stop>
     requires allowed { IsAllowed profile.now }
-    ensures opens { (boards : List Device) → Opens result profile.now seed
-        (record { written = K.written out.old; faults = K.faults out.old; clock = C.told clock.old; inboxes = L.inboxes link.old; failures = L.faults link.old; boards = boards }) (L.mote_count link.new) (C.reached clock.new)
-        (record { written = K.written out.new; faults = K.faults out.new; clock = C.told clock.new; inboxes = L.inboxes link.new; failures = L.faults link.new; boards = boards }) }
+    ensures opens { (boards : List Device) → ServiceOpens result profile.now seed
+        (record {
+          written = K.written out.old;
+          faults = K.faults out.old;
+          clock = C.told clock.old;
+          inboxes = L.inboxes link.old;
+          failures = L.faults link.old;
+          boards = boards;
+        }) (L.mote_count link.new)
+        (C.reached clock.new)
+        (record {
+          written = K.written out.new;
+          faults = K.faults out.new;
+          clock = C.told clock.new;
+          inboxes = L.inboxes link.new;
+          failures = L.faults link.new;
+          boards = boards;
+        }) }
 {
     let motes = all_off(alloc, profile.motes)?;
     let mut text = Vec::new(alloc);
@@ -117,7 +174,8 @@ fn open_service<K: Sink, L: Link, C: Clock>(
 /// Opens the link.
 fn open<L: Link>(alloc: Global, profile: &NetProfile, link: &mut L) -> Result<(), Stop>
     requires { IsAllowed profile.now }
-    ensures opens { OpensLink result profile.now.motes (L.inboxes link.old) (L.inboxes link.new) (L.faults link.old) (L.faults link.new) (L.mote_count link.new) }
+    ensures opens { OpensLink result profile.now.motes (L.inboxes link.old) (L.inboxes link.new) (L.faults link.old)
+        (L.faults link.new) (L.mote_count link.new) }
 {
     match link.open(alloc, profile.port, u16::from(profile.motes)) {
         Ok(()) => Ok(()),
@@ -153,7 +211,7 @@ fn tell_stop<K: Sink>(stop: Stop, out: &mut K) -> Status
 
 /// Writes the last line of a status, and answers the status, unless the line cannot be written.
 pub(crate) fn tell_last<K: Sink>(line: &[u8], status: Status, out: &mut K) -> Status
-    ensures { Tells result status line.now (K.written out.old) (K.written out.new) (K.faults out.old) (K.faults out.new) }
+    ensures { LineWritten result status line.now (K.written out.old) (K.written out.new) (K.faults out.old) (K.faults out.new) }
 {
     match out.write(line) {
         Ok(()) => status,
@@ -164,7 +222,8 @@ pub(crate) fn tell_last<K: Sink>(line: &[u8], status: Status, out: &mut K) -> St
 /// Tells that there are too few boards.
 fn tell_too_few<K: Sink>(alloc: Global, motes: u8, boards: usize, out: &mut K) -> Status
     requires few { boards < 2 ^ 32 }
-    ensures { TellsTooFew result (last_line NoBoard motes boards) (K.written out.old) (K.written out.new) (K.faults out.old) (K.faults out.new) }
+    ensures { TellsTooFew result (last_line NoBoard motes boards) (K.written out.old) (K.written out.new) (K.faults out.old)
+        (K.faults out.new) }
 {
     match too_few_line(alloc, motes, boards) {
         Ok(line) => tell_last(line.as_slice(), Status::NoBoard, out),

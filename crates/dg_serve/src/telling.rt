@@ -7,7 +7,7 @@ ghost use Rattle.dg_script.specs.Sizes.{most_motes};
 ghost use Rattle.dg_script.specs.Fitting.{FitsLine};
 ghost use Rattle.dg_script.specs.Spelling.{IsShort, line_text};
 ghost use Rattle.dg_script.specs.declared.line.Line.TheVariants.{Happens};
-ghost use Rattle.dg_serve.specs.Traces.{written, head_lines, IsEventLine};
+ghost use Rattle.dg_serve.specs.Traces.{lines_text, head_lines, IsEventLine};
 
 use crate::stop::Stop;
 use dg_base::{Event, Sink, WriteFailed};
@@ -33,7 +33,7 @@ pub(crate) fn put<K: Sink>(text: &[u8], out: &mut K) -> Result<(), Stop>
 /// The first lines of a trace: the motes, that the boards are used as they are, and the links.
 pub(crate) fn write_head(profile: &NetProfile, text: &mut Vec<u8>) -> Result<(), AllocError>
     requires { IsAllowed profile.now }
-    ensures { OnOk result (text.new.items ≡ text.old.items ++ written (head_lines profile.now)) }
+    ensures { OnOk result (text.new.items ≡ text.old.items ++ lines_text (head_lines profile.now)) }
 {
     write_line(&Line::Motes(profile.motes), text)?;
     write_line(&Line::Boards, text)?;

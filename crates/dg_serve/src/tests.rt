@@ -37,7 +37,8 @@ fn two_motes_over_a_link_in_memory(rt: HostRuntime) -> Result<(), Fail> {
     );
     assert_eq!(rt; status, Status::Done);
     let trace =
-        b"motes 2\nboards\nlink 0 1\nreset 0 100 298703107\nreset 1 100 4236525527\ntick 0 100 336081875\ntick 1 100 1056616254\n";
+        b"motes 2\nboards\nlink 0 1\nreset 0 100 298703107\nreset 1 100 4236525527\ntick 0 100 336081875\n\
+          tick 1 100 1056616254\n";
     assert_eq!(rt; out.bytes(), trace.as_slice());
     Ok(())
 }

@@ -2,12 +2,11 @@
 ghost use Rattle.std.specs.Prelude.{◌≡◌, ◌+◌, ◌-◌, ◌^◌, ◌<◌, ◌≤◌, min};
 ghost use Rattle.rand_pcg.specs.Pcg.{pcg32};
 ghost use Rattle.dg_base.specs.Clock.{Answered};
-ghost use Rattle.dg_serve.specs.Services.{later, words_of_seed};
+ghost use Rattle.dg_seed.specs.Words.{first_generator, generator_of};
+ghost use Rattle.dg_serve.specs.Services.{later};
 
 use dg_base::Clock;
-use rand_core::SeedableRng;
-use rand_core::utils::NextWord;
-use rand_pcg::Lcg64Xsh32;
+use dg_seed::Words;
 
 /// The moment of the last event, what the clock answered last, and the words to come.
 #[derive(Drop)]
@@ -15,7 +14,7 @@ pub(crate) struct Timeline {
     /// In milliseconds since the service began, as its events tell it.
     pub(crate) moment: u64,
     pub(crate) reading: u64,
-    pub(crate) words: Lcg64Xsh32,
+    pub(crate) words: Words,
 }
 
 /// What an event takes of time and chance: the milliseconds since the event before, and a word.
@@ -29,7 +28,7 @@ impl Timeline {
     /// Reads the clock for the origin. The words are those of a seed.
     pub(crate) fn begin<C: Clock>(clock: &mut C, seed: u32) -> Timeline
         ensures moment { result.moment ≡ 0 }
-        ensures words { result.words ≡ words_of_seed seed }
+        ensures words { generator_of result.words ≡ first_generator seed }
         ensures told { Answered (C.told clock.old) (C.told clock.new) result.reading }
         ensures reached { result.reading ≤ C.reached clock.new }
         ensures rises { C.reached clock.old ≤ C.reached clock.new }
@@ -37,7 +36,7 @@ impl Timeline {
         Timeline {
             moment: 0,
             reading: clock.read(),
-            words: Lcg64Xsh32::seed_from_u64(u64::from(seed)),
+            words: Words::of_seed(seed),
         }
     }
 
@@ -48,7 +47,7 @@ impl Timeline {
         ensures dt { result.dt ≡ later self.old.reading self.new.reading }
         ensures rises { self.old.reading ≤ self.new.reading }
         ensures told { Answered (C.told clock.old) (C.told clock.new) self.new.reading }
-        ensures word { (result.word, self.new.words) ≡ pcg32 self.old.words }
+        ensures word { (result.word, generator_of self.new.words) ≡ pcg32 (generator_of self.old.words) }
         ensures moment { self.new.moment ≡ self.old.moment + result.dt }
         ensures reached { self.new.reading ≤ C.reached clock.new }
         ensures goes_on { C.reached clock.old ≤ C.reached clock.new }
@@ -59,7 +58,7 @@ impl Timeline {
         let dt = as_event_time(reading - self.reading);
         self.reading = reading;
         self.moment += u64::from(dt);
-        let word = self.words.next_word();
+        let word = self.words.next();
         Draw { dt, word }
     }
 }

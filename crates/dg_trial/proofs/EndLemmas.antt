@@ -7,9 +7,10 @@ use Rattle.dg_base.specs.Outside.{Puts, PutsFront}
 use Rattle.dg_base.specs.declared.answers.Status.{Status}
 use Rattle.dg_base.specs.declared.answers.Status.TheVariants as status
 use Rattle.dg_nor.specs.Device.{Device}
-use Rattle.dg_trial.specs.Schedule.{sweeps_of}
+use Rattle.dg_trial.specs.Schedule.{sweep_count}
 use Rattle.dg_rules.specs.Sizes.{most_motes}
-use Rattle.dg_trial.specs.Trials.{summary_line, no_board_line, told_of, WholeLaw, LineEnds, TellsWhole, TrialDone, TrialEnds, RunEnds, TrialPlayed, Tells, Unplayed}
+use Rattle.dg_trial.specs.AroundTrial.{around_trial}
+use Rattle.dg_trial.specs.Trials.{summary_line, no_board_line, told_of, WholeLaw, LineEnds, TellsWhole, TrialComplete, TrialEnds, TrialOutcome, TrialPlayed, TellsTrial, Unplayed}
 use Rattle.dg_trial.proofs.TrialLemmas.{read_unread}
 use Rattle.dg_trial.specs.declared.summary.Summary.{Summary}
 
@@ -28,38 +29,38 @@ line_cause r s line before after fb fa other h is =
 pub line_unfailed : (r s : Status) (line : List ℕ) (before after : Option (List ℕ)) (fb fa : ℕ) → LineEnds r s line before after fb fa → r ≢ status.WriteFault → fa ≡ fb
 line_unfailed r s line before after fb fa h other = ⊎_elim (λ a. a.2) (λ x. ⊎_elim (λ b. absurd (other b.0)) (λ c. c.2) x) h
 
-pub boards_missing : (r : Status) (motes pages seed : ℕ) (before after : Option (List ℕ)) (fb fa n : ℕ) (old : List Device) → n ≡ length old → n < motes → LineEnds r status.NoBoard (no_board_line motes n) before after fb fa → TrialEnds r motes pages seed before after old old
+pub boards_missing : (r : Status) (motes pages seed : ℕ) (before after : Option (List ℕ)) (fb fa n : ℕ) (old : List Device) → n ≡ length old → n < motes → LineEnds r status.NoBoard (no_board_line motes n) before after fb fa → TrialEnds r motes pages seed (around_trial before old) (around_trial after old)
 boards_missing r motes pages seed before after fb fa n old count few h =
     let low : length old < motes = subst (λ (k : ℕ). k < motes) count few in
-    let E : Status → Type 0 = λ s. TrialEnds s motes pages seed before after old old in
+    let E : Status → Type 0 = λ s. TrialEnds s motes pages seed (around_trial before old) (around_trial after old) in
     let at = subst (λ (k : ℕ). LineEnds r status.NoBoard (no_board_line motes k) before after fb fa) count h in
     ⊎_elim (λ a. subst E (sym a.0) (record { missing = low; same = refl }, a.1))
     (λ x. ⊎_elim (λ b. subst E (sym b.0) (inr (record { missing = low; same = refl }, b.1))) (λ c. subst E (sym c.0) (inl refl, c.1)) x) at
 
-told_is : (motes pages seed : ℕ) (old new : List Device) (s : Summary) (t : TrialPlayed motes pages seed old new) → Tells motes pages seed t.last s → summary_line s.motes s.pages s.sweeps s.events s.whole ≡ told_of motes pages seed t.last
+told_is : (motes pages seed : ℕ) (old new : List Device) (s : Summary) (t : TrialPlayed motes pages seed old new) → TellsTrial motes pages seed t.last s → summary_line s.motes s.pages s.sweeps s.events s.whole ≡ told_of motes pages seed t.last
 told_is motes pages seed old new s t h =
     ap (λ (n : ℕ). summary_line n s.pages s.sweeps s.events s.whole) h.motes_told ∙ ap (λ (n : ℕ). summary_line motes n s.sweeps s.events s.whole) h.pages_told ∙ ap (λ (n : ℕ). summary_line motes pages n s.events s.whole) h.sweeps_told
-    ∙ ap (λ (n : ℕ). summary_line motes pages (sweeps_of motes pages) n s.whole) h.events_told ∙ ap (λ (n : ℕ). summary_line motes pages (sweeps_of motes pages) t.last.events n) h.whole_told
+    ∙ ap (λ (n : ℕ). summary_line motes pages (sweep_count motes pages) n s.whole) h.events_told ∙ ap (λ (n : ℕ). summary_line motes pages (sweep_count motes pages) t.last.events n) h.whole_told
 
 unread : (motes pages seed : ℕ) (old new : List Device) → TrialPlayed motes pages seed old new → Unplayed motes pages seed old new
 unread motes pages seed old new t = read_unread motes pages seed t.last old new t.run t.boards
 
-pub trial_told : WholeLaw → (r : Status) (motes pages seed : ℕ) (before after : Option (List ℕ)) (fb fa : ℕ) (old new : List Device) (s : Summary) → 2 ≤ motes → motes ≤ most_motes → 2 ≤ pages → pages ≤ 65 → motes ≤ length old → RunEnds (Ok s) motes pages seed old new
-    → LineEnds r status.Done (summary_line s.motes s.pages s.sweeps s.events s.whole) before after fb fa → TrialEnds r motes pages seed before after old new
+pub trial_told : WholeLaw → (r : Status) (motes pages seed : ℕ) (before after : Option (List ℕ)) (fb fa : ℕ) (old new : List Device) (s : Summary) → 2 ≤ motes → motes ≤ most_motes → 2 ≤ pages → pages ≤ 65 → motes ≤ length old → TrialOutcome (Ok s) motes pages seed old new
+    → LineEnds r status.Done (summary_line s.motes s.pages s.sweeps s.events s.whole) before after fb fa → TrialEnds r motes pages seed (around_trial before old) (around_trial after new)
 trial_told law r motes pages seed before after fb fa old new s some few some_pages few_pages enough run h =
     let all = law motes pages seed run.0.last some few some_pages few_pages run.0.run in
-    let E : Status → Type 0 = λ x. TrialEnds x motes pages seed before after old new in
+    let E : Status → Type 0 = λ x. TrialEnds x motes pages seed (around_trial before old) (around_trial after new) in
     let at = subst (λ (t : List ℕ). LineEnds r status.Done t before after fb fa) (told_is motes pages seed old new s run.0 run.1) h in
     ⊎_elim (λ a. subst E (sym a.0) (record { enough = enough; played = run.0; kept = all.0; whole = all.1; told = a.1 }))
     (λ x. ⊎_elim (λ b. subst E (sym b.0) (inl (record { enough = enough; played = run.0; told = b.1 })))
     (λ c. subst E (sym c.0) (unread motes pages seed old new run.0, c.1)) x) at
 
 -- where it was played and told, the line says that every mote keeps the image whole
-pub tells_whole : (r : Status) (motes pages seed : ℕ) (before after : Option (List ℕ)) (old new : List Device) → TrialEnds r motes pages seed before after old new → r ≡ status.Done → TellsWhole motes pages before after
+pub tells_whole : (r : Status) (motes pages seed : ℕ) (before after : Option (List ℕ)) (old new : List Device) → TrialEnds r motes pages seed (around_trial before old) (around_trial after new) → r ≡ status.Done → TellsWhole motes pages before after
 tells_whole r motes pages seed before after old new ends is =
-    let d : TrialDone motes pages seed before after old new = subst (λ (s : Status). TrialEnds s motes pages seed before after old new) is ends in
+    let d : TrialComplete motes pages seed (around_trial before old) (around_trial after new) = subst (λ (s : Status). TrialEnds s motes pages seed (around_trial before old) (around_trial after new)) is ends in
     let w = d.played.last in
-    (w.events, subst (λ (n : ℕ). Puts before after (summary_line motes pages (sweeps_of motes pages) w.events n)) d.whole d.told)
+    (w.events, subst (λ (n : ℕ). Puts before after (summary_line motes pages (sweep_count motes pages) w.events n)) d.whole d.told)
 
 pub summary_text : (t0 t1 t2 t3 t4 t5 t6 : List ℕ) (a b c d e m p s v w : ℕ) → t1 ≡ t0 ++ (codes "trial motes " ++ decimal a) → t2 ≡ t1 ++ (codes " pages " ++ decimal b) → t3 ≡ t2 ++ (codes " sweeps " ++ decimal c) → t4 ≡ t3 ++ (codes " events " ++ decimal d)
     → t5 ≡ t4 ++ (codes " whole " ++ decimal e) → t6 ≡ t5 ++ 10 ∷ [] → a ≡ m → b ≡ p → c ≡ s → d ≡ v → e ≡ w → t6 ≡ t0 ++ summary_line m p s v w

@@ -9,25 +9,26 @@ use Rattle.rand_pcg.specs.Pcg.{pcg32}
 use Rattle.dg_base.specs.declared.events.Event.{Event}
 use Rattle.dg_base.specs.declared.events.Event.TheVariants.{Tick, Hear, Last, Reset, Inject}
 use Rattle.dg_rounds.specs.Rounds.{times, sweep, round, paced, passed}
-use Rattle.dg_rules.specs.Ranges.{EventFits, StepFits}
+use Rattle.dg_rules.specs.Ranges.{EventInRange, StepInRange}
 use Rattle.dg_rules.specs.Premises.{LinkFits}
 use Rattle.dg_completion.proofs.GrowLemmas.{all_append, all_replicate, all_times}
-use Rattle.dg_trial.specs.Schedule.{Part, uncut, always, line, resets, beside, cut_reset, disturbed_at, disturbances, opening}
+use Rattle.dg_trial.specs.Schedule.{Part, always, line, resets, beside, cut_reset, disturbed_at, disturbances, opening}
 use Rattle.dg_trial.specs.Playing.{PartFits}
+use Rattle.dg_world.specs.Alone.{uncut}
 
 -- ---- in their ranges
 
-uncut_fits : (motes : ℕ) (e : Event) → EventFits motes e → StepFits motes (uncut e)
+uncut_fits : (motes : ℕ) (e : Event) → EventInRange motes e → StepInRange motes (uncut e)
 uncut_fits motes e fits = record { event = fits; cut = tt }
 
-pub always_fit : (motes : ℕ) (es : List Event) → AllByRecursion (EventFits motes) es → AllByRecursion (PartFits motes) (map always es)
+pub always_fit : (motes : ℕ) (es : List Event) → AllByRecursion (EventInRange motes) es → AllByRecursion (PartFits motes) (map always es)
 always_fit motes [] a = tt
 always_fit motes (e ∷ es) a = (λ sent. uncut_fits motes e a.0, always_fit motes es a.1)
 
-pub resets_fit : (motes n : ℕ) → n ≤ motes → AllByRecursion (EventFits motes) (resets n)
+pub resets_fit : (motes n : ℕ) → n ≤ motes → AllByRecursion (EventInRange motes) (resets n)
 unfolding resets
 resets_fit motes zero h = tt
-resets_fit motes (suc n) h = all_append (EventFits motes) (resets n) (Reset n 0 0 ∷ []) (resets_fit motes n (omega arith)) (let low : n < motes = omega arith in low, tt)
+resets_fit motes (suc n) h = all_append (EventInRange motes) (resets n) (Reset n 0 0 ∷ []) (resets_fit motes n (omega arith)) (let low : n < motes = omega arith in low, tt)
 
 beside_by : (b : Bool) (motes a : ℕ) → eqb (a + 1) motes ≡ b → 2 ≤ motes → a < motes → ((if b then a - 1 else a + 1) < motes) × ((if b then a - 1 else a + 1) ≢ a)
 beside_by true motes a e some low =
@@ -40,20 +41,20 @@ beside_by false motes a e some low =
 beside_fits : (motes a : ℕ) → 2 ≤ motes → a < motes → (beside motes a < motes) × (beside motes a ≢ a)
 beside_fits motes a some low = beside_by (eqb (a + 1) motes) motes a refl some low
 
-hears_fit : (motes a w3 n : ℕ) → a < motes → StepFits motes (uncut (Hear a 1 w3 (1 + n)))
+hears_fit : (motes a w3 n : ℕ) → a < motes → StepInRange motes (uncut (Hear a 1 w3 (1 + n)))
 hears_fit motes a w3 n low = uncut_fits motes (Hear a 1 w3 (1 + n)) (low, omega arith)
 
-cut_fits : (motes a w2 w3 : ℕ) → a < motes → StepFits motes (cut_reset a w2 w3)
+cut_fits : (motes a w2 w3 : ℕ) → a < motes → StepInRange motes (cut_reset a w2 w3)
 cut_fits motes a w2 w3 low = record { event = low; cut = record { counted = omega arith; some = omega arith; few = omega arith } }
 
 disturbed_by : (ticks lasts hears : Bool) (motes a w2 w3 sent : ℕ) → 2 ≤ motes → a < motes
-    → StepFits motes (if ticks then uncut (Tick a (w2 % 1024) w3) else if lasts then uncut (Last (beside motes a) a (w2 % 1024) w3) else if hears then uncut (Hear a 1 w3 (1 + w2 % (sent + 1))) else cut_reset a w2 w3)
+    → StepInRange motes (if ticks then uncut (Tick a (w2 % 1024) w3) else if lasts then uncut (Last (beside motes a) a (w2 % 1024) w3) else if hears then uncut (Hear a 1 w3 (1 + w2 % (sent + 1))) else cut_reset a w2 w3)
 disturbed_by true lasts hears motes a w2 w3 sent some low = uncut_fits motes (Tick a (w2 % 1024) w3) low
 disturbed_by false true hears motes a w2 w3 sent some low = let b = beside_fits motes a some low in uncut_fits motes (Last (beside motes a) a (w2 % 1024) w3) (b.0, low, b.1)
 disturbed_by false false true motes a w2 w3 sent some low = hears_fit motes a w3 (w2 % (sent + 1)) low
 disturbed_by false false false motes a w2 w3 sent some low = cut_fits motes a w2 w3 low
 
-disturbed_fits : (motes a kind w2 w3 sent : ℕ) → 2 ≤ motes → a < motes → StepFits motes (disturbed_at motes a kind w2 w3 sent)
+disturbed_fits : (motes a kind w2 w3 sent : ℕ) → 2 ≤ motes → a < motes → StepInRange motes (disturbed_at motes a kind w2 w3 sent)
 disturbed_fits motes a kind w2 w3 sent some low = disturbed_by (nat_lt kind 4) (nat_lt kind 6) (kind == 6) motes a w2 w3 sent some low
 
 mod_low : (w n : ℕ) → 2 ≤ n → w % n < n
@@ -75,23 +76,23 @@ line_fits motes zero h = tt
 line_fits motes (suc zero) h = tt
 line_fits motes (suc (suc n)) h = (record { first = omega arith; second = omega arith; two = λ e. let x : n ≡ n + 1 = e in omega (arith, x) }, line_fits motes (suc n) (omega arith))
 
-round_fits : (motes a b : ℕ) → a < motes → b < motes → a ≢ b → AllByRecursion (EventFits motes) (round a b)
+round_fits : (motes a b : ℕ) → a < motes → b < motes → a ≢ b → AllByRecursion (EventInRange motes) (round a b)
 unfolding round
 round_fits motes a b first second two =
-    let P : Event → Type 0 = EventFits motes in
-    let there : EventFits motes (passed a b) = (first, second, two) in
-    let back : EventFits motes (passed b a) = (second, first, λ e. two (sym e)) in
+    let P : Event → Type 0 = EventInRange motes in
+    let there : EventInRange motes (passed a b) = (first, second, two) in
+    let back : EventInRange motes (passed b a) = (second, first, λ e. two (sym e)) in
     let tail : List Event = passed a b ∷ paced b ∷ passed b a ∷ times 48 (paced a ∷ passed a b ∷ []) in
     let three : AllByRecursion P (replicate 3 (paced a) ++ tail) =
     all_append P (replicate 3 (paced a)) tail (all_replicate P 3 (paced a) first) (there, (second, (back, all_times P 48 (paced a ∷ passed a b ∷ []) (first, (there, tt))))) in
     all_append P (replicate 50 (paced a)) (replicate 50 (paced b) ++ (replicate 3 (paced a) ++ tail)) (all_replicate P 50 (paced a) first)
     (all_append P (replicate 50 (paced b)) (replicate 3 (paced a) ++ tail) (all_replicate P 50 (paced b) second) three)
 
-pub sweep_fits : (motes : ℕ) (links : List (ℕ × ℕ)) → AllByRecursion (LinkFits motes) links → AllByRecursion (EventFits motes) (sweep links)
+pub sweep_fits : (motes : ℕ) (links : List (ℕ × ℕ)) → AllByRecursion (LinkFits motes) links → AllByRecursion (EventInRange motes) (sweep links)
 unfolding sweep
 sweep_fits motes [] a = tt
 sweep_fits motes (l ∷ links) a =
-    let P : Event → Type 0 = EventFits motes in
+    let P : Event → Type 0 = EventInRange motes in
     all_append P (round l.0 l.1) (round l.1 l.0 ++ sweep links) (round_fits motes l.0 l.1 a.0.first a.0.second a.0.two)
     (all_append P (round l.1 l.0) (sweep links) (round_fits motes l.1 l.0 a.0.second a.0.first (λ e. a.0.two (sym e))) (sweep_fits motes links a.1))
 
@@ -104,7 +105,7 @@ schedule_fits motes n sweeps g some =
     all_append P (opening motes) (disturbances motes n g ++ map always rest)
     (all_append P (map always (resets motes)) (always (Inject 0 1 1 0 0) ∷ []) (always_fit motes (resets motes) (resets_fit motes motes all)) (λ sent. uncut_fits motes (Inject 0 1 1 0 0) (first, omega arith, omega arith), tt))
     (all_append P (disturbances motes n g) (map always rest) (disturbances_fit motes n g some)
-    (always_fit motes rest (all_append (EventFits motes) (resets motes) (times sweeps (sweep (line motes))) (resets_fit motes motes all) (all_times (EventFits motes) sweeps (sweep (line motes)) (sweep_fits motes (line motes) (line_fits motes motes all))))))
+    (always_fit motes rest (all_append (EventInRange motes) (resets motes) (times sweeps (sweep (line motes))) (resets_fit motes motes all) (all_times (EventInRange motes) sweeps (sweep (line motes)) (sweep_fits motes (line motes) (line_fits motes motes all))))))
 
 -- ---- how many they are
 

@@ -11,7 +11,7 @@ use Rattle.dg_object.specs.Object.{Row, row_of}
 use Rattle.dg_object.proofs.RowLemmas.{length-object}
 use Rattle.dg_slot.specs.Layout.{most_bytes}
 use Rattle.dg_slot.specs.Kept.{Held}
-use Rattle.dg_volume.specs.Store.{Store, held, held_whole, golden_row, fresh}
+use Rattle.dg_volume.specs.Store.{Store, held, held_whole}
 use Rattle.dg_volume.specs.Changes.{is_version, inject_refusal, refusal_by}
 use Rattle.dg_volume.specs.Trails.{inject_trail, done_of}
 use Rattle.dg_volume.specs.Table.{row_at, with_row}
@@ -27,17 +27,18 @@ use Rattle.dg_rules.specs.Sizes.{most_motes}
 use Rattle.dg_rules.specs.World.{World, Site, Running, site, wide_at, store_at, with_site, counted, first_world}
 use Rattle.dg_rules.specs.Events.{Does, Refuses, does, acts, knows, injects, inject_row, inject_unless}
 use Rattle.dg_rules.specs.Steps.{WorldStep, StepDoes}
-use Rattle.dg_rules.specs.Golden.{PlaysGolden}
+use Rattle.dg_rules.specs.Golden.{GoldenNetwork, network_world, PlaysGolden}
 use Rattle.dg_rules.specs.Runs.{Played, Plays}
 use Rattle.dg_rules.specs.Begins.{PlaysFrom}
 use Rattle.dg_rules.specs.Premises.{WorldAgrees, IsDeclared, IsHonestThen, TrueEvent}
 use Rattle.dg_rules.proofs.SiteLemmas.{site_there, site_other, site_count}
 use Rattle.dg_completion.specs.Completion.{page_count, pages_of}
-use Rattle.dg_trial.specs.Schedule.{line, size_by, row_by, uncut}
+use Rattle.dg_trial.specs.Schedule.{line, size_by, row_by}
 use Rattle.dg_trial.specs.Playing.{golden, chip, first}
 use Rattle.dg_trial.proofs.BeginLemmas.{golden_is}
 use Rattle.dg_trial.proofs.FitLemmas.{line_fits}
 use Rattle.dg_trial.proofs.MoveLemmas.{Laws}
+use Rattle.dg_world.specs.Alone.{uncut}
 
 -- ---- what is declared
 
@@ -82,8 +83,8 @@ trial_declared pages seed word few = record {
 -- ---- the first world
 
 abbrev pub GoldenPlaysLaw : Type 0
-GoldenPlaysLaw = (name bytes : List ℕ) (used motes : ℕ) (links : List (ℕ × ℕ)) (narrow : List Bool) (played : List Played) (v : World) → PlaysGolden name bytes used motes links narrow played v
-    → AllByRecursion IsHonestThen played → PlaysFrom (first_world (golden_row name bytes ∷ []) links narrow (replicate motes (fresh name bytes used))) played v
+GoldenPlaysLaw = (g : GoldenNetwork) (played : List Played) (v : World) → PlaysGolden g played v
+    → AllByRecursion IsHonestThen played → PlaysFrom (network_world g) played v
 
 plays_none : (w : World) → Plays w [] w
 unfolding Plays
@@ -92,7 +93,7 @@ plays_none w = refl
 pub first_agrees : GoldenPlaysLaw → (motes : ℕ) (row : Row) → motes ≤ most_motes → IsDeclared row → WorldAgrees (first motes row)
 first_agrees law motes row few declared =
     let w : World = first_world (golden ∷ []) (line motes) none_narrow (replicate motes chip) in
-    let a = (law (codes "base") (codes "A") 0 motes (line motes) none_narrow [] w (record { is_row = golden_is; plays = plays_none w; few = few; links_fit = line_fits motes motes (omega arith); ranges = tt }) tt).agrees in
+    let a = (law (record { name = codes "base"; bytes = codes "A"; used = 0; motes = motes; links = line motes; narrow = none_narrow }) [] w (record { is_row = golden_is; plays = plays_none w; few = few; links_fit = line_fits motes motes (omega arith); ranges = tt }) tt).agrees in
     record { few = a.few; table = a.table; rows = (declared, tt); links = a.links; sites = a.sites; sent = a.sent }
 
 -- ---- the injection

@@ -9,7 +9,7 @@ use Rattle.dg_nor.specs.Device.{Device}
 use Rattle.dg_rounds.specs.Rounds.{times}
 use Rattle.dg_world.specs.declared.world.World.{World as KeptWorld}
 use Rattle.dg_trial.specs.Schedule.{Part, always, resets, disturbances, drawn}
-use Rattle.dg_trial.specs.Playing.{Plays, MayPlayOver, GoesOnLaw}
+use Rattle.dg_trial.specs.Playing.{PartsPlay, MayPlayOver, PartsGoOnLaw}
 use Rattle.dg_trial.specs.declared.playing.Stop.{Stop}
 use Rattle.dg_trial.proofs.PartLemmas.{SoFar, so_far_none, so_far_more, so_far_stop, may_next}
 use Rattle.dg_trial.proofs.ScheduleLemmas.{resets_none, resets_more, events_join, events_more, disturbances_none, disturbances_split, times_none, times_more}
@@ -41,21 +41,21 @@ fronts_within front piece f k n h =
 pub none_played : (front piece : ℕ → List Part) → Fronts front piece → (first : KeptWorld) (old : List Device) → SoFar (front 0) first first old old
 none_played front piece f first old = subst (λ (xs : List Part). SoFar xs first first old old) (sym f.none) (so_far_none first old)
 
-pub piece_may : GoesOnLaw → (front piece : ℕ → List Part) → Fronts front piece → (motes k n : ℕ) (first kept : KeptWorld) (old now : List Device) → k < n → MayPlayOver motes first old (front n) → SoFar (front k) first kept old now → MayPlayOver motes kept now (piece k)
+pub piece_may : PartsGoOnLaw → (front piece : ℕ → List Part) → Fronts front piece → (motes k n : ℕ) (first kept : KeptWorld) (old now : List Device) → k < n → MayPlayOver motes first old (front n) → SoFar (front k) first kept old now → MayPlayOver motes kept now (piece k)
 piece_may law front piece f motes k n first kept old now h m s =
     let at = fronts_within front piece f k n h in
     may_next law motes (front k) (piece k) at.0 (front n) first kept old now m s at.1
 
-pub piece_played : (front piece : ℕ → List Part) → Fronts front piece → (k : ℕ) (first k1 k2 : KeptWorld) (old mid now : List Device) → SoFar (front k) first k1 old mid → Plays (Ok tt) (piece k) k1 k2 mid now → SoFar (front (k + 1)) first k2 old now
+pub piece_played : (front piece : ℕ → List Part) → Fronts front piece → (k : ℕ) (first k1 k2 : KeptWorld) (old mid now : List Device) → SoFar (front k) first k1 old mid → PartsPlay (Ok tt) (piece k) k1 k2 mid now → SoFar (front (k + 1)) first k2 old now
 piece_played front piece f k first k1 k2 old mid now s played =
     subst (λ (xs : List Part). SoFar xs first k2 old now) (sym (f.more k)) (so_far_more (front k) (piece k) first k1 k2 old mid now s played)
 
-pub piece_stopped : (stop : Stop) (front piece : ℕ → List Part) → Fronts front piece → (k n : ℕ) (first k1 k2 : KeptWorld) (old mid now : List Device) → k < n → SoFar (front k) first k1 old mid → Plays (Err stop) (piece k) k1 k2 mid now → Plays (Err stop) (front n) first k2 old now
+pub piece_stopped : (stop : Stop) (front piece : ℕ → List Part) → Fronts front piece → (k n : ℕ) (first k1 k2 : KeptWorld) (old mid now : List Device) → k < n → SoFar (front k) first k1 old mid → PartsPlay (Err stop) (piece k) k1 k2 mid now → PartsPlay (Err stop) (front n) first k2 old now
 piece_stopped stop front piece f k n first k1 k2 old mid now h s played =
     let at = fronts_within front piece f k n h in
     so_far_stop stop (front k) (piece k) at.0 (front n) first k1 k2 old mid now s played at.1
 
-pub all_played : (front : ℕ → List Part) (k n : ℕ) (first kept : KeptWorld) (old now : List Device) → n ≤ k → k ≤ n → SoFar (front k) first kept old now → Plays (Ok tt) (front n) first kept old now
+pub all_played : (front : ℕ → List Part) (k n : ℕ) (first kept : KeptWorld) (old now : List Device) → n ≤ k → k ≤ n → SoFar (front k) first kept old now → PartsPlay (Ok tt) (front n) first kept old now
 all_played front k n first kept old now low high s =
     let e : k ≡ n = omega arith in
     (subst (λ (m : ℕ). SoFar (front m) first kept old now) e s).played
@@ -99,24 +99,24 @@ pub record EventsSoFar (all given left : List Event) (first kept : KeptWorld) (o
 pub events_none : (all left : List Event) (first : KeptWorld) (old : List Device) → left ≡ all → EventsSoFar all [] left first first old old
 events_none all left first old e = record { so_far = so_far_none first old; parts = e }
 
-pub event_may : GoesOnLaw → (motes : ℕ) (all given left others : List Event) (event : Event) (first kept : KeptWorld) (old now : List Device) → EventsSoFar all given left first kept old now → left ≡ event ∷ others → MayPlayOver motes first old (map always all) → MayPlayOver motes kept now (always event ∷ [])
+pub event_may : PartsGoOnLaw → (motes : ℕ) (all given left others : List Event) (event : Event) (first kept : KeptWorld) (old now : List Device) → EventsSoFar all given left first kept old now → left ≡ event ∷ others → MayPlayOver motes first old (map always all) → MayPlayOver motes kept now (always event ∷ [])
 event_may law motes all given left others event first kept old now s next m =
     may_next law motes (map always given) (always event ∷ []) (map always others) (map always all) first kept old now m s.so_far
     (events_join given others all event (ap (λ (xs : List Event). given ++ xs) (sym next) ∙ s.parts))
 
-pub event_played : (all given left others : List Event) (event : Event) (first k k2 : KeptWorld) (old mid now : List Device) → EventsSoFar all given left first k old mid → left ≡ event ∷ others → Plays (Ok tt) (always event ∷ []) k k2 mid now → EventsSoFar all (given ++ event ∷ []) others first k2 old now
+pub event_played : (all given left others : List Event) (event : Event) (first k k2 : KeptWorld) (old mid now : List Device) → EventsSoFar all given left first k old mid → left ≡ event ∷ others → PartsPlay (Ok tt) (always event ∷ []) k k2 mid now → EventsSoFar all (given ++ event ∷ []) others first k2 old now
 event_played all given left others event first k k2 old mid now s next played =
     record {
       so_far = subst (λ (xs : List Part). SoFar xs first k2 old now) (sym (events_more given event)) (so_far_more (map always given) (always event ∷ []) first k k2 old mid now s.so_far played);
       parts = append_assoc given (event ∷ []) others ∙ ap (λ (xs : List Event). given ++ xs) (sym next) ∙ s.parts;
     }
 
-pub event_stopped : (stop : Stop) (all given left others : List Event) (event : Event) (first k k2 : KeptWorld) (old mid now : List Device) → EventsSoFar all given left first k old mid → left ≡ event ∷ others → Plays (Err stop) (always event ∷ []) k k2 mid now → Plays (Err stop) (map always all) first k2 old now
+pub event_stopped : (stop : Stop) (all given left others : List Event) (event : Event) (first k k2 : KeptWorld) (old mid now : List Device) → EventsSoFar all given left first k old mid → left ≡ event ∷ others → PartsPlay (Err stop) (always event ∷ []) k k2 mid now → PartsPlay (Err stop) (map always all) first k2 old now
 event_stopped stop all given left others event first k k2 old mid now s next played =
     so_far_stop stop (map always given) (always event ∷ []) (map always others) (map always all) first k k2 old mid now s.so_far played
     (events_join given others all event (ap (λ (xs : List Event). given ++ xs) (sym next) ∙ s.parts))
 
-pub events_all : (all given left : List Event) (first kept : KeptWorld) (old now : List Device) → EventsSoFar all given left first kept old now → left ≡ [] → Plays (Ok tt) (map always all) first kept old now
+pub events_all : (all given left : List Event) (first kept : KeptWorld) (old now : List Device) → EventsSoFar all given left first kept old now → left ≡ [] → PartsPlay (Ok tt) (map always all) first kept old now
 events_all all given left first kept old now s none =
     (subst (λ (xs : List Event). SoFar (map always xs) first kept old now) (sym (append-nil given) ∙ ap (λ (xs : List Event). given ++ xs) (sym none) ∙ s.parts) s.so_far).played
 
@@ -147,5 +147,5 @@ five r i d s whole e =
 pub resting_split : (front d : List Part) (xs ys : List Event) → front ++ (d ++ (map always xs ++ map always ys)) ≡ front ++ (d ++ map always (xs ++ ys))
 resting_split front d xs ys = ap (λ (ps : List Part). front ++ (d ++ ps)) (sym (map-append always xs ys))
 
-pub played_so_far : (parts : List Part) (first kept : KeptWorld) (old now : List Device) → Plays (Ok tt) parts first kept old now → SoFar parts first kept old now
+pub played_so_far : (parts : List Part) (first kept : KeptWorld) (old now : List Device) → PartsPlay (Ok tt) parts first kept old now → SoFar parts first kept old now
 played_so_far parts first kept old now p = record { played = p }

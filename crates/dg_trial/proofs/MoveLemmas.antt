@@ -16,7 +16,7 @@ use Rattle.dg_base.specs.declared.events.Step.{Step}
 use Rattle.dg_script.specs.declared.report.Report.{Report}
 use Rattle.dg_rules.specs.World.{World, Site, Running, site, store_at, with_site, counted}
 use Rattle.dg_rules.specs.Steps.{WorldStep}
-use Rattle.dg_rules.specs.Ranges.{StepFits, EventFits}
+use Rattle.dg_rules.specs.Ranges.{StepInRange, EventInRange}
 use Rattle.dg_rules.specs.Premises.{WorldAgrees, TrueEvent}
 use Rattle.dg_rules.proofs.SiteLemmas.{site_there, site_other, site_count}
 use Rattle.dg_completion.specs.Rests.{IsFree}
@@ -31,7 +31,7 @@ use Rattle.dg_trial.proofs.RestartLemmas.{BootLaw, Restarted, restarted}
 
 pub record Laws : Type 0 where
   pub boots : BootLaw
-  pub agrees : (w v : World) (x : Step) (reports : List Report) → WorldAgrees w → StepFits (length w.sites) x → TrueEvent w x.event → WorldStep w x v reports → WorldAgrees v
+  pub agrees : (w v : World) (x : Step) (reports : List Report) → WorldAgrees w → StepInRange (length w.sites) x → TrueEvent w x.event → WorldStep w x v reports → WorldAgrees v
   pub free : FreeLaw
   pub spend : SpendLaw
 
@@ -123,8 +123,8 @@ Shakes x = (IsFree x.event × (x.cut ≡ None)) ⊎ IsReset x
 abbrev pub PartShakes : Part → Type 0
 PartShakes p = (sent : ℕ) → Shakes (p sent)
 
-reset_within : (n : ℕ) (e : Event) (m dt word : ℕ) → e ≡ Reset m dt word → EventFits n e → m < n
-reset_within n e m dt word is fits = subst (λ (x : Event). EventFits n x) is fits
+reset_within : (n : ℕ) (e : Event) (m dt word : ℕ) → e ≡ Reset m dt word → EventInRange n e → m < n
+reset_within n e m dt word is fits = subst (λ (x : Event). EventInRange n x) is fits
 
 true_reset : (w : World) (e : Event) (m dt word : ℕ) → e ≡ Reset m dt word → TrueEvent w e
 true_reset w e m dt word is = subst (λ (x : Event). TrueEvent w x) (sym is) tt
@@ -141,7 +141,7 @@ module _ (laws : Laws) where
   reset_restarts w v x reports m dt word is did =
       restarted laws.boots w v m dt word x.cut reports (subst (λ (e : Event). WorldStep w (record { event = e; cut = x.cut }) v reports) is did)
 
-  pub step_moves : (w v : World) (x : Step) (reports : List Report) → WorldAgrees w → StepFits (length w.sites) x → Shakes x → WorldStep w x v reports → Moves 5 w v
+  pub step_moves : (w v : World) (x : Step) (reports : List Report) → WorldAgrees w → StepInRange (length w.sites) x → Shakes x → WorldStep w x v reports → Moves 5 w v
   step_moves w v x reports good fits shakes did =
       ⊎_elim
       (λ f. free_moves laws w v x.event reports good f.0 (subst (λ (c : Option Cut). WorldStep w (record { event = x.event; cut = c }) v reports) f.1 did))
@@ -155,7 +155,7 @@ module _ (laws : Laws) where
   run_moves motes [] w v count good fits shake run = moves_none (5 * 0) w v good run
   run_moves motes (p ∷ ps) w v count good fits shake run =
       let n = length w.sent in
-      let fit : StepFits (length w.sites) (p n) = subst (λ (k : ℕ). StepFits k (p n)) (sym count) (fits.0 n) in
+      let fit : StepInRange (length w.sites) (p n) = subst (λ (k : ℕ). StepInRange k (p n)) (sym count) (fits.0 n) in
       let one = step_moves w run.0 (p n) run.1 good fit (shake.0 n) run.2 in
       let rest = run_moves motes ps run.0 v (one.count ∙ count) one.good fits.1 shake.1 run.3 in
       moves_then 5 (5 * length ps) (5 * length (p ∷ ps)) w run.0 v (omega arith) one rest

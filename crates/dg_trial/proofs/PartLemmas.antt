@@ -7,17 +7,17 @@ use Rattle.dg_nor.specs.Fuse.{beneath_of}
 use Rattle.dg_rules.specs.Sizes.{most_events}
 use Rattle.dg_rules.specs.World.{World}
 use Rattle.dg_rules.specs.Events.{mote_of}
-use Rattle.dg_rules.specs.Ranges.{StepFits}
+use Rattle.dg_rules.specs.Ranges.{StepInRange}
 use Rattle.dg_rules.specs.Golden.{WorldKeepsGolden}
 use Rattle.dg_rules.specs.Steps.{WorldStep, EndsRun}
 use Rattle.dg_script.specs.declared.report.Report.{Report}
 use Rattle.dg_world.specs.Worlds.{IsWorld}
 use Rattle.dg_world.specs.Counts.{NoneRose}
-use Rattle.dg_world.specs.Applied.{Applied, OneBoard, FlashAt, Ended}
+use Rattle.dg_world.specs.Applied.{Applied, OneBoard, FlashAt, RunEnded}
 use Rattle.dg_world.specs.declared.world.World.{World as KeptWorld}
 use Rattle.dg_world.proofs.CountLemmas.{NoneRose_then}
 use Rattle.dg_trial.specs.Schedule.{Part, only}
-use Rattle.dg_trial.specs.Playing.{LeadsTo, WorldStands, StopsInStep, StopsInPart, PartsPlayed, PartsBegun, PartsPlayedAs, Plays, MayPlay, MayPlayOver, GoesOnLaw}
+use Rattle.dg_trial.specs.Playing.{LeadsTo, WorldStands, StopsInStep, StopsInPart, PartsPlayed, PartsBegun, PartsPlayedAs, PartsPlay, MayPlay, MayPlayOver, PartsGoOnLaw}
 use Rattle.dg_trial.specs.declared.playing.Stop.{Stop}
 use Rattle.dg_trial.specs.declared.playing.Stop.TheVariants.{Memory, Flash}
 use Rattle.dg_trial.proofs.RunLemmas.{step_counts, event_within, leads_none, leads_one, leads_then, may_front}
@@ -71,11 +71,11 @@ begun_none w parts P there = record { begun = []; left = parts; split = refl; wo
 sites_same : (k : KeptWorld) (boards : List Device) (w z : World) → IsWorld k boards w → IsWorld k boards z → length w.sites ≡ length z.sites
 sites_same k boards w z a b = a.motes ∙ sym b.motes
 
-pub step_fits : (motes : ℕ) (w : World) (x : Step) → MayPlay motes w (only x) → StepFits (length w.sites) x
-step_fits motes w x may = subst (λ (n : ℕ). StepFits n x) (sym may.count) (may.fits.0 0)
+pub step_fits : (motes : ℕ) (w : World) (x : Step) → MayPlay motes w (only x) → StepInRange (length w.sites) x
+step_fits motes w x may = subst (λ (n : ℕ). StepInRange n x) (sym may.count) (may.fits.0 0)
 
 -- what a call that applies a step asks for
-pub may_apply : (motes : ℕ) (k : KeptWorld) (boards : List Device) (x : Step) → MayPlayOver motes k boards (only x) → (w : World) × IsWorld k boards w × StepFits (length w.sites) x
+pub may_apply : (motes : ℕ) (k : KeptWorld) (boards : List Device) (x : Step) → MayPlayOver motes k boards (only x) → (w : World) × IsWorld k boards w × StepInRange (length w.sites) x
 may_apply motes k boards x m = (m.world, m.is, step_fits motes m.world x m.may)
 
 step_within : (motes : ℕ) (k : KeptWorld) (old : List Device) (w : World) (x : Step) → IsWorld k old w → MayPlayOver motes k old (only x) → mote_of x.event < length w.sites
@@ -118,7 +118,7 @@ may_only motes k old x p m at =
         count = m.may.count;
         few = m.may.few;
         sent = m.may.sent;
-        fits = (λ sent. subst (λ (y : Step). StepFits motes y) at (m.may.fits.0 (length m.world.sent)), tt);
+        fits = (λ sent. subst (λ (y : Step). StepInRange motes y) at (m.may.fits.0 (length m.world.sent)), tt);
       };
     }
 
@@ -127,7 +127,7 @@ pub not_full : (motes : ℕ) (k : KeptWorld) (old : List Device) (x : Step) (m :
 not_full motes k old x m e = let few = m.may.few in omega (arith, few, e)
 
 -- and finds an image
-pub not_lacking : ((w v : World) (x : Step) → WorldKeepsGolden w → StepFits (length w.sites) x → EndsRun w x v → ⊥) → (motes : ℕ) (k : KeptWorld) (old new : List Device) (x : Step) (m : MayPlayOver motes k old (only x)) → Ended m.world x old new → ⊥
+pub not_lacking : ((w v : World) (x : Step) → WorldKeepsGolden w → StepInRange (length w.sites) x → EndsRun w x v → ⊥) → (motes : ℕ) (k : KeptWorld) (old new : List Device) (x : Step) (m : MayPlayOver motes k old (only x)) → RunEnded m.world x old new → ⊥
 not_lacking law motes k old new x m e = law m.world e.world x m.may.keeps (step_fits motes m.world x m.may) e.ends
 
 -- ---- parts behind others
@@ -143,7 +143,7 @@ played_join : (w : World) (xs ys : List Part) (k k2 : KeptWorld) (initial mid no
 played_join w xs ys k k2 initial mid now a b =
     record { world = b.world; run = leads_then w a.world b.world xs ys a.run b.run; kept_now = b.kept_now; boards = b.boards }
 
-pub so_far_more : (xs ys : List Part) (first k k2 : KeptWorld) (old mid now : List Device) → SoFar xs first k old mid → Plays (Ok tt) ys k k2 mid now → SoFar (xs ++ ys) first k2 old now
+pub so_far_more : (xs ys : List Part) (first k k2 : KeptWorld) (old mid now : List Device) → SoFar xs first k old mid → PartsPlay (Ok tt) ys k k2 mid now → SoFar (xs ++ ys) first k2 old now
 so_far_more xs ys first k k2 old mid now s played =
     record { played = λ w initial is stands. let a = s.played w initial is stands in played_join w xs ys k k2 initial mid now a (played a.world initial a.kept_now a.boards) }
 
@@ -167,13 +167,13 @@ stopped_later Flash w xs ys more whole k k2 initial mid now a b is =
     begun_later w a.world xs ys more whole (λ v left. StopsInPart v left initial now) (λ v left. StopsInPart v left initial now) a.run b is
     (λ v left h. record { part = h.part; more = h.more ++ more; next = ap (λ (zs : List Part). zs ++ more) h.next; stops = h.stops })
 
-pub so_far_stop : (stop : Stop) (xs ys more whole : List Part) (first k k2 : KeptWorld) (old mid now : List Device) → SoFar xs first k old mid → Plays (Err stop) ys k k2 mid now → xs ++ (ys ++ more) ≡ whole → Plays (Err stop) whole first k2 old now
+pub so_far_stop : (stop : Stop) (xs ys more whole : List Part) (first k k2 : KeptWorld) (old mid now : List Device) → SoFar xs first k old mid → PartsPlay (Err stop) ys k k2 mid now → xs ++ (ys ++ more) ≡ whole → PartsPlay (Err stop) whole first k2 old now
 so_far_stop stop xs ys more whole first k k2 old mid now s played is w initial at stands =
     let a = s.played w initial at stands in
     stopped_later stop w xs ys more whole k k2 initial mid now a (played a.world initial a.kept_now a.boards) (sym is)
 
 -- the next parts may be played
-pub may_next : GoesOnLaw → (motes : ℕ) (xs ys more whole : List Part) (first k : KeptWorld) (old mid : List Device) → MayPlayOver motes first old whole → SoFar xs first k old mid → xs ++ (ys ++ more) ≡ whole → MayPlayOver motes k mid ys
+pub may_next : PartsGoOnLaw → (motes : ℕ) (xs ys more whole : List Part) (first k : KeptWorld) (old mid : List Device) → MayPlayOver motes first old whole → SoFar xs first k old mid → xs ++ (ys ++ more) ≡ whole → MayPlayOver motes k mid ys
 may_next law motes xs ys more whole first k old mid m s is =
     let a = s.played m.world m.initial m.is m.stands in
     record {

@@ -15,7 +15,7 @@ use Rattle.dg_base.specs.declared.events.Event.{Event}
 use Rattle.dg_rounds.specs.Rounds.{times, sweep, rounds_of}
 use Rattle.dg_rounds.specs.Ways.{Way}
 use Rattle.dg_script.specs.Places.{none_narrow}
-use Rattle.dg_rules.specs.World.{World, Site, wide_in, wide_at, store_at, no_site}
+use Rattle.dg_rules.specs.World.{World, Site, is_wide_mote, wide_at, store_at, no_site}
 use Rattle.dg_rules.specs.Premises.{WorldAgrees}
 use Rattle.dg_completion.specs.Rests.{IsFree, IsRest}
 use Rattle.dg_completion.specs.Completion.{Follows, FreeLaw, IsOn, newest, largest, page_count, pages_of, IsEnoughFor, IsEnoughOver, IsEnough, AllWithin, CompletionLaw}
@@ -137,7 +137,7 @@ module _ (name bytes : List ℕ) where
       all_wide : (m : ℕ) → m < length w.sites → wide_at w m ≡ true
       all_wide m h =
           let low : m < 16 = let n = good.few in omega (arith, h, n) in
-          ap (λ (l : List Bool). wide_in l m) narrow ∙ ap not (get_or-replicate 16 m false false low)
+          ap (λ (l : List Bool). is_wide_mote l m) narrow ∙ ap not (get_or-replicate 16 m false false low)
 
       room_left : (m : ℕ) → m < length w.sites → 3 ≤ (store_at v m).room
       room_left m h =

@@ -9,12 +9,12 @@ use Rattle.dg_frame.specs.declared.Message.{Message}
 use Rattle.dg_script.specs.declared.report.Report.{Report}
 use Rattle.dg_rules.specs.World.{World, counted, Sent}
 use Rattle.dg_rules.specs.Events.{Does, Refuses, Goes, Deed, does, mote_of, dt_of}
-use Rattle.dg_rules.specs.Ranges.{EventFits, StepFits}
+use Rattle.dg_rules.specs.Ranges.{EventInRange, StepInRange}
 use Rattle.dg_rules.specs.Golden.{WorldKeepsGolden}
 use Rattle.dg_rules.specs.Steps.{WorldStep, StepDoes, Ended, blows, and_sent}
 use Rattle.dg_rules.proofs.SiteLemmas.{site_count}
 use Rattle.dg_trial.specs.Schedule.{Part}
-use Rattle.dg_trial.specs.Playing.{LeadsTo, MayPlay, PartFits, GoesOnLaw}
+use Rattle.dg_trial.specs.Playing.{LeadsTo, MayPlay, PartFits, PartsGoOnLaw}
 
 -- ---- one step
 
@@ -53,7 +53,7 @@ pub step_counts : (w v : World) (x : Step) (reports : List Report) → WorldStep
 unfolding WorldStep
 step_counts w v x reports step = does_counts (does w x.event) w x v reports step
 
-pub event_within : (n : ℕ) (event : Event) → EventFits n event → mote_of event < n
+pub event_within : (n : ℕ) (event : Event) → EventInRange n event → mote_of event < n
 event_within n (Tick mote dt word) h = h
 event_within n (Hear mote dt word frame) h = h.0
 event_within n (Last from to dt word) h = h.1
@@ -95,16 +95,16 @@ leads_events w v (x ∷ xs) e =
 
 -- golden stays where it is kept
 abbrev pub GoldenLaw : Type 0
-GoldenLaw = (w v : World) (x : Step) (reports : List Report) → WorldKeepsGolden w → StepFits (length w.sites) x → WorldStep w x v reports → WorldKeepsGolden v
+GoldenLaw = (w v : World) (x : Step) (reports : List Report) → WorldKeepsGolden w → StepInRange (length w.sites) x → WorldStep w x v reports → WorldKeepsGolden v
 
-pub goes_on : GoldenLaw → GoesOnLaw
+pub goes_on : GoldenLaw → PartsGoOnLaw
 unfolding LeadsTo
 goes_on law motes w v [] ys may e = subst (λ (z : World). MayPlay motes z ys) e may
 goes_on law motes w v (x ∷ xs) ys may e =
     let here = step_counts w e.0 (x (length w.sent)) e.1 e.2 in
     goes_on law motes e.0 v xs ys
     (record {
-      keeps = law w e.0 (x (length w.sent)) e.1 may.keeps (subst (λ (n : ℕ). StepFits n (x (length w.sent))) (sym may.count) (may.fits.0 (length w.sent))) e.2;
+      keeps = law w e.0 (x (length w.sent)) e.1 may.keeps (subst (λ (n : ℕ). StepInRange n (x (length w.sent))) (sym may.count) (may.fits.0 (length w.sent))) e.2;
       count = here.sites ∙ may.count;
       few = omega (arith, here.events, may.few);
       sent = omega (arith, here.events, here.sent, may.sent);

@@ -24,9 +24,10 @@ use Rattle.dg_rules.specs.Changes.{final_lines}
 use Rattle.dg_trial.specs.Lines.{tells_whole}
 use Rattle.dg_trial.specs.Trials.{keeps_all, wholes}
 use Rattle.dg_trial.proofs.SummaryLemmas.{world_told, page_count_is}
-use Rattle.dg_trial.specs.Schedule.{Part, always, line, resets, opening, disturbances, seeded, row_by, row_of_seed, schedule, sweeps_of}
-use Rattle.dg_trial.specs.Playing.{golden, chip, first, LeadsTo, MayPlay, WorldStands, Plays, PartsBegun, StopsInPart, MayPlayOver}
-use Rattle.dg_trial.specs.Trials.{begins, Formatted, FormatEnds, Front, SchedulePlayed, ScheduleEnds, RunEnds, TrialRun, StopsReading, Unplayed}
+use Rattle.dg_seed.specs.Words.{first_generator}
+use Rattle.dg_trial.specs.Schedule.{Part, always, line, resets, opening, disturbances, row_by, row_of_seed, schedule, sweep_count}
+use Rattle.dg_trial.specs.Playing.{golden, chip, first, LeadsTo, MayPlay, WorldStands, PartsPlay, PartsBegun, StopsInPart, MayPlayOver}
+use Rattle.dg_trial.specs.Trials.{begins, Formatted, FormatEnds, Front, SchedulePlayed, ScheduleEnds, TrialOutcome, TrialRun, StopsReading, Unplayed}
 use Rattle.dg_trial.specs.declared.playing.Stop.{Stop}
 use Rattle.dg_trial.specs.declared.playing.Stop.TheVariants as stop
 use Rattle.dg_trial.proofs.RunLemmas.{leads_none, leads_sites}
@@ -39,13 +40,13 @@ use Rattle.dg_trial.proofs.BeginLemmas.{length_first, first_stands, first_may}
 abbrev parts_by : (motes s : ℕ) → Lcg → List (ℕ × ℕ) → List Part
 parts_by motes s g links = opening motes ++ (disturbances motes (100 * motes) g ++ map always (resets motes ++ times s (sweep links)))
 
-pub parts_are : (motes pages seed s : ℕ) (g : Lcg) (links : List (ℕ × ℕ)) → links ≡ line motes → s ≡ sweeps_of motes pages → g ≡ (pcg32 (seeded seed)).1 → parts_by motes s g links ≡ schedule motes pages seed
+pub parts_are : (motes pages seed s : ℕ) (g : Lcg) (links : List (ℕ × ℕ)) → links ≡ line motes → s ≡ sweep_count motes pages → g ≡ (pcg32 (first_generator seed)).1 → parts_by motes s g links ≡ schedule motes pages seed
 parts_are motes pages seed s g links a b c =
-    ap (λ (ls : List (ℕ × ℕ)). parts_by motes s g ls) a ∙ ap (λ (n : ℕ). parts_by motes n g (line motes)) b ∙ ap (λ (x : Lcg). parts_by motes (sweeps_of motes pages) x (line motes)) c
+    ap (λ (ls : List (ℕ × ℕ)). parts_by motes s g ls) a ∙ ap (λ (n : ℕ). parts_by motes n g (line motes)) b ∙ ap (λ (x : Lcg). parts_by motes (sweep_count motes pages) x (line motes)) c
 
-pub row_drawn : (pages seed word : ℕ) (g start : Lcg) → (word, g) ≡ pcg32 start → start ≡ seeded seed → (row_by pages seed word ≡ row_of_seed pages seed) × (g ≡ (pcg32 (seeded seed)).1)
+pub row_drawn : (pages seed word : ℕ) (g start : Lcg) → (word, g) ≡ pcg32 start → start ≡ first_generator seed → (row_by pages seed word ≡ row_of_seed pages seed) × (g ≡ (pcg32 (first_generator seed)).1)
 row_drawn pages seed word g start e at =
-    let h : (word, g) ≡ pcg32 (seeded seed) = e ∙ ap pcg32 at in
+    let h : (word, g) ≡ pcg32 (first_generator seed) = e ∙ ap pcg32 at in
     (ap (λ (x : ℕ × Lcg). row_by pages seed x.0) h, ap (λ (x : ℕ × Lcg). x.1) h)
 
 -- the schedule may be played behind the beginning
@@ -73,14 +74,14 @@ unstarted motes pages seed old new f =
 
 -- what came of playing it
 pub schedule_played : (motes pages seed s : ℕ) (g : Lcg) (links : List (ℕ × ℕ)) (row : Row) (v k : KeptWorld) (old mid new : List Device) → parts_by motes s g links ≡ schedule motes pages seed → row ≡ row_of_seed pages seed
-    → Formatted motes old mid → IsWorld v mid (first motes row) → Plays (Ok tt) (parts_by motes s g links) v k mid new → SchedulePlayed motes pages seed k old new
+    → Formatted motes old mid → IsWorld v mid (first motes row) → PartsPlay (Ok tt) (parts_by motes s g links) v k mid new → SchedulePlayed motes pages seed k old new
 schedule_played motes pages seed s g links row v k old mid new parts e f is plays =
     let p = plays (first motes row) old is (first_stands motes row old mid f) in
     let run : TrialRun motes pages seed p.world = subst (λ (r : Row). LeadsTo (first motes r) (schedule motes pages seed) p.world) e (subst (λ (ps : List Part). LeadsTo (first motes row) ps p.world) parts p.run) in
     record { world = p.world; run = run; kept_now = p.kept_now; boards = p.boards; count = leads_sites (first motes row) p.world (parts_by motes s g links) p.run ∙ length_first motes row }
 
 pub schedule_stopped : (why : Stop) (motes pages seed s : ℕ) (g : Lcg) (links : List (ℕ × ℕ)) (row : Row) (v k : KeptWorld) (old mid new : List Device) → parts_by motes s g links ≡ schedule motes pages seed → row ≡ row_of_seed pages seed
-    → Formatted motes old mid → IsWorld v mid (first motes row) → Plays (Err why) (parts_by motes s g links) v k mid new → ScheduleEnds (Err why) motes pages seed old new
+    → Formatted motes old mid → IsWorld v mid (first motes row) → PartsPlay (Err why) (parts_by motes s g links) v k mid new → ScheduleEnds (Err why) motes pages seed old new
 schedule_stopped stop.Memory motes pages seed s g links row v k old mid new parts e f is plays =
     let p = plays (first motes row) old is (first_stands motes row old mid f) in
     let P : World → List Part → Type 0 = λ w left. WorldStands w old new in
@@ -168,6 +169,6 @@ linked_is motes v links old new enough e f is =
     subst (λ (ls : List (ℕ × ℕ)). IsWorld v new (first_world (golden ∷ []) ls none_narrow (replicate motes chip))) e (is new (omega (arith, count, enough)) f.stands)
 
 -- it was stopped before the reading
-pub run_stopped : (e : Stop) (motes pages seed : ℕ) (old new : List Device) → ScheduleEnds (Err e) motes pages seed old new → RunEnds (Err e) motes pages seed old new
+pub run_stopped : (e : Stop) (motes pages seed : ℕ) (old new : List Device) → ScheduleEnds (Err e) motes pages seed old new → TrialOutcome (Err e) motes pages seed old new
 run_stopped stop.Memory motes pages seed old new h = h
 run_stopped stop.Flash motes pages seed old new h = ⊎_elim (λ a. inl a) (λ b. inr (inl b)) h

@@ -19,7 +19,8 @@ use Rattle.dg_script.specs.declared.report.Report.{Report}
 use Rattle.dg_completion.specs.Rests.{IsRest}
 use Rattle.dg_completion.specs.Completion.{newest, page_count, pages_of, CompletionLaw}
 use Rattle.dg_completion.specs.Holders.{WithinLaw, EnoughLaw}
-use Rattle.dg_trial.specs.Schedule.{Part, uncut, always, line, resets, beside, cut_reset, disturbed_at, disturbances, opening, schedule, seeded, sweeps_of, row_by, row_of_seed}
+use Rattle.dg_seed.specs.Words.{first_generator}
+use Rattle.dg_trial.specs.Schedule.{Part, always, line, resets, beside, cut_reset, disturbed_at, disturbances, opening, schedule, sweep_count, row_by, row_of_seed}
 use Rattle.dg_trial.specs.Playing.{golden, chip, first, LeadsTo}
 use Rattle.dg_trial.specs.Trials.{AllKeep, WholeLaw, wholes}
 use Rattle.dg_trial.proofs.RunLemmas.{leads_apart, leads_sites}
@@ -29,6 +30,7 @@ use Rattle.dg_trial.proofs.SummaryLemmas.{page_count_is}
 use Rattle.dg_trial.proofs.MoveLemmas.{Laws, Moves, Shakes, PartShakes, ResetRun, run_moves, resets_run}
 use Rattle.dg_trial.proofs.InjectionLemmas.{GoldenPlaysLaw, InjectLaw, Injected, first_agrees, trial_declared, at_most, at_least, is_injected}
 use Rattle.dg_trial.proofs.RestLemmas.{newest_one, all_whole, count_whole}
+use Rattle.dg_world.specs.Alone.{uncut}
 
 -- ---- disturbances
 
@@ -119,7 +121,7 @@ module _ (laws : WholeLaws) (motes pages seed word : ℕ) (g : Lcg) (some : 2 �
   begin = first motes image
 
   abbrev k : ℕ
-  k = sweeps_of motes pages
+  k = sweep_count motes pages
 
   abbrev ds : List Part
   ds = disturbances motes (100 * motes) g
@@ -206,8 +208,8 @@ module _ (laws : WholeLaws) (motes pages seed word : ℕ) (g : Lcg) (some : 2 �
 
 pub whole_law : WholeLaws → WholeLaw
 whole_law laws motes pages seed v some few some_pages few_pages run =
-    let word = (pcg32 (seeded seed)).0 in
-    let g = (pcg32 (seeded seed)).1 in
+    let word = (pcg32 (first_generator seed)).0 in
+    let g = (pcg32 (first_generator seed)).1 in
     let count = leads_sites (first motes (row_of_seed pages seed)) v (schedule motes pages seed) run ∙ length_first motes (row_of_seed pages seed) in
     whole_then laws motes pages seed word g some few some_pages few_pages v
-    (in_parts motes (sweeps_of motes pages) (disturbances motes (100 * motes) g) (first motes (row_of_seed pages seed)) v run) count
+    (in_parts motes (sweep_count motes pages) (disturbances motes (100 * motes) g) (first motes (row_of_seed pages seed)) v run) count

@@ -1,5 +1,6 @@
 -- Playing a schedule: runs of its parts, and the boards meanwhile.
-use Rattle.std.specs.Prelude.{◌≡◌, ◌≢◌, ◌⊎◌, ℕ, ◌+◌, ◌-◌, ◌<◌, ◌≤◌, true, false, List, [], ◌∷◌, ◌++◌, length, replicate, slice_get, codes, Some, IfSome, Result, Ok, Err}
+use Rattle.std.specs.Prelude.{◌≡◌, ◌≢◌, ◌⊎◌, ℕ, ◌+◌, ◌-◌, ◌<◌, ◌≤◌, true, false, List, [], ◌∷◌, ◌++◌, length, replicate}
+use Rattle.std.specs.Prelude.{slice_get, codes, Some, IfSome, Result, Ok, Err}
 use Rattle.std.specs.List.{AllByRecursion}
 use Rattle.dg_words.specs.Counts.{Rose}
 use Rattle.dg_nor.specs.Device.{Device, Endures}
@@ -15,7 +16,7 @@ use Rattle.dg_rules.specs.Sizes.{most_events}
 use Rattle.dg_rules.specs.World.{World, store_at, first_world}
 use Rattle.dg_rules.specs.Events.{does, mote_of, trail_of}
 use Rattle.dg_rules.specs.Steps.{WorldStep}
-use Rattle.dg_rules.specs.Ranges.{StepFits}
+use Rattle.dg_rules.specs.Ranges.{StepInRange}
 use Rattle.dg_rules.specs.Golden.{WorldKeepsGolden}
 use Rattle.dg_world.specs.Counts.{NoneRose}
 use Rattle.dg_world.specs.Worlds.{IsWorld}
@@ -47,9 +48,11 @@ first motes row = record (first_world (golden ∷ []) (line motes) none_narrow (
 -- No count of a board fell, and a board is stopped only where it was, or where its count rose.
 pub record BoardsEndure (old new : List Device) : Type 0 where
   pub count : length new ≡ length old
-  pub endures : (m : ℕ) (a b : Device) → slice_get old m ≡ Some a → slice_get new m ≡ Some b → Endures (beneath_of a) (beneath_of b)
+  pub endures : (m : ℕ) (a b : Device) → slice_get old m ≡ Some a → slice_get new m ≡ Some b
+      → Endures (beneath_of a) (beneath_of b)
 
--- The boards of a world's motes stand for its stores, and did not come stopped. All others are as before, and no board's count rose.
+-- The boards of a world's motes stand for its stores, and did not come stopped. All others are as before,
+-- and no board's count rose.
 pub record WorldStands (w : World) (old new : List Device) : Type 0 where
   pub all : BoardsEndure old new
   pub calm : NoneRose old new
@@ -68,8 +71,8 @@ pub record BoardStopped (motes : ℕ) (old new : List Device) : Type 0 where
   pub stopped : after.stopped ≡ true
   pub cause : (before.stopped ≡ true) ⊎ Rose before.faults after.faults
 
--- A board stopped in a step: it stands for a store that the event's trail leaves where so many operations were done, and a cut did
--- not come before. All other boards are as they were before the step.
+-- A board stopped in a step: it stands for a store that the event's trail leaves where so many operations were done,
+-- and a cut did not come before. All other boards are as they were before the step.
 pub record StopsInStep (w : World) (x : Step) (old new : List Device) : Type 0 where
   pub stopped : BoardStopped (length w.sites) old new
   pub at : stopped.board ≡ mote_of x.event
@@ -77,7 +80,8 @@ pub record StopsInStep (w : World) (x : Step) (old new : List Device) : Type 0 w
   pub within : made ≤ operations (trail_of (does w x.event) (store_at w (mote_of x.event)))
   pub uncut : IfSome x.cut (λ cut. made ≤ cut.after - 1)
   pub leaves : MayLeave Stands IsNear (trail_of (does w x.event) (store_at w (mote_of x.event))) made stopped.after.image
-  pub stands : (m : ℕ) (d : Device) → m < length w.sites → m ≢ stopped.board → slice_get new m ≡ Some d → Stands d.image (store_at w m)
+  pub stands : (m : ℕ) (d : Device) → m < length w.sites → m ≢ stopped.board → slice_get new m ≡ Some d
+      → Stands d.image (store_at w m)
   pub others : (m : ℕ) → length w.sites ≤ m → slice_get new m ≡ slice_get old m
 
 -- ---- what playing answers
@@ -111,14 +115,15 @@ PartsPlayedAs (Err Memory) w parts kept initial now = PartsBegun w parts (λ v l
 PartsPlayedAs (Err Flash) w parts kept initial now = PartsBegun w parts (λ v left. StopsInPart v left initial now)
 
 -- playing parts answers this, from a kept world and boards to these, whatever world they stood for
-abbrev pub Plays : Result (Unit {0}) Stop → List Part → (first kept : KeptWorld) → (old now : List Device) → Type 0
-Plays result parts first kept old now = (w : World) (initial : List Device) → IsWorld first old w → WorldStands w initial old → PartsPlayedAs result w parts kept initial now
+abbrev pub PartsPlay : Result (Unit {0}) Stop → List Part → (first kept : KeptWorld) → (old now : List Device) → Type 0
+PartsPlay result parts first kept old now = (w : World) (initial : List Device) → IsWorld first old w
+    → WorldStands w initial old → PartsPlayedAs result w parts kept initial now
 
 -- ---- what may be played
 
 -- the numbers of a part are in their ranges, for so many motes
 abbrev pub PartFits : ℕ → Part → Type 0
-PartFits motes p = (sent : ℕ) → StepFits motes (p sent)
+PartFits motes p = (sent : ℕ) → StepInRange motes (p sent)
 
 -- These parts may be played from world w, which has so many motes: golden is found, and the events are few enough.
 pub record MayPlay (motes : ℕ) (w : World) (parts : List Part) : Type 0 where
@@ -137,5 +142,5 @@ pub record MayPlayOver (motes : ℕ) (kept : KeptWorld) (boards : List Device) (
   pub may : MayPlay motes world parts
 
 -- Behind parts that were played those that follow may be played.
-abbrev pub GoesOnLaw : Type 0
-GoesOnLaw = (motes : ℕ) (w v : World) (xs ys : List Part) → MayPlay motes w (xs ++ ys) → LeadsTo w xs v → MayPlay motes v ys
+abbrev pub PartsGoOnLaw : Type 0
+PartsGoOnLaw = (motes : ℕ) (w v : World) (xs ys : List Part) → MayPlay motes w (xs ++ ys) → LeadsTo w xs v → MayPlay motes v ys

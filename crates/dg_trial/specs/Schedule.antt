@@ -1,10 +1,11 @@
--- The schedule of a trial: its steps in their order, made from a seed. A disturbance may look at how many frames were sent before it.
-use Rattle.std.specs.Prelude.{ℕ, zero, suc, ◌+◌, ◌-◌, ◌*◌, ◌/◌, ◌%◌, ◌==◌, nat_lt, if◌then◌else◌, List, [], ◌∷◌, ◌++◌, map, codes, Some, None}
+-- The schedule of a trial: its steps in their order, made from a seed.
+-- A disturbance may look at how many frames were sent before it.
+use Rattle.std.specs.Prelude.{ℕ, zero, suc, ◌+◌, ◌-◌, ◌*◌, ◌/◌, ◌%◌, ◌==◌, nat_lt, if◌then◌else◌, List, [], ◌∷◌, ◌++◌, map, codes}
+use Rattle.std.specs.Prelude.{Some}
 use Rattle.std.proofs.Common.{lit≤}
 use Rattle.std.proofs.Math.Nat.{le-add_right}
-use Rattle.rand_core.specs.Pcg32Seed.{pcg32_seed}
 use Rattle.rand_pcg.specs.Lcg.{Lcg}
-use Rattle.rand_pcg.specs.Pcg.{pcg32, pcg32_of_seed}
+use Rattle.rand_pcg.specs.Pcg.{pcg32}
 use Rattle.dg_base.specs.declared.events.Cut.{Cut}
 use Rattle.dg_base.specs.declared.events.Event.{Event}
 use Rattle.dg_base.specs.declared.events.Event.TheVariants.{Tick, Hear, Last, Reset, Inject}
@@ -13,14 +14,12 @@ use Rattle.dg_object.specs.Object.{Row, row_of}
 use Rattle.dg_object.specs.Sizes.{page_size}
 use Rattle.dg_rounds.specs.Rounds.{times, sweep}
 use Rattle.dg_script.specs.Contents.{generated}
+use Rattle.dg_seed.specs.Words.{first_generator}
+use Rattle.dg_world.specs.Alone.{uncut}
 
 -- a step, where so many frames were sent before it
 abbrev pub Part : Type 0
 Part = ℕ → Step
-
--- an event whose power is not cut
-abbrev pub uncut : Event → Step
-uncut event = record { event = event; cut = None }
 
 -- it is the same however many frames were sent
 abbrev pub always : Event → Part
@@ -44,8 +43,8 @@ resets zero = []
 resets (suc n) = resets n ++ Reset n 0 0 ∷ []
 
 -- one for each page, and one for each link but the first
-abbrev pub sweeps_of : (motes pages : ℕ) → ℕ
-sweeps_of motes pages = pages + motes - 2
+abbrev pub sweep_count : (motes pages : ℕ) → ℕ
+sweep_count motes pages = pages + motes - 2
 
 -- ---- what the words of the seed choose
 
@@ -62,13 +61,13 @@ abbrev pub beside : (motes a : ℕ) → ℕ
 beside motes a = if a + 1 == motes then a - 1 else a + 1
 
 -- the cut in the operation that one word chooses, with the mask that the other one chooses
-abbrev pub cut_by : (w2 w3 : ℕ) → Cut
-cut_by w2 w3 =
+abbrev pub drawn_cut : (w2 w3 : ℕ) → Cut
+drawn_cut w2 w3 =
     record { after = 1 + w2 % 64; mask = (w3 % 256) ∷ []; numbered = le-add_right 1 (w2 % 64); some = lit≤ tt; within = lit≤ tt }
 
 -- A mote is reset, and its power is cut.
 abbrev pub cut_reset : (mote w2 w3 : ℕ) → Step
-cut_reset mote w2 w3 = record { event = Reset mote 0 w3; cut = Some (cut_by w2 w3) }
+cut_reset mote w2 w3 = record { event = Reset mote 0 w3; cut = Some (drawn_cut w2 w3) }
 
 -- Of eight disturbances at a mote four are ticks. In two it hears the last frame of the next mote, in one any frame that
 -- was sent, or one more, and in one it is reset and its power is cut.
@@ -99,24 +98,20 @@ drawn (suc n) g = drawn n (pcg32 (pcg32 (pcg32 g).1).1).1
 
 -- ---- the whole schedule
 
--- the generator of a seed
-abbrev pub seeded : ℕ → Lcg
-seeded seed = pcg32_of_seed (pcg32_seed 16 seed)
-
 -- the image that the first word of the seed chooses
 abbrev pub row_of_seed : (pages seed : ℕ) → Row
-row_of_seed pages seed = row_by pages seed (pcg32 (seeded seed)).0
+row_of_seed pages seed = row_by pages seed (pcg32 (first_generator seed)).0
 
 -- each mote is started, and the image is injected into the first
 abbrev pub opening : (motes : ℕ) → List Part
 opening motes = map always (resets motes) ++ always (Inject 0 1 1 0 0) ∷ []
 
 abbrev pub shaking : (motes seed : ℕ) → List Part
-shaking motes seed = disturbances motes (100 * motes) (pcg32 (seeded seed)).1
+shaking motes seed = disturbances motes (100 * motes) (pcg32 (first_generator seed)).1
 
 -- each mote is started again, and sweeps follow
-abbrev pub resting : (motes pages : ℕ) → List Event
-resting motes pages = resets motes ++ times (sweeps_of motes pages) (sweep (line motes))
+abbrev pub rest_events : (motes pages : ℕ) → List Event
+rest_events motes pages = resets motes ++ times (sweep_count motes pages) (sweep (line motes))
 
 abbrev pub schedule : (motes pages seed : ℕ) → List Part
-schedule motes pages seed = opening motes ++ (shaking motes seed ++ map always (resting motes pages))
+schedule motes pages seed = opening motes ++ (shaking motes seed ++ map always (rest_events motes pages))

@@ -1,5 +1,6 @@
 -- What a trial did, and what it tells.
-use Rattle.std.specs.Prelude.{◌≡◌, ◌⊎◌, ℕ, ◌<◌, ◌≤◌, nat_le, Bool, false, List, [], ◌∷◌, ◌++◌, length, codes, slice_get, count_by, Option, Some, Result, Ok, Err}
+use Rattle.std.specs.Prelude.{◌≡◌, ◌⊎◌, ℕ, ◌<◌, ◌≤◌, nat_le, Bool, false, List, [], ◌∷◌, ◌++◌, length, codes, slice_get, count_by}
+use Rattle.std.specs.Prelude.{Option, Some, Result, Ok, Err}
 use Rattle.std.specs.Fmt.{decimal}
 use Rattle.dg_words.specs.Counts.{Rose}
 use Rattle.dg_base.specs.Outside.{Puts, PutsFront}
@@ -17,7 +18,8 @@ use Rattle.dg_world.specs.Counts.{NoneRose}
 use Rattle.dg_world.specs.Formatted.{FirstBoards, FormatStops}
 use Rattle.dg_world.specs.Worlds.{IsWorld}
 use Rattle.dg_world.specs.declared.world.World.{World as KeptWorld}
-use Rattle.dg_trial.specs.Schedule.{Part, row_of_seed, schedule, sweeps_of}
+use Rattle.dg_trial.specs.AroundTrial.{AroundTrial}
+use Rattle.dg_trial.specs.Schedule.{Part, row_of_seed, schedule, sweep_count}
 use Rattle.dg_trial.specs.Playing.{LeadsTo, first, chip, WorldStands, BoardStopped, PartsBegun, StopsInPart}
 use Rattle.dg_trial.specs.declared.playing.Stop.{Stop}
 use Rattle.dg_trial.specs.declared.playing.Stop.TheVariants as stop
@@ -47,7 +49,8 @@ AllKeep motes row w = (m : ℕ) → m < motes → held (store_at w m) row.image 
 
 -- Where a trial leads, every mote keeps the image whole, and so many are counted.
 abbrev pub WholeLaw : Type 0
-WholeLaw = (motes pages seed : ℕ) (v : World) → 2 ≤ motes → motes ≤ most_motes → 2 ≤ pages → pages ≤ most_pages → TrialRun motes pages seed v
+WholeLaw = (motes pages seed : ℕ) (v : World) → 2 ≤ motes → motes ≤ most_motes → 2 ≤ pages → pages ≤ most_pages
+    → TrialRun motes pages seed v
     → AllKeep motes (row_of_seed pages seed) v × (wholes (row_of_seed pages seed) v ≡ motes)
 
 -- ---- what is told
@@ -59,7 +62,7 @@ summary_line motes pages sweeps events whole =
 
 -- of a trial that leads to world v
 abbrev pub told_of : (motes pages seed : ℕ) → World → List ℕ
-told_of motes pages seed v = summary_line motes pages (sweeps_of motes pages) v.events (wholes (row_of_seed pages seed) v)
+told_of motes pages seed v = summary_line motes pages (sweep_count motes pages) v.events (wholes (row_of_seed pages seed) v)
 
 -- there are fewer boards than motes
 abbrev pub no_board_line : (motes boards : ℕ) → List ℕ
@@ -98,7 +101,8 @@ pub record SchedulePlayed (motes pages seed : ℕ) (kept : KeptWorld) (old new :
 abbrev pub ScheduleEnds : Result KeptWorld Stop → (motes pages seed : ℕ) → (old new : List Device) → Type 0
 ScheduleEnds (Ok kept) motes pages seed old new = SchedulePlayed motes pages seed kept old new
 ScheduleEnds (Err stop.Memory) motes pages seed old new = (new ≡ old) ⊎ Front motes pages seed (λ w left. WorldStands w old new)
-ScheduleEnds (Err stop.Flash) motes pages seed old new = StopsFormatting motes old new ⊎ Front motes pages seed (λ w left. StopsInPart w left old new)
+ScheduleEnds (Err stop.Flash) motes pages seed old new =
+    StopsFormatting motes old new ⊎ Front motes pages seed (λ w left. StopsInPart w left old new)
 
 -- The boards' stores are those at the end of a run of the schedule. No board of another mote was used, and no count rose.
 pub record TrialPlayed (motes pages seed : ℕ) (old new : List Device) : Type 0 where
@@ -116,10 +120,10 @@ pub record StopsReading (motes pages seed : ℕ) (old new : List Device) : Type 
   pub others : (m : ℕ) → motes ≤ m → slice_get new m ≡ slice_get old m
 
 -- what the numbers of a trial tell that was played
-pub record Tells (motes pages seed : ℕ) (last : World) (s : Summary) : Type 0 where
+pub record TellsTrial (motes pages seed : ℕ) (last : World) (s : Summary) : Type 0 where
   pub motes_told : s.motes ≡ motes
   pub pages_told : s.pages ≡ pages
-  pub sweeps_told : s.sweeps ≡ sweeps_of motes pages
+  pub sweeps_told : s.sweeps ≡ sweep_count motes pages
   pub events_told : s.events ≡ last.events
   pub whole_told : s.whole ≡ wholes (row_of_seed pages seed) last
 
@@ -130,12 +134,13 @@ Unplayed motes pages seed old new = (new ≡ old) ⊎ Front motes pages seed (λ
 -- a board stopped: in formatting, in a step, or in the reading at the end
 abbrev pub BoardStops : (motes pages seed : ℕ) → (old new : List Device) → Type 0
 BoardStops motes pages seed old new =
-    StopsFormatting motes old new ⊎ (Front motes pages seed (λ w left. StopsInPart w left old new) ⊎ StopsReading motes pages seed old new)
+    StopsFormatting motes old new ⊎ (Front motes pages seed (λ w left. StopsInPart w left old new)
+    ⊎ StopsReading motes pages seed old new)
 
-abbrev pub RunEnds : Result Summary Stop → (motes pages seed : ℕ) → (old new : List Device) → Type 0
-RunEnds (Ok s) motes pages seed old new = (t : TrialPlayed motes pages seed old new) × Tells motes pages seed t.last s
-RunEnds (Err stop.Memory) motes pages seed old new = Unplayed motes pages seed old new
-RunEnds (Err stop.Flash) motes pages seed old new = BoardStops motes pages seed old new
+abbrev pub TrialOutcome : Result Summary Stop → (motes pages seed : ℕ) → (old new : List Device) → Type 0
+TrialOutcome (Ok s) motes pages seed old new = (t : TrialPlayed motes pages seed old new) × TellsTrial motes pages seed t.last s
+TrialOutcome (Err stop.Memory) motes pages seed old new = Unplayed motes pages seed old new
+TrialOutcome (Err stop.Flash) motes pages seed old new = BoardStops motes pages seed old new
 
 -- ---- how a trial ends
 
@@ -145,34 +150,40 @@ pub record LacksBoards (motes : ℕ) (old new : List Device) : Type 0 where
   pub same : new ≡ old
 
 -- The trial was played and told, and every mote keeps the image whole.
-pub record TrialDone (motes pages seed : ℕ) (before after : Option (List ℕ)) (old new : List Device) : Type 0 where
-  pub enough : motes ≤ length old
-  pub played : TrialPlayed motes pages seed old new
+pub record TrialComplete (motes pages seed : ℕ) (a b : AroundTrial) : Type 0 where
+  pub enough : motes ≤ length a.boards
+  pub played : TrialPlayed motes pages seed a.boards b.boards
   pub kept : AllKeep motes (row_of_seed pages seed) played.last
   pub whole : wholes (row_of_seed pages seed) played.last ≡ motes
-  pub told : Puts before after (told_of motes pages seed played.last)
+  pub told : Puts a.written b.written (told_of motes pages seed played.last)
 
 -- It was played, and its line was written in part.
-pub record TrialCut (motes pages seed : ℕ) (before after : Option (List ℕ)) (old new : List Device) : Type 0 where
-  pub enough : motes ≤ length old
-  pub played : TrialPlayed motes pages seed old new
-  pub told : PutsFront before after (told_of motes pages seed played.last)
+pub record TrialCut (motes pages seed : ℕ) (a b : AroundTrial) : Type 0 where
+  pub enough : motes ≤ length a.boards
+  pub played : TrialPlayed motes pages seed a.boards b.boards
+  pub told : PutsFront a.written b.written (told_of motes pages seed played.last)
 
 -- the line of a trial in which every mote keeps the image whole
 abbrev pub TellsWhole : (motes pages : ℕ) → (before after : Option (List ℕ)) → Type 0
-TellsWhole motes pages before after = (events : ℕ) × Puts before after (summary_line motes pages (sweeps_of motes pages) events motes)
+TellsWhole motes pages before after =
+    (events : ℕ) × Puts before after (summary_line motes pages (sweep_count motes pages) events motes)
 
 -- How a trial ends, by its status. Only a write that failed raises the count of such.
-abbrev pub TrialEnds : Status → (motes pages seed : ℕ) → (before after : Option (List ℕ)) → (old new : List Device) → Type 0
-TrialEnds Done motes pages seed before after old new = TrialDone motes pages seed before after old new
-TrialEnds NoBoard motes pages seed before after old new = LacksBoards motes old new × Puts before after (no_board_line motes (length old))
-TrialEnds WriteFault motes pages seed before after old new =
-    TrialCut motes pages seed before after old new ⊎ (LacksBoards motes old new × PutsFront before after (no_board_line motes (length old)))
-TrialEnds FlashFault motes pages seed before after old new = (motes ≤ length old) × BoardStops motes pages seed old new × (after ≡ before)
-TrialEnds Memory motes pages seed before after old new = Unplayed motes pages seed old new × (after ≡ before)
-TrialEnds status motes pages seed before after old new = ⊥
+abbrev pub TrialEnds : Status → (motes pages seed : ℕ) → (a b : AroundTrial) → Type 0
+TrialEnds Done motes pages seed a b = TrialComplete motes pages seed a b
+TrialEnds NoBoard motes pages seed a b =
+    LacksBoards motes a.boards b.boards × Puts a.written b.written (no_board_line motes (length a.boards))
+TrialEnds WriteFault motes pages seed a b =
+    TrialCut motes pages seed a b
+    ⊎ (LacksBoards motes a.boards b.boards × PutsFront a.written b.written (no_board_line motes (length a.boards)))
+TrialEnds FlashFault motes pages seed a b =
+    (motes ≤ length a.boards) × BoardStops motes pages seed a.boards b.boards × (b.written ≡ a.written)
+TrialEnds Memory motes pages seed a b = Unplayed motes pages seed a.boards b.boards × (b.written ≡ a.written)
+TrialEnds status motes pages seed a b = ⊥
 
 -- How the writing of a last line ends: it was written, or a front of it, since a write failed, or there was no memory for it.
-abbrev pub LineEnds : (r status : Status) → (text : List ℕ) → (before after : Option (List ℕ)) → (faults_before faults_after : ℕ) → Type 0
+abbrev pub LineEnds : (r status : Status) → (text : List ℕ) → (before after : Option (List ℕ))
+    → (faults_before faults_after : ℕ) → Type 0
 LineEnds r status text before after fb fa =
-    ((r ≡ status) × Puts before after text × (fa ≡ fb)) ⊎ (((r ≡ WriteFault) × PutsFront before after text × Rose fb fa) ⊎ ((r ≡ Memory) × (after ≡ before) × (fa ≡ fb)))
+    ((r ≡ status) × Puts before after text × (fa ≡ fb))
+    ⊎ (((r ≡ WriteFault) × PutsFront before after text × Rose fb fa) ⊎ ((r ≡ Memory) × (after ≡ before) × (fa ≡ fb)))

@@ -1,5 +1,6 @@
 //! The world in which a trial begins.
-ghost use Rattle.std.specs.Prelude.{◌≡◌, ◌+◌, ◌-◌, ◌*◌, ◌<◌, ◌≤◌, ◌∷◌, ℕ, List, [], map, length, slice_get, replicate, Some, IfOk, OnOk};
+ghost use Rattle.std.specs.Prelude.{◌≡◌, ◌+◌, ◌-◌, ◌*◌, ◌<◌, ◌≤◌, ◌∷◌, ℕ, List, [], map, length, slice_get, replicate, Some};
+ghost use Rattle.std.specs.Prelude.{IfOk, OnOk};
 ghost use Rattle.dg_nor.specs.Device.{Device};
 ghost use Rattle.dg_object.specs.Sizes.{most_bytes};
 ghost use Rattle.dg_volume.specs.Stands.{Stands};
@@ -37,12 +38,13 @@ pub fn line(alloc: Global, motes: u8) -> Result<Vec<(u8, u8)>, AllocError>
 pub fn linked(alloc: Global, motes: u8, links: &[(u8, u8)]) -> Result<World, AllocError>
     requires some { 1 ≤ motes }
     requires few { motes ≤ most_motes }
-    ensures { IfOk result (λ v. (boards : List Device) → motes ≤ length boards → ((m : ℕ) (d : Device) → m < motes → slice_get boards m ≡ Some d → Stands d.image chip)
+    ensures { IfOk result (λ v. (boards : List Device) → motes ≤ length boards
+        → ((m : ℕ) (d : Device) → m < motes → slice_get boards m ≡ Some d → Stands d.image chip)
         → IsWorld v boards (first_world (golden ∷ []) links.now none_narrow (replicate motes chip))) }
 {
     let mut world = World::new(alloc, motes)?;
     for link in links {
-        world.link(link.0, link.1)?;
+        world.link(link.0, link.1);
     }
     Ok(world)
 }
@@ -69,7 +71,8 @@ pub fn declare(
     requires some { 2 ≤ pages }
     requires few { pages ≤ 65 }
     requires world { (boards : List Device) × (w : RuleWorld) × IsWorld world.old boards w × (w.declared ≡ []) }
-    ensures { OnOk result ((boards : List Device) (w : RuleWorld) → IsWorld world.old boards w → w.declared ≡ [] → IsWorld world.new boards (record w { declared = row_by pages seed word ∷ [] })) }
+    ensures { OnOk result ((boards : List Device) (w : RuleWorld) → IsWorld world.old boards w → w.declared ≡ []
+        → IsWorld world.new boards (record w { declared = row_by pages seed word ∷ [] })) }
 {
     let name = Bytes::new(Vec::from_slice(alloc, b"trial")?);
     let Ok(content) = generate(alloc, size(pages, word), seed) else {

@@ -1,29 +1,32 @@
 //! The call that plays a trial.
-ghost use Rattle.std.specs.Prelude.{◌≡◌, ◌≢◌, ◌⊎◌, ◌+◌, ◌-◌, ◌<◌, ◌≤◌, ◌∷◌, ◌++◌, ℕ, List, [], map, length, slice_get, count_by, Some, Err, IfOk, OnOk, OnErr};
+ghost use Rattle.std.specs.Prelude.{◌≡◌, ◌≢◌, ◌⊎◌, ◌+◌, ◌-◌, ◌<◌, ◌≤◌, ◌∷◌, ◌++◌, ℕ, List, [], map, length, slice_get, count_by};
+ghost use Rattle.std.specs.Prelude.{Some, Err, IfOk, OnOk, OnErr};
 ghost use Rattle.dg_words.specs.Counts.{Rose};
 ghost use Rattle.dg_base.specs.Outside.{Puts, PutsFront};
 ghost use Rattle.dg_nor.specs.Device.{Device};
 ghost use Rattle.dg_rules.specs.Sizes.{most_motes};
 ghost use Rattle.dg_rules.specs.World.{World as RuleWorld};
 ghost use Rattle.dg_world.specs.Worlds.{IsWorld};
-ghost use Rattle.dg_trial.specs.Schedule.{sweeps_of};
+ghost use Rattle.dg_trial.specs.AroundTrial.{around_trial};
+ghost use Rattle.dg_trial.specs.Schedule.{sweep_count};
 ghost use Rattle.dg_trial.specs.Playing.{WorldStands};
-ghost use Rattle.dg_trial.specs.Trials.{ScheduleEnds, TrialRun, RunEnds, TrialEnds, TellsWhole, LineEnds, summary_line, no_board_line};
+ghost use Rattle.dg_trial.specs.Trials.{ScheduleEnds, TrialRun, TrialOutcome, TrialEnds, TellsWhole, LineEnds, summary_line};
+ghost use Rattle.dg_trial.specs.Trials.{no_board_line};
 
 use crate::beginning::{declare, format, line, linked};
 use crate::laws::trials_end_whole;
 use crate::playing::{Stop, play};
 use crate::summary::{Summary, count_events, count_whole, push_no_board, push_summary};
-use crate::words::Words;
 use dg_base::{Sink, Status, WriteFailed};
 use dg_nor::Nor;
-use dg_world::{World, WorldFault};
+use dg_seed::Words;
+use dg_world::{FinishFault, World};
 use std::alloc::{AllocError, Global};
 
 /// How many sweeps end a trial: one for each page, and one for each link but the first.
 fn sweeps_of(motes: u8, pages: u8) -> u32
     requires { 2 ≤ motes + pages }
-    ensures { result ≡ sweeps_of motes pages }
+    ensures { result ≡ sweep_count motes pages }
 {
     u32::from(pages) + u32::from(motes) - 2
 }
@@ -80,8 +83,9 @@ fn summarize<N: Nor>(
     requires some_pages { 2 ≤ pages }
     requires few_pages { pages ≤ 65 }
     requires world { (w : RuleWorld) × IsWorld world.now (map N.device boards.old.items) w × (length w.sites ≡ motes) }
-    ensures { (seed : ℕ) (initial : List Device) (w : RuleWorld) → TrialRun motes pages seed w → length w.sites ≡ motes → IsWorld world.now (map N.device boards.old.items) w → WorldStands w initial (map N.device boards.old.items)
-        → RunEnds result motes pages seed initial (map N.device boards.new.items) }
+    ensures { (seed : ℕ) (initial : List Device) (w : RuleWorld) → TrialRun motes pages seed w → length w.sites ≡ motes
+        → IsWorld world.now (map N.device boards.old.items) w → WorldStands w initial (map N.device boards.old.items)
+        → TrialOutcome result motes pages seed initial (map N.device boards.new.items) }
 {
     let mut reports = Vec::new(alloc);
     match world.finish(boards, &mut reports) {
@@ -92,11 +96,8 @@ fn summarize<N: Nor>(
             events: count_events(&reports),
             whole: count_whole(&reports, pages) as u32,
         }),
-        Err(WorldFault::Memory) => Err(Stop::Memory),
-        Err(WorldFault::Flash { .. }) => Err(Stop::Flash),
-        Err(WorldFault::TooMany) => unreachable!(),
-        Err(WorldFault::NotAVolume) => unreachable!(),
-        Err(WorldFault::NoImage) => unreachable!(),
+        Err(FinishFault::Memory) => Err(Stop::Memory),
+        Err(FinishFault::Flash { .. }) => Err(Stop::Flash),
     }
 }
 
@@ -113,7 +114,7 @@ fn run<N: Nor>(
     requires some_pages { 2 ≤ pages }
     requires few_pages { pages ≤ 65 }
     requires boards { motes ≤ length boards.old.items }
-    ensures { RunEnds result motes pages seed (map N.device boards.old.items) (map N.device boards.new.items) }
+    ensures { TrialOutcome result motes pages seed (map N.device boards.old.items) (map N.device boards.new.items) }
 {
     let world = play_schedule(alloc, motes, pages, seed, boards)?;
     summarize(alloc, &world, motes, pages, boards)
@@ -121,8 +122,10 @@ fn run<N: Nor>(
 
 /// Ends with this line.
 fn end_with<K: Sink>(out: &mut K, line: &[u8], status: Status) -> Status
-    ensures ends { ((result ≡ status) × Puts (K.written out.old) (K.written out.new) line.now × (K.faults out.new ≡ K.faults out.old))
-        ⊎ ((result ≡ Status.WriteFault) × PutsFront (K.written out.old) (K.written out.new) line.now × Rose (K.faults out.old) (K.faults out.new)) }
+    ensures ends { ((result ≡ status) × Puts (K.written out.old) (K.written out.new) line.now
+        × (K.faults out.new ≡ K.faults out.old))
+        ⊎ ((result ≡ Status.WriteFault) × PutsFront (K.written out.old) (K.written out.new) line.now
+        × Rose (K.faults out.old) (K.faults out.new)) }
     ensures counts { K.faults out.old ≤ K.faults out.new }
 {
     match out.write(line) {
@@ -133,7 +136,8 @@ fn end_with<K: Sink>(out: &mut K, line: &[u8], status: Status) -> Status
 
 /// Ends a trial that was played.
 fn end_played<K: Sink>(alloc: Global, out: &mut K, summary: &Summary) -> Status
-    ensures ends { LineEnds result Status.Done (summary_line summary.now.motes summary.now.pages summary.now.sweeps summary.now.events summary.now.whole) (K.written out.old) (K.written out.new) (K.faults out.old) (K.faults out.new) }
+    ensures ends { LineEnds result Status.Done (summary_line summary.now.motes summary.now.pages summary.now.sweeps
+        summary.now.events summary.now.whole) (K.written out.old) (K.written out.new) (K.faults out.old) (K.faults out.new) }
     ensures counts { K.faults out.old ≤ K.faults out.new }
 {
     let mut text = Vec::new(alloc);
@@ -145,7 +149,8 @@ fn end_played<K: Sink>(alloc: Global, out: &mut K, summary: &Summary) -> Status
 
 /// Ends a trial for which boards are missing.
 fn end_without_boards<K: Sink>(alloc: Global, out: &mut K, motes: u8, boards: u32) -> Status
-    ensures ends { LineEnds result Status.NoBoard (no_board_line motes boards) (K.written out.old) (K.written out.new) (K.faults out.old) (K.faults out.new) }
+    ensures ends { LineEnds result Status.NoBoard (no_board_line motes boards) (K.written out.old) (K.written out.new)
+        (K.faults out.old) (K.faults out.new) }
     ensures counts { K.faults out.old ≤ K.faults out.new }
 {
     let mut text = Vec::new(alloc);
@@ -171,7 +176,9 @@ pub fn trial<K: Sink, N: Nor>(
     requires few_pages { pages ≤ 65 }
     // The boards' stores are those at the end of a run of the schedule, every mote keeps the image whole, page by page, and the
     // line counts that run. Each other status comes with its cause, and what it leaves.
-    ensures ends { TrialEnds result motes pages seed (K.written out.old) (K.written out.new) (map N.device boards.old.items) (map N.device boards.new.items) }
+    ensures ends { TrialEnds result motes pages seed
+        (around_trial (K.written out.old) (map N.device boards.old.items))
+        (around_trial (K.written out.new) (map N.device boards.new.items)) }
     // where it is played and told, the line says that every mote keeps the image whole
     ensures whole { result ≡ Status.Done → TellsWhole motes pages (K.written out.old) (K.written out.new) }
     // only a write that failed raises the count of such

@@ -1,7 +1,7 @@
 //! Disturbances: what words choose to happen.
 ghost use Rattle.std.specs.Prelude.{◌≡◌, ◌+◌, ◌%◌, ◌<◌, ◌≤◌, ◌∷◌, [], IfOk};
 ghost use Rattle.dg_rules.specs.Sizes.{most_events, most_motes};
-ghost use Rattle.dg_trial.specs.Schedule.{beside, cut_by, cut_reset, disturbance};
+ghost use Rattle.dg_trial.specs.Schedule.{beside, drawn_cut, cut_reset, disturbance};
 
 use dg_base::{Bytes, Cut, Event, Step};
 use std::alloc::{AllocError, Global};
@@ -36,7 +36,7 @@ fn chosen_frame(word: u32, sent: usize) -> u32
 
 /// The cut that words choose.
 fn chosen_cut(alloc: Global, second: u32, third: u32) -> Result<Cut, AllocError>
-    ensures { IfOk result (λ cut. cut ≡ cut_by second third) }
+    ensures { IfOk result (λ cut. cut ≡ drawn_cut second third) }
 {
     let mut mask = Vec::with_capacity(alloc, 1)?;
     mask.push_reserved((third % 256) as u8);

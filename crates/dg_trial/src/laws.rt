@@ -1,5 +1,5 @@
 //! What holds of schedules and their runs. These functions do nothing: their contracts are the laws.
-ghost use Rattle.dg_trial.specs.Playing.{GoesOnLaw};
+ghost use Rattle.dg_trial.specs.Playing.{PartsGoOnLaw};
 ghost use Rattle.dg_trial.specs.Trials.{WholeLaw};
 
 use dg_completion::{
@@ -11,7 +11,7 @@ use dg_volume::{a_start_ends, acts_end};
 
 /// Where parts were played that may be played, those that follow them may be played.
 pub fn what_is_left_may_be_played()
-    ensures { GoesOnLaw }
+    ensures { PartsGoOnLaw }
 {
     golden_is_found();
 }

@@ -11,7 +11,6 @@ mod disturbing;
 mod laws;
 mod playing;
 mod summary;
-mod words;
 
 pub use call::trial;
 pub use laws::trials_end_whole;

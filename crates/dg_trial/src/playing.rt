@@ -1,20 +1,21 @@
 //! Plays the parts of a schedule.
-ghost use Rattle.std.specs.Prelude.{◌≡◌, ◌+◌, ◌*◌, ◌<◌, ◌≤◌, ◌∷◌, ◌++◌, [], ℕ, map, length};
-ghost use Rattle.rand_pcg.specs.Pcg.{pcg32};
+ghost use Rattle.std.specs.Prelude.{◌≡◌, ◌+◌, ◌*◌, ◌<◌, ◌≤◌, ◌∷◌, ◌++◌, [], ℕ, map, length, option_copied};
 ghost use Rattle.dg_rounds.specs.Rounds.{times, sweep};
+ghost use Rattle.dg_seed.specs.Words.{generator_of};
 ghost use Rattle.dg_trial.specs.Schedule.{Part, always, only, resets, opening, disturbances, drawn};
-ghost use Rattle.dg_trial.specs.Playing.{Plays, MayPlayOver};
+ghost use Rattle.dg_trial.specs.Playing.{PartsPlay, MayPlayOver};
 ghost use Rattle.dg_rules.specs.Sizes.{most_motes};
 ghost use Rattle.dg_rules.specs.World.{World as RuleWorld};
 ghost use Rattle.dg_world.specs.Worlds.{IsWorld};
+ghost use Rattle.dg_world.specs.Occasions.{step_of};
 
 use crate::disturbing::disturbance;
 use crate::laws::what_is_left_may_be_played;
-use crate::words::Words;
-use dg_base::{Event, Step};
+use dg_base::{Cut, Event};
 use dg_nor::Nor;
 use dg_rounds::sweep;
 use dg_rules::{Report, golden_is_found};
+use dg_seed::Words;
 use dg_world::{World, WorldFault};
 use std::alloc::{AllocError, Global};
 
@@ -29,21 +30,25 @@ pub enum Stop {
 /// The disturbances of each mote.
 const DISTURBANCES: u32 = 100;
 
-/// Plays a step. What it tells is dropped.
+/// Plays an event with the cut that waits for it. What it tells is dropped.
 fn play_step<N: Nor>(
     world: &mut World,
-    step: &Step,
+    event: &Event,
+    cut: Option<&Cut>,
     boards: &mut Vec<N>,
     told: &mut Vec<Report>,
 ) -> Result<(), Stop>
-    requires { (motes : ℕ) × MayPlayOver motes world.old (map N.device boards.old.items) (only step.now) }
+    requires { (motes : ℕ)
+        × MayPlayOver motes world.old (map N.device boards.old.items) (only (step_of event.now (option_copied cut))) }
     // it may be the step of any part that is this one after so many frames
-    ensures { (part : Part) → ((w : RuleWorld) → IsWorld world.old (map N.device boards.old.items) w → part (length w.sent) ≡ step.now)
-        → Plays result (part ∷ []) world.old world.new (map N.device boards.old.items) (map N.device boards.new.items) }
+    ensures { (part : Part)
+        → ((w : RuleWorld) → IsWorld world.old (map N.device boards.old.items) w
+        → part (length w.sent) ≡ step_of event.now (option_copied cut.entry))
+        → PartsPlay result (part ∷ []) world.old world.new (map N.device boards.old.items) (map N.device boards.new.items) }
 {
     golden_is_found();
     told.clear();
-    match world.apply(boards, step, false, told) {
+    match world.apply(boards, event, cut, false, told) {
         Ok(()) => Ok(()),
         Err(WorldFault::Memory) => Err(Stop::Memory),
         Err(WorldFault::Flash { .. }) => Err(Stop::Flash),
@@ -61,9 +66,10 @@ fn play_event<N: Nor>(
     told: &mut Vec<Report>,
 ) -> Result<(), Stop>
     requires { (motes : ℕ) × MayPlayOver motes world.old (map N.device boards.old.items) (always event ∷ []) }
-    ensures { Plays result (always event ∷ []) world.old world.new (map N.device boards.old.items) (map N.device boards.new.items) }
+    ensures { PartsPlay result (always event ∷ []) world.old world.new (map N.device boards.old.items)
+        (map N.device boards.new.items) }
 {
-    play_step(world, &Step { event, cut: None }, boards, told)
+    play_step(world, &event, None, boards, told)
 }
 
 /// Resets each mote, in their order.
@@ -74,7 +80,8 @@ fn play_resets<N: Nor>(
     told: &mut Vec<Report>,
 ) -> Result<(), Stop>
     requires { MayPlayOver motes world.old (map N.device boards.old.items) (map always (resets motes)) }
-    ensures { Plays result (map always (resets motes)) world.old world.new (map N.device boards.old.items) (map N.device boards.new.items) }
+    ensures { PartsPlay result (map always (resets motes)) world.old world.new (map N.device boards.old.items)
+        (map N.device boards.new.items) }
 {
     what_is_left_may_be_played();
     for mote in 0..motes {
@@ -95,7 +102,8 @@ fn play_injection<N: Nor>(
     told: &mut Vec<Report>,
 ) -> Result<(), Stop>
     requires { (motes : ℕ) × MayPlayOver motes world.old (map N.device boards.old.items) (always (Event.Inject 0 1 1 0 0) ∷ []) }
-    ensures { Plays result (always (Event.Inject 0 1 1 0 0) ∷ []) world.old world.new (map N.device boards.old.items) (map N.device boards.new.items) }
+    ensures { PartsPlay result (always (Event.Inject 0 1 1 0 0) ∷ []) world.old world.new (map N.device boards.old.items)
+        (map N.device boards.new.items) }
 {
     let event = Event::Inject {
         mote: 0,
@@ -116,18 +124,19 @@ fn play_disturbance<N: Nor>(
     boards: &mut Vec<N>,
     told: &mut Vec<Report>,
 ) -> Result<(), Stop>
-    requires may { MayPlayOver motes world.old (map N.device boards.old.items) (disturbances motes 1 words.old.generator) }
+    requires may { MayPlayOver motes world.old (map N.device boards.old.items) (disturbances motes 1 (generator_of words.old)) }
     requires some { 2 ≤ motes }
     requires few { motes ≤ most_motes }
-    ensures played { Plays result (disturbances motes 1 words.old.generator) world.old world.new (map N.device boards.old.items) (map N.device boards.new.items) }
-    ensures drawn { words.new.generator ≡ drawn 1 words.old.generator }
+    ensures played { PartsPlay result (disturbances motes 1 (generator_of words.old)) world.old world.new
+        (map N.device boards.old.items) (map N.device boards.new.items) }
+    ensures drawn { generator_of words.new ≡ drawn 1 (generator_of words.old) }
 {
     let first = words.next();
     let second = words.next();
     let third = words.next();
     let sent = world.frames_sent();
     match disturbance(alloc, motes, sent, first, second, third) {
-        Ok(step) => play_step(world, &step, boards, told),
+        Ok(step) => play_step(world, &step.event, step.cut.as_ref(), boards, told),
         Err(AllocError) => Err(Stop::Memory),
     }
 }
@@ -141,10 +150,12 @@ fn play_disturbances<N: Nor>(
     boards: &mut Vec<N>,
     told: &mut Vec<Report>,
 ) -> Result<(), Stop>
-    requires may { MayPlayOver motes world.old (map N.device boards.old.items) (disturbances motes (100 * motes) words.old.generator) }
+    requires may { MayPlayOver motes world.old (map N.device boards.old.items)
+        (disturbances motes (100 * motes) (generator_of words.old)) }
     requires some { 2 ≤ motes }
     requires few { motes ≤ most_motes }
-    ensures { Plays result (disturbances motes (100 * motes) words.old.generator) world.old world.new (map N.device boards.old.items) (map N.device boards.new.items) }
+    ensures { PartsPlay result (disturbances motes (100 * motes) (generator_of words.old)) world.old world.new
+        (map N.device boards.old.items) (map N.device boards.new.items) }
 {
     what_is_left_may_be_played();
     for _ in 0..DISTURBANCES * u32::from(motes) {
@@ -161,7 +172,8 @@ fn play_sweep<N: Nor>(
     told: &mut Vec<Report>,
 ) -> Result<(), Stop>
     requires { (motes : ℕ) × MayPlayOver motes world.old (map N.device boards.old.items) (map always (sweep links.now)) }
-    ensures { Plays result (map always (sweep links.now)) world.old world.new (map N.device boards.old.items) (map N.device boards.new.items) }
+    ensures { PartsPlay result (map always (sweep links.now)) world.old world.new (map N.device boards.old.items)
+        (map N.device boards.new.items) }
 {
     what_is_left_may_be_played();
     for event in sweep(links) {
@@ -178,8 +190,10 @@ fn play_sweeps<N: Nor>(
     boards: &mut Vec<N>,
     told: &mut Vec<Report>,
 ) -> Result<(), Stop>
-    requires { (motes : ℕ) × MayPlayOver motes world.old (map N.device boards.old.items) (map always (times sweeps (sweep links.now))) }
-    ensures { Plays result (map always (times sweeps (sweep links.now))) world.old world.new (map N.device boards.old.items) (map N.device boards.new.items) }
+    requires { (motes : ℕ) × MayPlayOver motes world.old (map N.device boards.old.items)
+        (map always (times sweeps (sweep links.now))) }
+    ensures { PartsPlay result (map always (times sweeps (sweep links.now))) world.old world.new
+        (map N.device boards.old.items) (map N.device boards.new.items) }
 {
     what_is_left_may_be_played();
     for _ in 0..sweeps {
@@ -198,10 +212,14 @@ pub fn play<N: Nor>(
     words: &mut Words,
     boards: &mut Vec<N>,
 ) -> Result<(), Stop>
-    requires may { MayPlayOver motes world.old (map N.device boards.old.items) (opening motes ++ (disturbances motes (100 * motes) words.old.generator ++ map always (resets motes ++ times sweeps (sweep links.now)))) }
+    requires may { MayPlayOver motes world.old (map N.device boards.old.items)
+        (opening motes ++ (disturbances motes (100 * motes) (generator_of words.old)
+        ++ map always (resets motes ++ times sweeps (sweep links.now)))) }
     requires some { 2 ≤ motes }
     requires few { motes ≤ most_motes }
-    ensures { Plays result (opening motes ++ (disturbances motes (100 * motes) words.old.generator ++ map always (resets motes ++ times sweeps (sweep links.now)))) world.old world.new (map N.device boards.old.items) (map N.device boards.new.items) }
+    ensures { PartsPlay result (opening motes ++ (disturbances motes (100 * motes) (generator_of words.old)
+        ++ map always (resets motes ++ times sweeps (sweep links.now)))) world.old world.new (map N.device boards.old.items)
+        (map N.device boards.new.items) }
 {
     what_is_left_may_be_played();
     let mut told = Vec::new(alloc);

@@ -66,7 +66,8 @@ fn push_field(text: &mut Vec<u8>, word: &[u8], number: u32) -> Result<(), AllocE
 
 /// Appends the line of a trial.
 pub fn push_summary(text: &mut Vec<u8>, summary: &Summary) -> Result<(), AllocError>
-    ensures { OnOk result (text.new.items ≡ text.old.items ++ summary_line summary.now.motes summary.now.pages summary.now.sweeps summary.now.events summary.now.whole) }
+    ensures { OnOk result (text.new.items ≡ text.old.items
+        ++ summary_line summary.now.motes summary.now.pages summary.now.sweeps summary.now.events summary.now.whole) }
 {
     push_field(text, b"trial motes ", u32::from(summary.motes))?;
     push_field(text, b" pages ", u32::from(summary.pages))?;

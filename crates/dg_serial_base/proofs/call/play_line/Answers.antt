@@ -1,5 +1,6 @@
 use Rattle.std.proofs.Common.{refl, inl}
 use Rattle.dg_serial_base.specs.Deeds.{Base}
+use Rattle.dg_serial_base.specs.Standing.{Outset}
 use Rattle.dg_serial_base.proofs.FirstLemmas.{first_played, line_goes}
 use Rattle.dg_serial_base.proofs.ResultLemmas.{counts_after}
 use Rattle.dg_serial_base.proofs.call.play_line.Goals as goal
@@ -8,9 +9,9 @@ pub returns-in-Ok-clause-ends : goal.returns-in-Ok-clause-ends
 returns-in-Ok-clause-ends g c = λ s stands.
     let b : Base = record { id = c.args.id; step = c.args.step; seed = c.args.seed } in
     let x = c.in-Ok.ensures.ends s stands in
-    let w = g.K.Sink.written c.args.out.now in
-    line_goes c.play_input.result b s _ _ w _ _ c.play_input.new.self.running c.play_input.new.self.line
-    (c.play_input.ensures.ends b s w (first_played b s w c.in-Ok.running _ _ c.new-line.ensures.stream x.0 x.1))
+    let a : Outset = record { base = b; store = s; written = g.K.Sink.written c.args.out.now } in
+    line_goes c.play_input.result b s _ _ c.play_input.new.self.running c.play_input.new.self.line
+    (c.play_input.ensures.ends a (first_played a c.in-Ok.running _ _ c.new-line.ensures.stream x.0 x.1))
 
 pub returns-in-Ok-clause-refused : goal.returns-in-Ok-clause-refused
 returns-in-Ok-clause-refused g c = λ none. absurd (c.in-Ok.ensures.none none)

@@ -1,7 +1,7 @@
 use Rattle.std.proofs.Common.{ap, Err}
 use Rattle.dg_nor.specs.Trail.{last}
 use Rattle.dg_volume.specs.Start.{boot}
-use Rattle.dg_mote.specs.Model.{begun}
+use Rattle.dg_mote.specs.Model.{begun_mote}
 use Rattle.dg_serial_base.proofs.StartLemmas.{calm_ran, started, start_stops, start_lacks}
 use Rattle.dg_serial_base.proofs.starting.start_mote.Goals as goal
 
@@ -17,7 +17,7 @@ pub returns-in-Ok-clause-timely : goal.returns-in-Ok-clause-timely
 returns-in-Ok-clause-timely g c =
     let v = c.in-Ok.ensures.volume in
     let x = c.in-Ok.ensures.started v.0 v.1 in
-    (begun c.args.id c.args.wide c.args.draw.now c.args.draw.word, last (boot c.args.kind v.0).trail, c.new.ensures _ _ x.acted.mounted, c.a_mote_stays_timely.ensures.begins c.args.id c.args.draw.now c.args.draw.word c.args.wide)
+    (begun_mote c.args.id c.args.wide c.args.draw.now c.args.draw.word, last (boot c.args.kind v.0).trail, c.new.ensures _ _ x.acted.mounted, c.a_mote_stays_timely.ensures.begins c.args.id c.args.draw.now c.args.draw.word c.args.wide)
 
 pub returns-in-Ok-clause-counts : goal.returns-in-Ok-clause-counts
 returns-in-Ok-clause-counts g c =

@@ -1,5 +1,5 @@
 use Rattle.std.proofs.Common.{subst, sym, []}
-use Rattle.dg_rules.specs.Ranges.{EventFits}
+use Rattle.dg_rules.specs.Ranges.{EventInRange}
 use Rattle.dg_script.specs.Places.{none_narrow}
 use Rattle.dg_serve.proofs.RunLemmas.{done_fits, serves_run, plays_boards}
 use Rattle.dg_serve.proofs.ScriptLemmas.{is_script, all_served}
@@ -22,7 +22,7 @@ returns-clause-kept c = λ answer profile seed turns before after allowed x tabl
       keeps = λ h. rules.keeps table stores profile.links none_narrow run.played came.last.world boards h.agree h.hold;
       starts = λ h. rules.starts table stores profile.links none_narrow run.played came.last.world boards h.agree h.hold;
       agrees = λ h. rules.agrees table stores profile.links none_narrow run.played came.last.world boards h.agree h.hold;
-      halves = λ e h fits_range holds. rules.halves table stores profile.links none_narrow run.played came.last.world e boards h.agree h.hold (subst (λ n. EventFits n e) (sym fits.count) fits_range) holds;
+      halves = λ e h fits_range holds. rules.halves table stores profile.links none_narrow run.played came.last.world e boards h.agree h.hold (subst (λ n. EventInRange n e) (sym fits.count) fits_range) holds;
       consistent = λ golden stands. stays_consistent any golden profile.motes table stores profile.links run.played came.last.world fits.count stands run.plays run.ranges;
       golden = λ stands. stays_golden finds profile.motes table stores profile.links run.played came.last.world fits.count stands run.plays run.ranges;
     }

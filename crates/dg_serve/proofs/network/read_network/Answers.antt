@@ -1,4 +1,4 @@
-use Rattle.std.proofs.Common.{◌≡◌, refl, ap, sym, ◌∙◌, Err}
+use Rattle.std.proofs.Common.{◌≡◌, ap, sym, ◌∙◌, Err}
 use Rattle.dg_input.specs.declared.ReadStop.TheVariants.{Memory, ReadFault}
 use Rattle.dg_serve.proofs.NetworkLemmas.{network_read, ok_not, err_same}
 use Rattle.dg_serve.proofs.network.read_network.Goals as goal

@@ -1,4 +1,4 @@
-use Rattle.std.proofs.Common.{map, length, sym, ◌∙◌}
+use Rattle.std.proofs.Common.{map, sym, ◌∙◌}
 use Rattle.std.proofs.lemmas.List.{length-map}
 use Rattle.dg_serve.specs.Served.{Outside}
 use Rattle.dg_serve.proofs.NetworkLemmas.{served_by, none_served, network_rises, network_linked}
@@ -7,16 +7,16 @@ use Rattle.dg_serve.proofs.network.serve_network.Goals as goal
 pub returns-in-Ok-clause-served : goal.returns-in-Ok-clause-served
 returns-in-Ok-clause-served g c =
     let e = c.serve.ensures in
-    served_by c.in-Ok.profile _ c.serve.result c.args.seed c.args.turns _ _ _ _ _ _ (c.args.boards.now.ok.0 ∙ sym (length-map c.args.boards.now.items g.N.Nor.device)) c.in-Ok.ensures.read e.served e.too_few
+    served_by c.in-Ok.profile _ c.serve.result c.args.seed c.args.turns _ _ (c.args.boards.now.ok.0 ∙ sym (length-map c.args.boards.now.items g.N.Nor.device)) c.in-Ok.ensures.read e.served e.too_few
 
 pub returns-in-Ok-clause-link_fault : goal.returns-in-Ok-clause-link_fault
-returns-in-Ok-clause-link_fault g c = network_linked _ _ _ _ _ _ _ _ _ (returns-in-Ok-clause-served g c)
+returns-in-Ok-clause-link_fault g c = network_linked _ _ _ _ _ (returns-in-Ok-clause-served g c)
 
 pub returns-in-Ok-clause-writes : goal.returns-in-Ok-clause-writes
-returns-in-Ok-clause-writes g c = (network_rises _ _ _ _ _ _ _ _ _ (returns-in-Ok-clause-served g c)).0
+returns-in-Ok-clause-writes g c = (network_rises _ _ _ _ _ (returns-in-Ok-clause-served g c)).0
 
 pub returns-in-Ok-clause-sends : goal.returns-in-Ok-clause-sends
-returns-in-Ok-clause-sends g c = (network_rises _ _ _ _ _ _ _ _ _ (returns-in-Ok-clause-served g c)).1
+returns-in-Ok-clause-sends g c = (network_rises _ _ _ _ _ (returns-in-Ok-clause-served g c)).1
 
 pub returns-in-Err-clause-served : goal.returns-in-Err-clause-served
 returns-in-Err-clause-served g c =
@@ -24,10 +24,10 @@ returns-in-Err-clause-served g c =
     none_served c.in-Err.why c.tell_none.result c.args.seed c.args.turns _ _ _ _ before _ _ c.in-Err.ensures.read c.tell_none.ensures
 
 pub returns-in-Err-clause-link_fault : goal.returns-in-Err-clause-link_fault
-returns-in-Err-clause-link_fault g c = network_linked _ _ _ _ _ _ _ _ _ (returns-in-Err-clause-served g c)
+returns-in-Err-clause-link_fault g c = network_linked _ _ _ _ _ (returns-in-Err-clause-served g c)
 
 pub returns-in-Err-clause-writes : goal.returns-in-Err-clause-writes
-returns-in-Err-clause-writes g c = (network_rises _ _ _ _ _ _ _ _ _ (returns-in-Err-clause-served g c)).0
+returns-in-Err-clause-writes g c = (network_rises _ _ _ _ _ (returns-in-Err-clause-served g c)).0
 
 pub returns-in-Ok-clause-buffers : goal.returns-in-Ok-clause-buffers
 returns-in-Ok-clause-buffers g c = let b = c.a_mote_buffers_little.ensures in (b.alive, b.values)

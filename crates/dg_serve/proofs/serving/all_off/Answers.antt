@@ -1,5 +1,5 @@
-use Rattle.std.proofs.Common.{◌∙◌, refl, ap, arith}
-use Rattle.std.specs.Prelude.{◌∷◌, [], ◌++◌, Some, None, replicate}
+use Rattle.std.proofs.Common.{◌∙◌, ap}
+use Rattle.std.specs.Prelude.{◌∷◌, [], ◌++◌, None}
 use Rattle.dg_serve.proofs.OpenLemmas.{one_more}
 use Rattle.dg_serve.proofs.serving.all_off.Goals as goal
 

@@ -1,7 +1,7 @@
-use Rattle.std.proofs.Common.{◌≡◌, ◌++◌, [], refl, sym, ap, subst, ◌∙◌, arith}
+use Rattle.std.proofs.Common.{refl, subst}
 use Rattle.dg_base.specs.Outside.{Puts, PutsFront}
 use Rattle.dg_serve.specs.Served.{Outside}
-use Rattle.dg_serve.specs.Traces.{written, head_lines}
+use Rattle.dg_serve.specs.Traces.{lines_text, head_lines}
 use Rattle.dg_serve.specs.declared.stop.Stop.TheVariants as stop
 use Rattle.dg_serve.proofs.HappenLemmas.{err_is}
 use Rattle.dg_serve.proofs.OpenLemmas.{none_at, none_many, opens_err, open_hindered, nothing_put, head_is}
@@ -18,7 +18,7 @@ returns-in_err-motes g c = record {
   opens = λ boards.
       let before : Outside = record { written = g.K.Sink.written c.args.out.now; faults = g.K.Sink.faults c.args.out.now; clock = g.C.Clock.told c.args.clock.now; inboxes = g.L.Link.inboxes c.args.link.now; failures = g.L.Link.faults c.args.link.now; boards = boards } in
       let after : Outside = record { written = g.K.Sink.written c.args.out.now; faults = g.K.Sink.faults c.args.out.now; clock = g.C.Clock.told c.args.clock.now; inboxes = g.L.Link.inboxes c.args.link.now; failures = g.L.Link.faults c.args.link.now; boards = boards } in
-      opens_err c.from_residual.result stop.Memory c.args.profile.now c.args.seed before _ _ after c.from_residual.ensures.1 ((nothing_put (g.K.Sink.written c.args.out.now) (written (head_lines c.args.profile.now)), refl, refl)) refl;
+      opens_err c.from_residual.result stop.Memory c.args.profile.now c.args.seed before _ _ after c.from_residual.ensures.1 ((nothing_put (g.K.Sink.written c.args.out.now) (lines_text (head_lines c.args.profile.now)), refl, refl)) refl;
 }
 
 pub returns-in_err-write_head : goal.returns-in_err-write_head
@@ -26,7 +26,7 @@ returns-in_err-write_head g c = record {
   opens = λ boards.
       let before : Outside = record { written = g.K.Sink.written c.args.out.now; faults = g.K.Sink.faults c.args.out.now; clock = g.C.Clock.told c.args.clock.now; inboxes = g.L.Link.inboxes c.args.link.now; failures = g.L.Link.faults c.args.link.now; boards = boards } in
       let after : Outside = record { written = g.K.Sink.written c.args.out.now; faults = g.K.Sink.faults c.args.out.now; clock = g.C.Clock.told c.args.clock.now; inboxes = g.L.Link.inboxes c.args.link.now; failures = g.L.Link.faults c.args.link.now; boards = boards } in
-      opens_err c.from_residual-in_err-write_head.result stop.Memory c.args.profile.now c.args.seed before _ _ after c.from_residual-in_err-write_head.ensures.1 ((nothing_put (g.K.Sink.written c.args.out.now) (written (head_lines c.args.profile.now)), refl, refl)) refl;
+      opens_err c.from_residual-in_err-write_head.result stop.Memory c.args.profile.now c.args.seed before _ _ after c.from_residual-in_err-write_head.ensures.1 ((nothing_put (g.K.Sink.written c.args.out.now) (lines_text (head_lines c.args.profile.now)), refl, refl)) refl;
 }
 
 pub returns-in_err-put : goal.returns-in_err-put
@@ -34,7 +34,7 @@ returns-in_err-put g c = record {
   opens = λ boards.
       let before : Outside = record { written = g.K.Sink.written c.args.out.now; faults = g.K.Sink.faults c.args.out.now; clock = g.C.Clock.told c.args.clock.now; inboxes = g.L.Link.inboxes c.args.link.now; failures = g.L.Link.faults c.args.link.now; boards = boards } in
       let after : Outside = record { written = g.K.Sink.written c.put.new.out; faults = g.K.Sink.faults c.put.new.out; clock = g.C.Clock.told c.args.clock.now; inboxes = g.L.Link.inboxes c.args.link.now; failures = g.L.Link.faults c.args.link.now; boards = boards } in
-      opens_err c.from_residual-in_err-put.result stop.Write c.args.profile.now c.args.seed before _ _ after (err_is c.from_residual-in_err-put.result c.in_err-put.field-0.0 stop.Write c.from_residual-in_err-put.ensures.1 c.in_err-put.ensures.cause) (let front = subst (λ t. PutsFront (g.K.Sink.written c.args.out.now) (g.K.Sink.written c.put.new.out) t) (head_is c.as_slice.result.now c.write_head.new.text.items c.new-text.result.items (written (head_lines c.args.profile.now)) c.as_slice.ensures.value c.in_ok-write_head.ensures c.new-text.ensures.items) c.in_err-put.ensures.err in ((front.0, front.2), c.in_err-put.ensures.failed, refl, refl, c.in_err-put.ensures.counts)) refl;
+      opens_err c.from_residual-in_err-put.result stop.Write c.args.profile.now c.args.seed before _ _ after (err_is c.from_residual-in_err-put.result c.in_err-put.field-0.0 stop.Write c.from_residual-in_err-put.ensures.1 c.in_err-put.ensures.cause) (let front = subst (λ t. PutsFront (g.K.Sink.written c.args.out.now) (g.K.Sink.written c.put.new.out) t) (head_is c.as_slice.result.now c.write_head.new.text.items c.new-text.result.items (lines_text (head_lines c.args.profile.now)) c.as_slice.ensures.value c.in_ok-write_head.ensures c.new-text.ensures.items) c.in_err-put.ensures.err in ((front.0, front.2), c.in_err-put.ensures.failed, refl, refl, c.in_err-put.ensures.counts)) refl;
 }
 
 pub returns-in_err-open : goal.returns-in_err-open
@@ -42,7 +42,7 @@ returns-in_err-open g c = record {
   opens = λ boards.
       let before : Outside = record { written = g.K.Sink.written c.args.out.now; faults = g.K.Sink.faults c.args.out.now; clock = g.C.Clock.told c.args.clock.now; inboxes = g.L.Link.inboxes c.args.link.now; failures = g.L.Link.faults c.args.link.now; boards = boards } in
       let after : Outside = record { written = g.K.Sink.written c.put.new.out; faults = g.K.Sink.faults c.put.new.out; clock = g.C.Clock.told c.args.clock.now; inboxes = g.L.Link.inboxes c.open.new.link; failures = g.L.Link.faults c.open.new.link; boards = boards } in
-      opens_err c.from_residual-in_err-open.result c.in_err-open.field-0.0 c.args.profile.now c.args.seed before _ _ after c.from_residual-in_err-open.ensures.1 (open_hindered c.in_err-open.field-0.0 c.args.profile.now before after 0 0 _ c.in_err-open.ensures.opens (subst (λ t. Puts (g.K.Sink.written c.args.out.now) (g.K.Sink.written c.put.new.out) t) (head_is c.as_slice.result.now c.write_head.new.text.items c.new-text.result.items (written (head_lines c.args.profile.now)) c.as_slice.ensures.value c.in_ok-write_head.ensures c.new-text.ensures.items) c.in_ok-put.ensures.ok) c.in_ok-put.ensures.unfailed) refl;
+      opens_err c.from_residual-in_err-open.result c.in_err-open.field-0.0 c.args.profile.now c.args.seed before _ _ after c.from_residual-in_err-open.ensures.1 (open_hindered c.in_err-open.field-0.0 c.args.profile.now before after 0 0 _ c.in_err-open.ensures.opens (subst (λ t. Puts (g.K.Sink.written c.args.out.now) (g.K.Sink.written c.put.new.out) t) (head_is c.as_slice.result.now c.write_head.new.text.items c.new-text.result.items (lines_text (head_lines c.args.profile.now)) c.as_slice.ensures.value c.in_ok-write_head.ensures c.new-text.ensures.items) c.in_ok-put.ensures.ok) c.in_ok-put.ensures.unfailed) refl;
 }
 
 pub returns : goal.returns
@@ -55,7 +55,7 @@ returns g c = record {
     told = c.begin-timeline.ensures.told;
     known = c.begin-timeline.ensures.reached;
     addressees_are = c.in_ok-open.ensures.opens.2;
-    put = subst (λ t. Puts (g.K.Sink.written c.args.out.now) (g.K.Sink.written c.put.new.out) t) (head_is c.as_slice.result.now c.write_head.new.text.items c.new-text.result.items (written (head_lines c.args.profile.now)) c.as_slice.ensures.value c.in_ok-write_head.ensures c.new-text.ensures.items) c.in_ok-put.ensures.ok;
+    put = subst (λ t. Puts (g.K.Sink.written c.args.out.now) (g.K.Sink.written c.put.new.out) t) (head_is c.as_slice.result.now c.write_head.new.text.items c.new-text.result.items (lines_text (head_lines c.args.profile.now)) c.as_slice.ensures.value c.in_ok-write_head.ensures c.new-text.ensures.items) c.in_ok-put.ensures.ok;
     inboxes = c.in_ok-open.ensures.opens.0;
     faults = c.in_ok-put.ensures.unfailed;
     failures = c.in_ok-open.ensures.opens.1;

@@ -39,7 +39,7 @@ pub returns-in-Err-Memory : goal.returns-in-Err-Memory
 returns-in-Err-Memory g c = λ seed initial w run count is stands.
     read_unread c.args.motes c.args.pages seed w initial _ run (stands_read w initial _ _ c.finish.ensures.boards (c.in-Err-Memory.ensures.calm_memory (ap Err c.in-Err-Memory.field-0-is)) (c.finish.ensures.others w is) stands)
 
-pub returns-in-Err-Flash : goal.returns-in-Err-Flash
-returns-in-Err-Flash g c = λ seed initial w run count is stands.
+pub returns : goal.returns
+returns g c = λ seed initial w run count is stands.
     let e = ap Err c.in-Err-Flash.field-0-is in
     inr (inr (read_stopped c.args.motes c.args.pages seed w c.in-Err-Flash.field-0-0 initial _ _ run count (c.in-Err-Flash.ensures.known_board c.in-Err-Flash.field-0-0 e w is) c.finish.ensures.boards (c.finish.ensures.others w is) (c.in-Err-Flash.ensures.flash c.in-Err-Flash.field-0-0 e) stands))

@@ -4,8 +4,9 @@ use Rattle.std.proofs.lemmas.Result.{err_from_is_err_and}
 use Rattle.dg_base.specs.declared.events.Event.{Event}
 use Rattle.dg_base.specs.declared.events.Event.TheVariants.{Inject}
 use Rattle.dg_rounds.specs.Rounds.{times, sweep}
+use Rattle.dg_seed.specs.Words.{generator_of}
 use Rattle.dg_trial.specs.Schedule.{Part, always, resets, opening, disturbances}
-use Rattle.dg_trial.specs.Playing.{Plays}
+use Rattle.dg_trial.specs.Playing.{PartsPlay}
 use Rattle.dg_trial.proofs.PartLemmas.{so_far_none, so_far_more, so_far_stop, may_next}
 use Rattle.dg_trial.proofs.LoopLemmas.{five, resting_split, played_so_far}
 use Rattle.dg_trial.proofs.playing.play.Goals as goal
@@ -17,7 +18,7 @@ play_resets-requires g c =
     let old = map g.N.Nor.device c.args.boards.now.items in
     let r : List Part = map always (resets n) in
     let i : List Part = always (Inject 0 1 1 0 0) ∷ [] in
-    let d : List Part = disturbances n (100 * n) c.args.words.now.generator in
+    let d : List Part = disturbances n (100 * n) (generator_of c.args.words.now) in
     let es : List Event = times c.args.sweeps (sweep c.args.links.now) in
     let s : List Part = map always es in
     let whole : List Part = opening n ++ (d ++ map always (resets n ++ es)) in
@@ -31,7 +32,7 @@ play_injection-requires g c =
     let old = map g.N.Nor.device c.args.boards.now.items in
     let r : List Part = map always (resets n) in
     let i : List Part = always (Inject 0 1 1 0 0) ∷ [] in
-    let d : List Part = disturbances n (100 * n) c.args.words.now.generator in
+    let d : List Part = disturbances n (100 * n) (generator_of c.args.words.now) in
     let es : List Event = times c.args.sweeps (sweep c.args.links.now) in
     let s : List Part = map always es in
     let whole : List Part = opening n ++ (d ++ map always (resets n ++ es)) in
@@ -46,7 +47,7 @@ play_disturbances-requires-clause-may g c =
     let old = map g.N.Nor.device c.args.boards.now.items in
     let r : List Part = map always (resets n) in
     let i : List Part = always (Inject 0 1 1 0 0) ∷ [] in
-    let d : List Part = disturbances n (100 * n) c.args.words.now.generator in
+    let d : List Part = disturbances n (100 * n) (generator_of c.args.words.now) in
     let es : List Event = times c.args.sweeps (sweep c.args.links.now) in
     let s : List Part = map always es in
     let whole : List Part = opening n ++ (d ++ map always (resets n ++ es)) in
@@ -62,7 +63,7 @@ play_resets-requires-2 g c =
     let old = map g.N.Nor.device c.args.boards.now.items in
     let r : List Part = map always (resets n) in
     let i : List Part = always (Inject 0 1 1 0 0) ∷ [] in
-    let d : List Part = disturbances n (100 * n) c.args.words.now.generator in
+    let d : List Part = disturbances n (100 * n) (generator_of c.args.words.now) in
     let es : List Event = times c.args.sweeps (sweep c.args.links.now) in
     let s : List Part = map always es in
     let whole : List Part = opening n ++ (d ++ map always (resets n ++ es)) in
@@ -79,7 +80,7 @@ play_sweeps-requires g c =
     let old = map g.N.Nor.device c.args.boards.now.items in
     let r : List Part = map always (resets n) in
     let i : List Part = always (Inject 0 1 1 0 0) ∷ [] in
-    let d : List Part = disturbances n (100 * n) c.args.words.now.generator in
+    let d : List Part = disturbances n (100 * n) (generator_of c.args.words.now) in
     let es : List Event = times c.args.sweeps (sweep c.args.links.now) in
     let s : List Part = map always es in
     let whole : List Part = opening n ++ (d ++ map always (resets n ++ es)) in
@@ -98,7 +99,7 @@ returns-in_err-play_resets g c =
     let old = map g.N.Nor.device c.args.boards.now.items in
     let r : List Part = map always (resets n) in
     let i : List Part = always (Inject 0 1 1 0 0) ∷ [] in
-    let d : List Part = disturbances n (100 * n) c.args.words.now.generator in
+    let d : List Part = disturbances n (100 * n) (generator_of c.args.words.now) in
     let es : List Event = times c.args.sweeps (sweep c.args.links.now) in
     let s : List Part = map always es in
     let whole : List Part = opening n ++ (d ++ map always (resets n ++ es)) in
@@ -114,7 +115,7 @@ returns-in_err-play_injection g c =
     let old = map g.N.Nor.device c.args.boards.now.items in
     let r : List Part = map always (resets n) in
     let i : List Part = always (Inject 0 1 1 0 0) ∷ [] in
-    let d : List Part = disturbances n (100 * n) c.args.words.now.generator in
+    let d : List Part = disturbances n (100 * n) (generator_of c.args.words.now) in
     let es : List Event = times c.args.sweeps (sweep c.args.links.now) in
     let s : List Part = map always es in
     let whole : List Part = opening n ++ (d ++ map always (resets n ++ es)) in
@@ -131,7 +132,7 @@ returns-in_err-play_disturbances g c =
     let old = map g.N.Nor.device c.args.boards.now.items in
     let r : List Part = map always (resets n) in
     let i : List Part = always (Inject 0 1 1 0 0) ∷ [] in
-    let d : List Part = disturbances n (100 * n) c.args.words.now.generator in
+    let d : List Part = disturbances n (100 * n) (generator_of c.args.words.now) in
     let es : List Event = times c.args.sweeps (sweep c.args.links.now) in
     let s : List Part = map always es in
     let whole : List Part = opening n ++ (d ++ map always (resets n ++ es)) in
@@ -149,7 +150,7 @@ returns-in_err-play_resets-2 g c =
     let old = map g.N.Nor.device c.args.boards.now.items in
     let r : List Part = map always (resets n) in
     let i : List Part = always (Inject 0 1 1 0 0) ∷ [] in
-    let d : List Part = disturbances n (100 * n) c.args.words.now.generator in
+    let d : List Part = disturbances n (100 * n) (generator_of c.args.words.now) in
     let es : List Event = times c.args.sweeps (sweep c.args.links.now) in
     let s : List Part = map always es in
     let whole : List Part = opening n ++ (d ++ map always (resets n ++ es)) in
@@ -168,7 +169,7 @@ returns-in_err-play_sweeps g c =
     let old = map g.N.Nor.device c.args.boards.now.items in
     let r : List Part = map always (resets n) in
     let i : List Part = always (Inject 0 1 1 0 0) ∷ [] in
-    let d : List Part = disturbances n (100 * n) c.args.words.now.generator in
+    let d : List Part = disturbances n (100 * n) (generator_of c.args.words.now) in
     let es : List Event = times c.args.sweeps (sweep c.args.links.now) in
     let s : List Part = map always es in
     let whole : List Part = opening n ++ (d ++ map always (resets n ++ es)) in
@@ -187,7 +188,7 @@ returns g c =
     let old = map g.N.Nor.device c.args.boards.now.items in
     let r : List Part = map always (resets n) in
     let i : List Part = always (Inject 0 1 1 0 0) ∷ [] in
-    let d : List Part = disturbances n (100 * n) c.args.words.now.generator in
+    let d : List Part = disturbances n (100 * n) (generator_of c.args.words.now) in
     let es : List Event = times c.args.sweeps (sweep c.args.links.now) in
     let s : List Part = map always es in
     let whole : List Part = opening n ++ (d ++ map always (resets n ++ es)) in
@@ -197,4 +198,4 @@ returns g c =
     let s3 = so_far_more (r ++ i) d first c.play_injection.new.world c.play_disturbances.new.world old _ _ s2 c.in_ok-play_disturbances.ensures in
     let s4 = so_far_more ((r ++ i) ++ d) r first c.play_disturbances.new.world c.play_resets-2.new.world old _ _ s3 c.in_ok-play_resets-2.ensures in
     let s5 = so_far_more (((r ++ i) ++ d) ++ r) s first c.play_resets-2.new.world c.play_sweeps.new.world old _ _ s4 c.in_ok-play_sweeps.ensures in
-    subst (λ (ps : List Part). Plays (Ok tt) ps first c.play_sweeps.new.world old (map g.N.Nor.device c.play_sweeps.new.boards.items)) at.all s5.played
+    subst (λ (ps : List Part). PartsPlay (Ok tt) ps first c.play_sweeps.new.world old (map g.N.Nor.device c.play_sweeps.new.boards.items)) at.all s5.played

@@ -1,6 +1,9 @@
-use Rattle.std.proofs.Common.{List, ◌∷◌, [], map, refl, sym, ap, subst, ◌∙◌, arith}
-use Rattle.dg_trial.specs.Schedule.{Part, disturbance}
-use Rattle.dg_trial.specs.Playing.{MayPlayOver, Plays}
+use Rattle.std.proofs.Common.{Option, List, ◌∷◌, [], map, refl, sym, ap, subst, ◌∙◌, arith}
+use Rattle.dg_base.specs.declared.events.Cut.{Cut as PowerCut}
+use Rattle.dg_seed.specs.Words.{generator_of}
+use Rattle.dg_world.specs.Occasions.{step_of}
+use Rattle.dg_trial.specs.Schedule.{Part, only, disturbance}
+use Rattle.dg_trial.specs.Playing.{MayPlayOver, PartsPlay}
 use Rattle.dg_trial.proofs.ScheduleLemmas.{one_disturbance}
 use Rattle.dg_trial.proofs.PartLemmas.{nothing_played, may_only}
 use Rattle.dg_trial.proofs.playing.play_disturbance.Goals as goal
@@ -17,25 +20,28 @@ pub play_step-requires : goal.play_step-requires
 play_step-requires g c =
     let motes = c.args.motes in
     let part : Part = disturbance motes c.next-first.result c.next-second.result c.next-third.result in
-    let one = one_disturbance motes c.args.words.now.generator _ _ _ c.next-first.result c.next-second.result c.next-third.result c.next-first.ensures c.next-second.ensures c.next-third.ensures in
+    let one = one_disturbance motes (generator_of c.args.words.now) _ _ _ c.next-first.result c.next-second.result c.next-third.result c.next-first.ensures.step c.next-second.ensures.step c.next-third.ensures.step in
     let may : MayPlayOver motes c.args.world.now (map g.N.Nor.device c.args.boards.now.items) (part ∷ []) = subst (λ (ps : List Part). MayPlayOver motes c.args.world.now (map g.N.Nor.device c.args.boards.now.items) ps) one.0 c.requires.may in
-    (motes, may_only motes _ _ c.in-Ok.step part may (sym (c.in-Ok.ensures ∙ ap part (c.frames_sent-sent.ensures _ may.world may.is))))
+    let step = c.in-Ok.step in
+    let only_it = may_only motes _ _ step part may (sym (c.in-Ok.ensures ∙ ap part (c.frames_sent-sent.ensures _ may.world may.is))) in
+    let P : Option PowerCut → Type 0 = λ cut. MayPlayOver motes c.args.world.now (map g.N.Nor.device c.args.boards.now.items) (only (step_of step.event cut)) in
+    (motes, subst P (sym c.as_ref.ensures.value) only_it)
 
 pub returns-in-Ok-clause-played : goal.returns-in-Ok-clause-played
 returns-in-Ok-clause-played g c =
     let motes = c.args.motes in
     let part : Part = disturbance motes c.next-first.result c.next-second.result c.next-third.result in
-    let one = one_disturbance motes c.args.words.now.generator _ _ _ c.next-first.result c.next-second.result c.next-third.result c.next-first.ensures c.next-second.ensures c.next-third.ensures in
-    subst (λ (ps : List Part). Plays c.play_step.result ps c.args.world.now c.play_step.new.world (map g.N.Nor.device c.args.boards.now.items) (map g.N.Nor.device c.play_step.new.boards.items)) (sym one.0)
-    (c.play_step.ensures part (λ w is. sym (c.in-Ok.ensures ∙ ap part (c.frames_sent-sent.ensures _ w is))))
+    let one = one_disturbance motes (generator_of c.args.words.now) _ _ _ c.next-first.result c.next-second.result c.next-third.result c.next-first.ensures.step c.next-second.ensures.step c.next-third.ensures.step in
+    subst (λ (ps : List Part). PartsPlay c.play_step.result ps c.args.world.now c.play_step.new.world (map g.N.Nor.device c.args.boards.now.items) (map g.N.Nor.device c.play_step.new.boards.items)) (sym one.0)
+    (c.play_step.ensures part (λ w is. sym (c.in-Ok.ensures ∙ ap part (c.frames_sent-sent.ensures _ w is)) ∙ ap (step_of c.in-Ok.step.event) (sym c.as_ref.ensures.value)))
 
 pub returns-in-Ok-clause-drawn : goal.returns-in-Ok-clause-drawn
 returns-in-Ok-clause-drawn g c =
-    sym (one_disturbance c.args.motes c.args.words.now.generator _ _ _ c.next-first.result c.next-second.result c.next-third.result c.next-first.ensures c.next-second.ensures c.next-third.ensures).1
+    sym (one_disturbance c.args.motes (generator_of c.args.words.now) _ _ _ c.next-first.result c.next-second.result c.next-third.result c.next-first.ensures.step c.next-second.ensures.step c.next-third.ensures.step).1
 
 pub returns-in-Err-clause-played : goal.returns-in-Err-clause-played
 returns-in-Err-clause-played g c = λ w initial is stands. nothing_played w _ initial _ _ refl stands
 
 pub returns-in-Err-clause-drawn : goal.returns-in-Err-clause-drawn
 returns-in-Err-clause-drawn g c =
-    sym (one_disturbance c.args.motes c.args.words.now.generator _ _ _ c.next-first.result c.next-second.result c.next-third.result c.next-first.ensures c.next-second.ensures c.next-third.ensures).1
+    sym (one_disturbance c.args.motes (generator_of c.args.words.now) _ _ _ c.next-first.result c.next-second.result c.next-third.result c.next-first.ensures.step c.next-second.ensures.step c.next-third.ensures.step).1

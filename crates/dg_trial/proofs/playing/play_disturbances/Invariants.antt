@@ -1,4 +1,5 @@
 use Rattle.std.proofs.Common.{◌≡◌, map}
+use Rattle.dg_seed.specs.Words.{generator_of}
 use Rattle.dg_trial.specs.Schedule.{drawn}
 use Rattle.dg_trial.proofs.PartLemmas.{SoFar}
 use Rattle.dg_trial.proofs.LoopLemmas.{disturbed_front}
@@ -7,6 +8,6 @@ use Rattle.dg_trial.proofs.playing.play_disturbances.Given as goal
 -- so many disturbances are played, and three words were drawn for each
 abbrev pub invariant-loop : goal.invariant-loop
 invariant-loop g l = record {
-  words : l.words.generator ≡ drawn l.counter l.fn.words.generator;
-  played : SoFar (disturbed_front l.motes l.fn.words.generator l.counter) l.fn.world l.world (map g.N.Nor.device l.fn.boards.items) (map g.N.Nor.device l.boards.items);
+  words : generator_of l.words ≡ drawn l.counter (generator_of l.fn.words);
+  played : SoFar (disturbed_front l.motes (generator_of l.fn.words) l.counter) l.fn.world l.world (map g.N.Nor.device l.fn.boards.items) (map g.N.Nor.device l.boards.items);
 }

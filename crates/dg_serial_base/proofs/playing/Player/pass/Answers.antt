@@ -1,15 +1,15 @@
 use Rattle.dg_mote.specs.Motes.{sent_in}
 use Rattle.dg_serial.specs.Line.{line_of}
-use Rattle.dg_serial_base.specs.Standing.{one_if}
+use Rattle.dg_serial_base.specs.Standing.{deed_left, one_if}
 use Rattle.dg_serial_base.proofs.LineLemmas.{pass_halts}
 use Rattle.dg_serial_base.proofs.PlayLemmas.{pass_goes, send_counts, send_reads, write_calm, read_calm}
 use Rattle.dg_serial_base.proofs.ResultLemmas.{on_ok}
 use Rattle.dg_serial_base.proofs.playing.Player.pass.Goals as goal
 
 pub returns-in-Ok-clause-ends : goal.returns-in-Ok-clause-ends
-returns-in-Ok-clause-ends g c = λ b s done first went.
-    pass_goes c.send.result b s done first (g.K.Sink.written c.args.out.now) (g.K.Sink.written c.send.new.out) c.args.self.now.running c.tick.new.self _ _ (sent_in c.tick.new.outbox) went
-    (c.in-Ok.ensures.ends b s done went.there went.stood) c.send.ensures.sends
+returns-in-Ok-clause-ends g c = λ a done went.
+    pass_goes c.send.result a done _ (g.K.Sink.written c.send.new.out) (deed_left c.tick.new.self (g.N.Nor.device c.tick.new.nor) (sent_in c.tick.new.outbox)) went
+    (c.in-Ok.ensures.ends a.base a.store done went.there went.stood) c.send.ensures.sends
 
 pub returns-in-Ok-clause-stood : goal.returns-in-Ok-clause-stood
 returns-in-Ok-clause-stood g c = on_ok c.send.result c.in-Ok.ensures.stood
@@ -19,8 +19,8 @@ returns-in-Ok-clause-counts g c =
     send_counts c.send.result (line_of (one_if (sent_in c.tick.new.outbox))) (g.K.Sink.written c.args.out.now) (g.K.Sink.written c.send.new.out) _ _ c.in-Ok.ensures.counts c.send.ensures.sends
 
 pub returns-in-Err-clause-ends : goal.returns-in-Err-clause-ends
-returns-in-Err-clause-ends g c = λ b s done first went.
-    pass_halts c.in-Err.stop b s done first (g.K.Sink.written c.args.out.now) c.args.self.now.running _ _ went (c.in-Err.ensures.ends b s done went.there went.stood)
+returns-in-Err-clause-ends g c = λ a done went.
+    pass_halts c.in-Err.stop a done _ _ went (c.in-Err.ensures.ends a.base a.store done went.there went.stood)
 
 pub returns-in-Err-clause-writes : goal.returns-in-Err-clause-writes
 returns-in-Err-clause-writes g c = let r = c.requires.stood in write_calm c.in-Err.stop r.0 r.1 r.2 _ r.3 _ _ (c.in-Err.ensures.ends r.0 r.1 r.2 r.3 r.4)

@@ -6,19 +6,19 @@ use Rattle.dg_serial_base.proofs.LineLemmas.{went_along, goes_along}
 use Rattle.dg_serial_base.proofs.playing.Player.play.Goals as goal
 
 pub returns-in-More-clause-ends : goal.returns-in-More-clause-ends
-returns-in-More-clause-ends g c = λ b s done first went.
-    went_along b s done (done ++ deeds_of_items (told c.args.fed.now)) first _ _ _ (sym (append-nil done) ∙ ap (λ (f : Fed). done ++ deeds_of_items (told f)) (sym c.in-More.is)) went
+returns-in-More-clause-ends g c = λ a done went.
+    went_along a done (done ++ deeds_of_items (told c.args.fed.now)) _ (sym (append-nil done) ∙ ap (λ (f : Fed). done ++ deeds_of_items (told f)) (sym c.in-More.is)) went
 
 pub returns-in-Frame-clause-ends : goal.returns-in-Frame-clause-ends
-returns-in-Frame-clause-ends g c = λ b s done first went.
-    goes_along c.play_frame.result b s (done ++ Hears c.as_slice.result.now ∷ Ticks ∷ []) (done ++ deeds_of_items (told c.args.fed.now)) first _ _ _
+returns-in-Frame-clause-ends g c = λ a done went.
+    goes_along c.play_frame.result a (done ++ Hears c.as_slice.result.now ∷ Ticks ∷ []) (done ++ deeds_of_items (told c.args.fed.now)) _
     (ap (λ (x : List ℕ). done ++ Hears x ∷ Ticks ∷ []) c.as_slice.ensures.value ∙ ap (λ (f : Fed). done ++ deeds_of_items (told f)) (sym c.in-Frame.is))
-    (c.play_frame.ensures.ends b s done first went)
+    (c.play_frame.ensures.ends a done went)
 
 pub returns-in-Escape-clause-ends : goal.returns-in-Escape-clause-ends
-returns-in-Escape-clause-ends g c = λ b s done first went.
-    goes_along c.pass.result b s (done ++ Ticks ∷ []) (done ++ deeds_of_items (told c.args.fed.now)) first _ _ _ (ap (λ (f : Fed). done ++ deeds_of_items (told f)) (sym c.in-Escape.is)) (c.pass.ensures.ends b s done first went)
+returns-in-Escape-clause-ends g c = λ a done went.
+    goes_along c.pass.result a (done ++ Ticks ∷ []) (done ++ deeds_of_items (told c.args.fed.now)) _ (ap (λ (f : Fed). done ++ deeds_of_items (told f)) (sym c.in-Escape.is)) (c.pass.ensures.ends a done went)
 
 pub returns-in-Long-clause-ends : goal.returns-in-Long-clause-ends
-returns-in-Long-clause-ends g c = λ b s done first went.
-    goes_along c.pass-in-Long.result b s (done ++ Ticks ∷ []) (done ++ deeds_of_items (told c.args.fed.now)) first _ _ _ (ap (λ (f : Fed). done ++ deeds_of_items (told f)) (sym c.in-Long.is)) (c.pass-in-Long.ensures.ends b s done first went)
+returns-in-Long-clause-ends g c = λ a done went.
+    goes_along c.pass-in-Long.result a (done ++ Ticks ∷ []) (done ++ deeds_of_items (told c.args.fed.now)) _ (ap (λ (f : Fed). done ++ deeds_of_items (told f)) (sym c.in-Long.is)) (c.pass-in-Long.ensures.ends a done went)

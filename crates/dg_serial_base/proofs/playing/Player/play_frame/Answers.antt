@@ -6,18 +6,18 @@ use Rattle.dg_serial_base.proofs.ResultLemmas.{counts_after}
 use Rattle.dg_serial_base.proofs.playing.Player.play_frame.Goals as goal
 
 pub returns-in-Ok-clause-ends : goal.returns-in-Ok-clause-ends
-returns-in-Ok-clause-ends g c = λ b s done first went.
+returns-in-Ok-clause-ends g c = λ a done went.
     let bytes = c.args.bytes.now in
-    goes_along c.pass.result b s ((done ++ Hears bytes ∷ []) ++ Ticks ∷ []) (done ++ Hears bytes ∷ Ticks ∷ []) first (g.K.Sink.written c.pass.new.out) _ _ (append_assoc done (Hears bytes ∷ []) (Ticks ∷ []))
-    (c.pass.ensures.ends b s (done ++ Hears bytes ∷ []) first
-    (hear_goes b s done bytes first (g.K.Sink.written c.args.out.now) c.args.self.now.running c.hear.new.self _ _ went (c.in-Ok.ensures.ends b s done went.there went.stood)))
+    goes_along c.pass.result a ((done ++ Hears bytes ∷ []) ++ Ticks ∷ []) (done ++ Hears bytes ∷ Ticks ∷ []) _ (append_assoc done (Hears bytes ∷ []) (Ticks ∷ []))
+    (c.pass.ensures.ends a (done ++ Hears bytes ∷ [])
+    (hear_goes a done bytes _ c.hear.new.self _ went (c.in-Ok.ensures.ends a.base a.store done went.there went.stood)))
 
 pub returns-in-Ok-clause-counts : goal.returns-in-Ok-clause-counts
 returns-in-Ok-clause-counts g c = counts_after c.pass.result _ _ _ c.in-Ok.ensures.counts c.pass.ensures.counts
 
 pub returns-in-Err-clause-ends : goal.returns-in-Err-clause-ends
-returns-in-Err-clause-ends g c = λ b s done first went.
-    hear_halts c.in-Err.stop b s done c.args.bytes.now first (g.K.Sink.written c.args.out.now) c.args.self.now.running _ _ went (c.in-Err.ensures.ends b s done went.there went.stood)
+returns-in-Err-clause-ends g c = λ a done went.
+    hear_halts c.in-Err.stop a done c.args.bytes.now _ _ went (c.in-Err.ensures.ends a.base a.store done went.there went.stood)
 
 pub returns-in-Err-clause-writes : goal.returns-in-Err-clause-writes
 returns-in-Err-clause-writes g c = let r = c.requires.stood in write_calm c.in-Err.stop r.0 r.1 r.2 _ r.3 _ _ (c.in-Err.ensures.ends r.0 r.1 r.2 r.3 r.4)

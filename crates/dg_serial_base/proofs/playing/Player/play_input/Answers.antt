@@ -1,13 +1,13 @@
 use Rattle.std.proofs.Common.{◌≡◌, ◌≤◌, ℕ, refl, sym, ◌∙◌, subst, arith}
 use Rattle.dg_base.specs.Sizes.{most_input}
-use Rattle.dg_serial_base.specs.Standing.{Counts, WriteCounts, ReadCounts, WritesBy, ReadsBy, Consumed, InputEnds}
+use Rattle.dg_serial_base.specs.Standing.{code_on_line, Counts, WriteCounts, ReadCounts, WritesBy, ReadsBy, Consumed, InputEnds}
 use Rattle.dg_serial_base.proofs.StartLemmas.{calm_same, calm_then}
 use Rattle.dg_serial_base.proofs.ResultLemmas.{handed, counts_by_after}
 use Rattle.dg_serial_base.proofs.InputLemmas.{consumed_none, consumed_more, input_ends, input_fails, last_ends, last_counts, last_writes}
 use Rattle.dg_serial_base.proofs.playing.Player.play_input.Goals as goal
 
 pub loop-used-init : goal.loop-used-init
-loop-used-init g c = (c.requires.stood, calm_same _, refl, refl, omega (arith, c.requires.early), c.requires.little, omega arith, c.requires.some, λ b s first p. consumed_none b s (g.S.Source.left c.args.input.now) first (g.K.Sink.written c.args.out.now) c.args.self.now.running c.args.self.now.line (g.N.Nor.device c.args.nor.now) p)
+loop-used-init g c = (c.requires.stood, calm_same _, refl, refl, omega (arith, c.requires.early), c.requires.little, omega arith, c.requires.some, λ a p. consumed_none a (g.S.Source.left c.args.input.now) (code_on_line (g.K.Sink.written c.args.out.now) c.args.self.now.running c.args.self.now.line (g.N.Nor.device c.args.nor.now)) p)
 
 pub play_piece-requires-clause-some : goal.play_piece-requires-clause-some
 play_piece-requires-clause-some g c = c.loop-used.invariant.7
@@ -22,14 +22,15 @@ pub play_piece-requires-clause-little : goal.play_piece-requires-clause-little
 play_piece-requires-clause-little g c = c.loop-used.invariant.5
 
 pub returns-in_err-count-clause-ends : goal.returns-in_err-count-clause-ends
-returns-in_err-count-clause-ends g c = λ b s first p.
+returns-in_err-count-clause-ends g c = λ a p.
     let inv = c.loop-used.invariant in
     let f = c.in_err-count.field-0.0 in
-    let x = inv.8 b s first p in
-    handed (λ r. InputEnds r b s (g.S.Source.left c.args.input.now) (g.S.Source.left c.play_piece.new.input) first (g.K.Sink.written c.play_piece.new.out) c.play_piece.new.self.running c.play_piece.new.self.line (g.N.Nor.device c.play_piece.new.nor))
+    let x = inv.8 a p in
+    handed (λ r. InputEnds r a (g.S.Source.left c.args.input.now) (g.S.Source.left c.play_piece.new.input) (code_on_line (g.K.Sink.written c.play_piece.new.out) c.play_piece.new.self.running c.play_piece.new.self.line (g.N.Nor.device c.play_piece.new.nor)))
     c.from_residual.result f c.from_residual.ensures.1
-    (input_fails b s c.loop-used.used (g.S.Source.left c.args.input.now) (g.S.Source.left c.loop-used.input) (g.S.Source.left c.play_piece.new.input) first (g.K.Sink.written c.loop-used.out) (g.K.Sink.written c.play_piece.new.out)
-    c.loop-used.self.running c.play_piece.new.self.running c.loop-used.self.line c.play_piece.new.self.line (g.N.Nor.device c.loop-used.nor) (g.N.Nor.device c.play_piece.new.nor) x f inv.6 (c.in_err-count.ensures.ends b s x.stream first x.played))
+    (input_fails a c.loop-used.used (g.S.Source.left c.args.input.now) (g.S.Source.left c.loop-used.input) (g.S.Source.left c.play_piece.new.input)
+    (code_on_line (g.K.Sink.written c.loop-used.out) c.loop-used.self.running c.loop-used.self.line (g.N.Nor.device c.loop-used.nor))
+    (code_on_line (g.K.Sink.written c.play_piece.new.out) c.play_piece.new.self.running c.play_piece.new.self.line (g.N.Nor.device c.play_piece.new.nor)) x f inv.6 (c.in_err-count.ensures.ends a x.stream x.played))
 
 pub returns-in_err-count-clause-counts : goal.returns-in_err-count-clause-counts
 returns-in_err-count-clause-counts g c =
@@ -50,12 +51,13 @@ returns-in_err-count-clause-reads g c =
     handed (λ r. ReadCounts r (g.S.Source.faults c.args.input.now) z) c.from_residual.result f c.from_residual.ensures.1 (subst (λ (n : ℕ). ReadsBy f n z) c.loop-used.invariant.3 c.in_err-count.ensures.reads)
 
 pub returns-then-count-eq0-clause-ends : goal.returns-then-count-eq0-clause-ends
-returns-then-count-eq0-clause-ends g c = λ b s first p.
+returns-then-count-eq0-clause-ends g c = λ a p.
     let inv = c.loop-used.invariant in
-    let x = inv.8 b s first p in
-    input_ends b s c.loop-used.used (g.S.Source.left c.args.input.now) (g.S.Source.left c.loop-used.input) (g.S.Source.left c.play_piece.new.input) first (g.K.Sink.written c.loop-used.out) (g.K.Sink.written c.play_piece.new.out)
-    c.loop-used.self.running c.play_piece.new.self.running c.loop-used.self.line c.play_piece.new.self.line (g.N.Nor.device c.loop-used.nor) (g.N.Nor.device c.play_piece.new.nor) x c.in_ok-count.count c.if-count-eq0.true inv.6
-    (c.in_ok-count.ensures.ends b s x.stream first x.played)
+    let x = inv.8 a p in
+    input_ends a c.loop-used.used (g.S.Source.left c.args.input.now) (g.S.Source.left c.loop-used.input) (g.S.Source.left c.play_piece.new.input)
+    (code_on_line (g.K.Sink.written c.loop-used.out) c.loop-used.self.running c.loop-used.self.line (g.N.Nor.device c.loop-used.nor))
+    (code_on_line (g.K.Sink.written c.play_piece.new.out) c.play_piece.new.self.running c.play_piece.new.self.line (g.N.Nor.device c.play_piece.new.nor)) x c.in_ok-count.count c.if-count-eq0.true inv.6
+    (c.in_ok-count.ensures.ends a x.stream x.played)
 
 pub returns-then-count-eq0-clause-counts : goal.returns-then-count-eq0-clause-counts
 returns-then-count-eq0-clause-counts g c = calm_then _ _ _ c.loop-used.invariant.1 c.in_ok-count.ensures.counts
@@ -72,23 +74,22 @@ loop-used-preserved g c =
       subst (λ (n : ℕ). n ≤ 60000) (sym x.step) inv.5,
       omega (arith, x.few, inv.6),
       omega (arith, c.play_piece.auto.piece, inv.7),
-      λ b s first p.
-          let y = inv.8 b s first p in
-          consumed_more b s c.loop-used.used (g.S.Source.left c.args.input.now) (g.S.Source.left c.loop-used.input) (g.S.Source.left c.play_piece.new.input) first (g.K.Sink.written c.loop-used.out) (g.K.Sink.written c.play_piece.new.out)
-          c.loop-used.self.running c.play_piece.new.self.running c.loop-used.self.line c.play_piece.new.self.line (g.N.Nor.device c.loop-used.nor) (g.N.Nor.device c.play_piece.new.nor) y _ c.in_ok-count.count
-          (x.ends b s y.stream first y.played),
+      λ a p.
+          let y = inv.8 a p in
+          consumed_more a c.loop-used.used (g.S.Source.left c.args.input.now) (g.S.Source.left c.loop-used.input) (g.S.Source.left c.play_piece.new.input)
+          (code_on_line (g.K.Sink.written c.loop-used.out) c.loop-used.self.running c.loop-used.self.line (g.N.Nor.device c.loop-used.nor))
+          (code_on_line (g.K.Sink.written c.play_piece.new.out) c.play_piece.new.self.running c.play_piece.new.self.line (g.N.Nor.device c.play_piece.new.nor)) y _ c.in_ok-count.count
+          (x.ends a y.stream y.played),
     )
 
 pub returns-clause-ends : goal.returns-clause-ends
-returns-clause-ends g c = λ b s first p.
+returns-clause-ends g c = λ a p.
     let inv = c.loop-used.invariant in
     let all : c.loop-used.used ≡ most_input = omega (arith, inv.6, c.loop-used-test.false) in
     let l0 = g.S.Source.left c.args.input.now in
     let l1 = g.S.Source.left c.loop-used.input in
-    let w = g.K.Sink.written c.loop-used.out in
-    let dev = g.N.Nor.device c.loop-used.nor in
-    last_ends b s l0 l1 (g.S.Source.left c.expect_end.new.input) first w c.loop-used.self.running c.loop-used.self.line dev
-    (subst (λ (n : ℕ). Consumed b s n l0 l1 first w c.loop-used.self.running c.loop-used.self.line dev) all (inv.8 b s first p)) c.expect_end.result c.expect_end.ensures.ends
+    let now = code_on_line (g.K.Sink.written c.loop-used.out) c.loop-used.self.running c.loop-used.self.line (g.N.Nor.device c.loop-used.nor) in
+    last_ends a l0 l1 (g.S.Source.left c.expect_end.new.input) now (subst (λ (n : ℕ). Consumed a n l0 l1 now) all (inv.8 a p)) c.expect_end.result c.expect_end.ensures.ends
 
 pub returns-clause-counts : goal.returns-clause-counts
 returns-clause-counts g c = last_counts c.expect_end.result (g.S.Source.left c.loop-used.input) (g.S.Source.left c.expect_end.new.input) _ _ c.expect_end.ensures.ends c.loop-used.invariant.1

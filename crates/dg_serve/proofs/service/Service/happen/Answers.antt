@@ -1,4 +1,4 @@
-use Rattle.std.proofs.Common.{◌≡◌, ◌++◌, ◌∷◌, [], map, refl, sym, ap, subst, ◌∙◌, arith, rules}
+use Rattle.std.proofs.Common.{◌≡◌, map, refl, sym, ap, subst, ◌∙◌, arith}
 use Rattle.std.specs.Prelude.{slice_index_or, option_map, length, None}
 use Rattle.dg_base.specs.Outside.{Puts, PutsFront}
 use Rattle.dg_rules.specs.Events.{mote_of}
@@ -7,7 +7,6 @@ use Rattle.dg_world.specs.Alone.{IsAlone}
 use Rattle.dg_world.specs.Worlds.{MayRun}
 use Rattle.std.specs.Vec.{with_items}
 use Rattle.dg_serve.specs.Standings.{Standing, HandedToSome, handed_by}
-use Rattle.dg_serve.specs.Traces.{event_lines}
 use Rattle.dg_script.specs.declared.line.Line.TheVariants.{Happens}
 use Rattle.dg_serve.specs.declared.stop.Stop.TheVariants as stop
 use Rattle.dg_serve.proofs.HappenLemmas.{err_exit, event_is, text_is, setting_of, written_back, memory_ends, stopped_ends, err_as, link_counts, fits_more, is_played, untold_ends, unsent_ends, done_ends}

@@ -1,7 +1,7 @@
-use Rattle.std.proofs.Common.{◌∷◌, [], map}
+use Rattle.std.proofs.Common.{map}
 use Rattle.dg_serve.specs.Each.{each}
-use Rattle.dg_serve.specs.Services.{Begins, Looks, Ticks, turn_of_all}
-use Rattle.dg_serve.specs.Standings.{Standing, Went}
+use Rattle.dg_serve.specs.Services.{turn_of_all}
+use Rattle.dg_serve.specs.Standings.{Went}
 use Rattle.dg_serve.proofs.service.Service.play_turns.Given as goal
 
 abbrev pub invariant-loop-turn : goal.invariant-loop-turn

@@ -1,8 +1,6 @@
-use Rattle.std.proofs.Common.{◌≡◌, ◌∷◌, [], ◌+◌, length, map, refl, sym, ap, subst, ◌∙◌, arith}
+use Rattle.std.proofs.Common.{◌∷◌, [], arith}
 use Rattle.dg_serve.specs.Each.{each}
-use Rattle.dg_serve.specs.Services.{Begins, Looks, Ticks, beginning, turn_of_all, plan}
-use Rattle.dg_serve.specs.Standings.{Standing, Went}
-use Rattle.dg_serve.proofs.EachLemmas.{each_few}
+use Rattle.dg_serve.specs.Services.{Begins, beginning, turn_of_all, plan}
 use Rattle.dg_serve.proofs.GoLemmas.{went_then, went_halts, halts_more}
 use Rattle.dg_serve.proofs.LoopLemmas.{halts_exit, loop_moved}
 use Rattle.dg_serve.proofs.StartLemmas.{some_begun}

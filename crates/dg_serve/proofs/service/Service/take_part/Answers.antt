@@ -1,9 +1,7 @@
-use Rattle.std.proofs.Common.{◌≡◌, ◌∷◌, [], ◌+◌, length, map, refl, sym, ap, subst, ◌∙◌, arith}
-use Rattle.dg_serve.specs.Each.{each}
-use Rattle.dg_serve.specs.Services.{Begins, Looks, Ticks, beginning, turn_of_all}
-use Rattle.dg_serve.specs.Standings.{Standing, Went}
+use Rattle.std.proofs.Common.{◌∷◌, [], arith}
+use Rattle.dg_serve.specs.Services.{Looks, Ticks}
 use Rattle.dg_serve.proofs.GoLemmas.{went_then, went_halts, halts_more}
-use Rattle.dg_serve.proofs.LoopLemmas.{halts_exit, went_some, loop_begins, loop_next, loop_halts, loop_moved, few_in_turn}
+use Rattle.dg_serve.proofs.LoopLemmas.{halts_exit, went_some}
 use Rattle.dg_serve.proofs.service.Service.take_part.Goals as goal
 
 pub look-requires-clause-allowed : goal.look-requires-clause-allowed

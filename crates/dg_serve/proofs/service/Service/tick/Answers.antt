@@ -1,10 +1,9 @@
-use Rattle.std.proofs.Common.{◌≡◌, ◌∷◌, [], ◌+◌, length, map, refl, sym, ap, subst, ◌∙◌, arith, inl, inr}
+use Rattle.std.proofs.Common.{[], map, refl, arith, inr}
 use Rattle.std.proofs.lemmas.List.{length-map}
-use Rattle.std.specs.Prelude.{slice_index_or, Some, None}
-use Rattle.dg_base.specs.declared.events.Event.TheVariants.{Tick, Reset, Frame}
-use Rattle.dg_serve.specs.Services.{Begins, Looks, Ticks}
+use Rattle.dg_base.specs.declared.events.Event.TheVariants.{Tick}
+use Rattle.dg_serve.specs.Services.{Ticks}
 use Rattle.dg_serve.specs.Standings.{Standing}
-use Rattle.dg_serve.proofs.TurnLemmas.{DrawnTo, part_ends, begins_part, ticks_part, looks_part, some_drawn, may_at, may_begin, none_came, look_fails, look_exit}
+use Rattle.dg_serve.proofs.TurnLemmas.{DrawnTo, part_ends, ticks_part, some_drawn, may_at}
 use Rattle.dg_serve.proofs.service.Service.tick.Goals as goal
 
 pub draw-draw-requires-clause-known : goal.draw-draw-requires-clause-known
