@@ -10,7 +10,7 @@ use Rattle.dg_nor.specs.Reads.{Looked, ReadStopped}
 use Rattle.dg_slot.specs.Kept.{Held}
 use Rattle.dg_volume.specs.Store.{Store, held}
 use Rattle.dg_chain.specs.Checking.{Answer, Fine, Broken, Misshapen, answer_of}
-use Rattle.dg_chain.specs.Answers.{Answers, ChainEnds}
+use Rattle.dg_chain.specs.Answers.{ChainAnswers, ChainEnds}
 use Rattle.dg_chain.specs.declared.checking.ChainFault.{ChainFault}
 use Rattle.dg_chain.specs.declared.checking.ChainFault.TheVariants as chain_fault
 use Rattle.dg_tool.specs.declared.refusal.Refusal.TheVariants as refusals
@@ -37,10 +37,10 @@ module _ {T : Type 0} (view : T → List ℕ) (a b : Device) where
   pub check_passes : (r : Result T Stop) (n : ℕ) (answer : Answer) → answer ≡ Fine n → Makes view r (chain_told n) → Looked a b → Checked r (answered answer)
   check_passes r n answer is makes looked = subst (λ (x : Answer). Checked r (answered x)) (sym is) (made_comes view r (chain_told n) Looked ReadStopped a b makes looked)
 
-  pub check_fails : (fault : ChainFault) (stop : Stop) (answer : Answer) → stop ≡ chain_stop fault → Answers (Err fault) answer → ChainEnds {T = ℕ} (Err fault) a b → Checked (Err stop) (answered answer)
+  pub check_fails : (fault : ChainFault) (stop : Stop) (answer : Answer) → stop ≡ chain_stop fault → ChainAnswers (Err fault) answer → ChainEnds {T = ℕ} (Err fault) a b → Checked (Err stop) (answered answer)
   check_fails fault stop answer e is ends = subst (λ (x : Stop). Checked (Err x) (answered answer)) (sym e) (by fault is ends)
     where
-      by : (f : ChainFault) → Answers (Err f) answer → ChainEnds {T = ℕ} (Err f) a b → Checked (Err (chain_stop f)) (answered answer)
+      by : (f : ChainFault) → ChainAnswers (Err f) answer → ChainEnds {T = ℕ} (Err f) a b → Checked (Err (chain_stop f)) (answered answer)
       by chain_fault.Stopped same gone = stopped_comes view (answered answer) Looked ReadStopped a b (answered_needs answer) gone (halts_stopped gone.halts)
       by (chain_fault.Broken page kept found) same gone = subst (λ (x : Answer). Checked (Err (chain_stop (chain_fault.Broken page kept found))) (answered x)) (sym same) (refused_comes view (refusals.Broken page kept found) Looked ReadStopped a b gone)
       by chain_fault.Shape same gone = subst (λ (x : Answer). Checked (Err (chain_stop chain_fault.Shape)) (answered x)) (sym same) (refused_comes view refusals.Shape Looked ReadStopped a b gone)

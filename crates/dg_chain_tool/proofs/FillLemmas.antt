@@ -6,7 +6,7 @@ use Rattle.std.proofs.lemmas.Bool.Decides.{nat_tests}
 use Rattle.sha2.specs.Sha256.{sha256}
 use Rattle.dg_nor.specs.Device.{Device}
 use Rattle.dg_nor.specs.Trail.{Trail, last, EachWorks, joined, resting, stepping}
-use Rattle.dg_nor.proofs.TrailLemmas.{EachWorks-resting, EachWorks-joined, last-joined, last-stepping, last-resting, joined-assoc}
+use Rattle.dg_nor.proofs.TrailLemmas.{EachWorks-resting, EachWorks-joined, last-joined, last-stepping, last-resting, joined-assoc, joined_none}
 use Rattle.dg_slot.specs.Layout.{page_operations}
 use Rattle.dg_slot.specs.Kept.{Held, with_page}
 use Rattle.dg_volume.specs.Sizes.{images}
@@ -16,7 +16,7 @@ use Rattle.dg_volume.specs.Changes.{paged, FitAll}
 use Rattle.dg_volume.specs.Trails.{fill_trail}
 use Rattle.dg_volume.specs.Acts.{Acted, Stops}
 use Rattle.dg_volume.specs.declared.volume.Volume.{Volume}
-use Rattle.dg_volume.proofs.ActLemmas.{joined_none, acted_none, acted_then, stops_first, stops_then}
+use Rattle.dg_volume.proofs.ActLemmas.{acted_none, acted_then, stops_first, stops_then}
 use Rattle.dg_volume.proofs.ActEndLemmas.{held_paged}
 use Rattle.dg_volume.proofs.FillLemmas.{fill_first, fill_works, fill_more, fit_rest, fit_next}
 use Rattle.dg_chain.specs.Checking.{Break, field_of, first_break}
@@ -180,7 +180,7 @@ going_all goal n image a b v g =
 
 -- a page that was not made complete ends it
 pub next_fails : (T U : Type 0) (stop : Stop) (goal : Trail Store) (found : Option Break) (e : List ℕ) (n image : ℕ) (page : List ℕ) (rest : List (List ℕ)) (a b c : Device) (v w : Volume) → found ≡ first_break e n (page ∷ rest)
-    → (g : Going goal (first_break e n (page ∷ rest)) n image (page ∷ rest) a b v) → NextEnds {T = T} (Err stop) n (fits_root e page) (last g.gone) image page b c w → FillEnds {T = U} (Err stop) found goal a c w
+    → (g : Going goal (first_break e n (page ∷ rest)) n image (page ∷ rest) a b v) → NextEnds {T = T} (Err stop) (record { image = image; number = n; page = page; digest = e }) (last g.gone) b c w → FillEnds {T = U} (Err stop) found goal a c w
 next_fails T U (stops.Refused (refusals.Foreign k)) goal found e n image page rest a b c v w same g h =
     ((record { page = n; kept = e; found = sha256 page }, same ∙ break_here e n page rest h.1, sym h.0), going_foreign goal e n image page rest a b c v w h.1 g h.2)
 next_fails T U stops.FlashFault goal found e n image page rest a b c v w same g h = going_stops goal e n image page rest a b c v g h

@@ -22,7 +22,7 @@ use Rattle.dg_volume.specs.declared.volume.Volume.{Volume}
 use Rattle.dg_volume.proofs.BehindLemmas.{told_but, slot_same}
 use Rattle.dg_volume.proofs.CompareLemmas.{bytes_same, bytes_other}
 use Rattle.dg_volume.proofs.PagedLemmas.{page_mounted, page_acted, page_stops, fill_stops}
-use Rattle.dg_chain.specs.Receiving.{fill_operations, receive_trail, Receives}
+use Rattle.dg_chain.specs.Receiving.{fill_operations, receive_page_trail, Receives}
 use Rattle.dg_chain.specs.declared.sealing.ChainSealing.TheVariants.{Sealed, Foreign, Bad}
 use Rattle.dg_chain_tool.specs.Filling.{fits_root, next_trail}
 
@@ -72,7 +72,7 @@ module _ (a b : Device) (v v1 w : Volume) (s : Store) (i : ℕ) (h : Held) (expe
   stops_by true false e stops = let no : false ≡ true = e in absurd cc
   stops_by false m e stops = rest_stops stops
 
-  pub stopped_next : may_seal (outline_told slot).image h page ≡ true → SlotStops (outline_told slot).image (receive_trail expected (outline_told slot).image h page) a b → Stops (next_trail (fits_root expected page) s i page) a b
+  pub stopped_next : may_seal (outline_told slot).image h page ≡ true → SlotStops (outline_told slot).image (receive_page_trail expected (outline_told slot).image h page) a b → Stops (next_trail (fits_root expected page) s i page) a b
   stopped_next may stops =
       let at : may_seal i h page ≡ true = subst (λ (n : ℕ). may_seal n h page ≡ true) there may in
-      stops_by (fits_root expected page) (may_seal i h page) at (subst (λ (n : ℕ). SlotStops n (receive_trail expected n h page) a b) there stops)
+      stops_by (fits_root expected page) (may_seal i h page) at (subst (λ (n : ℕ). SlotStops n (receive_page_trail expected n h page) a b) there stops)

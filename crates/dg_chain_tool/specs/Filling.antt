@@ -1,5 +1,6 @@
 -- How the pages of an image that is received are filled.
-use Rattle.std.specs.Prelude.{◌≡◌, ℕ, ◌-◌, ◌≤◌, true, false, Bool, if◌then◌else◌, List, take, length, Option, Some, None, Result, Ok, Err}
+use Rattle.std.specs.Prelude.{◌≡◌, ℕ, ◌-◌, ◌≤◌, true, false, Bool, if◌then◌else◌, List, take, length, Option, Some, None, Result}
+use Rattle.std.specs.Prelude.{Ok, Err}
 use Rattle.sha2.specs.Sha256.{sha256}
 use Rattle.dg_nor.specs.Device.{Device}
 use Rattle.dg_nor.specs.Trail.{Trail, resting, stepping}
@@ -28,8 +29,8 @@ take_stop take_fault.Reserved = stops.Refused refusals.Reserved
 take_stop (take_fault.Worn room) = stops.Refused (refusals.Worn room)
 
 -- the row of an image that is received
-abbrev pub new_row : NewImage → Row
-new_row new = row_of new.image new.version new.name.now new.bytes.now
+abbrev pub received_row : NewImage → Row
+received_row new = row_of new.image new.version new.name.now new.bytes.now
 
 -- the page is the expected one
 abbrev pub fits_root : (expected : List ℕ) → List ℕ → Bool
@@ -44,12 +45,23 @@ pub record FitsData (image : ℕ) (page : List ℕ) (s : Store) : Type 0 where
   pub next : FitsNext image page s
   pub data_page : 1 ≤ length next.kept.complete
 
--- how the filling of one page ends, which is page n
-abbrev pub NextEnds : {T : Type 0} → Result T Stop → (n : ℕ) → (fits : Bool) → Store → (image : ℕ) → List ℕ → Device → Device → Volume → Type 0
-NextEnds (Ok x) n fits s image page a b v = (fits ≡ true) × Acted (stepping s page_operations (paged image page s)) a b v
-NextEnds (Err (stops.Refused (refusals.Foreign k))) n fits s image page a b v = (k ≡ n) × (fits ≡ false) × Acted (resting s fill_operations) a b v
-NextEnds (Err stops.FlashFault) n fits s image page a b v = Stops (next_trail fits s image page) a b
-NextEnds (Err stop) n fits s image page a b v = ⊥
+-- the page of an image that is received next: its number, its bytes, and the digest that is expected of it
+pub record NextPage : Type 0 where
+  pub image : ℕ
+  pub number : ℕ
+  pub page : List ℕ
+  pub digest : List ℕ
+
+abbrev pub is_expected : NextPage → Bool
+is_expected next = fits_root next.digest next.page
+
+-- how the filling of that page ends
+abbrev pub NextEnds : {T : Type 0} → Result T Stop → NextPage → Store → Device → Device → Volume → Type 0
+NextEnds (Ok x) next s a b v = (is_expected next ≡ true) × Acted (stepping s page_operations (paged next.image next.page s)) a b v
+NextEnds (Err (stops.Refused (refusals.Foreign k))) next s a b v =
+    (k ≡ next.number) × (is_expected next ≡ false) × Acted (resting s fill_operations) a b v
+NextEnds (Err stops.FlashFault) next s a b v = Stops (next_trail (is_expected next) s next.image next.page) a b
+NextEnds (Err stop) next s a b v = ⊥
 
 -- pages from page n on are filled up to the first foreign one
 abbrev pub fill_to : Option Break → (n : ℕ) → Store → (image : ℕ) → List (List ℕ) → Trail Store
@@ -59,6 +71,7 @@ fill_to (Some at) n s image pages = with_foreign (fill_trail s image (take (at.p
 -- how that ends
 abbrev pub FillEnds : {T : Type 0} → Result T Stop → Option Break → Trail Store → Device → Device → Volume → Type 0
 FillEnds (Ok x) found t a b v = (found ≡ None) × Acted t a b v
-FillEnds (Err (stops.Refused (refusals.Foreign k))) found t a b v = ((at : Break) × (found ≡ Some at) × (at.page ≡ k)) × Acted t a b v
+FillEnds (Err (stops.Refused (refusals.Foreign k))) found t a b v =
+    ((at : Break) × (found ≡ Some at) × (at.page ≡ k)) × Acted t a b v
 FillEnds (Err stops.FlashFault) found t a b v = Stops t a b
 FillEnds (Err stop) found t a b v = ⊥

@@ -32,7 +32,8 @@ done_in s row = if is_version (held s row.image) row.version then done_of (held 
 abbrev pub foreign_in : (root : List ℕ) → Store → Row → Option Break
 foreign_in root s row = first_foreign root (object row) (done_in s row)
 
--- An image is kept with these pages: its slot is taken unless this version is kept, and then each of them that is missing is filled.
+-- An image is kept with these pages: its slot is taken unless this version is kept,
+-- and then each of them that is missing is filled.
 abbrev pub keep_trail : Store → Row → List (List ℕ) → Trail Store
 keep_trail s row pages =
     if is_version (held s row.image) row.version then fill_trail s row.image (drop (done_of (held s row.image)) pages)

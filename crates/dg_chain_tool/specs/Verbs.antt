@@ -56,7 +56,8 @@ answered Misshapen = Refuses refusals.Shape
 abbrev pub check_by : (root : List ℕ) → Option Held → Ending
 check_by root None = Refuses refusals.Absent
 check_by root (Some h) =
-    if length h.complete == h.pages then answered (answer_of root (drop 1 h.complete)) else Refuses (refusals.NotWhole (length h.complete) h.pages)
+    if length h.complete == h.pages then answered (answer_of root (drop 1 h.complete))
+    else Refuses (refusals.NotWhole (length h.complete) h.pages)
 
 abbrev pub check_on : (image : ℕ) → (root : List ℕ) → Option Store → Ending
 check_on image root chip = by_store chip (λ s. check_by root (held s image))

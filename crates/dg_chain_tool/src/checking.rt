@@ -10,6 +10,7 @@ ghost use Rattle.dg_volume.specs.Told.{told_held};
 ghost use Rattle.dg_chain.specs.Checking.{answer_of};
 ghost use Rattle.dg_chain.specs.Answers.{IsWhole};
 ghost use Rattle.dg_tool.specs.Endings.{StandsAs, FirstAs};
+ghost use Rattle.dg_tool.specs.Done.{verb_rule};
 ghost use Rattle.dg_tool.specs.Stops.{Makes, OnStore, OnBoard, OnBoards, told_status, told_text};
 ghost use Rattle.dg_chain_tool.specs.Verbs.{chain_told, answered, check_by, check_on, check_ending, chain_stop};
 
@@ -50,7 +51,8 @@ fn check_whole<N: Nor>(
     requires known_image { image < slots }
     requires whole { IsWhole (N.device nor.old).image image }
     ensures done { (h : Held) → KeepsImage (N.device nor.old).image image h
-        → OnStore (λ text. text.items) result (answered (answer_of root.now (drop 1 h.complete))) Looked ReadStopped (N.device nor.old) (N.device nor.new) }
+        → OnStore (λ text. text.items) result (answered (answer_of root.now (drop 1 h.complete))) Looked ReadStopped
+        (N.device nor.old) (N.device nor.new) }
     ensures unchanged { (N.device nor.new).image ≡ (N.device nor.old).image }
 {
     match check(nor, image, root) {
@@ -70,7 +72,8 @@ fn check_kept<N: Nor>(
     requires known_image { image < images }
     requires keeps { (h : Held) × KeepsImage (N.device nor.old).image image h × (kept.now ≡ told_held h) }
     ensures done { (h : Held) → KeepsImage (N.device nor.old).image image h → kept.now ≡ told_held h
-        → OnStore (λ text. text.items) result (check_by root.now (Some h)) Looked ReadStopped (N.device nor.old) (N.device nor.new) }
+        → OnStore (λ text. text.items) result (check_by root.now (Some h)) Looked ReadStopped (N.device nor.old)
+        (N.device nor.new) }
     ensures unchanged { (N.device nor.new).image ≡ (N.device nor.old).image }
 {
     let Kept { done, pages, .. } = *kept;
@@ -92,7 +95,8 @@ fn check_mounted<N: Nor>(
     requires known_image { image < images }
     requires mounted { IsMounted (N.device nor.old).image volume.now }
     ensures done { (s : Store) → Mounted (N.device nor.old).image volume.now s
-        → OnStore (λ text. text.items) result (check_by root.now (held s image)) Looked ReadStopped (N.device nor.old) (N.device nor.new) }
+        → OnStore (λ text. text.items) result (check_by root.now (held s image)) Looked ReadStopped (N.device nor.old)
+        (N.device nor.new) }
     ensures unchanged { (N.device nor.new).image ≡ (N.device nor.old).image }
 {
     match volume.kept(image) {
@@ -109,7 +113,8 @@ fn check_on<N: Nor>(
     nor: &mut N,
 ) -> Result<Vec<u8>, Stop>
     requires known_image { image < images }
-    ensures done { OnBoard (told_status result) (StandsAs (N.device nor.old).image) (check_on image root.now) (λ chip. Looked) (λ chip. ReadStopped)
+    ensures done { OnBoard (told_status result)
+        (verb_rule (StandsAs (N.device nor.old).image) (check_on image root.now) (λ chip. Looked) (λ chip. ReadStopped))
         (told_text (λ text. text.items) result) (N.device nor.old) (N.device nor.new) }
     ensures unchanged { (N.device nor.new).image ≡ (N.device nor.old).image }
 {
@@ -127,7 +132,9 @@ fn check_first<N: Nor>(
     boards: &mut [N],
 ) -> Result<Vec<u8>, Stop>
     requires known_image { image < images }
-    ensures done { OnBoards (told_status result) (FirstAs (map N.device boards.old)) (check_ending (length boards.old) image root.now) (λ chip. Looked) (λ chip. ReadStopped)
+    ensures done { OnBoards (told_status result)
+        (verb_rule (FirstAs (map N.device boards.old)) (check_ending (length boards.old) image root.now)
+        (λ chip. Looked) (λ chip. ReadStopped))
         (told_text (λ text. text.items) result) (map N.device boards.old) (map N.device boards.new) }
     ensures unchanged { map (λ board. (N.device board).image) boards.new ≡ map (λ board. (N.device board).image) boards.old }
     ensures unread { told_status result ≢ Status.ReadFault }
@@ -146,9 +153,12 @@ pub(crate) fn check_boards<N: Nor>(
     boards: &mut Vec<N>,
 ) -> Result<Vec<u8>, Stop>
     requires known_image { image < images }
-    ensures done { OnBoards (told_status result) (FirstAs (map N.device boards.old.items)) (check_ending (length boards.old.items) image root.now) (λ chip. Looked) (λ chip. ReadStopped)
+    ensures done { OnBoards (told_status result)
+        (verb_rule (FirstAs (map N.device boards.old.items)) (check_ending (length boards.old.items) image root.now)
+        (λ chip. Looked) (λ chip. ReadStopped))
         (told_text (λ text. text.items) result) (map N.device boards.old.items) (map N.device boards.new.items) }
-    ensures unchanged { map (λ board. (N.device board).image) boards.new.items ≡ map (λ board. (N.device board).image) boards.old.items }
+    ensures unchanged { map (λ board. (N.device board).image) boards.new.items
+        ≡ map (λ board. (N.device board).image) boards.old.items }
     ensures unread { told_status result ≢ Status.ReadFault }
 {
     check_first(alloc, image, root, boards.as_mut_slice())

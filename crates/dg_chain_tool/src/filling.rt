@@ -16,7 +16,7 @@ ghost use Rattle.dg_volume.specs.Filling.{page_trail};
 ghost use Rattle.dg_volume.specs.Acts.{Acted, Stops};
 ghost use Rattle.dg_chain.specs.Checking.{first_break};
 ghost use Rattle.dg_chain_tool.specs.Receiving.{expected, foreign_from, first_foreign};
-ghost use Rattle.dg_chain_tool.specs.Filling.{new_row, fits_root, FitsData, NextEnds, fill_to, FillEnds};
+ghost use Rattle.dg_chain_tool.specs.Filling.{received_row, FitsData, NextEnds, fill_to, FillEnds};
 
 use crate::new_image::NewImage;
 use dg_chain::{ChainSealing, DIGEST_SIZE, PIECE_SIZE, receive_page};
@@ -96,7 +96,8 @@ fn receive_next<N: Nor>(
     requires not_lent { is_lent volume.old image ≡ false }
     requires fits { (s : Store) × Mounted (N.device nor.old).image volume.old s × FitsData image page.now s }
     ensures ends { (s : Store) → Mounted (N.device nor.old).image volume.old s
-        → NextEnds result number (fits_root expected.now page.now) s image page.now (N.device nor.old) (N.device nor.new) volume.new }
+        → NextEnds result (record { image = image; number = number; page = page.now; digest = expected.now }) s
+        (N.device nor.old) (N.device nor.new) volume.new }
     ensures lent { OnOk result ((i : ℕ) → is_lent volume.new i ≡ is_lent volume.old i) }
 {
     match volume.slot(image) {
@@ -145,10 +146,15 @@ fn receive_data<N: Nor>(
     requires not_lent { is_lent volume.old new.now.image ≡ false }
     requires some { 1 ≤ done }
     requires within { done ≤ pages_for (length new.now.bytes.now) }
-    requires fit { (s : Store) → Mounted (N.device nor.old).image volume.old s → FitAll new.now.image (drop done (object (new_row new.now))) s }
-    requires data { (s : Store) → Mounted (N.device nor.old).image volume.old s → (h : Held) × (held s new.now.image ≡ Some h) × (1 ≤ length h.complete) }
-    ensures ends { (s : Store) → Mounted (N.device nor.old).image volume.old s → let pages = drop done (object (new_row new.now)) in
-        let found = first_break first.now done pages in FillEnds result found (fill_to found done s new.now.image pages) (N.device nor.old) (N.device nor.new) volume.new }
+    requires fit { (s : Store) → Mounted (N.device nor.old).image volume.old s
+        → FitAll new.now.image (drop done (object (received_row new.now))) s }
+    requires data { (s : Store) → Mounted (N.device nor.old).image volume.old s → (h : Held)
+        × (held s new.now.image ≡ Some h) × (1 ≤ length h.complete) }
+    ensures ends { (s : Store) → Mounted (N.device nor.old).image volume.old s
+        → let pages = drop done (object (received_row new.now)) in
+        let found = first_break first.now done pages in
+        FillEnds result found (fill_to found done s new.now.image pages)
+        (N.device nor.old) (N.device nor.new) volume.new }
 {
     let mut kept = *first;
     for p in done..new.pages() {
@@ -164,7 +170,7 @@ fn receive_data<N: Nor>(
 fn expected_of(new: &NewImage<'_>, page: u8, root: &[u8; DIGEST_SIZE]) -> [u8; DIGEST_SIZE]
     requires data_page { 1 ≤ page }
     requires within { page ≤ pages_for (length new.now.bytes.now) }
-    ensures { result ≡ expected root.now (object (new_row new.now)) page }
+    ensures { result ≡ expected root.now (object (received_row new.now)) page }
 {
     if page == 1 {
         return *root;
@@ -185,10 +191,14 @@ fn receive_whole<N: Nor>(
     requires not_golden { 1 ≤ new.now.image }
     requires known_image { new.now.image < images }
     requires not_lent { is_lent volume.old new.now.image ≡ false }
-    requires fit { (s : Store) → Mounted (N.device nor.old).image volume.old s → FitAll new.now.image (object (new_row new.now)) s }
-    requires complete { (s : Store) → Mounted (N.device nor.old).image volume.old s → (h : Held) × (held s new.now.image ≡ Some h) × (length h.complete ≡ 0) }
-    ensures ends { (s : Store) → Mounted (N.device nor.old).image volume.old s → let pages = object (new_row new.now) in
-        let found = foreign_from root.now pages 1 in FillEnds result found (fill_to found 0 s new.now.image pages) (N.device nor.old) (N.device nor.new) volume.new }
+    requires fit { (s : Store) → Mounted (N.device nor.old).image volume.old s
+        → FitAll new.now.image (object (received_row new.now)) s }
+    requires complete { (s : Store) → Mounted (N.device nor.old).image volume.old s → (h : Held)
+        × (held s new.now.image ≡ Some h) × (length h.complete ≡ 0) }
+    ensures ends { (s : Store) → Mounted (N.device nor.old).image volume.old s → let pages = object (received_row new.now) in
+        let found = foreign_from root.now pages 1 in
+        FillEnds result found (fill_to found 0 s new.now.image pages)
+        (N.device nor.old) (N.device nor.new) volume.new }
 {
     let mut page = [0; PAGE_SIZE];
     new.page(0, &mut page);
@@ -211,10 +221,14 @@ pub(crate) fn receive_rest<N: Nor>(
     requires known_image { new.now.image < images }
     requires not_lent { is_lent volume.old new.now.image ≡ false }
     requires within { done ≤ pages_for (length new.now.bytes.now) }
-    requires fit { (s : Store) → Mounted (N.device nor.old).image volume.old s → FitAll new.now.image (drop done (object (new_row new.now))) s }
-    requires complete { (s : Store) → Mounted (N.device nor.old).image volume.old s → (h : Held) × (held s new.now.image ≡ Some h) × (length h.complete ≡ done) }
-    ensures ends { (s : Store) → Mounted (N.device nor.old).image volume.old s → let pages = object (new_row new.now) in
-        let found = first_foreign root.now pages done in FillEnds result found (fill_to found done s new.now.image (drop done pages)) (N.device nor.old) (N.device nor.new) volume.new }
+    requires fit { (s : Store) → Mounted (N.device nor.old).image volume.old s
+        → FitAll new.now.image (drop done (object (received_row new.now))) s }
+    requires complete { (s : Store) → Mounted (N.device nor.old).image volume.old s → (h : Held)
+        × (held s new.now.image ≡ Some h) × (length h.complete ≡ done) }
+    ensures ends { (s : Store) → Mounted (N.device nor.old).image volume.old s → let pages = object (received_row new.now) in
+        let found = first_foreign root.now pages done in
+        FillEnds result found
+        (fill_to found done s new.now.image (drop done pages)) (N.device nor.old) (N.device nor.new) volume.new }
 {
     if done == 0 {
         return receive_whole(volume, nor, new, root);

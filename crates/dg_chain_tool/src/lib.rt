@@ -22,7 +22,7 @@ ghost use Rattle.dg_volume.specs.Store.{Store, held};
 ghost use Rattle.dg_chain.specs.Chain.{IsPayload, chain, root_of};
 ghost use Rattle.dg_chain.specs.Checking.{Collision};
 ghost use Rattle.dg_tool.specs.Endings.{FirstAs, content_in};
-ghost use Rattle.dg_tool.specs.Done.{ToolDone, InputRead, WentOn, StopsOn};
+ghost use Rattle.dg_tool.specs.Done.{verb_rule, tool_outside, ToolDone, InputRead, WentOn, StopsOn};
 ghost use Rattle.dg_chain_tool.specs.Receiving.{receive_trail};
 ghost use Rattle.dg_chain_tool.specs.Verbs.{wrap_ending, check_ending, receive_ending};
 ghost use Rattle.dg_chain_tool.specs.Done.{TextDone, TellsLength};
@@ -40,8 +40,10 @@ use std::alloc::Global;
 /// digest of the next (SHA-256). Writes `root HEX`, the digest of the first page, and then the HEX file of the image. No
 /// board is used.
 pub fn wrap<S: Source, K: Sink>(alloc: Global, input: &mut S, out: &mut K) -> Status
-    ensures done { (bytes : List ℕ) × InputRead result 1 bytes (S.left input.old) (S.left input.new) (S.faults input.old) (S.faults input.new)
-        × TextDone result (wrap_ending bytes) (Rose (S.faults input.old) (S.faults input.new)) (K.written out.old) (K.written out.new) (K.faults out.old) (K.faults out.new) }
+    ensures done { (bytes : List ℕ) × InputRead result 1 bytes (S.left input.old) (S.left input.new) (S.faults input.old)
+        (S.faults input.new)
+        × TextDone result (wrap_ending bytes) (Rose (S.faults input.old) (S.faults input.new)) (K.written out.old)
+        (K.written out.new) (K.faults out.old) (K.faults out.new) }
     ensures reads { S.faults input.old ≤ S.faults input.new }
     ensures writes { K.faults out.old ≤ K.faults out.new }
 {
@@ -59,19 +61,23 @@ pub fn check<K: Sink, N: Nor>(
     boards: &mut Vec<N>,
 ) -> Status
     requires image { image < images }
-    ensures done { ToolDone result (FirstAs (map N.device boards.old.items)) (check_ending (length boards.old.items) image root.now)
-        (λ chip. Looked) (λ chip. ReadStopped)
-        ⊥ (K.written out.old) (K.written out.new) (K.faults out.old) (K.faults out.new)
-        (map N.device boards.old.items) (map N.device boards.new.items) }
+    ensures done { ToolDone result
+        (verb_rule (FirstAs (map N.device boards.old.items)) (check_ending (length boards.old.items) image root.now)
+        (λ chip. Looked) (λ chip. ReadStopped))
+        ⊥ (tool_outside (K.written out.old) (K.faults out.old) (map N.device boards.old.items))
+        (tool_outside (K.written out.new) (K.faults out.new) (map N.device boards.new.items)) }
     // Whatever made the board's bytes: pages that pass for the root of a payload are its pages, or two that differ at one
     // place have one digest.
-    ensures named { (x : List ℕ) (s : Store) (h : Held) → IsPayload x → root.now ≡ root_of x → FirstAs (map N.device boards.old.items) (Some s) → held s image ≡ Some h
+    ensures named { (x : List ℕ) (s : Store) (h : Held) → IsPayload x → root.now ≡ root_of x
+        → FirstAs (map N.device boards.old.items) (Some s) → held s image ≡ Some h
         → result ≡ Status.Done → (drop 1 h.complete ≡ chain x) ⊎ Collision (drop 1 h.complete) (chain x) }
     // Its own pages pass, and its length is told.
-    ensures own { (x : List ℕ) (s : Store) (h : Held) → IsPayload x → root.now ≡ root_of x → FirstAs (map N.device boards.old.items) (Some s) → held s image ≡ Some h
+    ensures own { (x : List ℕ) (s : Store) (h : Held) → IsPayload x → root.now ≡ root_of x
+        → FirstAs (map N.device boards.old.items) (Some s) → held s image ≡ Some h
         → 1 ≤ length boards.old.items → length h.complete ≡ h.pages → drop 1 h.complete ≡ chain x
         → TellsLength result (length x) (K.written out.old) (K.written out.new) }
-    ensures unchanged { map (λ board. (N.device board).image) boards.new.items ≡ map (λ board. (N.device board).image) boards.old.items }
+    ensures unchanged { map (λ board. (N.device board).image) boards.new.items
+        ≡ map (λ board. (N.device board).image) boards.old.items }
     ensures writes { K.faults out.old ≤ K.faults out.new }
 {
     a_root_names_its_pages();
@@ -96,11 +102,16 @@ pub fn receive<S: Source, K: Sink, N: Nor>(
     requires image { image < images }
     requires version { 1 ≤ version }
     requires named { IsTrue (spells_name name.now) }
-    ensures done { (bytes : List ℕ) × InputRead result (length boards.old.items) bytes (S.left input.old) (S.left input.new) (S.faults input.old) (S.faults input.new)
-        × ToolDone result (FirstAs (map N.device boards.old.items)) (receive_ending (length boards.old.items) root.now (row_of image version name.now) bytes)
-        (WentOn (λ s. receive_trail root.now s (row_of image version name.now (content_in bytes)))) (StopsOn (λ s. receive_trail root.now s (row_of image version name.now (content_in bytes))))
-        (Rose (S.faults input.old) (S.faults input.new)) (K.written out.old) (K.written out.new) (K.faults out.old) (K.faults out.new)
-        (map N.device boards.old.items) (map N.device boards.new.items) }
+    ensures done { (bytes : List ℕ) × InputRead result (length boards.old.items) bytes (S.left input.old) (S.left input.new)
+        (S.faults input.old) (S.faults input.new)
+        × ToolDone result
+        (verb_rule (FirstAs (map N.device boards.old.items))
+        (receive_ending (length boards.old.items) root.now (row_of image version name.now) bytes)
+        (WentOn (λ s. receive_trail root.now s (row_of image version name.now (content_in bytes))))
+        (StopsOn (λ s. receive_trail root.now s (row_of image version name.now (content_in bytes)))))
+        (Rose (S.faults input.old) (S.faults input.new))
+        (tool_outside (K.written out.old) (K.faults out.old) (map N.device boards.old.items))
+        (tool_outside (K.written out.new) (K.faults out.new) (map N.device boards.new.items)) }
     ensures reads { S.faults input.old ≤ S.faults input.new }
     ensures writes { K.faults out.old ≤ K.faults out.new }
 {

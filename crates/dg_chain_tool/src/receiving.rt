@@ -9,11 +9,11 @@ ghost use Rattle.dg_volume.specs.Acts.{Stops};
 ghost use Rattle.dg_volume.specs.declared.volume.Kept.{Kept};
 ghost use Rattle.dg_tool.specs.Endings.{StandsAs, FirstAs, content_in};
 ghost use Rattle.dg_tool.specs.Verbs.{have_told};
-ghost use Rattle.dg_tool.specs.Done.{InputRead, Went, WentOn, StopsOn};
+ghost use Rattle.dg_tool.specs.Done.{verb_rule, InputRead, Went, WentOn, StopsOn};
 ghost use Rattle.dg_tool.specs.Stops.{InputFails, OnStore, OnBoard, OnBoards, told_status, told_text};
 ghost use Rattle.dg_chain_tool.specs.Receiving.{receive_trail};
 ghost use Rattle.dg_chain_tool.specs.Verbs.{receive_to, receive_into, receive_ending};
-ghost use Rattle.dg_chain_tool.specs.Filling.{new_row, take_stop};
+ghost use Rattle.dg_chain_tool.specs.Filling.{received_row, take_stop};
 
 use crate::filling::receive_rest;
 use crate::new_image::NewImage;
@@ -39,8 +39,9 @@ fn receive_kept<N: Nor>(
     requires known_image { new.now.image < images }
     requires kept { kept_at volume.old new.now.image ≡ Some kept.now }
     requires same_version { kept.now.version ≡ new.now.version }
-    ensures ends { (s : Store) → Mounted (N.device nor.old).image volume.old s → let row = new_row new.now in
-        OnStore (λ u. have_told row) result (receive_to root.now row s) (Went (receive_trail root.now s row)) (Stops (receive_trail root.now s row)) (N.device nor.old) (N.device nor.new) }
+    ensures ends { (s : Store) → Mounted (N.device nor.old).image volume.old s → let row = received_row new.now in
+        OnStore (λ u. have_told row) result (receive_to root.now row s) (Went (receive_trail root.now s row))
+        (Stops (receive_trail root.now s row)) (N.device nor.old) (N.device nor.new) }
 {
     match is_other(nor, new, kept) {
         Ok(other) => {
@@ -78,8 +79,9 @@ fn receive_anew<N: Nor>(
     requires not_golden { 1 ≤ new.now.image }
     requires known_image { new.now.image < images }
     requires older { (k : Kept) → kept_at volume.old new.now.image ≡ Some k → k.version < new.now.version }
-    ensures ends { (s : Store) → Mounted (N.device nor.old).image volume.old s → let row = new_row new.now in
-        OnStore (λ u. have_told row) result (receive_to root.now row s) (Went (receive_trail root.now s row)) (Stops (receive_trail root.now s row)) (N.device nor.old) (N.device nor.new) }
+    ensures ends { (s : Store) → Mounted (N.device nor.old).image volume.old s → let row = received_row new.now in
+        OnStore (λ u. have_told row) result (receive_to root.now row s) (Went (receive_trail root.now s row))
+        (Stops (receive_trail root.now s row)) (N.device nor.old) (N.device nor.new) }
 {
     match volume.take(nor, new.image, &new.profile()) {
         Ok(slot) => {
@@ -103,8 +105,9 @@ fn receive_new<N: Nor>(
     requires not_golden { 1 ≤ new.now.image }
     requires known_image { new.now.image < images }
     requires newest { (k : Kept) → kept_at volume.old new.now.image ≡ Some k → k.version ≤ new.now.version }
-    ensures ends { (s : Store) → Mounted (N.device nor.old).image volume.old s → let row = new_row new.now in
-        OnStore (λ u. have_told row) result (receive_to root.now row s) (Went (receive_trail root.now s row)) (Stops (receive_trail root.now s row)) (N.device nor.old) (N.device nor.new) }
+    ensures ends { (s : Store) → Mounted (N.device nor.old).image volume.old s → let row = received_row new.now in
+        OnStore (λ u. have_told row) result (receive_to root.now row s) (Went (receive_trail root.now s row))
+        (Stops (receive_trail root.now s row)) (N.device nor.old) (N.device nor.new) }
 {
     match volume.kept(new.image) {
         Some(kept) if kept.version == new.version => receive_kept(volume, nor, new, &kept, root),
@@ -125,8 +128,9 @@ fn receive_told<N: Nor>(
     requires not_golden { 1 ≤ new.now.image }
     requires known_image { new.now.image < images }
     requires newest { (k : Kept) → kept_at volume.old new.now.image ≡ Some k → k.version ≤ new.now.version }
-    ensures ends { (s : Store) → Mounted (N.device nor.old).image volume.old s → let row = new_row new.now in
-        OnStore (λ text. text.items) result (receive_to root.now row s) (Went (receive_trail root.now s row)) (Stops (receive_trail root.now s row)) (N.device nor.old) (N.device nor.new) }
+    ensures ends { (s : Store) → Mounted (N.device nor.old).image volume.old s → let row = received_row new.now in
+        OnStore (λ text. text.items) result (receive_to root.now row s) (Went (receive_trail root.now s row))
+        (Stops (receive_trail root.now s row)) (N.device nor.old) (N.device nor.new) }
 {
     match receive_new(volume, nor, new, root) {
         Ok(()) => have_line(alloc, new.image, new.version, new.pages()),
@@ -151,7 +155,8 @@ fn receive_mounted<N: Nor>(
     requires version { 1 ≤ version }
     requires named { IsTrue (spells_name name.now) }
     ensures { (s : Store) → Mounted (N.device nor.old).image volume.old s → let row = row_of image version name.now bytes.now in
-        OnStore (λ text. text.items) result (receive_to root.now row s) (Went (receive_trail root.now s row)) (Stops (receive_trail root.now s row)) (N.device nor.old) (N.device nor.new) }
+        OnStore (λ text. text.items) result (receive_to root.now row s) (Went (receive_trail root.now s row))
+        (Stops (receive_trail root.now s row)) (N.device nor.old) (N.device nor.new) }
 {
     match injection_fault(volume.kept(image), image, version, bytes) {
         Some(fault) => Err(stop_at(fault, bytes.len())),
@@ -181,7 +186,9 @@ fn receive_on<N: Nor>(
     requires version { 1 ≤ version }
     requires named { IsTrue (spells_name name.now) }
     ensures { let row = row_of image version name.now bytes.now in
-        OnBoard (told_status result) (StandsAs (N.device nor.old).image) (receive_into root.now row) (WentOn (λ s. receive_trail root.now s row)) (StopsOn (λ s. receive_trail root.now s row))
+        OnBoard (told_status result)
+        (verb_rule (StandsAs (N.device nor.old).image) (receive_into root.now row)
+        (WentOn (λ s. receive_trail root.now s row)) (StopsOn (λ s. receive_trail root.now s row)))
         (told_text (λ text. text.items) result) (N.device nor.old) (N.device nor.new) }
 {
     match mount(nor) {
@@ -212,10 +219,14 @@ fn receive_first<S: Source, N: Nor>(
     requires image { image < images }
     requires version { 1 ≤ version }
     requires named { IsTrue (spells_name name.now) }
-    ensures done { (bytes : List ℕ) × InputRead (told_status result) (length boards.old) bytes (S.left input.old) (S.left input.new) (S.faults input.old) (S.faults input.new)
+    ensures done { (bytes : List ℕ) × InputRead (told_status result) (length boards.old) bytes (S.left input.old)
+        (S.left input.new) (S.faults input.old) (S.faults input.new)
         × InputFails (told_status result) (S.faults input.old) (S.faults input.new)
-        × OnBoards (told_status result) (FirstAs (map N.device boards.old)) (receive_ending (length boards.old) root.now (row_of image version name.now) bytes)
-        (WentOn (λ s. receive_trail root.now s (row_of image version name.now (content_in bytes)))) (StopsOn (λ s. receive_trail root.now s (row_of image version name.now (content_in bytes))))
+        × OnBoards (told_status result)
+        (verb_rule (FirstAs (map N.device boards.old))
+        (receive_ending (length boards.old) root.now (row_of image version name.now) bytes)
+        (WentOn (λ s. receive_trail root.now s (row_of image version name.now (content_in bytes))))
+        (StopsOn (λ s. receive_trail root.now s (row_of image version name.now (content_in bytes)))))
         (told_text (λ text. text.items) result) (map N.device boards.old) (map N.device boards.new) }
     ensures reads { S.faults input.old ≤ S.faults input.new }
 {
@@ -241,10 +252,14 @@ pub(crate) fn receive_boards<S: Source, N: Nor>(
     requires image { image < images }
     requires version { 1 ≤ version }
     requires named { IsTrue (spells_name name.now) }
-    ensures done { (bytes : List ℕ) × InputRead (told_status result) (length boards.old.items) bytes (S.left input.old) (S.left input.new) (S.faults input.old) (S.faults input.new)
+    ensures done { (bytes : List ℕ) × InputRead (told_status result) (length boards.old.items) bytes (S.left input.old)
+        (S.left input.new) (S.faults input.old) (S.faults input.new)
         × InputFails (told_status result) (S.faults input.old) (S.faults input.new)
-        × OnBoards (told_status result) (FirstAs (map N.device boards.old.items)) (receive_ending (length boards.old.items) root.now (row_of image version name.now) bytes)
-        (WentOn (λ s. receive_trail root.now s (row_of image version name.now (content_in bytes)))) (StopsOn (λ s. receive_trail root.now s (row_of image version name.now (content_in bytes))))
+        × OnBoards (told_status result)
+        (verb_rule (FirstAs (map N.device boards.old.items))
+        (receive_ending (length boards.old.items) root.now (row_of image version name.now) bytes)
+        (WentOn (λ s. receive_trail root.now s (row_of image version name.now (content_in bytes))))
+        (StopsOn (λ s. receive_trail root.now s (row_of image version name.now (content_in bytes)))))
         (told_text (λ text. text.items) result) (map N.device boards.old.items) (map N.device boards.new.items) }
     ensures reads { S.faults input.old ≤ S.faults input.new }
 {

@@ -13,7 +13,7 @@ ghost use Rattle.dg_volume.specs.declared.volume.Kept.{Kept};
 ghost use Rattle.dg_volume.specs.declared.volume.Volume.{Volume};
 ghost use Rattle.dg_volume.specs.declared.volume.InjectFault.{InjectFault};
 ghost use Rattle.dg_volume.specs.declared.volume.InjectFault.TheVariants as inject_faults;
-ghost use Rattle.dg_chain_tool.specs.Filling.{new_row};
+ghost use Rattle.dg_chain_tool.specs.Filling.{received_row};
 
 use crate::new_image::NewImage;
 use dg_control::GOLDEN;
@@ -29,7 +29,8 @@ pub(crate) fn injection_fault(
     version: u32,
     bytes: &[u8],
 ) -> Option<InjectFault>
-    ensures refusal { (e : InjectFault) → result ≡ Some e → (v : Volume) (s : Store) (name : List ℕ) → Tells v s → kept ≡ kept_at v image → image < images
+    ensures refusal { (e : InjectFault) → result ≡ Some e → (v : Volume) (s : Store) (name : List ℕ) → Tells v s
+        → kept ≡ kept_at v image → image < images
         → inject_refusal s (row_of image version name bytes.now) ≡ Some e }
     ensures other { (e : InjectFault) → result ≡ Some e → e ≢ inject_faults.Stopped }
     ensures some { IsNone result → 1 ≤ length bytes.now }
@@ -57,8 +58,9 @@ pub(crate) fn is_other<N: Nor>(
     new: &NewImage<'_>,
     kept: &Kept,
 ) -> Result<bool, Stopped>
-    ensures other { IfOk result (λ other. (h : Held) → KeepsImage (N.device nor.old).image new.now.image h → told_held h ≡ kept.now
-        → other ≡ is_other h (new_row new.now)) }
+    ensures other { IfOk result (λ other. (h : Held) → KeepsImage (N.device nor.old).image new.now.image h
+        → told_held h ≡ kept.now
+        → other ≡ is_other h (received_row new.now)) }
     ensures ends { ReadEnds result (N.device nor.old) (N.device nor.new) }
 {
     let profile = new.profile();

@@ -19,7 +19,8 @@ use std::alloc::{AllocError, Global};
 fn told(alloc: Global, wrapped: &Wrapped) -> Result<Vec<u8>, AllocError>
     requires some { 1 ≤ length wrapped.now.image }
     requires fits { length wrapped.now.image ≤ most_image }
-    ensures { IfOk result (λ text. text.items ≡ line (codes "root " ++ hex_text wrapped.now.root) ++ written_file wrapped.now.image) }
+    ensures { IfOk result (λ text. text.items ≡ line (codes "root " ++ hex_text wrapped.now.root)
+        ++ written_file wrapped.now.image) }
 {
     let mut text = Vec::new(alloc);
     text.extend_from_slice(b"root ")?;
@@ -53,7 +54,8 @@ fn stop_at(fault: WrapFault) -> Stop
 
 /// The text of the payload that an input spells.
 pub(crate) fn wrap_input<S: Source>(alloc: Global, input: &mut S) -> Result<Vec<u8>, Stop>
-    ensures done { (bytes : List ℕ) × InputRead (told_status result) 1 bytes (S.left input.old) (S.left input.new) (S.faults input.old) (S.faults input.new)
+    ensures done { (bytes : List ℕ) × InputRead (told_status result) 1 bytes (S.left input.old) (S.left input.new)
+        (S.faults input.old) (S.faults input.new)
         × InputFails (told_status result) (S.faults input.old) (S.faults input.new)
         × TextFound (told_status result) (wrap_ending bytes) (told_text (λ text. text.items) result) }
     ensures reads { S.faults input.old ≤ S.faults input.new }

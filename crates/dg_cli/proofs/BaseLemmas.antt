@@ -1,11 +1,11 @@
 -- The command that runs a base mote, from what its call tells.
-use Rattle.std.proofs.Common.{◌≡◌, ◌⊎◌, inl, inr, ℕ, ◌<◌, List, [], ◌∷◌, length, map, get_or, set, refl, sym, ◌∙◌, subst, arith}
+use Rattle.std.proofs.Common.{◌≡◌, ◌⊎◌, inl, inr, ◌<◌, List, [], ◌∷◌, length, map, get_or, set, refl, sym, ◌∙◌, subst, arith}
 use Rattle.dg_base.specs.declared.answers.Status.{Status}
 use Rattle.dg_base.specs.declared.answers.Status.TheVariants as statuses
 use Rattle.dg_nor.specs.Device.{Device}
 use Rattle.dg_volume.specs.Stands.{IsNoVolume}
 use Rattle.dg_serial_base.specs.Deeds.{Base}
-use Rattle.dg_serial_base.specs.Based.{Outside, Based, EndsBy, Refused, RefusedBy}
+use Rattle.dg_serial_base.specs.Based.{Outside, EndsBy, RefusedBy}
 use Rattle.dg_replay.specs.Around.{Around}
 use Rattle.dg_cli.specs.Basing.{around_chip, BasedOn, NoBoardTold, BasedOver}
 
@@ -25,7 +25,7 @@ over_first f (z ∷ zs) x y base status a b some h = (h, refl)
 is_none : (status : Status) (base : Base) (before now : Outside) → status ≡ statuses.LinkFault → BasedOn base status before now → IsNoVolume before.chip.image
 is_none status base before now e h s stands =
     let x = h.based s stands in
-    (subst (λ (t : Status). EndsBy t base s x.input x.text now.left before.chip now.chip) e x.ends).1
+    (subst (λ (t : Status). EndsBy t base s x.input x.text before now) e x.ends).1
 
 pub no_link_of_base : (status : Status) (base : Base) (before now : Outside) → BasedOn base status before now → status ≡ statuses.LinkFault → ⊥
 no_link_of_base status base before now h e =

@@ -1,22 +1,21 @@
 -- What a command did, from what its call tells.
-use Rattle.std.proofs.Common.{◌≡◌, ◌≢◌, ◌⊎◌, ℕ, true, List, length, Option, Some, None, refl, sym, ap, ◌∙◌, subst}
+use Rattle.std.proofs.Common.{◌≡◌, ℕ, List, length, sym, ap, ◌∙◌, subst}
 use Rattle.dg_words.specs.Counts.{Rose}
 use Rattle.dg_base.specs.declared.answers.Status.{Status}
 use Rattle.dg_base.specs.declared.answers.Status.TheVariants as statuses
-use Rattle.dg_nor.specs.Device.{Device}
 use Rattle.dg_object.specs.Object.{row_of}
 use Rattle.dg_control.specs.declared.snapshot.Order.{Order}
-use Rattle.dg_volume.specs.Store.{Store}
 use Rattle.dg_volume.specs.Trails.{inject_trail, order_trail}
-use Rattle.dg_tool.specs.Endings.{Ending, FirstAs, content_in}
+use Rattle.dg_tool.specs.Endings.{FirstAs, content_in}
 use Rattle.dg_tool.specs.Verbs.{format_ending, inject_ending, order_ending, power_boot, boot_ending}
-use Rattle.dg_tool.specs.Done.{ToolDone, InputRead, IsFormatted, FormatStops, WentOn, StopsOn, BootedOn, Faulted}
+use Rattle.dg_tool.specs.Done.{verb_rule, ToolDone, InputRead, IsFormatted, FormatStops, WentOn, StopsOn, BootedOn, Faulted}
+use Rattle.dg_trial.specs.AroundTrial.{AroundTrial}
 use Rattle.dg_trial.specs.Trials.{TrialEnds}
-use Rattle.dg_command.specs.Asking.{Said, Asking, Asks, Helps, Misuses, said_by, asking}
+use Rattle.dg_command.specs.Asking.{Asking, said_by, asking}
 use Rattle.dg_command.specs.declared.command.Asked.{Asked}
 use Rattle.dg_command.specs.declared.command.Command.{Command}
 use Rattle.dg_replay.specs.Around.{Around}
-use Rattle.dg_cli.specs.Surroundings.{Surroundings}
+use Rattle.dg_cli.specs.Surroundings.{Surroundings, tool_around}
 use Rattle.dg_cli.specs.Commands.{ReadsInput, UsesLink, SaidDone, FormatDone, InjectDone, OrderDone, BootDone, CheckDone, ReceiveDone}
 use Rattle.dg_cli.specs.Chained.{root_in}
 
@@ -28,8 +27,8 @@ said_done c d e s a b h = subst (λ (x : Command). SaidDone (said_by x) s a b) (
 abbrev pub FormatTold : (n : ℕ) → (name : List ℕ) → (used form : ℕ) → Status → Around → Around → Type 0
 FormatTold n name used form s a b =
     (input : List ℕ) × InputRead s n input a.left b.left a.reads b.reads
-    × ToolDone s (λ chip. Unit {0}) (format_ending n used input) (λ chip. IsFormatted name (content_in input) used form) (λ chip. FormatStops name (content_in input) used)
-    (Rose a.reads b.reads) a.written b.written a.writes b.writes a.boards b.boards
+    × ToolDone s (verb_rule (λ chip. Unit {0}) (format_ending n used input) (λ chip. IsFormatted name (content_in input) used form) (λ chip. FormatStops name (content_in input) used))
+    (Rose a.reads b.reads) (tool_around a) (tool_around b)
 
 pub format_done : (n : ℕ) (told name : List ℕ) (used form : ℕ) (s : Status) (a b : Around) → n ≡ length a.boards → told ≡ name → FormatTold n told used form s a b → FormatDone name used form s a b
 format_done n told name used form s a b e f h =
@@ -38,22 +37,22 @@ format_done n told name used form s a b e f h =
 abbrev pub InjectTold : (n image version : ℕ) → (name : List ℕ) → Status → Around → Around → Type 0
 InjectTold n image version name s a b =
     (input : List ℕ) × InputRead s n input a.left b.left a.reads b.reads
-    × ToolDone s (FirstAs a.boards) (inject_ending n (row_of image version name) input)
-    (WentOn (λ t. inject_trail t (row_of image version name (content_in input)))) (StopsOn (λ t. inject_trail t (row_of image version name (content_in input))))
-    (Rose a.reads b.reads) a.written b.written a.writes b.writes a.boards b.boards
+    × ToolDone s (verb_rule (FirstAs a.boards) (inject_ending n (row_of image version name) input)
+    (WentOn (λ t. inject_trail t (row_of image version name (content_in input)))) (StopsOn (λ t. inject_trail t (row_of image version name (content_in input)))))
+    (Rose a.reads b.reads) (tool_around a) (tool_around b)
 
 pub inject_done : (n image version : ℕ) (told name : List ℕ) (s : Status) (a b : Around) → n ≡ length a.boards → told ≡ name → InjectTold n image version told s a b → InjectDone image version name s a b
 inject_done n image version told name s a b e f h =
     subst (λ (k : ℕ). InjectTold k image version name s a b) e (subst (λ (t : List ℕ). InjectTold n image version t s a b) f h)
 
 abbrev pub OrderTold : (n : ℕ) → Order → Status → Around → Around → Type 0
-OrderTold n o s a b = ToolDone s (FirstAs a.boards) (order_ending n o) (WentOn (λ t. order_trail t o)) (StopsOn (λ t. order_trail t o)) ⊥ a.written b.written a.writes b.writes a.boards b.boards
+OrderTold n o s a b = ToolDone s (verb_rule (FirstAs a.boards) (order_ending n o) (WentOn (λ t. order_trail t o)) (StopsOn (λ t. order_trail t o))) ⊥ (tool_around a) (tool_around b)
 
 pub order_done : (n : ℕ) (o : Order) (s : Status) (a b : Around) → n ≡ length a.boards → b.left ≡ a.left → b.reads ≡ a.reads → OrderTold n o s a b → OrderDone o s a b
 order_done n o s a b e left reads h = ((left, reads), subst (λ (k : ℕ). OrderTold k o s a b) e h)
 
 abbrev pub BootTold : (n : ℕ) → Status → Around → Around → Type 0
-BootTold n s a b = ToolDone s (FirstAs a.boards) (boot_ending n) (BootedOn power_boot) (StopsOn (λ t. (power_boot t).trail)) ⊥ a.written b.written a.writes b.writes a.boards b.boards
+BootTold n s a b = ToolDone s (verb_rule (FirstAs a.boards) (boot_ending n) (BootedOn power_boot) (StopsOn (λ t. (power_boot t).trail))) ⊥ (tool_around a) (tool_around b)
 
 pub boot_done : (n : ℕ) (s : Status) (a b : Around) → n ≡ length a.boards → b.left ≡ a.left → b.reads ≡ a.reads → BootTold n s a b → BootDone s a b
 boot_done n s a b e left reads h = ((left, reads), subst (λ (k : ℕ). BootTold k s a b) e h)
@@ -63,8 +62,8 @@ boot_done n s a b e left reads h = ((left, reads), subst (λ (k : ℕ). BootTold
 pub no_link : (s : Status) (r w b : Type 0) (text : List ℕ) → Faulted s r w b text → s ≡ statuses.LinkFault → ⊥
 no_link s r w b text h e = subst (λ (x : Status). Faulted x r w b text) e h
 
-pub no_link_of_a_trial : (s : Status) (motes pages seed : ℕ) (before after : Option (List ℕ)) (old new : List Device) → TrialEnds s motes pages seed before after old new → s ≡ statuses.LinkFault → ⊥
-no_link_of_a_trial s motes pages seed before after old new h e = subst (λ (x : Status). TrialEnds x motes pages seed before after old new) e h
+pub no_link_of_a_trial : (s : Status) (motes pages seed : ℕ) (a b : AroundTrial) → TrialEnds s motes pages seed a b → s ≡ statuses.LinkFault → ⊥
+no_link_of_a_trial s motes pages seed a b h e = subst (λ (x : Status). TrialEnds x motes pages seed a b) e h
 
 -- ---- what was asked for
 

@@ -11,17 +11,18 @@ use Rattle.dg_nor.specs.Reads.{Looked, ReadStopped}
 use Rattle.dg_object.specs.Object.{row_of}
 use Rattle.dg_slot.specs.Kept.{Held}
 use Rattle.dg_volume.specs.Store.{Store, held}
-use Rattle.dg_volume.proofs.ReadLemmas.{Looked-none}
 use Rattle.dg_chain.specs.Chain.{IsPayload, chain, root_of}
 use Rattle.dg_chain.specs.Checking.{Collision}
-use Rattle.dg_tool.specs.Endings.{Ending, FirstAs, content_in}
-use Rattle.dg_tool.specs.Done.{ToolDone, InputRead, ReadBy, WentOn, StopsOn}
+use Rattle.dg_tool.specs.Endings.{FirstAs, content_in}
+use Rattle.dg_tool.specs.Done.{VerbRule, verb_rule, ToolOutside, ToolDone, InputRead, ReadBy, WentOn, StopsOn}
 use Rattle.dg_tool.proofs.BoardLemmas.{same_some}
 use Rattle.dg_tool.proofs.VerbLemmas.{looked_same}
 use Rattle.dg_chain_tool.specs.Receiving.{receive_trail}
 use Rattle.dg_chain_tool.specs.Verbs.{check_ending, receive_ending}
 use Rattle.dg_chain_tool.specs.Done.{TellsLength}
-use Rattle.dg_cli.specs.Chained.{bytes_by, root_in, Checked, ReceivedDone}
+use Rattle.dg_replay.specs.Around.{Around}
+use Rattle.dg_cli.specs.Surroundings.{tool_around}
+use Rattle.dg_cli.specs.Chained.{bytes_by, root_in, Checked, receive_rule, ReceivedDone}
 
 -- ---- nothing was done, for want of memory
 
@@ -33,13 +34,10 @@ takes_none : (left : Option (List ℕ)) → Takes left left []
 takes_none None = refl
 takes_none (Some bytes) = refl
 
-abbrev Told : (chips : Option Store → Type 0) → (ending : Option Store → Ending) → (acted may : Option Store → Device → Device → Type 0) → (reads_failed : Type 0) → (written : Option (List ℕ)) → (writes : ℕ) → List Device → Type 0
-Told chips ending acted may reads_failed written writes ds = ToolDone statuses.Memory chips ending acted may reads_failed written written writes writes ds ds
-
-nothing : (chips : Option Store → Type 0) (ending : Option Store → Ending) (acted may : Option Store → Device → Device → Type 0) (reads_failed : Type 0) (written : Option (List ℕ)) (writes : ℕ) (ds : List Device) → Told chips ending acted may reads_failed written writes ds
-nothing chips ending acted may reads_failed written writes ds = record {
+nothing : (rule : VerbRule) (reads_failed : Type 0) (x : ToolOutside) → ToolDone statuses.Memory rule reads_failed x x
+nothing rule reads_failed x = record {
   text = [];
-  written = puts_none written;
+  written = puts_none x.written;
   rules = λ chip stands. record { caused = tt; wrote = refl; board = λ a b was is. inl (looked_same a b (same_some b a (sym is ∙ was))) };
   found = tt;
   faulted = refl;
@@ -54,48 +52,54 @@ read_by (suc n) at_end = tt
 
 -- ---- check
 
-pub check_nothing : (image : ℕ) (root : List ℕ) (written : Option (List ℕ)) (writes : ℕ) (ds : List Device) → Checked statuses.Memory image root written written writes writes ds ds
-check_nothing image root written writes ds = record {
-  done = nothing (FirstAs ds) (check_ending (length ds) image root) (λ chip. Looked) (λ chip. ReadStopped) ⊥ written writes ds;
-  named = λ x s h payload is first here done. let e : statuses.Memory ≡ statuses.Done = done in absurd cc;
-  own = λ x s h payload is first here some whole same. tt;
+-- with the number of boards as the call has it
+abbrev counted_rule : (image n : ℕ) → (root : List ℕ) → List Device → VerbRule
+counted_rule image n root boards = verb_rule (FirstAs boards) (check_ending n image root) (λ chip. Looked) (λ chip. ReadStopped)
+
+pub check_nothing : (image : ℕ) (root : List ℕ) (x : ToolOutside) → Checked statuses.Memory image root x x
+check_nothing image root x = record {
+  done = nothing (counted_rule image (length x.boards) root x.boards) ⊥ x;
+  named = λ y s h payload is first here done. let e : statuses.Memory ≡ statuses.Done = done in absurd cc;
+  own = λ y s h payload is first here some whole same. tt;
 }
 
 abbrev Named : Status → (image : ℕ) → (root : List ℕ) → List Device → Type 0
 Named status image root old = (x : List ℕ) (s : Store) (h : Held) → IsPayload x → root ≡ root_of x → FirstAs old (Some s) → held s image ≡ Some h → status ≡ statuses.Done → (drop 1 h.complete ≡ chain x) ⊎ Collision (drop 1 h.complete) (chain x)
 
-abbrev Own : Status → (image n : ℕ) → (root : List ℕ) → (before after : Option (List ℕ)) → List Device → Type 0
-Own status image n root before after old = (x : List ℕ) (s : Store) (h : Held) → IsPayload x → root ≡ root_of x → FirstAs old (Some s) → held s image ≡ Some h → 1 ≤ n → length h.complete ≡ h.pages → drop 1 h.complete ≡ chain x → TellsLength status (length x) before after
+abbrev Own : Status → (image n : ℕ) → (root : List ℕ) → (before after : ToolOutside) → Type 0
+Own status image n root before after = (x : List ℕ) (s : Store) (h : Held) → IsPayload x → root ≡ root_of x → FirstAs before.boards (Some s) → held s image ≡ Some h → 1 ≤ n → length h.complete ≡ h.pages → drop 1 h.complete ≡ chain x
+    → TellsLength status (length x) before.written after.written
 
-pub checked : (status : Status) (image n : ℕ) (told root : List ℕ) (before after : Option (List ℕ)) (writes_before writes_after : ℕ) (old new : List Device) → n ≡ length old → told ≡ root
-    → ToolDone status (FirstAs old) (check_ending n image told) (λ chip. Looked) (λ chip. ReadStopped) ⊥ before after writes_before writes_after old new → Named status image told old → Own status image n told before after old
-    → Checked status image root before after writes_before writes_after old new
-checked status image n told root before after writes_before writes_after old new e f done named own =
-    subst (λ (r : List ℕ). Checked status image r before after writes_before writes_after old new) f (record {
-      done = subst (λ (k : ℕ). ToolDone status (FirstAs old) (check_ending k image told) (λ chip. Looked) (λ chip. ReadStopped) ⊥ before after writes_before writes_after old new) e done;
+pub checked : (status : Status) (image n : ℕ) (told root : List ℕ) (before after : ToolOutside) → n ≡ length before.boards → told ≡ root
+    → ToolDone status (counted_rule image n told before.boards) ⊥ before after → Named status image told before.boards → Own status image n told before after → Checked status image root before after
+checked status image n told root before after e f done named own =
+    subst (λ (r : List ℕ). Checked status image r before after) f (record {
+      done = subst (λ (k : ℕ). ToolDone status (counted_rule image k told before.boards) ⊥ before after) e done;
       named = named;
       own = λ x s h payload is first here some whole same. own x s h payload is first here (omega (arith, e, some)) whole same;
     })
 
 -- ---- receive
 
-pub receive_nothing : (image version : ℕ) (name root : List ℕ) (left : Option (List ℕ)) (reads : ℕ) (written : Option (List ℕ)) (writes : ℕ) (ds : List Device) → ReceivedDone statuses.Memory image version name root left left reads reads written written writes writes ds ds
-receive_nothing image version name root left reads written writes ds =
-    ([], record { taken = takes_none left; few_bytes = omega arith; enough = read_by (length ds) (AtEnd left); read_faults = λ _. refl }, nothing (FirstAs ds) _ _ _ _ written writes ds)
+pub receive_nothing : (image version : ℕ) (name root : List ℕ) (a : Around) → ReceivedDone statuses.Memory image version name root a a
+receive_nothing image version name root a = (
+  [],
+  record { taken = takes_none a.left; few_bytes = omega arith; enough = read_by (length a.boards) (AtEnd a.left); read_faults = λ _. refl },
+  nothing (receive_rule a.boards root (row_of image version name) []) (Rose a.reads a.reads) (tool_around a),
+)
 
-abbrev pub ReceiveTold : Status → (n image version : ℕ) → (name root : List ℕ) → (left_before left_after : Option (List ℕ)) → (reads_before reads_after : ℕ) → (before after : Option (List ℕ)) → (writes_before writes_after : ℕ) → (old new : List Device) → Type 0
-ReceiveTold status n image version name root left_before left_after reads_before reads_after before after writes_before writes_after old new =
-    (input : List ℕ) × InputRead status n input left_before left_after reads_before reads_after
-    × ToolDone status (FirstAs old) (receive_ending n root (row_of image version name) input)
-    (WentOn (λ s. receive_trail root s (row_of image version name (content_in input)))) (StopsOn (λ s. receive_trail root s (row_of image version name (content_in input))))
-    (Rose reads_before reads_after) before after writes_before writes_after old new
+-- with the number of boards as the call has it
+abbrev ReceiveTold : Status → (n image version : ℕ) → (name root : List ℕ) → (a b : Around) → Type 0
+ReceiveTold status n image version name root a b =
+    (input : List ℕ) × InputRead status n input a.left b.left a.reads b.reads
+    × ToolDone status (verb_rule (FirstAs a.boards) (receive_ending n root (row_of image version name) input)
+    (WentOn (λ s. receive_trail root s (row_of image version name (content_in input)))) (StopsOn (λ s. receive_trail root s (row_of image version name (content_in input)))))
+    (Rose a.reads b.reads) (tool_around a) (tool_around b)
 
-pub received : (status : Status) (n image version : ℕ) (name told root : List ℕ) (left_before left_after : Option (List ℕ)) (reads_before reads_after : ℕ) (before after : Option (List ℕ)) (writes_before writes_after : ℕ) (old new : List Device) → n ≡ length old → told ≡ root
-    → ReceiveTold status n image version name told left_before left_after reads_before reads_after before after writes_before writes_after old new
-    → ReceivedDone status image version name root left_before left_after reads_before reads_after before after writes_before writes_after old new
-received status n image version name told root left_before left_after reads_before reads_after before after writes_before writes_after old new e f h =
-    subst (λ (r : List ℕ). ReceivedDone status image version name r left_before left_after reads_before reads_after before after writes_before writes_after old new) f
-    (subst (λ (k : ℕ). ReceiveTold status k image version name told left_before left_after reads_before reads_after before after writes_before writes_after old new) e h)
+pub received : (status : Status) (n image version : ℕ) (name told root : List ℕ) (a b : Around) → n ≡ length a.boards → told ≡ root → ReceiveTold status n image version name told a b
+    → ReceivedDone status image version name root a b
+received status n image version name told root a b e f h =
+    subst (λ (r : List ℕ). ReceivedDone status image version name r a b) f (subst (λ (k : ℕ). ReceiveTold status k image version name told a b) e h)
 
 -- ---- the digits of a root
 

@@ -1,8 +1,10 @@
 -- A replay of nodes speaks of no link.
-use Rattle.std.proofs.Common.{◌≡◌, ◌⊎◌, inl, inr, ℕ, List, Option, sym, subst}
+use Rattle.std.proofs.Common.{◌≡◌, inl, inr, ℕ, List, Option, sym, subst}
 use Rattle.dg_base.specs.declared.answers.Status.{Status}
 use Rattle.dg_base.specs.declared.answers.Status.TheVariants as statuses
-use Rattle.dg_drip_script.specs.Scripts.{Script}
+use Rattle.dg_words.specs.Counts.{Rose}
+use Rattle.dg_drip_script.specs.Scripts.{DripScript}
+use Rattle.dg_drip_run.specs.AroundDrip.{AroundDrip}
 use Rattle.dg_drip_run.specs.Outcome.{Ending, Ends, BadLine, TooManyEvents, Over, status_of, Closed, Wrote, Dripped}
 
 abbrev IsNoLink : Status → Type 0
@@ -20,11 +22,11 @@ no_link_closed s wanted report closing before after failed none (inl h) = subst 
 no_link_closed s wanted report closing before after failed none (inr (inl h)) = subst IsNoLink (sym h.0) tt
 no_link_closed s wanted report closing before after failed none (inr (inr h)) = subst IsNoLink (sym h.0) tt
 
-no_link_wrote : (s : Status) (t : Script) (lines passed : ℕ) (ahead : List ℕ) (at_end reads writes : Type 0) (before after : Option (List ℕ)) → Wrote s t lines passed ahead at_end reads writes before after → IsNoLink s
-no_link_wrote s t lines passed ahead at_end reads writes before after (inl h) = no_link_closed s (status_of h.0) _ _ before after writes (no_link_ends h.0) h.2
-no_link_wrote s t lines passed ahead at_end reads writes before after (inr (inl h)) = subst IsNoLink (sym h.0) tt
-no_link_wrote s t lines passed ahead at_end reads writes before after (inr (inr (inl h))) = subst IsNoLink (sym h.0) tt
-no_link_wrote s t lines passed ahead at_end reads writes before after (inr (inr (inr h))) = subst IsNoLink (sym h.0) tt
+no_link_wrote : (s : Status) (t : DripScript) (lines passed : ℕ) (ahead : List ℕ) (a b : AroundDrip) → Wrote s t lines passed ahead a b → IsNoLink s
+no_link_wrote s t lines passed ahead a b (inl h) = no_link_closed s (status_of h.0) _ _ a.written b.written (Rose a.writes b.writes) (no_link_ends h.0) h.2
+no_link_wrote s t lines passed ahead a b (inr (inl h)) = subst IsNoLink (sym h.0) tt
+no_link_wrote s t lines passed ahead a b (inr (inr (inl h))) = subst IsNoLink (sym h.0) tt
+no_link_wrote s t lines passed ahead a b (inr (inr (inr h))) = subst IsNoLink (sym h.0) tt
 
-pub no_link_of_nodes : (s : Status) (a b before after : Option (List ℕ)) (reads writes : Type 0) → Dripped s a b before after reads writes → s ≡ statuses.LinkFault → ⊥
-no_link_of_nodes s a b before after reads writes d e = subst IsNoLink e (no_link_wrote s _ _ _ _ _ reads writes before after d.wrote)
+pub no_link_of_nodes : (s : Status) (a b : AroundDrip) → Dripped s a b → s ≡ statuses.LinkFault → ⊥
+no_link_of_nodes s a b d e = subst IsNoLink e (no_link_wrote s _ _ _ _ a b d.wrote)

@@ -1,26 +1,26 @@
 -- The command that migrates, from what its call tells.
-use Rattle.std.proofs.Common.{◌≡◌, ◌⊎◌, inl, inr, ℕ, List, [], ◌∷◌, length, Option, subst}
+use Rattle.std.proofs.Common.{◌≡◌, ◌⊎◌, inl, inr, ℕ, List, [], ◌∷◌, length, subst}
 use Rattle.dg_base.specs.declared.answers.Status.{Status}
 use Rattle.dg_base.specs.declared.answers.Status.TheVariants as statuses
 use Rattle.dg_nor.specs.Device.{Device}
 use Rattle.dg_control.specs.Store.{HasForm}
 use Rattle.dg_volume.specs.Sizes.{old_form, new_form}
 use Rattle.dg_volume.specs.Store.{Store}
-use Rattle.dg_volume.specs.Stands.{Stands, IsVolume}
+use Rattle.dg_volume.specs.Stands.{Stands}
 use Rattle.dg_volume.specs.Trails.{migrate_trail}
 use Rattle.dg_tool.specs.Endings.{FirstAs, FirstInForm}
 use Rattle.dg_tool.specs.Verbs.{migrate_ending}
-use Rattle.dg_tool.specs.Done.{ToolDone, MigratedOn, StopsOn}
+use Rattle.dg_tool.specs.Done.{verb_rule, ToolOutside, ToolDone, MigratedOn, StopsOn}
 use Rattle.dg_cli.specs.Migrating.{MigratedDone}
 use Rattle.dg_cli.proofs.CarryLemmas.{no_link}
 
 -- the same with the number of boards as the call has it
-abbrev pub MigratedTold : (n : ℕ) → Status → (before after : Option (List ℕ)) → (k l : ℕ) → (old new : List Device) → Type 0
-MigratedTold n s before after k l old new =
-    (form : ℕ) → FirstInForm form old → ToolDone s (FirstAs old) (migrate_ending n form) (MigratedOn form) (StopsOn (migrate_trail form)) ⊥ before after k l old new
+abbrev pub MigratedTold : (n : ℕ) → Status → (before after : ToolOutside) → Type 0
+MigratedTold n s before after =
+    (form : ℕ) → FirstInForm form before.boards → ToolDone s (verb_rule (FirstAs before.boards) (migrate_ending n form) (MigratedOn form) (StopsOn (migrate_trail form))) ⊥ before after
 
-pub migrated_done : (n : ℕ) (s : Status) (before after : Option (List ℕ)) (k l : ℕ) (old new : List Device) → n ≡ length old → MigratedTold n s before after k l old new → MigratedDone s before after k l old new
-migrated_done n s before after k l old new e h = subst (λ (m : ℕ). MigratedTold m s before after k l old new) e h
+pub migrated_done : (n : ℕ) (s : Status) (before after : ToolOutside) → n ≡ length before.boards → MigratedTold n s before after → MigratedDone s before after
+migrated_done n s before after e h = subst (λ (m : ℕ). MigratedTold m s before after) e h
 
 abbrev pub FormLaw : Type 0
 FormLaw = (c : List ℕ) (s : Store) → Stands c s → HasForm c old_form ⊎ HasForm c new_form
@@ -36,5 +36,5 @@ some_form law (board ∷ boards) none =
     none old_form (λ v. absurd (in_neither (HasForm board.image old_form) (HasForm board.image new_form) (λ h. none old_form (λ _. h)) (λ h. none new_form (λ _. h)) (law board.image v.0 v.1)))
 
 -- it speaks of no link
-pub no_link_of_migration : FormLaw → (n : ℕ) (s : Status) (before after : Option (List ℕ)) (k l : ℕ) (old new : List Device) → MigratedTold n s before after k l old new → s ≡ statuses.LinkFault → ⊥
-no_link_of_migration law n s before after k l old new h e = some_form law old (λ form first. no_link _ _ _ _ _ (h form first).faulted e)
+pub no_link_of_migration : FormLaw → (n : ℕ) (s : Status) (before after : ToolOutside) → MigratedTold n s before after → s ≡ statuses.LinkFault → ⊥
+no_link_of_migration law n s before after h e = some_form law before.boards (λ form first. no_link _ _ _ _ _ (h form first).faulted e)

@@ -1,5 +1,5 @@
 -- What the command did that runs a base mote over the first board.
-use Rattle.std.specs.Prelude.{◌≡◌, ◌⊎◌, ℕ, List, [], ◌∷◌, ◌++◌, codes, Option}
+use Rattle.std.specs.Prelude.{◌≡◌, ◌⊎◌, ℕ, List, [], ◌∷◌, ◌++◌, codes}
 use Rattle.dg_words.specs.Counts.{Rose}
 use Rattle.dg_base.specs.Outside.{Puts, PutsFront}
 use Rattle.dg_base.specs.declared.answers.Status.{Status}
@@ -29,25 +29,29 @@ pub record BasedOn (b : Base) (status : Status) (before now : Outside) : Type 0 
   pub refused : IsNoVolume before.chip.image → Refused status before now
   pub causes : Causes status before now
   -- with honest frames a chip that agrees with a table of images agrees with it behind the line, however it ended
-  pub agrees : (s : Store) (table : List Row) (x : Based status b s before now) → IsTable table → StoreIsWell table s → HonestLine table x.input → ChipAgrees table now.chip.image
-  -- whatever bytes came as frames, a consistent chip stays so, however the line ended; no start lacks an image, and what starts is sound
-  pub consistent : (s : Store) (golden : Row) (x : Based status b s before now) → IsRow golden → StoreIsConsistent golden s → StaysConsistent golden status b s x.input now.chip.image
+  pub agrees : (s : Store) (table : List Row) (x : Based status b s before now) → IsTable table → StoreIsWell table s
+      → HonestLine table x.input → ChipAgrees table now.chip.image
+  -- whatever bytes came as frames, a consistent chip stays so, however the line ended; no start lacks an image,
+  -- and what starts is sound
+  pub consistent : (s : Store) (golden : Row) (x : Based status b s before now) → IsRow golden → StoreIsConsistent golden s
+      → StaysConsistent golden status b s x.input now.chip.image
 
 -- the line that is written where there is no board
-abbrev pub no_board_line : List ℕ
-no_board_line = codes "noboard 1 0" ++ 10 ∷ []
+abbrev pub no_base_board_line : List ℕ
+no_base_board_line = codes "noboard 1 0" ++ 10 ∷ []
 
 -- It was written, or a front of it, since a write failed. Nothing is read.
 pub record NoBoardTold (status : Status) (a b : Around) : Type 0 where
   pub left : b.left ≡ a.left
   pub reads : b.reads ≡ a.reads
-  pub told : ((status ≡ NoBoard) × Puts a.written b.written no_board_line × (b.writes ≡ a.writes))
-      ⊎ ((status ≡ WriteFault) × PutsFront a.written b.written no_board_line × Rose a.writes b.writes)
+  pub told : ((status ≡ NoBoard) × Puts a.written b.written no_base_board_line × (b.writes ≡ a.writes))
+      ⊎ ((status ≡ WriteFault) × PutsFront a.written b.written no_base_board_line × Rose a.writes b.writes)
 
 -- over the first of the boards, and the others are as before
 abbrev pub BasedOver : Base → Status → Around → Around → (old new : List Device) → Type 0
 BasedOver base status a b [] [] = NoBoardTold status a b
-BasedOver base status a b (old ∷ others) (new ∷ rest) = BasedOn base status (around_chip a old) (around_chip b new) × (rest ≡ others)
+BasedOver base status a b (old ∷ others) (new ∷ rest) =
+    BasedOn base status (around_chip a old) (around_chip b new) × (rest ≡ others)
 BasedOver base status a b old new = ⊥
 
 abbrev pub BaseDone : (id step seed : ℕ) → Status → Around → Around → Type 0

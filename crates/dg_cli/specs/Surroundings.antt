@@ -4,8 +4,14 @@ use Rattle.dg_base.specs.Clock.{Answers}
 use Rattle.dg_link.specs.Inboxes.{Inboxes}
 use Rattle.dg_serve.specs.Served.{Outside}
 use Rattle.dg_replay.specs.Around.{Around}
+use Rattle.dg_tool.specs.Done.{ToolOutside, tool_outside}
 
--- beside the input, the output and the boards the frames that wait in the link, where that is told, how many of its calls failed, and the answers of the clock
+-- what a command over one chip has of it, its input aside
+abbrev pub tool_around : Around → ToolOutside
+tool_around a = tool_outside a.written a.writes a.boards
+
+-- beside the input, the output and the boards the frames that wait in the link, where that is told,
+-- how many of its calls failed, and the answers of the clock
 pub record Surroundings : Type 0 where
   pub here : Around
   pub inboxes : Option Inboxes
@@ -17,4 +23,11 @@ surroundings here inboxes failures clock = record { here = here; inboxes = inbox
 
 -- what a service has outside of it, its input aside
 abbrev pub outside_of : Surroundings → Outside
-outside_of a = record { written = a.here.written; faults = a.here.writes; clock = a.clock; inboxes = a.inboxes; failures = a.failures; boards = a.here.boards }
+outside_of a = record {
+  written = a.here.written;
+  faults = a.here.writes;
+  clock = a.clock;
+  inboxes = a.inboxes;
+  failures = a.failures;
+  boards = a.here.boards;
+}

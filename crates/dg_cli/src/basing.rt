@@ -3,7 +3,7 @@ ghost use Rattle.std.specs.Prelude.{◌≡◌, ◌≢◌, ◌≤◌, ◌⊎◌, 
 ghost use Rattle.dg_words.specs.Counts.{Rose};
 ghost use Rattle.dg_base.specs.Outside.{Puts, PutsFront};
 ghost use Rattle.dg_replay.specs.Around.{around};
-ghost use Rattle.dg_cli.specs.Basing.{no_board_line, BaseDone};
+ghost use Rattle.dg_cli.specs.Basing.{no_base_board_line, BaseDone};
 
 use dg_base::{Sink, Source, Status, WriteFailed};
 use dg_nor::Nor;
@@ -11,8 +11,10 @@ use std::alloc::Global;
 
 /// Tells that there is no board.
 fn tell_no_board<K: Sink>(out: &mut K) -> Status
-    ensures told { ((result ≡ Status.NoBoard) × Puts (K.written out.old) (K.written out.new) no_board_line × (K.faults out.new ≡ K.faults out.old))
-        ⊎ ((result ≡ Status.WriteFault) × PutsFront (K.written out.old) (K.written out.new) no_board_line × Rose (K.faults out.old) (K.faults out.new)) }
+    ensures told { ((result ≡ Status.NoBoard) × Puts (K.written out.old) (K.written out.new) no_base_board_line
+        × (K.faults out.new ≡ K.faults out.old))
+        ⊎ ((result ≡ Status.WriteFault) × PutsFront (K.written out.old) (K.written out.new) no_base_board_line
+        × Rose (K.faults out.old) (K.faults out.new)) }
     ensures writes { K.faults out.old ≤ K.faults out.new }
 {
     match out.write(b"noboard 1 0\n") {

@@ -18,28 +18,29 @@ use dg_nor::Nor;
 use dg_replay::replay;
 use dg_serve::{serve_network, services_keep_the_rules};
 use dg_trial::trial;
-use dg_volume::Order;
 use std::alloc::Global;
 
 /// Carries out a command.
 pub(crate) fn carry_out<S: Source, K: Sink, N: Nor, L: Link, C: Clock>(
     alloc: Global,
-    command: Command,
+    command: &Command,
     input: &mut S,
     out: &mut K,
     boards: &mut Vec<N>,
     link: &mut L,
     clock: &mut C,
 ) -> Status
-    requires ranges { IsInRange (said_by command) }
-    requires formed { is_well_formed (said_by command) ≡ true }
-    ensures done { SaidDone (said_by command) result
-        (surroundings (around (S.left input.old) (S.faults input.old) (K.written out.old) (K.faults out.old) (map N.device boards.old.items))
+    requires ranges { IsInRange (said_by command.now) }
+    requires formed { is_well_formed (said_by command.now) ≡ true }
+    ensures done { SaidDone (said_by command.now) result
+        (surroundings (around (S.left input.old) (S.faults input.old) (K.written out.old) (K.faults out.old)
+        (map N.device boards.old.items))
         (L.inboxes link.old) (L.faults link.old) (C.told clock.old))
-        (surroundings (around (S.left input.new) (S.faults input.new) (K.written out.new) (K.faults out.new) (map N.device boards.new.items))
+        (surroundings (around (S.left input.new) (S.faults input.new) (K.written out.new) (K.faults out.new)
+        (map N.device boards.new.items))
         (L.inboxes link.new) (L.faults link.new) (C.told clock.new)) }
-    ensures untouched { (ReadsInput (Asks (said_by command)) → ⊥) → input.new ≡ input.old }
-    ensures apart { (UsesLink (Asks (said_by command)) → ⊥) → (link.new ≡ link.old) × (clock.new ≡ clock.old) }
+    ensures untouched { (ReadsInput (Asks (said_by command.now)) → ⊥) → input.new ≡ input.old }
+    ensures apart { (UsesLink (Asks (said_by command.now)) → ⊥) → (link.new ≡ link.old) × (clock.new ≡ clock.old) }
     ensures link_fault { result ≡ Status.LinkFault → Rose (L.faults link.old) (L.faults link.new) }
     ensures reads { S.faults input.old ≤ S.faults input.new }
     ensures writes { K.faults out.old ≤ K.faults out.new }
@@ -47,68 +48,42 @@ pub(crate) fn carry_out<S: Source, K: Sink, N: Nor, L: Link, C: Clock>(
 {
     services_keep_the_rules();
     match command {
-        Command::Replay { flashes: _flashes } => replay(alloc, input, out, boards),
+        Command::Replay { .. } => replay(alloc, input, out, boards),
+        Command::Serve { turns, seed, .. } => {
+            serve_network(alloc, input, boards, link, clock, *seed, *turns, out)
+        }
         Command::Format {
             name,
             used,
             form,
-            flash: _flash,
-        } => dg_tool::format(alloc, name.as_bytes(), used, form, input, out, boards),
+            ..
+        } => dg_tool::format(alloc, name.as_bytes(), *used, *form, input, out, boards),
         Command::Inject {
             image,
             version,
             name,
-            flash: _flash,
-        } => dg_tool::inject(alloc, image, version, name.as_bytes(), input, out, boards),
-        Command::Order {
-            number,
-            image,
-            version,
-            flash: _flash,
-        } => {
-            let order = Order {
-                number,
-                image,
-                version,
-            };
-            dg_tool::order(alloc, &order, out, boards)
-        }
-        Command::Boot { flash: _flash } => dg_tool::boot(alloc, out, boards),
-        Command::Ping { flash: _flash } => dg_tool::ping(alloc, out, boards),
-        Command::Dump {
-            image,
-            flash: _flash,
-        } => dg_tool::dump(alloc, image, out, boards),
-        Command::Migrate { flash: _flash } => migrate(alloc, out, boards),
-        Command::Serve {
-            turns,
-            seed,
-            flashes: _flashes,
-        } => serve_network(alloc, input, boards, link, clock, seed, turns, out),
-        Command::Trial { motes, pages, seed } => trial(alloc, motes, pages, seed, out, boards),
+            ..
+        } => dg_tool::inject(alloc, *image, *version, name.as_bytes(), input, out, boards),
+        Command::Order { order, .. } => dg_tool::order(alloc, order, out, boards),
+        Command::Boot { .. } => dg_tool::boot(alloc, out, boards),
+        Command::Ping { .. } => dg_tool::ping(alloc, out, boards),
+        Command::Dump { image, .. } => dg_tool::dump(alloc, *image, out, boards),
+        Command::Migrate { .. } => migrate(alloc, out, boards),
+        Command::Trial { motes, pages, seed } => trial(alloc, *motes, *pages, *seed, out, boards),
         Command::Wrap => dg_chain_tool::wrap(alloc, input, out),
-        Command::Check {
-            image,
-            root,
-            flash: _flash,
-        } => check(alloc, image, root.as_bytes(), out, boards),
+        Command::Check { image, root, .. } => check(alloc, *image, root.as_bytes(), out, boards),
         Command::Receive {
             image,
             version,
             name,
             root,
-            flash: _flash,
+            ..
         } => {
             let named = name.as_bytes();
             let digits = root.as_bytes();
-            receive(alloc, image, version, named, digits, input, out, boards)
+            receive(alloc, *image, *version, named, digits, input, out, boards)
         }
         Command::Drip => drip(alloc, input, out),
-        Command::Base {
-            id,
-            step,
-            seed,
-            flash: _flash,
-        } => base(alloc, id, step, seed, input, out, boards),
+        Command::Base { id, step, seed, .. } => base(alloc, *id, *step, *seed, input, out, boards),
     }
 }

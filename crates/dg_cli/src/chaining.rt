@@ -2,6 +2,8 @@
 ghost use Rattle.std.specs.Prelude.{◌≡◌, ◌≢◌, ◌≤◌, ◌<◌, true, map, IsTrue};
 ghost use Rattle.dg_base.specs.Texts.{spells_name};
 ghost use Rattle.dg_volume.specs.Sizes.{images};
+ghost use Rattle.dg_tool.specs.Done.{tool_outside};
+ghost use Rattle.dg_replay.specs.Around.{around};
 ghost use Rattle.dg_command.specs.Roots.{spells_root};
 ghost use Rattle.dg_cli.specs.Chained.{root_in, Checked, ReceivedDone};
 
@@ -20,8 +22,9 @@ pub(crate) fn check<K: Sink, N: Nor>(
 ) -> Status
     requires image { image < images }
     requires root { spells_root root.now ≡ true }
-    ensures done { Checked result image (root_in root.now) (K.written out.old) (K.written out.new) (K.faults out.old) (K.faults out.new)
-        (map N.device boards.old.items) (map N.device boards.new.items) }
+    ensures done { Checked result image (root_in root.now)
+        (tool_outside (K.written out.old) (K.faults out.old) (map N.device boards.old.items))
+        (tool_outside (K.written out.new) (K.faults out.new) (map N.device boards.new.items)) }
     ensures writes { K.faults out.old ≤ K.faults out.new }
 {
     match root_bytes(alloc, root) {
@@ -45,9 +48,9 @@ pub(crate) fn receive<S: Source, K: Sink, N: Nor>(
     requires version { 1 ≤ version }
     requires named { IsTrue (spells_name name.now) }
     requires root { spells_root root.now ≡ true }
-    ensures done { ReceivedDone result image version name.now (root_in root.now) (S.left input.old) (S.left input.new) (S.faults input.old) (S.faults input.new)
-        (K.written out.old) (K.written out.new) (K.faults out.old) (K.faults out.new)
-        (map N.device boards.old.items) (map N.device boards.new.items) }
+    ensures done { ReceivedDone result image version name.now (root_in root.now)
+        (around (S.left input.old) (S.faults input.old) (K.written out.old) (K.faults out.old) (map N.device boards.old.items))
+        (around (S.left input.new) (S.faults input.new) (K.written out.new) (K.faults out.new) (map N.device boards.new.items)) }
     ensures reads { S.faults input.old ≤ S.faults input.new }
     ensures writes { K.faults out.old ≤ K.faults out.new }
 {

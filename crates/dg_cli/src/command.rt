@@ -4,7 +4,7 @@ ghost use Rattle.dg_mote.specs.Sizes.{buffered_bytes, BuffersFit, ValuesAreSmall
 ghost use Rattle.dg_words.specs.Counts.{Rose};
 ghost use Rattle.dg_replay.specs.Around.{around};
 ghost use Rattle.dg_command.specs.Asking.{asked_of};
-ghost use Rattle.dg_cli.specs.Commands.{Does, ReadsInput, UsesLink};
+ghost use Rattle.dg_cli.specs.Commands.{CommandDone, ReadsInput, UsesLink};
 ghost use Rattle.dg_cli.specs.Surroundings.{surroundings};
 
 use crate::carrying::carry_out;
@@ -26,20 +26,23 @@ fn answer<S: Source, K: Sink, N: Nor, L: Link, C: Clock>(
     link: &mut L,
     clock: &mut C,
 ) -> Status
-    ensures does { Does (asked_of (map string_bytes words.now.items)) result
-        (surroundings (around (S.left input.old) (S.faults input.old) (K.written out.old) (K.faults out.old) (map N.device boards.old.items))
+    ensures does { CommandDone (asked_of (map string_bytes words.now.items)) result
+        (surroundings (around (S.left input.old) (S.faults input.old) (K.written out.old) (K.faults out.old)
+        (map N.device boards.old.items))
         (L.inboxes link.old) (L.faults link.old) (C.told clock.old))
-        (surroundings (around (S.left input.new) (S.faults input.new) (K.written out.new) (K.faults out.new) (map N.device boards.new.items))
+        (surroundings (around (S.left input.new) (S.faults input.new) (K.written out.new) (K.faults out.new)
+        (map N.device boards.new.items))
         (L.inboxes link.new) (L.faults link.new) (C.told clock.new)) }
     ensures untouched { (ReadsInput (asked_of (map string_bytes words.now.items)) → ⊥) → input.new ≡ input.old }
-    ensures apart { (UsesLink (asked_of (map string_bytes words.now.items)) → ⊥) → (link.new ≡ link.old) × (clock.new ≡ clock.old) }
+    ensures apart { (UsesLink (asked_of (map string_bytes words.now.items)) → ⊥) → (link.new ≡ link.old)
+        × (clock.new ≡ clock.old) }
     ensures link_fault { result ≡ Status.LinkFault → Rose (L.faults link.old) (L.faults link.new) }
     ensures reads { S.faults input.old ≤ S.faults input.new }
     ensures writes { K.faults out.old ≤ K.faults out.new }
     ensures sends { L.faults link.old ≤ L.faults link.new }
 {
     match asked(alloc, words) {
-        Ok(Asked::Command(command)) => carry_out(alloc, command, input, out, boards, link, clock),
+        Ok(Asked::Command(command)) => carry_out(alloc, &command, input, out, boards, link, clock),
         Ok(Asked::Help(text)) => tell_help(out, text.as_str()),
         Ok(Asked::Usage) => tell_usage(out),
         Err(AllocError) => Status::Memory,
@@ -68,17 +71,20 @@ pub fn run<S: Source, K: Sink, N: Nor, L: Link, C: Clock>(
     // Each command does what its rules say. A replay's report is true, whatever frames are brought from outside: it is that
     // of a run of the rules over the items of the script. Each status comes where the rules say. What was played keeps all
     // parts of the headline, and a script in its limits is replayed to its end, unless memory runs out or the outside fails.
-    ensures does { Does (asked_of (map string_bytes words.now.items)) result
-        (surroundings (around (S.left input.old) (S.faults input.old) (K.written out.old) (K.faults out.old) (map N.device boards.old.items))
+    ensures does { CommandDone (asked_of (map string_bytes words.now.items)) result
+        (surroundings (around (S.left input.old) (S.faults input.old) (K.written out.old) (K.faults out.old)
+        (map N.device boards.old.items))
         (L.inboxes link.old) (L.faults link.old) (C.told clock.old))
-        (surroundings (around (S.left input.new) (S.faults input.new) (K.written out.new) (K.faults out.new) (map N.device boards.new.items))
+        (surroundings (around (S.left input.new) (S.faults input.new) (K.written out.new) (K.faults out.new)
+        (map N.device boards.new.items))
         (L.inboxes link.new) (L.faults link.new) (C.told clock.new)) }
     // The arrays of bytes that a mote and its calls name have 214 bytes, and those that are named together in one call no
     // more than 256. A mote's value has at most 464 bytes of memory, and its outbox 80.
     ensures buffers { (buffered_bytes ≡ 214) × BuffersFit × ValuesAreSmall }
     // A command that reads no input leaves it untouched. None but `serve` uses the link and the clock.
     ensures untouched { (ReadsInput (asked_of (map string_bytes words.now.items)) → ⊥) → input.new ≡ input.old }
-    ensures apart { (UsesLink (asked_of (map string_bytes words.now.items)) → ⊥) → (link.new ≡ link.old) × (clock.new ≡ clock.old) }
+    ensures apart { (UsesLink (asked_of (map string_bytes words.now.items)) → ⊥) → (link.new ≡ link.old)
+        × (clock.new ≡ clock.old) }
     // A fault of the link is told only where one of its calls failed.
     ensures link_fault { result ≡ Status.LinkFault → Rose (L.faults link.old) (L.faults link.new) }
     ensures reads { S.faults input.old ≤ S.faults input.new }

@@ -5,9 +5,11 @@ use Rattle.clap.specs.Simple.{new_shape}
 use Rattle.clap.specs.declared.builder.action.ArgAction.TheVariants.{Set, Append}
 use Rattle.clap.specs.declared.builder.value_parser.ValueParser.TheVariants as vp
 use Rattle.dg_command.specs.Verbs.{word_of}
-use Rattle.dg_command.specs.Sizes.{last_slot, most_turns, most_room, least_motes, most_motes, least_pages, most_pages, most_step, most_id, old_form, new_form}
+use Rattle.dg_command.specs.Sizes.{last_slot, most_turns, most_room, least_motes, most_motes, least_pages, most_pages, most_step}
+use Rattle.dg_command.specs.Sizes.{most_id, old_form, new_form}
 use Rattle.dg_command.specs.declared.verbs.Verb.{Verb}
-use Rattle.dg_command.specs.declared.verbs.Verb.TheVariants.{Replay, Serve, Format, Inject, Order, Boot, Ping, Dump, Migrate, Trial, Wrap, Check, Receive, Drip, Base}
+use Rattle.dg_command.specs.declared.verbs.Verb.TheVariants.{Replay, Serve, Format, Inject, Order, Boot, Ping, Dump, Migrate}
+use Rattle.dg_command.specs.declared.verbs.Verb.TheVariants.{Trial, Wrap, Check, Receive, Drip, Base}
 
 -- the largest number of 32 bits
 abbrev pub most_number : ℕ
@@ -15,7 +17,8 @@ most_number = 4294967295
 
 -- an option that must be there, whose value is a number within bounds
 abbrev pub number_option : Text → (low high : ℕ) → Rule
-number_option name low high = record (new_rule name) { long = Some name; required = true; action = Some Set; parser = Some (vp.Signed (pos low) (pos high)) }
+number_option name low high = record (new_rule name)
+    { long = Some name; required = true; action = Some Set; parser = Some (vp.Signed (pos low) (pos high)) }
 
 -- an option that must be there, whose value is a text
 abbrev pub text_option : Text → Rule
@@ -23,7 +26,8 @@ text_option name = record (new_rule name) { long = Some name; required = true; a
 
 -- the form in which a chip is written, which may be left out
 abbrev pub form_option : Rule
-form_option = record (new_rule (codes "form")) { long = Some (codes "form"); action = Some Set; parser = Some (vp.Signed (pos old_form) (pos new_form)) }
+form_option = record (new_rule (codes "form"))
+    { long = Some (codes "form"); action = Some Set; parser = Some (vp.Signed (pos old_form) (pos new_form)) }
 
 -- an image that a chip has a slot for
 abbrev pub slot_option : Rule

@@ -46,7 +46,7 @@ said_by (command.Replay flashes) = Replay (map string_bytes flashes.items)
 said_by (command.Serve turns seed flashes) = Serve turns seed (map string_bytes flashes.items)
 said_by (command.Format name used form flash) = Format (string_bytes name) used form (string_bytes flash)
 said_by (command.Inject image version name flash) = Inject image version (string_bytes name) (string_bytes flash)
-said_by (command.Order number image version flash) = Order number image version (string_bytes flash)
+said_by (command.Order order flash) = Order order.number order.image order.version (string_bytes flash)
 said_by (command.Boot flash) = Boot (string_bytes flash)
 said_by (command.Ping flash) = Ping (string_bytes flash)
 said_by (command.Dump image flash) = Dump image (string_bytes flash)
@@ -54,7 +54,8 @@ said_by (command.Migrate flash) = Migrate (string_bytes flash)
 said_by (command.Trial motes pages seed) = Trial motes pages seed
 said_by command.Wrap = Wrap
 said_by (command.Check image root flash) = Check image (string_bytes root) (string_bytes flash)
-said_by (command.Receive image version name root flash) = Receive image version (string_bytes name) (string_bytes root) (string_bytes flash)
+said_by (command.Receive image version name root flash) =
+    Receive image version (string_bytes name) (string_bytes root) (string_bytes flash)
 said_by command.Drip = Drip
 said_by (command.Base id step seed flash) = Base id step seed (string_bytes flash)
 
@@ -68,21 +69,28 @@ asking asked.Usage = Misuses
 -- the values that `clap` read for a verb
 abbrev pub said_at : Verb → List Row → Said
 said_at verb.Replay rows = Replay (texts_at (codes "FLASH") rows)
-said_at verb.Serve rows = Serve (number_at 32 (codes "turns") rows) (number_at 32 (codes "seed") rows) (texts_at (codes "FLASH") rows)
-said_at verb.Format rows = Format (text_at (codes "name") rows) (number_at 32 (codes "used") rows) (form_of (number_at 8 (codes "form") rows)) (text_at (codes "FLASH") rows)
-said_at verb.Inject rows = Inject (number_at 8 (codes "image") rows) (number_at 32 (codes "ver") rows) (text_at (codes "name") rows) (text_at (codes "FLASH") rows)
-said_at verb.Order rows = Order (number_at 32 (codes "number") rows) (number_at 8 (codes "image") rows) (number_at 32 (codes "ver") rows) (text_at (codes "FLASH") rows)
+said_at verb.Serve rows =
+    Serve (number_at 32 (codes "turns") rows) (number_at 32 (codes "seed") rows) (texts_at (codes "FLASH") rows)
+said_at verb.Format rows = Format (text_at (codes "name") rows) (number_at 32 (codes "used") rows)
+    (form_of (number_at 8 (codes "form") rows)) (text_at (codes "FLASH") rows)
+said_at verb.Inject rows = Inject (number_at 8 (codes "image") rows) (number_at 32 (codes "ver") rows)
+    (text_at (codes "name") rows) (text_at (codes "FLASH") rows)
+said_at verb.Order rows = Order (number_at 32 (codes "number") rows) (number_at 8 (codes "image") rows)
+    (number_at 32 (codes "ver") rows) (text_at (codes "FLASH") rows)
 said_at verb.Boot rows = Boot (text_at (codes "FLASH") rows)
 said_at verb.Ping rows = Ping (text_at (codes "FLASH") rows)
 said_at verb.Dump rows = Dump (number_at 8 (codes "image") rows) (text_at (codes "FLASH") rows)
 said_at verb.Migrate rows = Migrate (text_at (codes "FLASH") rows)
-said_at verb.Trial rows = Trial (number_at 8 (codes "motes") rows) (number_at 8 (codes "pages") rows) (number_at 32 (codes "seed") rows)
+said_at verb.Trial rows =
+    Trial (number_at 8 (codes "motes") rows) (number_at 8 (codes "pages") rows) (number_at 32 (codes "seed") rows)
 said_at verb.Wrap rows = Wrap
 said_at verb.Check rows = Check (number_at 8 (codes "image") rows) (text_at (codes "root") rows) (text_at (codes "FLASH") rows)
 said_at verb.Receive rows =
-    Receive (number_at 8 (codes "image") rows) (number_at 32 (codes "ver") rows) (text_at (codes "name") rows) (text_at (codes "root") rows) (text_at (codes "FLASH") rows)
+    Receive (number_at 8 (codes "image") rows) (number_at 32 (codes "ver") rows) (text_at (codes "name") rows)
+    (text_at (codes "root") rows) (text_at (codes "FLASH") rows)
 said_at verb.Drip rows = Drip
-said_at verb.Base rows = Base (number_at 16 (codes "id") rows) (number_at 32 (codes "step") rows) (number_at 32 (codes "seed") rows) (text_at (codes "FLASH") rows)
+said_at verb.Base rows = Base (number_at 16 (codes "id") rows) (number_at 32 (codes "step") rows)
+    (number_at 32 (codes "seed") rows) (text_at (codes "FLASH") rows)
 
 -- whether the texts of a command have their form: the name that it gives an image is one, and so is a root
 abbrev pub is_well_formed : Said → Bool

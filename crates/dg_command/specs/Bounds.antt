@@ -1,7 +1,9 @@
 -- The ranges of a command's values.
 use Rattle.std.specs.Prelude.{◌≡◌, ◌⊎◌, ◌≤◌, ⊤, true}
-use Rattle.dg_command.specs.Asking.{Said, Replay, Serve, Format, Inject, Order, Boot, Ping, Dump, Migrate, Trial, Wrap, Check, Receive, Drip, Base, Asking, Asks, Helps, Misuses, is_well_formed}
-use Rattle.dg_command.specs.Sizes.{last_slot, most_turns, most_room, least_motes, most_motes, least_pages, most_pages, most_step, most_id, old_form, new_form}
+use Rattle.dg_command.specs.Asking.{Said, Replay, Serve, Format, Inject, Order, Boot, Ping, Dump, Migrate, Trial, Wrap, Check}
+use Rattle.dg_command.specs.Asking.{Receive, Drip, Base, Asking, Asks, Helps, Misuses, is_well_formed}
+use Rattle.dg_command.specs.Sizes.{last_slot, most_turns, most_room, least_motes, most_motes, least_pages, most_pages, most_step}
+use Rattle.dg_command.specs.Sizes.{most_id, old_form, new_form}
 
 abbrev pub IsInRange : Said → Type 0
 IsInRange (Replay flashes) = ⊤

@@ -1,7 +1,8 @@
 -- The verbs of the program, and their words.
 use Rattle.std.specs.Prelude.{ℕ, if◌then◌else◌, List, [], ◌∷◌, codes, bytes_eq, Option, Some, None}
 use Rattle.dg_command.specs.declared.verbs.Verb.{Verb}
-use Rattle.dg_command.specs.declared.verbs.Verb.TheVariants.{Replay, Serve, Format, Inject, Order, Boot, Ping, Dump, Migrate, Trial, Wrap, Check, Receive, Drip, Base}
+use Rattle.dg_command.specs.declared.verbs.Verb.TheVariants.{Replay, Serve, Format, Inject, Order, Boot, Ping, Dump, Migrate}
+use Rattle.dg_command.specs.declared.verbs.Verb.TheVariants.{Trial, Wrap, Check, Receive, Drip, Base}
 
 abbrev pub word_of : Verb → List ℕ
 word_of Replay = codes "replay"

@@ -1,7 +1,9 @@
 //! The commands of `clap`, one for each verb, and the one for words without a verb.
 ghost use Rattle.std.specs.Prelude.{◌≡◌, false, IfOk, map, Some};
 ghost use Rattle.clap.specs.Words.{app_of, rule_of};
-ghost use Rattle.dg_command.specs.Apps.{app_for, app_of_verb, flash_word, flash_words, form_option, number_option, other_slot_option, root_option, rules_of, seed_option, slot_option, text_option, top_app, version_option};
+ghost use Rattle.dg_command.specs.Apps.{app_for, app_of_verb, flash_word, flash_words, form_option, number_option};
+ghost use Rattle.dg_command.specs.Apps.{other_slot_option, root_option, rules_of, seed_option, slot_option, text_option, top_app};
+ghost use Rattle.dg_command.specs.Apps.{version_option};
 
 use crate::ranges::{LEAST_MOTES, LEAST_PAGES, MOST_STEP, MOST_TURNS};
 use crate::verbs::Verb;

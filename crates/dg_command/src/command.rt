@@ -1,4 +1,5 @@
 //! What words ask for.
+use dg_control::Order;
 
 /// A command, with its values.
 #[derive(Debug, Drop)]
@@ -31,9 +32,7 @@ pub enum Command {
     },
     /// Keeps an order in a chip.
     Order {
-        number: u32,
-        image: u8,
-        version: u32,
+        order: Order,
         flash: String,
     },
     /// Starts a chip.

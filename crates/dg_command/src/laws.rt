@@ -3,7 +3,8 @@ ghost use Rattle.std.specs.Prelude.{◌≡◌, ◌≢◌, ℕ, true, List, [], �
 ghost use Rattle.clap.specs.Words.{fault_of, matches_of};
 ghost use Rattle.dg_command.specs.Apps.{app_of_verb};
 ghost use Rattle.dg_command.specs.Asking.{Asking, Asks, Helps, Misuses, Said, asked_of, is_well_formed, said_at};
-ghost use Rattle.dg_command.specs.Asking.{Replay, Serve, Format, Inject, Order, Boot, Ping, Dump, Migrate, Trial, Wrap, Check, Receive, Drip, Base};
+ghost use Rattle.dg_command.specs.Asking.{Replay, Serve, Format, Inject, Order, Boot, Ping, Dump, Migrate, Trial, Wrap, Check};
+ghost use Rattle.dg_command.specs.Asking.{Receive, Drip, Base};
 ghost use Rattle.dg_command.specs.Laws.{line};
 ghost use Rattle.dg_command.specs.Verbs.{verb_in};
 ghost use Rattle.dg_command.specs.declared.verbs.Verb.{Verb};
@@ -14,10 +15,12 @@ pub fn lines_are_commands()
     ensures in_memory { asked_of (line (codes "replay")) ≡ Asks (Replay []) }
     ensures serve { asked_of (line (codes "serve --turns 50 --seed 7 a")) ≡ Asks (Serve 50 7 (codes "a" ∷ [])) }
     ensures format { asked_of (line (codes "format --name base --used 0 f")) ≡ Asks (Format (codes "base") 0 2 (codes "f")) }
-    ensures old_form { asked_of (line (codes "format --name base --used 0 --form 1 f")) ≡ Asks (Format (codes "base") 0 1 (codes "f")) }
+    ensures old_form { asked_of (line (codes "format --name base --used 0 --form 1 f"))
+        ≡ Asks (Format (codes "base") 0 1 (codes "f")) }
     ensures last_image { asked_of (line (codes "order --number 1 --image 6 --ver 1 f")) ≡ Asks (Order 1 6 1 (codes "f")) }
     ensures migrate { asked_of (line (codes "migrate f")) ≡ Asks (Migrate (codes "f")) }
-    ensures inject { asked_of (line (codes "inject --image 1 --ver 2 --name app f")) ≡ Asks (Inject 1 2 (codes "app") (codes "f")) }
+    ensures inject { asked_of (line (codes "inject --image 1 --ver 2 --name app f"))
+        ≡ Asks (Inject 1 2 (codes "app") (codes "f")) }
     ensures order { asked_of (line (codes "order --number 1 --image 1 --ver 1 f")) ≡ Asks (Order 1 1 1 (codes "f")) }
     ensures boot { asked_of (line (codes "boot f")) ≡ Asks (Boot (codes "f")) }
     ensures ping { asked_of (line (codes "ping f")) ≡ Asks (Ping (codes "f")) }
@@ -26,10 +29,14 @@ pub fn lines_are_commands()
     ensures wrap { asked_of (line (codes "wrap")) ≡ Asks Wrap }
     ensures drip { asked_of (line (codes "drip")) ≡ Asks Drip }
     ensures base { asked_of (line (codes "base --id 65535 --step 60000 --seed 0 f")) ≡ Asks (Base 65535 60000 0 (codes "f")) }
-    ensures check { asked_of (line (codes "check --image 0 --root 58E59bcd00000000000000000000000000000000000000000000000000000000 f"))
+    ensures check { asked_of
+        (line (codes "check --image 0 --root 58E59bcd00000000000000000000000000000000000000000000000000000000 f"))
         ≡ Asks (Check 0 (codes "58E59bcd00000000000000000000000000000000000000000000000000000000") (codes "f")) }
-    ensures receive { asked_of (line (codes "receive --image 1 --ver 2 --name app --root ffffffffffffffffffffffffffffffffffffffffffffffffffffffffffffffff f"))
-        ≡ Asks (Receive 1 2 (codes "app") (codes "ffffffffffffffffffffffffffffffffffffffffffffffffffffffffffffffff") (codes "f")) }
+    ensures receive { asked_of
+        (line
+        (codes "receive --image 1 --ver 2 --name app --root ffffffffffffffffffffffffffffffffffffffffffffffffffffffffffffffff f"))
+        ≡ Asks (Receive 1 2 (codes "app") (codes "ffffffffffffffffffffffffffffffffffffffffffffffffffffffffffffffff")
+        (codes "f")) }
 {}
 
 /// Options may stand in any order, and behind the file, and may have their value behind `=`. A number
@@ -63,8 +70,12 @@ pub fn misused_words()
     ensures too_low { asked_of (line (codes "order --number 0 --image 1 --ver 1 f")) ≡ Misuses }
     ensures name { asked_of (line (codes "format --name a/b --used 0 f")) ≡ Misuses }
     ensures short_root { asked_of (line (codes "check --image 1 --root 58e5 f")) ≡ Misuses }
-    ensures no_root { asked_of (line (codes "check --image 1 --root 58g59bcd00000000000000000000000000000000000000000000000000000000 f")) ≡ Misuses }
-    ensures golden_received { asked_of (line (codes "receive --image 0 --ver 2 --name app --root ffffffffffffffffffffffffffffffffffffffffffffffffffffffffffffffff f")) ≡ Misuses }
+    ensures no_root { asked_of
+        (line (codes "check --image 1 --root 58g59bcd00000000000000000000000000000000000000000000000000000000 f")) ≡ Misuses }
+    ensures golden_received { asked_of
+        (line
+        (codes "receive --image 0 --ver 2 --name app --root ffffffffffffffffffffffffffffffffffffffffffffffffffffffffffffffff f"))
+        ≡ Misuses }
     ensures long_step { asked_of (line (codes "base --id 0 --step 60001 --seed 0 f")) ≡ Misuses }
     ensures file_of_a_script { asked_of (line (codes "drip f")) ≡ Misuses }
 {}

@@ -2,7 +2,8 @@
 ghost use Rattle.std.specs.Prelude.{◌≡◌, ◌≢◌, [], ◌∷◌, IfOk, map, string_bytes, Some};
 ghost use Rattle.clap.specs.Words.{found_of, kind_of, rows_of};
 ghost use Rattle.dg_command.specs.Bounds.{FitsRanges};
-ghost use Rattle.dg_command.specs.Asking.{asked_of, asking, flashes_of, flashes_said, is_well_formed, named, refused_by, said_at, said_by, taken_by};
+ghost use Rattle.dg_command.specs.Asking.{asked_of, asking, flashes_of, flashes_said, is_well_formed, named, refused_by, said_at};
+ghost use Rattle.dg_command.specs.Asking.{said_by, taken_by};
 
 use crate::apps::command_for;
 use crate::command::{Asked, Command};
@@ -12,7 +13,9 @@ use crate::verbs::Verb;
 use clap::error::ErrorKind;
 use clap::{ArgMatches, Error};
 use dg_base::is_name;
+use dg_control::Order;
 use std::alloc::{AllocError, Global};
+use std::mem::replace;
 
 /// What words ask for. The first word is the verb.
 pub fn asked(alloc: Global, words: &Vec<String>) -> Result<Asked, AllocError>
@@ -42,73 +45,25 @@ pub fn flash_names(alloc: Global, words: &Vec<String>) -> Result<Vec<String>, Al
 }
 
 // The flash files of a command.
-fn flashes(alloc: Global, command: Command) -> Result<Vec<String>, AllocError>
+fn flashes(alloc: Global, mut command: Command) -> Result<Vec<String>, AllocError>
     ensures { IfOk result (λ names. map string_bytes names.items ≡ flashes_said (said_by command)) }
 {
-    match command {
-        Command::Replay { flashes } => Ok(flashes),
-        Command::Serve {
-            turns: _turns,
-            seed: _seed,
-            flashes,
-        } => Ok(flashes),
-        Command::Format {
-            name: _name,
-            used: _used,
-            form: _form,
-            flash,
-        } => one(alloc, flash),
-        Command::Inject {
-            image: _image,
-            version: _version,
-            name: _name,
-            flash,
-        } => one(alloc, flash),
-        Command::Order {
-            number: _number,
-            image: _image,
-            version: _version,
-            flash,
-        } => one(alloc, flash),
-        Command::Boot { flash } => one(alloc, flash),
-        Command::Ping { flash } => one(alloc, flash),
-        Command::Migrate { flash } => one(alloc, flash),
-        Command::Dump {
-            image: _image,
-            flash,
-        } => one(alloc, flash),
-        Command::Trial {
-            motes: _motes,
-            pages: _pages,
-            seed: _seed,
-        } => Ok(Vec::new(alloc)),
-        Command::Wrap => Ok(Vec::new(alloc)),
-        Command::Check {
-            image: _image,
-            root: _root,
-            flash,
-        } => one(alloc, flash),
-        Command::Receive {
-            image: _image,
-            version: _version,
-            name: _name,
-            root: _root,
-            flash,
-        } => one(alloc, flash),
-        Command::Drip => Ok(Vec::new(alloc)),
-        Command::Base {
-            id: _id,
-            step: _step,
-            seed: _seed,
-            flash,
-        } => one(alloc, flash),
+    match &mut command {
+        Command::Replay { flashes } | Command::Serve { flashes, .. } => {
+            Ok(replace(flashes, Vec::new(alloc)))
+        }
+        Command::Format { flash, .. }
+        | Command::Inject { flash, .. }
+        | Command::Order { flash, .. }
+        | Command::Boot { flash }
+        | Command::Ping { flash }
+        | Command::Migrate { flash }
+        | Command::Dump { flash, .. }
+        | Command::Check { flash, .. }
+        | Command::Receive { flash, .. }
+        | Command::Base { flash, .. } => Ok(vec![in alloc; replace(flash, String::new(alloc))]?),
+        Command::Trial { .. } | Command::Wrap | Command::Drip => Ok(Vec::new(alloc)),
     }
-}
-
-fn one(alloc: Global, flash: String) -> Result<Vec<String>, AllocError>
-    ensures { IfOk result (λ names. map string_bytes names.items ≡ string_bytes flash ∷ []) }
-{
-    Ok(vec![in alloc; flash]?)
 }
 
 // Words that are taken.
@@ -169,66 +124,123 @@ fn command_at(alloc: Global, verb: Verb, matches: &ArgMatches<'_>) -> Result<Com
         Verb::Replay => Ok(Command::Replay {
             flashes: texts(alloc, matches, "FLASH")?,
         }),
-        Verb::Serve => Ok(Command::Serve {
-            turns: number(matches, "turns"),
-            seed: number(matches, "seed"),
-            flashes: texts(alloc, matches, "FLASH")?,
-        }),
-        Verb::Format => Ok(Command::Format {
-            name: text(alloc, matches, "name")?,
-            used: number(matches, "used"),
-            form: form(matches, "form"),
-            flash: text(alloc, matches, "FLASH")?,
-        }),
-        Verb::Inject => Ok(Command::Inject {
-            image: small_number(matches, "image"),
-            version: number(matches, "ver"),
-            name: text(alloc, matches, "name")?,
-            flash: text(alloc, matches, "FLASH")?,
-        }),
-        Verb::Order => Ok(Command::Order {
-            number: number(matches, "number"),
-            image: small_number(matches, "image"),
-            version: number(matches, "ver"),
-            flash: text(alloc, matches, "FLASH")?,
-        }),
+        Verb::Serve => serve_at(alloc, matches),
+        Verb::Format => format_at(alloc, matches),
+        Verb::Inject => inject_at(alloc, matches),
+        Verb::Order => order_at(alloc, matches),
         Verb::Boot => Ok(Command::Boot {
             flash: text(alloc, matches, "FLASH")?,
         }),
         Verb::Ping => Ok(Command::Ping {
             flash: text(alloc, matches, "FLASH")?,
         }),
-        Verb::Dump => Ok(Command::Dump {
-            image: small_number(matches, "image"),
-            flash: text(alloc, matches, "FLASH")?,
-        }),
+        Verb::Dump => dump_at(alloc, matches),
         Verb::Migrate => Ok(Command::Migrate {
             flash: text(alloc, matches, "FLASH")?,
         }),
-        Verb::Trial => Ok(Command::Trial {
-            motes: small_number(matches, "motes"),
-            pages: small_number(matches, "pages"),
-            seed: number(matches, "seed"),
-        }),
+        Verb::Trial => Ok(trial_at(matches)),
         Verb::Wrap => Ok(Command::Wrap),
-        Verb::Check => Ok(Command::Check {
-            image: small_number(matches, "image"),
-            root: text(alloc, matches, "root")?,
-            flash: text(alloc, matches, "FLASH")?,
-        }),
-        Verb::Receive => Ok(Command::Receive {
-            image: small_number(matches, "image"),
-            version: number(matches, "ver"),
-            name: text(alloc, matches, "name")?,
-            root: text(alloc, matches, "root")?,
-            flash: text(alloc, matches, "FLASH")?,
-        }),
+        Verb::Check => check_at(alloc, matches),
+        Verb::Receive => receive_at(alloc, matches),
         Verb::Drip => Ok(Command::Drip),
-        Verb::Base => Ok(Command::Base {
-            id: short_number(matches, "id"),
-            step: number(matches, "step"),
-            seed: number(matches, "seed"),
-            flash: text(alloc, matches, "FLASH")?,
-        }),
+        Verb::Base => base_at(alloc, matches),
     }
+}
+
+fn serve_at(alloc: Global, matches: &ArgMatches<'_>) -> Result<Command, AllocError>
+    ensures { IfOk result (λ c. said_by c ≡ said_at Verb.Serve (rows_of (found_of matches.now))) }
+{
+    Ok(Command::Serve {
+        turns: number(matches, "turns"),
+        seed: number(matches, "seed"),
+        flashes: texts(alloc, matches, "FLASH")?,
+    })
+}
+
+fn format_at(alloc: Global, matches: &ArgMatches<'_>) -> Result<Command, AllocError>
+    ensures { IfOk result (λ c. said_by c ≡ said_at Verb.Format (rows_of (found_of matches.now))) }
+{
+    Ok(Command::Format {
+        name: text(alloc, matches, "name")?,
+        used: number(matches, "used"),
+        form: form(matches, "form"),
+        flash: text(alloc, matches, "FLASH")?,
+    })
+}
+
+fn inject_at(alloc: Global, matches: &ArgMatches<'_>) -> Result<Command, AllocError>
+    ensures { IfOk result (λ c. said_by c ≡ said_at Verb.Inject (rows_of (found_of matches.now))) }
+{
+    Ok(Command::Inject {
+        image: small_number(matches, "image"),
+        version: number(matches, "ver"),
+        name: text(alloc, matches, "name")?,
+        flash: text(alloc, matches, "FLASH")?,
+    })
+}
+
+fn order_at(alloc: Global, matches: &ArgMatches<'_>) -> Result<Command, AllocError>
+    ensures { IfOk result (λ c. said_by c ≡ said_at Verb.Order (rows_of (found_of matches.now))) }
+{
+    let order = Order {
+        number: number(matches, "number"),
+        image: small_number(matches, "image"),
+        version: number(matches, "ver"),
+    };
+    Ok(Command::Order {
+        order,
+        flash: text(alloc, matches, "FLASH")?,
+    })
+}
+
+fn dump_at(alloc: Global, matches: &ArgMatches<'_>) -> Result<Command, AllocError>
+    ensures { IfOk result (λ c. said_by c ≡ said_at Verb.Dump (rows_of (found_of matches.now))) }
+{
+    Ok(Command::Dump {
+        image: small_number(matches, "image"),
+        flash: text(alloc, matches, "FLASH")?,
+    })
+}
+
+fn trial_at(matches: &ArgMatches<'_>) -> Command
+    ensures { said_by result ≡ said_at Verb.Trial (rows_of (found_of matches.now)) }
+{
+    Command::Trial {
+        motes: small_number(matches, "motes"),
+        pages: small_number(matches, "pages"),
+        seed: number(matches, "seed"),
+    }
+}
+
+fn check_at(alloc: Global, matches: &ArgMatches<'_>) -> Result<Command, AllocError>
+    ensures { IfOk result (λ c. said_by c ≡ said_at Verb.Check (rows_of (found_of matches.now))) }
+{
+    Ok(Command::Check {
+        image: small_number(matches, "image"),
+        root: text(alloc, matches, "root")?,
+        flash: text(alloc, matches, "FLASH")?,
+    })
+}
+
+fn receive_at(alloc: Global, matches: &ArgMatches<'_>) -> Result<Command, AllocError>
+    ensures { IfOk result (λ c. said_by c ≡ said_at Verb.Receive (rows_of (found_of matches.now))) }
+{
+    Ok(Command::Receive {
+        image: small_number(matches, "image"),
+        version: number(matches, "ver"),
+        name: text(alloc, matches, "name")?,
+        root: text(alloc, matches, "root")?,
+        flash: text(alloc, matches, "FLASH")?,
+    })
+}
+
+fn base_at(alloc: Global, matches: &ArgMatches<'_>) -> Result<Command, AllocError>
+    ensures { IfOk result (λ c. said_by c ≡ said_at Verb.Base (rows_of (found_of matches.now))) }
+{
+    Ok(Command::Base {
+        id: short_number(matches, "id"),
+        step: number(matches, "step"),
+        seed: number(matches, "seed"),
+        flash: text(alloc, matches, "FLASH")?,
+    })
 }

@@ -176,12 +176,9 @@ fn values(rt: &HostRuntime, command: &Command) -> Result<String, Fail> {
             name,
             ..
         } => Ok(format!(in alloc; "inject {image} {version} {name}")?),
-        Command::Order {
-            number,
-            image,
-            version,
-            ..
-        } => Ok(format!(in alloc; "order {number} {image} {version}")?),
+        Command::Order { order, .. } => {
+            Ok(format!(in alloc; "order {} {} {}", order.number, order.image, order.version)?)
+        }
         Command::Boot { .. } => Ok(String::from_str(alloc, "boot")?),
         Command::Ping { .. } => Ok(String::from_str(alloc, "ping")?),
         Command::Dump { image, .. } => Ok(format!(in alloc; "dump {image}")?),

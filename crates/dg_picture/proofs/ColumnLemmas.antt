@@ -6,7 +6,7 @@ use Rattle.std.proofs.Math.Seq.{take-add}
 use Rattle.std.proofs.Math.Nat.{mul-le-mul_left}
 use Rattle.std.specs.List.{fold}
 use Rattle.dg_script.specs.declared.report.Report.{Report}
-use Rattle.dg_picture.specs.Layout.{left_of, column, shown, base_of, height_of}
+use Rattle.dg_picture.specs.Layout.{left_of, column, shown, lane_bottom, height_of}
 use Rattle.dg_picture.specs.Picture.{step_text, bar_text, mark_text, column_marks, lane_of}
 use Rattle.dg_picture.specs.declared.told.Pages.{Pages}
 use Rattle.dg_picture.specs.declared.told.Mark.{Mark}
@@ -37,18 +37,18 @@ next_kept h z per k cs rest kept p q =
     ∙ sym (fold-append h z (take (k * per) cs) (take per (drop (k * per) cs)))
     ∙ ap (λ xs. fold h z xs) (sym (take-add (k * per) per cs) ∙ ap (λ n. take n cs) (next per k))
 
-pub bar_here : (most : ℕ → ℕ) (grid : Grid) (mote image : ℕ) (cs : List Report) (k base : ℕ) (kept : Pages) → base ≡ base_of mote image → kept ≡ shown mote image grid.per k cs
+pub bar_here : (most : ℕ → ℕ) (grid : Grid) (mote image : ℕ) (cs : List Report) (k base : ℕ) (kept : Pages) → base ≡ lane_bottom mote image → kept ≡ shown mote image grid.per k cs
     → step_text (base - height_of kept.count (most kept.version)) grid.width ≡ bar_text most grid mote image cs k
 bar_here most grid mote image cs k base kept p q =
     ap (λ b. step_text (b - height_of kept.count (most kept.version)) grid.width) p
-    ∙ ap (λ (pages : Pages). step_text (base_of mote image - height_of pages.count (most pages.version)) grid.width) q
+    ∙ ap (λ (pages : Pages). step_text (lane_bottom mote image - height_of pages.count (most pages.version)) grid.width) q
 
-pub mark_here : (mark : Mark) (grid : Grid) (cs here : List Report) (mote k left base : ℕ) → left ≡ left_of grid k → base ≡ base_of mote (lane_of mark) → here ≡ column grid.per k cs
+pub mark_here : (mark : Mark) (grid : Grid) (cs here : List Report) (mote k left base : ℕ) → left ≡ left_of grid k → base ≡ lane_bottom mote (lane_of mark) → here ≡ column grid.per k cs
     → mark_text mark here left base mote ≡ column_marks mark grid cs mote k
 mark_here mark grid cs here mote k left base p q r =
     ap (λ n. mark_text mark here n base mote) p
     ∙ ap (λ n. mark_text mark here (left_of grid k) n mote) q
-    ∙ ap (λ (xs : List Report). mark_text mark xs (left_of grid k) (base_of mote (lane_of mark)) mote) r
+    ∙ ap (λ (xs : List Report). mark_text mark xs (left_of grid k) (lane_bottom mote (lane_of mark)) mote) r
 
 -- columns end within 1,200 units
 pub next_left : (columns k width : ℕ) → k < columns → columns * width ≤ 1200 → k * width + width ≤ 1200

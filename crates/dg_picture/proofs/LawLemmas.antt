@@ -5,22 +5,22 @@ use Rattle.std.proofs.Math.Nat.{mul-le-mul_left}
 use Rattle.std.specs.List.{fold, filter, AllByRecursion}
 use Rattle.dg_script.specs.declared.report.Report.{Report}
 use Rattle.dg_script.specs.declared.report.Report.TheVariants.{SentAdvert}
-use Rattle.dg_picture.specs.Told.{is_change, changes, nothing, told, last_told, motes, motes_of}
-use Rattle.dg_picture.specs.Layout.{lanes, grid_of, left_of, shown, base_of}
+use Rattle.dg_picture.specs.Told.{is_change, changes, nothing, told, last_told, motes, report_motes}
+use Rattle.dg_picture.specs.Layout.{lanes, grid_of, left_of, shown, lane_bottom}
 use Rattle.dg_picture.specs.Texts.{height_of_rows}
-use Rattle.dg_picture.specs.Reading.{image_of, IsOfReplay}
+use Rattle.dg_picture.specs.Reading.{report_image, IsOfReplay}
 use Rattle.dg_picture.specs.declared.told.Pages.{Pages}
 use Rattle.dg_picture.proofs.ColumnLemmas.{grid_fits}
 
-pub has_lane : (report : Report) → IsOfReplay report → image_of report < lanes
+pub has_lane : (report : Report) → IsOfReplay report → report_image report < lanes
 has_lane report h = let a = h.1 in omega (arith, a)
 
-pub low : (rows mote image : ℕ) → mote < rows → image < lanes → base_of mote image ≤ height_of_rows rows
+pub low : (rows mote image : ℕ) → mote < rows → image < lanes → lane_bottom mote image ≤ height_of_rows rows
 low rows mote image inside within = omega (arith, inside, within)
 
-few_motes : (n : ℕ) (reports : List Report) → n ≤ 16 → AllByRecursion IsOfReplay reports → fold (λ n r. max n (motes_of r)) n reports ≤ 16
+few_motes : (n : ℕ) (reports : List Report) → n ≤ 16 → AllByRecursion IsOfReplay reports → fold (λ n r. max n (report_motes r)) n reports ≤ 16
 few_motes n [] few h = few
-few_motes n (r ∷ rs) few h = few_motes (max n (motes_of r)) rs (let a = h.0.0 in omega (arith, few, a)) h.1
+few_motes n (r ∷ rs) few h = few_motes (max n (report_motes r)) rs (let a = h.0.0 in omega (arith, few, a)) h.1
 
 pub high : (reports : List Report) → AllByRecursion IsOfReplay reports → height_of_rows (motes reports) ≤ 1000
 high reports h = let few = few_motes 0 reports (omega arith) h in omega (arith, few)

@@ -4,7 +4,7 @@ use Rattle.dg_base.specs.Outside.{Takes, Puts, PutsFront, AtEnd}
 use Rattle.dg_script.specs.Sizes.{most_used_bytes}
 use Rattle.dg_script.specs.declared.report.Report.{Report}
 use Rattle.dg_picture.specs.Picture.{picture_of}
-use Rattle.dg_picture.specs.Reading.{AreReports, IsFirstFault, HasMoreLines}
+use Rattle.dg_picture.specs.Reading.{AreReports, FirstNoReport, HasMoreLines}
 use Rattle.dg_base.specs.declared.answers.Status.{Status}
 use Rattle.dg_base.specs.declared.answers.Status.TheVariants as status
 use Rattle.dg_picture.specs.declared.call.PictureFault.{PictureFault}
@@ -15,26 +15,26 @@ abbrev pub TakesAll : (before after : Option (List ℕ)) → (bytes : List ℕ) 
 TakesAll before after bytes = Takes before after bytes × AtEnd after
 
 -- why an input is refused
-abbrev pub Refuses : PictureFault → (before after : Option (List ℕ)) → Type 0
-Refuses (fault.NoReport line) before after = (bytes : List ℕ) × TakesAll before after bytes × IsFirstFault bytes line
-Refuses fault.TooMany before after = (bytes : List ℕ) × TakesAll before after bytes × HasMoreLines bytes
-Refuses fault.TooLong before after = (bytes : List ℕ) × Takes before after bytes × (most_used_bytes < length bytes)
-Refuses _ before after = Unit {0}
+abbrev pub RefusesInput : PictureFault → (before after : Option (List ℕ)) → Type 0
+RefusesInput (fault.NoReport line) before after = (bytes : List ℕ) × TakesAll before after bytes × FirstNoReport bytes line
+RefusesInput fault.TooMany before after = (bytes : List ℕ) × TakesAll before after bytes × HasMoreLines bytes
+RefusesInput fault.TooLong before after = (bytes : List ℕ) × Takes before after bytes × (most_used_bytes < length bytes)
+RefusesInput _ before after = Unit {0}
 
 -- the lines of a report were read
-abbrev pub Reads : (before after : Option (List ℕ)) → List Report → Type 0
-Reads before after reports = (bytes : List ℕ) × TakesAll before after bytes × AreReports bytes reports
+abbrev pub ReadsReports : (before after : Option (List ℕ)) → List Report → Type 0
+ReadsReports before after reports = (bytes : List ℕ) × TakesAll before after bytes × AreReports bytes reports
 
 abbrev pub ReadOf : {Z : Type 0} → Result (Vec Report Z) PictureFault → (before after : Option (List ℕ)) → Type 0
-ReadOf (Ok reports) before after = Reads before after reports.items
-ReadOf (Err fault) before after = Refuses fault before after
+ReadOf (Ok reports) before after = ReadsReports before after reports.items
+ReadOf (Err fault) before after = RefusesInput fault before after
 
 -- What is written is the picture of the lines that were read, or some front of it where a write failed; else nothing is written.
 abbrev pub Drawn : Result (Unit {0}) PictureFault → (left_before left_after : Option (List ℕ))
     → (written_before written_after : Option (List ℕ)) → Type 0
-Drawn (Ok done) a b v w = (reports : List Report) × Reads a b reports × Puts v w (picture_of reports)
-Drawn (Err fault.WriteFault) a b v w = (reports : List Report) × Reads a b reports × PutsFront v w (picture_of reports)
-Drawn (Err fault) a b v w = Refuses fault a b × (w ≡ v)
+Drawn (Ok done) a b v w = (reports : List Report) × ReadsReports a b reports × Puts v w (picture_of reports)
+Drawn (Err fault.WriteFault) a b v w = (reports : List Report) × ReadsReports a b reports × PutsFront v w (picture_of reports)
+Drawn (Err fault) a b v w = RefusesInput fault a b × (w ≡ v)
 
 -- the exit status of a fault
 abbrev pub status_of : PictureFault → Status

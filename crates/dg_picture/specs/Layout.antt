@@ -35,8 +35,8 @@ abbrev pub lanes : ℕ
 lanes = 7
 
 -- the bottom of a lane
-abbrev pub base_of : (mote image : ℕ) → ℕ
-base_of mote image = 68 + 58 * mote + 8 * image
+abbrev pub lane_bottom : (mote image : ℕ) → ℕ
+lane_bottom mote image = 68 + 58 * mote + 8 * image
 
 -- the height of pages, where so many fill a lane but for a gap above
 abbrev pub height_of : (count most : ℕ) → ℕ

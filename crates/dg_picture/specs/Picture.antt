@@ -4,51 +4,52 @@ use Rattle.std.specs.List.{list_any}
 use Rattle.std.specs.Fmt.{decimal}
 use Rattle.dg_script.specs.declared.report.Report.{Report}
 use Rattle.dg_picture.specs.Told.{changes, motes, largest, total, is_marked}
-use Rattle.dg_picture.specs.Layout.{each, lanes, grid_of, left_of, column, shown, base_of, height_of}
-use Rattle.dg_picture.specs.Texts.{joined, form_of, class_of, head_text}
+use Rattle.dg_picture.specs.Layout.{each, lanes, grid_of, left_of, column, shown, lane_bottom, height_of}
+use Rattle.dg_picture.specs.Texts.{form_of, class_of, head_text}
 use Rattle.dg_picture.specs.declared.told.Pages.{Pages}
 use Rattle.dg_picture.specs.declared.told.Mark.{Mark}
 use Rattle.dg_picture.specs.declared.told.Mark.TheVariants.{Started, Ordered, Lost}
 use Rattle.dg_picture.specs.declared.layout.Grid.{Grid}
+use Rattle.dg_words.specs.Lists.{concatenated}
 
 -- ---- bars: the pages of an image at a mote, from column to column
 
 abbrev pub begin_text : (base : ℕ) → List ℕ
-begin_text base = joined (codes "M100 " ∷ decimal base ∷ [])
+begin_text base = concatenated (codes "M100 " ∷ decimal base ∷ [])
 
 abbrev pub step_text : (top width : ℕ) → List ℕ
-step_text top width = joined (codes "V" ∷ decimal top ∷ codes "h" ∷ decimal width ∷ [])
+step_text top width = concatenated (codes "V" ∷ decimal top ∷ codes "h" ∷ decimal width ∷ [])
 
 abbrev pub end_text : (base : ℕ) → List ℕ
-end_text base = joined (codes "V" ∷ decimal base ∷ codes "z" ∷ [])
+end_text base = concatenated (codes "V" ∷ decimal base ∷ codes "z" ∷ [])
 
 -- the step of a column, where `most` are the largest counts of versions
 abbrev pub bar_text : (most : ℕ → ℕ) (grid : Grid) (mote image : ℕ) → List Report → (k : ℕ) → List ℕ
 bar_text most grid mote image lines k =
     let pages = shown mote image grid.per k lines in
-    step_text (base_of mote image - height_of pages.count (most pages.version)) grid.width
+    step_text (lane_bottom mote image - height_of pages.count (most pages.version)) grid.width
 
 unfoldable pub bars_text : (most : ℕ → ℕ) (grid : Grid) → List Report → (image mote : ℕ) → List ℕ
 bars_text most grid lines image mote =
-    begin_text (base_of mote image)
+    begin_text (lane_bottom mote image)
     ++ (each (bar_text most grid mote image lines) grid.columns
-    ++ end_text (base_of mote image))
+    ++ end_text (lane_bottom mote image))
 
 -- what is kept at the end
-abbrev pub line_text : (base image version count : ℕ) → List ℕ
-line_text base image version count =
-    joined (codes "<text x=\"1312\" y=\"" ∷ decimal base ∷ codes "\">image " ∷ decimal image
+abbrev pub kept_line_text : (base image version count : ℕ) → List ℕ
+kept_line_text base image version count =
+    concatenated (codes "<text x=\"1312\" y=\"" ∷ decimal base ∷ codes "\">image " ∷ decimal image
     ∷ codes " version " ∷ decimal version ∷ codes ": " ∷ decimal count ∷ codes " pages</text>\n" ∷ [])
 
 abbrev pub kept_text : (mote image : ℕ) → Option Pages → List ℕ
 kept_text mote image None = []
-kept_text mote image (Some pages) = line_text (base_of mote image) image pages.version pages.count
+kept_text mote image (Some pages) = kept_line_text (lane_bottom mote image) image pages.version pages.count
 
 abbrev pub kept_of : (image : ℕ) → List Report → (mote : ℕ) → List ℕ
 kept_of image reports mote = kept_text mote image (total mote image reports)
 
 abbrev pub group_text : (image : ℕ) → List ℕ
-group_text image = joined (codes "<g class=\"i" ∷ decimal image ∷ codes "\"><path d=\"" ∷ [])
+group_text image = concatenated (codes "<g class=\"i" ∷ decimal image ∷ codes "\"><path d=\"" ∷ [])
 
 unfoldable pub image_text : (grid : Grid) → (reports lines : List Report) → (rows image : ℕ) → List ℕ
 image_text grid reports lines rows image =
@@ -59,7 +60,7 @@ image_text grid reports lines rows image =
 -- ---- marks: starts, orders and losses of power, each in the column of its line
 
 abbrev pub point_text : (mark : Mark) → (left base : ℕ) → List ℕ
-point_text mark left base = joined (codes "M" ∷ decimal left ∷ codes " " ∷ decimal base ∷ form_of mark ∷ [])
+point_text mark left base = concatenated (codes "M" ∷ decimal left ∷ codes " " ∷ decimal base ∷ form_of mark ∷ [])
 
 abbrev pub mark_text : (mark : Mark) → List Report → (left base mote : ℕ) → List ℕ
 mark_text mark lines left base mote = if list_any (is_marked mark mote) lines then point_text mark left base else []
@@ -71,7 +72,8 @@ lane_of (Ordered image) = image
 lane_of Lost = 0
 
 abbrev pub column_marks : (mark : Mark) (grid : Grid) → List Report → (mote k : ℕ) → List ℕ
-column_marks mark grid lines mote k = mark_text mark (column grid.per k lines) (left_of grid k) (base_of mote (lane_of mark)) mote
+column_marks mark grid lines mote k =
+    mark_text mark (column grid.per k lines) (left_of grid k) (lane_bottom mote (lane_of mark)) mote
 
 unfoldable pub row_marks : (mark : Mark) (grid : Grid) → List Report → (mote : ℕ) → List ℕ
 row_marks mark grid lines mote = each (column_marks mark grid lines mote) grid.columns
@@ -86,8 +88,8 @@ marks_text grid lines rows mark =
 
 abbrev pub row_text : (mote : ℕ) → List ℕ
 row_text mote =
-    joined (codes "<text x=\"92\" y=\"" ∷ decimal (base_of mote 3) ∷ codes "\" class=\"m\">mote " ∷ decimal mote
-    ∷ codes "</text><path class=\"r\" d=\"M100 " ∷ decimal (base_of mote (lanes - 1)) ∷ codes "h1200\"/>\n" ∷ [])
+    concatenated (codes "<text x=\"92\" y=\"" ∷ decimal (lane_bottom mote 3) ∷ codes "\" class=\"m\">mote " ∷ decimal mote
+    ∷ codes "</text><path class=\"r\" d=\"M100 " ∷ decimal (lane_bottom mote (lanes - 1)) ∷ codes "h1200\"/>\n" ∷ [])
 
 -- ---- the picture
 

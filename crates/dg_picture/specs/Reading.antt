@@ -7,29 +7,30 @@ use Rattle.dg_script.specs.Report.{report_line, report_text}
 use Rattle.dg_script.specs.LineReading.{HasNoEnd}
 use Rattle.dg_script.specs.ReportReading.{FitsReport}
 use Rattle.dg_script.specs.declared.report.Report.{Report}
-use Rattle.dg_script.specs.declared.report.Report.TheVariants.{Order, Lost, Have, Start, SentRequest, SentData, Taken, MoteOn, Kept}
-use Rattle.dg_picture.specs.Told.{motes_of}
+use Rattle.dg_script.specs.declared.report.Report.TheVariants.{Order, Lost, Have, Start, SentRequest, SentData, Taken, MoteOn}
+use Rattle.dg_script.specs.declared.report.Report.TheVariants.{Kept}
+use Rattle.dg_picture.specs.Told.{report_motes}
 
 -- the lines of a report that are used
 abbrev pub most_lines : ℕ
 most_lines = 1000000
 
 -- the image of a line, or 0
-abbrev pub image_of : Report → ℕ
-image_of (Order mote number image version) = image
-image_of (Lost mote image) = image
-image_of (Have mote image version count) = image
-image_of (Start mote image version length crc) = image
-image_of (SentRequest mote to image version page count) = image
-image_of (SentData mote image version page packet) = image
-image_of (Taken image version) = image
-image_of (MoteOn mote image version) = image
-image_of (Kept mote image version count) = image
-image_of _ = 0
+abbrev pub report_image : Report → ℕ
+report_image (Order mote number image version) = image
+report_image (Lost mote image) = image
+report_image (Have mote image version count) = image
+report_image (Start mote image version length crc) = image
+report_image (SentRequest mote to image version page count) = image
+report_image (SentData mote image version page packet) = image
+report_image (Taken image version) = image
+report_image (MoteOn mote image version) = image
+report_image (Kept mote image version count) = image
+report_image _ = 0
 
 -- a line of a replay: of a mote from 0 to 15, and of an image from 0 on for which a chip has a slot
 abbrev pub IsOfReplay : Report → Type 0
-IsOfReplay report = (motes_of report ≤ most_motes) × (image_of report ≤ most_image)
+IsOfReplay report = (report_motes report ≤ most_motes) × (report_image report ≤ most_image)
 
 -- bytes up to their first LF, with it; or to their end, where they have none
 abbrev pub IsFirstLine : (line rest : List ℕ) → Type 0
@@ -48,7 +49,7 @@ pub record AreReports (bytes : List ℕ) (reports : List Report) : Type 0 where
   pub few : length reports ≤ most_lines
 
 -- the first line that is none of a report has this number
-pub record IsFirstFault (bytes : List ℕ) (number : ℕ) : Type 0 where
+pub record FirstNoReport (bytes : List ℕ) (number : ℕ) : Type 0 where
   pub reports : List Report
   pub line : List ℕ
   pub rest : List ℕ

@@ -7,10 +7,7 @@ use Rattle.dg_picture.specs.declared.told.Mark.TheVariants as mark
 use Rattle.dg_picture.specs.declared.pieces.Piece.{Piece}
 use Rattle.dg_picture.specs.declared.pieces.Piece.TheVariants as piece
 use Rattle.dg_picture.specs.declared.texts.TheConstants.{LEGEND}
-
--- texts, one behind the other
-abbrev pub joined : List (List ℕ) → List ℕ
-joined texts = flat_map (λ t. t) texts
+use Rattle.dg_words.specs.Lists.{concatenated}
 
 -- the form of a mark, from the left end of its lane's bottom: a triangle for a start, a diamond for an order, a cross for a
 -- loss of power
@@ -20,8 +17,8 @@ form_of (mark.Ordered image) = codes "m0-8l4 4-4 4-4-4z"
 form_of mark.Lost = codes "m-3-7l6 6m0-6l-6 6"
 
 abbrev pub class_of : Mark → List ℕ
-class_of (mark.Started image) = joined (codes "s" ∷ decimal image ∷ [])
-class_of (mark.Ordered image) = joined (codes "o" ∷ decimal image ∷ [])
+class_of (mark.Started image) = concatenated (codes "s" ∷ decimal image ∷ [])
+class_of (mark.Ordered image) = concatenated (codes "o" ∷ decimal image ∷ [])
 class_of mark.Lost = codes "x"
 
 -- title, colours and legend
@@ -33,7 +30,7 @@ height_of_rows rows = 68 + 58 * rows
 
 abbrev pub first_text : (rows : ℕ) → List ℕ
 first_text rows =
-    joined (codes "<svg xmlns=\"http://www.w3.org/2000/svg\" width=\"1600\" height=\"" ∷ decimal (height_of_rows rows)
+    concatenated (codes "<svg xmlns=\"http://www.w3.org/2000/svg\" width=\"1600\" height=\"" ∷ decimal (height_of_rows rows)
     ∷ codes "\" viewBox=\"0 0 1600 " ∷ decimal (height_of_rows rows) ∷ codes "\" role=\"img\">\n" ∷ [])
 
 unfoldable pub head_text : (rows : ℕ) → List ℕ

@@ -2,7 +2,8 @@
 use Rattle.std.specs.Prelude.{ℕ, ◌+◌, ◌==◌, ◌&&◌, max, Bool, true, false, List, Option, Some, None, if◌then◌else◌}
 use Rattle.std.specs.List.{fold, filter}
 use Rattle.dg_script.specs.declared.report.Report.{Report}
-use Rattle.dg_script.specs.declared.report.Report.TheVariants.{Order, Lost, Have, Start, Off, SentAdvert, SentRequest, SentData, Refused, Taken, End, MoteOn, MoteOff, Kept}
+use Rattle.dg_script.specs.declared.report.Report.TheVariants.{Order, Lost, Have, Start, Off, SentAdvert, SentRequest, SentData}
+use Rattle.dg_script.specs.declared.report.Report.TheVariants.{Refused, Taken, End, MoteOn, MoteOff, Kept}
 use Rattle.dg_picture.specs.declared.told.Pages.{Pages}
 use Rattle.dg_picture.specs.declared.told.Mark.{Mark}
 use Rattle.dg_picture.specs.declared.told.Mark.TheVariants as mark
@@ -35,13 +36,13 @@ abbrev pub last_told : (mote image : ℕ) → List Report → Pages
 last_told mote image reports = fold (told mote image) nothing reports
 
 -- what a mote kept of an image at the end, where a line tells it
-abbrev pub ended : (mote image : ℕ) → Option Pages → Report → Option Pages
-ended mote image kept (Kept m i version count) =
+abbrev pub kept_at_end : (mote image : ℕ) → Option Pages → Report → Option Pages
+kept_at_end mote image kept (Kept m i version count) =
     if m == mote && i == image then Some (record { version = version; count = count }) else kept
-ended mote image kept _ = kept
+kept_at_end mote image kept _ = kept
 
 abbrev pub total : (mote image : ℕ) → List Report → Option Pages
-total mote image reports = fold (ended mote image) None reports
+total mote image reports = fold (kept_at_end mote image) None reports
 
 -- the pages that a line tells of a version of an image
 abbrev pub counted : (image version : ℕ) → Report → ℕ
@@ -54,25 +55,25 @@ abbrev pub largest : (image version : ℕ) → List Report → ℕ
 largest image version reports = fold (λ n r. max n (counted image version r)) 0 reports
 
 -- one more than the number of the mote of a line
-abbrev pub motes_of : Report → ℕ
-motes_of (Order mote number image version) = mote + 1
-motes_of (Lost mote image) = mote + 1
-motes_of (Have mote image version count) = mote + 1
-motes_of (Start mote image version length crc) = mote + 1
-motes_of (Off mote) = mote + 1
-motes_of (SentAdvert mote) = mote + 1
-motes_of (SentRequest mote to image version page count) = mote + 1
-motes_of (SentData mote image version page packet) = mote + 1
-motes_of (Refused mote why) = mote + 1
-motes_of (Taken image version) = 0
-motes_of (End events) = 0
-motes_of (MoteOn mote image version) = mote + 1
-motes_of (MoteOff mote) = mote + 1
-motes_of (Kept mote image version count) = mote + 1
+abbrev pub report_motes : Report → ℕ
+report_motes (Order mote number image version) = mote + 1
+report_motes (Lost mote image) = mote + 1
+report_motes (Have mote image version count) = mote + 1
+report_motes (Start mote image version length crc) = mote + 1
+report_motes (Off mote) = mote + 1
+report_motes (SentAdvert mote) = mote + 1
+report_motes (SentRequest mote to image version page count) = mote + 1
+report_motes (SentData mote image version page packet) = mote + 1
+report_motes (Refused mote why) = mote + 1
+report_motes (Taken image version) = 0
+report_motes (End events) = 0
+report_motes (MoteOn mote image version) = mote + 1
+report_motes (MoteOff mote) = mote + 1
+report_motes (Kept mote image version count) = mote + 1
 
 -- how many motes there are, as far as it is told
 abbrev pub motes : List Report → ℕ
-motes reports = fold (λ n r. max n (motes_of r)) 0 reports
+motes reports = fold (λ n r. max n (report_motes r)) 0 reports
 
 -- what is marked at a mote: the start of an image, an order to start it, and a loss of power
 abbrev pub is_marked : Mark → (mote : ℕ) → Report → Bool

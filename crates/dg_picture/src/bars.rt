@@ -2,7 +2,8 @@
 ghost use Rattle.std.specs.Prelude.{◌≡◌, ◌++◌, ◌-◌, ◌≤◌, ◌<◌, OnOk};
 ghost use Rattle.dg_picture.specs.Counts.{held};
 ghost use Rattle.dg_picture.specs.Layout.{each, lanes, height_of};
-ghost use Rattle.dg_picture.specs.Picture.{begin_text, step_text, end_text, bar_text, bars_text, line_text, kept_text, image_text, group_text, kept_of};
+ghost use Rattle.dg_picture.specs.Picture.{begin_text, step_text, end_text, bar_text, bars_text, kept_line_text, kept_text};
+ghost use Rattle.dg_picture.specs.Picture.{image_text, group_text, kept_of};
 
 use crate::counts::{largest, largest_of};
 use crate::layout::{Grid, base_of, height_of, next_column};
@@ -112,7 +113,7 @@ fn push_line(
     version: u32,
     count: u32,
 ) -> Result<(), AllocError>
-    ensures { OnOk result (out.new.items ≡ out.old.items ++ line_text base image version count) }
+    ensures { OnOk result (out.new.items ≡ out.old.items ++ kept_line_text base image version count) }
 {
     push_pieces(
         out,

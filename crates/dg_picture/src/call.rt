@@ -5,7 +5,7 @@ ghost use Rattle.dg_base.specs.Outside.{Takes, Puts, PutsFront, AtEnd};
 ghost use Rattle.dg_script.specs.Sizes.{most_used_bytes};
 ghost use Rattle.dg_script.specs.declared.report.Report.{Report};
 ghost use Rattle.dg_picture.specs.Picture.{picture_of};
-ghost use Rattle.dg_picture.specs.Reading.{AreReports, IsFirstFault, HasMoreLines};
+ghost use Rattle.dg_picture.specs.Reading.{AreReports, FirstNoReport, HasMoreLines};
 ghost use Rattle.dg_picture.specs.Drawn.{Drawn, ReadOf};
 
 use crate::drawing::drawn;

@@ -3,15 +3,15 @@ ghost use Rattle.std.specs.Prelude.{◌≡◌, ℕ, ◌+◌, ◌≤◌, ◌<◌,
 ghost use Rattle.std.specs.List.{AllByRecursion};
 ghost use Rattle.dg_script.specs.declared.report.Report.{Report};
 ghost use Rattle.dg_picture.specs.Told.{changes, last_told, motes};
-ghost use Rattle.dg_picture.specs.Layout.{lanes, grid_of, left_of, shown, base_of};
+ghost use Rattle.dg_picture.specs.Layout.{lanes, grid_of, left_of, shown, lane_bottom};
 ghost use Rattle.dg_picture.specs.Texts.{height_of_rows};
-ghost use Rattle.dg_picture.specs.Reading.{image_of, IsOfReplay};
+ghost use Rattle.dg_picture.specs.Reading.{report_image, IsOfReplay};
 
 /// The picture of a replay is at most 1,000 units high, however many lines there are, and its columns end within 1,300 units.
 /// Each image of its lines has a lane, and the lanes of all motes lie within the picture.
 pub fn a_picture_fits()
-    ensures lanes { (report : Report) → IsOfReplay report → image_of report < lanes }
-    ensures low { (rows mote image : ℕ) → mote < rows → image < lanes → base_of mote image ≤ height_of_rows rows }
+    ensures lanes { (report : Report) → IsOfReplay report → report_image report < lanes }
+    ensures low { (rows mote image : ℕ) → mote < rows → image < lanes → lane_bottom mote image ≤ height_of_rows rows }
     ensures high { (reports : List Report) → AllByRecursion IsOfReplay reports → height_of_rows (motes reports) ≤ 1000 }
     ensures wide { (n k : ℕ) → k ≤ (grid_of n).columns → left_of (grid_of n) k ≤ 1300 }
 {}

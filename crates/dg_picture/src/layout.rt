@@ -1,6 +1,6 @@
 //! Where what is told stands.
 ghost use Rattle.std.specs.Prelude.{◌≡◌, ◌*◌, ◌≤◌, ◌<◌, take, drop};
-ghost use Rattle.dg_picture.specs.Layout.{lanes, grid_of, base_of, height_of};
+ghost use Rattle.dg_picture.specs.Layout.{lanes, grid_of, lane_bottom, height_of};
 
 use dg_script::Report;
 
@@ -46,7 +46,7 @@ pub fn next_column(changes: &[Report], per: usize) -> (&[Report], &[Report])
 pub fn base_of(mote: u32, image: u32) -> u32
     requires mote { mote < 256 }
     requires image { image < lanes }
-    ensures value { result ≡ base_of mote image }
+    ensures value { result ≡ lane_bottom mote image }
     ensures bound { result < 20000 }
 {
     68 + 58 * mote + 8 * image

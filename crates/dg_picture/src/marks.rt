@@ -2,7 +2,7 @@
 ghost use Rattle.std.specs.Prelude.{◌≡◌, ◌+◌, ◌*◌, ◌++◌, ◌≤◌, ◌<◌, take, OnOk, if◌then◌else◌};
 ghost use Rattle.std.specs.List.{list_any};
 ghost use Rattle.dg_picture.specs.Told.{is_marked};
-ghost use Rattle.dg_picture.specs.Layout.{each, lanes, base_of};
+ghost use Rattle.dg_picture.specs.Layout.{each, lanes, lane_bottom};
 ghost use Rattle.dg_picture.specs.Picture.{point_text, mark_text, lane_of, row_marks, marks_text};
 
 use crate::layout::{Grid, base_of, next_column};

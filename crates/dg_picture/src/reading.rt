@@ -1,7 +1,8 @@
 //! Reads the lines of a report.
 ghost use Rattle.std.specs.Prelude.{◌≡◌, ◌≢◌, ◌+◌, ◌<◌, ◌≤◌, ◌++◌, ◌↔◌, List, ℕ, length, drop, take, IsTrue, IfOk, Err};
 ghost use Rattle.dg_script.specs.Report.{report_line};
-ghost use Rattle.dg_picture.specs.Reading.{image_of, IsOfReplay, IsFirstLine, IsNoReport, AreReports, IsFirstFault, HasMoreLines};
+ghost use Rattle.dg_picture.specs.Reading.{report_image, IsOfReplay, IsFirstLine, IsNoReport, AreReports, FirstNoReport};
+ghost use Rattle.dg_picture.specs.Reading.{HasMoreLines};
 
 use crate::told::motes_of;
 use dg_script::{MOST_IMAGE, Report, ReportFault, read_report};
@@ -24,7 +25,7 @@ pub enum LinesFault {
 
 // The image of a line, or 0.
 fn image_of(report: &Report) -> u8
-    ensures { result ≡ image_of report.now }
+    ensures { result ≡ report_image report.now }
 {
     match *report {
         Report::Order { image, .. } => image,
@@ -78,7 +79,7 @@ fn read_line(line: &[u8], scratch: &mut Vec<u8>) -> Result<Report, ReportFault>
 /// Reads all lines of a report.
 pub fn read_lines(alloc: Global, bytes: &[u8]) -> Result<Vec<Report>, LinesFault>
     ensures ok { IfOk result (λ v. AreReports bytes.now v.items) }
-    ensures none { (line : ℕ) → result ≡ Err (LinesFault.NoReport line) → IsFirstFault bytes.now line }
+    ensures none { (line : ℕ) → result ≡ Err (LinesFault.NoReport line) → FirstNoReport bytes.now line }
     ensures many { result ≡ Err LinesFault.TooMany → HasMoreLines bytes.now }
 {
     let mut reports = Vec::new(alloc);

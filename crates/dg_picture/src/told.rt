@@ -1,7 +1,7 @@
 //! What a report tells of motes.
 ghost use Rattle.std.specs.Prelude.{◌≡◌, ◌≤◌, ◌==◌, ◌&&◌, ◌∷◌, ◌++◌, [], if◌then◌else◌, IfOk, OnOk};
 ghost use Rattle.std.specs.List.{fold, list_any};
-ghost use Rattle.dg_picture.specs.Told.{is_change, changes, nothing, told, ended, total, motes_of, motes, is_marked};
+ghost use Rattle.dg_picture.specs.Told.{is_change, changes, nothing, told, kept_at_end, total, report_motes, motes, is_marked};
 
 use dg_script::Report;
 use std::alloc::{AllocError, Global};
@@ -117,7 +117,7 @@ pub fn last_told(first: Pages, mote: u32, image: u32, reports: &[Report]) -> Pag
 
 // What a mote kept of an image at the end, as far as it is told behind a line.
 fn ended(kept: Option<Pages>, mote: u32, image: u32, report: &Report) -> Option<Pages>
-    ensures { result ≡ ended mote image kept report.now }
+    ensures { result ≡ kept_at_end mote image kept report.now }
 {
     match *report {
         Report::Kept {
@@ -151,7 +151,7 @@ pub fn total(mote: u32, image: u32, reports: &[Report]) -> Option<Pages>
 
 /// One more than the number of the mote of a line, or 0.
 pub fn motes_of(report: &Report) -> u32
-    ensures value { result ≡ motes_of report.now }
+    ensures value { result ≡ report_motes report.now }
     ensures bound { result ≤ 256 }
 {
     let mote = match *report {

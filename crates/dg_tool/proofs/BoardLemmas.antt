@@ -8,7 +8,7 @@ use Rattle.dg_base.specs.declared.answers.Status.TheVariants as statuses
 use Rattle.dg_nor.specs.Device.{Device}
 use Rattle.dg_volume.specs.Store.{Store}
 use Rattle.dg_tool.specs.Endings.{Ending, NoBoards, by_boards, status_of, text_of, StandsAs, FirstAs}
-use Rattle.dg_tool.specs.Done.{LeftBy, Leaves, Finds, IsCaused, Wrote, Follows, Untouched}
+use Rattle.dg_tool.specs.Done.{verb_rule, LeftBy, CommandLeaves, Finds, IsCaused, Wrote, Follows, Untouched}
 use Rattle.dg_tool.specs.Stops.{Comes, StopsThere, StopsFirst, OfBoard, OnBoard, OnBoards}
 
 lt_true : (k n : ℕ) → k < n → nat_lt k n ≡ true
@@ -32,7 +32,7 @@ follows_one : (status : Status) (ending : Ending) (acted may : Device → Device
 follows_one status ending acted may text d e ds h = record {
   caused = h.caused;
   wrote = h.wrote;
-  board = λ a b was is. subst (λ (x : Device). Leaves status ending acted may x b) (same_some d a was) (subst (λ (y : Device). Leaves status ending acted may d y) (same_some e b is) h.board);
+  board = λ a b was is. subst (λ (x : Device). CommandLeaves status ending acted may x b) (same_some d a was) (subst (λ (y : Device). CommandLeaves status ending acted may d y) (same_some e b is) h.board);
 }
 
 stops_first : (status : Status) (d e : Device) (ds : List Device) → StopsThere status d e → StopsFirst status (d ∷ ds) (e ∷ ds)
@@ -67,7 +67,7 @@ untouched statuses.LinkFault old new h = tt
 untouched statuses.TooMany old new h = tt
 untouched statuses.NoImage old new h = tt
 
-on_one : (status : Status) (chips : Option Store → Type 0) (ending : Option Store → Ending) (acted may : Option Store → Device → Device → Type 0) (text : List ℕ) (d e : Device) (ds : List Device) (n : ℕ) → 0 < n → OnBoard status chips ending acted may text d e → OnBoards status chips (λ chip. by_boards n (ending chip)) acted may text (d ∷ ds) (e ∷ ds)
+on_one : (status : Status) (chips : Option Store → Type 0) (ending : Option Store → Ending) (acted may : Option Store → Device → Device → Type 0) (text : List ℕ) (d e : Device) (ds : List Device) (n : ℕ) → 0 < n → OnBoard status (verb_rule chips ending acted may) text d e → OnBoards status (verb_rule chips (λ chip. by_boards n (ending chip)) acted may) text (d ∷ ds) (e ∷ ds)
 on_one status chips ending acted may text d e ds n some h = record {
   rules = λ chip stands. subst (λ (x : Ending). Follows status x (acted chip) (may chip) text (d ∷ ds) (e ∷ ds)) (sym (by_some n (ending chip) some)) (follows_one status (ending chip) (acted chip) (may chip) text d e ds (h.rules chip stands));
   found = h.found;
@@ -77,15 +77,15 @@ on_one status chips ending acted may text d e ds n some h = record {
 }
 
 pub on_first : {N : Type 0} (f : N → Device) (items : List N) (x y : N) (status : Status) (ending : Option Store → Ending) (acted may : Option Store → Device → Device → Type 0) (text : List ℕ) (n : ℕ) → n ≡ length items → 0 < length items
-    → OnBoard status (StandsAs (f (get_or items 0 x)).image) ending acted may text (f (get_or items 0 x)) (f y)
-    → OnBoards status (FirstAs (map f items)) (λ chip. by_boards n (ending chip)) acted may text (map f items) (map f (set items 0 y))
+    → OnBoard status (verb_rule (StandsAs (f (get_or items 0 x)).image) ending acted may) text (f (get_or items 0 x)) (f y)
+    → OnBoards status (verb_rule (FirstAs (map f items)) (λ chip. by_boards n (ending chip)) acted may) text (map f items) (map f (set items 0 y))
 on_first f [] x y status ending acted may text n count some h = absurd (omega (arith, some))
 on_first f (z ∷ zs) x y status ending acted may text n count some h = on_one status (StandsAs (f z).image) ending acted may text (f z) (f y) (map f zs) n (omega (arith, count, some)) h
 
 -- the same, where nothing is asked of the board
 pub on_any : {N : Type 0} (f : N → Device) (items : List N) (x y : N) (status : Status) (ending : Option Store → Ending) (acted may : Option Store → Device → Device → Type 0) (text : List ℕ) (n : ℕ) → n ≡ length items → 0 < length items
-    → OnBoard status (λ chip. Unit {0}) ending acted may text (f (get_or items 0 x)) (f y)
-    → OnBoards status (λ chip. Unit {0}) (λ chip. by_boards n (ending chip)) acted may text (map f items) (map f (set items 0 y))
+    → OnBoard status (verb_rule (λ chip. Unit {0}) ending acted may) text (f (get_or items 0 x)) (f y)
+    → OnBoards status (verb_rule (λ chip. Unit {0}) (λ chip. by_boards n (ending chip)) acted may) text (map f items) (map f (set items 0 y))
 on_any f [] x y status ending acted may text n count some h = absurd (omega (arith, some))
 on_any f (z ∷ zs) x y status ending acted may text n count some h = on_one status (λ chip. Unit {0}) ending acted may text (f z) (f y) (map f zs) n (omega (arith, count, some)) h
 
@@ -93,13 +93,13 @@ on_any f (z ∷ zs) x y status ending acted may text n count some h = on_one sta
 
 -- a verb that came to no board
 pub on_same : (status : Status) (chips : Option Store → Type 0) (ending : Option Store → Ending) (acted may : Option Store → Device → Device → Type 0) (text : List ℕ) (ds : List Device)
-    → ((chip : Option Store) → chips chip → IsCaused status (ending chip)) → ((chip : Option Store) → chips chip → Wrote status (ending chip) text) → ((chip : Option Store) (d : Device) → chips chip → Leaves status (ending chip) (acted chip) (may chip) d d)
-    → Finds status ((chip : Option Store) × chips chip) → StopsFirst status ds ds → OnBoards status chips ending acted may text ds ds
+    → ((chip : Option Store) → chips chip → IsCaused status (ending chip)) → ((chip : Option Store) → chips chip → Wrote status (ending chip) text) → ((chip : Option Store) (d : Device) → chips chip → CommandLeaves status (ending chip) (acted chip) (may chip) d d)
+    → Finds status ((chip : Option Store) × chips chip) → StopsFirst status ds ds → OnBoards status (verb_rule chips ending acted may) text ds ds
 on_same status chips ending acted may text ds caused wrote left found stops = record {
   rules = λ chip stands. record {
     caused = caused chip stands;
     wrote = wrote chip stands;
-    board = λ a b was is. subst (λ (x : Device). Leaves status (ending chip) (acted chip) (may chip) a x) (same_some a b (sym was ∙ is)) (left chip a stands);
+    board = λ a b was is. subst (λ (x : Device). CommandLeaves status (ending chip) (acted chip) (may chip) a x) (same_some a b (sym was ∙ is)) (left chip a stands);
   };
   found = found;
   stops = stops;
@@ -124,7 +124,7 @@ on_same status chips ending acted may text ds caused wrote left found stops = re
     same_untouched statuses.NoImage bs = tt
 
 -- there is no board
-pub no_board : (chips : Option Store → Type 0) (ending : Option Store → Ending) (acted may : Option Store → Device → Device → Type 0) (ds : List Device) (n : ℕ) → n ≡ 0 → OnBoards statuses.NoBoard chips (λ chip. by_boards n (ending chip)) acted may (text_of NoBoards) ds ds
+pub no_board : (chips : Option Store → Type 0) (ending : Option Store → Ending) (acted may : Option Store → Device → Device → Type 0) (ds : List Device) (n : ℕ) → n ≡ 0 → OnBoards statuses.NoBoard (verb_rule chips (λ chip. by_boards n (ending chip)) acted may) (text_of NoBoards) ds ds
 no_board chips ending acted may ds n none =
     let e : (chip : Option Store) → by_boards n (ending chip) ≡ NoBoards = λ chip. by_none n (ending chip) none in
     on_same statuses.NoBoard chips (λ chip. by_boards n (ending chip)) acted may (text_of NoBoards) ds

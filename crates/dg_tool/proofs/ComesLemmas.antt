@@ -13,7 +13,7 @@ use Rattle.dg_tool.specs.declared.refusal.Refusal.{Refusal}
 use Rattle.dg_tool.specs.declared.stop.Stop.{Stop}
 use Rattle.dg_tool.specs.declared.stop.Stop.TheVariants as stops
 use Rattle.dg_tool.specs.Endings.{Ending, Ends, NoBoards, Over, FaultAt, Unfit, NoVolume, Refuses, Breaks, LacksImage, by_store, StandsAs}
-use Rattle.dg_tool.specs.Done.{LeftBy, Leaves, NeedsBoard, Finds}
+use Rattle.dg_tool.specs.Done.{verb_rule, LeftBy, CommandLeaves, NeedsBoard, Finds}
 use Rattle.dg_tool.specs.Stops.{told_status, told_text, stop_status, stop_text, Makes, Comes, IsStopped, StopsThere, MountFails, OfBoard, FailsOn, ReadsOn, OnStore, OnBoard}
 
 pub from_err : {T E : Type 0} (r : Result T E) (x : E) → IsErrAnd r (λ e. e ≡ x) → r ≡ Err x
@@ -91,7 +91,7 @@ left_looked (Refuses cause) acted acted2 a m b needs l f h = Looked_then l h
 left_looked (Breaks cause) acted acted2 a m b needs l f h = f h
 left_looked LacksImage acted acted2 a m b needs l f h = f h
 
-leaves_looked : (status : Status) (ending : Ending) (acted acted2 may may2 : Device → Device → Type 0) (a m b : Device) → NeedsBoard ending → Looked a m → (acted m b → acted2 a b) → (may m b → may2 a b) → Leaves status ending acted may m b → Leaves status ending acted2 may2 a b
+leaves_looked : (status : Status) (ending : Ending) (acted acted2 may may2 : Device → Device → Type 0) (a m b : Device) → NeedsBoard ending → Looked a m → (acted m b → acted2 a b) → (may m b → may2 a b) → CommandLeaves status ending acted may m b → CommandLeaves status ending acted2 may2 a b
 leaves_looked statuses.Memory ending acted acted2 may may2 a m b needs l f g h = ⊎_elim (λ x. inl (Looked_then l x)) (λ x. inr (left_looked ending acted acted2 a m b needs l f x)) h
 leaves_looked statuses.ReadFault ending acted acted2 may may2 a m b needs l f g h = Looked_then l h
 leaves_looked statuses.FlashFault ending acted acted2 may may2 a m b needs l f g h = g h
@@ -184,7 +184,7 @@ finds statuses.NoBoard P p = tt
 finds statuses.NoImage P p = p
 
 pub on_volume : {T : Type 0} (view : T → List ℕ) (r : Result T Stop) (by : Store → Ending) (acted may : Option Store → Device → Device → Type 0) (a b : Device)
-    → ((s : Store) → Stands a.image s → OnStore view r (by s) (acted (Some s)) (may (Some s)) a b) → IsVolume a.image → OnBoard (told_status r) (StandsAs a.image) (λ chip. by_store chip by) acted may (told_text view r) a b
+    → ((s : Store) → Stands a.image s → OnStore view r (by s) (acted (Some s)) (may (Some s)) a b) → IsVolume a.image → OnBoard (told_status r) (verb_rule (StandsAs a.image) (λ chip. by_store chip by) acted may) (told_text view r) a b
 on_volume view r by acted may a b h v = record {
   rules = rules;
   found = finds (told_status r) ((chip : Option Store) × StandsAs a.image chip) (Some v.0, v.1);
@@ -197,7 +197,7 @@ on_volume view r by acted may a b h v = record {
     rules (Some s) stands = (h s stands).comes
 
 pub unmounted : (stop : Stop) (by : Store → Ending) (acted may : Option Store → Device → Device → Type 0) (a b : Device)
-    → ((s : Store) → NeedsBoard (by s)) → ((chip : Option Store) → StandsAs a.image chip → ReadStopped a b → may chip a b) → MountFails stop a b → OnBoard (stop_status stop) (StandsAs a.image) (λ chip. by_store chip by) acted may (stop_text stop) a b
+    → ((s : Store) → NeedsBoard (by s)) → ((chip : Option Store) → StandsAs a.image chip → ReadStopped a b → may chip a b) → MountFails stop a b → OnBoard (stop_status stop) (verb_rule (StandsAs a.image) (λ chip. by_store chip by) acted may) (stop_text stop) a b
 unmounted stops.FlashFault by acted may a b needs held h = record {
   rules = λ chip stands. record { caused = needs_chip chip; wrote = refl; board = held chip stands h };
   found = tt;

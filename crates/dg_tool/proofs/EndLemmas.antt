@@ -6,11 +6,10 @@ use Rattle.dg_base.specs.Outside.{Puts, PutsFront, AtEnd}
 use Rattle.dg_base.specs.declared.answers.Status.{Status}
 use Rattle.dg_base.specs.declared.answers.Status.TheVariants as statuses
 use Rattle.dg_nor.specs.Device.{Device}
-use Rattle.dg_volume.specs.Store.{Store}
 use Rattle.dg_tool.specs.declared.stop.Stop.{Stop}
 use Rattle.dg_tool.specs.declared.stop.Stop.TheVariants as stops
 use Rattle.dg_tool.specs.Endings.{Ending, text_of}
-use Rattle.dg_tool.specs.Done.{LeftBy, Leaves, Wrote, FirstStopped, Faulted, ToolDone, InputRead, ReadBy, ReadEnough}
+use Rattle.dg_tool.specs.Done.{VerbRule, ToolOutside, LeftBy, CommandLeaves, Wrote, FirstStopped, Faulted, ToolDone, InputRead, ReadBy, ReadEnough}
 use Rattle.dg_tool.specs.Stops.{stop_text, told_status, told_text, OnBoards, WritesLast, ClosesWith, InputFails}
 
 -- ---- a verb that comes to its last line
@@ -42,7 +41,7 @@ wrote_line statuses.TooMany ending text line h = h
 wrote_line statuses.NoBoard ending text line h = h
 wrote_line statuses.NoImage ending text line h = h
 
-left_line : (st : Status) (ending : Ending) (acted may : Device → Device → Type 0) (a b : Device) → HasLine st → Leaves st ending acted may a b → LeftBy ending acted a b
+left_line : (st : Status) (ending : Ending) (acted may : Device → Device → Type 0) (a b : Device) → HasLine st → CommandLeaves st ending acted may a b → LeftBy ending acted a b
 left_line statuses.Done ending acted may a b line h = h
 left_line statuses.Memory ending acted may a b line h = absurd line
 left_line statuses.Usage ending acted may a b line h = h
@@ -93,23 +92,23 @@ enough_line statuses.NoImage input at_end line h = h
 no_read_fault : (st : Status) → HasLine st → st ≢ statuses.ReadFault
 no_read_fault st line e = subst HasLine e line
 
-module _ (chips : Option Store → Type 0) (ending : Option Store → Ending) (acted may : Option Store → Device → Device → Type 0) (reads_failed : Type 0) (before after : Option (List ℕ)) (writes_before writes_after : ℕ) (old new : List Device) where
+module _ (rule : VerbRule) (reads_failed : Type 0) (before after : ToolOutside) where
   abbrev pub Ended : Status → Type 0
-  Ended status = ToolDone status chips ending acted may reads_failed before after writes_before writes_after old new
+  Ended status = ToolDone status rule reads_failed before after
 
-  ended_here : (st : Status) (text : List ℕ) → HasLine st → OnBoards st chips ending acted may text old new → Puts before after text → writes_after ≡ writes_before → Ended st
+  ended_here : (st : Status) (text : List ℕ) → HasLine st → OnBoards st rule text before.boards after.boards → Puts before.written after.written text → after.writes ≡ before.writes → Ended st
   ended_here st text line h puts calm = record {
     text = text;
     written = puts;
     rules = h.rules;
     found = h.found;
-    faulted = faulted_line st reads_failed (Rose writes_before writes_after) (FirstStopped old new) text line;
+    faulted = faulted_line st reads_failed (Rose before.writes after.writes) (FirstStopped before.boards after.boards) text line;
     first = h.first;
     untouched = h.untouched;
     write_faults = λ _. calm;
   }
 
-  ended_short : (st : Status) (text : List ℕ) → HasLine st → OnBoards st chips ending acted may text old new → PutsFront before after text → Rose writes_before writes_after → Ended statuses.WriteFault
+  ended_short : (st : Status) (text : List ℕ) → HasLine st → OnBoards st rule text before.boards after.boards → PutsFront before.written after.written text → Rose before.writes after.writes → Ended statuses.WriteFault
   ended_short st text line h puts failed = record {
     text = take puts.0 text;
     written = puts.2;
@@ -117,8 +116,8 @@ module _ (chips : Option Store → Type 0) (ending : Option Store → Ending) (a
         let x = h.rules chip stands in
         record {
           caused = tt;
-          wrote = (puts.0, ap (take puts.0) (wrote_line st (ending chip) text line x.wrote));
-          board = λ a b was is. left_line st (ending chip) (acted chip) (may chip) a b line (x.board a b was is);
+          wrote = (puts.0, ap (take puts.0) (wrote_line st (rule.ending chip) text line x.wrote));
+          board = λ a b was is. left_line st (rule.ending chip) (rule.acted chip) (rule.may chip) a b line (x.board a b was is);
         };
     found = tt;
     faulted = failed;
@@ -127,7 +126,7 @@ module _ (chips : Option Store → Type 0) (ending : Option Store → Ending) (a
     write_faults = λ other. absurd (other refl);
   }
 
-  ended_wanting : (st : Status) (text : List ℕ) → HasLine st → OnBoards st chips ending acted may text old new → Puts before after [] → writes_after ≡ writes_before → Ended statuses.Memory
+  ended_wanting : (st : Status) (text : List ℕ) → HasLine st → OnBoards st rule text before.boards after.boards → Puts before.written after.written [] → after.writes ≡ before.writes → Ended statuses.Memory
   ended_wanting st text line h puts calm = record {
     text = [];
     written = puts;
@@ -136,7 +135,7 @@ module _ (chips : Option Store → Type 0) (ending : Option Store → Ending) (a
         record {
           caused = tt;
           wrote = refl;
-          board = λ a b was is. inr (left_line st (ending chip) (acted chip) (may chip) a b line (x.board a b was is));
+          board = λ a b was is. inr (left_line st (rule.ending chip) (rule.acted chip) (rule.may chip) a b line (x.board a b was is));
         };
     found = tt;
     faulted = refl;
@@ -145,7 +144,7 @@ module _ (chips : Option Store → Type 0) (ending : Option Store → Ending) (a
     write_faults = λ _. calm;
   }
 
-  ended_line : (result st : Status) (text : List ℕ) → HasLine st → OnBoards st chips ending acted may text old new → WritesLast result st text before after (Rose writes_before writes_after) (writes_after ≡ writes_before) → Ended result
+  ended_line : (result st : Status) (text : List ℕ) → HasLine st → OnBoards st rule text before.boards after.boards → WritesLast result st text before.written after.written (Rose before.writes after.writes) (after.writes ≡ before.writes) → Ended result
   ended_line result st text line h closes =
       ⊎_elim
       (λ whole. subst Ended (sym whole.0) (ended_here st text line h whole.1 whole.2))
@@ -156,7 +155,7 @@ module _ (chips : Option Store → Type 0) (ending : Option Store → Ending) (a
       other)
       closes
 
-  ended_memory : (text : List ℕ) → OnBoards statuses.Memory chips ending acted may text old new → Puts before after [] → writes_after ≡ writes_before → Ended statuses.Memory
+  ended_memory : (text : List ℕ) → OnBoards statuses.Memory rule text before.boards after.boards → Puts before.written after.written [] → after.writes ≡ before.writes → Ended statuses.Memory
   ended_memory text h puts calm = record {
     text = [];
     written = puts;
@@ -168,7 +167,7 @@ module _ (chips : Option Store → Type 0) (ending : Option Store → Ending) (a
     write_faults = λ _. calm;
   }
 
-  ended_read : (text : List ℕ) → reads_failed → OnBoards statuses.ReadFault chips ending acted may text old new → Puts before after [] → writes_after ≡ writes_before → Ended statuses.ReadFault
+  ended_read : (text : List ℕ) → reads_failed → OnBoards statuses.ReadFault rule text before.boards after.boards → Puts before.written after.written [] → after.writes ≡ before.writes → Ended statuses.ReadFault
   ended_read text failed h puts calm = record {
     text = [];
     written = puts;
@@ -180,7 +179,7 @@ module _ (chips : Option Store → Type 0) (ending : Option Store → Ending) (a
     write_faults = λ _. calm;
   }
 
-  ended_flash : (text : List ℕ) → OnBoards statuses.FlashFault chips ending acted may text old new → Puts before after [] → writes_after ≡ writes_before → Ended statuses.FlashFault
+  ended_flash : (text : List ℕ) → OnBoards statuses.FlashFault rule text before.boards after.boards → Puts before.written after.written [] → after.writes ≡ before.writes → Ended statuses.FlashFault
   ended_flash text h puts calm = record {
     text = [];
     written = puts;
@@ -193,8 +192,8 @@ module _ (chips : Option Store → Type 0) (ending : Option Store → Ending) (a
   }
 
   -- a verb is ended that came to a text, or was stopped
-  pub ended : {T : Type 0} (view : T → List ℕ) (r : Result T Stop) (result : Status) → (told_status r ≡ statuses.ReadFault → reads_failed) → OnBoards (told_status r) chips ending acted may (told_text view r) old new
-      → ClosesWith result (told_status r) (told_text view r) before after (Rose writes_before writes_after) (writes_after ≡ writes_before) → Ended result
+  pub ended : {T : Type 0} (view : T → List ℕ) (r : Result T Stop) (result : Status) → (told_status r ≡ statuses.ReadFault → reads_failed) → OnBoards (told_status r) rule (told_text view r) before.boards after.boards
+      → ClosesWith result (told_status r) (told_text view r) before.written after.written (Rose before.writes after.writes) (after.writes ≡ before.writes) → Ended result
   ended view (Ok x) result failed h closes = ended_line result statuses.Done (view x) tt h closes
   ended view (Err stops.Memory) result failed h closes = subst Ended (sym closes.0) (ended_memory [] h closes.1 closes.2)
   ended view (Err stops.ReadFault) result failed h closes = subst Ended (sym closes.0) (ended_read [] (failed refl) h closes.1 closes.2)

@@ -17,8 +17,8 @@ use Rattle.dg_volume.proofs.ReadLemmas.{Looked-none}
 use Rattle.dg_tool.specs.declared.stop.Stop.{Stop}
 use Rattle.dg_tool.specs.declared.stop.Stop.TheVariants as stops
 use Rattle.dg_tool.specs.Endings.{Ending, Over, FaultAt, by_boards, by_file, by_input, content_by, content_in, status_of, text_of}
-use Rattle.dg_tool.specs.Done.{LeftBy, NeedsInput, InputRead, ReadBy, ReadEnough}
-use Rattle.dg_tool.specs.Input.{SpellsNone, Spells, ReadsNone, Reads, ImageRead, stop_by, stop_of}
+use Rattle.dg_tool.specs.Done.{verb_rule, LeftBy, NeedsInput, InputRead, ReadBy, ReadEnough}
+use Rattle.dg_tool.specs.Input.{SpellsNone, Spells, ReadsNone, ReadsImage, ImageRead, stop_by, stop_of}
 use Rattle.dg_tool.specs.Stops.{stop_status, stop_text, OfBoard, Comes, InputFails, OnBoard, OnBoards}
 use Rattle.dg_tool.proofs.BoardLemmas.{by_some, on_same}
 
@@ -63,7 +63,7 @@ module _ (chips : Option Store → Type 0) (input : List ℕ) (next : Option Sto
   found_board chip = by_some n (by_input input (next chip)) some
 
   abbrev Stays : Status → List ℕ → Type 0
-  Stays status text = OnBoards status chips (λ chip. by_boards n (by_input input (next chip))) acted may text ds ds
+  Stays status text = OnBoards status (verb_rule chips (λ chip. by_boards n (by_input input (next chip))) acted may) text ds ds
 
   memory : Stays statuses.Memory []
   memory = on_same statuses.Memory chips ends acted may [] ds (λ chip _. tt) (λ chip _. refl) (λ chip d _. inl (Looked-none d)) tt tt
@@ -166,7 +166,7 @@ none_spelled stops.NotAVolume input at_end failed h e = absurd h
 none_spelled (stops.Refused cause) input at_end failed h e = absurd h
 none_spelled stops.NoImage input at_end failed h e = absurd h
 
-pub reads_spelled : {T : Type 0} (view : T → List ℕ) (r : Result T Stop) (input : List ℕ) (at_end failed : Type 0) → Spells view r input → (at_end ⊎ (most_input < length input)) → Reads view r input at_end failed
+pub reads_spelled : {T : Type 0} (view : T → List ℕ) (r : Result T Stop) (input : List ℕ) (at_end failed : Type 0) → Spells view r input → (at_end ⊎ (most_input < length input)) → ReadsImage view r input at_end failed
 reads_spelled view (Ok x) input at_end failed h e = (h, e)
 reads_spelled view (Err stop) input at_end failed h e = none_spelled stop input at_end failed h e
 
@@ -244,9 +244,9 @@ none_read n left reads e = record { taken = takes_none left; few_bytes = omega a
 
 -- what is done with the image is done with the content of the input
 pub spelled : (status : Status) (chips : Option Store → Type 0) (next : Option Store → List ℕ → Ending) (acted may : List ℕ → Option Store → Device → Device → Type 0) (text : List ℕ) (a b : Device) (input image : List ℕ) → length input ≤ most_input → hex_file input ≡ Ok image
-    → OnBoard status chips (λ chip. next chip image) (acted image) (may image) text a b → OnBoard status chips (λ chip. by_input input (next chip)) (acted (content_in input)) (may (content_in input)) text a b
+    → OnBoard status (verb_rule chips (λ chip. next chip image) (acted image) (may image)) text a b → OnBoard status (verb_rule chips (λ chip. by_input input (next chip)) (acted (content_in input)) (may (content_in input))) text a b
 spelled status chips next acted may text a b input image few is h =
-    subst (λ (x : List ℕ). OnBoard status chips (λ chip. by_input input (next chip)) (acted x) (may x) text a b) (sym (input_content input image is))
+    subst (λ (x : List ℕ). OnBoard status (verb_rule chips (λ chip. by_input input (next chip)) (acted x) (may x)) text a b) (sym (input_content input image is))
     (record {
       rules = λ chip stands. subst (λ (x : Ending). Comes status x (acted image chip) (may image chip) text a b) (sym (input_image input image (next chip) few is)) (h.rules chip stands);
       found = h.found;

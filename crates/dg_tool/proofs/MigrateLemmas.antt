@@ -1,7 +1,7 @@
 -- What a migration comes to.
-use Rattle.std.proofs.Common.{◌≡◌, ℕ, Bool, true, false, List, [], ◌∷◌, ◌<◌, length, map, get_or, Option, Some, None, Result, Ok, Err, refl, sym, ap, subst, ◌∙◌, ⊎_elim, arith, cond}
+use Rattle.std.proofs.Common.{◌≡◌, ℕ, Bool, true, false, List, [], ◌∷◌, ◌<◌, length, map, get_or, Result, Err, refl, sym, ap, subst, ◌∙◌, arith, cond}
 use Rattle.std.specs.Prelude.{◌==◌, ◌&&◌}
-use Rattle.std.proofs.lemmas.Bool.{cases_Bool, cond_both, and_parts, eqb-true}
+use Rattle.std.proofs.lemmas.Bool.{cond_both, and_parts, eqb-true}
 use Rattle.dg_nor.specs.Device.{Device}
 use Rattle.dg_nor.specs.Reads.{Looked}
 use Rattle.dg_control.specs.Store.{HasForm}
@@ -16,7 +16,7 @@ use Rattle.dg_tool.specs.declared.stop.Stop.{Stop}
 use Rattle.dg_tool.specs.declared.stop.Stop.TheVariants as stops
 use Rattle.dg_tool.specs.Endings.{Ending, Ends, Refuses, FirstInForm}
 use Rattle.dg_tool.specs.Verbs.{form_told, migrate_by}
-use Rattle.dg_tool.specs.Done.{Went, Migrated, NeedsBoard}
+use Rattle.dg_tool.specs.Done.{Migrated, NeedsBoard}
 use Rattle.dg_tool.specs.Stops.{stop_status, Makes, OfBoard, MountFails, OnStore}
 use Rattle.dg_tool.proofs.ComesLemmas.{made_comes, refused_comes, stopped_comes, halts_stopped}
 use Rattle.dg_tool.proofs.VerbLemmas.{looked_same, went, went_looked}

@@ -7,7 +7,7 @@ use Rattle.std.proofs.lemmas.List.Sums.{prefix_len-le-length, prefix_len_passes,
 use Rattle.std.proofs.lemmas.List.Concat.{flat_map-cons}
 use Rattle.std.proofs.lemmas.Bool.Decides.{nat_tests}
 use Rattle.dg_words.specs.Cells.{part}
-use Rattle.dg_words.specs.Lists.{padded, joined, tabulate}
+use Rattle.dg_words.specs.Lists.{padded, concatenated, tabulate}
 use Rattle.dg_words.proofs.CellLemmas.{part-append-part, length-part}
 use Rattle.dg_words.proofs.ListLemmas.{length-padded, flat_map-range_more}
 use Rattle.dg_base.specs.Texts.{spells_name}
@@ -80,17 +80,17 @@ first_described c image k h at keeps some =
     let has = (keeps.first some).described in
     (has.0, subst (λ (n : ℕ). IsDescriptor (page_in c n) has.0) (sym at) has.1)
 
-joined-map : (f : ℕ → List ℕ) (xs : List ℕ) → joined (map f xs) ≡ flat_map f xs
+joined-map : (f : ℕ → List ℕ) (xs : List ℕ) → concatenated (map f xs) ≡ flat_map f xs
 joined-map f [] = refl
 joined-map f (x ∷ xs) = flat_map-cons (λ (ys : List ℕ). ys) (f x) (map f xs) ∙ ap (λ t. f x ++ t) (joined-map f xs) ∙ sym (flat_map-cons f x xs)
 
-data_table : (f : ℕ → List ℕ) (n m : ℕ) → n ≡ suc m → joined (drop 1 (tabulate n f)) ≡ flat_map f (range_with_len 1 m)
-data_table f n m e = ap (λ (k : ℕ). joined (drop 1 (tabulate k f))) e ∙ joined-map f (range_with_len 1 m)
+data_table : (f : ℕ → List ℕ) (n m : ℕ) → n ≡ suc m → concatenated (drop 1 (tabulate n f)) ≡ flat_map f (range_with_len 1 m)
+data_table f n m e = ap (λ (k : ℕ). concatenated (drop 1 (tabulate k f))) e ∙ joined-map f (range_with_len 1 m)
 
 -- the data pages that are kept
-pub data_kept : (c : List ℕ) (image : ℕ) (h : Held) (m : ℕ) → KeepsImage c image h → length h.complete ≡ suc m → joined (drop 1 h.complete) ≡ flat_map (λ p. page_in c (page_sector image p)) (range_with_len 1 m)
+pub data_kept : (c : List ℕ) (image : ℕ) (h : Held) (m : ℕ) → KeepsImage c image h → length h.complete ≡ suc m → concatenated (drop 1 h.complete) ≡ flat_map (λ p. page_in c (page_sector image p)) (range_with_len 1 m)
 data_kept c image h m keeps count =
-    ap (λ (ps : List (List ℕ)). joined (drop 1 ps)) keeps.stored ∙ data_table (λ p. page_in c (page_sector image p)) (length h.complete) m count
+    ap (λ (ps : List (List ℕ)). concatenated (drop 1 ps)) keeps.stored ∙ data_table (λ p. page_in c (page_sector image p)) (length h.complete) m count
 
 -- ---- reading
 

@@ -32,10 +32,10 @@ use Rattle.dg_tool.specs.declared.refusal.Refusal.TheVariants as refusals
 use Rattle.dg_tool.specs.declared.stop.Stop.{Stop}
 use Rattle.dg_tool.specs.declared.stop.Stop.TheVariants as stops
 use Rattle.dg_tool.specs.Texts.{numbers, line}
-use Rattle.dg_tool.specs.Endings.{Ending, Ends, Unfit, NoVolume, Refuses, LacksImage, by_store, StandsAs}
-use Rattle.dg_tool.specs.Verbs.{room_told, format_sized, order_told, order_by, order_cause, have_told, inject_by, inject_cause, inject_into, start_told, power_boot, boot_by}
-use Rattle.dg_tool.specs.Started.{Tells}
-use Rattle.dg_tool.specs.Done.{Went, StopsOn, Booted, BootedOn, NeedsBoard, NeedsInput}
+use Rattle.dg_tool.specs.Endings.{Ending, Ends, Unfit, NoVolume, by_store, StandsAs}
+use Rattle.dg_tool.specs.Verbs.{room_told, format_sized, order_told, order_by, order_cause, have_told, inject_ending_by, inject_cause, inject_into, start_told, power_boot, boot_by}
+use Rattle.dg_tool.specs.Started.{TellsStarted}
+use Rattle.dg_tool.specs.Done.{verb_rule, Went, StopsOn, Booted, BootedOn, NeedsBoard, NeedsInput}
 use Rattle.dg_tool.specs.Stops.{or_memory, told_status, told_text, Makes, Comes, IsStopped, OnStore, OnBoard}
 use Rattle.dg_tool.proofs.ComesLemmas.{made_comes, refused_comes, stopped_comes, image_comes, halts_stopped, finds}
 
@@ -101,7 +101,7 @@ sized_fits used golden some fits =
     sized_some used golden some ∙ ap (λ (b : Bool). cond b (Unfit (refusals.TooLarge (length golden))) (Ends (room_told (most_room - used)))) (fits_test most_bytes (length golden) fits)
 
 -- a verb that any board may be given to
-pub any_board : {T : Type 0} (view : T → List ℕ) (r : Result T Stop) (ending : Ending) (acted may : Device → Device → Type 0) (a b : Device) → OnStore view r ending acted may a b → OnBoard (told_status r) (λ chip. Unit {0}) (λ chip. ending) (λ chip. acted) (λ chip. may) (told_text view r) a b
+pub any_board : {T : Type 0} (view : T → List ℕ) (r : Result T Stop) (ending : Ending) (acted may : Device → Device → Type 0) (a b : Device) → OnStore view r ending acted may a b → OnBoard (told_status r) (verb_rule (λ chip. Unit {0}) (λ chip. ending) (λ chip. acted) (λ chip. may)) (told_text view r) a b
 any_board view r ending acted may a b h = record { rules = λ chip _. h.comes; found = finds (told_status r) ((chip : Option Store) × Unit {0}) (None, tt); of_board = h.of_board; stops = h.stops }
 
 module _ {T : Type 0} (view : T → List ℕ) (used : ℕ) (golden : List ℕ) (acted may : Device → Device → Type 0) (a b : Device) where
@@ -167,10 +167,10 @@ order_needs o (Some fault) = tt
 
 module _ {T : Type 0} (view : T → List ℕ) (s : Store) (row : Row) (a b : Device) where
   abbrev pub InjectDone : Result T Stop → Type 0
-  InjectDone r = OnStore view r (inject_by row (inject_refusal s row)) (Went (inject_trail s row)) (Stops (inject_trail s row)) a b
+  InjectDone r = OnStore view r (inject_ending_by row (inject_refusal s row)) (Went (inject_trail s row)) (Stops (inject_trail s row)) a b
 
-  by_fault : (r : Result T Stop) (refusal : Option InjectFault) → inject_refusal s row ≡ refusal → OnStore view r (inject_by row refusal) (Went (inject_trail s row)) (Stops (inject_trail s row)) a b → InjectDone r
-  by_fault r refusal e h = subst (λ (x : Option InjectFault). OnStore view r (inject_by row x) (Went (inject_trail s row)) (Stops (inject_trail s row)) a b) (sym e) h
+  by_fault : (r : Result T Stop) (refusal : Option InjectFault) → inject_refusal s row ≡ refusal → OnStore view r (inject_ending_by row refusal) (Went (inject_trail s row)) (Stops (inject_trail s row)) a b → InjectDone r
+  by_fault r refusal e h = subst (λ (x : Option InjectFault). OnStore view r (inject_ending_by row x) (Went (inject_trail s row)) (Stops (inject_trail s row)) a b) (sym e) h
 
   pub inject_kept : (r : Result T Stop) (v : Volume) → inject_refusal s row ≡ None → Makes view r (have_told row) → Acted (inject_trail s row) a b v → InjectDone r
   inject_kept r v none makes acted = by_fault r None none (made_comes view r (have_told row) (Went (inject_trail s row)) (Stops (inject_trail s row)) a b makes (went (inject_trail s row) a b v acted))
@@ -181,11 +181,11 @@ module _ {T : Type 0} (view : T → List ℕ) (s : Store) (row : Row) (a b : Dev
   pub inject_stopped : (inject_refusal s row ≡ None) ⊎ (inject_refusal s row ≡ Some inject.Taken) → Stops (inject_trail s row) a b → InjectDone (Err stops.FlashFault)
   inject_stopped allowed h =
       ⊎_elim
-      (λ none. by_fault (Err stops.FlashFault) None none (stopped_comes view (inject_by row None) (Went (inject_trail s row)) (Stops (inject_trail s row)) a b tt h (halts_stopped h.halts)))
-      (λ taken. by_fault (Err stops.FlashFault) (Some inject.Taken) taken (stopped_comes view (inject_by row (Some inject.Taken)) (Went (inject_trail s row)) (Stops (inject_trail s row)) a b tt h (halts_stopped h.halts)))
+      (λ none. by_fault (Err stops.FlashFault) None none (stopped_comes view (inject_ending_by row None) (Went (inject_trail s row)) (Stops (inject_trail s row)) a b tt h (halts_stopped h.halts)))
+      (λ taken. by_fault (Err stops.FlashFault) (Some inject.Taken) taken (stopped_comes view (inject_ending_by row (Some inject.Taken)) (Went (inject_trail s row)) (Stops (inject_trail s row)) a b tt h (halts_stopped h.halts)))
       allowed
 
-pub inject_needs : (row : Row) (refusal : Option InjectFault) → NeedsBoard (inject_by row refusal)
+pub inject_needs : (row : Row) (refusal : Option InjectFault) → NeedsBoard (inject_ending_by row refusal)
 inject_needs row None = tt
 inject_needs row (Some fault) = tt
 
@@ -197,7 +197,7 @@ booted t a b told h = record {
   memory = subst (λ (x : Option Runs). IfSome x (λ r. program b.image (length r.pages) ≡ r.pages)) (sym h.chosen) (subst (λ (n : ℕ). program b.image n ≡ h.runs.pages) h.pages h.memory);
 }
 
-pub boot_started : {T : Type 0} (view : T → List ℕ) (r : Result T Stop) (s : Store) (a b : Device) (told : Started) → ((x : Runs) → Tells told x → Makes view r (start_told x)) → Starts (power_boot s) a b told
+pub boot_started : {T : Type 0} (view : T → List ℕ) (r : Result T Stop) (s : Store) (a b : Device) (told : Started) → ((x : Runs) → TellsStarted told x → Makes view r (start_told x)) → Starts (power_boot s) a b told
     → OnStore view r (boot_by (power_boot s).runs) (Booted (power_boot s)) (Stops (power_boot s).trail) a b
 boot_started view r s a b told makes h =
     subst (λ (x : Option Runs). OnStore view r (boot_by x) (Booted (power_boot s)) (Stops (power_boot s).trail) a b) (sym h.chosen)
@@ -217,7 +217,7 @@ boot_needs (Some r) = tt
 
 -- a start that stopped, whether the board is a volume or not
 pub boot_stopped : (a b : Device) → ((s : Store) → Stands a.image s → Stops (power_boot s).trail a b) → (IsNoVolume a.image → ReadStopped a b) → ActStopped a b
-    → OnBoard statuses.FlashFault (StandsAs a.image) (λ chip. by_store chip (λ s. boot_by (power_boot s).runs)) (BootedOn power_boot) (StopsOn (λ s. (power_boot s).trail)) [] a b
+    → OnBoard statuses.FlashFault (verb_rule (StandsAs a.image) (λ chip. by_store chip (λ s. boot_by (power_boot s).runs)) (BootedOn power_boot) (StopsOn (λ s. (power_boot s).trail))) [] a b
 boot_stopped a b volume none h = record { rules = rules; found = tt; of_board = tt; stops = record { stopped = h.stopped; cause = h.cause } }
   where
     rules : (chip : Option Store) → StandsAs a.image chip → Comes statuses.FlashFault (by_store chip (λ s. boot_by (power_boot s).runs)) (BootedOn power_boot chip) (StopsOn (λ s. (power_boot s).trail) chip) [] a b
@@ -225,7 +225,7 @@ boot_stopped a b volume none h = record { rules = rules; found = tt; of_board = 
     rules (Some s) is = record { caused = boot_needs (power_boot s).runs; wrote = refl; board = volume s is }
 
 -- the board is no volume
-pub no_volume : (by : Store → Ending) (acted may : Option Store → Device → Device → Type 0) (a b : Device) → IsNoVolume a.image → Looked a b → OnBoard statuses.NotAVolume (StandsAs a.image) (λ chip. by_store chip by) acted may (Rattle.dg_tool.specs.Endings.text_of NoVolume) a b
+pub no_volume : (by : Store → Ending) (acted may : Option Store → Device → Device → Type 0) (a b : Device) → IsNoVolume a.image → Looked a b → OnBoard statuses.NotAVolume (verb_rule (StandsAs a.image) (λ chip. by_store chip by) acted may) (Rattle.dg_tool.specs.Endings.text_of NoVolume) a b
 no_volume by acted may a b none looked = record { rules = rules; found = (None, none); of_board = tt; stops = tt }
   where
     rules : (chip : Option Store) → StandsAs a.image chip → Comes statuses.NotAVolume (by_store chip by) (acted chip) (may chip) (Rattle.dg_tool.specs.Endings.text_of NoVolume) a b
@@ -242,7 +242,7 @@ two_needs false false x y z p q r = r
 pub sized_needs : (used : ℕ) (golden : List ℕ) → NeedsInput (format_sized used golden)
 sized_needs used golden = two_needs (length golden == 0) (nat_lt most_bytes (length golden)) (Unfit refusals.Empty) (Unfit (refusals.TooLarge (length golden))) (Ends (room_told (most_room - used))) tt tt tt
 
-by_needs : (row : Row) (refusal : Option InjectFault) → NeedsInput (inject_by row refusal)
+by_needs : (row : Row) (refusal : Option InjectFault) → NeedsInput (inject_ending_by row refusal)
 by_needs row None = tt
 by_needs row (Some fault) = tt
 

@@ -1,10 +1,12 @@
 -- What a verb over the first board did.
-use Rattle.std.specs.Prelude.{◌≡◌, ◌≢◌, ◌⊎◌, ℕ, zero, suc, ◌+◌, ◌<◌, ◌≤◌, true, List, [], length, drop, take, slice_get, Option, Some, None, IfSome}
+use Rattle.std.specs.Prelude.{◌≡◌, ◌≢◌, ◌⊎◌, ℕ, zero, suc, ◌+◌, ◌<◌, ◌≤◌, true, List, [], length, drop, take, slice_get, Option}
+use Rattle.std.specs.Prelude.{Some, None, IfSome}
 use Rattle.dg_words.specs.Counts.{Rose}
 use Rattle.dg_base.specs.Sizes.{most_input}
 use Rattle.dg_base.specs.Outside.{Takes, Puts, AtEnd}
 use Rattle.dg_base.specs.declared.answers.Status.{Status}
-use Rattle.dg_base.specs.declared.answers.Status.TheVariants.{Done, Memory, Usage, BadInput, ReadFault, WriteFault, FlashFault, NotAVolume, Refused, LinkFault, TooLong, TooMany, NoBoard, NoImage}
+use Rattle.dg_base.specs.declared.answers.Status.TheVariants.{Done, Memory, Usage, BadInput, ReadFault, WriteFault, FlashFault}
+use Rattle.dg_base.specs.declared.answers.Status.TheVariants.{NotAVolume, Refused, LinkFault, TooLong, TooMany, NoBoard, NoImage}
 use Rattle.dg_nor.specs.Device.{Device, Ran, Halted}
 use Rattle.dg_nor.specs.Reads.{Looked, ReadStopped}
 use Rattle.dg_nor.specs.Trail.{Trail, operations, last}
@@ -17,7 +19,8 @@ use Rattle.dg_volume.specs.Sizes.{new_form}
 use Rattle.dg_volume.specs.Trails.{migrate_trail}
 use Rattle.dg_volume.specs.Store.{Store, fresh, golden_row}
 use Rattle.dg_volume.specs.Stands.{Stands}
-use Rattle.dg_tool.specs.Endings.{Ending, Ends, NoBoards, Over, FaultAt, Unfit, NoVolume, Refuses, Breaks, LacksImage, status_of, text_of}
+use Rattle.dg_tool.specs.Endings.{Ending, Ends, NoBoards, Over, FaultAt, Unfit, NoVolume, Refuses, Breaks, LacksImage, status_of}
+use Rattle.dg_tool.specs.Endings.{text_of}
 
 -- ---- acts on the first board
 
@@ -67,7 +70,8 @@ BootedOn boot (Some s) a b = Booted (boot s) a b
 
 -- ---- how the board is left
 
--- By the rules: what was asked for was done, also where a start found no image, or up to where the rest of it was refused; a refusal only reads; and what ends a verb before it comes to the board leaves that unused.
+-- By the rules: what was asked for was done, also where a start found no image, or up to where the rest of it was refused; a
+-- refusal only reads; and what ends a verb before it comes to the board leaves that unused.
 abbrev pub LeftBy : Ending → (acted : Device → Device → Type 0) → Device → Device → Type 0
 LeftBy (Ends told) acted a b = acted a b
 LeftBy LacksImage acted a b = acted a b
@@ -79,12 +83,25 @@ LeftBy Over acted a b = b ≡ a
 LeftBy (FaultAt fault) acted a b = b ≡ a
 LeftBy (Unfit cause) acted a b = b ≡ a
 
--- By the status: where memory ran out, it is as the rules say, or it was at most read. Where it stopped, `may` says what it holds.
-abbrev pub Leaves : Status → Ending → (acted may : Device → Device → Type 0) → Device → Device → Type 0
-Leaves Memory ending acted may a b = Looked a b ⊎ LeftBy ending acted a b
-Leaves ReadFault ending acted may a b = Looked a b
-Leaves FlashFault ending acted may a b = may a b
-Leaves status ending acted may a b = LeftBy ending acted a b
+-- By the status: where memory ran out, it is as the rules say, or it was at most read. Where it stopped,
+-- `may` says what it holds.
+abbrev pub CommandLeaves : Status → Ending → (acted may : Device → Device → Type 0) → Device → Device → Type 0
+CommandLeaves Memory ending acted may a b = Looked a b ⊎ LeftBy ending acted a b
+CommandLeaves ReadFault ending acted may a b = Looked a b
+CommandLeaves FlashFault ending acted may a b = may a b
+CommandLeaves status ending acted may a b = LeftBy ending acted a b
+
+-- What the rules say of a verb. `chips` are the stores that the board may stand for, None where it is no volume; by these go how
+-- it ends, what it does to the board, and what it may leave of it where it is stopped.
+pub record VerbRule : Type 1 where
+  pub chips : Option Store → Type 0
+  pub ending : Option Store → Ending
+  pub acted : Option Store → Device → Device → Type 0
+  pub may : Option Store → Device → Device → Type 0
+
+abbrev pub verb_rule : (chips : Option Store → Type 0) (ending : Option Store → Ending)
+    (acted may : Option Store → Device → Device → Type 0) → VerbRule
+verb_rule chips ending acted may = record { chips = chips; ending = ending; acted = acted; may = may }
 
 -- ---- causes
 
@@ -119,10 +136,11 @@ Wrote WriteFault ending text = (n : ℕ) × (text ≡ take n (text_of ending))
 Wrote status ending text = text ≡ text_of ending
 
 -- a verb that ends so by the rules came to this status, wrote this, and left the first board so
-pub record Follows (status : Status) (ending : Ending) (acted may : Device → Device → Type 0) (text : List ℕ) (old new : List Device) : Type 0 where
+pub record Follows (status : Status) (ending : Ending) (acted may : Device → Device → Type 0) (text : List ℕ)
+    (old new : List Device) : Type 0 where
   pub caused : IsCaused status ending
   pub wrote : Wrote status ending text
-  pub board : (a b : Device) → slice_get old 0 ≡ Some a → slice_get new 0 ≡ Some b → Leaves status ending acted may a b
+  pub board : (a b : Device) → slice_get old 0 ≡ Some a → slice_get new 0 ≡ Some b → CommandLeaves status ending acted may a b
 
 -- ---- whatever the board stands for
 
@@ -140,7 +158,8 @@ pub record FirstStopped (old new : List Device) : Type 0 where
   pub stopped : after.stopped ≡ true
   pub cause : (before.stopped ≡ true) ⊎ Rose before.faults after.faults
 
--- A fault of the outside has its cause, and writes nothing but a front of a line. A verb over one board has no words that may be none, no link and no events.
+-- A fault of the outside has its cause, and writes nothing but a front of a line.
+-- A verb over one board has no words that may be none, no link and no events.
 abbrev pub Faulted : Status → (reads_failed writes_failed board_stopped : Type 0) → (text : List ℕ) → Type 0
 Faulted Memory r w b text = text ≡ []
 Faulted ReadFault r w b text = r × (text ≡ [])
@@ -167,18 +186,27 @@ Finds Refused found = found
 Finds NoImage found = found
 Finds status found = Unit {0}
 
--- What a verb did. `chips` are the stores that the first board may stand for, None where it is no volume; the ending and the acts go by that.
-pub record ToolDone (status : Status) (chips : Option Store → Type 0) (ending : Option Store → Ending) (acted may : Option Store → Device → Device → Type 0)
-    (reads_failed : Type 0) (written_before written_after : Option (List ℕ)) (writes_before writes_after : ℕ) (old new : List Device) : Type 0 where
+-- What a verb works on beside its input: what was written, where that is told, how many writes failed, and the boards.
+pub record ToolOutside : Type 0 where
+  pub written : Option (List ℕ)
+  pub writes : ℕ
+  pub boards : List Device
+
+abbrev pub tool_outside : (written : Option (List ℕ)) (writes : ℕ) (boards : List Device) → ToolOutside
+tool_outside written writes boards = record { written = written; writes = writes; boards = boards }
+
+-- What a verb did that goes by this rule.
+pub record ToolDone (status : Status) (rule : VerbRule) (reads_failed : Type 0) (before after : ToolOutside) : Type 0 where
   pub text : List ℕ
-  pub written : Puts written_before written_after text
-  pub rules : (chip : Option Store) → chips chip → Follows status (ending chip) (acted chip) (may chip) text old new
-  pub found : Finds status ((chip : Option Store) × chips chip)
-  pub faulted : Faulted status reads_failed (Rose writes_before writes_after) (FirstStopped old new) text
-  pub first : OnlyFirst old new
-  pub untouched : Untouched status old new
+  pub written : Puts before.written after.written text
+  pub rules : (chip : Option Store) → rule.chips chip
+      → Follows status (rule.ending chip) (rule.acted chip) (rule.may chip) text before.boards after.boards
+  pub found : Finds status ((chip : Option Store) × rule.chips chip)
+  pub faulted : Faulted status reads_failed (Rose before.writes after.writes) (FirstStopped before.boards after.boards) text
+  pub first : OnlyFirst before.boards after.boards
+  pub untouched : Untouched status before.boards after.boards
   -- a write that fails is always told
-  pub write_faults : status ≢ WriteFault → writes_after ≡ writes_before
+  pub write_faults : status ≢ WriteFault → after.writes ≡ before.writes
 
 -- ---- the input
 
@@ -194,7 +222,8 @@ ReadBy zero status input at_end = input ≡ []
 ReadBy (suc n) status input at_end = ReadEnough status input at_end
 
 -- what was taken of the input
-pub record InputRead (status : Status) (boards : ℕ) (input : List ℕ) (left_before left_after : Option (List ℕ)) (reads_before reads_after : ℕ) : Type 0 where
+pub record InputRead (status : Status) (boards : ℕ) (input : List ℕ) (left_before left_after : Option (List ℕ))
+    (reads_before reads_after : ℕ) : Type 0 where
   pub taken : Takes left_before left_after input
   pub few_bytes : length input ≤ most_input + 1
   pub enough : ReadBy boards status input (AtEnd left_after)

@@ -60,7 +60,8 @@ refusal_text (refusals.Worn room) = codes "worn" ++ numbers (room ∷ [])
 refusal_text (refusals.OldOrder number) = codes "oldorder" ++ numbers (number ∷ [])
 refusal_text refusals.Absent = codes "none"
 refusal_text (refusals.NotWhole done pages) = codes "notwhole" ++ numbers (done ∷ pages ∷ [])
-refusal_text (refusals.Broken page kept found) = codes "broken" ++ numbers (page ∷ []) ++ 32 ∷ hex_text kept ++ 32 ∷ hex_text found
+refusal_text (refusals.Broken page kept found) =
+    codes "broken" ++ numbers (page ∷ []) ++ 32 ∷ hex_text kept ++ 32 ∷ hex_text found
 refusal_text refusals.Shape = codes "shape"
 refusal_text (refusals.Foreign page) = codes "foreign" ++ numbers (page ∷ [])
 

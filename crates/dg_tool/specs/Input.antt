@@ -41,14 +41,15 @@ ReadsNone stops.ReadFault input at_end failed = failed
 ReadsNone stop input at_end failed = SpellsNone stop input × IsEnough input at_end
 
 -- what an input comes to
-abbrev pub Reads : {T : Type 0} → (T → List ℕ) → Result T Stop → List ℕ → (at_end failed : Type 0) → Type 0
-Reads view (Ok image) input at_end failed = Spells view (Ok image) input × IsEnough input at_end
-Reads view (Err stop) input at_end failed = ReadsNone stop input at_end failed
+abbrev pub ReadsImage : {T : Type 0} → (T → List ℕ) → Result T Stop → List ℕ → (at_end failed : Type 0) → Type 0
+ReadsImage view (Ok image) input at_end failed = Spells view (Ok image) input × IsEnough input at_end
+ReadsImage view (Err stop) input at_end failed = ReadsNone stop input at_end failed
 
 -- the image of an input was read
-pub record ImageRead {T : Type 0} (view : T → List ℕ) (told : Result T Stop) (left_before left_after : Option (List ℕ)) (reads_before reads_after : ℕ) : Type 0 where
+pub record ImageRead {T : Type 0} (view : T → List ℕ) (told : Result T Stop) (left_before left_after : Option (List ℕ))
+    (reads_before reads_after : ℕ) : Type 0 where
   pub input : List ℕ
   pub taken : Takes left_before left_after input
   pub few_bytes : length input ≤ most_input + 1
-  pub reads : Reads view told input (AtEnd left_after) (Rose reads_before reads_after)
+  pub reads : ReadsImage view told input (AtEnd left_after) (Rose reads_before reads_after)
   pub read_faults : told ≢ Err stops.ReadFault → reads_after ≡ reads_before

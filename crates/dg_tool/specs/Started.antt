@@ -4,7 +4,7 @@ use Rattle.dg_boot.specs.declared.Started.{Started}
 use Rattle.dg_volume.specs.Start.{Runs, runs_length, runs_crc}
 
 -- the answer of a start tells what runs
-pub record Tells (told : Started) (r : Runs) : Type 0 where
+pub record TellsStarted (told : Started) (r : Runs) : Type 0 where
   pub image : told.image ≡ r.image
   pub version : told.version ≡ r.version
   pub length : told.length ≡ runs_length r

@@ -11,7 +11,7 @@ use Rattle.dg_volume.specs.Stands.{IsNoVolume}
 use Rattle.dg_tool.specs.declared.stop.Stop.{Stop}
 use Rattle.dg_tool.specs.declared.stop.Stop.TheVariants as stops
 use Rattle.dg_tool.specs.Endings.{Ending, NoBoards, Over, FaultAt, NoVolume, LacksImage, Refuses, text_of}
-use Rattle.dg_tool.specs.Done.{Follows, Leaves, IsCaused, Wrote, Finds, FirstStopped, OnlyFirst, Untouched}
+use Rattle.dg_tool.specs.Done.{VerbRule, Follows, CommandLeaves, IsCaused, Wrote, Finds, FirstStopped, OnlyFirst, Untouched}
 
 -- the status of a verb that comes to this
 abbrev pub stop_status : Stop → Status
@@ -59,10 +59,11 @@ Makes view (Err stop) text = ⊥
 -- ---- one board
 
 -- a verb that ends so by the rules is to come to this status and write this, and left the board so
-pub record Comes (status : Status) (ending : Ending) (acted may : Device → Device → Type 0) (text : List ℕ) (a b : Device) : Type 0 where
+pub record Comes (status : Status) (ending : Ending) (acted may : Device → Device → Type 0) (text : List ℕ)
+    (a b : Device) : Type 0 where
   pub caused : IsCaused status ending
   pub wrote : Wrote status ending text
-  pub board : Leaves status ending acted may a b
+  pub board : CommandLeaves status ending acted may a b
 
 -- the board is stopped, and why
 pub record IsStopped (a b : Device) : Type 0 where
@@ -99,15 +100,16 @@ ReadsOn (Ok x) a b = Looked a b
 ReadsOn (Err stop) a b = FailsOn stop a b
 
 -- what a verb that came to this did on a board that stood for a store, where it ends so by the rules
-pub record OnStore {T : Type 0} (view : T → List ℕ) (told : Result T Stop) (ending : Ending) (acted may : Device → Device → Type 0) (a b : Device) : Type 0 where
+pub record OnStore {T : Type 0} (view : T → List ℕ) (told : Result T Stop) (ending : Ending)
+    (acted may : Device → Device → Type 0) (a b : Device) : Type 0 where
   pub comes : Comes (told_status told) ending acted may (told_text view told) a b
   pub of_board : OfBoard (told_status told)
   pub stops : StopsThere (told_status told) a b
 
--- what a verb does on a board, by the stores that it may stand for
-pub record OnBoard (status : Status) (chips : Option Store → Type 0) (ending : Option Store → Ending) (acted may : Option Store → Device → Device → Type 0) (text : List ℕ) (a b : Device) : Type 0 where
-  pub rules : (chip : Option Store) → chips chip → Comes status (ending chip) (acted chip) (may chip) text a b
-  pub found : Finds status ((chip : Option Store) × chips chip)
+-- what a verb that goes by this rule does on a board
+pub record OnBoard (status : Status) (rule : VerbRule) (text : List ℕ) (a b : Device) : Type 0 where
+  pub rules : (chip : Option Store) → rule.chips chip → Comes status (rule.ending chip) (rule.acted chip) (rule.may chip) text a b
+  pub found : Finds status ((chip : Option Store) × rule.chips chip)
   pub of_board : OfBoard status
   pub stops : StopsThere status a b
 
@@ -118,9 +120,10 @@ StopsFirst statuses.FlashFault old new = FirstStopped old new
 StopsFirst status old new = Unit {0}
 
 -- the same over the first of the boards
-pub record OnBoards (status : Status) (chips : Option Store → Type 0) (ending : Option Store → Ending) (acted may : Option Store → Device → Device → Type 0) (text : List ℕ) (old new : List Device) : Type 0 where
-  pub rules : (chip : Option Store) → chips chip → Follows status (ending chip) (acted chip) (may chip) text old new
-  pub found : Finds status ((chip : Option Store) × chips chip)
+pub record OnBoards (status : Status) (rule : VerbRule) (text : List ℕ) (old new : List Device) : Type 0 where
+  pub rules : (chip : Option Store) → rule.chips chip
+      → Follows status (rule.ending chip) (rule.acted chip) (rule.may chip) text old new
+  pub found : Finds status ((chip : Option Store) × rule.chips chip)
   pub stops : StopsFirst status old new
   pub first : OnlyFirst old new
   pub untouched : Untouched status old new

@@ -1,5 +1,6 @@
 -- What the verbs over the first board do, by the bytes of the input and by what the board stands for.
-use Rattle.std.specs.Prelude.{ℕ, ◌==◌, ◌&&◌, ◌-◌, nat_lt, Bool, true, false, if◌then◌else◌, List, [], ◌∷◌, ◌++◌, length, codes, ◌/◌, ◌%◌, Option, Some, None}
+use Rattle.std.specs.Prelude.{ℕ, ◌==◌, ◌&&◌, ◌-◌, nat_lt, Bool, true, false, if◌then◌else◌, List, [], ◌∷◌, ◌++◌, length, codes}
+use Rattle.std.specs.Prelude.{◌/◌, ◌%◌, Option, Some, None}
 use Rattle.std.specs.List.{flat_map, range_with_len}
 use Rattle.dg_base.specs.Hexadecimal.{hex_text}
 use Rattle.dg_object.specs.Object.{Row, pages_for}
@@ -53,12 +54,12 @@ inject_cause row inject.Taken = refusals.Taken
 abbrev pub have_told : Row → List ℕ
 have_told row = line (codes "have" ++ numbers (0 ∷ row.image ∷ row.version ∷ pages_for (length row.bytes) ∷ []))
 
-abbrev pub inject_by : Row → Option InjectFault → Ending
-inject_by row None = Ends (have_told row)
-inject_by row (Some fault) = Refuses (inject_cause row fault)
+abbrev pub inject_ending_by : Row → Option InjectFault → Ending
+inject_ending_by row None = Ends (have_told row)
+inject_ending_by row (Some fault) = Refuses (inject_cause row fault)
 
 abbrev pub inject_into : Row → Option Store → Ending
-inject_into row chip = by_store chip (λ s. inject_by row (inject_refusal s row))
+inject_into row chip = by_store chip (λ s. inject_ending_by row (inject_refusal s row))
 
 -- `row` is the image with its bytes
 abbrev pub inject_ending : (boards : ℕ) → (row : List ℕ → Row) → (input : List ℕ) → Option Store → Ending
@@ -148,7 +149,8 @@ name_by (first ∷ rest) = name_in first
 
 abbrev pub kept_line : ℕ → Option Held → List ℕ
 kept_line i None = []
-kept_line i (Some h) = line (codes "kept" ++ numbers (i ∷ h.version ∷ length h.complete ∷ h.pages ∷ []) ++ 32 ∷ name_by h.complete)
+kept_line i (Some h) =
+    line (codes "kept" ++ numbers (i ∷ h.version ∷ length h.complete ∷ h.pages ∷ []) ++ 32 ∷ name_by h.complete)
 
 abbrev pub commits_told : Store → List ℕ
 commits_told s =
@@ -156,11 +158,11 @@ commits_told s =
     ++ line (codes "room" ++ numbers (s.room ∷ []))
 
 -- the images behind golden
-abbrev pub kept_told : Store → List ℕ
-kept_told s = flat_map (λ i. kept_line i (held s i)) (range_with_len 1 (images - 1))
+abbrev pub kept_lines : Store → List ℕ
+kept_lines s = flat_map (λ i. kept_line i (held s i)) (range_with_len 1 (images - 1))
 
 abbrev pub ping_told : Store → List ℕ
-ping_told s = golden_told (held s 0) ++ commits_told s ++ kept_told s
+ping_told s = golden_told (held s 0) ++ commits_told s ++ kept_lines s
 
 abbrev pub ping_on : Option Store → Ending
 ping_on chip = by_store chip (λ s. Ends (ping_told s))
@@ -172,7 +174,8 @@ ping_ending boards chip = by_boards boards (ping_on chip)
 
 abbrev pub dump_by : Option Held → Ending
 dump_by None = Refuses refusals.Absent
-dump_by (Some h) = if length h.complete == h.pages then Ends (written_file (kept_bytes h)) else Refuses (refusals.NotWhole (length h.complete) h.pages)
+dump_by (Some h) = if length h.complete == h.pages then Ends (written_file (kept_bytes h))
+    else Refuses (refusals.NotWhole (length h.complete) h.pages)
 
 abbrev pub dump_on : (image : ℕ) → Option Store → Ending
 dump_on image chip = by_store chip (λ s. dump_by (held s image))

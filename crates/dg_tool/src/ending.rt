@@ -14,7 +14,8 @@ use std::alloc::{AllocError, Global};
 
 /// Writes the text of a verb, and ends it.
 fn end_with<K: Sink>(out: &mut K, text: &[u8], status: Status) -> Status
-    ensures ends { WritesLast result status text.now (K.written out.old) (K.written out.new) (Rose (K.faults out.old) (K.faults out.new)) (K.faults out.new ≡ K.faults out.old) }
+    ensures ends { WritesLast result status text.now (K.written out.old) (K.written out.new)
+        (Rose (K.faults out.old) (K.faults out.new)) (K.faults out.new ≡ K.faults out.old) }
     ensures counts { K.faults out.old ≤ K.faults out.new }
 {
     match out.write(text) {
@@ -99,7 +100,8 @@ fn push_too_large(alloc: Global, text: &mut Vec<u8>, length: usize) -> Result<()
 /// Ends a verb with a line that memory may be wanting for.
 fn end_with_line<K: Sink>(out: &mut K, line: Result<Vec<u8>, AllocError>, status: Status) -> Status
     ensures ends { (text : List ℕ) → IfOk line (λ l. l.items ≡ text)
-        → WritesLast result status text (K.written out.old) (K.written out.new) (Rose (K.faults out.old) (K.faults out.new)) (K.faults out.new ≡ K.faults out.old) }
+        → WritesLast result status text (K.written out.old) (K.written out.new) (Rose (K.faults out.old) (K.faults out.new))
+        (K.faults out.new ≡ K.faults out.old) }
     ensures counts { K.faults out.old ≤ K.faults out.new }
 {
     match line {
@@ -110,7 +112,8 @@ fn end_with_line<K: Sink>(out: &mut K, line: Result<Vec<u8>, AllocError>, status
 
 /// Ends a verb that was stopped.
 fn end_at_stop<K: Sink>(alloc: Global, out: &mut K, stop: Stop) -> Status
-    ensures ends { ClosesWith result (stop_status stop) (stop_text stop) (K.written out.old) (K.written out.new) (Rose (K.faults out.old) (K.faults out.new)) (K.faults out.new ≡ K.faults out.old) }
+    ensures ends { ClosesWith result (stop_status stop) (stop_text stop) (K.written out.old) (K.written out.new)
+        (Rose (K.faults out.old) (K.faults out.new)) (K.faults out.new ≡ K.faults out.old) }
     ensures counts { K.faults out.old ≤ K.faults out.new }
 {
     match stop {
@@ -128,7 +131,8 @@ fn end_at_stop<K: Sink>(alloc: Global, out: &mut K, stop: Stop) -> Status
 
 /// Ends a verb that came to its text, or was stopped: one write at most.
 pub fn end<K: Sink>(alloc: Global, out: &mut K, told: Result<Vec<u8>, Stop>) -> Status
-    ensures ends { ClosesWith result (told_status told) (told_text (λ text. text.items) told) (K.written out.old) (K.written out.new) (Rose (K.faults out.old) (K.faults out.new)) (K.faults out.new ≡ K.faults out.old) }
+    ensures ends { ClosesWith result (told_status told) (told_text (λ text. text.items) told) (K.written out.old)
+        (K.written out.new) (Rose (K.faults out.old) (K.faults out.new)) (K.faults out.new ≡ K.faults out.old) }
     ensures counts { K.faults out.old ≤ K.faults out.new }
 {
     match told {

@@ -10,8 +10,8 @@ ghost use Rattle.dg_volume.specs.Changes.{inject_refusal};
 ghost use Rattle.dg_volume.specs.Trails.{inject_trail};
 ghost use Rattle.dg_tool.specs.Texts.{numbers, line};
 ghost use Rattle.dg_tool.specs.Endings.{StandsAs, FirstAs, content_in};
-ghost use Rattle.dg_tool.specs.Verbs.{inject_cause, inject_by, inject_into, inject_ending};
-ghost use Rattle.dg_tool.specs.Done.{InputRead, Went, WentOn, StopsOn};
+ghost use Rattle.dg_tool.specs.Verbs.{inject_cause, inject_ending_by, inject_into, inject_ending};
+ghost use Rattle.dg_tool.specs.Done.{verb_rule, InputRead, Went, WentOn, StopsOn};
 ghost use Rattle.dg_tool.specs.Stops.{InputFails, Makes, OnStore, OnBoard, OnBoards, told_status, told_text};
 ghost use Rattle.dg_tool.specs.declared.stop.Stop.TheVariants as stops;
 
@@ -28,7 +28,8 @@ use std::alloc::Global;
 /// What an injection that is not done makes of a verb. `size` is the length of the image.
 pub fn stop_at(fault: InjectFault, size: usize) -> Stop
     ensures stopped { fault ≡ InjectFault.Stopped → result ≡ stops.FlashFault }
-    ensures refused { fault ≢ InjectFault.Stopped → (row : Row) → size ≡ length row.bytes → result ≡ stops.Refused (inject_cause row fault) }
+    ensures refused { fault ≢ InjectFault.Stopped → (row : Row) → size ≡ length row.bytes
+        → result ≡ stops.Refused (inject_cause row fault) }
 {
     match fault {
         InjectFault::Stopped => Stop::FlashFault,
@@ -66,7 +67,10 @@ fn inject_mounted<N: Nor>(
     requires version { 1 ≤ version }
     requires named { IsTrue (spells_name name.now) }
     ensures { (s : Store) → Mounted (N.device nor.old).image volume.old s
-        → OnStore (λ text. text.items) result (inject_by (row_of image version name.now bytes.now) (inject_refusal s (row_of image version name.now bytes.now))) (Went (inject_trail s (row_of image version name.now bytes.now))) (Stops (inject_trail s (row_of image version name.now bytes.now))) (N.device nor.old) (N.device nor.new) }
+        → OnStore (λ text. text.items) result (inject_ending_by (row_of image version name.now bytes.now)
+        (inject_refusal s (row_of image version name.now bytes.now)))
+        (Went (inject_trail s (row_of image version name.now bytes.now)))
+        (Stops (inject_trail s (row_of image version name.now bytes.now))) (N.device nor.old) (N.device nor.new) }
 {
     match volume.inject(nor, image, version, name, bytes) {
         Ok(injected) => have_line(alloc, image, version, injected.pages),
@@ -86,7 +90,10 @@ fn inject_on<N: Nor>(
     requires image { image < images }
     requires version { 1 ≤ version }
     requires named { IsTrue (spells_name name.now) }
-    ensures { OnBoard (told_status result) (StandsAs (N.device nor.old).image) (inject_into (row_of image version name.now bytes.now)) (WentOn (λ s. inject_trail s (row_of image version name.now bytes.now))) (StopsOn (λ s. inject_trail s (row_of image version name.now bytes.now)))
+    ensures { OnBoard (told_status result)
+        (verb_rule (StandsAs (N.device nor.old).image) (inject_into (row_of image version name.now bytes.now))
+        (WentOn (λ s. inject_trail s (row_of image version name.now bytes.now)))
+        (StopsOn (λ s. inject_trail s (row_of image version name.now bytes.now))))
         (told_text (λ text. text.items) result) (N.device nor.old) (N.device nor.new) }
 {
     match mount(nor) {
@@ -107,10 +114,13 @@ fn inject_first<S: Source, N: Nor>(
     requires image { image < images }
     requires version { 1 ≤ version }
     requires named { IsTrue (spells_name name.now) }
-    ensures done { (bytes : List ℕ) × InputRead (told_status result) (length boards.old) bytes (S.left input.old) (S.left input.new) (S.faults input.old) (S.faults input.new)
+    ensures done { (bytes : List ℕ) × InputRead (told_status result) (length boards.old) bytes (S.left input.old)
+        (S.left input.new) (S.faults input.old) (S.faults input.new)
         × InputFails (told_status result) (S.faults input.old) (S.faults input.new)
-        × OnBoards (told_status result) (FirstAs (map N.device boards.old)) (inject_ending (length boards.old) (row_of image version name.now) bytes)
-        (WentOn (λ s. inject_trail s (row_of image version name.now (content_in bytes)))) (StopsOn (λ s. inject_trail s (row_of image version name.now (content_in bytes))))
+        × OnBoards (told_status result)
+        (verb_rule (FirstAs (map N.device boards.old)) (inject_ending (length boards.old) (row_of image version name.now) bytes)
+        (WentOn (λ s. inject_trail s (row_of image version name.now (content_in bytes))))
+        (StopsOn (λ s. inject_trail s (row_of image version name.now (content_in bytes)))))
         (told_text (λ text. text.items) result) (map N.device boards.old) (map N.device boards.new) }
     ensures reads { S.faults input.old ≤ S.faults input.new }
 {
@@ -135,10 +145,14 @@ pub(crate) fn inject_boards<S: Source, N: Nor>(
     requires image { image < images }
     requires version { 1 ≤ version }
     requires named { IsTrue (spells_name name.now) }
-    ensures done { (bytes : List ℕ) × InputRead (told_status result) (length boards.old.items) bytes (S.left input.old) (S.left input.new) (S.faults input.old) (S.faults input.new)
+    ensures done { (bytes : List ℕ) × InputRead (told_status result) (length boards.old.items) bytes (S.left input.old)
+        (S.left input.new) (S.faults input.old) (S.faults input.new)
         × InputFails (told_status result) (S.faults input.old) (S.faults input.new)
-        × OnBoards (told_status result) (FirstAs (map N.device boards.old.items)) (inject_ending (length boards.old.items) (row_of image version name.now) bytes)
-        (WentOn (λ s. inject_trail s (row_of image version name.now (content_in bytes)))) (StopsOn (λ s. inject_trail s (row_of image version name.now (content_in bytes))))
+        × OnBoards (told_status result)
+        (verb_rule (FirstAs (map N.device boards.old.items))
+        (inject_ending (length boards.old.items) (row_of image version name.now) bytes)
+        (WentOn (λ s. inject_trail s (row_of image version name.now (content_in bytes))))
+        (StopsOn (λ s. inject_trail s (row_of image version name.now (content_in bytes)))))
         (told_text (λ text. text.items) result) (map N.device boards.old.items) (map N.device boards.new.items) }
     ensures reads { S.faults input.old ≤ S.faults input.new }
 {

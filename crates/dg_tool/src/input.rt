@@ -34,7 +34,8 @@ fn stop_at(fault: HexFileFault) -> Stop
 
 /// Reads the image of the HEX file that an input spells. At most 16,777,216 bytes are used.
 pub fn read_image<S: Source>(alloc: Global, input: &mut S) -> Result<Vec<u8>, Stop>
-    ensures read { ImageRead (λ image. image.items) result (S.left input.old) (S.left input.new) (S.faults input.old) (S.faults input.new) }
+    ensures read { ImageRead (λ image. image.items) result (S.left input.old) (S.left input.new) (S.faults input.old)
+        (S.faults input.new) }
     ensures counts { S.faults input.old ≤ S.faults input.new }
 {
     match read_input(alloc, input) {

@@ -29,8 +29,10 @@ ghost use Rattle.dg_object.specs.Object.{row_of};
 ghost use Rattle.dg_volume.specs.Sizes.{images, most_room, old_form, new_form};
 ghost use Rattle.dg_volume.specs.Trails.{inject_trail, order_trail, migrate_trail};
 ghost use Rattle.dg_tool.specs.Endings.{FirstAs, FirstInForm, content_in};
-ghost use Rattle.dg_tool.specs.Verbs.{format_ending, inject_ending, order_ending, power_boot, boot_ending, ping_ending, dump_ending, migrate_ending};
-ghost use Rattle.dg_tool.specs.Done.{ToolDone, InputRead, IsFormatted, FormatStops, MigratedOn, WentOn, StopsOn, BootedOn};
+ghost use Rattle.dg_tool.specs.Verbs.{format_ending, inject_ending, order_ending, power_boot, boot_ending, ping_ending};
+ghost use Rattle.dg_tool.specs.Verbs.{dump_ending, migrate_ending};
+ghost use Rattle.dg_tool.specs.Done.{verb_rule, tool_outside, ToolDone, InputRead};
+ghost use Rattle.dg_tool.specs.Done.{IsFormatted, FormatStops, MigratedOn, WentOn, StopsOn, BootedOn};
 
 pub use crate::board::mount;
 use crate::dumping::dump_boards;
@@ -66,11 +68,13 @@ pub fn format<S: Source, K: Sink, N: Nor>(
     requires named { IsTrue (spells_name name.now) }
     requires few { used ≤ most_room }
     requires known_form { (form ≡ old_form) ⊎ (form ≡ new_form) }
-    ensures done { (bytes : List ℕ) × InputRead result (length boards.old.items) bytes (S.left input.old) (S.left input.new) (S.faults input.old) (S.faults input.new)
-        × ToolDone result (λ chip. Unit {0}) (format_ending (length boards.old.items) used bytes)
-        (λ chip. IsFormatted name.now (content_in bytes) used form) (λ chip. FormatStops name.now (content_in bytes) used)
-        (Rose (S.faults input.old) (S.faults input.new)) (K.written out.old) (K.written out.new) (K.faults out.old) (K.faults out.new)
-        (map N.device boards.old.items) (map N.device boards.new.items) }
+    ensures done { (bytes : List ℕ) × InputRead result (length boards.old.items) bytes (S.left input.old) (S.left input.new)
+        (S.faults input.old) (S.faults input.new)
+        × ToolDone result (verb_rule (λ chip. Unit {0}) (format_ending (length boards.old.items) used bytes)
+        (λ chip. IsFormatted name.now (content_in bytes) used form) (λ chip. FormatStops name.now (content_in bytes) used))
+        (Rose (S.faults input.old) (S.faults input.new))
+        (tool_outside (K.written out.old) (K.faults out.old) (map N.device boards.old.items))
+        (tool_outside (K.written out.new) (K.faults out.new) (map N.device boards.new.items)) }
     ensures reads { S.faults input.old ≤ S.faults input.new }
     ensures writes { K.faults out.old ≤ K.faults out.new }
 {
@@ -92,11 +96,16 @@ pub fn inject<S: Source, K: Sink, N: Nor>(
     requires image { image < images }
     requires version { 1 ≤ version }
     requires named { IsTrue (spells_name name.now) }
-    ensures done { (bytes : List ℕ) × InputRead result (length boards.old.items) bytes (S.left input.old) (S.left input.new) (S.faults input.old) (S.faults input.new)
-        × ToolDone result (FirstAs (map N.device boards.old.items)) (inject_ending (length boards.old.items) (row_of image version name.now) bytes)
-        (WentOn (λ s. inject_trail s (row_of image version name.now (content_in bytes)))) (StopsOn (λ s. inject_trail s (row_of image version name.now (content_in bytes))))
-        (Rose (S.faults input.old) (S.faults input.new)) (K.written out.old) (K.written out.new) (K.faults out.old) (K.faults out.new)
-        (map N.device boards.old.items) (map N.device boards.new.items) }
+    ensures done { (bytes : List ℕ) × InputRead result (length boards.old.items) bytes (S.left input.old) (S.left input.new)
+        (S.faults input.old) (S.faults input.new)
+        × ToolDone result
+        (verb_rule (FirstAs (map N.device boards.old.items))
+        (inject_ending (length boards.old.items) (row_of image version name.now) bytes)
+        (WentOn (λ s. inject_trail s (row_of image version name.now (content_in bytes))))
+        (StopsOn (λ s. inject_trail s (row_of image version name.now (content_in bytes)))))
+        (Rose (S.faults input.old) (S.faults input.new))
+        (tool_outside (K.written out.old) (K.faults out.old) (map N.device boards.old.items))
+        (tool_outside (K.written out.new) (K.faults out.new) (map N.device boards.new.items)) }
     ensures reads { S.faults input.old ≤ S.faults input.new }
     ensures writes { K.faults out.old ≤ K.faults out.new }
 {
@@ -114,10 +123,11 @@ pub fn order<K: Sink, N: Nor>(
     requires number { 1 ≤ order.now.number }
     requires image { order.now.image < images }
     requires version { 1 ≤ order.now.version }
-    ensures done { ToolDone result (FirstAs (map N.device boards.old.items)) (order_ending (length boards.old.items) order.now)
-        (WentOn (λ s. order_trail s order.now)) (StopsOn (λ s. order_trail s order.now))
-        ⊥ (K.written out.old) (K.written out.new) (K.faults out.old) (K.faults out.new)
-        (map N.device boards.old.items) (map N.device boards.new.items) }
+    ensures done { ToolDone result
+        (verb_rule (FirstAs (map N.device boards.old.items)) (order_ending (length boards.old.items) order.now)
+        (WentOn (λ s. order_trail s order.now)) (StopsOn (λ s. order_trail s order.now)))
+        ⊥ (tool_outside (K.written out.old) (K.faults out.old) (map N.device boards.old.items))
+        (tool_outside (K.written out.new) (K.faults out.new) (map N.device boards.new.items)) }
     ensures writes { K.faults out.old ≤ K.faults out.new }
 {
     let told = order_boards(alloc, order, boards);
@@ -126,10 +136,10 @@ pub fn order<K: Sink, N: Nor>(
 
 /// Starts the first board by power. Writes `start 0 I V LENGTH CRC`. The start counts as a short one.
 pub fn boot<K: Sink, N: Nor>(alloc: Global, out: &mut K, boards: &mut Vec<N>) -> Status
-    ensures done { ToolDone result (FirstAs (map N.device boards.old.items)) (boot_ending (length boards.old.items))
-        (BootedOn power_boot) (StopsOn (λ s. (power_boot s).trail))
-        ⊥ (K.written out.old) (K.written out.new) (K.faults out.old) (K.faults out.new)
-        (map N.device boards.old.items) (map N.device boards.new.items) }
+    ensures done { ToolDone result (verb_rule (FirstAs (map N.device boards.old.items)) (boot_ending (length boards.old.items))
+        (BootedOn power_boot) (StopsOn (λ s. (power_boot s).trail)))
+        ⊥ (tool_outside (K.written out.old) (K.faults out.old) (map N.device boards.old.items))
+        (tool_outside (K.written out.new) (K.faults out.new) (map N.device boards.new.items)) }
     ensures writes { K.faults out.old ≤ K.faults out.new }
 {
     let told = boot_boards(alloc, boards);
@@ -138,11 +148,12 @@ pub fn boot<K: Sink, N: Nor>(alloc: Global, out: &mut K, boards: &mut Vec<N>) ->
 
 /// Tells what the first board keeps, and changes no byte.
 pub fn ping<K: Sink, N: Nor>(alloc: Global, out: &mut K, boards: &mut Vec<N>) -> Status
-    ensures done { ToolDone result (FirstAs (map N.device boards.old.items)) (ping_ending (length boards.old.items))
-        (λ chip. Looked) (λ chip. ReadStopped)
-        ⊥ (K.written out.old) (K.written out.new) (K.faults out.old) (K.faults out.new)
-        (map N.device boards.old.items) (map N.device boards.new.items) }
-    ensures unchanged { map (λ board. (N.device board).image) boards.new.items ≡ map (λ board. (N.device board).image) boards.old.items }
+    ensures done { ToolDone result (verb_rule (FirstAs (map N.device boards.old.items)) (ping_ending (length boards.old.items))
+        (λ chip. Looked) (λ chip. ReadStopped))
+        ⊥ (tool_outside (K.written out.old) (K.faults out.old) (map N.device boards.old.items))
+        (tool_outside (K.written out.new) (K.faults out.new) (map N.device boards.new.items)) }
+    ensures unchanged { map (λ board. (N.device board).image) boards.new.items
+        ≡ map (λ board. (N.device board).image) boards.old.items }
     ensures writes { K.faults out.old ≤ K.faults out.new }
 {
     let told = ping_boards(alloc, boards);
@@ -152,11 +163,13 @@ pub fn ping<K: Sink, N: Nor>(alloc: Global, out: &mut K, boards: &mut Vec<N>) ->
 /// Writes the image that a slot of the first board keeps whole as a HEX file, and changes no byte.
 pub fn dump<K: Sink, N: Nor>(alloc: Global, image: u8, out: &mut K, boards: &mut Vec<N>) -> Status
     requires image { image < images }
-    ensures done { ToolDone result (FirstAs (map N.device boards.old.items)) (dump_ending (length boards.old.items) image)
-        (λ chip. Looked) (λ chip. ReadStopped)
-        ⊥ (K.written out.old) (K.written out.new) (K.faults out.old) (K.faults out.new)
-        (map N.device boards.old.items) (map N.device boards.new.items) }
-    ensures unchanged { map (λ board. (N.device board).image) boards.new.items ≡ map (λ board. (N.device board).image) boards.old.items }
+    ensures done { ToolDone result
+        (verb_rule (FirstAs (map N.device boards.old.items)) (dump_ending (length boards.old.items) image)
+        (λ chip. Looked) (λ chip. ReadStopped))
+        ⊥ (tool_outside (K.written out.old) (K.faults out.old) (map N.device boards.old.items))
+        (tool_outside (K.written out.new) (K.faults out.new) (map N.device boards.new.items)) }
+    ensures unchanged { map (λ board. (N.device board).image) boards.new.items
+        ≡ map (λ board. (N.device board).image) boards.old.items }
     ensures writes { K.faults out.old ≤ K.faults out.new }
 {
     let told = dump_boards(alloc, image, boards);
@@ -166,10 +179,10 @@ pub fn dump<K: Sink, N: Nor>(alloc: Global, image: u8, out: &mut K, boards: &mut
 /// Writes the first board's snapshot in form 2, where it is written in form 1. Writes `form 2`.
 pub fn migrate<K: Sink, N: Nor>(alloc: Global, out: &mut K, boards: &mut Vec<N>) -> Status
     ensures done { (form : ℕ) → FirstInForm form (map N.device boards.old.items)
-        → ToolDone result (FirstAs (map N.device boards.old.items)) (migrate_ending (length boards.old.items) form)
-        (MigratedOn form) (StopsOn (migrate_trail form))
-        ⊥ (K.written out.old) (K.written out.new) (K.faults out.old) (K.faults out.new)
-        (map N.device boards.old.items) (map N.device boards.new.items) }
+        → ToolDone result (verb_rule (FirstAs (map N.device boards.old.items)) (migrate_ending (length boards.old.items) form)
+        (MigratedOn form) (StopsOn (migrate_trail form)))
+        ⊥ (tool_outside (K.written out.old) (K.faults out.old) (map N.device boards.old.items))
+        (tool_outside (K.written out.new) (K.faults out.new) (map N.device boards.new.items)) }
     ensures writes { K.faults out.old ≤ K.faults out.new }
 {
     let told = migrate_boards(alloc, boards);

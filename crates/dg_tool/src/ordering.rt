@@ -8,7 +8,7 @@ ghost use Rattle.dg_volume.specs.Changes.{order_refusal};
 ghost use Rattle.dg_volume.specs.Trails.{order_trail};
 ghost use Rattle.dg_tool.specs.Endings.{StandsAs, FirstAs};
 ghost use Rattle.dg_tool.specs.Verbs.{order_cause, order_told, order_by, order_on, order_ending};
-ghost use Rattle.dg_tool.specs.Done.{Went, WentOn, StopsOn};
+ghost use Rattle.dg_tool.specs.Done.{verb_rule, Went, WentOn, StopsOn};
 ghost use Rattle.dg_tool.specs.Stops.{Makes, OnStore, OnBoard, OnBoards, told_status, told_text};
 ghost use Rattle.dg_tool.specs.declared.stop.Stop.TheVariants as stops;
 
@@ -53,7 +53,8 @@ fn order_mounted<N: Nor>(
     requires image { order.now.image < images }
     requires version { 1 ≤ order.now.version }
     ensures { (s : Store) → Mounted (N.device nor.old).image volume.old s
-        → OnStore (λ text. text.items) result (order_by order.now (order_refusal s order.now)) (Went (order_trail s order.now)) (Stops (order_trail s order.now)) (N.device nor.old) (N.device nor.new) }
+        → OnStore (λ text. text.items) result (order_by order.now (order_refusal s order.now))
+        (Went (order_trail s order.now)) (Stops (order_trail s order.now)) (N.device nor.old) (N.device nor.new) }
 {
     match volume.order(nor, order.number, order.image, order.version) {
         Ok(()) => order_line(alloc, order),
@@ -66,7 +67,9 @@ fn order_on<N: Nor>(alloc: Global, order: &Order, nor: &mut N) -> Result<Vec<u8>
     requires number { 1 ≤ order.now.number }
     requires image { order.now.image < images }
     requires version { 1 ≤ order.now.version }
-    ensures { OnBoard (told_status result) (StandsAs (N.device nor.old).image) (order_on order.now) (WentOn (λ s. order_trail s order.now)) (StopsOn (λ s. order_trail s order.now))
+    ensures { OnBoard (told_status result)
+        (verb_rule (StandsAs (N.device nor.old).image) (order_on order.now)
+        (WentOn (λ s. order_trail s order.now)) (StopsOn (λ s. order_trail s order.now)))
         (told_text (λ text. text.items) result) (N.device nor.old) (N.device nor.new) }
 {
     match mount(nor) {
@@ -80,7 +83,9 @@ fn order_first<N: Nor>(alloc: Global, order: &Order, boards: &mut [N]) -> Result
     requires number { 1 ≤ order.now.number }
     requires image { order.now.image < images }
     requires version { 1 ≤ order.now.version }
-    ensures done { OnBoards (told_status result) (FirstAs (map N.device boards.old)) (order_ending (length boards.old) order.now) (WentOn (λ s. order_trail s order.now)) (StopsOn (λ s. order_trail s order.now))
+    ensures done { OnBoards (told_status result)
+        (verb_rule (FirstAs (map N.device boards.old)) (order_ending (length boards.old) order.now)
+        (WentOn (λ s. order_trail s order.now)) (StopsOn (λ s. order_trail s order.now)))
         (told_text (λ text. text.items) result) (map N.device boards.old) (map N.device boards.new) }
     ensures unread { told_status result ≢ Status.ReadFault }
 {
@@ -99,7 +104,9 @@ pub(crate) fn order_boards<N: Nor>(
     requires number { 1 ≤ order.now.number }
     requires image { order.now.image < images }
     requires version { 1 ≤ order.now.version }
-    ensures done { OnBoards (told_status result) (FirstAs (map N.device boards.old.items)) (order_ending (length boards.old.items) order.now) (WentOn (λ s. order_trail s order.now)) (StopsOn (λ s. order_trail s order.now))
+    ensures done { OnBoards (told_status result)
+        (verb_rule (FirstAs (map N.device boards.old.items)) (order_ending (length boards.old.items) order.now)
+        (WentOn (λ s. order_trail s order.now)) (StopsOn (λ s. order_trail s order.now)))
         (told_text (λ text. text.items) result) (map N.device boards.old.items) (map N.device boards.new.items) }
     ensures unread { told_status result ≢ Status.ReadFault }
 {

@@ -1,6 +1,6 @@
 //! The pages of images that a board keeps.
 ghost use Rattle.std.specs.Prelude.{◌≡◌, ◌≤◌, ◌<◌, ◌+◌, ◌-◌, ◌*◌, ◌++◌, IfOk, OnOk, length, drop};
-ghost use Rattle.dg_words.specs.Lists.{joined};
+ghost use Rattle.dg_words.specs.Lists.{concatenated};
 ghost use Rattle.dg_object.specs.Object.{pages_for};
 ghost use Rattle.dg_slot.specs.Layout.{slots, packets, page_size, most_pages, most_bytes, page_sector};
 ghost use Rattle.dg_slot.specs.Kept.{Held, KeepsImage};
@@ -43,7 +43,8 @@ fn push_packet<N: Nor>(
     requires known_image { image < slots }
     requires known_page { page < most_pages }
     requires known_packet { packet < packets }
-    ensures packet { OnOk result (bytes.new.items ≡ bytes.old.items ++ packet_in (N.device nor.old).image (page_sector image page) packet) }
+    ensures packet { OnOk result (bytes.new.items ≡ bytes.old.items
+        ++ packet_in (N.device nor.old).image (page_sector image page) packet) }
     ensures ends { ReadsOn result (N.device nor.old) (N.device nor.new) }
 {
     let mut read = [0; PACKET_SIZE];
@@ -76,7 +77,8 @@ fn read_data<N: Nor>(alloc: Global, nor: &mut N, image: u8, pages: u8) -> Result
     requires known_image { image < slots }
     requires some { 1 ≤ pages }
     requires known_pages { pages ≤ most_pages }
-    ensures bytes { IfOk result (λ bytes. (h : Held) → KeepsImage (N.device nor.old).image image h → length h.complete ≡ pages → bytes.items ≡ joined (drop 1 h.complete)) }
+    ensures bytes { IfOk result (λ bytes. (h : Held) → KeepsImage (N.device nor.old).image image h
+        → length h.complete ≡ pages → bytes.items ≡ concatenated (drop 1 h.complete)) }
     ensures count { IfOk result (λ bytes. length bytes.items ≡ page_size * (pages - 1)) }
     ensures ends { ReadsOn result (N.device nor.old) (N.device nor.new) }
 {
@@ -96,7 +98,8 @@ pub(crate) fn read_bytes<N: Nor>(
 ) -> Result<Vec<u8>, Stop>
     requires known_image { image < slots }
     requires whole { (h : Held) × KeepsImage (N.device nor.old).image image h × (length h.complete ≡ pages) × (h.pages ≡ pages) }
-    ensures bytes { IfOk result (λ bytes. (h : Held) → KeepsImage (N.device nor.old).image image h → length h.complete ≡ pages → h.pages ≡ pages → bytes.items ≡ kept_bytes h) }
+    ensures bytes { IfOk result (λ bytes. (h : Held) → KeepsImage (N.device nor.old).image image h
+        → length h.complete ≡ pages → h.pages ≡ pages → bytes.items ≡ kept_bytes h) }
     ensures some { IfOk result (λ bytes. 1 ≤ length bytes.items) }
     ensures fits { IfOk result (λ bytes. length bytes.items ≤ most_bytes) }
     ensures ends { ReadsOn result (N.device nor.old) (N.device nor.new) }

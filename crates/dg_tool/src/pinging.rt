@@ -1,5 +1,6 @@
 //! The verb `ping`.
-ghost use Rattle.std.specs.Prelude.{◌≡◌, ◌≢◌, ◌≤◌, ◌<◌, ◌+◌, ◌-◌, ◌++◌, ◌∷◌, [], ℕ, List, Option, Some, OnOk, IfOk, codes, map, length};
+ghost use Rattle.std.specs.Prelude.{◌≡◌, ◌≢◌, ◌≤◌, ◌<◌, ◌+◌, ◌-◌, ◌++◌, ◌∷◌, [], ℕ, List, Option, Some, OnOk, IfOk, codes, map};
+ghost use Rattle.std.specs.Prelude.{length};
 ghost use Rattle.std.specs.List.{flat_map, range_with_len};
 ghost use Rattle.dg_nor.specs.Reads.{Looked, ReadStopped};
 ghost use Rattle.dg_slot.specs.Kept.{Held, KeepsImage};
@@ -9,7 +10,9 @@ ghost use Rattle.dg_volume.specs.Stands.{Mounted, IsMounted, Tells};
 ghost use Rattle.dg_volume.specs.Told.{told_held, program_told};
 ghost use Rattle.dg_tool.specs.Texts.{numbers, line};
 ghost use Rattle.dg_tool.specs.Endings.{StandsAs, FirstAs, Ends};
-ghost use Rattle.dg_tool.specs.Verbs.{program_line, order_line, waived_word, commits_told, kept_line, kept_told, ping_told, ping_on, ping_ending};
+ghost use Rattle.dg_tool.specs.Verbs.{program_line, order_line, waived_word, commits_told, kept_line, kept_lines, ping_told};
+ghost use Rattle.dg_tool.specs.Verbs.{ping_on, ping_ending};
+ghost use Rattle.dg_tool.specs.Done.{verb_rule};
 ghost use Rattle.dg_tool.specs.Stops.{ReadsOn, OnStore, OnBoard, OnBoards, told_status, told_text};
 
 use crate::board::mount;
@@ -25,7 +28,8 @@ use std::alloc::{AllocError, Global};
 
 /// Appends the line of golden.
 fn push_golden(text: &mut Vec<u8>, golden: &Descriptor) -> Result<(), AllocError>
-    ensures { OnOk result (text.new.items ≡ text.old.items ++ line (codes "golden " ++ golden.now.name ++ numbers (golden.now.length ∷ []))) }
+    ensures { OnOk result (text.new.items ≡ text.old.items
+        ++ line (codes "golden " ++ golden.now.name ++ numbers (golden.now.length ∷ []))) }
 {
     text.extend_from_slice(b"golden ")?;
     text.extend_from_slice(golden.name.as_slice())?;
@@ -36,7 +40,8 @@ fn push_golden(text: &mut Vec<u8>, golden: &Descriptor) -> Result<(), AllocError
 
 /// Appends the line of program memory.
 fn push_program(text: &mut Vec<u8>, program: Program) -> Result<(), AllocError>
-    ensures { OnOk result ((app : Option App) → program ≡ program_told app → text.new.items ≡ text.old.items ++ program_line app) }
+    ensures { OnOk result ((app : Option App) → program ≡ program_told app
+        → text.new.items ≡ text.old.items ++ program_line app) }
 {
     match program {
         Program::Blank => push_line(text, b"program blank", &[]),
@@ -87,7 +92,8 @@ fn push_commits(text: &mut Vec<u8>, volume: &Volume) -> Result<(), AllocError>
 
 /// Appends the line of an image with this name.
 fn push_named(text: &mut Vec<u8>, image: u8, kept: &Kept, name: &[u8]) -> Result<(), AllocError>
-    ensures { OnOk result (text.new.items ≡ text.old.items ++ line (codes "kept" ++ numbers (image ∷ kept.now.version ∷ kept.now.done ∷ kept.now.pages ∷ []) ++ 32 ∷ name.now)) }
+    ensures { OnOk result (text.new.items ≡ text.old.items
+        ++ line (codes "kept" ++ numbers (image ∷ kept.now.version ∷ kept.now.done ∷ kept.now.pages ∷ []) ++ 32 ∷ name.now)) }
 {
     push_words(
         text,
@@ -109,7 +115,8 @@ fn push_named(text: &mut Vec<u8>, image: u8, kept: &Kept, name: &[u8]) -> Result
 fn push_kept<N: Nor>(text: &mut Vec<u8>, image: u8, kept: &Kept, nor: &mut N) -> Result<(), Stop>
     requires known_image { image < images }
     requires keeps { (h : Held) × KeepsImage (N.device nor.old).image image h × (kept.now ≡ told_held h) }
-    ensures told { OnOk result ((h : Held) → KeepsImage (N.device nor.old).image image h → kept.now ≡ told_held h → text.new.items ≡ text.old.items ++ kept_line image (Some h)) }
+    ensures told { OnOk result ((h : Held) → KeepsImage (N.device nor.old).image image h → kept.now ≡ told_held h
+        → text.new.items ≡ text.old.items ++ kept_line image (Some h)) }
     ensures ends { ReadsOn result (N.device nor.old) (N.device nor.new) }
 {
     if kept.done == 0 {
@@ -128,7 +135,8 @@ fn push_image<N: Nor>(
 ) -> Result<(), Stop>
     requires known_image { image < images }
     requires mounted { IsMounted (N.device nor.old).image volume.now }
-    ensures told { OnOk result ((s : Store) → Mounted (N.device nor.old).image volume.now s → text.new.items ≡ text.old.items ++ kept_line image (held s image)) }
+    ensures told { OnOk result ((s : Store) → Mounted (N.device nor.old).image volume.now s
+        → text.new.items ≡ text.old.items ++ kept_line image (held s image)) }
     ensures ends { ReadsOn result (N.device nor.old) (N.device nor.new) }
 {
     match volume.kept(image) {
@@ -140,7 +148,8 @@ fn push_image<N: Nor>(
 /// Appends the lines of the images behind golden.
 fn push_images<N: Nor>(text: &mut Vec<u8>, nor: &mut N, volume: &Volume) -> Result<(), Stop>
     requires mounted { IsMounted (N.device nor.old).image volume.now }
-    ensures told { OnOk result ((s : Store) → Mounted (N.device nor.old).image volume.now s → text.new.items ≡ text.old.items ++ kept_told s) }
+    ensures told { OnOk result ((s : Store) → Mounted (N.device nor.old).image volume.now s
+        → text.new.items ≡ text.old.items ++ kept_lines s) }
     ensures ends { ReadsOn result (N.device nor.old) (N.device nor.new) }
 {
     for image in 1..IMAGES as u8 {
@@ -165,7 +174,8 @@ fn ping_mounted<N: Nor>(alloc: Global, nor: &mut N, volume: &Volume) -> Result<V
 
 /// Tells what a board keeps.
 fn ping_on<N: Nor>(alloc: Global, nor: &mut N) -> Result<Vec<u8>, Stop>
-    ensures done { OnBoard (told_status result) (StandsAs (N.device nor.old).image) ping_on (λ chip. Looked) (λ chip. ReadStopped)
+    ensures done { OnBoard (told_status result)
+        (verb_rule (StandsAs (N.device nor.old).image) ping_on (λ chip. Looked) (λ chip. ReadStopped))
         (told_text (λ text. text.items) result) (N.device nor.old) (N.device nor.new) }
     ensures unchanged { (N.device nor.new).image ≡ (N.device nor.old).image }
 {
@@ -177,7 +187,8 @@ fn ping_on<N: Nor>(alloc: Global, nor: &mut N) -> Result<Vec<u8>, Stop>
 
 /// Tells what the first of the boards keeps.
 fn ping_first<N: Nor>(alloc: Global, boards: &mut [N]) -> Result<Vec<u8>, Stop>
-    ensures done { OnBoards (told_status result) (FirstAs (map N.device boards.old)) (ping_ending (length boards.old)) (λ chip. Looked) (λ chip. ReadStopped)
+    ensures done { OnBoards (told_status result)
+        (verb_rule (FirstAs (map N.device boards.old)) (ping_ending (length boards.old)) (λ chip. Looked) (λ chip. ReadStopped))
         (told_text (λ text. text.items) result) (map N.device boards.old) (map N.device boards.new) }
     ensures unchanged { map (λ board. (N.device board).image) boards.new ≡ map (λ board. (N.device board).image) boards.old }
     ensures unread { told_status result ≢ Status.ReadFault }
@@ -190,9 +201,12 @@ fn ping_first<N: Nor>(alloc: Global, boards: &mut [N]) -> Result<Vec<u8>, Stop>
 
 /// Tells what the first board keeps.
 pub(crate) fn ping_boards<N: Nor>(alloc: Global, boards: &mut Vec<N>) -> Result<Vec<u8>, Stop>
-    ensures done { OnBoards (told_status result) (FirstAs (map N.device boards.old.items)) (ping_ending (length boards.old.items)) (λ chip. Looked) (λ chip. ReadStopped)
+    ensures done { OnBoards (told_status result)
+        (verb_rule (FirstAs (map N.device boards.old.items)) (ping_ending (length boards.old.items))
+        (λ chip. Looked) (λ chip. ReadStopped))
         (told_text (λ text. text.items) result) (map N.device boards.old.items) (map N.device boards.new.items) }
-    ensures unchanged { map (λ board. (N.device board).image) boards.new.items ≡ map (λ board. (N.device board).image) boards.old.items }
+    ensures unchanged { map (λ board. (N.device board).image) boards.new.items
+        ≡ map (λ board. (N.device board).image) boards.old.items }
     ensures unread { told_status result ≢ Status.ReadFault }
 {
     ping_first(alloc, boards.as_mut_slice())

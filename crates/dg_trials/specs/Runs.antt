@@ -7,5 +7,5 @@ use Rattle.dg_mote.specs.Motes.{IsMote}
 use Rattle.dg_mote.specs.declared.mote.Mote.{Mote}
 
 -- it stands for a state over the bytes of the chip, and none of its moments is later than now
-abbrev pub Runs : List ℕ → Mote → ℕ → Type 0
-Runs c v now = (m : MoteState) × (s : Store) × IsMote c v m s × Timely m now
+abbrev pub MoteRuns : List ℕ → Mote → ℕ → Type 0
+MoteRuns c v now = (m : MoteState) × (s : Store) × IsMote c v m s × Timely m now

@@ -2,7 +2,7 @@
 //! keeps it silent, a page is complete with its gate, and a program that is interrupted leaves finished OR (old AND mask).
 ghost use Rattle.std.specs.Prelude.{◌≤◌, IfOk};
 ghost use Rattle.dg_nor.specs.Board.{board_image};
-ghost use Rattle.dg_trials.specs.Runs.{Runs};
+ghost use Rattle.dg_trials.specs.Runs.{MoteRuns};
 
 use crate::boards::{IMAGE, VERSION, formatted, inject, mounted};
 use dg_bits::PageBits;
@@ -36,7 +36,7 @@ struct Node {
 impl Node {
     /// A wide mote that was started at moment 0, on a board that keeps golden alone.
     fn started(rt: &HostRuntime, id: u16) -> Result<Node, Fail>
-        ensures { IfOk result (λ node. Runs (board_image node.board) node.mote node.now) }
+        ensures { IfOk result (λ node. MoteRuns (board_image node.board) node.mote node.now) }
     {
         let mut board = formatted(rt, 0)?;
         if start(&mut board, Kind::Power).is_err() {
@@ -54,8 +54,8 @@ impl Node {
 
     /// Waits until a moment.
     fn wait(&mut self, until: u64) -> Result<(), Fail>
-        requires runs { Runs (board_image self.old.board) self.old.mote self.old.now }
-        ensures runs { IfOk result (λ done. Runs (board_image self.new.board) self.new.mote self.new.now) }
+        requires runs { MoteRuns (board_image self.old.board) self.old.mote self.old.now }
+        ensures runs { IfOk result (λ done. MoteRuns (board_image self.new.board) self.new.mote self.new.now) }
         ensures moment { IfOk result (λ done. self.new.now ≤ LAST_MOMENT) }
     {
         if until < self.now || until > LAST_MOMENT {
@@ -68,8 +68,8 @@ impl Node {
 
     /// Ticks at a moment. It gives the answer and the frame that is sent.
     fn tick(&mut self, now: u64) -> Result<(Did, Option<Frame>), Fail>
-        requires { Runs (board_image self.old.board) self.old.mote self.old.now }
-        ensures { IfOk result (λ told. Runs (board_image self.new.board) self.new.mote self.new.now) }
+        requires { MoteRuns (board_image self.old.board) self.old.mote self.old.now }
+        ensures { IfOk result (λ told. MoteRuns (board_image self.new.board) self.new.mote self.new.now) }
     {
         self.wait(now)?;
         a_mote_stays_timely();
@@ -80,8 +80,8 @@ impl Node {
 
     /// Hears a frame at a moment.
     fn hear(&mut self, now: u64, frame: &Frame) -> Result<Heard, Fail>
-        requires { Runs (board_image self.old.board) self.old.mote self.old.now }
-        ensures { IfOk result (λ heard. Runs (board_image self.new.board) self.new.mote self.new.now) }
+        requires { MoteRuns (board_image self.old.board) self.old.mote self.old.now }
+        ensures { IfOk result (λ heard. MoteRuns (board_image self.new.board) self.new.mote self.new.now) }
     {
         self.wait(now)?;
         a_mote_stays_timely();
@@ -93,8 +93,8 @@ impl Node {
 
     /// Injects the image, and goes on with the volume then.
     fn inject(&mut self) -> Result<(), Fail>
-        requires { Runs (board_image self.old.board) self.old.mote self.old.now }
-        ensures { IfOk result (λ done. Runs (board_image self.new.board) self.new.mote self.new.now) }
+        requires { MoteRuns (board_image self.old.board) self.old.mote self.old.now }
+        ensures { IfOk result (λ done. MoteRuns (board_image self.new.board) self.new.mote self.new.now) }
     {
         self.wait(self.now)?;
         inject(&mut self.board)?;
@@ -106,7 +106,7 @@ impl Node {
 
     /// Hears a frame at the same moment. The power is cut behind so many operations.
     fn hear_cut(&mut self, frame: &Frame, operations: u8, mask: u8) -> Result<Heard, Stopped>
-        requires runs { Runs (board_image self.old.board) self.old.mote self.old.now }
+        requires runs { MoteRuns (board_image self.old.board) self.old.mote self.old.now }
         requires moment { self.old.now ≤ LAST_MOMENT }
     {
         let mask = [mask];
@@ -198,8 +198,8 @@ fn single_events_with_suppression_and_a_served_request(rt: HostRuntime) -> Resul
 
 /// A mote that is about to serve page 0, and one that asked it for all packets.
 fn served(rt: &HostRuntime) -> Result<(Node, Node), Fail>
-    ensures server { IfOk result (λ nodes. Runs (board_image nodes.0.board) nodes.0.mote nodes.0.now) }
-    ensures hearer { IfOk result (λ nodes. Runs (board_image nodes.1.board) nodes.1.mote nodes.1.now) }
+    ensures server { IfOk result (λ nodes. MoteRuns (board_image nodes.0.board) nodes.0.mote nodes.0.now) }
+    ensures hearer { IfOk result (λ nodes. MoteRuns (board_image nodes.1.board) nodes.1.mote nodes.1.now) }
 {
     let mut server = Node::started(rt, 0)?;
     let mut node = Node::started(rt, 1)?;
@@ -218,7 +218,7 @@ fn moment(packet: u8) -> u64 {
 
 /// A mote that took all packets of page 0 but the last one, and the frame of that one.
 fn about_to_seal(rt: &HostRuntime) -> Result<(Node, Frame), Fail>
-    ensures runs { IfOk result (λ told. Runs (board_image told.0.board) told.0.mote told.0.now) }
+    ensures runs { IfOk result (λ told. MoteRuns (board_image told.0.board) told.0.mote told.0.now) }
     ensures moment { IfOk result (λ told. told.0.now ≤ LAST_MOMENT) }
 {
     let (mut server, mut node) = served(rt)?;

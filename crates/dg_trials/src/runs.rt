@@ -14,17 +14,22 @@ const ONE_START_REPORT: &[u8] = b"start 0 0 1 1 58e5\nend 1\nmote 0 on 0 1\n";
 
 /// The power is cut while an ordered image is copied to program memory, and the mote is started again.
 const CUT_IN_COPY: &[u8] =
-    b"motes 1\ngolden base 0 hex:41\nimage 1 1 blink hex:313233343536373839\nreset 0 0 0\ninject 0 1 1 0 0\ntick 0 5000 0\norder 0 1 1 1 0 0\ncut 10 00\nreset 0 0 0\nreset 0 0 0\n";
+    b"motes 1\ngolden base 0 hex:41\nimage 1 1 blink hex:313233343536373839\nreset 0 0 0\ninject 0 1 1 0 0\n\
+      tick 0 5000 0\norder 0 1 1 1 0 0\ncut 10 00\nreset 0 0 0\nreset 0 0 0\n";
 
 const CUT_IN_COPY_REPORT: &[u8] =
     b"start 0 0 1 1 58e5\nhave 0 1 1 2\norder 0 1 1 1\noff 0\nstart 0 1 1 9 31c3\nend 6\nmote 0 on 1 1\nkept 0 1 1 2\n";
 
 /// Two motes advert, one asks, and the other serves.
 const BY_RADIO: &[u8] =
-    b"motes 2\ngolden base 0 hex:41\nlink 0 1\nimage 1 1 blink hex:313233343536373839\nreset 0 0 0\nreset 1 0 0\ntick 0 250 0\nlast 0 1 0 0\ntick 1 0 0\ninject 0 1 1 0 0\ntick 0 250 0\nlast 0 1 0 0\ntick 1 1 0\nlast 1 0 0 0\ntick 0 0 0\ntick 0 15 0\ntick 0 1 0\n";
+    b"motes 2\ngolden base 0 hex:41\nlink 0 1\nimage 1 1 blink hex:313233343536373839\nreset 0 0 0\nreset 1 0 0\n\
+      tick 0 250 0\nlast 0 1 0 0\ntick 1 0 0\ninject 0 1 1 0 0\ntick 0 250 0\nlast 0 1 0 0\ntick 1 1 0\nlast 1 0 0 0\n\
+      tick 0 0 0\ntick 0 15 0\ntick 0 1 0\n";
 
 const BY_RADIO_REPORT: &[u8] =
-    b"start 0 0 1 1 58e5\nstart 1 0 1 1 58e5\nsent 0 advert\nhave 0 1 1 2\nsent 0 advert\nhave 1 1 1 0\nsent 1 request 0 1 1 0 48\nsent 0 data 1 1 0 0\nsent 0 data 1 1 0 1\nend 13\nmote 0 on 0 1\nkept 0 1 1 2\nmote 1 on 0 1\nkept 1 1 1 0\n";
+    b"start 0 0 1 1 58e5\nstart 1 0 1 1 58e5\nsent 0 advert\nhave 0 1 1 2\nsent 0 advert\nhave 1 1 1 0\n\
+      sent 1 request 0 1 1 0 48\nsent 0 data 1 1 0 0\nsent 0 data 1 1 0 1\nend 13\nmote 0 on 0 1\nkept 0 1 1 2\n\
+      mote 1 on 0 1\nkept 1 1 1 0\n";
 
 /// Frames that are not heard: there is no link, no such frame, and a mote is off.
 const NOT_HEARD: &[u8] =

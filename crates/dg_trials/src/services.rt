@@ -65,57 +65,89 @@ fn chips(rt: &HostRuntime, first: &str, second: &str) -> Result<Vec<Board>, Fail
     Ok(boards)
 }
 
+/// The paths of two chips and of their copies.
+#[derive(Drop)]
+struct Paths {
+    chips: [String; 2],
+    copies: [String; 2],
+}
+
+fn paths_in(alloc: Global, folder: &str) -> Result<Paths, Fail> {
+    Ok(Paths {
+        chips: [
+            format!(in alloc; "{folder}/a")?,
+            format!(in alloc; "{folder}/b")?,
+        ],
+        copies: [
+            format!(in alloc; "{folder}/copy-a")?,
+            format!(in alloc; "{folder}/copy-b")?,
+        ],
+    })
+}
+
+/// Both chips hold golden, and the first one an image that is injected.
+fn prepare<L: Link>(rt: &HostRuntime, paths: &Paths, link: &mut L) -> Result<(), Fail> {
+    let alloc = rt.alloc();
+    let [a, b] = &paths.chips;
+    let format = ["format", "--name", "base", "--used", "0", "-"];
+    let inject = [
+        "inject", "--image", "1", "--ver", "1", "--name", "blink", "-",
+    ];
+    for (first, second, words, input) in [
+        (b, a, format.as_slice(), GOLDEN),
+        (a, b, format.as_slice(), GOLDEN),
+        (a, b, inject.as_slice(), BLINK),
+    ] {
+        let mut boards = chips(rt, first.as_str(), second.as_str())?;
+        let done = run_over(alloc, words, input, &mut boards, link)?;
+        if done.status != Status::Done {
+            return Err("a chip is not prepared".into());
+        }
+    }
+    Ok(())
+}
+
+/// Runs a command over the chips of two files.
+fn run_on_files<L: Link>(
+    rt: &HostRuntime,
+    words: &[&str],
+    input: &[u8],
+    files: &[String; 2],
+    link: &mut L,
+) -> Result<Told, Fail> {
+    let [first, second] = files;
+    let mut boards = chips(rt, first.as_str(), second.as_str())?;
+    run_over(rt.alloc(), words, input, &mut boards, link)
+}
+
 #[test]
 fn a_trace_leaves_the_same_bytes(rt: HostRuntime) -> Result<(), Fail> {
     let alloc = rt.alloc();
     let folder = new_folder(&rt)?;
-    let names = ["a", "b", "copy-a", "copy-b"];
-    let mut files = Vec::new(alloc);
-    for name in names {
-        files.push(format!(in alloc; "{folder}/{name}")?)?;
-    }
-    let [a, b, copy_a, copy_b] = files.as_slice() else {
-        return Err("there are four files".into());
-    };
+    let paths = paths_in(alloc, folder.as_str())?;
     let port = free_port(&rt, alloc, process::id(rt.process()));
     let profile = two_motes(alloc, port)?;
     let mut link = UdpLink::new(&rt, alloc);
-    for file in [b, a] {
-        let mut boards = chips(&rt, file.as_str(), copy_a.as_str())?;
-        let words = ["format", "--name", "base", "--used", "0", "-"];
-        let done = run_over(alloc, words.as_slice(), GOLDEN, &mut boards, &mut link)?;
-        assert_eq!(rt; done.status, Status::Done);
+    prepare(&rt, &paths, &mut link)?;
+    for i in 0..2 {
+        fs::write(
+            &rt,
+            paths.copies[i].as_str(),
+            &fs::read(&rt, paths.chips[i].as_str())?,
+        )?;
     }
-    let mut boards = chips(&rt, a.as_str(), b.as_str())?;
-    let words = [
-        "inject", "--image", "1", "--ver", "1", "--name", "blink", "-",
-    ];
-    let done = run_over(alloc, words.as_slice(), BLINK, &mut boards, &mut link)?;
-    assert_eq!(rt; done.status, Status::Done);
-    fs::write(&rt, copy_a.as_str(), &fs::read(&rt, a.as_str())?)?;
-    fs::write(&rt, copy_b.as_str(), &fs::read(&rt, b.as_str())?)?;
-    let words = ["serve", "--turns", "50", "--seed", "7"];
-    let trace = run_over(
-        alloc,
-        words.as_slice(),
-        profile.as_bytes(),
-        &mut boards,
-        &mut link,
-    )?;
+    let serve = ["serve", "--turns", "50", "--seed", "7"];
+    let profile = profile.as_bytes();
+    let trace = run_on_files(&rt, serve.as_slice(), profile, &paths.chips, &mut link)?;
     assert_eq!(rt; trace.status, Status::Done);
-    drop(boards);
-    let mut copies = chips(&rt, copy_a.as_str(), copy_b.as_str())?;
-    let report = run_over(
-        alloc,
-        ["replay"].as_slice(),
-        trace.written.as_slice(),
-        &mut copies,
-        &mut link,
-    )?;
+    let replay = ["replay"];
+    let trace = trace.written.as_slice();
+    let report = run_on_files(&rt, replay.as_slice(), trace, &paths.copies, &mut link)?;
     assert_eq!(rt; report.status, Status::Done);
-    drop(copies);
-    assert!(rt; fs::read(&rt, a.as_str())? == fs::read(&rt, copy_a.as_str())?);
-    assert!(rt; fs::read(&rt, b.as_str())? == fs::read(&rt, copy_b.as_str())?);
+    for i in 0..2 {
+        let served = fs::read(&rt, paths.chips[i].as_str())?;
+        assert!(rt; served == fs::read(&rt, paths.copies[i].as_str())?);
+    }
     fs::remove_dir_all(&rt, folder.as_str())?;
     Ok(())
 }

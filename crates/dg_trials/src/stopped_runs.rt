@@ -17,7 +17,8 @@ use std::test::Fail;
 
 /// An image is injected into a board with golden alone, is ordered and started.
 const SCRIPT: &[u8] =
-    b"motes 1\nboards\nimage 1 1 blink hex:313233343536373839\nreset 0 0 0\ninject 0 1 1 0 0\ntick 0 5000 0\norder 0 1 1 1 0 0\nreset 0 0 0\n";
+    b"motes 1\nboards\nimage 1 1 blink hex:313233343536373839\nreset 0 0 0\ninject 0 1 1 0 0\ntick 0 5000 0\n\
+      order 0 1 1 1 0 0\nreset 0 0 0\n";
 
 /// What each of its events reports, and then its end.
 const REPORTS: [&str; 6] = [

@@ -1,5 +1,5 @@
-//! Acts of a volume that are stopped at each of their operations: an order, a migration, and an injection that is made again. What is
-//! expected is worked out by hand: a program that is interrupted leaves finished OR (old AND mask).
+//! Acts of a volume that are stopped at each of their operations: an order, a migration, and an injection that is made again.
+//! What is expected is worked out by hand: a program that is interrupted leaves finished OR (old AND mask).
 ghost use Rattle.std.specs.Prelude.{◌≤◌};
 
 use crate::boards::{CONTENT, IMAGE, MASKS, NAME, VERSION, formatted, formatted_in, mounted};

@@ -5,7 +5,7 @@ use Rattle.dg_slot.specs.Jobs.{outline_told}
 use Rattle.dg_volume.specs.Store.{Store}
 use Rattle.dg_volume.specs.Stands.{is_lent}
 use Rattle.dg_volume.proofs.StoreLemmas.{one_store}
-use Rattle.dg_chain.specs.Answers.{slot_in}
+use Rattle.dg_chain.specs.Answers.{chained_slot}
 use Rattle.dg_chain.specs.Receiving.{Receives}
 use Rattle.dg_chain.specs.declared.sealing.ChainSealing.{ChainSealing}
 use Rattle.dg_chain_tool.specs.Filling.{fits_root, next_trail}
@@ -36,7 +36,7 @@ returns-in-Ok-Sealed-clause-ends g c = λ s mounted.
     let lends = c.in-Some.ensures.lends in
     let opened = lends.1 _ x.0 h x.1 x.2.next.held_here in
     let r = subst (λ (y : ChainSealing). Receives c.args.expected.now (outline_told c.in-Some.slot).image h page a b y) here.field-0-is (here.ensures.received h opened) in
-    let same = ap (λ (y : ChainSealing). (outline_told (slot_in y)).image) (sym here.field-0-is) ∙ ap (λ (p : Outline). p.image) here.ensures.same ∙ lends.0 in
+    let same = ap (λ (y : ChainSealing). (outline_told (chained_slot y)).image) (sym here.field-0-is) ∙ ap (λ (p : Outline). p.image) here.ensures.same ∙ lends.0 in
     let done = sealed_next a b c.args.volume.now c.slot.new.self c.put_back.new.self x.0 i h c.args.expected.now page c.in-Some.slot c.requires.not_golden c.requires.known_image x.2.next.held_here lends.0 c.receive_page.ensures.touches x.1 (c.slot.ensures.mounted a.image x.0 x.1) opened
     here.slot here._next same r (λ t k but there opens. c.put_back.ensures.mounted b.image t k but there opens) in
     subst (λ (t : Store). (fits_root c.args.expected.now page ≡ true) × Acted (stepping t page_operations (paged i page t)) a b c.put_back.new.self) (sym (one_store a.image s x.0 mounted.stands x.1.stands)) done
@@ -44,7 +44,7 @@ returns-in-Ok-Sealed-clause-ends g c = λ s mounted.
 pub returns-in-Ok-Sealed-clause-lent : goal.returns-in-Ok-Sealed-clause-lent
 returns-in-Ok-Sealed-clause-lent g c = λ i.
     let here = c.in-Ok-Sealed in
-    let image = ap (λ (y : ChainSealing). (outline_told (slot_in y)).image) (sym here.field-0-is) ∙ ap (λ (p : Outline). p.image) here.ensures.same ∙ c.in-Some.ensures.lends.0 in
+    let image = ap (λ (y : ChainSealing). (outline_told (chained_slot y)).image) (sym here.field-0-is) ∙ ap (λ (p : Outline). p.image) here.ensures.same ∙ c.in-Some.ensures.lends.0 in
     ⊎_elim
     (λ e. ap (is_lent c.put_back.new.self) (e ∙ sym image) ∙ c.put_back.ensures.back ∙ sym c.requires.not_lent ∙ ap (is_lent c.args.volume.now) (sym e))
     (λ other. c.put_back.ensures.others i (λ e. other (e ∙ image)) ∙ c.slot.ensures.others i other)
@@ -62,7 +62,7 @@ returns-in-Ok-Foreign-clause-ends g c = λ s mounted.
     let lends = c.in-Some.ensures.lends in
     let opened = lends.1 _ x.0 h x.1 x.2.next.held_here in
     let r = subst (λ (y : ChainSealing). Receives c.args.expected.now (outline_told c.in-Some.slot).image h page a b y) here.field-0-is (here.ensures.received h opened) in
-    let same = ap (λ (y : ChainSealing). (outline_told (slot_in y)).image) (sym here.field-0-is) ∙ ap (λ (p : Outline). p.image) here.ensures.same ∙ lends.0 in
+    let same = ap (λ (y : ChainSealing). (outline_told (chained_slot y)).image) (sym here.field-0-is) ∙ ap (λ (p : Outline). p.image) here.ensures.same ∙ lends.0 in
     let back = c.put_back-in-Ok-Foreign in
     let done = foreign_next a b c.args.volume.now c.slot.new.self back.new.self x.0 i h c.args.expected.now page c.in-Some.slot c.requires.not_golden c.requires.known_image x.2.next.held_here lends.0 c.receive_page.ensures.touches x.1 (c.slot.ensures.mounted a.image x.0 x.1) opened
     here.slot here._found same r (λ t k but there opens. back.ensures.mounted b.image t k but there opens) in

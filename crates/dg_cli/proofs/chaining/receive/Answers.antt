@@ -5,7 +5,7 @@ use Rattle.dg_cli.proofs.chaining.receive.Goals as goal
 
 pub returns-in-Ok-clause-done : goal.returns-in-Ok-clause-done
 returns-in-Ok-clause-done g c =
-    received _ _ c.args.image c.args.version c.args.name.now c.in-Ok.root _ _ _ _ _ _ _ _ _ _ _ (sym (length-map c.args.boards.now.items g.N.Nor.device)) (root_told c.args.root.now c.in-Ok.root c.in-Ok.ensures) c.receive.ensures.done
+    received _ _ c.args.image c.args.version c.args.name.now c.in-Ok.root _ _ _ (sym (length-map c.args.boards.now.items g.N.Nor.device)) (root_told c.args.root.now c.in-Ok.root c.in-Ok.ensures) c.receive.ensures.done
 
 pub returns-in-Err-clause-done : goal.returns-in-Err-clause-done
-returns-in-Err-clause-done g c = receive_nothing c.args.image c.args.version c.args.name.now _ _ _ _ _ _
+returns-in-Err-clause-done g c = receive_nothing c.args.image c.args.version c.args.name.now _ _

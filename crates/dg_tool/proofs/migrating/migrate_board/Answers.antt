@@ -1,4 +1,3 @@
-use Rattle.std.proofs.Common.{sym}
 use Rattle.dg_volume.specs.Trails.{migrate_trail}
 use Rattle.dg_volume.specs.Acts.{Stops}
 use Rattle.dg_volume.specs.Stands.{form_of}
