@@ -1,0 +1,8 @@
+use Rattle.std.proofs.Common.{◌≡◌, ℕ, ◌<◌, ◌≤◌, slice_index, bit_and}
+use Rattle.part_store.proofs.device.and_bytes.Given as goal
+
+abbrev pub invariant-loop-i : goal.invariant-loop-i
+invariant-loop-i l = record {
+  done : (k : ℕ) → k < l.i → slice_index l.cells k ≡ bit_and (slice_index l.initial.cells k) (slice_index l.bytes k);
+  rest : (k : ℕ) → l.i ≤ k → slice_index l.cells k ≡ slice_index l.initial.cells k;
+}
