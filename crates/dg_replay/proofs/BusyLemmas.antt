@@ -25,7 +25,7 @@ use Rattle.dg_replay.specs.declared.stop.Stop.{Stop}
 use Rattle.dg_replay.specs.declared.stop.Stop.TheVariants.{Memory, BadInput, WriteFault, FlashFault, TooMany, NoBoard, NoImage, NotAVolume}
 use Rattle.dg_replay.proofs.ItemLemmas.{items_run_counts}
 use Rattle.dg_replay.proofs.PlayLemmas.{false_not, event_at, round_at, sweeps_at, seated_as}
-use Rattle.dg_replay.proofs.GoldenLemmas.{event_fits, cut_fits_too}
+use Rattle.dg_replay.proofs.LineRanges.{event_fits, cut_fits_too}
 use Rattle.dg_replay.proofs.StandLemmas.{joined_next, stood_next, busy_runs, line_begun}
 
 -- A line behind others has these items. It changes nothing of where the run begins, and needs no more boards.

@@ -17,7 +17,8 @@ use Rattle.dg_replay.specs.Ending.{script_of}
 use Rattle.dg_replay.specs.Outcome.{Progress}
 use Rattle.dg_replay.specs.Promised.{StaysConsistent}
 use Rattle.dg_replay.proofs.ItemLemmas.{some_is}
-use Rattle.dg_replay.proofs.GoldenLemmas.{GoldenRun, ran_network, golden_at_end, nothing_or}
+use Rattle.dg_replay.proofs.GoldenLemmas.{golden_at_end, nothing_or}
+use Rattle.dg_replay.proofs.GoldenRuns.{GoldenRun, ran_network}
 
 -- what is known of all that plays golden
 pub record ConsistentLaws : Type 0 where

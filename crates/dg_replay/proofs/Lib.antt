@@ -1,4 +1,5 @@
 pub mod ItemLemmas
+pub mod ItemStepLemmas
 pub mod StepLemmas
 pub mod PlayLemmas
 pub mod BoardLemmas
@@ -6,11 +7,15 @@ pub mod StandLemmas
 pub mod SilentLemmas
 pub mod BusyLemmas
 pub mod TextLemmas
+pub mod NextLineLemmas
 pub mod ReplayLemmas
 pub mod FinishLemmas
+pub mod LineRanges
+pub mod GoldenRuns
 pub mod GoldenLemmas
 pub mod ConsistentLemmas
 pub mod NearLemmas
+pub mod EndingLemmas
 pub mod EndLemmas
 pub mod TakenLemmas
 pub mod WholeLemmas
@@ -19,5 +24,6 @@ pub mod LiftLemmas
 pub mod LineByLine
 pub mod UsedLemmas
 pub mod FollowingLemmas
+pub mod LinesReadLemmas
 pub mod InputLemmas
 pub mod RunLemmas

@@ -18,9 +18,11 @@ use Rattle.dg_replay.specs.Replaying.{TextTold, TextAnswer, Reached, StopsThere}
 use Rattle.dg_replay.specs.declared.player.Player.{Player}
 use Rattle.dg_replay.specs.declared.stop.Stop.{Stop}
 use Rattle.dg_replay.proofs.FrontLemmas.{lines_front}
-use Rattle.dg_replay.proofs.GoldenLemmas.{ImageIsFound, image_found, script_fits}
+use Rattle.dg_replay.proofs.GoldenLemmas.{ImageIsFound, image_found}
+use Rattle.dg_replay.proofs.LineRanges.{script_fits}
 use Rattle.dg_replay.proofs.NearLemmas.{behind_next, behind_none, behind_whole}
-use Rattle.dg_replay.proofs.ReplayLemmas.{reached_first, reached_next, stopped_at}
+use Rattle.dg_replay.proofs.ReplayLemmas.{reached_first, stopped_at}
+use Rattle.dg_replay.proofs.NextLineLemmas.{reached_next}
 
 -- the lines of these bytes, which are so many, were played
 pub record FrontPlayed (front : List ℕ) (given : ℕ) (p : Player) (initial now : List Device) (before after : Option (List ℕ)) : Type 0 where

@@ -16,7 +16,8 @@ use Rattle.dg_replay.specs.Boards.{BoardStopped}
 use Rattle.dg_replay.specs.Ending.{whole_lines, used, has_unused_bytes, script_of, ending_from}
 use Rattle.dg_replay.specs.Outcome.{IsSettled, AreWhole, DoneIsWhole}
 use Rattle.dg_replay.proofs.EndLemmas.{is_over-true, over_more}
-use Rattle.dg_replay.proofs.GoldenLemmas.{LinesFit, front_fits, not_first, script_of_fits}
+use Rattle.dg_replay.proofs.GoldenLemmas.{script_of_fits}
+use Rattle.dg_replay.proofs.LineRanges.{LinesFit, front_fits, not_first}
 use Rattle.dg_replay.proofs.PlayLemmas.{second_at, later_at, link_at, narrow_at, event_at}
 
 -- ---- more bytes than are used

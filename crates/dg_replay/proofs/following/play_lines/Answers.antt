@@ -4,7 +4,8 @@ use Rattle.dg_base.specs.Outside.{AtEnd}
 use Rattle.dg_script.specs.Sizes.{most_used_bytes}
 use Rattle.dg_replay.specs.Following.{AllAsBefore}
 use Rattle.dg_replay.proofs.FollowingLemmas.{TextPlays}
-use Rattle.dg_replay.proofs.InputLemmas.{lines_first, lines_next, lines_last, lines_end, lines_halted, lines_ready, passes, less_left, given_of, none_of}
+use Rattle.dg_replay.proofs.InputLemmas.{lines_end, lines_halted, lines_ready, less_left, given_of, none_of}
+use Rattle.dg_replay.proofs.LinesReadLemmas.{lines_first, lines_next, lines_last, passes}
 use Rattle.dg_replay.proofs.following.play_lines.Goals as goal
 
 pub loop-told-init : goal.loop-told-init

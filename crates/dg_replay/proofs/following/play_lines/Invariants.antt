@@ -1,6 +1,6 @@
 use Rattle.std.proofs.Common.{◌≡◌, ◌-◌, map}
 use Rattle.dg_script.specs.Sizes.{most_used_bytes}
-use Rattle.dg_replay.proofs.InputLemmas.{LinesRead}
+use Rattle.dg_replay.proofs.LinesReadLemmas.{LinesRead}
 use Rattle.dg_replay.proofs.following.play_lines.Given as goal
 
 -- some whole lines were read, played and reported

@@ -5,7 +5,7 @@ use Rattle.dg_rules.specs.Steps.{DeclareStep}
 use Rattle.dg_script.specs.declared.report.Report.{Report}
 use Rattle.dg_script.specs.declared.report.Report.TheVariants as report
 use Rattle.dg_replay.proofs.ItemLemmas.{taken_step}
-use Rattle.dg_replay.proofs.StepLemmas.{declared_played, declared_step, nothing_applied, taken_as}
+use Rattle.dg_replay.proofs.ItemStepLemmas.{declared_played, declared_step, nothing_applied, taken_as}
 use Rattle.dg_replay.proofs.items.play_image.Goals as goal
 
 pub returns-in-Ok : goal.returns-in-Ok

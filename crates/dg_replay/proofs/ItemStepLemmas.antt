@@ -1,0 +1,319 @@
+-- What playing one item answers, and items behind others.
+use Rattle.std.proofs.Common.{◌≡◌, ℕ, ◌+◌, ◌-◌, ◌<◌, ◌≤◌, ◌≢◌, ◌⊎◌, ⊎_elim, Bool, false, if◌then◌else◌, List, [], ◌∷◌, ◌++◌, length, get_or, refl, append-nil, append_assoc, ap, sym, ◌∙◌, subst, arith}
+use Rattle.std.proofs.lemmas.List.{length-set}
+use Rattle.std.specs.List.{filter}
+use Rattle.std.specs.Prelude.{Option, Some, None, Result, Ok, Err, OnOk, OnErr, slice_get}
+use Rattle.dg_base.specs.declared.events.Event.{Event}
+use Rattle.dg_base.specs.declared.events.Event.TheVariants.{Tick, Hear, Last, Reset, Inject, Order, Frame}
+use Rattle.dg_base.specs.declared.events.Step.{Step}
+use Rattle.dg_object.specs.Object.{Row}
+use Rattle.dg_nor.specs.Device.{Device}
+use Rattle.dg_nor.specs.Fuse.{beneath_of}
+use Rattle.dg_script.specs.Items.{Item, Declares, Happens as Happened}
+use Rattle.dg_script.specs.Report.{report_text}
+use Rattle.dg_script.specs.declared.report.Report.{Report}
+use Rattle.dg_rules.specs.Ranges.{EventInRange, StepInRange}
+use Rattle.dg_rules.specs.Steps.{DeclareStep, declared_as}
+use Rattle.dg_script.specs.declared.report.Report.TheVariants as report
+use Rattle.dg_volume.specs.Table.{row_at}
+use Rattle.dg_rules.specs.Changes.{is_told, is_taken, declared_lines}
+use Rattle.dg_rules.specs.World.{World}
+use Rattle.dg_rules.specs.Events.{mote_of}
+use Rattle.dg_rules.specs.Sizes.{most_events}
+use Rattle.dg_world.specs.Worlds.{IsWorld}
+use Rattle.dg_world.specs.Counts.{NoneRose}
+use Rattle.dg_world.specs.declared.world.WorldFault.{WorldFault}
+use Rattle.dg_world.specs.declared.world.WorldFault.TheVariants.{Flash, TooMany as TooManyFault, Memory as MemoryFault}
+use Rattle.dg_world.proofs.CountLemmas.{NoneRose_then}
+use Rattle.dg_world.specs.Applied.{Applied, OneBoard, FlashAt, RunEnded}
+use Rattle.dg_world.specs.declared.world.World.{World as KeptWorld}
+use Rattle.dg_replay.specs.Boards.{WorldStands, ItemStops, LacksImage, EventNext}
+use Rattle.dg_replay.specs.Playing.{KeepsMotes, ItemsRun, ItemsPlayed, ItemsBegun, ItemsPlayedAs, IsOneTooMany, StopsInItem}
+use Rattle.dg_replay.specs.declared.stop.Stop.{Stop}
+use Rattle.dg_replay.specs.declared.stop.Stop.TheVariants.{Memory, BadInput, WriteFault, FlashFault, TooMany, NoBoard, NoImage, NotAVolume}
+use Rattle.dg_replay.proofs.ItemLemmas.{items_run_none, items_run_one, items_run_join, declared_same, step_counts}
+use Rattle.dg_replay.proofs.BoardLemmas.{boards_through, caused_through, there}
+
+-- ---- the boards behind an event
+
+-- an event at which a board stopped was not one too many
+pub not_full : (r : Result (Unit {0}) WorldFault) (board n : ℕ) → r ≡ Err (Flash board) → n ≤ most_events → (n ≡ most_events → (r ≡ Err TooManyFault) ⊎ (r ≡ Err MemoryFault)) → n < most_events
+not_full r board n is few full = less n most_events few (λ e. ⊎_elim (λ x. differs (sym is ∙ x)) (λ x. lacks (sym is ∙ x)) (full e))
+  where
+    less : (k m : ℕ) → k ≤ m → k ≢ m → k < m
+    less k m h other = omega arith
+
+    differs : ◌≡◌ {A = Result (Unit {0}) WorldFault} (Err (Flash board)) (Err TooManyFault) → ⊥
+    differs e = cc
+
+    lacks : ◌≡◌ {A = Result (Unit {0}) WorldFault} (Err (Flash board)) (Err MemoryFault) → ⊥
+    lacks e = cc
+
+other_than : (m n k : ℕ) → n < k → k ≤ m → m ≡ n → ⊥
+other_than m n k low high e = omega arith
+
+stands_next : (u z : World) (v2 : KeptWorld) (mote : ℕ) (initial old new : List Device) → mote < length u.sites → length z.sites ≡ length u.sites → IsWorld v2 new z → OneBoard mote old new → NoneRose old new → WorldStands u initial old → WorldStands z initial new
+stands_next u z v2 mote initial old new within count kept one calm b =
+    record {
+      all = boards_through initial old new b.all one.count one.endures;
+      calm = NoneRose_then initial old new b.all.count b.calm calm;
+      stands = λ m x inside is. (kept.sites m x inside is).stands;
+      came = λ m x inside is. b.came m x (omega (arith, inside, count)) is;
+      others = λ m past.
+          let far : length u.sites ≤ m = omega (arith, past, count) in
+          one.others m (other_than m mote (length u.sites) within far) ∙ b.others m far;
+    }
+
+flash_next : (u : World) (x : Step) (loud : Bool) (more : List Item) (board : ℕ) (initial old new : List Device) → u.events < most_events → mote_of x.event < length u.sites → FlashAt u x board old new → WorldStands u initial old → StopsInItem u (Happened x loud ∷ more) initial new
+flash_next u x loud more board initial old new few within f b =
+    let was : slice_get initial board ≡ Some (get_or initial board f.before) = there old initial board f.before (sym b.all.count) f.was in
+    record {
+      stopped = record {
+        board = board;
+        known = omega (arith, f.at, within);
+        before = get_or initial board f.before;
+        after = f.after;
+        was = was;
+        is = f.is;
+        stopped = f.stopped;
+        cause = caused_through (beneath_of (get_or initial board f.before)) (beneath_of f.before) (beneath_of f.after) (b.all.endures board _ f.before was f.was) (f.boards.counts board f.before f.after f.was f.is) f.cause;
+      };
+      there = record {
+        few = few;
+        at = f.at;
+        there = record { made = f.done; within = f.within; uncut = f.uncut; leaves = f.leaves };
+        others = record {
+          all = boards_through initial old new b.all f.boards.count f.boards.endures;
+          stands = λ m d inside other is. b.stands m d inside (sym (f.boards.others m other) ∙ is);
+          came = b.came;
+          others = λ m past. f.boards.others m (other_than m board (length u.sites) (omega (arith, f.at, within)) past) ∙ b.others m past;
+        };
+      };
+    }
+
+-- ---- one item
+
+err_is : (x y : Stop) → ◌≡◌ {A = Result (Unit {0}) Stop} (Err x) (Err y) → x ≡ y
+err_is x y e = cc
+
+-- nothing was played, and P holds of the world and of all items
+begun_none : (w : World) (items : List Item) (P : World → List Item → List ℕ → Type 0) → w.events ≤ most_events → P w items [] → ItemsBegun w items P
+begun_none w items P few there =
+    record { begun = []; left = items; parts = refl; world = w; text = []; runs = items_run_none w few; there = there }
+
+-- all was played, and P holds of the world then
+begun_all : (w v : World) (items : List Item) (text : List ℕ) (P : World → List Item → List ℕ → Type 0) → ItemsRun w items v text → P v [] text → ItemsBegun w items P
+begun_all w v items text P runs there =
+    record { begun = items; left = []; parts = sym (append-nil items); world = v; text = text; runs = runs; there = there }
+
+pub played_none : (w : World) (kept : KeptWorld) (initial now : List Device) (told : List ℕ) → IsWorld kept now w → WorldStands w initial now → ItemsPlayed w [] kept initial now told told
+played_none w kept initial now told is stands =
+    record { world = w; text = []; runs = items_run_none w is.few_events; kept_now = is; boards = stands; told_now = sym (append-nil told) }
+
+sites_same : (k : KeptWorld) (boards : List Device) (w z : World) → IsWorld k boards w → IsWorld k boards z → length w.sites ≡ length z.sites
+sites_same k boards w z a b = a.motes ∙ sym b.motes
+
+event_within : (n : ℕ) (event : Event) → EventInRange n event → mote_of event < n
+event_within n (Tick mote dt word) h = h
+event_within n (Hear mote dt word frame) h = h.0
+event_within n (Last from to dt word) h = h.1
+event_within n (Reset mote dt word) h = h
+event_within n (Inject mote image version dt word) h = h.0
+event_within n (Order mote number image version dt word) h = h.0
+event_within n (Frame mote dt word bytes) h = h.0
+
+-- a world in which the step may be applied
+abbrev MayStep : KeptWorld → List Device → Step → Type 0
+MayStep k old x = (z : World) × IsWorld k old z × StepInRange (length z.sites) x
+
+step_within : (k : KeptWorld) (old : List Device) (w : World) (x : Step) → IsWorld k old w → MayStep k old x → mote_of x.event < length w.sites
+step_within k old w x is (z, at, fits) = subst (λ (n : ℕ). mote_of x.event < n) (sites_same k old z w at is) (event_within (length z.sites) x.event fits.event)
+
+applied_runs : (w : World) (x : Step) (loud : Bool) (v2 : KeptWorld) (old new : List Device) (before reports : List Report) → before ≡ [] → (a : Applied w x loud v2 old new before reports) → ItemsRun w (Happened x loud ∷ []) a.world (report_text reports)
+applied_runs w x loud v2 old new before reports none a =
+    let told : reports ≡ filter (is_told loud) a.reports = a.told_now ∙ ap (λ (rs : List Report). rs ++ filter (is_told loud) a.reports) none in
+    items_run_one w a.world (Happened x loud) reports (a.reports, a.step, told) a.stood.few_events
+
+applied_stands : (w : World) (x : Step) (loud : Bool) (v v2 : KeptWorld) (initial old new : List Device) (before reports : List Report) → MayStep v old x → IsWorld v old w → WorldStands w initial old → (a : Applied w x loud v2 old new before reports) → WorldStands a.world initial new
+applied_stands w x loud v v2 initial old new before reports may is stands a =
+    stands_next w a.world v2 (mote_of x.event) initial old new (step_within v old w x is may) (step_counts w a.world x a.reports a.step).sites a.stood a.boards a.calm stands
+
+-- an event was applied, and told
+applied_played : (w : World) (x : Step) (loud : Bool) (v v2 : KeptWorld) (initial old new : List Device) (before reports : List Report) (told_before told : List ℕ) → before ≡ [] → MayStep v old x → Applied w x loud v2 old new before reports
+    → told ≡ told_before ++ report_text reports → IsWorld v old w → WorldStands w initial old → ItemsPlayed w (Happened x loud ∷ []) v2 initial new told_before told
+applied_played w x loud v v2 initial old new before reports told_before told none may a is_told is stands =
+    record {
+      world = a.world;
+      text = report_text reports;
+      runs = applied_runs w x loud v2 old new before reports none a;
+      kept_now = a.stood;
+      boards = applied_stands w x loud v v2 initial old new before reports may is stands a;
+      told_now = is_told;
+    }
+
+-- it was applied, and there was no memory to tell it
+pub applied_untold : (w : World) (x : Step) (loud : Bool) (v v2 : KeptWorld) (initial old new : List Device) (before reports : List Report) → before ≡ [] → MayStep v old x → Applied w x loud v2 old new before reports → IsWorld v old w → WorldStands w initial old
+    → ItemsBegun w (Happened x loud ∷ []) (λ u left text. WorldStands u initial new)
+applied_untold w x loud v v2 initial old new before reports none may a is stands =
+    begun_all w a.world (Happened x loud ∷ []) (report_text reports) (λ u left text. WorldStands u initial new) (applied_runs w x loud v2 old new before reports none a) (applied_stands w x loud v v2 initial old new before reports may is stands a)
+
+-- there was no memory to apply it
+pub nothing_applied : (w : World) (items : List Item) (v : KeptWorld) (initial old new : List Device) → IsWorld v old w → new ≡ old → WorldStands w initial old → ItemsBegun w items (λ u left text. WorldStands u initial new)
+nothing_applied w items v initial old new is same stands =
+    begun_none w items (λ u left text. WorldStands u initial new) is.few_events (subst (λ (ds : List Device). WorldStands w initial ds) (sym same) stands)
+
+-- it was one too many
+pub not_applied : (w : World) (x : Step) (loud : Bool) (v : KeptWorld) (initial old new : List Device) (told_before told : List ℕ) → IsWorld v old w → w.events ≡ most_events → new ≡ old → told ≡ told_before → WorldStands w initial old
+    → ItemsBegun w (Happened x loud ∷ []) (λ u left text. IsOneTooMany u left × WorldStands u initial new × (told ≡ told_before ++ text))
+not_applied w x loud v initial old new told_before told is full same untold stands =
+    begun_none w (Happened x loud ∷ []) (λ u left text. IsOneTooMany u left × WorldStands u initial new × (told ≡ told_before ++ text)) is.few_events
+    (record { full = full; next = record { step = x; loud = loud; more = []; is = refl } }, subst (λ (ds : List Device). WorldStands w initial ds) (sym same) stands, untold ∙ sym (append-nil told_before))
+
+-- a board stopped in it
+pub stopped_in : (w : World) (x : Step) (loud : Bool) (v : KeptWorld) (board : ℕ) (initial old new : List Device) (told_before told : List ℕ) → MayStep v old x → IsWorld v old w → w.events < most_events → FlashAt w x board old new → told ≡ told_before → WorldStands w initial old
+    → ItemsBegun w (Happened x loud ∷ []) (λ u left text. StopsInItem u left initial new × (told ≡ told_before ++ text))
+stopped_in w x loud v board initial old new told_before told may is few f untold stands =
+    begun_none w (Happened x loud ∷ []) (λ u left text. StopsInItem u left initial new × (told ≡ told_before ++ text)) is.few_events
+    (flash_next w x loud [] board initial old new few (step_within v old w x is may) f stands, untold ∙ sym (append-nil told_before))
+
+-- it found no image to start
+ended_stands : (w : World) (x : Step) (v : KeptWorld) (initial old new : List Device) → MayStep v old x → IsWorld v old w → (e : RunEnded w x old new) → WorldStands w initial old → WorldStands e.world initial new
+ended_stands w x v initial old new may is e b =
+    let within : mote_of x.event < length w.sites = step_within v old w x is may in
+    let count : length e.world.sites ≡ length w.sites = ap (λ (u : World). length u.sites) e.ends.world ∙ length-set w.sites (mote_of x.event) _ in
+    record {
+      all = boards_through initial old new b.all e.boards.count e.boards.endures;
+      calm = NoneRose_then initial old new b.all.count b.calm e.calm;
+      stands = e.stood;
+      came = λ m d inside is_there. b.came m d (omega (arith, inside, count)) is_there;
+      others = λ m past.
+          let far : length w.sites ≤ m = omega (arith, past, count) in
+          e.boards.others m (other_than m (mote_of x.event) (length w.sites) within far) ∙ b.others m far;
+    }
+
+pub ended_in : (w : World) (x : Step) (loud : Bool) (v : KeptWorld) (initial old new : List Device) (told : List ℕ) → MayStep v old x → IsWorld v old w → RunEnded w x old new → WorldStands w initial old
+    → ItemsBegun w (Happened x loud ∷ []) (λ u left text. LacksImage u left initial new × (told ≡ told ++ text))
+ended_in w x loud v initial old new told may is e stands =
+    begun_none w (Happened x loud ∷ []) (λ u left text. LacksImage u left initial new × (told ≡ told ++ text)) is.few_events
+    (record { next = record { step = x; loud = loud; more = []; is = refl }; after = e.world; ends = e.ends; boards = ended_stands w x v initial old new may is e stands }, sym (append-nil told))
+
+-- it was applied, and this came of telling it
+pub told_as : (r : Result (Unit {0}) Stop) (w : World) (x : Step) (loud : Bool) (v v2 : KeptWorld) (initial old new : List Device) (before reports : List Report) (told_before told : List ℕ) → before ≡ [] → MayStep v old x → Applied w x loud v2 old new before reports
+    → OnOk r (told ≡ told_before ++ report_text reports) → OnErr r (r ≡ Err Memory) → IsWorld v old w → WorldStands w initial old → ItemsPlayedAs r w (Happened x loud ∷ []) v2 initial new told_before told
+told_as (Ok u) w x loud v v2 initial old new before reports told_before told none may a is_told memory is stands = applied_played w x loud v v2 initial old new before reports told_before told none may a is_told is stands
+told_as (Err stop) w x loud v v2 initial old new before reports told_before told none may a is_told memory is stands =
+    let same : stop ≡ Memory = err_is stop Memory memory in
+    subst (λ (e : Stop). ItemsPlayedAs (Err e) w (Happened x loud ∷ []) v2 initial new told_before told) (sym same) (applied_untold w x loud v v2 initial old new before reports none may a is stands)
+
+-- the world that is kept goes on behind an event
+pub goes_on : (r : Result (Unit {0}) Stop) (k k2 : KeptWorld) (old new : List Device) → ((w : World) → IsWorld k old w → (u : World) × IsWorld k2 new u × (length u.sites ≡ length w.sites)) → KeepsMotes r k k2 old new
+goes_on (Ok u) k k2 old new goes = goes
+goes_on (Err stop) k k2 old new goes = tt
+
+pub applied_goes : (w : World) (x : Step) (loud : Bool) (v2 : KeptWorld) (old new : List Device) (before reports : List Report) → Applied w x loud v2 old new before reports → (u : World) × IsWorld v2 new u × (length u.sites ≡ length w.sites)
+applied_goes w x loud v2 old new before reports a = (a.world, a.stood, (step_counts w a.world x a.reports a.step).sites)
+
+-- ---- declarations
+
+-- a row was declared, and the boards are as before
+declared_stands : (w z : World) (row : Row) (reports : List Report) (v2 : KeptWorld) (initial now : List Device) → DeclareStep w row z reports → IsWorld v2 now z → WorldStands w initial now → WorldStands z initial now
+declared_stands w z row reports v2 initial now step kept b =
+    let same = (declared_same w z row reports step).sites in
+    record {
+      all = b.all;
+      calm = b.calm;
+      stands = λ m x within is. (kept.sites m x within is).stands;
+      came = λ m x within is. b.came m x (omega (arith, within, same)) is;
+      others = λ m past. b.others m (omega (arith, past, same));
+    }
+
+pub declared_played : (w z : World) (row : Row) (reports : List Report) (v2 : KeptWorld) (initial now : List Device) (told_before told : List ℕ) → DeclareStep w row z reports → IsWorld v2 now z → told ≡ told_before ++ report_text reports → WorldStands w initial now
+    → ItemsPlayed w (Declares row ∷ []) v2 initial now told_before told
+declared_played w z row reports v2 initial now told_before told step kept is_told b =
+    record {
+      world = z;
+      text = report_text reports;
+      runs = items_run_one w z (Declares row) reports step kept.few_events;
+      kept_now = kept;
+      boards = declared_stands w z row reports v2 initial now step kept b;
+      told_now = is_told;
+    }
+
+-- it was declared with another name or content, and this came of telling it
+pub taken_as : (r : Result (Unit {0}) Stop) (w : World) (row : Row) (v2 : KeptWorld) (initial now : List Device) (reports : List Report) (told_before told : List ℕ) → DeclareStep w row w reports → OnOk r (told ≡ told_before ++ report_text reports) → OnErr r (r ≡ Err Memory)
+    → IsWorld v2 now w → WorldStands w initial now → ItemsPlayedAs r w (Declares row ∷ []) v2 initial now told_before told
+taken_as (Ok u) w row v2 initial now reports told_before told step is_told memory is stands = declared_played w w row reports v2 initial now told_before told step is is_told stands
+taken_as (Err stop) w row v2 initial now reports told_before told step is_told memory is stands =
+    let same : stop ≡ Memory = err_is stop Memory memory in
+    subst (λ (e : Stop). ItemsPlayedAs (Err e) w (Declares row ∷ []) v2 initial now told_before told) (sym same) (begun_none w (Declares row ∷ []) (λ u left text. WorldStands u initial now) is.few_events stands)
+
+-- a row was declared that is not taken: nothing is told
+pub declared_step : (o : Option Row) (w : World) (row : Row) → row_at w.declared row.image row.version ≡ o → is_taken o row ≡ false → DeclareStep w row (declared_as o w row) []
+declared_step o w row e free =
+    record {
+      world = ap (λ (x : Option Row). declared_as x w row) (sym e);
+      told = sym (ap (λ (x : Option Row). declared_lines x row) e ∙ untold o free);
+    }
+  where
+    untold : (x : Option Row) → is_taken x row ≡ false → declared_lines x row ≡ []
+    untold None free = refl
+    untold (Some k) free = ap (λ (b : Bool). if b then report.Taken row.image row.version ∷ [] else []) free
+
+-- ---- items behind others
+
+next_more : (left more : List Item) → EventNext left → EventNext (left ++ more)
+next_more left more n = record { step = n.step; loud = n.loud; more = n.more ++ more; is = ap (λ (xs : List Item). xs ++ more) n.is }
+
+lacks_more : (left more : List Item) (w : World) (initial now : List Device) → LacksImage w left initial now → LacksImage w (left ++ more) initial now
+unfolding next_more
+lacks_more left more w initial now h = record { next = next_more left more h.next; after = h.after; ends = h.ends; boards = h.boards }
+
+stops_more : (left more : List Item) (w : World) (board : ℕ) (image : List ℕ) (old new : List Device) → ItemStops left (Some w) board image old new → ItemStops (left ++ more) (Some w) board image old new
+stops_more [] more w board image old new h = absurd h
+stops_more (Declares row ∷ left) more w board image old new h = absurd h
+stops_more (Happened x loud ∷ left) more w board image old new h = h
+
+begun_later : (w u : World) (xs ys more whole : List Item) (before : List ℕ) (P Q : World → List Item → List ℕ → Type 0) → ItemsRun w xs u before → ItemsBegun u ys P → whole ≡ xs ++ (ys ++ more)
+    → ((v : World) (left : List Item) (text : List ℕ) → P v left text → Q v (left ++ more) (before ++ text)) → ItemsBegun w whole Q
+begun_later w u xs ys more whole before P Q a b is f =
+    record {
+      begun = xs ++ b.begun;
+      left = b.left ++ more;
+      parts = is ∙ ap (λ (zs : List Item). xs ++ zs) (ap (λ (zs : List Item). zs ++ more) b.parts ∙ append_assoc b.begun b.left more) ∙ sym (append_assoc xs b.begun (b.left ++ more));
+      world = b.world;
+      text = before ++ b.text;
+      runs = items_run_join w u b.world xs b.begun before b.text a b.runs;
+      there = f b.world b.left b.text b.there;
+    }
+
+-- one part played behind another
+pub played_join : (w : World) (xs ys : List Item) (k k2 : KeptWorld) (initial mid now : List Device) (t0 t1 t2 : List ℕ) (a : ItemsPlayed w xs k initial mid t0 t1) → ItemsPlayed a.world ys k2 initial now t1 t2 → ItemsPlayed w (xs ++ ys) k2 initial now t0 t2
+played_join w xs ys k k2 initial mid now t0 t1 t2 a b =
+    record {
+      world = b.world;
+      text = a.text ++ b.text;
+      runs = items_run_join w a.world b.world xs ys a.text b.text a.runs b.runs;
+      kept_now = b.kept_now;
+      boards = b.boards;
+      told_now = b.told_now ∙ ap (λ (t : List ℕ). t ++ b.text) a.told_now ∙ append_assoc t0 a.text b.text;
+    }
+
+-- one part was played, and another stopped
+pub stopped_later : (stop : Stop) (w : World) (xs ys more whole : List Item) (k k2 : KeptWorld) (initial mid now : List Device) (t0 t1 t2 : List ℕ) (a : ItemsPlayed w xs k initial mid t0 t1) → ItemsPlayedAs (Err stop) a.world ys k2 initial now t1 t2
+    → whole ≡ xs ++ (ys ++ more) → ItemsPlayedAs (Err stop) w whole k2 initial now t0 t2
+unfolding next_more
+stopped_later Memory w xs ys more whole k k2 initial mid now t0 t1 t2 a b is =
+    begun_later w a.world xs ys more whole a.text (λ v left text. WorldStands v initial now) (λ v left text. WorldStands v initial now) a.runs b is (λ v left text h. h)
+stopped_later TooMany w xs ys more whole k k2 initial mid now t0 t1 t2 a b is =
+    begun_later w a.world xs ys more whole a.text (λ v left text. IsOneTooMany v left × WorldStands v initial now × (t2 ≡ t1 ++ text)) (λ v left text. IsOneTooMany v left × WorldStands v initial now × (t2 ≡ t0 ++ text)) a.runs b is
+    (λ v left text h. (record { full = h.0.full; next = next_more left more h.0.next }, h.1, h.2 ∙ ap (λ (t : List ℕ). t ++ text) a.told_now ∙ append_assoc t0 a.text text))
+stopped_later FlashFault w xs ys more whole k k2 initial mid now t0 t1 t2 a b is =
+    begun_later w a.world xs ys more whole a.text (λ v left text. StopsInItem v left initial now × (t2 ≡ t1 ++ text)) (λ v left text. StopsInItem v left initial now × (t2 ≡ t0 ++ text)) a.runs b is
+    (λ v left text h. (record { stopped = h.0.stopped; there = stops_more left more v h.0.stopped.board h.0.stopped.after.image initial now h.0.there }, h.1 ∙ ap (λ (t : List ℕ). t ++ text) a.told_now ∙ append_assoc t0 a.text text))
+stopped_later NoImage w xs ys more whole k k2 initial mid now t0 t1 t2 a b is =
+    begun_later w a.world xs ys more whole a.text (λ v left text. LacksImage v left initial now × (t2 ≡ t1 ++ text)) (λ v left text. LacksImage v left initial now × (t2 ≡ t0 ++ text)) a.runs b is
+    (λ v left text h. (lacks_more left more v initial now h.0, h.1 ∙ ap (λ (t : List ℕ). t ++ text) a.told_now ∙ append_assoc t0 a.text text))
+stopped_later NotAVolume w xs ys more whole k k2 initial mid now t0 t1 t2 a b is = absurd b
+stopped_later (NoBoard motes boards) w xs ys more whole k k2 initial mid now t0 t1 t2 a b is = absurd b
+stopped_later (BadInput n fault) w xs ys more whole k k2 initial mid now t0 t1 t2 a b is = absurd b
+stopped_later WriteFault w xs ys more whole k k2 initial mid now t0 t1 t2 a b is = absurd b
