@@ -6,7 +6,7 @@ ghost use Rattle.dg_control.specs.Store.{IsOrderlyChip};
 ghost use Rattle.dg_volume.specs.Sizes.{images, control_sectors, new_form};
 ghost use Rattle.dg_volume.specs.Store.{Store};
 ghost use Rattle.dg_volume.specs.Stands.{Mounted, IsMounted, form_of, is_lent};
-ghost use Rattle.dg_volume.specs.Changes.{order_refusal, UnlessOrderRefused};
+ghost use Rattle.dg_volume.specs.Changes.{numbered_order, order_refusal, UnlessOrderRefused};
 ghost use Rattle.dg_volume.specs.Trails.{order_trail};
 ghost use Rattle.dg_volume.specs.Remount.{RemountBytes};
 ghost use Rattle.dg_volume.specs.Acts.{Acted, Stops};
@@ -19,7 +19,8 @@ use dg_nor::Nor;
 const COMMITS: u32 = 1;
 
 impl Volume {
-    /// Keeps an order, which is not waived. One commit.
+    /// Keeps an order, which is not waived. One commit. Nothing is read, and a chip that may be mounted again by halving stays
+    /// one: that reads at most one place more.
     pub fn order<N: Nor>(
         &mut self,
         nor: &mut N,
@@ -32,28 +33,25 @@ impl Volume {
         requires known_image { image < images }
         requires some_version { 1 ≤ version }
         ensures acted { OnOk result ((s : Store) → Mounted (N.device nor.old).image self.old s
-            → Acted (order_trail s (record { number = number; image = image; version = version })) (N.device nor.old)
-            (N.device nor.new) self.new) }
+            → Acted (order_trail s (numbered_order number image version)) (N.device nor.old) (N.device nor.new) self.new) }
         ensures form { OnOk result (form_of self.new ≡ new_form) }
         ensures awake { OnOk result ((N.device nor.old).stopped ≡ false) }
         ensures same_reference { (N.device nor.new).references ≡ (N.device nor.old).references }
         ensures lent { (i : ℕ) → is_lent self.new i ≡ is_lent self.old i }
         ensures allowed { (s : Store) → Mounted (N.device nor.old).image self.old s
-            → UnlessOrderRefused result (order_refusal s (record { number = number; image = image; version = version })) }
+            → UnlessOrderRefused result (order_refusal s (numbered_order number image version)) }
         ensures refused { (e : OrderFault) → result ≡ Err e → e ≢ OrderFault.Stopped → (s : Store)
             → Mounted (N.device nor.old).image self.old s
-            → order_refusal s (record { number = number; image = image; version = version }) ≡ Some e }
+            → order_refusal s (numbered_order number image version) ≡ Some e }
         ensures unchanged { (e : OrderFault) → result ≡ Err e → e ≢ OrderFault.Stopped
             → (N.device nor.new ≡ N.device nor.old) × (self.new ≡ self.old) }
         ensures touches { Touches 0 control_sectors (N.device nor.old).image (N.device nor.new).image }
-        // nothing is read, and a chip that may be mounted again by halving stays one: that reads at most one place more
         ensures same_taken { (N.device nor.new).taken ≡ (N.device nor.old).taken }
         ensures orderly { IsOrderlyChip (N.device nor.old).image → IsOrderlyChip (N.device nor.new).image }
         ensures bytes { (m n : ℕ) → RemountBytes (N.device nor.old).image m → RemountBytes (N.device nor.new).image n
             → n ≤ m + place_size }
         ensures stopped { IsErrOf result OrderFault.Stopped → (s : Store) → Mounted (N.device nor.old).image self.old s
-            → Stops (order_trail s (record { number = number; image = image; version = version })) (N.device nor.old)
-            (N.device nor.new) }
+            → Stops (order_trail s (numbered_order number image version)) (N.device nor.old) (N.device nor.new) }
     {
         let snapshot = self.control.now();
         let kept = snapshot.order.number;
