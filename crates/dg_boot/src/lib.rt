@@ -65,14 +65,17 @@ pub enum BootFault {
 }
 
 /// Starts the image of a chip: counts the start, makes the choice, copies the image where it is not in program memory
-/// yet, and sets program memory to it. A page is copied by 9 operations, an erase and 8 programs of 138 bytes. No clause
-/// bounds what is read.
+/// yet, and sets program memory to it. A page is copied by 9 operations, an erase and 8 programs of 138 bytes. Where the
+/// image runs on that is in program memory, nothing is written. No clause bounds what is read.
+///
+/// Whatever frames made the store of a consistent chip: golden runs byte for byte, or pages that fit the descriptor before
+/// them, and the chip stays consistent, however the start ends, also where it stops. A chip that is no volume keeps its
+/// bytes.
 ///
 /// `NoImage` may follow a commit that counted the start, and one that waived the order.
 pub fn start<N: Nor>(nor: &mut N, kind: Kind) -> Result<Started, BootFault>
     ensures started { IfOk result (λ told. (s : Store) → Stands (N.device nor.old).image s
         → Starts (boot kind s) (N.device nor.old) (N.device nor.new) told) }
-    // where the image runs on that is in program memory, nothing is written
     ensures runs_on { OnOk result ((s : Store) → Stands (N.device nor.old).image s
         → operations (boot kind s).trail ≡ 0 → Looked (N.device nor.old) (N.device nor.new)) }
     ensures volume { OnOk result ((s : Store) × Stands (N.device nor.old).image s) }
@@ -86,18 +89,12 @@ pub fn start<N: Nor>(nor: &mut N, kind: Kind) -> Result<Started, BootFault>
         × Looked (N.device nor.old) (N.device nor.new) }
     ensures stopped { IsErrOf result BootFault.Stopped → (s : Store) → Stands (N.device nor.old).image s
         → Stops (boot kind s).trail (N.device nor.old) (N.device nor.new) }
-    // a chip that is no volume keeps its bytes
     ensures no_volume { IsErrOf result BootFault.Stopped → IsNoVolume (N.device nor.old).image
         → ReadStopped (N.device nor.old) (N.device nor.new) }
     ensures cause { IsErrOf result BootFault.Stopped → ActStopped (N.device nor.old) (N.device nor.new) }
-    // whatever frames made its store: golden runs byte for byte, or pages that fit the descriptor before them
     ensures sound { IfOk result (λ told. (golden : Row) (s : Store) → Stands (N.device nor.old).image s → Consistent golden s
-        → IsSoundApp golden (record {
-          image = told.image;
-          version = told.version;
-          pages = program (N.device nor.new).image told.pages;
-        })) }
-    // and a consistent chip stays so, however the start ends, also where it stops
+        → IsSoundApp golden
+        (record { image = told.image; version = told.version; pages = program (N.device nor.new).image told.pages })) }
     ensures consistent { (golden : Row) (s : Store) → Stands (N.device nor.old).image s → Consistent golden s
         → (t : Store) × Stands (N.device nor.new).image t × Consistent golden t }
 {
