@@ -31,6 +31,7 @@ pub mod SaidLemmas
 pub mod QuietLemmas
 pub mod SuppressLemmas
 pub mod RulesLemmas
+pub mod OverheardLemmas
 pub mod ChangeLemmas
 pub mod RoundTicks
 pub mod RoundRestart

@@ -1,37 +1,31 @@
 //! Adverts that are heard: a better order is kept, and an image is asked for in which the advertiser is ahead.
 ghost use Rattle.std.specs.Prelude.{◌≡◌, ◌≢◌, ℕ, ◌+◌, ◌<◌, ◌≤◌, ◌^◌, ◌&&◌, ◌||◌, ◌==◌, nat_le, nat_lt, true, false, List, length};
 ghost use Rattle.std.specs.Prelude.{Option, Some, All, IfOk, OnOk, OnErr, IfSome};
-ghost use Rattle.dg_nor.specs.Trail.{last};
 ghost use Rattle.dg_trickle.specs.Timer.{Timer};
 ghost use Rattle.dg_frame.specs.Sizes.{known_images, wide_images};
 ghost use Rattle.dg_frame.specs.Ranges.{EntryInRange, OrderInRange};
 ghost use Rattle.dg_slot.specs.Kept.{Held};
-ghost use Rattle.dg_slot.specs.Jobs.{IsOpen, outline_told};
 ghost use Rattle.dg_volume.specs.Sizes.{images};
 ghost use Rattle.dg_volume.specs.Store.{Store, held};
 ghost use Rattle.dg_volume.specs.Told.{told};
-ghost use Rattle.dg_volume.specs.Stands.{Mounted, IsMounted, Tells, kept_at, is_lent};
+ghost use Rattle.dg_volume.specs.Stands.{Mounted, IsMounted, Tells, is_lent};
 ghost use Rattle.dg_volume.specs.Changes.{is_version};
 ghost use Rattle.dg_volume.specs.Acts.{Acted, Stops};
 ghost use Rattle.dg_mote.specs.Model.{MoteState, Maintain};
 ghost use Rattle.dg_mote.specs.Summary.{entry_by, same_entry, same_order, entry_for, is_own, advertiser_ahead, ahead_in};
 ghost use Rattle.dg_mote.specs.Adverts.{heed_trail, ask_trail, asks, asking, noting, by_ahead, advert_heard, on_advert, offer};
 ghost use Rattle.dg_mote.specs.Motes.{IsMote, Done};
-ghost use Rattle.dg_mote.specs.Hearing.{ChipStays, StaysIf, MayTake, slot_trail, Opened, Begun};
+ghost use Rattle.dg_mote.specs.Hearing.{ChipStays, StaysIf, MayTake};
 
+use crate::opening::begin_page;
 use crate::summary::{entry_of, own_order};
 use crate::{Heard, Mode, Mote};
 use dg_control::Order;
 use dg_frame::Entry;
 use dg_nor::{Nor, Stopped};
-use dg_object::Profile;
 use dg_order::better;
 use dg_recv::Asking;
-use dg_slot::{OpenSlot, PageJob};
-use dg_volume::{
-    Kept, OrderFault, TAKE_COMMITS, TakeFault, Volume, a_lent_slot_is_filled, acts_end,
-    trails_begin, what_stands_behind_the_commits,
-};
+use dg_volume::{Kept, OrderFault, TAKE_COMMITS, Volume, trails_begin};
 
 impl Mote {
     /// An advert of another mote was heard.
@@ -297,7 +291,7 @@ fn entry_for(entries: &[Entry], image: u8) -> Entry
 }
 
 /// Whether this version is kept of an image.
-fn keeps_version(kept: Option<Kept>, version: u32) -> bool
+pub(crate) fn keeps_version(kept: Option<Kept>, version: u32) -> bool
     ensures { (h : Option Held) → kept ≡ told h → result ≡ is_version h version }
 {
     match kept {
@@ -340,66 +334,5 @@ fn heed<N: Nor>(nor: &mut N, volume: &mut Volume, order: &Order) -> Result<(), S
         Err(OrderFault::Stopped) => Err(Stopped),
         Err(OrderFault::OldOrder { .. }) => unreachable!(),
         Err(OrderFault::Worn { .. }) => unreachable!(),
-    }
-}
-
-/// Begins the next page of an image, whose slot is taken unless this version is kept.
-fn begin_page<N: Nor>(
-    nor: &mut N,
-    volume: &mut Volume,
-    image: u8,
-    entry: Entry,
-) -> Result<PageJob, Stopped>
-    requires mounted { (s : Store) × Mounted (N.device nor.old).image volume.old s × MayTake s image entry }
-    requires not_lent { is_lent volume.old image ≡ false }
-    ensures begun { IfOk result (λ job. (s : Store) → Mounted (N.device nor.old).image volume.old s → MayTake s image entry
-        → Acted (ask_trail s image entry) (N.device nor.old) (N.device nor.new) volume.new
-        × Begun (N.device nor.new).image (last (ask_trail s image entry)) image entry job) }
-    ensures lent { OnOk result (is_lent volume.new image ≡ true) }
-    ensures others { (i : ℕ) → i ≢ image → is_lent volume.new i ≡ is_lent volume.old i }
-    ensures same_reference { (N.device nor.new).references ≡ (N.device nor.old).references }
-    ensures stopped { OnErr result ((s : Store) → Mounted (N.device nor.old).image volume.old s → MayTake s image entry
-        → Stops (ask_trail s image entry) (N.device nor.old) (N.device nor.new)) }
-{
-    what_stands_behind_the_commits();
-    a_lent_slot_is_filled();
-    let slot = open(nor, volume, image, entry)?;
-    slot.begin_page(nor)
-}
-
-/// The slot of an image, taken unless this version is kept.
-fn open<N: Nor>(
-    nor: &mut N,
-    volume: &mut Volume,
-    image: u8,
-    entry: Entry,
-) -> Result<OpenSlot, Stopped>
-    requires mounted { (s : Store) × Mounted (N.device nor.old).image volume.old s × MayTake s image entry }
-    requires not_lent { is_lent volume.old image ≡ false }
-    ensures opened { IfOk result (λ o. (s : Store) → Mounted (N.device nor.old).image volume.old s → MayTake s image entry
-        → Acted (slot_trail s image entry) (N.device nor.old) (N.device nor.new) volume.new
-        × Opened (N.device nor.new).image (last (slot_trail s image entry)) image entry o) }
-    ensures lent { OnOk result (is_lent volume.new image ≡ true) }
-    ensures others { (i : ℕ) → i ≢ image → is_lent volume.new i ≡ is_lent volume.old i }
-    ensures same_reference { (N.device nor.new).references ≡ (N.device nor.old).references }
-    ensures stopped { OnErr result ((s : Store) → Mounted (N.device nor.old).image volume.old s → MayTake s image entry
-        → Stops (slot_trail s image entry) (N.device nor.old) (N.device nor.new)) }
-{
-    if keeps_version(volume.kept(image), entry.version) {
-        return Ok(volume.slot(image).unwrap());
-    }
-    acts_end();
-    let profile = Profile {
-        image,
-        version: entry.version,
-        pages: entry.pages,
-        crc: entry.crc,
-    };
-    match volume.take(nor, image, &profile) {
-        Ok(slot) => Ok(slot),
-        Err(TakeFault::Stopped) => Err(Stopped),
-        Err(TakeFault::Stale { .. }) => unreachable!(),
-        Err(TakeFault::Reserved) => unreachable!(),
-        Err(TakeFault::Worn { .. }) => unreachable!(),
     }
 }

@@ -45,11 +45,11 @@ pub fn an_equal_advert_keeps_a_mote_silent()
         → IsSilent (sent_while events m s) }
 {}
 
-/// A mote that overhears a request, or while it maintains a packet, of a page that would be of use to it leaves the
-/// image to those who ask already: it does not begin to ask for it for 128,000 milliseconds after a request and 64,000
-/// after a packet (suppression, Hui and Culler, SenSys 2004). A mote that asks for it already goes on.
-pub fn an_overheard_frame_keeps_a_mote_from_asking()
-    ensures request { (m : MoteState) (s : Store) (now word : ℕ) (bytes : List ℕ) (source to image version page : ℕ)
+/// A mote that overhears a request of a page that would be of use to it leaves the image to those who ask already: it does
+/// not begin to ask for it for 128,000 milliseconds (suppression, Hui and Culler, SenSys 2004). A mote that asks for it
+/// already goes on.
+pub fn an_overheard_request_keeps_a_mote_from_asking()
+    ensures noted { (m : MoteState) (s : Store) (now word : ℕ) (bytes : List ℕ) (source to image version page : ℕ)
         (want : Numbers)
         → message_of bytes m.wide ≡ Ok (message.Request source to image version page want) → source ≢ m.id → to ≢ m.id
         → IsOfUse (held s image) version page
@@ -59,7 +59,18 @@ pub fn an_overheard_frame_keeps_a_mote_from_asking()
           sent = None;
           answer = heard.Noted;
         } }
-    ensures packet { (m : MoteState) (s : Store) (timer : Timer) (now word : ℕ) (bytes : List ℕ)
+    ensures after { (m : MoteState) (s : Store) (now word : ℕ) (bytes : List ℕ) (source to image version page : ℕ)
+        (want : Numbers) (events : List Happens)
+        → message_of bytes m.wide ≡ Ok (message.Request source to image version page want) → source ≢ m.id → to ≢ m.id
+        → IsOfUse (held s image) version page
+        → AsksNotFor image m.mode → AllBetween now (now + request_window) events
+        → AllByRecursion (NoRequest image) (sent_while (Hears now word bytes ∷ events) m s) }
+{}
+
+/// A mote that overhears a packet of such a page, while it maintains, does not begin to ask for its image for 64,000
+/// milliseconds.
+pub fn an_overheard_packet_keeps_a_mote_from_asking()
+    ensures noted { (m : MoteState) (s : Store) (timer : Timer) (now word : ℕ) (bytes : List ℕ)
         (source image version page q : ℕ) (content : List ℕ)
         → message_of bytes m.wide ≡ Ok (message.Packet source image version page q content) → source ≢ m.id
         → m.mode ≡ Maintain timer → IsOfUse (held s image) version page
@@ -69,13 +80,7 @@ pub fn an_overheard_frame_keeps_a_mote_from_asking()
           sent = None;
           answer = heard.Noted;
         } }
-    ensures after_request { (m : MoteState) (s : Store) (now word : ℕ) (bytes : List ℕ) (source to image version page : ℕ)
-        (want : Numbers) (events : List Happens)
-        → message_of bytes m.wide ≡ Ok (message.Request source to image version page want) → source ≢ m.id → to ≢ m.id
-        → IsOfUse (held s image) version page
-        → AsksNotFor image m.mode → AllBetween now (now + request_window) events
-        → AllByRecursion (NoRequest image) (sent_while (Hears now word bytes ∷ events) m s) }
-    ensures after_packet { (m : MoteState) (s : Store) (timer : Timer) (now word : ℕ) (bytes : List ℕ)
+    ensures after { (m : MoteState) (s : Store) (timer : Timer) (now word : ℕ) (bytes : List ℕ)
         (source image version page q : ℕ) (content : List ℕ) (events : List Happens)
         → message_of bytes m.wide ≡ Ok (message.Packet source image version page q content) → source ≢ m.id
         → m.mode ≡ Maintain timer → IsOfUse (held s image) version page
@@ -113,12 +118,8 @@ pub fn pages_are_handed_on_before_the_image_is_whole()
         → advert_by wide source entries order ≡ advert_of m.id m.wide s }
     ensures entry { (wide : Bool) (s : Store) (image : ℕ) (h : Held) → 1 ≤ image → image ≤ known_images wide
         → held s image ≡ Some h
-        → entry_for (entries_of wide s) image ≡ record {
-          version = h.version;
-          pages = h.pages;
-          have = length h.complete;
-          crc = h.crc;
-        } }
+        → entry_for (entries_of wide s) image
+        ≡ record { version = h.version; pages = h.pages; have = length h.complete; crc = h.crc } }
     ensures served { (m : MoteState) (s : Store) (timer : Timer) (now word : ℕ) (bytes : List ℕ)
         (source image version page : ℕ) (want : Numbers)
         → message_of bytes m.wide ≡ Ok (message.Request source m.id image version page want) → source ≢ m.id

@@ -1,7 +1,7 @@
 use Rattle.dg_nor.proofs.DeviceLemmas.{OnErr_from}
 use Rattle.dg_mote.proofs.ServeLemmas.{if_ok3, on_err}
 use Rattle.dg_mote.proofs.AskLemmas.{PageErased, ask_stops_first, ask_begun, ask_stops_then}
-use Rattle.dg_mote.proofs.adverts.begin_page.Goals as goal
+use Rattle.dg_mote.proofs.opening.begin_page.Goals as goal
 
 pub returns-in_err-slot-clause-stopped : goal.returns-in_err-slot-clause-stopped
 returns-in_err-slot-clause-stopped g c = OnErr_from c.from_residual.result (λ s m may.

@@ -5,7 +5,7 @@ use Rattle.dg_slot.specs.declared.states.OpenSlot.{OpenSlot}
 use Rattle.dg_volume.specs.Stands.{Mounted}
 use Rattle.dg_volume.specs.Store.{Store, held}
 use Rattle.dg_mote.proofs.AskLemmas.{not_stale, not_reserved, not_worn, not_both, opened_kept, take_free, opened_taken, taken_stops}
-use Rattle.dg_mote.proofs.adverts.open.Goals as goal
+use Rattle.dg_mote.proofs.opening.open.Goals as goal
 
 pub returns-then-keeps_version-clause-opened : goal.returns-then-keeps_version-clause-opened
 returns-then-keeps_version-clause-opened g c s m may =
