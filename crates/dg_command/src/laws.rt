@@ -9,7 +9,7 @@ ghost use Rattle.dg_command.specs.Laws.{line};
 ghost use Rattle.dg_command.specs.Verbs.{verb_in};
 ghost use Rattle.dg_command.specs.declared.verbs.Verb.{Verb};
 
-/// A line for each verb, and what it asks for.
+/// A line for each verb but those of hash-chained images, and what it asks for.
 pub fn lines_are_commands()
     ensures replay { asked_of (line (codes "replay a b")) ≡ Asks (Replay (codes "a" ∷ codes "b" ∷ [])) }
     ensures in_memory { asked_of (line (codes "replay")) ≡ Asks (Replay []) }
@@ -26,9 +26,13 @@ pub fn lines_are_commands()
     ensures ping { asked_of (line (codes "ping f")) ≡ Asks (Ping (codes "f")) }
     ensures dump { asked_of (line (codes "dump --image 3 f")) ≡ Asks (Dump 3 (codes "f")) }
     ensures trial { asked_of (line (codes "trial --motes 16 --pages 65 --seed 0")) ≡ Asks (Trial 16 65 0) }
-    ensures wrap { asked_of (line (codes "wrap")) ≡ Asks Wrap }
     ensures drip { asked_of (line (codes "drip")) ≡ Asks Drip }
     ensures base { asked_of (line (codes "base --id 65535 --step 60000 --seed 0 f")) ≡ Asks (Base 65535 60000 0 (codes "f")) }
+{}
+
+/// The same for the verbs of hash-chained images.
+pub fn chain_lines_are_commands()
+    ensures wrap { asked_of (line (codes "wrap")) ≡ Asks Wrap }
     ensures check { asked_of
         (line (codes "check --image 0 --root 58E59bcd00000000000000000000000000000000000000000000000000000000 f"))
         ≡ Asks (Check 0 (codes "58E59bcd00000000000000000000000000000000000000000000000000000000") (codes "f")) }

@@ -15,7 +15,8 @@ mod verbs;
 
 pub use command::{Asked, Command};
 pub use laws::{
-    forms_of_a_command, help_is_shown, lines_are_commands, misused_words, what_a_command_is,
+    chain_lines_are_commands, forms_of_a_command, help_is_shown, lines_are_commands, misused_words,
+    what_a_command_is,
 };
 pub use ranges::{
     LEAST_MOTES, LEAST_PAGES, MOST_STEP, MOST_TURNS, ROOT_BYTES, ROOT_DIGITS, the_ranges_are_these,

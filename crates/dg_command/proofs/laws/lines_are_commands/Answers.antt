@@ -46,10 +46,6 @@ pub returns-clause-trial : goal.returns-clause-trial
 unfolding clap_on_literals app_of_verb top_app asked_of line number_at text_at texts_at
 returns-clause-trial c = refl
 
-pub returns-clause-wrap : goal.returns-clause-wrap
-unfolding clap_on_literals app_of_verb top_app asked_of line number_at text_at texts_at
-returns-clause-wrap c = refl
-
 pub returns-clause-drip : goal.returns-clause-drip
 unfolding clap_on_literals app_of_verb top_app asked_of line number_at text_at texts_at
 returns-clause-drip c = refl
@@ -57,14 +53,6 @@ returns-clause-drip c = refl
 pub returns-clause-base : goal.returns-clause-base
 unfolding clap_on_literals app_of_verb top_app asked_of line number_at text_at texts_at
 returns-clause-base c = refl
-
-pub returns-clause-check : goal.returns-clause-check
-unfolding clap_on_literals app_of_verb top_app asked_of line number_at text_at texts_at
-returns-clause-check c = refl
-
-pub returns-clause-receive : goal.returns-clause-receive
-unfolding clap_on_literals app_of_verb top_app asked_of line number_at text_at texts_at
-returns-clause-receive c = refl
 
 pub returns-clause-old_form : goal.returns-clause-old_form
 unfolding clap_on_literals app_of_verb top_app asked_of line number_at text_at texts_at
