@@ -104,6 +104,10 @@ fn play_line<S: Source, K: Sink, N: Nor>(
 /// generator that `seed` begins. The input is read piece by piece, and what a piece tells is played before the next one is
 /// asked for. No more than 16,777,216 bytes of it are used. A status other than [`Status::Done`] writes its line last, where
 /// it has one.
+///
+/// With honest frames a chip that agrees with a table of images agrees with it behind the line, however it ended. Whatever
+/// bytes come as frames, a consistent chip stays so, however the line ended: golden is whole. No start lacks an image, and
+/// what starts is golden byte for byte, or pages that fit the descriptor before them.
 pub fn base<S: Source, K: Sink, N: Nor>(
     alloc: Global,
     nor: &mut N,
@@ -128,13 +132,10 @@ pub fn base<S: Source, K: Sink, N: Nor>(
     ensures causes { Causes result
         (outside_base (S.left input.old) (S.faults input.old) (K.written out.old) (K.faults out.old) (N.device nor.old))
         (outside_base (S.left input.new) (S.faults input.new) (K.written out.new) (K.faults out.new) (N.device nor.new)) }
-    // With honest frames a chip that agrees with a table of images agrees with it behind the line, however it ended.
     ensures agrees { (s : Store) (table : List Row) (x : Based result (record { id = id; step = step; seed = seed }) s
         (outside_base (S.left input.old) (S.faults input.old) (K.written out.old) (K.faults out.old) (N.device nor.old))
         (outside_base (S.left input.new) (S.faults input.new) (K.written out.new) (K.faults out.new) (N.device nor.new)))
         → IsTable table → StoreIsWell table s → HonestLine table x.input → ChipAgrees table (N.device nor.new).image }
-    // Whatever bytes come as frames, a consistent chip stays so, however the line ended: golden is whole. No start lacks an
-    // image, and what starts is golden byte for byte, or pages that fit the descriptor before them.
     ensures consistent { (s : Store) (golden : Row) (x : Based result (record { id = id; step = step; seed = seed }) s
         (outside_base (S.left input.old) (S.faults input.old) (K.written out.old) (K.faults out.old) (N.device nor.old))
         (outside_base (S.left input.new) (S.faults input.new) (K.written out.new) (K.faults out.new) (N.device nor.new)))
