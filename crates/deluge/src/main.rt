@@ -88,22 +88,32 @@ fn nothing(rt: &HostRuntime) -> Option<File> {
         .ok()
 }
 
+/// Tells, beside the output, where help is.
+fn point_to_help(rt: &HostRuntime) {
+    let _ = rt.eprintln("deluge: try deluge --help");
+}
+
+/// How the program ends without memory for its words or its boards.
+fn without_memory() -> ExitCode {
+    ExitCode::from(Status::Memory.code())
+}
+
 /// Runs the command over standard input and output, sockets of this machine and its clock.
-fn status(rt: &HostRuntime) -> Status {
-    let mut clock = SystemClock::new(rt);
+fn main(rt: HostRuntime) -> ExitCode {
+    let mut clock = SystemClock::new(&rt);
     // Where a standard stream is closed, the file that is opened next takes its number, and gets what is written there:
     // let that be one of these, and no chip.
-    let _streams = (nothing(rt), nothing(rt), nothing(rt));
-    let Some(words) = words(rt) else {
-        return Status::Memory;
+    let _streams = (nothing(&rt), nothing(&rt), nothing(&rt));
+    let Some(words) = words(&rt) else {
+        return without_memory();
     };
-    let Some(mut boards) = boards(rt, &words) else {
-        return Status::Memory;
+    let Some(mut boards) = boards(&rt, &words) else {
+        return without_memory();
     };
     let mut input = StdSource::new(rt.stdin());
     let mut out = StdSink::new(rt.stdout());
-    let mut link = UdpLink::new(rt, rt.alloc());
-    run(
+    let mut link = UdpLink::new(&rt, rt.alloc());
+    let status = run(
         rt.alloc(),
         &words,
         &mut input,
@@ -111,16 +121,7 @@ fn status(rt: &HostRuntime) -> Status {
         &mut boards,
         &mut link,
         &mut clock,
-    )
-}
-
-/// Tells, beside the output, where help is.
-fn point_to_help(rt: &HostRuntime) {
-    let _ = rt.eprintln("deluge: try deluge --help");
-}
-
-fn main(rt: HostRuntime) -> ExitCode {
-    let status = status(&rt);
+    );
     if status == Status::Usage {
         point_to_help(&rt);
     }

@@ -16,39 +16,6 @@ use dg_mote::a_mote_buffers_little;
 use dg_nor::Nor;
 use std::alloc::{AllocError, Global};
 
-/// Does what the words ask for.
-fn answer<S: Source, K: Sink, N: Nor, L: Link, C: Clock>(
-    alloc: Global,
-    words: &Vec<String>,
-    input: &mut S,
-    out: &mut K,
-    boards: &mut Vec<N>,
-    link: &mut L,
-    clock: &mut C,
-) -> Status
-    ensures does { CommandDone (asked_of (map string_bytes words.now.items)) result
-        (surroundings (around (S.left input.old) (S.faults input.old) (K.written out.old) (K.faults out.old)
-        (map N.device boards.old.items))
-        (L.inboxes link.old) (L.faults link.old) (C.told clock.old))
-        (surroundings (around (S.left input.new) (S.faults input.new) (K.written out.new) (K.faults out.new)
-        (map N.device boards.new.items))
-        (L.inboxes link.new) (L.faults link.new) (C.told clock.new)) }
-    ensures untouched { (ReadsInput (asked_of (map string_bytes words.now.items)) → ⊥) → input.new ≡ input.old }
-    ensures apart { (UsesLink (asked_of (map string_bytes words.now.items)) → ⊥) → (link.new ≡ link.old)
-        × (clock.new ≡ clock.old) }
-    ensures link_fault { result ≡ Status.LinkFault → Rose (L.faults link.old) (L.faults link.new) }
-    ensures reads { S.faults input.old ≤ S.faults input.new }
-    ensures writes { K.faults out.old ≤ K.faults out.new }
-    ensures sends { L.faults link.old ≤ L.faults link.new }
-{
-    match asked(alloc, words) {
-        Ok(Asked::Command(command)) => carry_out(alloc, &command, input, out, boards, link, clock),
-        Ok(Asked::Help(text)) => tell_help(out, text.as_str()),
-        Ok(Asked::Usage) => tell_usage(out),
-        Err(AllocError) => Status::Memory,
-    }
-}
-
 /// Does all that the program does with the words after its name, and answers how it ended.
 ///
 /// `replay` replays the script that `input` spells over the boards, which are formatted with its `golden` line and used as
@@ -92,5 +59,10 @@ pub fn run<S: Source, K: Sink, N: Nor, L: Link, C: Clock>(
     ensures sends { L.faults link.old ≤ L.faults link.new }
 {
     a_mote_buffers_little();
-    answer(alloc, words, input, out, boards, link, clock)
+    match asked(alloc, words) {
+        Ok(Asked::Command(command)) => carry_out(alloc, &command, input, out, boards, link, clock),
+        Ok(Asked::Help(text)) => tell_help(out, text.as_str()),
+        Ok(Asked::Usage) => tell_usage(out),
+        Err(AllocError) => Status::Memory,
+    }
 }

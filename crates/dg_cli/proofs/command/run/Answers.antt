@@ -1,5 +1,5 @@
 use Rattle.dg_cli.proofs.CarryLemmas.{asked_said, reads_same, uses_same}
-use Rattle.dg_cli.proofs.command.answer.Goals as goal
+use Rattle.dg_cli.proofs.command.run.Goals as goal
 
 pub returns-in-Ok-Command-clause-untouched : goal.returns-in-Ok-Command-clause-untouched
 returns-in-Ok-Command-clause-untouched g c =
