@@ -17,8 +17,8 @@ use Rattle.dg_volume.specs.Trails.{committing, advance_trail}
 use Rattle.dg_volume.specs.Start.{Runs, app_of, counts, count_trail, blank_by, blank_trail, golden_done, finish_trail}
 use Rattle.dg_volume.specs.Acts.{Acted}
 use Rattle.dg_volume.specs.declared.volume.Volume.{Volume}
-use Rattle.dg_volume.specs.declared.volume.Kind.{Kind}
-use Rattle.dg_volume.specs.declared.volume.Kind.TheVariants.{Power, Order}
+use Rattle.dg_volume.specs.declared.volume.StartCause.{StartCause}
+use Rattle.dg_volume.specs.declared.volume.StartCause.TheVariants.{Power, Order}
 use Rattle.dg_volume.proofs.ActLemmas.{acted_none, acted_then}
 use Rattle.dg_boot.specs.Loads.{IsApp}
 use Rattle.dg_boot.specs.Ends.{TrailWent, finishes}
@@ -54,11 +54,11 @@ commit_went s next a b v acted = record {
 
 -- ---- the short starts
 
-pub counted : (k : Kind) (s : Store) → counts k s ≡ true → count_trail k s ≡ committing s (record (spent s) { gesture = s.gesture + 1 })
+pub counted : (k : StartCause) (s : Store) → counts k s ≡ true → count_trail k s ≡ committing s (record (spent s) { gesture = s.gesture + 1 })
 unfolding count_trail
 counted k s h = ap (λ (b : Bool). if b then committing s (record (spent s) { gesture = s.gesture + 1 }) else resting s 0) h
 
-pub not_counted : (k : Kind) (s : Store) → counts k s ≡ false → count_trail k s ≡ resting s 0
+pub not_counted : (k : StartCause) (s : Store) → counts k s ≡ false → count_trail k s ≡ resting s 0
 unfolding count_trail
 not_counted k s h = ap (λ (b : Bool). if b then committing s (record (spent s) { gesture = s.gesture + 1 }) else resting s 0) h
 
@@ -69,7 +69,7 @@ pub record Counts (s : Store) : Type 0 where
 below : (m n : ℕ) → nat_lt m n ≡ true → m < n
 below m n h = grind (arith, nat_tests)
 
-pub counts_room : (k : Kind) (s : Store) → counts k s ≡ true → Counts s
+pub counts_room : (k : StartCause) (s : Store) → counts k s ≡ true → Counts s
 counts_room Power s h =
     let parts = both (nat_lt s.gesture short_starts) (nat_lt 0 s.room) h in
     record { few = below s.gesture short_starts parts.0; room = below 0 s.room parts.1 }

@@ -12,8 +12,8 @@ use Rattle.dg_volume.specs.Changes.{spent}
 use Rattle.dg_volume.specs.Trails.{committing}
 use Rattle.dg_volume.specs.Start.{Runs, Boot, behind, counts, count_trail, by_gesture, order_waits, blank_by, blank_trail, copy_trail, app_of, kept_runs, order_boot, golden_done, finish_trail, golden_copied, golden_stays, golden_by, golden_boot, kept_by, kept_boot, waived_once, boot_counted, boot, is_set_to, is_whole, sound}
 use Rattle.dg_volume.specs.Ends.{IsGolden}
-use Rattle.dg_volume.specs.declared.volume.Kind.{Kind}
-use Rattle.dg_volume.specs.declared.volume.Kind.TheVariants.{Power, Order}
+use Rattle.dg_volume.specs.declared.volume.StartCause.{StartCause}
+use Rattle.dg_volume.specs.declared.volume.StartCause.TheVariants.{Power, Order}
 use Rattle.dg_volume.proofs.BeginLemmas.{begins_committing, begins_joined}
 use Rattle.dg_boot.specs.Ends.{golden_loaded, finishes}
 use Rattle.dg_boot.proofs.BeginLemmas.{copy_begins, finish_begins, kept_begins, counted_begins}
@@ -66,14 +66,14 @@ golden_runs s three =
 abbrev Counted : Store → Store
 Counted s = record (spent s) { gesture = s.gesture + 1 }
 
-count_cases : (P : Store → Type 0) (k : Kind) (s : Store) → (counts k s ≡ true → P (Counted s)) → (counts k s ≡ false → P s) → P (last (count_trail k s))
+count_cases : (P : Store → Type 0) (k : StartCause) (s : Store) → (counts k s ≡ true → P (Counted s)) → (counts k s ≡ false → P s) → P (last (count_trail k s))
 unfolding count_trail
 count_cases P k s more same =
     cond_both (counts k s) _ _ (λ (t : Trail Store). P (last t))
     (λ h. subst P (sym (last-stepping s (commit_operations s.room) (Counted s))) (more h))
     (λ h. subst P (sym (last-resting s 0)) (same h))
 
-boot_runs : (k : Kind) (s : Store) → (boot k s).runs ≡ (boot_counted (last (count_trail k s))).runs
+boot_runs : (k : StartCause) (s : Store) → (boot k s).runs ≡ (boot_counted (last (count_trail k s))).runs
 unfolding boot
 boot_runs k s = refl
 
@@ -88,11 +88,11 @@ three_true s g room =
 by_three : (s : Store) → s.gesture ≡ short_starts → 1 ≤ s.room → GoldenRuns (boot_counted s)
 by_three s g room = subst GoldenRuns (sym (counted_golden s (three_true s g room))) (golden_runs s true)
 
-counts_few : (k : Kind) (s : Store) → counts k s ≡ true → s.gesture < short_starts
+counts_few : (k : StartCause) (s : Store) → counts k s ≡ true → s.gesture < short_starts
 counts_few Power s h = let a = (both (nat_lt s.gesture short_starts) (nat_lt 0 s.room) h).0 in grind (arith, nat_tests)
 counts_few Order s h = absurd cc
 
-pub three_stand : (k : Kind) (s : Store) → s.gesture ≡ short_starts → 1 ≤ s.room → IfSome (boot k s).runs IsGolden
+pub three_stand : (k : StartCause) (s : Store) → s.gesture ≡ short_starts → 1 ≤ s.room → IfSome (boot k s).runs IsGolden
 three_stand k s g room =
     subst (λ (o : Option Runs). IfSome o IsGolden) (sym (boot_runs k s))
     (count_cases (λ (t : Store). GoldenRuns (boot_counted t)) k s (λ h. let few = counts_few k s h in absurd (omega arith)) (λ _. by_three s g room))
@@ -140,7 +140,7 @@ counted_unordered s waived =
     by_cases (Unordered s.app) s (golden_unordered s.app s true) (kept_unordered s (s.gesture == short_starts))
     (λ w. let e = waits_unwaived s w in absurd cc) (λ w. let e = waits_unwaived s w in absurd cc)
 
-pub waived_unordered : (k : Kind) (s : Store) → s.waived ≡ true → IfSome (boot k s).runs (λ r. IsGolden r ⊎ (s.app ≡ Some (app_of r)))
+pub waived_unordered : (k : StartCause) (s : Store) → s.waived ≡ true → IfSome (boot k s).runs (λ r. IsGolden r ⊎ (s.app ≡ Some (app_of r)))
 waived_unordered k s waived =
     subst (λ (o : Option Runs). IfSome o (λ r. IsGolden r ⊎ (s.app ≡ Some (app_of r)))) (sym (boot_runs k s))
     (count_cases (λ (t : Store). Unordered s.app (boot_counted t)) k s (λ _. counted_unordered (Counted s) waived) (λ _. counted_unordered s waived))
@@ -164,7 +164,7 @@ order_has s = refl
 counted_has : (s : Store) → sound s 0 ≡ true → HasImage (boot_counted s)
 counted_has s h = by_cases HasImage s (golden_has s true h) (kept_has s (s.gesture == short_starts) h) (λ _. order_has s) (λ _. kept_has (waived_once s) (s.gesture == short_starts) h)
 
-pub sound_has : (k : Kind) (s : Store) → sound s 0 ≡ true → IsSome (boot k s).runs
+pub sound_has : (k : StartCause) (s : Store) → sound s 0 ≡ true → IsSome (boot k s).runs
 sound_has k s h =
     subst (λ (o : Option Runs). IsSome o) (sym (boot_runs k s)) (count_cases (λ (t : Store). HasImage (boot_counted t)) k s (λ _. counted_has (Counted s) h) (λ _. counted_has s h))
 
@@ -179,7 +179,7 @@ kept_set s three h = kept_cases HasImage s three (λ app is. refl) (golden_set s
 counted_set : (s : Store) → is_set_to s.app 0 golden_version ≡ true → HasImage (boot_counted s)
 counted_set s h = by_cases HasImage s (golden_set s true h) (kept_set s (s.gesture == short_starts) h) (λ _. order_has s) (λ _. kept_set (waived_once s) (s.gesture == short_starts) h)
 
-pub set_has : (k : Kind) (s : Store) → is_set_to s.app 0 golden_version ≡ true → IsSome (boot k s).runs
+pub set_has : (k : StartCause) (s : Store) → is_set_to s.app 0 golden_version ≡ true → IsSome (boot k s).runs
 set_has k s h =
     subst (λ (o : Option Runs). IsSome o) (sym (boot_runs k s)) (count_cases (λ (t : Store). HasImage (boot_counted t)) k s (λ _. counted_set (Counted s) h) (λ _. counted_set s h))
 
@@ -293,11 +293,11 @@ counted_was a s was =
     by_cases (BootWas a) s (golden_was a s true was) (kept_was a s (s.gesture == short_starts) was) (λ _. order_was a s was)
     (λ _. early_joined a (committing s w) (kept_boot w (s.gesture == short_starts)).trail k.works (last-stepping s (commit_operations s.room) w ∙ sym k.first) (all_committing a s w was was) (kept_was a w (s.gesture == short_starts) was))
 
-count_was : (k : Kind) (s : Store) → AllWas s.app (count_trail k s)
+count_was : (k : StartCause) (s : Store) → AllWas s.app (count_trail k s)
 unfolding count_trail
 count_was k s = cond_both (counts k s) _ _ (AllWas s.app) (λ _. all_committing s.app s (Counted s) (inl refl) (inl refl)) (λ _. all_resting s.app s 0 (inl refl))
 
-pub set_last : (k : Kind) (s : Store) → EarlyWas s.app (boot k s).trail
+pub set_last : (k : StartCause) (s : Store) → EarlyWas s.app (boot k s).trail
 unfolding boot
 set_last k s =
     let t = count_trail k s in

@@ -12,15 +12,15 @@ ghost use Rattle.dg_boot.specs.Ends.{finishes};
 pub(crate) use dg_control::GOLDEN;
 use dg_control::{GOLDEN_VERSION, Program, SHORT_STARTS};
 use dg_order::pending;
-use dg_volume::{Kept, Kind, Volume};
+use dg_volume::{Kept, StartCause, Volume};
 
 /// Whether a start of this kind counts as a short one: it came by power, fewer than three stand, and there is room.
-pub(crate) fn counts(kind: Kind, gesture: u8, room: u32) -> bool
+pub(crate) fn counts(kind: StartCause, gesture: u8, room: u32) -> bool
     ensures { (s : Store) → gesture ≡ s.gesture → room ≡ s.room → result ≡ counts kind s }
 {
     match kind {
-        Kind::Power => gesture < SHORT_STARTS && room > 0,
-        Kind::Order => false,
+        StartCause::Power => gesture < SHORT_STARTS && room > 0,
+        StartCause::Order => false,
     }
 }
 

@@ -15,7 +15,7 @@ ghost use Rattle.dg_boot.specs.Ends.{Goes};
 use crate::choosing::{GOLDEN, counts, finishes};
 use dg_control::{CommitFault, GOLDEN_VERSION, Program};
 use dg_nor::{Nor, Stopped};
-use dg_volume::{Kind, Volume};
+use dg_volume::{StartCause, Volume};
 
 /// One commit that changes program memory, the short starts and whether the order is waived. There is room for it.
 pub(crate) fn commit<N: Nor>(
@@ -48,7 +48,7 @@ pub(crate) fn commit<N: Nor>(
 pub(crate) fn count_start<N: Nor>(
     nor: &mut N,
     volume: &mut Volume,
-    kind: Kind,
+    kind: StartCause,
 ) -> Result<(), Stopped>
     requires mounted { IsMounted (N.device nor.old).image volume.old }
     requires free { NothingLent volume.old }

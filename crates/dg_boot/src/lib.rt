@@ -33,7 +33,7 @@ ghost use Rattle.dg_boot.specs.Started.{Starts, Lacks};
 use crate::starting::start_mounted;
 pub use choosing::waits;
 use dg_nor::Nor;
-pub use dg_volume::Kind;
+pub use dg_volume::StartCause;
 use dg_volume::{Volume, trails_keep_consistency};
 pub use laws::{
     a_copy_has_these_sizes, a_waived_order_is_not_started, an_image_is_set_once_it_is_copied,
@@ -73,7 +73,7 @@ pub enum BootFault {
 /// bytes.
 ///
 /// `NoImage` may follow a commit that counted the start, and one that waived the order.
-pub fn start<N: Nor>(nor: &mut N, kind: Kind) -> Result<Started, BootFault>
+pub fn start<N: Nor>(nor: &mut N, kind: StartCause) -> Result<Started, BootFault>
     ensures started { IfOk result (λ told. (s : Store) → Stands (N.device nor.old).image s
         → Starts (boot kind s) (N.device nor.old) (N.device nor.new) told) }
     ensures runs_on { OnOk result ((s : Store) → Stands (N.device nor.old).image s

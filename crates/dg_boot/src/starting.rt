@@ -19,7 +19,7 @@ use crate::sound::is_sound;
 use crate::{BootFault, Started};
 use dg_control::{GOLDEN_VERSION, Program};
 use dg_nor::{Nor, Stopped};
-use dg_volume::{Kind, Volume};
+use dg_volume::{StartCause, Volume};
 
 /// Commits that program memory is blank, unless it is, and copies the pages of an image there that is kept whole.
 fn copy_in<N: Nor>(nor: &mut N, volume: &mut Volume, image: u8) -> Result<Loaded, Stopped>
@@ -238,7 +238,7 @@ fn start_counted<N: Nor>(nor: &mut N, volume: Volume) -> Result<Started, BootFau
 pub(crate) fn start_mounted<N: Nor>(
     nor: &mut N,
     mut volume: Volume,
-    kind: Kind,
+    kind: StartCause,
 ) -> Result<Started, BootFault>
     requires mounted { IsMounted (N.device nor.old).image volume }
     requires free { NothingLent volume }

@@ -10,7 +10,7 @@ use Rattle.dg_volume.specs.Store.{Store}
 use Rattle.dg_volume.specs.RowLaws.{SoundRows}
 use Rattle.dg_volume.specs.Table.{IsTable}
 use Rattle.dg_volume.specs.Start.{Runs, boot}
-use Rattle.dg_volume.specs.declared.volume.Kind.TheVariants as kind
+use Rattle.dg_volume.specs.declared.volume.StartCause.TheVariants as kind
 use Rattle.dg_frame.specs.declared.Message.{Message}
 use Rattle.dg_mote.specs.Model.{MoteState, begun_mote}
 use Rattle.dg_mote.specs.Ticks.{tick_of}

@@ -7,7 +7,7 @@ use Rattle.std.proofs.lemmas.List.Sums.{sum_by-cons}
 use Rattle.dg_nor.specs.Trail.{last}
 use Rattle.dg_nor.proofs.ThroughLemmas.{Through-last}
 use Rattle.dg_volume.specs.Start.{Runs, boot}
-use Rattle.dg_volume.specs.declared.volume.Kind.TheVariants as kind
+use Rattle.dg_volume.specs.declared.volume.StartCause.TheVariants as kind
 use Rattle.dg_mote.specs.Changes.{MayClear}
 use Rattle.dg_mote.specs.Ticks.{tick_of}
 use Rattle.dg_rules.specs.World.{World, Running, Site, site, store_at, with_site, counted, no_site}

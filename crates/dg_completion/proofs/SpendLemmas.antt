@@ -16,7 +16,7 @@ use Rattle.dg_volume.specs.RowLaws.{SoundRows}
 use Rattle.dg_volume.specs.Trails.{order_trail, take_trail, BeginsAt}
 use Rattle.dg_volume.specs.Start.{Runs, Boot, boot, boot_counted, by_gesture, order_waits, is_set_to, kept_runs, golden_boot, golden_done, sound, held_sound}
 use Rattle.dg_volume.specs.Ends.{take_commits, taken, blank_commits, golden_started, golden_runs, blanked}
-use Rattle.dg_volume.specs.declared.volume.Kind.TheVariants as kind
+use Rattle.dg_volume.specs.declared.volume.StartCause.TheVariants as kind
 use Rattle.dg_frame.specs.Grammar.{message_of}
 use Rattle.dg_frame.specs.declared.Entry.{Entry}
 use Rattle.dg_frame.specs.declared.FrameFault.{FrameFault}
@@ -24,7 +24,7 @@ use Rattle.dg_frame.specs.declared.Message.{Message}
 use Rattle.dg_frame.specs.declared.Message.TheVariants as message
 use Rattle.dg_mote.specs.Model.{MoteState, Mode, Maintain, Receive, Transmit, Turn}
 use Rattle.dg_mote.specs.Summary.{entry_for, advert_by, is_own, ahead_in}
-use Rattle.dg_mote.specs.Adverts.{outline, heed_trail, ask_trail, asks, asking, noting, by_ahead, advert_heard, dropped, on_advert, offer}
+use Rattle.dg_mote.specs.Adverts.{outline, better_trail, ask_trail, asks, asking, noting, by_ahead, advert_heard, dropped, on_advert, offer}
 use Rattle.dg_mote.specs.Hears.{by_message, heard_of}
 use Rattle.dg_mote.specs.Changes.{MayClear, Completes}
 use Rattle.dg_mote.specs.declared.mote.Heard.{Heard}
@@ -107,9 +107,9 @@ noting_rests : (own : Bool) (m : MoteState) (timer : Timer) (u : Store) (now wor
 noting_rests true m timer u now word = rests u 0
 noting_rests false m timer u now word = rests u 0
 
-heed_spends : (s : Store) (order : Order) → Spends 1 s (last (heed_trail s order))
-unfolding heed_trail Rattle.dg_nor.specs.Trail.last_of
-heed_spends s order = cond_both (ltb s.order.number order.number && leb 1 s.room) (order_trail s order) (resting s 0) (λ t. Spends 1 s (last t)) (λ _. omega arith) (λ _. omega arith)
+better_spends : (s : Store) (order : Order) → Spends 1 s (last (better_trail s order))
+unfolding better_trail Rattle.dg_nor.specs.Trail.last_of
+better_spends s order = cond_both (ltb s.order.number order.number && leb 1 s.room) (order_trail s order) (resting s 0) (λ t. Spends 1 s (last t)) (λ _. omega arith) (λ _. omega arith)
 
 module _ (laws : TakeLaws) (entries : List Entry) where
   ask_rests : (u : Store) (i : ℕ) → Rest u (ask_trail u i (entry_for entries i))
@@ -133,12 +133,12 @@ module _ (laws : TakeLaws) (entries : List Entry) where
   advert_spends : (m : MoteState) (timer : Timer) (s : Store) (now word source : ℕ) (order : Order) → Spends 3 s (last (advert_heard m timer s now word (offer source entries) order).trail)
   unfolding advert_heard
   advert_spends m timer s now word source order =
-      let t = heed_trail s order in
+      let t = better_trail s order in
       let u = last t in
       let rest = by_ahead (ahead_in entries u) m u now word (offer source entries) (noting m timer u now word (is_own entries order m.wide s)) in
       let r = ahead_rests (ahead_in entries u) m timer u now word source (is_own entries order m.wide s) in
       let at : last (joined t rest.trail) ≡ last rest.trail = last-joined t rest.trail (sym r.first) in
-      omega (arith, ap (λ (x : Store). x.room) at, r.spends, heed_spends s order)
+      omega (arith, ap (λ (x : Store). x.room) at, r.spends, better_spends s order)
 
   dropped_spends : (s : Store) → Spends 3 s (last (resting s 0))
   dropped_spends s = omega (arith, ap (λ (x : Store). x.room) (last-resting s 0))

@@ -19,8 +19,8 @@ use Rattle.dg_volume.specs.RowLaws.{SoundRows}
 use Rattle.dg_volume.specs.Changes.{spent, paged, gesture_cleared}
 use Rattle.dg_volume.specs.Start.{Runs, Boot, boot, boot_counted, counts, count_trail, by_gesture, order_waits, is_whole, is_set_to, kept_runs, golden_boot, golden_done, sound, held_sound, pages_sound}
 use Rattle.dg_volume.specs.Ends.{BootEnds, Boots, OnTheWay, ordered_runs, order_started, golden_started, golden_runs, blanked}
-use Rattle.dg_volume.specs.declared.volume.Kind.{Kind}
-use Rattle.dg_volume.specs.declared.volume.Kind.TheVariants as kind
+use Rattle.dg_volume.specs.declared.volume.StartCause.{StartCause}
+use Rattle.dg_volume.specs.declared.volume.StartCause.TheVariants as kind
 use Rattle.dg_frame.specs.Grammar.{message_of}
 use Rattle.dg_frame.proofs.ReadingLemmas.{wider}
 use Rattle.dg_frame.specs.declared.Entry.{Entry}
@@ -33,7 +33,7 @@ use Rattle.dg_mote.specs.Adverts.{outline}
 use Rattle.dg_mote.specs.Ticks.{tick_of}
 use Rattle.dg_mote.specs.Hears.{by_message, heard_of}
 use Rattle.dg_mote.specs.Agreement.{HonestEntry, HonestMessage, IsHonest}
-use Rattle.dg_mote.specs.Changes.{MayClear, IsBehind, HeedsAdvert, Completes}
+use Rattle.dg_mote.specs.Changes.{MayClear, IsBehind, TakesAdvert, Completes}
 use Rattle.dg_rules.proofs.BootLemmas.{waits_whole}
 use Rattle.dg_completion.specs.Completion.{newest, pages_of}
 use Rattle.dg_completion.proofs.NewestLemmas.{has_newest, count}
@@ -58,9 +58,9 @@ stays_clear table s t (inr e) = subst (Stays table s) (sym e) (stays_kept table 
 
 -- what is promised below of starts
 pub record StartLaws : Type 0 where
-  pub boots : (k : Kind) (s : Store) → Boots s (boot k s)
-  pub count : (k : Kind) (s : Store) → last (count_trail k s) ≡ cond (counts k s) (record (spent s) { gesture = s.gesture + 1 }) s
-  pub counted : (k : Kind) (s : Store) → ((boot k s).runs ≡ (boot_counted (last (count_trail k s))).runs) × (last (boot k s).trail ≡ last (boot_counted (last (count_trail k s))).trail)
+  pub boots : (k : StartCause) (s : Store) → Boots s (boot k s)
+  pub count : (k : StartCause) (s : Store) → last (count_trail k s) ≡ cond (counts k s) (record (spent s) { gesture = s.gesture + 1 }) s
+  pub counted : (k : StartCause) (s : Store) → ((boot k s).runs ≡ (boot_counted (last (count_trail k s))).runs) × (last (boot k s).trail ≡ last (boot_counted (last (count_trail k s))).trail)
   pub chosen : (s : Store) → by_gesture s ≡ true → boot_counted s ≡ golden_boot s true
   pub order : (s : Store) → by_gesture s ≡ false → order_waits s ≡ true → sound s s.order.image ≡ true → BootEnds (boot_counted s) (ordered_runs s) (order_started s)
   pub golden_copied : (s : Store) (three : Bool) → is_set_to s.app 0 golden_version ≡ false → sound s 0 ≡ true
@@ -160,9 +160,9 @@ stays_but table s t image here room kept more = record { room = room; pages = ea
       ]
     ]
 
-stays_heed : (table : List Row) (entries : List Entry) (order : Order) (s t : Store) → ((k : ℕ) → 1 ≤ k → k ≤ length entries → HonestEntry table k (entry_for entries k))
-    → HeedsAdvert entries order false s t → Stays table s t
-stays_heed table entries order s t honest h = stays_but table s t h.image h.here h.room h.kept (more h.change)
+stays_better : (table : List Row) (entries : List Entry) (order : Order) (s t : Store) → ((k : ℕ) → 1 ≤ k → k ≤ length entries → HonestEntry table k (entry_for entries k))
+    → TakesAdvert entries order false s t → Stays table s t
+stays_better table entries order s t honest h = stays_but table s t h.image h.here h.room h.kept (more h.change)
   where
     more : (h.here ≡ held s h.image) ⊎ (IsBehind (entry_for entries h.image) (held s h.image) × ((h.here ≡ Some (held_begun (outline h.image (entry_for entries h.image)))) ⊎ ((false ≡ true) × (h.here ≡ None)))) → (row : Row) → newest table row.image ≡ Some row → row.image ≡ h.image
         → count (held s h.image) row.version ≤ count h.here row.version
@@ -184,7 +184,7 @@ stays_paged table s image page =
 pub record ChangeLaws : Type 0 where
   pub ticked : (m : MoteState) (s : Store) (now word : ℕ) → Through (MayClear s) (tick_of m s now word).trail
   pub advert : (m : MoteState) (s : Store) (now word : ℕ) (bytes : List ℕ) (wide : Bool) (source : ℕ) (entries : List Entry) (order : Order) → message_of bytes m.wide ≡ Ok (advert_by wide source entries order)
-      → Through (HeedsAdvert entries order true s) (heard_of m s now word bytes).trail × HeedsAdvert entries order false s (last (heard_of m s now word bytes).trail)
+      → Through (TakesAdvert entries order true s) (heard_of m s now word bytes).trail × TakesAdvert entries order false s (last (heard_of m s now word bytes).trail)
   pub request : (m : MoteState) (s : Store) (now word : ℕ) (bytes : List ℕ) (source to image version page : ℕ) (want : Numbers) → message_of bytes m.wide ≡ Ok (message.Request source to image version page want)
       → (heard_of m s now word bytes).trail ≡ resting s 0
   pub packet : (m : MoteState) (s : Store) (now word : ℕ) (bytes : List ℕ) (source image version page q : ℕ) (content : List ℕ) → message_of bytes m.wide ≡ Ok (message.Packet source image version page q content)
@@ -206,8 +206,8 @@ stays_heard laws table m s now word bytes honest = by_read (message_of bytes m.w
 
     by_read : (r : Result Message FrameFault) → message_of bytes m.wide ≡ r → HonestMessage table r → Stays table s after
     by_read (Err fault) is honest = subst (λ (r : Result Message FrameFault). Stays table s (last (by_message r m s now word).trail)) (sym is) (subst (Stays table s) (sym (last-resting s 0)) (stays_same table s))
-    by_read (Ok (message.Advert source entries order)) is honest = stays_heed table entries order s after honest (laws.advert m s now word bytes false source entries order is).1
-    by_read (Ok (message.Wide source entries order)) is honest = stays_heed table entries order s after honest (laws.advert m s now word bytes true source entries order is).1
+    by_read (Ok (message.Advert source entries order)) is honest = stays_better table entries order s after honest (laws.advert m s now word bytes false source entries order is).1
+    by_read (Ok (message.Wide source entries order)) is honest = stays_better table entries order s after honest (laws.advert m s now word bytes true source entries order is).1
     by_read (Ok (message.Request source to image version page want)) is honest =
         subst (Stays table s) (sym (ap last (laws.request m s now word bytes source to image version page want is) ∙ last-resting s 0)) (stays_same table s)
     by_read (Ok (message.Packet source image version page q content)) is honest =

@@ -15,7 +15,7 @@ use Rattle.dg_mote.specs.declared.mote.Did.TheVariants as did
 use Rattle.dg_volume.specs.Store.{Store}
 use Rattle.dg_volume.specs.Table.{IsTable}
 use Rattle.dg_volume.specs.Start.{boot}
-use Rattle.dg_volume.specs.declared.volume.Kind.TheVariants as kind
+use Rattle.dg_volume.specs.declared.volume.StartCause.TheVariants as kind
 use Rattle.dg_frame.specs.Grammar.{message_of}
 use Rattle.dg_mote.specs.Effects.{tick_effect, tick_by, boot_by}
 use Rattle.dg_mote.specs.Spots.{Spot, pace, tick_at, ticked, after_ticks, last_sent, newer_of, mote_or}

@@ -30,7 +30,7 @@ use Rattle.dg_frame.specs.declared.Entry.{Entry}
 use Rattle.dg_mote.specs.Model.{MoteState, Mode, Maintain, Receive, Transmit, came, Turn}
 use Rattle.dg_mote.specs.Summary.{entry_for, is_own, advertiser_ahead, ahead_in}
 use Rattle.dg_mote.specs.Agreement.{ModeAgrees, HonestEntry}
-use Rattle.dg_mote.specs.Adverts.{outline, heed_trail, ask_trail, asks, asking, noting, by_ahead, turn_behind, advert_heard, on_advert, offer}
+use Rattle.dg_mote.specs.Adverts.{outline, better_trail, ask_trail, asks, asking, noting, by_ahead, turn_behind, advert_heard, on_advert, offer}
 use Rattle.dg_mote.specs.Well.{StoreIsWell}
 use Rattle.dg_mote.specs.declared.mote.Heard.{Heard}
 use Rattle.dg_mote.proofs.RowLemmas.{TableLaws, row_own}
@@ -235,9 +235,9 @@ module _ (table : List Row) (laws : TakeLaws table) (now word source : ℕ) wher
         (λ _. asking_keeps m s i e w a.low (omega (arith, a.high, few)) n a.ahead)
         (λ _. noting_keeps own m timer s w)
 
-    heed_well : (s : Store) (o : Order) → StoreIsWell table s → Through (StoreIsWell table) (heed_trail s o)
-    unfolding heed_trail
-    heed_well s o w = cond_both (nat_lt s.order.number o.number && nat_le 1 s.room) _ _ (Through (StoreIsWell table)) (λ _. laws.order s o w) (λ _. Through-resting (StoreIsWell table) s 0 w)
+    better_well : (s : Store) (o : Order) → StoreIsWell table s → Through (StoreIsWell table) (better_trail s o)
+    unfolding better_trail
+    better_well s o w = cond_both (nat_lt s.order.number o.number && nat_le 1 s.room) _ _ (Through (StoreIsWell table)) (λ _. laws.order s o w) (λ _. Through-resting (StoreIsWell table) s 0 w)
 
     behind_keeps : (s : Store) (t : Trail Store) (step : Turn Heard) → Through (StoreIsWell table) t → BeginsAt (last t) step.trail → Keeps (StoreIsWell table) table step → Keeps (StoreIsWell table) table (turn_behind t step)
     behind_keeps s t step way begins k =
@@ -250,8 +250,8 @@ module _ (table : List Row) (laws : TakeLaws table) (now word source : ℕ) wher
     pub advert_keeps : (mode : Mode) (m : MoteState) (s : Store) (order : Order) → StoreIsWell table s → ModeAgrees table s m.mode → Keeps (StoreIsWell table) table (on_advert mode m s now word (offer source entries) order)
     unfolding advert_heard
     advert_keeps (Maintain timer) m s order w own =
-        let t = heed_trail s order in
-        let first = heed_well s order w in
+        let t = better_trail s order in
+        let first = better_well s order w in
         let here = Through-last (StoreIsWell table) t first in
         behind_keeps s t _ first
         (ahead_begins laws.order_begins laws.clear_begins laws.take_begins (ahead_in entries (last t)) m timer (last t) now word source entries (is_own entries order m.wide s))

@@ -40,7 +40,7 @@ use Rattle.dg_volume.specs.declared.volume.TakeFault.TheVariants as take_fault
 use Rattle.dg_volume.specs.declared.volume.Volume.{Volume}
 use Rattle.dg_mote.specs.Model.{MoteState, Mode, Maintain, came}
 use Rattle.dg_mote.specs.Summary.{no_entry, entry_for, is_own, advertiser_ahead, ahead_in}
-use Rattle.dg_mote.specs.Adverts.{outline, heed_trail, ask_trail, asks, asking, noting, by_ahead, turn_behind, advert_heard, offer}
+use Rattle.dg_mote.specs.Adverts.{outline, better_trail, ask_trail, asks, asking, noting, by_ahead, turn_behind, advert_heard, offer}
 use Rattle.dg_mote.specs.Motes.{IsMote, ModeStands, Done}
 use Rattle.dg_mote.specs.Hearing.{MayTake, slot_trail, Opened, Begun}
 use Rattle.dg_mote.specs.declared.mote.Heard.TheVariants as heard
@@ -55,18 +55,18 @@ use Rattle.dg_mote.proofs.ServeLemmas.{chosen, passed}
 
 -- ---- an order
 
-abbrev pub is_heeded : Store → Order → Bool
-is_heeded s order = nat_lt s.order.number order.number && nat_le 1 s.room
+abbrev pub is_kept_better : Store → Order → Bool
+is_kept_better s order = nat_lt s.order.number order.number && nat_le 1 s.room
 
-pub heeded : (s : Store) (order : Order) → is_heeded s order ≡ true → heed_trail s order ≡ order_trail s order
-unfolding heed_trail
-heeded s order e = chosen (is_heeded s order) _ _ e
+pub kept_better : (s : Store) (order : Order) → is_kept_better s order ≡ true → better_trail s order ≡ order_trail s order
+unfolding better_trail
+kept_better s order e = chosen (is_kept_better s order) _ _ e
 
-pub unheeded : (s : Store) (order : Order) → is_heeded s order ≡ false → heed_trail s order ≡ resting s 0
-unfolding heed_trail
-unheeded s order e = passed (is_heeded s order) _ _ e
+pub not_kept_better : (s : Store) (order : Order) → is_kept_better s order ≡ false → better_trail s order ≡ resting s 0
+unfolding better_trail
+not_kept_better s order e = passed (is_kept_better s order) _ _ e
 
-pub order_free : (s : Store) (order : Order) → is_heeded s order ≡ true → order_refusal s order ≡ None
+pub order_free : (s : Store) (order : Order) → is_kept_better s order ≡ true → order_refusal s order ≡ None
 order_free s order e =
     let better : s.order.number < order.number = grind (arith, nat_tests) in
     let room : 1 ≤ s.room = grind (arith, nat_tests) in
@@ -292,7 +292,7 @@ pub follows_asking : (m : MoteState) (timer : Timer) (s : Store) (now word sourc
 follows_asking m timer s now word source i entries e own found is can =
     ap (λ (o : Option ℕ). by_ahead o m s now word (offer source entries) (noting m timer s now word own)) found ∙ chosen (asks m s now i (entry_for entries i)) _ _ (ap (λ x. asks m s now i x) (sym is) ∙ can) ∙ ap (λ x. asking m s now word source i x) (sym is)
 
--- ---- an advert that is weighed
+-- ---- an advert that is compared
 
 slot_begins : TakeBegins → (s : Store) (i : ℕ) (e : Entry) → BeginsAt s (slot_trail s i e)
 slot_begins takes s i e = by_version (is_version (held s i) e.version)
@@ -325,9 +325,9 @@ maintains_still c d v w s t timer (value.Maintain trickle) free stands = (stands
 maintains_still c d v w s t timer (value.Receive a b e f) free stands = absurd stands
 maintains_still c d v w s t timer (value.Transmit a b e f) free stands = absurd stands
 
-pub heed_mote : (a b : Device) (v : Mote) (w : Volume) (m : MoteState) (s : Store) (timer : Timer) (order : Order) → IsMote a.image v m s → m.mode ≡ Maintain timer → Acted (heed_trail s order) a b w → ((i : ℕ) → is_lent w i ≡ is_lent v.volume i) → IsMote b.image (record v { volume = w }) m (last (heed_trail s order))
-heed_mote a b v w m s timer order is mode acted lent =
-    let t = last (heed_trail s order) in
+pub better_mote : (a b : Device) (v : Mote) (w : Volume) (m : MoteState) (s : Store) (timer : Timer) (order : Order) → IsMote a.image v m s → m.mode ≡ Maintain timer → Acted (better_trail s order) a b w → ((i : ℕ) → is_lent w i ≡ is_lent v.volume i) → IsMote b.image (record v { volume = w }) m (last (better_trail s order))
+better_mote a b v w m s timer order is mode acted lent =
+    let t = last (better_trail s order) in
     let free = maintain_free a.image v m s timer is mode in
     let stands : ModeStands a.image v.volume s v.mode (Maintain timer) = subst (λ (y : Mode). ModeStands a.image v.volume s v.mode y) mode is.mode in
     let still : ModeStands b.image w t v.mode (Maintain timer) = maintains_still a.image b.image v.volume w s t timer v.mode (λ i. lent i ∙ free i) stands in
@@ -338,8 +338,8 @@ pub said_same : (own : Bool) (entries : List Entry) (order : Order) (wide : Bool
 said_same own entries order wide m s alike e = e ∙ ap (λ w. is_own entries order w s) alike
 
 pub advert_is : (m : MoteState) (timer : Timer) (s : Store) (now word source : ℕ) (entries : List Entry) (order : Order) (own : Bool) → own ≡ is_own entries order m.wide s
-    → advert_heard m timer s now word (offer source entries) order ≡ turn_behind (heed_trail s order) (by_ahead (ahead_in entries (last (heed_trail s order))) m (last (heed_trail s order)) now word (offer source entries) (noting m timer (last (heed_trail s order)) now word own))
+    → advert_heard m timer s now word (offer source entries) order ≡ turn_behind (better_trail s order) (by_ahead (ahead_in entries (last (better_trail s order))) m (last (better_trail s order)) now word (offer source entries) (noting m timer (last (better_trail s order)) now word own))
 unfolding advert_heard
 advert_is m timer s now word source entries order own e =
-    let t = heed_trail s order in
+    let t = better_trail s order in
     ap (λ (b : Bool). turn_behind t (by_ahead (ahead_in entries (last t)) m (last t) now word (offer source entries) (noting m timer (last t) now word b))) (sym e)

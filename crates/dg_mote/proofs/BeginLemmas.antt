@@ -34,7 +34,7 @@ use Rattle.dg_frame.specs.declared.FrameFault.{FrameFault}
 use Rattle.dg_mote.specs.Model.{MoteState, Mode, Maintain, Receive, Transmit, Receiving, Sending, came, reception, Turn}
 use Rattle.dg_mote.specs.Summary.{entry_for, is_own, ahead_in}
 use Rattle.dg_mote.specs.Ticks.{clears, maintain_by, receive_by, transmit_by, mode_tick, tick_of}
-use Rattle.dg_mote.specs.Adverts.{outline, heed_trail, ask_trail, asks, noting, by_ahead, advert_heard, on_advert, offer}
+use Rattle.dg_mote.specs.Adverts.{outline, better_trail, ask_trail, asks, noting, by_ahead, advert_heard, on_advert, offer}
 use Rattle.dg_mote.specs.Requests.{concerns, can_serve, is_served, to_it, on_request, page_request}
 use Rattle.dg_mote.specs.Packets.{is_wanted, accepted, seal_by, takes, on_packet, page_packet}
 use Rattle.dg_mote.specs.Hears.{source_of, on_message, by_message, heard_of}
@@ -84,9 +84,9 @@ module _ (order : (s : Store) (o : Order) → BeginsAt s (order_trail s o)) (cle
 
   -- ---- adverts
 
-  pub heed_begins : (s : Store) (o : Order) → BeginsAt s (heed_trail s o)
-  unfolding heed_trail
-  heed_begins s o = cond_both (nat_lt s.order.number o.number && nat_le 1 s.room) _ _ (BeginsAt s) (λ _. order s o) (λ _. resting_begins s 0)
+  pub better_begins : (s : Store) (o : Order) → BeginsAt s (better_trail s o)
+  unfolding better_trail
+  better_begins s o = cond_both (nat_lt s.order.number o.number && nat_le 1 s.room) _ _ (BeginsAt s) (λ _. order s o) (λ _. resting_begins s 0)
 
   pub ask_begins : (s : Store) (i : ℕ) (e : Entry) → BeginsAt s (ask_trail s i e)
   unfolding ask_trail
@@ -107,8 +107,8 @@ module _ (order : (s : Store) (o : Order) → BeginsAt s (order_trail s o)) (cle
   advert_begins : (mode : Mode) (m : MoteState) (s : Store) (now word source : ℕ) (entries : List Entry) (o : Order) → Begins s (on_advert mode m s now word (offer source entries) o)
   unfolding advert_heard
   advert_begins (Maintain timer) m s now word source entries o =
-      let t = heed_trail s o in
-      joined_begins s t _ (heed_begins s o) (ahead_begins (ahead_in entries (last t)) m timer (last t) now word source entries (is_own entries o m.wide s))
+      let t = better_trail s o in
+      joined_begins s t _ (better_begins s o) (ahead_begins (ahead_in entries (last t)) m timer (last t) now word source entries (is_own entries o m.wide s))
   advert_begins (Receive r) m s now word source entries o = resting_begins s 0
   advert_begins (Transmit t) m s now word source entries o = resting_begins s 0
 

@@ -39,11 +39,11 @@ use Rattle.dg_frame.specs.declared.Message.TheVariants.{Request, Packet}
 use Rattle.dg_mote.specs.Model.{MoteState, Mode, Maintain, Receive, Transmit, Receiving, Sending, came, reception, Turn}
 use Rattle.dg_mote.specs.Summary.{entry_for, advert_by, is_own, advertiser_ahead, ahead_in}
 use Rattle.dg_mote.specs.Ticks.{clears, maintain_by, receive_by, transmit_by, mode_tick, tick_of}
-use Rattle.dg_mote.specs.Adverts.{outline, heed_trail, ask_trail, asks, noting, by_ahead, advert_heard, on_advert, offer}
+use Rattle.dg_mote.specs.Adverts.{outline, better_trail, ask_trail, asks, noting, by_ahead, advert_heard, on_advert, offer}
 use Rattle.dg_mote.specs.Requests.{concerns, can_serve, is_served, to_it, page_request}
 use Rattle.dg_mote.specs.Packets.{is_wanted, seal_by, on_packet, page_packet}
 use Rattle.dg_mote.specs.Hears.{by_message, heard_of}
-use Rattle.dg_mote.specs.Changes.{MayClear, IsBehind, HeedsAdvert, Completes}
+use Rattle.dg_mote.specs.Changes.{MayClear, IsBehind, TakesAdvert, Completes}
 use Rattle.dg_mote.specs.declared.mote.Did.{Did}
 use Rattle.dg_mote.specs.declared.mote.Heard.{Heard}
 use Rattle.dg_mote.proofs.AdvertLemmas.{is_ahead}
@@ -165,19 +165,19 @@ packet_completes m s now word bytes source image version page q content is =
 -- ---- adverts
 
 module _ (ends : (s : Store) (p : Outline) → last (take_trail s p) ≡ taken s p) (begins : (s : Store) (p : Outline) → BeginsAt s (take_trail s p)) (entries : List Entry) (order : Order) (s : Store) where
-  abbrev Heeds : Bool → Store → Type 0
-  Heeds stopped t = HeedsAdvert entries order stopped s t
+  abbrev TakesThere : Bool → Store → Type 0
+  TakesThere stopped t = TakesAdvert entries order stopped s t
 
-  -- the order is heeded, and nothing else changes
-  record Heeded (u : Store) : Type 0 where
+  -- the order is kept_better, and nothing else changes
+  record OrderTaken (u : Store) : Type 0 where
     pub order_is : (u.order ≡ s.order) ⊎ ((u.order ≡ order) × (s.order.number < order.number))
     pub kept : u.kept ≡ s.kept
     pub app : u.app ≡ s.app
     pub gesture : u.gesture ≡ s.gesture
     pub room : u.room ≤ s.room
 
-  heeded_heeds : (stopped : Bool) (u : Store) → Heeded u → Heeds stopped u
-  heeded_heeds stopped u h = record {
+  kept_better_keeps : (stopped : Bool) (u : Store) → OrderTaken u → TakesThere stopped u
+  kept_better_keeps stopped u h = record {
     order_is = h.order_is;
     image = 1;
     not_golden = omega arith;
@@ -189,24 +189,24 @@ module _ (ends : (s : Store) (p : Outline) → last (take_trail s p) ≡ taken s
     room = h.room;
   }
 
-  heed_way : Through Heeded (heed_trail s order)
-  unfolding heed_trail
-  heed_way =
-      let same : Heeded s = record { order_is = inl refl; kept = refl; app = refl; gesture = refl; room = omega arith } in
-      cond_both (nat_lt s.order.number order.number && nat_le 1 s.room) (order_trail s order) (resting s 0) (Through Heeded)
+  better_way : Through OrderTaken (better_trail s order)
+  unfolding better_trail
+  better_way =
+      let same : OrderTaken s = record { order_is = inl refl; kept = refl; app = refl; gesture = refl; room = omega arith } in
+      cond_both (nat_lt s.order.number order.number && nat_le 1 s.room) (order_trail s order) (resting s 0) (Through OrderTaken)
       (λ may. let low = ltb-true s.order.number order.number (and_parts (nat_lt s.order.number order.number) (nat_le 1 s.room) may).0 in
-      Through-stepping Heeded s (commit_operations s.room) (ordered s order) same
+      Through-stepping OrderTaken s (commit_operations s.room) (ordered s order) same
       (record { order_is = inr (refl, low); kept = refl; app = refl; gesture = refl; room = omega arith }))
-      (λ _. Through-resting Heeded s 0 same)
+      (λ _. Through-resting OrderTaken s 0 same)
 
   -- ---- one image is begun anew
 
-  module _ (u : Store) (h : Heeded u) (i : ℕ) (low : 1 ≤ i) (behind : IsBehind (entry_for entries i) (held s i)) where
+  module _ (u : Store) (h : OrderTaken u) (i : ℕ) (low : 1 ≤ i) (behind : IsBehind (entry_for entries i) (held s i)) where
     abbrev P : Outline
     P = outline i (entry_for entries i)
 
     takes_to : (stopped : Bool) (t : Store) (here : Option Held) → t.kept ≡ slice_set u.kept i here → t.order ≡ u.order → t.app ≡ u.app → t.gesture ≡ u.gesture → t.room ≤ u.room
-        → (here ≡ Some (held_begun P)) ⊎ ((stopped ≡ true) × (here ≡ None)) → Heeds stopped t
+        → (here ≡ Some (held_begun P)) ⊎ ((stopped ≡ true) × (here ≡ None)) → TakesThere stopped t
     takes_to stopped t here kept order_is app gesture room how = record {
       order_is = subst (λ (o : Order). (o ≡ s.order) ⊎ ((o ≡ order) × (s.order.number < order.number))) (sym order_is) h.order_is;
       image = i;
@@ -233,10 +233,10 @@ module _ (ends : (s : Store) (p : Outline) → last (take_trail s p) ≡ taken s
         Through-stepping Dropped u (commit_operations u.room) (keeping i None (spent u)) (record { kept = inl refl; order_is = refl; app = refl; gesture = refl; room = omega arith })
         (record { kept = inr refl; order_is = refl; app = refl; gesture = refl; room = omega arith })
 
-    dropped_heeds : (t : Store) → Dropped t → Heeds true t
-    dropped_heeds t d =
+    dropped_keeps_better : (t : Store) → Dropped t → TakesThere true t
+    dropped_keeps_better t d =
         ⊎_elim
-        (λ same. heeded_heeds true t (record {
+        (λ same. kept_better_keeps true t (record {
           order_is = subst (λ (o : Order). (o ≡ s.order) ⊎ ((o ≡ order) × (s.order.number < order.number))) (sym d.order_is) h.order_is;
           kept = same ∙ h.kept;
           app = d.app ∙ h.app;
@@ -246,42 +246,42 @@ module _ (ends : (s : Store) (p : Outline) → last (take_trail s p) ≡ taken s
         (λ gone. takes_to true t None gone d.order_is d.app d.gesture d.room (inr (refl, refl)))
         d.kept
 
-    begun_heeds : (t : Store) → Dropped t → Heeds true (keeping i (Some (held_begun P)) (spent t))
-    begun_heeds t d =
+    begun_keeps_better : (t : Store) → Dropped t → TakesThere true (keeping i (Some (held_begun P)) (spent t))
+    begun_keeps_better t d =
         takes_to true (keeping i (Some (held_begun P)) (spent t)) (Some (held_begun P))
         (⊎_elim (λ same. ap (λ (xs : List (Option Held)). slice_set xs i (Some (held_begun P))) same)
         (λ gone. ap (λ (xs : List (Option Held)). slice_set xs i (Some (held_begun P))) gone ∙ set-set u.kept i None (Some (held_begun P))) d.kept)
         d.order_is d.app d.gesture (let less = d.room in omega (arith, less)) (inl refl)
 
-    open_way : (t : Store) → Dropped t → Through (Heeds true) (open_trail t P)
+    open_way : (t : Store) → Dropped t → Through (TakesThere true) (open_trail t P)
     open_way t d =
         let next = keeping i (Some (held_begun P)) (spent t) in
-        Through-joined (Heeds true) (resting t 2) (committing t next) (Through-resting (Heeds true) t 2 (dropped_heeds t d))
-        (Through-stepping (Heeds true) t (commit_operations t.room) next (dropped_heeds t d) (begun_heeds t d))
+        Through-joined (TakesThere true) (resting t 2) (committing t next) (Through-resting (TakesThere true) t 2 (dropped_keeps_better t d))
+        (Through-stepping (TakesThere true) t (commit_operations t.room) next (dropped_keeps_better t d) (begun_keeps_better t d))
 
-    take_way : Through (Heeds true) (take_trail u P)
+    take_way : Through (TakesThere true) (take_trail u P)
     unfolding take_trail drop_trail
     take_way =
         let t = drop_by (held u i) u i in
         let first = drop_way (held u i) in
-        Through-joined (Heeds true) t (open_trail (last t) P) (through_then Dropped (Heeds true) dropped_heeds t first) (open_way (last t) (Through-last Dropped t first))
+        Through-joined (TakesThere true) t (open_trail (last t) P) (through_then Dropped (TakesThere true) dropped_keeps_better t first) (open_way (last t) (Through-last Dropped t first))
 
-    taken_heeds : Heeds false (taken u P)
-    taken_heeds = takes_to false (taken u P) (Some (held_begun P)) refl refl refl refl (omega arith) (inl refl)
+    taken_keeps_better : TakesThere false (taken u P)
+    taken_keeps_better = takes_to false (taken u P) (Some (held_begun P)) refl refl refl refl (omega arith) (inl refl)
 
   -- ---- the whole advert
 
   -- the rest of it begins at this store, and goes on and ends so
   record Goes (u : Store) (t : Trail Store) : Type 0 where
     pub first : t.first ≡ u
-    pub way : Through (Heeds true) t
-    pub ends_so : Heeds false (last t)
+    pub way : Through (TakesThere true) t
+    pub ends_so : TakesThere false (last t)
 
-  rests_goes : (u : Store) (n : ℕ) → Heeded u → Goes u (resting u n)
+  rests_goes : (u : Store) (n : ℕ) → OrderTaken u → Goes u (resting u n)
   unfolding Rattle.dg_nor.specs.Trail.last_of
-  rests_goes u n h = record { first = refl; way = Through-resting (Heeds true) u n (heeded_heeds true u h); ends_so = heeded_heeds false u h }
+  rests_goes u n h = record { first = refl; way = Through-resting (TakesThere true) u n (kept_better_keeps true u h); ends_so = kept_better_keeps false u h }
 
-  noting_goes : (own : Bool) (m : MoteState) (timer : Timer) (u : Store) (now word : ℕ) → Heeded u → Goes u (noting m timer u now word own).trail
+  noting_goes : (own : Bool) (m : MoteState) (timer : Timer) (u : Store) (now word : ℕ) → OrderTaken u → Goes u (noting m timer u now word own).trail
   noting_goes true m timer u now word h = rests_goes u 0 h
   noting_goes false m timer u now word h = rests_goes u 0 h
 
@@ -300,7 +300,7 @@ module _ (ends : (s : Store) (p : Outline) → last (take_trail s p) ≡ taken s
       either true b e = inl refl
       either false b e = inr e
 
-  ask_goes : (u : Store) (i : ℕ) → Heeded u → 1 ≤ i → advertiser_ahead (entry_for entries i) (held u i) ≡ true → Goes u (ask_trail u i (entry_for entries i))
+  ask_goes : (u : Store) (i : ℕ) → OrderTaken u → 1 ≤ i → advertiser_ahead (entry_for entries i) (held u i) ≡ true → Goes u (ask_trail u i (entry_for entries i))
   unfolding ask_trail
   ask_goes u i h low ahead =
       let e = entry_for entries i in
@@ -315,11 +315,11 @@ module _ (ends : (s : Store) (p : Outline) → last (take_trail s p) ≡ taken s
       let at : last (joined t (resting (last t) 1)) ≡ taken u p = last-joined t (resting (last t) 1) refl ∙ last-resting (last t) 1 ∙ ends u p in
       record {
         first = joined_first t (resting (last t) 1) ∙ (begins u p).first;
-        way = Through-joined (Heeds true) t (resting (last t) 1) way (Through-resting (Heeds true) (last t) 1 (Through-last (Heeds true) t way));
-        ends_so = subst (Heeds false) (sym at) (taken_heeds u h i low behind);
+        way = Through-joined (TakesThere true) t (resting (last t) 1) way (Through-resting (TakesThere true) (last t) 1 (Through-last (TakesThere true) t way));
+        ends_so = subst (TakesThere false) (sym at) (taken_keeps_better u h i low behind);
       })
 
-  ahead_goes : (o : Option ℕ) (m : MoteState) (timer : Timer) (u : Store) (now word source : ℕ) (own : Bool) → Heeded u
+  ahead_goes : (o : Option ℕ) (m : MoteState) (timer : Timer) (u : Store) (now word source : ℕ) (own : Bool) → OrderTaken u
       → ((i : ℕ) → o ≡ Some i → (1 ≤ i) × (advertiser_ahead (entry_for entries i) (held u i) ≡ true)) → Goes u (by_ahead o m u now word (offer source entries) (noting m timer u now word own)).trail
   ahead_goes None m timer u now word source own h known = noting_goes own m timer u now word h
   ahead_goes (Some i) m timer u now word source own h known =
@@ -329,20 +329,20 @@ module _ (ends : (s : Store) (p : Outline) → last (take_trail s p) ≡ taken s
 
   -- it goes so, and ends so
   abbrev Both : Turn Heard → Type 0
-  Both step = Through (Heeds true) step.trail × Heeds false (last step.trail)
+  Both step = Through (TakesThere true) step.trail × TakesThere false (last step.trail)
 
-  same_both : Through (Heeds true) (resting s 0) × Heeds false (last (resting s 0))
+  same_both : Through (TakesThere true) (resting s 0) × TakesThere false (last (resting s 0))
   same_both = let g = rests_goes s 0 (record { order_is = inl refl; kept = refl; app = refl; gesture = refl; room = omega arith }) in (g.way, g.ends_so)
 
   advert_both : (m : MoteState) (timer : Timer) (now word source : ℕ) → Both (advert_heard m timer s now word (offer source entries) order)
   unfolding advert_heard
   advert_both m timer now word source =
-      let t = heed_trail s order in
+      let t = better_trail s order in
       let u = last t in
       let rest = by_ahead (ahead_in entries u) m u now word (offer source entries) (noting m timer u now word (is_own entries order m.wide s)) in
-      let g = ahead_goes (ahead_in entries u) m timer u now word source (is_own entries order m.wide s) (Through-last Heeded t heed_way) (λ i e. let a = is_ahead entries u i e in (a.low, a.ahead)) in (
-        Through-joined (Heeds true) t rest.trail (through_then Heeded (Heeds true) (heeded_heeds true) t heed_way) g.way,
-        subst (Heeds false) (sym (last-joined t rest.trail (sym g.first))) g.ends_so,
+      let g = ahead_goes (ahead_in entries u) m timer u now word source (is_own entries order m.wide s) (Through-last OrderTaken t better_way) (λ i e. let a = is_ahead entries u i e in (a.low, a.ahead)) in (
+        Through-joined (TakesThere true) t rest.trail (through_then OrderTaken (TakesThere true) (kept_better_keeps true) t better_way) g.way,
+        subst (TakesThere false) (sym (last-joined t rest.trail (sym g.first))) g.ends_so,
       )
 
   on_advert_both : (mode : Mode) (m : MoteState) (now word source : ℕ) → Both (on_advert mode m s now word (offer source entries) order)
@@ -354,7 +354,7 @@ module _ (ends : (s : Store) (p : Outline) → last (take_trail s p) ≡ taken s
   advert_by_both m now word true source = cond_both (source == m.id) _ _ Both (λ _. same_both) (λ _. on_advert_both m.mode m now word source)
   advert_by_both m now word false source = cond_both (source == m.id) _ _ Both (λ _. same_both) (λ _. on_advert_both m.mode m now word source)
 
-  pub advert_heeds : (m : MoteState) (now word : ℕ) (bytes : List ℕ) (wide : Bool) (source : ℕ) → message_of bytes m.wide ≡ Ok (advert_by wide source entries order)
-      → Through (HeedsAdvert entries order true s) (heard_of m s now word bytes).trail × HeedsAdvert entries order false s (last (heard_of m s now word bytes).trail)
+  pub advert_keeps_better : (m : MoteState) (now word : ℕ) (bytes : List ℕ) (wide : Bool) (source : ℕ) → message_of bytes m.wide ≡ Ok (advert_by wide source entries order)
+      → Through (TakesAdvert entries order true s) (heard_of m s now word bytes).trail × TakesAdvert entries order false s (last (heard_of m s now word bytes).trail)
   unfolding heard_of
-  advert_heeds m now word bytes wide source is = subst (λ (r : Result Message FrameFault). Both (by_message r m s now word)) (sym is) (advert_by_both m now word wide source)
+  advert_keeps_better m now word bytes wide source is = subst (λ (r : Result Message FrameFault). Both (by_message r m s now word)) (sym is) (advert_by_both m now word wide source)

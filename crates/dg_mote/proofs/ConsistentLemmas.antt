@@ -42,7 +42,7 @@ use Rattle.dg_frame.specs.declared.FrameFault.{FrameFault}
 use Rattle.dg_mote.specs.Model.{MoteState, Mode, Maintain, Receive, Transmit, Receiving, Sending, came, reception, maintains, Turn}
 use Rattle.dg_mote.specs.Summary.{entry_for, is_own, ahead_in}
 use Rattle.dg_mote.specs.Ticks.{clears, maintain_by, asked, receive_by, serving, transmit_by, mode_tick, tick_of}
-use Rattle.dg_mote.specs.Adverts.{outline, heed_trail, ask_trail, asks, asking, noting, by_ahead, turn_behind, advert_heard, on_advert, offer}
+use Rattle.dg_mote.specs.Adverts.{outline, better_trail, ask_trail, asks, asking, noting, by_ahead, turn_behind, advert_heard, on_advert, offer}
 use Rattle.dg_mote.specs.Requests.{concerns, can_serve, is_served, to_it, on_request, page_request}
 use Rattle.dg_mote.specs.Packets.{is_wanted, accepted, seal_by, takes, on_packet, page_packet}
 use Rattle.dg_mote.specs.Hears.{source_of, on_message, by_message, heard_of}
@@ -142,9 +142,9 @@ module _ (golden : Row) (laws : ActLaws golden) (now word : ℕ) where
       (λ _. Through-resting P s 1 p)
       (λ _. Through-joined P t (resting (last t) 1) way (Through-resting P (last t) 1 (Through-last P t way)))
 
-  heed_way : (s : Store) (o : Order) → P s → Through P (heed_trail s o)
-  unfolding heed_trail
-  heed_way s o p = cond_both (nat_lt s.order.number o.number && nat_le 1 s.room) _ _ (Through P) (λ _. order_way s o p) (λ _. Through-resting P s 0 p)
+  better_way : (s : Store) (o : Order) → P s → Through P (better_trail s o)
+  unfolding better_trail
+  better_way s o p = cond_both (nat_lt s.order.number o.number && nat_le 1 s.room) _ _ (Through P) (λ _. order_way s o p) (λ _. Through-resting P s 0 p)
 
   noting_turns : (own : Bool) (m : MoteState) (timer : Timer) (s : Store) → P s → Turns (noting m timer s now word own)
   noting_turns true m timer s p = rests (record m { mode = Maintain (after_same timer) }) s 0 None _ p tt
@@ -169,8 +169,8 @@ module _ (golden : Row) (laws : ActLaws golden) (now word : ℕ) where
     advert_turns : (mode : Mode) (m : MoteState) (s : Store) (order : Order) → P s → AsksForKnown m.mode → Turns (on_advert mode m s now word (offer source entries) order)
     unfolding advert_heard
     advert_turns (Maintain timer) m s order p own =
-        let t = heed_trail s order in
-        let first = heed_way s order p in
+        let t = better_trail s order in
+        let first = better_way s order p in
         behind_turns t _ first (ahead_turns (ahead_in entries (last t)) m timer (last t) (is_own entries order m.wide s) (Through-last P t first) refl)
     advert_turns (Receive r) m s order p own = rests m s 0 None _ p own
     advert_turns (Transmit t) m s order p own = rests m s 0 None _ p own

@@ -36,7 +36,7 @@ use Rattle.dg_frame.specs.declared.FrameFault.{FrameFault}
 use Rattle.dg_mote.specs.Model.{MoteState, Mode, Maintain, Receive, Transmit, Receiving, Sending, came, reception, maintains, Turn}
 use Rattle.dg_mote.specs.Summary.{entries_of, own_order, advert_by, entry_for, is_own, ahead_in}
 use Rattle.dg_mote.specs.Ticks.{clears, maintain_by, receive_by, serving, transmit_by, mode_tick, tick_of}
-use Rattle.dg_mote.specs.Adverts.{heed_trail, asks, noting, by_ahead, advert_heard, on_advert, offer}
+use Rattle.dg_mote.specs.Adverts.{better_trail, asks, noting, by_ahead, advert_heard, on_advert, offer}
 use Rattle.dg_mote.specs.Requests.{concerns, can_serve, is_served, to_it, on_request, page_request}
 use Rattle.dg_mote.specs.Packets.{is_wanted, accepted, seal_by, takes, on_packet, page_packet}
 use Rattle.dg_mote.specs.Hears.{source_of, on_message, by_message, heard_of}
@@ -169,7 +169,7 @@ module _ (image from until : ℕ) (Noting : Noted → Type 0) (shuts : Shuts ima
     advert_quiet : (mode : Mode) (m : MoteState) (s : Store) (word source : ℕ) (entries : List Entry) (order : Order) → IsQuiet m → Hushed (on_advert mode m s now word (offer source entries) order)
     unfolding advert_heard
     advert_quiet (Maintain timer) m s word source entries order q =
-        let t = heed_trail s order in ahead_quiet (ahead_in entries (last t)) m timer (last t) word source entries (is_own entries order m.wide s) q
+        let t = better_trail s order in ahead_quiet (ahead_in entries (last t)) m timer (last t) word source entries (is_own entries order m.wide s) q
     advert_quiet (Receive r) m s word source entries order q = q
     advert_quiet (Transmit t) m s word source entries order q = q
 

@@ -31,7 +31,7 @@ use Rattle.dg_frame.specs.declared.Message.TheVariants.{Advert, Request, Packet,
 use Rattle.dg_mote.specs.Model.{MoteState, Mode, Maintain, Receive, Transmit, Receiving, Sending, came, reception, Turn}
 use Rattle.dg_mote.specs.Summary.{entry_for, is_own, ahead_in}
 use Rattle.dg_mote.specs.Ticks.{clears, maintain_by, receive_by, transmit_by, mode_tick, tick_of}
-use Rattle.dg_mote.specs.Adverts.{heed_trail, asks, noting, by_ahead, advert_heard, on_advert, offer}
+use Rattle.dg_mote.specs.Adverts.{better_trail, asks, noting, by_ahead, advert_heard, on_advert, offer}
 use Rattle.dg_mote.specs.Requests.{concerns, can_serve, is_served, to_it, on_request, page_request}
 use Rattle.dg_mote.specs.Packets.{is_wanted, accepted, seal_by, on_packet, page_packet}
 use Rattle.dg_mote.specs.Hears.{source_of, on_message, by_message, heard_of}
@@ -126,7 +126,7 @@ module _ (comes : (image version page q : ℕ) → Type 0) (m : MoteState) where
   advert_hears : (mode : Mode) (s : Store) (now word source : ℕ) (entries : List Entry) (order : Order) → m.mode ≡ mode → Hears (on_advert mode m s now word (offer source entries) order)
   unfolding advert_heard
   advert_hears (Maintain timer) s now word source entries order is =
-      let u = last (heed_trail s order) in
+      let u = last (better_trail s order) in
       ahead_hears (ahead_in entries u) timer u now word source entries (is_own entries order m.wide s) (λ i e. (is_ahead entries u i e).low)
   advert_hears (Receive r) s now word source entries order is = same_mode m.mode refl
   advert_hears (Transmit t) s now word source entries order is = same_mode m.mode refl

@@ -29,7 +29,7 @@ use Rattle.dg_frame.specs.declared.Message.TheVariants.{Request}
 use Rattle.dg_mote.specs.Model.{MoteState, Maintain, Receive, Receiving, Turn, came, reception}
 use Rattle.dg_mote.specs.Summary.{entry_for, entry_by, entries_of, advertiser_ahead, ahead_in, named, own_order, advert_of, is_own}
 use Rattle.dg_mote.specs.Ticks.{asked, receive_by}
-use Rattle.dg_mote.specs.Adverts.{heed_trail, ask_trail, outline, asks, asking, noting, by_ahead, turn_behind, advert_heard, on_advert, dropped, offer}
+use Rattle.dg_mote.specs.Adverts.{better_trail, ask_trail, outline, asks, asking, noting, by_ahead, turn_behind, advert_heard, on_advert, dropped, offer}
 use Rattle.dg_mote.specs.Hears.{on_message, by_message}
 use Rattle.dg_mote.specs.Effects.{tick_by, tick_effect}
 use Rattle.dg_mote.specs.Spots.{Spot, SpotIsWell, pace, hears, ticked}
@@ -40,7 +40,7 @@ use Rattle.dg_mote.proofs.RowLemmas.{few_complete}
 use Rattle.dg_mote.proofs.AdvertLemmas.{no_places, none_came, no_packet}
 use Rattle.dg_mote.proofs.RoundTicks.{spot_of, ticked_by, tick_by_mode, not_clearing, asks_now}
 use Rattle.dg_mote.proofs.RoundTake.{none_yet}
-use Rattle.dg_mote.proofs.RoundNext.{found, asked_store, IsNext, next_by, heeds, heeded, same_heeded}
+use Rattle.dg_mote.proofs.RoundNext.{found, asked_store, IsNext, next_by, keeps_better, kept_better, same_kept_better}
 
 -- ---- what it hears
 
@@ -55,9 +55,9 @@ pub record ActLaws : Type 0 where
   pub take_begins : (s : Store) (p : Outline) → BeginsAt s (take_trail s p)
 
 module _ (laws : ActLaws) where
-  last_heed : (s : Store) (o : Order) → last (heed_trail s o) ≡ heeded s o
-  unfolding heed_trail
-  last_heed s o = by (heeds s o)
+  last_better : (s : Store) (o : Order) → last (better_trail s o) ≡ kept_better s o
+  unfolding better_trail
+  last_better s o = by (keeps_better s o)
     where
       by : (b : Bool) → last (cond b (order_trail s o) (resting s 0)) ≡ cond b (ordered s o) s
       by true = laws.order s o
@@ -102,13 +102,13 @@ module _ (laws : ActLaws) where
     order = own_order x.mote.wide s
 
     abbrev t : Trail Store
-    t = heed_trail x.store order
+    t = better_trail x.store order
 
     abbrev own : Bool
     own = is_own entries order x.mote.wide x.store
 
     abbrev s1 : Store
-    s1 = heeded x.store order
+    s1 = kept_better x.store order
 
     hears_advert : id ≢ x.mote.id → x.mote.mode ≡ Maintain timer → hears x now summary ≡ spot_of (turn_behind t (by_ahead (ahead_in entries s1) x.mote s1 now 0 (offer id entries) (noting x.mote timer s1 now 0 own)))
     unfolding hears advert_heard
@@ -116,11 +116,11 @@ module _ (laws : ActLaws) where
         ap spot_of (
         hears_summary x.mote.wide x.mote x.store now id s other
         ∙ ap (λ k. on_advert k x.mote x.store now 0 (offer id entries) order) is
-        ∙ ap (λ c. turn_behind t (by_ahead (ahead_in entries c) x.mote c now 0 (offer id entries) (noting x.mote timer c now 0 own))) (last_heed x.store order))
+        ∙ ap (λ c. turn_behind t (by_ahead (ahead_in entries c) x.mote c now 0 (offer id entries) (noting x.mote timer c now 0 own))) (last_better x.store order))
 
     ahead_same : ahead_in entries s1 ≡ ahead_in entries x.store
     unfolding ahead_in
-    ahead_same = ap (λ ks. find (λ i. advertiser_ahead (entry_for entries i) (get_or ks i None)) (named entries)) (same_heeded (heeds x.store order) x.store order).kept
+    ahead_same = ap (λ ks. find (λ i. advertiser_ahead (entry_for entries i) (get_or ks i None)) (named entries)) (same_kept_better (keeps_better x.store order) x.store order).kept
 
     abbrev e_of : ℕ → Entry
     e_of i = entry_for entries i
@@ -134,8 +134,8 @@ module _ (laws : ActLaws) where
 
     -- it would not ask only where there is no room
     quiet_store : (b : Bool) → last (turn_behind t (noting x.mote timer s1 now 0 b)).trail ≡ s1
-    quiet_store true = last-joined t (resting s1 0) (last_heed x.store order) ∙ last-resting s1 0
-    quiet_store false = last-joined t (resting s1 0) (last_heed x.store order) ∙ last-resting s1 0
+    quiet_store true = last-joined t (resting s1 0) (last_better x.store order) ∙ last-resting s1 0
+    quiet_store false = last-joined t (resting s1 0) (last_better x.store order) ∙ last-resting s1 0
 
     does_ask : (i : ℕ) → Drained x now → id ≢ x.mote.id → x.mote.mode ≡ Maintain timer → ahead_in entries x.store ≡ Some i → HasRoom (hears x now summary) → may i ≡ true
     does_ask i d other is a room = elim (cases_Bool (may i)) [
@@ -157,7 +157,7 @@ module _ (laws : ActLaws) where
         ∙ ap (λ b. spot_of (turn_behind t (cond b (asking x.mote s1 now 0 id i (e_of i)) (noting x.mote timer s1 now 0 own)))) agreed
         ∙ ap (λ e. spot_of (turn_behind t (asking x.mote s1 now 0 id i e))) same
         ∙ ap (λ c. record { store = c; mote = asker i (done_of (held (last (ask_trail s1 i (entry_by (Some ahead)))) i)) ahead.version })
-        (last-joined t (ask_trail s1 i (entry_by (Some ahead))) (last_heed x.store order ∙ sym (first_ask s1 i (entry_by (Some ahead)))))
+        (last-joined t (ask_trail s1 i (entry_by (Some ahead))) (last_better x.store order ∙ sym (first_ask s1 i (entry_by (Some ahead)))))
         ∙ ap (λ c. record { store = c; mote = asker i (done_of (held c i)) ahead.version }) (last_ask s1 i (entry_by (Some ahead)))
 
 -- ---- it is well then
@@ -224,8 +224,8 @@ asks_law laws table x now id s i w d a other is room =
     let fo = found x.mote.wide s x.store i is in
     let ahead = fo.ahead in
     let order = own_order x.mote.wide s in
-    let st = heeded x.store order in
-    let keeps = same_heeded (heeds x.store order) x.store order in
+    let st = kept_better x.store order in
+    let keeps = same_kept_better (keeps_better x.store order) x.store order in
     let agreed = does_ask laws x now id s d.timer i d other d.maintains is room in
     let f = asked_store st i (entry_by (Some ahead)) in
     let same = hears_asks laws x now id s d.timer i ahead other d.maintains is agreed fo.entry in

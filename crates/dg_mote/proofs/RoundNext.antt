@@ -140,13 +140,13 @@ next_by (Some h) s i ahead is there e =
           })
     ]
 
--- ---- the order is heeded before
+-- ---- the order is kept_better before
 
-abbrev pub heeds : Store → Order → Bool
-heeds s o = ltb s.order.number o.number && leb 1 s.room
+abbrev pub keeps_better : Store → Order → Bool
+keeps_better s o = ltb s.order.number o.number && leb 1 s.room
 
-abbrev pub heeded : Store → Order → Store
-heeded s o = cond (heeds s o) (ordered s o) s
+abbrev pub kept_better : Store → Order → Store
+kept_better s o = cond (keeps_better s o) (ordered s o) s
 
 -- an order changes nothing of this
 pub record SameBut (s t : Store) : Type 0 where
@@ -154,6 +154,6 @@ pub record SameBut (s t : Store) : Type 0 where
   pub app : t.app ≡ s.app
   pub gesture : t.gesture ≡ s.gesture
 
-pub same_heeded : (b : Bool) (s : Store) (o : Order) → SameBut s (cond b (ordered s o) s)
-same_heeded true s o = record { kept = refl; app = refl; gesture = refl }
-same_heeded false s o = record { kept = refl; app = refl; gesture = refl }
+pub same_kept_better : (b : Bool) (s : Store) (o : Order) → SameBut s (cond b (ordered s o) s)
+same_kept_better true s o = record { kept = refl; app = refl; gesture = refl }
+same_kept_better false s o = record { kept = refl; app = refl; gesture = refl }

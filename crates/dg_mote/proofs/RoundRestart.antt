@@ -9,8 +9,8 @@ use Rattle.dg_volume.specs.Changes.{spent}
 use Rattle.dg_volume.specs.Trails.{BeginsAt}
 use Rattle.dg_volume.specs.Start.{Boot, boot, boot_counted, counts, count_trail, by_gesture, order_waits, is_whole, is_set_to, app_of, sound}
 use Rattle.dg_volume.specs.Ends.{BootEnds, ordered_runs, order_started, blank_commits}
-use Rattle.dg_volume.specs.declared.volume.Kind.{Kind}
-use Rattle.dg_volume.specs.declared.volume.Kind.TheVariants as kind
+use Rattle.dg_volume.specs.declared.volume.StartCause.{StartCause}
+use Rattle.dg_volume.specs.declared.volume.StartCause.TheVariants as kind
 use Rattle.dg_mote.specs.Model.{Turn, begun_mote}
 use Rattle.dg_mote.specs.Ticks.{tick_of}
 use Rattle.dg_mote.specs.Effects.{Effect, boot_by}
@@ -21,10 +21,10 @@ use Rattle.dg_mote.proofs.RoundTicks.{spot_from, ticked_by}
 
 -- what is promised below of starts
 pub record OrderLaws : Type 0 where
-  pub count : (k : Kind) (s : Store) → last (count_trail k s) ≡ cond (counts k s) (record (spent s) { gesture = s.gesture + 1 }) s
-  pub counted : (k : Kind) (s : Store) → ((boot k s).runs ≡ (boot_counted (last (count_trail k s))).runs) × (last (boot k s).trail ≡ last (boot_counted (last (count_trail k s))).trail)
+  pub count : (k : StartCause) (s : Store) → last (count_trail k s) ≡ cond (counts k s) (record (spent s) { gesture = s.gesture + 1 }) s
+  pub counted : (k : StartCause) (s : Store) → ((boot k s).runs ≡ (boot_counted (last (count_trail k s))).runs) × (last (boot k s).trail ≡ last (boot_counted (last (count_trail k s))).trail)
   pub order : (s : Store) → by_gesture s ≡ false → order_waits s ≡ true → sound s s.order.image ≡ true → BootEnds (boot_counted s) (ordered_runs s) (order_started s)
-  pub begins : (k : Kind) (s : Store) → BeginsAt s (boot k s).trail
+  pub begins : (k : StartCause) (s : Store) → BeginsAt s (boot k s).trail
 
 module _ (laws : OrderLaws) where
   -- a start for the order does not count, and starts it

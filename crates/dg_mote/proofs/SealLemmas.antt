@@ -22,7 +22,7 @@ use Rattle.dg_frame.specs.declared.FrameFault.{FrameFault}
 use Rattle.dg_mote.specs.Model.{MoteState, Mode, Maintain, Receive, Transmit, Receiving, came, Turn}
 use Rattle.dg_mote.specs.Summary.{entry_for, is_own, ahead_in}
 use Rattle.dg_mote.specs.Agreement.{ReceivesRow, ModeAgrees, HonestMessage, IsHonest}
-use Rattle.dg_mote.specs.Adverts.{heed_trail, asks, noting, by_ahead, advert_heard, on_advert, offer}
+use Rattle.dg_mote.specs.Adverts.{better_trail, asks, noting, by_ahead, advert_heard, on_advert, offer}
 use Rattle.dg_mote.specs.Requests.{concerns, can_serve, is_served, to_it, on_request, page_request}
 use Rattle.dg_mote.specs.Packets.{is_wanted, accepted, seal_by, takes, on_packet, page_packet}
 use Rattle.dg_mote.specs.Hears.{source_of, on_message, by_message, heard_of}
@@ -61,7 +61,7 @@ ahead_fine (Some i) m timer s now word source entries own = cond_both (asks m s 
 advert_fine : (mode : Mode) (m : MoteState) (s : Store) (now word source : ℕ) (entries : List Entry) (order : Order) → Fine (on_advert mode m s now word (offer source entries) order)
 unfolding advert_heard
 advert_fine (Maintain timer) m s now word source entries order =
-    let u = last (heed_trail s order) in ahead_fine (ahead_in entries u) m timer u now word source entries (is_own entries order m.wide s)
+    let u = last (better_trail s order) in ahead_fine (ahead_in entries u) m timer u now word source entries (is_own entries order m.wide s)
 advert_fine (Receive r) m s now word source entries order = tt
 advert_fine (Transmit t) m s now word source entries order = tt
 

@@ -19,7 +19,7 @@ use Rattle.dg_frame.specs.declared.Message.TheVariants.{Advert, Request, Packet,
 use Rattle.dg_frame.specs.declared.FrameFault.{FrameFault}
 use Rattle.dg_mote.specs.Model.{MoteState, Mode, Maintain, Receive, Transmit, Receiving, came, Turn}
 use Rattle.dg_mote.specs.Summary.{entry_for, is_own, ahead_in}
-use Rattle.dg_mote.specs.Adverts.{heed_trail, asks, noting, by_ahead, turn_behind, advert_heard, dropped, on_advert, offer}
+use Rattle.dg_mote.specs.Adverts.{better_trail, asks, noting, by_ahead, turn_behind, advert_heard, dropped, on_advert, offer}
 use Rattle.dg_mote.specs.Requests.{concerns, can_serve, is_served, to_it, on_request, page_request}
 use Rattle.dg_mote.specs.Packets.{is_wanted, accepted, seal_by, takes, on_packet, page_packet}
 use Rattle.dg_mote.specs.Hears.{source_of, on_message, by_message, heard_of}
@@ -59,7 +59,7 @@ ahead_plain (Some i) m timer s from now word source entries own t =
 advert_plain : (mode : Mode) (m : MoteState) (s : Store) (now word source : ℕ) (entries : List Entry) (order : Order) → IsPlain m s (on_advert mode m s now word (offer source entries) order)
 unfolding advert_heard
 advert_plain (Maintain timer) m s now word source entries order =
-    let t = heed_trail s order in ahead_plain (ahead_in entries (last t)) m timer (last t) s now word source entries (is_own entries order m.wide s) t
+    let t = better_trail s order in ahead_plain (ahead_in entries (last t)) m timer (last t) s now word source entries (is_own entries order m.wide s) t
 advert_plain (Receive r) m s now word source entries order = dropped_plain m s
 advert_plain (Transmit t) m s now word source entries order = dropped_plain m s
 

@@ -31,8 +31,8 @@ use Rattle.dg_volume.specs.Changes.{spent, keeping, paged, ordered, gesture_clea
 use Rattle.dg_volume.specs.Trails.{BeginsAt, committing, clear_trail, drop_by, drop_trail, open_trail, take_trail}
 use Rattle.dg_volume.specs.Start.{Runs, boot, order_waits}
 use Rattle.dg_volume.specs.Ends.{OnTheWay, Boots}
-use Rattle.dg_volume.specs.declared.volume.Kind.{Kind}
-use Rattle.dg_volume.specs.declared.volume.Kind.TheVariants as kind
+use Rattle.dg_volume.specs.declared.volume.StartCause.{StartCause}
+use Rattle.dg_volume.specs.declared.volume.StartCause.TheVariants as kind
 use Rattle.dg_frame.specs.Grammar.{message_of, in_range}
 use Rattle.dg_frame.specs.Ranges.{IsInRange}
 use Rattle.dg_frame.specs.Sizes.{known_images}
@@ -44,7 +44,7 @@ use Rattle.dg_frame.specs.declared.FrameFault.{FrameFault}
 use Rattle.dg_mote.specs.Model.{MoteState, Mode, Maintain, Receive, Transmit, NamesKnown, Receiving, Sending, came, reception, maintains, Turn}
 use Rattle.dg_mote.specs.Summary.{entry_for, is_own, ahead_in}
 use Rattle.dg_mote.specs.Ticks.{clears, maintain_by, asked, receive_by, serving, transmit_by, mode_tick, tick_of}
-use Rattle.dg_mote.specs.Adverts.{outline, heed_trail, ask_trail, asks, asking, noting, by_ahead, advert_heard, dropped, on_advert, offer}
+use Rattle.dg_mote.specs.Adverts.{outline, better_trail, ask_trail, asks, asking, noting, by_ahead, advert_heard, dropped, on_advert, offer}
 use Rattle.dg_mote.specs.Requests.{concerns, can_serve, is_served, to_it, on_request, page_request}
 use Rattle.dg_mote.specs.Packets.{is_wanted, accepted, seal_by, takes, on_packet, page_packet}
 use Rattle.dg_mote.specs.Hears.{source_of, on_message, by_message, heard_of}
@@ -92,13 +92,13 @@ tells_ask s i e o =
     (λ _. Through-joined TellsOrder t (resting (last t) 1) way (Through-resting TellsOrder (last t) 1 (Through-last TellsOrder t way)))
 
 -- an order that is kept is one that was read
-pub tells_heed : (s : Store) (order : Order) → OrderFits order → TellsOrder s → Through TellsOrder (heed_trail s order)
-unfolding heed_trail
-tells_heed s order fits o =
+pub tells_better : (s : Store) (order : Order) → OrderFits order → TellsOrder s → Through TellsOrder (better_trail s order)
+unfolding better_trail
+tells_better s order fits o =
     cond_both (nat_lt s.order.number order.number && nat_le 1 s.room) _ _ (Through TellsOrder)
     (λ _. Through-stepping TellsOrder s (commit_operations s.room) (ordered s order) o fits) (λ _. Through-resting TellsOrder s 0 o)
 
-pub tells_boot : (k : Kind) (s : Store) → Boots s (boot k s) → TellsOrder s → Through TellsOrder (boot k s).trail
+pub tells_boot : (k : StartCause) (s : Store) → Boots s (boot k s) → TellsOrder s → Through TellsOrder (boot k s).trail
 tells_boot k s b o = through_then (OnTheWay s (boot k s).runs) TellsOrder (λ t way. subst OrderFits (sym way.order) o) (boot k s).trail b.way
 
 -- ---- steps
@@ -189,8 +189,8 @@ ahead_says (Some i) m timer s now word source entries own small few is o =
 advert_says : (mode : Mode) (m : MoteState) (s : Store) (now word source : ℕ) (entries : List Entry) (order : Order) → source < 2 ^ 16 → length entries ≤ known_images m.wide → OrderFits order → TellsOrder s → ModeFits m.wide m.mode → Says m (on_advert mode m s now word (offer source entries) order)
 unfolding advert_heard
 advert_says (Maintain timer) m s now word source entries order small few fits o server =
-    let t = heed_trail s order in
-    let way = tells_heed s order fits o in
+    let t = better_trail s order in
+    let way = tells_better s order fits o in
     let step = ahead_says (ahead_in entries (last t)) m timer (last t) now word source entries (is_own entries order m.wide s) small few refl (Through-last TellsOrder t way) in
     record { way = Through-joined TellsOrder t _ way step.way; id_is = step.id_is; wide_is = step.wide_is; mode = step.mode }
 advert_says (Receive r) m s now word source entries order small few fits o server = rests m s 0 None _ o server
@@ -268,8 +268,8 @@ boots_by : (o : Option Runs) (t : Trail Store) (id : ℕ) (wide : Bool) (now wor
 boots_by None t id wide now word small way = record { way = way; mote = tt }
 boots_by (Some r) t id wide now word small way = record { way = way; mote = (refl, refl, record { id = small; server = tt; known = tt; order = Through-last TellsOrder t way }) }
 
-module _ (ends : (k : Kind) (s : Store) → Boots s (boot k s)) where
-  pub boots_speak : (k : Kind) (s : Store) (id : ℕ) (wide : Bool) (now word : ℕ) → id < 2 ^ 16 → TellsOrder s → EffectSpeaks id wide (boots k s id wide now word)
+module _ (ends : (k : StartCause) (s : Store) → Boots s (boot k s)) where
+  pub boots_speak : (k : StartCause) (s : Store) (id : ℕ) (wide : Bool) (now word : ℕ) → id < 2 ^ 16 → TellsOrder s → EffectSpeaks id wide (boots k s id wide now word)
   boots_speak k s id wide now word small o = boots_by (boot k s).runs (boot k s).trail id wide now word small (tells_boot k s (ends k s) o)
 
   pub reset_speaks : (s : Store) (id : ℕ) (wide : Bool) (now word : ℕ) → id < 2 ^ 16 → TellsOrder s → EffectSpeaks id wide (reset_effect s id wide now word)
@@ -291,7 +291,7 @@ begins_by (Some r) t id wide now word = refl
 speaks_as : (a b : ℕ) (v w : Bool) (e : Effect) → a ≡ b → v ≡ w → EffectSpeaks a v e → EffectSpeaks b w e
 speaks_as a b v w e same alike speaks = subst (λ n. EffectSpeaks n w e) same (subst (λ u. EffectSpeaks a u e) alike speaks)
 
-module _ (ends : (k : Kind) (s : Store) → Boots s (boot k s)) (begins : (k : Kind) (s : Store) → BeginsAt s (boot k s).trail) where
+module _ (ends : (k : StartCause) (s : Store) → Boots s (boot k s)) (begins : (k : StartCause) (s : Store) → BeginsAt s (boot k s).trail) where
   tick_by_speaks : (a : Did) (id : ℕ) (wide : Bool) (step : Turn Did) (now word : ℕ) → TurnSpeaks id wide step → EffectSpeaks id wide (tick_by a step now word)
   tick_by_speaks Sent id wide step now word t = record { way = t.way; mote = (t.id_is, t.wide_is, t.mote) }
   tick_by_speaks Idle id wide step now word t = record { way = t.way; mote = (t.id_is, t.wide_is, t.mote) }

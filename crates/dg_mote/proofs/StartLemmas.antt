@@ -14,13 +14,13 @@ use Rattle.dg_volume.specs.Ends.{blanked, ordered_runs, order_started, golden_st
 use Rattle.dg_volume.specs.RowLaws.{SoundRows}
 use Rattle.dg_volume.specs.Table.{row_at}
 use Rattle.dg_volume.specs.Agreement.{HoldsRow, Agrees}
-use Rattle.dg_volume.specs.declared.volume.Kind.{Kind}
+use Rattle.dg_volume.specs.declared.volume.StartCause.{StartCause}
 use Rattle.dg_mote.proofs.RowLemmas.{keeps_row}
 
 -- what is promised below of starts and of rows
 pub record BootLaws (table : List Row) : Type 0 where
-  pub count : (k : Kind) (s : Store) → last (count_trail k s) ≡ cond (counts k s) (record (spent s) { gesture = s.gesture + 1 }) s
-  pub counted : (k : Kind) (s : Store) → ((boot k s).runs ≡ (boot_counted (last (count_trail k s))).runs) × (last (boot k s).trail ≡ last (boot_counted (last (count_trail k s))).trail)
+  pub count : (k : StartCause) (s : Store) → last (count_trail k s) ≡ cond (counts k s) (record (spent s) { gesture = s.gesture + 1 }) s
+  pub counted : (k : StartCause) (s : Store) → ((boot k s).runs ≡ (boot_counted (last (count_trail k s))).runs) × (last (boot k s).trail ≡ last (boot_counted (last (count_trail k s))).trail)
   pub gesture : (s : Store) → by_gesture s ≡ true → boot_counted s ≡ golden_boot s true
   pub order : (s : Store) → by_gesture s ≡ false → order_waits s ≡ true → sound s s.order.image ≡ true → BootEnds (boot_counted s) (ordered_runs s) (order_started s)
   pub kept : (s : Store) (app : App) → by_gesture s ≡ false → order_waits s ≡ false → s.app ≡ Some app → BootEnds (boot_counted s) (app_runs app) s
@@ -120,7 +120,7 @@ module _ (table : List Row) (laws : BootLaws table) where
   counted_agrees true s n a = record { golden = a.golden; kept = a.kept; app = a.app }
   counted_agrees false s n a = a
 
-  pub boot_starts : (k : Kind) (s : Store) → Agrees table s → Starts (boot k s)
+  pub boot_starts : (k : StartCause) (s : Store) → Agrees table s → Starts (boot k s)
   boot_starts k s a =
       let x = counted_starts (last (count_trail k s)) (subst (λ (t : Store). Agrees table t) (sym (laws.count k s)) (counted_agrees (counts k s) s (s.gesture + 1) a)) in
       (x.0, (laws.counted k s).0 ∙ x.1, x.2)

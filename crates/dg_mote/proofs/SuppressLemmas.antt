@@ -26,7 +26,7 @@ use Rattle.dg_frame.specs.declared.FrameFault.{FrameFault}
 use Rattle.dg_mote.specs.Model.{MoteState, Mode, Maintain, Receive, Transmit, Turn}
 use Rattle.dg_mote.specs.Summary.{entry_for, entry_by, named, same_entry, same_order, own_order, advert_by, is_own, advertiser_ahead, ahead_in}
 use Rattle.dg_mote.specs.Ticks.{clears, maintain_by, mode_tick, tick_of}
-use Rattle.dg_mote.specs.Adverts.{heed_trail, asks, asking, noting, by_ahead, turn_behind, advert_heard, on_advert, dropped, offer}
+use Rattle.dg_mote.specs.Adverts.{better_trail, asks, asking, noting, by_ahead, turn_behind, advert_heard, on_advert, dropped, offer}
 use Rattle.dg_mote.specs.Requests.{concerns, can_serve, to_it, page_request}
 use Rattle.dg_mote.specs.Packets.{on_packet, page_packet}
 use Rattle.dg_mote.specs.Hears.{source_of, on_message, by_message, heard_of}
@@ -94,9 +94,9 @@ own_not_ahead entries order wide s own =
       omega (arith, same, own_not_better wide s),
     )
 
-own_not_heeded : (s : Store) (order : Order) → order.number ≤ s.order.number → heed_trail s order ≡ resting s 0
-unfolding heed_trail
-own_not_heeded s order same =
+own_order_stays : (s : Store) (order : Order) → order.number ≤ s.order.number → better_trail s order ≡ resting s 0
+unfolding better_trail
+own_order_stays s order same =
     ap (λ b. cond (b && nat_le 1 s.room) (order_trail s order) (resting s 0)) (le-ltb s.order.number order.number (omega (arith, same)))
 
 -- nothing comes before it
@@ -109,7 +109,7 @@ own_heard : (m : MoteState) (timer : Timer) (s : Store) (now word source : ℕ) 
 unfolding advert_heard
 own_heard m timer s now word source entries order own =
     let facts = own_not_ahead entries order m.wide s own in
-    ap (λ (t : Trail Store). turn_behind t (by_ahead (ahead_in entries (last t)) m (last t) now word (offer source entries) (noting m timer (last t) now word (is_own entries order m.wide s)))) (own_not_heeded s order facts.1)
+    ap (λ (t : Trail Store). turn_behind t (by_ahead (ahead_in entries (last t)) m (last t) now word (offer source entries) (noting m timer (last t) now word (is_own entries order m.wide s)))) (own_order_stays s order facts.1)
     ∙ ap (λ o. turn_behind (resting s 0) (by_ahead o m (last (resting s 0)) now word (offer source entries) (noting m timer (last (resting s 0)) now word (is_own entries order m.wide s)))) (ap (ahead_in entries) (last-resting s 0) ∙ facts.0)
     ∙ ap (λ b. turn_behind (resting s 0) (noting m timer (last (resting s 0)) now word b)) own
     ∙ behind_none s (record m { mode = Maintain (after_same timer) }) Same
@@ -194,7 +194,7 @@ ahead_counts timer (Some i) m t s now word source entries own q =
 advert_counts : (timer : Timer) (mode : Mode) (m : MoteState) (s : Store) (now word source : ℕ) (entries : List Entry) (order : Order) → Suppressed timer mode → Counts timer (on_advert mode m s now word (offer source entries) order)
 unfolding advert_heard
 advert_counts timer (Maintain t) m s now word source entries order q =
-    let u = last (heed_trail s order) in ahead_counts timer (ahead_in entries u) m t u now word source entries (is_own entries order m.wide s) q
+    let u = last (better_trail s order) in ahead_counts timer (ahead_in entries u) m t u now word source entries (is_own entries order m.wide s) q
 advert_counts timer (Receive r) m s now word source entries order q = absurd q
 advert_counts timer (Transmit t) m s now word source entries order q = absurd q
 

@@ -42,7 +42,7 @@ use Rattle.dg_nor.specs.Trail.{last, resting}
 use Rattle.dg_slot.specs.Jobs.{page_from}
 use Rattle.dg_mote.specs.declared.mote.Heard.TheVariants.{Took}
 use Rattle.dg_mote.specs.Summary.{entry_for, is_own, ahead_in}
-use Rattle.dg_mote.specs.Adverts.{dropped, noting, asks, by_ahead, heed_trail, advert_heard, on_advert, offer}
+use Rattle.dg_mote.specs.Adverts.{dropped, noting, asks, by_ahead, better_trail, advert_heard, on_advert, offer}
 use Rattle.dg_mote.specs.Requests.{concerns, can_serve, is_served, to_it, on_request, page_request}
 use Rattle.dg_mote.specs.Packets.{is_wanted, accepted, seal_by, takes, on_packet, page_packet}
 use Rattle.dg_mote.proofs.ReadLemmas.{IsWellRead, well_read}
@@ -165,7 +165,7 @@ ahead_timely (Some i) m t s now word source entries own y h =
 advert_timely : (m : MoteState) (t : Timer) (s : Store) (now word source : ℕ) (entries : List Entry) (order : Order) → Timely m now → ModeTimely (Maintain t) now → Timely (advert_heard m t s now word (offer source entries) order).mote now
 unfolding advert_heard
 advert_timely m t s now word source entries order y h =
-    let u = last (heed_trail s order) in ahead_timely (ahead_in entries u) m t u now word source entries (is_own entries order m.wide s) y h
+    let u = last (better_trail s order) in ahead_timely (ahead_in entries u) m t u now word source entries (is_own entries order m.wide s) y h
 
 on_advert_timely : (mode : Mode) (m : MoteState) (s : Store) (now word source : ℕ) (entries : List Entry) (order : Order) → Timely m now → ModeTimely mode now → Timely (on_advert mode m s now word (offer source entries) order).mote now
 on_advert_timely (Maintain t) m s now word source entries order y h = advert_timely m t s now word source entries order y h

@@ -11,8 +11,8 @@ use Rattle.dg_volume.specs.Trails.{BeginsAt, clear_trail}
 use Rattle.dg_volume.specs.Start.{Runs, boot}
 use Rattle.dg_volume.specs.Ends.{OnTheWay, Boots}
 use Rattle.dg_volume.specs.Agreement.{Agrees}
-use Rattle.dg_volume.specs.declared.volume.Kind.{Kind}
-use Rattle.dg_volume.specs.declared.volume.Kind.TheVariants as kind
+use Rattle.dg_volume.specs.declared.volume.StartCause.{StartCause}
+use Rattle.dg_volume.specs.declared.volume.StartCause.TheVariants as kind
 use Rattle.dg_mote.specs.Model.{MoteState, Turn}
 use Rattle.dg_mote.specs.Ticks.{tick_of}
 use Rattle.dg_mote.specs.Hears.{heard_of}
@@ -59,9 +59,9 @@ stopped_well table t k s way left = Leaves-through IsNear (StoreIsWell table) (n
 
 -- what is promised below of starts
 pub record StartLaws (table : List Row) : Type 0 where
-  pub way : (k : Kind) (s : Store) → Agrees table s → Through (Agrees table) (boot k s).trail
-  pub ends : (k : Kind) (s : Store) → Boots s (boot k s)
-  pub begins : (k : Kind) (s : Store) → BeginsAt s (boot k s).trail
+  pub way : (k : StartCause) (s : Store) → Agrees table s → Through (Agrees table) (boot k s).trail
+  pub ends : (k : StartCause) (s : Store) → Boots s (boot k s)
+  pub begins : (k : StartCause) (s : Store) → BeginsAt s (boot k s).trail
   pub boots : BootLaws table
 
 begins_by : (o : Option Runs) (s : Store) (t : Trail Store) (id : ℕ) (wide : Bool) (now word : ℕ) → BeginsAt s t → BeginsAt s (boot_by o t id wide now word).trail
@@ -69,12 +69,12 @@ begins_by None s t id wide now word b = b
 begins_by (Some r) s t id wide now word b = b
 
 module _ (table : List Row) (laws : StartLaws table) where
-  start_well : (k : Kind) (s : Store) → StoreIsWell table s → Through (StoreIsWell table) (boot k s).trail
+  start_well : (k : StartCause) (s : Store) → StoreIsWell table s → Through (StoreIsWell table) (boot k s).trail
   start_well k s w =
       both_well table (boot k s).trail (laws.way k s w.agrees)
       (through_then (OnTheWay s (boot k s).runs) (λ t. length t.kept ≡ images) (λ t way. ap length way.kept ∙ w.places) (boot k s).trail (laws.ends k s).way)
 
-  pub boots_well : (k : Kind) (s : Store) (id : ℕ) (wide : Bool) (now word : ℕ) → StoreIsWell table s → EffectIsWell table (boots k s id wide now word) now
+  pub boots_well : (k : StartCause) (s : Store) (id : ℕ) (wide : Bool) (now word : ℕ) → StoreIsWell table s → EffectIsWell table (boots k s id wide now word) now
   boots_well k s id wide now word w =
       let found = boot_starts table laws.boots k s w.agrees in
       let way = start_well k s w in

@@ -28,7 +28,7 @@ pub record IsBehind (e : Entry) (old : Option Held) : Type 0 where
 
 -- The order becomes a better one, or stays. One image, which is not golden, is begun anew for the entry, or stays; where
 -- the power stops, it may be given up. All else stays, but that room may be spent.
-pub record HeedsAdvert (entries : List Entry) (order : Order) (stopped : Bool) (s t : Store) : Type 0 where
+pub record TakesAdvert (entries : List Entry) (order : Order) (stopped : Bool) (s t : Store) : Type 0 where
   pub order_is : (t.order ≡ s.order) ⊎ ((t.order ≡ order) × (s.order.number < order.number))
   pub image : ℕ
   pub not_golden : 1 ≤ image

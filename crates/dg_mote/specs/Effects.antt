@@ -3,8 +3,8 @@ use Rattle.std.specs.Prelude.{ℕ, Bool, List, Option, Some, None}
 use Rattle.dg_nor.specs.Trail.{Trail, last, joined}
 use Rattle.dg_volume.specs.Store.{Store}
 use Rattle.dg_volume.specs.Start.{Runs, boot}
-use Rattle.dg_volume.specs.declared.volume.Kind.{Kind}
-use Rattle.dg_volume.specs.declared.volume.Kind.TheVariants as kind
+use Rattle.dg_volume.specs.declared.volume.StartCause.{StartCause}
+use Rattle.dg_volume.specs.declared.volume.StartCause.TheVariants as kind
 use Rattle.dg_frame.specs.declared.Message.{Message}
 use Rattle.dg_mote.specs.Model.{MoteState, Turn, begun_mote}
 use Rattle.dg_mote.specs.Ticks.{tick_of}
@@ -24,7 +24,7 @@ boot_by None t id wide now word = record { mote = None; trail = t; started = Non
 boot_by (Some r) t id wide now word =
     record { mote = Some (begun_mote id wide now word); trail = t; started = Some r; sent = None }
 
-abbrev pub boots : Kind → Store → (id : ℕ) (wide : Bool) (now word : ℕ) → Effect
+abbrev pub boots : StartCause → Store → (id : ℕ) (wide : Bool) (now word : ℕ) → Effect
 boots k s id wide now word = let b = boot k s in boot_by b.runs b.trail id wide now word
 
 -- its power came

@@ -13,7 +13,7 @@ ghost use Rattle.dg_volume.specs.Changes.{is_version};
 ghost use Rattle.dg_volume.specs.Acts.{Acted, Stops};
 ghost use Rattle.dg_mote.specs.Model.{MoteState, Maintain};
 ghost use Rattle.dg_mote.specs.Summary.{entry_by, same_entry, same_order, entry_for, is_own, advertiser_ahead, ahead_in};
-ghost use Rattle.dg_mote.specs.Adverts.{heed_trail, ask_trail, asks, asking, noting, by_ahead, advert_heard, on_advert, offer};
+ghost use Rattle.dg_mote.specs.Adverts.{better_trail, ask_trail, asks, asking, noting, by_ahead, advert_heard, on_advert, offer};
 ghost use Rattle.dg_mote.specs.Motes.{IsMote, Done};
 ghost use Rattle.dg_mote.specs.Hearing.{ChipStays, StaysIf, MayTake};
 
@@ -53,14 +53,14 @@ impl Mote {
             (N.device nor.old) (N.device nor.new)) }
     {
         match self.mode {
-            Mode::Maintain(_) => self.weigh_advert(nor, now, word, source, entries, order),
+            Mode::Maintain(_) => self.compare_advert(nor, now, word, source, entries, order),
             Mode::Receive { .. } => Ok(Heard::Dropped),
             Mode::Transmit { .. } => Ok(Heard::Dropped),
         }
     }
 
     /// A mote that maintains heard an advert. Whether that equals what it would say counts before the order is kept.
-    fn weigh_advert<N: Nor>(
+    fn compare_advert<N: Nor>(
         &mut self,
         nor: &mut N,
         now: u64,
@@ -88,7 +88,7 @@ impl Mote {
     {
         trails_begin();
         let same = would_say(self.wide, &self.volume, entries, order);
-        heed(nor, &mut self.volume, order)?;
+        keep_better(nor, &mut self.volume, order)?;
         self.follow(nor, now, word, source, entries, same)
     }
 
@@ -309,24 +309,24 @@ fn can_open(volume: &Volume, image: u8, version: u32) -> bool
 }
 
 /// Whether an order is better than the one that is kept, and there is room to keep it.
-fn heeds(volume: &Volume, order: &Order) -> bool
+fn keeps_better(volume: &Volume, order: &Order) -> bool
     ensures { (s : Store) → Tells volume.now s → result ≡ nat_lt s.order.number order.now.number && nat_le 1 s.room }
 {
     better(&volume.snapshot().order, order) && volume.room() >= 1
 }
 
 /// Keeps a better order, while there is room.
-fn heed<N: Nor>(nor: &mut N, volume: &mut Volume, order: &Order) -> Result<(), Stopped>
+fn keep_better<N: Nor>(nor: &mut N, volume: &mut Volume, order: &Order) -> Result<(), Stopped>
     requires mounted { IsMounted (N.device nor.old).image volume.old }
     requires range { OrderInRange wide_images order.now }
     ensures acted { OnOk result ((s : Store) → Mounted (N.device nor.old).image volume.old s
-        → Acted (heed_trail s order.now) (N.device nor.old) (N.device nor.new) volume.new) }
+        → Acted (better_trail s order.now) (N.device nor.old) (N.device nor.new) volume.new) }
     ensures lent { (i : ℕ) → is_lent volume.new i ≡ is_lent volume.old i }
     ensures same_reference { (N.device nor.new).references ≡ (N.device nor.old).references }
     ensures stopped { OnErr result ((s : Store) → Mounted (N.device nor.old).image volume.old s
-        → Stops (heed_trail s order.now) (N.device nor.old) (N.device nor.new)) }
+        → Stops (better_trail s order.now) (N.device nor.old) (N.device nor.new)) }
 {
-    if !heeds(volume, order) {
+    if !keeps_better(volume, order) {
         return Ok(());
     }
     match volume.order(nor, order.number, order.image, order.version) {

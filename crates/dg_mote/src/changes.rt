@@ -12,7 +12,7 @@ ghost use Rattle.dg_mote.specs.Model.{MoteState};
 ghost use Rattle.dg_mote.specs.Summary.{advert_by};
 ghost use Rattle.dg_mote.specs.Ticks.{tick_of};
 ghost use Rattle.dg_mote.specs.Hears.{heard_of};
-ghost use Rattle.dg_mote.specs.Changes.{MayClear, HeedsAdvert, Completes, IfReceives, Brings, IsBegun, Continues};
+ghost use Rattle.dg_mote.specs.Changes.{MayClear, TakesAdvert, Completes, IfReceives, Brings, IsBegun, Continues};
 
 use dg_volume::{acts_end, trails_begin};
 
@@ -25,8 +25,8 @@ pub fn what_a_mote_may_change()
     ensures advert { (m : MoteState) (s : Store) (now word : ℕ) (bytes : List ℕ) (wide : Bool) (source : ℕ)
         (entries : List Entry) (order : Order)
         → message_of bytes m.wide ≡ Ok (advert_by wide source entries order)
-        → Through (HeedsAdvert entries order true s) (heard_of m s now word bytes).trail
-        × HeedsAdvert entries order false s (last (heard_of m s now word bytes).trail) }
+        → Through (TakesAdvert entries order true s) (heard_of m s now word bytes).trail
+        × TakesAdvert entries order false s (last (heard_of m s now word bytes).trail) }
     ensures request { (m : MoteState) (s : Store) (now word : ℕ) (bytes : List ℕ) (source to image version page : ℕ)
         (want : Numbers)
         → message_of bytes m.wide ≡ Ok (message.Request source to image version page want)

@@ -20,8 +20,8 @@ use Rattle.dg_volume.specs.Start.{Runs, boot}
 use Rattle.dg_volume.specs.Ends.{OnTheWay, Boots}
 use Rattle.dg_volume.specs.Table.{row_at, with_row, IsTable}
 use Rattle.dg_volume.specs.Agreement.{Agrees}
-use Rattle.dg_volume.specs.declared.volume.Kind.{Kind}
-use Rattle.dg_volume.specs.declared.volume.Kind.TheVariants as kind
+use Rattle.dg_volume.specs.declared.volume.StartCause.{StartCause}
+use Rattle.dg_volume.specs.declared.volume.StartCause.TheVariants as kind
 use Rattle.dg_volume.specs.declared.volume.InjectFault.{InjectFault}
 use Rattle.dg_volume.specs.declared.volume.InjectFault.TheVariants.{Empty, TooLarge}
 use Rattle.dg_frame.specs.Grammar.{message_of}
@@ -50,8 +50,8 @@ use Rattle.dg_rules.proofs.EventLemmas.{order_of, running_by, starts, goes_on, h
 pub record VolumeLaws : Type 0 where
   pub orders : (table : List Row) (s : Store) (order : Order) → Agrees table s → Through (Agrees table) (order_trail s order)
   pub injects : (table : List Row) (s : Store) (row : Row) → row.image < length s.kept → row_at table row.image row.version ≡ Some row → Agrees table s → Through (Agrees table) (inject_trail s row)
-  pub boots : (table : List Row) (kind : Kind) (s : Store) → Agrees table s → Through (Agrees table) (boot kind s).trail
-  pub ends : (kind : Kind) (s : Store) → Boots s (boot kind s)
+  pub boots : (table : List Row) (kind : StartCause) (s : Store) → Agrees table s → Through (Agrees table) (boot kind s).trail
+  pub ends : (kind : StartCause) (s : Store) → Boots s (boot kind s)
 
 -- what is known of a mote and of frames
 pub record MoteLaws : Type 0 where
@@ -198,7 +198,7 @@ module _ (laws : Laws) (w : World) (agrees : WorldAgrees w) where
 
   -- ---- starts
 
-  boot_way : (k : Kind) (s : Store) → IsGood w.table s → Through (IsGood w.table) (boot k s).trail
+  boot_way : (k : StartCause) (s : Store) → IsGood w.table s → Through (IsGood w.table) (boot k s).trail
   boot_way k s g =
       let b = boot k s in
       let way = (laws.volume.ends k s).way in
@@ -220,7 +220,7 @@ module _ (laws : Laws) (w : World) (agrees : WorldAgrees w) where
         speaks = laws.mote.speaks_first s id now word wide (subst (λ (n : ℕ). n < 2 ^ 16) (sym is) low) g.order;
       })
 
-  start_agrees : (k : Kind) (m dt id : ℕ) (wide : Bool) (word : ℕ) → m < length w.sites → id ≡ m → wide ≡ wide_at w m
+  start_agrees : (k : StartCause) (m dt id : ℕ) (wide : Bool) (word : ℕ) → m < length w.sites → id ≡ m → wide ≡ wide_at w m
       → AgreesDoes w m dt (starts w (boot k (store_at w m)) id wide (w.moment + dt) word)
   start_agrees k m dt id wide word low is same =
       let b = boot k (store_at w m) in

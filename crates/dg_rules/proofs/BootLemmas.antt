@@ -17,8 +17,8 @@ use Rattle.dg_volume.specs.Trails.{committing}
 use Rattle.dg_volume.specs.Table.{row_at}
 use Rattle.dg_volume.specs.Agreement.{KeepsRow, HoldsRow, Agrees}
 use Rattle.dg_volume.specs.Start.{Runs, Boot, behind, counts, count_trail, by_gesture, order_waits, complete_pages, is_whole, is_set_to, blank_by, blank_trail, copy_trail, app_of, kept_runs, order_boot, golden_done, finish_trail, golden_copied, golden_stays, golden_by, golden_boot, kept_by, kept_boot, waived_once, boot_counted, boot, sound}
-use Rattle.dg_volume.specs.declared.volume.Kind.{Kind}
-use Rattle.dg_volume.specs.declared.volume.Kind.TheVariants as kind
+use Rattle.dg_volume.specs.declared.volume.StartCause.{StartCause}
+use Rattle.dg_volume.specs.declared.volume.StartCause.TheVariants as kind
 use Rattle.dg_base.specs.declared.events.Key.{Key}
 use Rattle.dg_rules.specs.Small.{app_key}
 use Rattle.dg_rules.specs.Events.{key_of}
@@ -309,7 +309,7 @@ counted_start s =
     (λ waits. cond_both (sound s s.order.image) (order_boot s) waived (IsStart s) (λ _. order_start s waits old) (λ _. waived_start s three old))
     (λ _. kept_start s three old))
 
-pub boot_start : (k : Kind) (s : Store) → IsStart s (boot k s)
+pub boot_start : (k : StartCause) (s : Store) → IsStart s (boot k s)
 unfolding boot count_trail Rattle.dg_nor.specs.Trail.last_of
 boot_start k s =
     let t : Store = record (spent s) { gesture = s.gesture + 1 } in

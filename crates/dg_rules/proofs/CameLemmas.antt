@@ -3,7 +3,7 @@ use Rattle.std.proofs.Common.{◌≡◌, ◌⊎◌, ℕ, ◌+◌, ◌<◌, Bool,
 use Rattle.std.proofs.lemmas.Option.{IfSome_then}
 use Rattle.dg_nor.specs.Trail.{last}
 use Rattle.dg_volume.specs.Start.{Runs, boot}
-use Rattle.dg_volume.specs.declared.volume.Kind.TheVariants as kind
+use Rattle.dg_volume.specs.declared.volume.StartCause.TheVariants as kind
 use Rattle.dg_slot.specs.Jobs.{packet}
 use Rattle.dg_mote.specs.Model.{Mode, Maintain, Receive, Transmit, Receiving, begun_mote}
 use Rattle.dg_mote.specs.Ticks.{tick_of}

@@ -13,7 +13,7 @@ use Rattle.dg_volume.specs.Store.{Store, held}
 use Rattle.dg_volume.specs.Start.{boot}
 use Rattle.dg_volume.specs.Ends.{Boots}
 use Rattle.dg_volume.specs.RowLaws.{RowLaws}
-use Rattle.dg_volume.specs.declared.volume.Kind.{Kind}
+use Rattle.dg_volume.specs.declared.volume.StartCause.{StartCause}
 use Rattle.dg_frame.specs.Grammar.{message_of}
 use Rattle.dg_frame.specs.declared.Entry.{Entry}
 use Rattle.dg_frame.specs.declared.FrameFault.{FrameFault}
@@ -23,7 +23,7 @@ use Rattle.dg_mote.specs.Model.{MoteState, Mode, Maintain, Receive, Transmit, Re
 use Rattle.dg_mote.specs.Summary.{advert_by}
 use Rattle.dg_mote.specs.Ticks.{tick_of}
 use Rattle.dg_mote.specs.Hears.{heard_of}
-use Rattle.dg_mote.specs.Changes.{MayClear, HeedsAdvert, Completes, IfReceives, Brings, IsBegun, Continues}
+use Rattle.dg_mote.specs.Changes.{MayClear, TakesAdvert, Completes, IfReceives, Brings, IsBegun, Continues}
 use Rattle.dg_mote.specs.declared.mote.Heard.{Heard}
 use Rattle.dg_mote.specs.declared.mote.Heard.TheVariants.{Refused}
 use Rattle.dg_rules.specs.Golden.{KeepsGoldenRow, AsksForOthers}
@@ -33,7 +33,7 @@ use Rattle.dg_rules.proofs.EventLemmas.{RestartLaws}
 pub record ChangeLaws : Type 0 where
   pub ticks : (m : MoteState) (s : Store) (now word : ℕ) → Through (MayClear s) (tick_of m s now word).trail
   pub adverts : (m : MoteState) (s : Store) (now word : ℕ) (bytes : List ℕ) (wide : Bool) (source : ℕ) (entries : List Entry) (order : Order) → message_of bytes m.wide ≡ Ok (advert_by wide source entries order)
-      → Through (HeedsAdvert entries order true s) (heard_of m s now word bytes).trail × HeedsAdvert entries order false s (last (heard_of m s now word bytes).trail)
+      → Through (TakesAdvert entries order true s) (heard_of m s now word bytes).trail × TakesAdvert entries order false s (last (heard_of m s now word bytes).trail)
   pub requests : (m : MoteState) (s : Store) (now word : ℕ) (bytes : List ℕ) (source to image version page : ℕ) (want : Numbers)
       → message_of bytes m.wide ≡ Ok (Request source to image version page want) → (heard_of m s now word bytes).trail ≡ resting s 0
   pub packets : (m : MoteState) (s : Store) (now word : ℕ) (bytes : List ℕ) (source image version page q : ℕ) (content : List ℕ)
@@ -47,7 +47,7 @@ pub record ChangeLaws : Type 0 where
 pub record StepLaws : Type 0 where
   pub restarts : RestartLaws
   pub changes : ChangeLaws
-  pub ends : (kind : Kind) (s : Store) → Boots s (boot kind s)
+  pub ends : (kind : StartCause) (s : Store) → Boots s (boot kind s)
   pub rows : (row : Row) → IsRow row → RowLaws row
 
 pub refused_trail : ChangeLaws → (m : MoteState) (s : Store) (now word : ℕ) (bytes : List ℕ) (fault : FrameFault) → message_of bytes m.wide ≡ Err fault → (heard_of m s now word bytes).trail ≡ resting s 0
@@ -78,7 +78,7 @@ module _ (laws : ChangeLaws) (m : MoteState) (s : Store) (now word : ℕ) (golde
     where
       by_advert : (wide : Bool) (source : ℕ) (entries : List Entry) (order : Order) → message_of bytes m.wide ≡ Ok (advert_by wide source entries order) → Through KeepsGoldenRow (heard_of m s now word bytes).trail
       by_advert wide source entries order is =
-          Through-map (HeedsAdvert entries order true s) KeepsGoldenRow (λ t h. keeps_other s t h.image h.here h.not_golden h.kept golden)
+          Through-map (TakesAdvert entries order true s) KeepsGoldenRow (λ t h. keeps_other s t h.image h.here h.not_golden h.kept golden)
           (heard_of m s now word bytes).trail (laws.adverts m s now word bytes wide source entries order is).0
 
       by_message : (r : Result Message FrameFault) → message_of bytes m.wide ≡ r → Through KeepsGoldenRow (heard_of m s now word bytes).trail

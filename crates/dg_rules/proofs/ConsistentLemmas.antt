@@ -16,8 +16,8 @@ use Rattle.dg_volume.specs.Start.{Runs, boot, app_of}
 use Rattle.dg_volume.specs.Ends.{OnTheWay, Boots}
 use Rattle.dg_volume.specs.Table.{row_at}
 use Rattle.dg_volume.specs.Consistent.{IsSoundApp, Consistent}
-use Rattle.dg_volume.specs.declared.volume.Kind.{Kind}
-use Rattle.dg_volume.specs.declared.volume.Kind.TheVariants as kind
+use Rattle.dg_volume.specs.declared.volume.StartCause.{StartCause}
+use Rattle.dg_volume.specs.declared.volume.StartCause.TheVariants as kind
 use Rattle.dg_mote.specs.Model.{MoteState, begun_mote}
 use Rattle.dg_mote.specs.Ticks.{tick_of}
 use Rattle.dg_mote.specs.Hears.{heard_of}
@@ -46,9 +46,9 @@ pub record ConsistentLaws (golden : Row) : Type 0 where
   pub restarts : RestartLaws
   pub orders : (s : Store) (order : Order) → Consistent golden s → Through (Consistent golden) (order_trail s order)
   pub injects : (s : Store) (row : Row) → IsRow row → row.image < length s.kept → Consistent golden s → Through (Consistent golden) (inject_trail s row)
-  pub boots : (kind : Kind) (s : Store) → Consistent golden s → Through (Consistent golden) (boot kind s).trail
-  pub starts : (kind : Kind) (s : Store) → Consistent golden s → IfSome (boot kind s).runs (λ r. IsSoundApp golden (app_of r))
-  pub ends : (kind : Kind) (s : Store) → Boots s (boot kind s)
+  pub boots : (kind : StartCause) (s : Store) → Consistent golden s → Through (Consistent golden) (boot kind s).trail
+  pub starts : (kind : StartCause) (s : Store) → Consistent golden s → IfSome (boot kind s).runs (λ r. IsSoundApp golden (app_of r))
+  pub ends : (kind : StartCause) (s : Store) → Boots s (boot kind s)
   pub ticks : (m : MoteState) (s : Store) (now word : ℕ) → StoreIsConsistent golden s → AsksForKnown m.mode → TurnIsConsistent golden (tick_of m s now word)
   pub hears : (m : MoteState) (s : Store) (now word : ℕ) (bytes : List ℕ) → StoreIsConsistent golden s → AsksForKnown m.mode → TurnIsConsistent golden (heard_of m s now word bytes)
 
@@ -72,7 +72,7 @@ module _ (golden : Row) where
   site_room s room y = record { store = consistent_room golden s room y.store; asks = tt }
 
   module _ (laws : ConsistentLaws golden) where
-    boot_way : (k : Kind) (s : Store) → P s → Through P (boot k s).trail
+    boot_way : (k : StartCause) (s : Store) → P s → Through P (boot k s).trail
     boot_way k s p =
         let b = boot k s in
         both b.trail (laws.boots k s p.consistent) (Through-map (OnTheWay s b.runs) HasPlaces (λ t on. ap length on.kept ∙ p.places) b.trail (laws.ends k s).way)
@@ -118,7 +118,7 @@ module _ (golden : Row) where
           each None = tt
           each (Some r) = tt
 
-      start_lands : (k : Kind) (m id : ℕ) (wide : Bool) (now word : ℕ) → m < length w.sites → LandsDoes Fine (starts w (boot k (store_at w m)) id wide now word)
+      start_lands : (k : StartCause) (m id : ℕ) (wide : Bool) (now word : ℕ) → m < length w.sites → LandsDoes Fine (starts w (boot k (store_at w m)) id wide now word)
       start_lands k m id wide now word low = lands _ (boot_way k (store_at w m) (store_here m low)) (λ runs e. start_asks (boot k (store_at w m)).runs id wide now word runs e)
 
       hear_lands : (m now word : ℕ) (bytes : List ℕ) (r : Running) → m < length w.sites → (site w m).runs ≡ Some r → LandsDoes Fine (hears w m now word bytes r)
@@ -165,7 +165,7 @@ module _ (golden : Row) where
 
       -- ---- what starts
 
-      boot_sound : (k : Kind) (m : ℕ) → m < length w.sites → IfSome (boot k (store_at w m)).runs (λ r. IsSoundApp golden (app_of r))
+      boot_sound : (k : StartCause) (m : ℕ) → m < length w.sites → IfSome (boot k (store_at w m)).runs (λ r. IsSoundApp golden (app_of r))
       boot_sound k m low = laws.starts k (store_at w m) (store_here m low).consistent
 
       pub starts_sound : (e : Event) → EventInRange (length w.sites) e → StartsSoundDoes golden (does w e)

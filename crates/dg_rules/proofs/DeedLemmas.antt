@@ -15,7 +15,7 @@ use Rattle.dg_volume.specs.Changes.{ordered, inject_refusal, order_refusal}
 use Rattle.dg_volume.specs.Trails.{order_trail, inject_trail}
 use Rattle.dg_volume.specs.Start.{Runs, boot, order_waits, kept_runs}
 use Rattle.dg_volume.specs.Table.{row_at, with_row}
-use Rattle.dg_volume.specs.declared.volume.Kind.TheVariants as kind
+use Rattle.dg_volume.specs.declared.volume.StartCause.TheVariants as kind
 use Rattle.dg_volume.specs.declared.volume.OrderFault.{OrderFault}
 use Rattle.dg_volume.specs.declared.volume.OrderFault.TheVariants as order_fault
 use Rattle.dg_frame.specs.Grammar.{message_of}

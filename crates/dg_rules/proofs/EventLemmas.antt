@@ -12,7 +12,7 @@ use Rattle.dg_volume.specs.Store.{Store}
 use Rattle.dg_volume.specs.Changes.{inject_refusal, order_refusal}
 use Rattle.dg_volume.specs.Trails.{order_trail, inject_trail}
 use Rattle.dg_volume.specs.Start.{Runs, Boot, boot, order_waits}
-use Rattle.dg_volume.specs.declared.volume.Kind.TheVariants as kind
+use Rattle.dg_volume.specs.declared.volume.StartCause.TheVariants as kind
 use Rattle.dg_volume.specs.declared.volume.InjectFault.{InjectFault}
 use Rattle.dg_volume.specs.declared.volume.OrderFault.{OrderFault}
 use Rattle.dg_volume.specs.Table.{row_at, with_row}

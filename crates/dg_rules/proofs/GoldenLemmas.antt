@@ -11,8 +11,8 @@ use Rattle.dg_volume.specs.Changes.{keeping, ordered}
 use Rattle.dg_volume.specs.Trails.{inject_trail, order_trail}
 use Rattle.dg_volume.specs.Start.{Runs, boot}
 use Rattle.dg_volume.specs.Ends.{OnTheWay}
-use Rattle.dg_volume.specs.declared.volume.Kind.{Kind}
-use Rattle.dg_volume.specs.declared.volume.Kind.TheVariants as kind
+use Rattle.dg_volume.specs.declared.volume.StartCause.{StartCause}
+use Rattle.dg_volume.specs.declared.volume.StartCause.TheVariants as kind
 use Rattle.dg_mote.specs.Model.{begun_mote}
 use Rattle.dg_mote.specs.Ticks.{tick_of}
 use Rattle.dg_mote.specs.Hears.{heard_of}
@@ -55,7 +55,7 @@ abbrev AsksOthers : Option Running → Type 0
 AsksOthers runs = IfSome runs (λ r. AsksForOthers r.mote.mode)
 
 module _ (laws : StepLaws) (w : World) (golden : WorldKeepsGolden w) where
-  golden_boot_way : (k : Kind) (s : Store) → KeepsGoldenRow s → Through KeepsGoldenRow (boot k s).trail
+  golden_boot_way : (k : StartCause) (s : Store) → KeepsGoldenRow s → Through KeepsGoldenRow (boot k s).trail
   golden_boot_way k s g =
       Through-map (OnTheWay s (boot k s).runs) KeepsGoldenRow
       (λ t way. record { row = g.row; is_row = g.is_row; whole = ap (λ (xs : List (Option Held)). slice_index_or xs 0 None) way.kept ∙ g.whole })
@@ -84,7 +84,7 @@ module _ (laws : StepLaws) (w : World) (golden : WorldKeepsGolden w) where
       each None = tt
       each (Some r) = tt
 
-  start_lands : (k : Kind) (m id : ℕ) (wide : Bool) (now word : ℕ) → m < length w.sites → LandsDoes Golden (starts w (boot k (store_at w m)) id wide now word)
+  start_lands : (k : StartCause) (m id : ℕ) (wide : Bool) (now word : ℕ) → m < length w.sites → LandsDoes Golden (starts w (boot k (store_at w m)) id wide now word)
   start_lands k m id wide now word low = lands _ (golden_boot_way k (store_at w m) (golden m low).kept) (λ runs e. start_asks (boot k (store_at w m)).runs id wide now word runs e)
 
   hear_lands : (m now word : ℕ) (bytes : List ℕ) (r : Running) → m < length w.sites → (site w m).runs ≡ Some r → LandsDoes Golden (hears w m now word bytes r)
@@ -124,7 +124,7 @@ module _ (laws : StepLaws) (w : World) (golden : WorldKeepsGolden w) where
   some_runs None id wide now word found e = found refl
   some_runs (Some r) id wide now word found e = cc
 
-  boot_found : (m id : ℕ) (wide : Bool) (k : Kind) (now word : ℕ) → m < length w.sites → running_by (boot k (store_at w m)).runs id wide now word ≢ None
+  boot_found : (m id : ℕ) (wide : Bool) (k : StartCause) (now word : ℕ) → m < length w.sites → running_by (boot k (store_at w m)).runs id wide now word ≢ None
   boot_found m id wide k now word low =
       let g = (golden m low).kept in
       some_runs (boot k (store_at w m)).runs id wide now word (λ none. (boot_start k (store_at w m)).found ((laws.rows g.row g.is_row).is_sound (store_at w m) 0 g.whole) none)

@@ -17,7 +17,7 @@ use Rattle.dg_mote.specs.Summary.{advert_by}
 use Rattle.dg_mote.specs.Ticks.{tick_of}
 use Rattle.dg_mote.specs.Hears.{heard_of}
 use Rattle.dg_mote.specs.Agreement.{ModeAgrees}
-use Rattle.dg_mote.specs.Changes.{MayClear, HeedsAdvert, Completes, IfReceives}
+use Rattle.dg_mote.specs.Changes.{MayClear, TakesAdvert, Completes, IfReceives}
 use Rattle.dg_rules.specs.World.{Site, Running}
 use Rattle.dg_rules.specs.Small.{small_mote}
 use Rattle.dg_rules.specs.Legal.{Past, Came, LegalMessage}
@@ -73,8 +73,8 @@ module _ (laws : ChangeLaws) (table : List Row) (past : Past) (m : ℕ) (x : Sit
   calm_here : IsCalm x.store x.store
   calm_here = same_calm x.store x.store refl
 
-  heeds_calm : (entries : List Entry) (order : Order) (stopped : Bool) (t : Store) → HeedsAdvert entries order stopped x.store t → IsCalm x.store t
-  heeds_calm entries order stopped t h = record { gesture = inl h.gesture; room = h.room }
+  takes_calm : (entries : List Entry) (order : Order) (stopped : Bool) (t : Store) → TakesAdvert entries order stopped x.store t → IsCalm x.store t
+  takes_calm entries order stopped t h = record { gesture = inl h.gesture; room = h.room }
 
   completes_calm : (image version page q : ℕ) (t : Store) → (t ≡ x.store) ⊎ Completes n.mode image version page q x.store t → IsCalm x.store t
   completes_calm image version page q t may =
@@ -82,19 +82,19 @@ module _ (laws : ChangeLaws) (table : List Row) (past : Past) (m : ℕ) (x : Sit
 
   -- the wide kind, or the narrow one
   advert_ends : (kind : Bool) (source : ℕ) (entries : List Entry) (order : Order) (r : Result Message FrameFault) → message_of bytes n.wide ≡ Ok (advert_by kind source entries order)
-      → ((blew : Bool) (t : Store) → HeedsAdvert entries order blew x.store t → May r blew t) → Ends r
+      → ((blew : Bool) (t : Store) → TakesAdvert entries order blew x.store t → May r blew t) → Ends r
   advert_ends kind source entries order r is may =
       let known = laws.adverts n x.store now word bytes kind source entries order is in
-      record { cut = Through-map (HeedsAdvert entries order true x.store) (May r true) (may true) Step known.0; whole = may false (last Step) known.1 }
+      record { cut = Through-map (TakesAdvert entries order true x.store) (May r true) (may true) Step known.0; whole = may false (last Step) known.1 }
 
   ends_by : (r : Result Message FrameFault) → message_of bytes n.wide ≡ r → Ends r
   ends_by (Err fault) is = rests_ends (Err fault) (λ blew. (refl, calm_here)) (refused_trail laws n x.store now word bytes fault is)
   ends_by (Ok (Advert source entries order)) is =
-      advert_ends false source entries order (Ok (Advert source entries order)) is (λ blew t h. (advert_legal blew entries order x t h, heeds_calm entries order blew t h))
+      advert_ends false source entries order (Ok (Advert source entries order)) is (λ blew t h. (advert_legal blew entries order x t h, takes_calm entries order blew t h))
   ends_by (Ok (Request source to image version page want)) is =
       rests_ends (Ok (Request source to image version page want)) (λ blew. (refl, calm_here)) (laws.requests n x.store now word bytes source to image version page want is)
   ends_by (Ok (Wide source entries order)) is =
-      advert_ends true source entries order (Ok (Wide source entries order)) is (λ blew t h. (advert_legal blew entries order x t h, heeds_calm entries order blew t h))
+      advert_ends true source entries order (Ok (Wide source entries order)) is (λ blew t h. (advert_legal blew entries order x t h, takes_calm entries order blew t h))
   ends_by (Ok (Packet source image version page q content)) is =
       let r : Result Message FrameFault = Ok (Packet source image version page q content) in
       let Q : Store → Type 0 = λ t. (t ≡ x.store) ⊎ Completes n.mode image version page q x.store t in

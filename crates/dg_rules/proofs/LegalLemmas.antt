@@ -16,8 +16,8 @@ use Rattle.dg_volume.specs.Ends.{OnTheWay, Boots}
 use Rattle.dg_volume.specs.Table.{row_at, IsTable}
 use Rattle.dg_volume.specs.Agreement.{KeepsRow, Agrees}
 use Rattle.dg_volume.specs.RowLaws.{RowLaws}
-use Rattle.dg_volume.specs.declared.volume.Kind.{Kind}
-use Rattle.dg_volume.specs.declared.volume.Kind.TheVariants as kind
+use Rattle.dg_volume.specs.declared.volume.StartCause.{StartCause}
+use Rattle.dg_volume.specs.declared.volume.StartCause.TheVariants as kind
 use Rattle.dg_mote.specs.Model.{MoteState}
 use Rattle.dg_base.specs.declared.events.Key.{Key}
 use Rattle.dg_rules.specs.World.{Site, Running}
@@ -82,7 +82,7 @@ holds_whole table x key o here w = record {
 abbrev AppOnWay : Option App → Option Runs → Option App → Type 0
 AppOnWay old runs new = (new ≡ old) ⊎ ((new ≡ None) ⊎ ((r : Runs) × (runs ≡ Some r) × (new ≡ Some (app_of r))))
 
-module _ (ends : (k : Kind) (s : Store) → Boots s (boot k s)) (table : List Row) (x : Site) (agrees : Agrees table x.store) where
+module _ (ends : (k : StartCause) (s : Store) → Boots s (boot k s)) (table : List Row) (x : Site) (agrees : Agrees table x.store) where
   abbrev Waits : Runs → Type 0
   Waits r = OrdersWholeRow table (small_mote x) (key_of r)
 
@@ -102,7 +102,7 @@ module _ (ends : (k : Kind) (s : Store) → Boots s (boot k s)) (table : List Ro
       may
 
   -- where the start is not stopped
-  pub legal_start : (k : Kind) (r : Runs) (n : MoteState) → (boot k x.store).runs ≡ Some r → LegalStart table (small_mote x) (mote (last (boot k x.store).trail) (Some (record { key = key_of r; mote = n })))
+  pub legal_start : (k : StartCause) (r : Runs) (n : MoteState) → (boot k x.store).runs ≡ Some r → LegalStart table (small_mote x) (mote (last (boot k x.store).trail) (Some (record { key = key_of r; mote = n })))
   legal_start k r n runs =
       let b = boot k x.store in
       let start = boot_start k x.store in
@@ -119,10 +119,10 @@ module _ (ends : (k : Kind) (s : Store) → Boots s (boot k s)) (table : List Ro
         change = λ i. record { holdings = map (option_map holding) (way.kept i); app = option_map app_key (last b.trail).app; order = way.order i; runs = Some (key_of r) };
       }
 
-  pub chosen_start : (k : Kind) (r : Runs) → (boot k x.store).runs ≡ Some r → MayStart table (small_mote x) (key_of r)
+  pub chosen_start : (k : StartCause) (r : Runs) → (boot k x.store).runs ≡ Some r → MayStart table (small_mote x) (key_of r)
   chosen_start k r runs = may_start r ((boot_start k x.store).chosen r runs)
 
-  cut_app : (k : Kind) (may : Key → Type 0) → ((r : Runs) → (boot k x.store).runs ≡ Some r → may (key_of r)) → (new : Option App) → AppOnWay x.store.app (boot k x.store).runs new
+  cut_app : (k : StartCause) (may : Key → Type 0) → ((r : Runs) → (boot k x.store).runs ≡ Some r → may (key_of r)) → (new : Option App) → AppOnWay x.store.app (boot k x.store).runs new
       → (option_map app_key new ≡ (small_mote x).app) ⊎ ((option_map app_key new ≡ None) ⊎ ((key : Key) × (option_map app_key new ≡ Some key) × may key))
   cut_app k may chosen new way =
       ⊎_elim
@@ -134,7 +134,7 @@ module _ (ends : (k : Kind) (s : Store) → Boots s (boot k s)) (table : List Ro
       way
 
   -- where a cut blew in it
-  pub cut_start : (k : Kind) (may : Key → Type 0) → ((r : Runs) → (boot k x.store).runs ≡ Some r → may (key_of r)) → Through (λ s. CutStart may (small_mote x) (mote s None)) (boot k x.store).trail
+  pub cut_start : (k : StartCause) (may : Key → Type 0) → ((r : Runs) → (boot k x.store).runs ≡ Some r → may (key_of r)) → Through (λ s. CutStart may (small_mote x) (mote s None)) (boot k x.store).trail
   cut_start k may chosen =
       let b = boot k x.store in
       Through-map (OnTheWay x.store b.runs) (λ s. CutStart may (small_mote x) (mote s None))

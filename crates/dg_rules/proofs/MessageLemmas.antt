@@ -13,7 +13,7 @@ use Rattle.dg_control.specs.declared.snapshot.Order.{Order}
 use Rattle.dg_mote.specs.Model.{Mode, Receiving}
 use Rattle.dg_mote.specs.Summary.{entry_for}
 use Rattle.dg_mote.specs.Agreement.{ReceivesRow, ModeAgrees}
-use Rattle.dg_mote.specs.Changes.{HeedsAdvert, Completes, IfReceives}
+use Rattle.dg_mote.specs.Changes.{TakesAdvert, Completes, IfReceives}
 use Rattle.dg_rules.specs.World.{Site}
 use Rattle.dg_rules.specs.Small.{Holding, SmallMote, holding, app_key, running_key, small_mote, holds}
 use Rattle.dg_rules.specs.Legal.{Past, Came, CameTo, AllCame, IsOlder, LegalAdvert, LegalPacket, taking}
@@ -38,7 +38,7 @@ older_holding : (o : Option Held) (version : ℕ) → IfSome o (λ h. h.version 
 older_holding None version older = tt
 older_holding (Some h) version older = older
 
-pub advert_legal : (blew : Bool) (entries : List Entry) (order : Order) (x : Site) (t : Store) → HeedsAdvert entries order blew x.store t → LegalAdvert blew entries order (small_mote x) (mote t x.runs)
+pub advert_legal : (blew : Bool) (entries : List Entry) (order : Order) (x : Site) (t : Store) → TakesAdvert entries order blew x.store t → LegalAdvert blew entries order (small_mote x) (mote t x.runs)
 advert_legal blew entries order x t h =
     let i = h.image in
     let f : Option Held → Option Holding = option_map holding in

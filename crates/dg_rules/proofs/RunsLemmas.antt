@@ -8,8 +8,8 @@ use Rattle.dg_volume.specs.Start.{Runs, boot, app_of, runs_length, length_in}
 use Rattle.dg_volume.specs.Table.{IsTable}
 use Rattle.dg_volume.specs.Agreement.{HoldsRow, Agrees}
 use Rattle.dg_volume.specs.RowLaws.{RowLaws}
-use Rattle.dg_volume.specs.declared.volume.Kind.{Kind}
-use Rattle.dg_volume.specs.declared.volume.Kind.TheVariants as kind
+use Rattle.dg_volume.specs.declared.volume.StartCause.{StartCause}
+use Rattle.dg_volume.specs.declared.volume.StartCause.TheVariants as kind
 use Rattle.dg_rules.specs.World.{World, store_at}
 use Rattle.dg_rules.specs.Events.{does}
 use Rattle.dg_rules.specs.Ranges.{EventInRange}
@@ -38,12 +38,12 @@ module _ (laws : (row : Row) → IsRow row → RowLaws row) (table : List Row) (
         crc_told = ap crc_of (ap (λ (n : ℕ). content n r.pages) told ∙ ap (content (length row.bytes)) h.pages ∙ known.bytes);
       }
 
-  boot_row : (k : Kind) (s : Store) → Agrees table s → IfSome (boot k s).runs (RunsRow table)
+  boot_row : (k : StartCause) (s : Store) → Agrees table s → IfSome (boot k s).runs (RunsRow table)
   boot_row k s agrees = if_some (RunsRow table) (boot k s).runs (λ r e. runs_row r ((boot_start k s).row table agrees r e))
 
 pub starts_row : RestartLaws → ((row : Row) → IsRow row → RowLaws row) → (w : World) → WorldAgrees w → (e : Event) → EventInRange (length w.sites) e → StartsDoes (does w e) w.table
 starts_row restarts laws w agrees =
-    let boots : (k : Kind) (m : ℕ) → m < length w.sites → IfSome (boot k (store_at w m)).runs (RunsRow w.table) = λ k m low. boot_row laws w.table agrees.table k (store_at w m) (agrees.sites m low).store.agrees in
+    let boots : (k : StartCause) (m : ℕ) → m < length w.sites → IfSome (boot k (store_at w m)).runs (RunsRow w.table) = λ k m low. boot_row laws w.table agrees.table k (store_at w m) (agrees.sites m low).store.agrees in
     does_cases restarts w (λ f. Unit {0}) (all_sent w.sent) (λ e D. EventInRange (length w.sites) e → StartsDoes D w.table)
     (λ e why fits. tt)
     (λ m dt word r is fits. tt)

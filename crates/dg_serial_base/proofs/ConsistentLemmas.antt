@@ -17,8 +17,8 @@ use Rattle.dg_volume.specs.Start.{Runs, boot, sound, app_of}
 use Rattle.dg_volume.specs.Ends.{OnTheWay, Boots}
 use Rattle.dg_volume.specs.RowLaws.{RowLaws}
 use Rattle.dg_volume.specs.Consistent.{Consistent, IsSoundApp}
-use Rattle.dg_volume.specs.declared.volume.Kind.{Kind}
-use Rattle.dg_volume.specs.declared.volume.Kind.TheVariants as kind
+use Rattle.dg_volume.specs.declared.volume.StartCause.{StartCause}
+use Rattle.dg_volume.specs.declared.volume.StartCause.TheVariants as kind
 use Rattle.dg_mote.specs.Model.{MoteState, Turn}
 use Rattle.dg_mote.specs.Ticks.{tick_of}
 use Rattle.dg_mote.specs.Hears.{heard_of}
@@ -34,11 +34,11 @@ use Rattle.dg_serial_base.proofs.AgreeLemmas.{some_well}
 
 -- what is known of volumes, of starts and of motes
 pub record Laws (golden : Row) : Type 0 where
-  pub boots : (kind : Kind) (s : Store) → Consistent golden s → Through (Consistent golden) (boot kind s).trail
-  pub starts : (kind : Kind) (s : Store) → Consistent golden s → IfSome (boot kind s).runs (λ r. IsSoundApp golden (app_of r))
-  pub ends : (kind : Kind) (s : Store) → Boots s (boot kind s)
+  pub boots : (kind : StartCause) (s : Store) → Consistent golden s → Through (Consistent golden) (boot kind s).trail
+  pub starts : (kind : StartCause) (s : Store) → Consistent golden s → IfSome (boot kind s).runs (λ r. IsSoundApp golden (app_of r))
+  pub ends : (kind : StartCause) (s : Store) → Boots s (boot kind s)
   pub row : RowLaws golden
-  pub found : (kind : Kind) (s : Store) → sound s 0 ≡ true → IsSome (boot kind s).runs
+  pub found : (kind : StartCause) (s : Store) → sound s 0 ≡ true → IsSome (boot kind s).runs
   pub ticked : (m : MoteState) (s : Store) (now word : ℕ) → StoreIsConsistent golden s → AsksForKnown m.mode → TurnIsConsistent golden (tick_of m s now word)
   pub heard : (m : MoteState) (s : Store) (now word : ℕ) (bytes : List ℕ) → StoreIsConsistent golden s → AsksForKnown m.mode → TurnIsConsistent golden (heard_of m s now word bytes)
   pub stopped : (t : Trail Store) (k : ℕ) (s : Store) → Through (StoreIsConsistent golden) t → Leaves IsNear t k s → StoreIsConsistent golden s
@@ -58,7 +58,7 @@ module _ (golden : Row) (laws : Laws golden) where
 
   -- ---- starts
 
-  boot_way : (k : Kind) (s : Store) → P s → Through P (boot k s).trail
+  boot_way : (k : StartCause) (s : Store) → P s → Through P (boot k s).trail
   boot_way k s p =
       let b = boot k s in
       through_then (λ x. Consistent golden x × HasPlaces x) P (λ x h. record { places = h.1; consistent = h.0 }) b.trail
@@ -69,7 +69,7 @@ module _ (golden : Row) (laws : Laws golden) where
   boot_by_holds None t id wide now word some starts way = absurd cc
   boot_by_holds (Some r) t id wide now word some starts way = record { way = way; starts = starts; mote = tt }
 
-  boots_hold : (k : Kind) (s : Store) (id : ℕ) (wide : Bool) (now word : ℕ) → P s → Holds (boots k s id wide now word)
+  boots_hold : (k : StartCause) (s : Store) (id : ℕ) (wide : Bool) (now word : ℕ) → P s → Holds (boots k s id wide now word)
   boots_hold k s id wide now word p =
       let b = boot k s in
       boot_by_holds b.runs b.trail id wide now word (laws.found k s (laws.row.is_sound s 0 p.consistent.golden)) (laws.starts k s p.consistent) (boot_way k s p)

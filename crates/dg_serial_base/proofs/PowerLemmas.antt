@@ -2,7 +2,7 @@
 use Rattle.std.proofs.Common.{◌≡◌, ℕ, suc, true, [], ap, sym, ◌∙◌, subst}
 use Rattle.dg_nor.specs.Device.{Device}
 use Rattle.dg_volume.specs.Store.{Store}
-use Rattle.dg_volume.specs.declared.volume.Kind.TheVariants as kind
+use Rattle.dg_volume.specs.declared.volume.StartCause.TheVariants as kind
 use Rattle.dg_mote.specs.Effects.{Effect, boots}
 use Rattle.dg_mote.specs.Timely.{Timely}
 use Rattle.dg_serial_base.specs.Deeds.{Base, moment_at, drawn_word_at, powered, power_effect, sent_too}

@@ -8,8 +8,8 @@ use Rattle.dg_volume.specs.Store.{Store, IsNear}
 use Rattle.dg_volume.specs.Stands.{Stands}
 use Rattle.dg_volume.specs.Acts.{Stops}
 use Rattle.dg_volume.specs.Start.{Runs, boot}
-use Rattle.dg_volume.specs.declared.volume.Kind.{Kind}
-use Rattle.dg_volume.specs.declared.volume.Kind.TheVariants as kind
+use Rattle.dg_volume.specs.declared.volume.StartCause.{StartCause}
+use Rattle.dg_volume.specs.declared.volume.StartCause.TheVariants as kind
 use Rattle.dg_volume.proofs.BeginLemmas.{boot_begins}
 use Rattle.dg_frame.specs.Spelling.{frame_of}
 use Rattle.dg_boot.specs.Started.{Starts, Lacks}
@@ -48,7 +48,7 @@ boot_silent : (o : Option Runs) (t : Trail Store) (id : ℕ) (wide : Bool) (now 
 boot_silent None t id wide now word = refl
 boot_silent (Some r) t id wide now word = refl
 
-pub boots_silent : (k : Kind) (s : Store) (id : ℕ) (wide : Bool) (now word : ℕ) → (boots k s id wide now word).sent ≡ None
+pub boots_silent : (k : StartCause) (s : Store) (id : ℕ) (wide : Bool) (now word : ℕ) → (boots k s id wide now word).sent ≡ None
 boots_silent k s id wide now word = boot_silent (boot k s).runs (boot k s).trail id wide now word
 
 pub reset_silent : (s : Store) (id : ℕ) (wide : Bool) (now word : ℕ) → (reset_effect s id wide now word).sent ≡ None
@@ -59,7 +59,7 @@ pub reset_is : (s : Store) (id : ℕ) (wide : Bool) (now word : ℕ) → reset_e
 unfolding reset_effect
 reset_is s id wide now word = refl
 
-module _ (k : Kind) (s : Store) (id : ℕ) (wide : Bool) (now word : ℕ) where
+module _ (k : StartCause) (s : Store) (id : ℕ) (wide : Bool) (now word : ℕ) where
   abbrev t : Trail Store
   t = (boot k s).trail
 

@@ -14,7 +14,7 @@ ghost use Rattle.dg_serial_base.specs.Standing.{IsTimely, Counts, WriteCounts, R
 use crate::starting::start_mote;
 use crate::stop::Stop;
 use crate::timeline::{Draw, Timeline};
-use dg_boot::Kind;
+use dg_boot::StartCause;
 use dg_mote::{Did, Mote, Outbox, a_mote_stays_timely, a_restart_is_for_the_order};
 use dg_nor::{Nor, Stopped};
 
@@ -35,11 +35,11 @@ fn restart<N: Nor>(
 ) -> Result<(), Stop>
     requires moment { draw.now < 2 ^ 62 }
     ensures ends { (s : Store) → Stands (N.device nor.old).image s
-        → EffectEnds result s (boots Kind.Order s id wide draw.now draw.word) draw.now (N.device nor.new) mote.new }
+        → EffectEnds result s (boots StartCause.Order s id wide draw.now draw.word) draw.now (N.device nor.new) mote.new }
     ensures timely { OnOk result (IsTimely (N.device nor.new).image mote.new draw.now) }
     ensures counts { Counts result (N.device nor.old) (N.device nor.new) }
 {
-    match start_mote(nor, Kind::Order, id, wide, draw) {
+    match start_mote(nor, StartCause::Order, id, wide, draw) {
         Ok(started) => {
             *mote = started;
             Ok(())
@@ -96,7 +96,7 @@ impl Running {
     {
         let mut timeline = Timeline::begin(step, seed);
         let draw = timeline.next();
-        match start_mote(nor, Kind::Power, id, true, draw) {
+        match start_mote(nor, StartCause::Power, id, true, draw) {
             Ok(mote) => Ok(Running { mote, timeline }),
             Err(stop) => Err(stop),
         }

@@ -7,14 +7,14 @@ ghost use Rattle.dg_serial_base.specs.Standing.{StartEnds, NoneEnds, IsTimely, C
 
 use crate::stop::Stop;
 use crate::timeline::Draw;
-use dg_boot::{BootFault, Kind, start};
+use dg_boot::{BootFault, StartCause, start};
 use dg_mote::{Mote, a_mote_stays_timely};
 use dg_nor::Nor;
 
 /// Starts a chip, and makes its mote.
 pub(crate) fn start_mote<N: Nor>(
     nor: &mut N,
-    kind: Kind,
+    kind: StartCause,
     id: u16,
     wide: bool,
     draw: Draw,

@@ -11,7 +11,7 @@ use Rattle.dg_volume.specs.Sizes.{images, most_room, old_form, new_form}
 use Rattle.dg_volume.specs.Store.{Store, App, held}
 use Rattle.dg_volume.specs.Start.{Boot, Runs, boot, length_in, runs_length, runs_crc}
 use Rattle.dg_volume.specs.Changes.{inject_refusal, order_refusal}
-use Rattle.dg_volume.specs.declared.volume.Kind.TheVariants as kind
+use Rattle.dg_volume.specs.declared.volume.StartCause.TheVariants as kind
 use Rattle.dg_volume.specs.declared.volume.InjectFault.{InjectFault}
 use Rattle.dg_volume.specs.declared.volume.InjectFault.TheVariants as inject
 use Rattle.dg_volume.specs.declared.volume.OrderFault.{OrderFault}

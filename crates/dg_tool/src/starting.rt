@@ -10,7 +10,7 @@ ghost use Rattle.dg_tool.specs.Stops.{OnBoard, OnBoards, told_status, told_text}
 use crate::stop::{Stop, or_memory};
 use crate::text::push_words;
 use dg_base::{Status, push_hex};
-use dg_boot::{BootFault, Kind, Started, start};
+use dg_boot::{BootFault, StartCause, Started, start};
 use dg_nor::Nor;
 use std::alloc::{AllocError, Global};
 
@@ -36,7 +36,7 @@ fn boot_on<N: Nor>(alloc: Global, nor: &mut N) -> Result<Vec<u8>, Stop>
         (verb_rule (StandsAs (N.device nor.old).image) boot_on (BootedOn power_boot) (StopsOn (λ s. (power_boot s).trail)))
         (told_text (λ text. text.items) result) (N.device nor.old) (N.device nor.new) }
 {
-    match start(nor, Kind::Power) {
+    match start(nor, StartCause::Power) {
         Ok(started) => or_memory(start_line(alloc, &started)),
         Err(BootFault::Stopped) => Err(Stop::FlashFault),
         Err(BootFault::NotAVolume) => Err(Stop::NotAVolume),

@@ -6,8 +6,8 @@ use Rattle.dg_nor.proofs.ThroughLemmas.{Through-last}
 use Rattle.dg_volume.specs.Store.{Store}
 use Rattle.dg_volume.specs.Start.{Runs, Boot, boot}
 use Rattle.dg_volume.specs.Ends.{OnTheWay, Boots}
-use Rattle.dg_volume.specs.declared.volume.Kind.{Kind}
-use Rattle.dg_volume.specs.declared.volume.Kind.TheVariants as kind
+use Rattle.dg_volume.specs.declared.volume.StartCause.{StartCause}
+use Rattle.dg_volume.specs.declared.volume.StartCause.TheVariants as kind
 use Rattle.dg_mote.specs.Effects.{reset_effect, boot_by}
 use Rattle.dg_base.specs.declared.events.Cut.{Cut}
 use Rattle.dg_base.specs.declared.events.Event.TheVariants.{Reset}
@@ -23,7 +23,7 @@ use Rattle.dg_base.specs.declared.events.Key.{Key}
 use Rattle.dg_trial.proofs.RoomLemmas.{Roomy, boot_rooms, leaves_rooms}
 
 abbrev pub BootLaw : Type 0
-BootLaw = (k : Kind) (s : Store) → Boots s (boot k s)
+BootLaw = (k : StartCause) (s : Store) → Boots s (boot k s)
 
 starts_by : (w : World) (o : Option Runs) (t : Trail Store) (id : ℕ) (wide : Bool) (now word : ℕ) (old : Option Key)
     → of_effect w (boot_by o t id wide now word) old ≡ Goes (record { trail = t; table = w.table; started = o; sent = None; runs = running_by o id wide now word })

@@ -11,7 +11,7 @@ use Rattle.dg_volume.specs.Store.{Store, App, IsNear}
 use Rattle.dg_volume.specs.Changes.{spent}
 use Rattle.dg_volume.specs.Trails.{committing}
 use Rattle.dg_volume.specs.Start.{Runs, Boot, behind, counts, count_trail, by_gesture, order_waits, is_set_to, blank_by, blank_trail, copy_trail, app_of, kept_runs, order_boot, golden_done, finish_trail, golden_copied, golden_stays, golden_by, golden_boot, kept_by, kept_boot, waived_once, boot_counted, boot, sound}
-use Rattle.dg_volume.specs.declared.volume.Kind.{Kind}
+use Rattle.dg_volume.specs.declared.volume.StartCause.{StartCause}
 
 -- so many commits are left
 abbrev pub Roomy : ℕ → Store → Type 0
@@ -31,7 +31,7 @@ blank_rooms : (c : ℕ) (s : Store) → c + 1 ≤ s.room → Through (Roomy c) (
 unfolding blank_trail
 blank_rooms c s h = blank_rooms_by c s s.app h
 
-count_rooms : (c : ℕ) (k : Kind) (s : Store) → c + 1 ≤ s.room → Through (Roomy c) (count_trail k s)
+count_rooms : (c : ℕ) (k : StartCause) (s : Store) → c + 1 ≤ s.room → Through (Roomy c) (count_trail k s)
 unfolding count_trail
 count_rooms c k s h =
     let t : Store = record (spent s) { gesture = s.gesture + 1 } in
@@ -108,7 +108,7 @@ counted_rooms c s h =
     (λ _. kept_rooms c s three two))
 
 -- a start makes at most four commits
-pub boot_rooms : (c : ℕ) (k : Kind) (s : Store) → c + 4 ≤ s.room → Through (Roomy c) (boot k s).trail
+pub boot_rooms : (c : ℕ) (k : StartCause) (s : Store) → c + 4 ≤ s.room → Through (Roomy c) (boot k s).trail
 unfolding boot
 boot_rooms c k s h =
     let t = count_trail k s in

@@ -6,7 +6,7 @@ ghost use Rattle.dg_trials.specs.Runs.{MoteRuns};
 
 use crate::boards::{IMAGE, VERSION, formatted, inject, mounted};
 use dg_bits::PageBits;
-use dg_boot::{Kind, start};
+use dg_boot::{StartCause, start};
 use dg_frame::{Frame, Message, read};
 use dg_mote::{Did, Heard, Mote, Outbox, a_mote_stays_timely};
 use dg_nor::{Board, Fused, Stopped};
@@ -39,7 +39,7 @@ impl Node {
         ensures { IfOk result (λ node. MoteRuns (board_image node.board) node.mote node.now) }
     {
         let mut board = formatted(rt, 0)?;
-        if start(&mut board, Kind::Power).is_err() {
+        if start(&mut board, StartCause::Power).is_err() {
             return Err("golden is not started".into());
         }
         let volume = mounted(&mut board)?;

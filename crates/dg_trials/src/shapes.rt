@@ -6,7 +6,7 @@ ghost use Rattle.dg_nor.specs.Sizes.{sectors};
 
 use crate::boards::mounted;
 use crate::slots::{IMAGE, NAME, VERSION, content, packet_of};
-use dg_boot::{BootFault, Kind, start};
+use dg_boot::{BootFault, StartCause, start};
 use dg_control::PLACE_SIZE;
 use dg_nor::{Board, Fused, Nor, SECTOR_SIZE, SECTORS, Stopped, erase_sector, program_in, read_in};
 use dg_object::{PACKET_SIZE, PACKETS, PAGE_SIZE, page_of};
@@ -184,7 +184,10 @@ fn starts_by(
     requires counted { 1 ≤ after }
     requires some { 0 < length mask.now }
 {
-    match start(&mut Fused::new(started, Some(after), mask), Kind::Power) {
+    match start(
+        &mut Fused::new(started, Some(after), mask),
+        StartCause::Power,
+    ) {
         Err(BootFault::Stopped) => {}
         _ => return Ok(false),
     }

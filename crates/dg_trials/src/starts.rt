@@ -3,7 +3,7 @@
 ghost use Rattle.std.specs.Prelude.{◌≤◌};
 
 use crate::boards::{IMAGE, MASKS, VERSION, formatted, inject, mounted};
-use dg_boot::{BootFault, Kind, start};
+use dg_boot::{BootFault, StartCause, start};
 use dg_control::PLACE_SIZE;
 use dg_nor::{Board, Fused, Nor, SECTOR_SIZE};
 use dg_slot::page_sector;
@@ -48,7 +48,7 @@ const FIRST_START: u32 = COMMIT + COPY + COMMIT;
 /// The operations of an ordered start: program memory is told as blank before the copy.
 const ORDERED_START: u32 = COMMIT + COMMIT + COPY + COMMIT;
 
-fn begin<N: Nor>(nor: &mut N, kind: Kind) -> Result<Running, BootFault> {
+fn begin<N: Nor>(nor: &mut N, kind: StartCause) -> Result<Running, BootFault> {
     let started = start(nor, kind)?;
     Ok(Running {
         image: started.image,
@@ -64,7 +64,7 @@ fn stopped_at(board: &mut Board, after: u32, mask: &[u8; PLACE_SIZE]) -> Result<
     requires { 1 ≤ after }
 {
     let mut fused = Fused::new(board, Some(after), mask);
-    begin(&mut fused, Kind::Power)
+    begin(&mut fused, StartCause::Power)
 }
 
 /// Keeps an order for the image. Short starts count from 0 again.
@@ -83,7 +83,7 @@ fn order(board: &mut Board) -> Result<(), Fail> {
 /// A volume that runs golden and keeps the image and an order for it.
 fn ordered(rt: &HostRuntime) -> Result<Board, Fail> {
     let mut board = formatted(rt, 0)?;
-    if start(&mut board, Kind::Power).is_err() {
+    if start(&mut board, StartCause::Power).is_err() {
         return Err("golden is not started".into());
     }
     inject(&mut board)?;
@@ -113,7 +113,7 @@ fn a_first_start_runs_golden(rt: HostRuntime) -> Result<(), Fail> {
                 "{after}"
             );
             assert_eq!(rt;
-                begin(&mut copy, Kind::Power),
+                begin(&mut copy, StartCause::Power),
                 Ok(GOLDEN_RUNS),
                 "{after}, {mask:?}"
             );
@@ -139,7 +139,7 @@ fn an_ordered_start_runs_its_image(rt: HostRuntime) -> Result<(), Fail> {
                 "{after}"
             );
             assert_eq!(rt;
-                begin(&mut copy, Kind::Power),
+                begin(&mut copy, StartCause::Power),
                 Ok(ORDERED_RUNS),
                 "{after}, {mask:?}"
             );
@@ -152,7 +152,7 @@ fn an_ordered_start_runs_its_image(rt: HostRuntime) -> Result<(), Fail> {
     }
     // a start by order is not counted
     let mut copy = board.copy(rt.alloc())?;
-    assert_eq!(rt; begin(&mut copy, Kind::Order), Ok(ORDERED_RUNS));
+    assert_eq!(rt; begin(&mut copy, StartCause::Order), Ok(ORDERED_RUNS));
     assert_eq!(rt; mounted(&mut copy)?.snapshot().gesture, 0);
     Ok(())
 }
@@ -161,10 +161,10 @@ fn an_ordered_start_runs_its_image(rt: HostRuntime) -> Result<(), Fail> {
 fn three_short_starts_run_golden(rt: HostRuntime) -> Result<(), Fail> {
     let mut board = ordered(&rt)?;
     for runs in [ORDERED_RUNS, ORDERED_RUNS, GOLDEN_RUNS] {
-        assert_eq!(rt; begin(&mut board, Kind::Power), Ok(runs));
+        assert_eq!(rt; begin(&mut board, StartCause::Power), Ok(runs));
     }
     assert!(rt; is_waived(&mut board, 0)?);
-    assert_eq!(rt; begin(&mut board, Kind::Power), Ok(GOLDEN_RUNS));
+    assert_eq!(rt; begin(&mut board, StartCause::Power), Ok(GOLDEN_RUNS));
     Ok(())
 }
 
@@ -172,7 +172,7 @@ fn three_short_starts_run_golden(rt: HostRuntime) -> Result<(), Fail> {
 fn an_unsound_order_is_waived(rt: HostRuntime) -> Result<(), Fail> {
     let mut board = ordered(&rt)?;
     board.program(SECTOR_SIZE * page_sector(IMAGE, 1), &[0])?;
-    assert_eq!(rt; begin(&mut board, Kind::Power), Ok(GOLDEN_RUNS));
+    assert_eq!(rt; begin(&mut board, StartCause::Power), Ok(GOLDEN_RUNS));
     assert!(rt; is_waived(&mut board, 1)?);
     Ok(())
 }

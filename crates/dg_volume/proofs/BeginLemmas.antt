@@ -13,7 +13,7 @@ use Rattle.dg_volume.specs.Changes.{spent, keeping, is_version, inject_refusal}
 use Rattle.dg_volume.specs.Trails.{BeginsAt, committing, migrate_trail, drop_by, drop_trail, open_trail, take_trail, fill_trail, inject_by, inject_trail}
 use Rattle.dg_volume.specs.Start.{Runs, Boot, counts, count_trail, by_gesture, order_waits, blank_by, blank_trail, copy_trail, app_of, kept_runs, order_boot, finish_trail, golden_copied, golden_by, golden_boot, kept_by, kept_boot, waived_once, boot_counted, boot, is_set_to, sound}
 use Rattle.dg_volume.specs.declared.volume.InjectFault.{InjectFault}
-use Rattle.dg_volume.specs.declared.volume.Kind.{Kind}
+use Rattle.dg_volume.specs.declared.volume.StartCause.{StartCause}
 use Rattle.dg_volume.proofs.FillLemmas.{fill_first, fill_works}
 
 commit_works : (room : ℕ) → 0 < commit_operations room
@@ -74,7 +74,7 @@ blank_begins : (s : Store) → BeginsAt s (blank_trail s)
 unfolding blank_trail
 blank_begins s = blank_begins_by s s.app
 
-count_begins : (k : Kind) (s : Store) → BeginsAt s (count_trail k s)
+count_begins : (k : StartCause) (s : Store) → BeginsAt s (count_trail k s)
 unfolding count_trail
 count_begins k s = cond_both (counts k s) _ _ (BeginsAt s) (λ _. begins_committing s _) (λ _. begins_resting s 0)
 
@@ -124,6 +124,6 @@ counted_begins s =
     (λ _. begins_joined s (committing s (waived_once s)) (kept_boot (waived_once s) (s.gesture == short_starts)).trail (begins_committing s _) (kept_begins (waived_once s) (s.gesture == short_starts)).works))
     (λ _. kept_begins s (s.gesture == short_starts)))
 
-pub boot_begins : (k : Kind) (s : Store) → Begins s (boot k s)
+pub boot_begins : (k : StartCause) (s : Store) → Begins s (boot k s)
 unfolding boot
 boot_begins k s = begins_joined s (count_trail k s) (boot_counted (last (count_trail k s))).trail (count_begins k s) (counted_begins (last (count_trail k s))).works

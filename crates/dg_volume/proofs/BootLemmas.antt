@@ -17,7 +17,7 @@ use Rattle.dg_volume.specs.Trails.{committing}
 use Rattle.dg_volume.specs.Table.{row_at}
 use Rattle.dg_volume.specs.Agreement.{KeepsRow, HoldsRow, Agrees}
 use Rattle.dg_volume.specs.Start.{Runs, Boot, behind, counts, count_trail, by_gesture, order_waits, complete_pages, is_whole, is_set_to, blank_by, blank_trail, copy_trail, app_of, kept_runs, order_boot, golden_done, finish_trail, golden_copied, golden_stays, golden_by, golden_boot, kept_by, kept_boot, waived_once, boot_counted, boot, sound}
-use Rattle.dg_volume.specs.declared.volume.Kind.{Kind}
+use Rattle.dg_volume.specs.declared.volume.StartCause.{StartCause}
 
 both_first : (a b : Bool) → (a && b) ≡ true → a ≡ true
 both_first true b e = refl
@@ -73,7 +73,7 @@ module _ (table : List Row) where
   unfolding blank_trail
   blank_through s a = blank_through_by s s.app a
 
-  count_through : (k : Kind) (s : Store) → Agrees table s → Through (Agrees table) (count_trail k s)
+  count_through : (k : StartCause) (s : Store) → Agrees table s → Through (Agrees table) (count_trail k s)
   unfolding count_trail
   count_through k s a =
       let t : Store = record (spent s) { gesture = s.gesture + 1 } in
@@ -152,7 +152,7 @@ module _ (table : List Row) where
       (kept_through (waived_once s) three (agrees_app s (waived_once s) refl a.app a))))
       (λ _. kept_through s three a))
 
-  pub boot_through : (k : Kind) (s : Store) → Agrees table s → Through (Agrees table) (boot k s).trail
+  pub boot_through : (k : StartCause) (s : Store) → Agrees table s → Through (Agrees table) (boot k s).trail
   unfolding boot
   boot_through k s a =
       let first = count_through k s a in

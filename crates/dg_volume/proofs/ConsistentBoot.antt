@@ -16,7 +16,7 @@ use Rattle.dg_volume.specs.Changes.{spent}
 use Rattle.dg_volume.specs.Trails.{committing}
 use Rattle.dg_volume.specs.Consistent.{IsSoundSoFar, IsSoundApp, Consistent}
 use Rattle.dg_volume.specs.Start.{Runs, Boot, behind, counts, count_trail, by_gesture, order_waits, complete_pages, is_whole, is_set_to, blank_by, blank_trail, copy_trail, app_of, kept_runs, order_boot, golden_done, finish_trail, golden_copied, golden_stays, golden_by, golden_boot, kept_by, kept_boot, waived_once, boot_counted, boot, sound, held_sound, pages_sound}
-use Rattle.dg_volume.specs.declared.volume.Kind.{Kind}
+use Rattle.dg_volume.specs.declared.volume.StartCause.{StartCause}
 
 both_first : (a b : Bool) → (a && b) ≡ true → a ≡ true
 both_first true b e = refl
@@ -79,7 +79,7 @@ module _ (golden : Row) where
   unfolding blank_trail
   blank_through s a = blank_through_by s s.app a
 
-  count_through : (k : Kind) (s : Store) → Consistent golden s → Through (Consistent golden) (count_trail k s)
+  count_through : (k : StartCause) (s : Store) → Consistent golden s → Through (Consistent golden) (count_trail k s)
   unfolding count_trail
   count_through k s a =
       let t : Store = record (spent s) { gesture = s.gesture + 1 } in
@@ -159,7 +159,7 @@ module _ (golden : Row) where
       (kept_through (waived_once s) three (consistent_app s (waived_once s) refl a.app a))))
       (λ _. kept_through s three a))
 
-  pub boot_through : (k : Kind) (s : Store) → Consistent golden s → Through (Consistent golden) (boot k s).trail
+  pub boot_through : (k : StartCause) (s : Store) → Consistent golden s → Through (Consistent golden) (boot k s).trail
   unfolding boot
   boot_through k s a =
       let first = count_through k s a in
@@ -211,6 +211,6 @@ module _ (golden : Row) where
       (λ _. kept_starts (waived_once s) three (consistent_app s (waived_once s) refl a.app a)))
       (λ _. kept_starts s three a))
 
-  pub boot_starts : (k : Kind) (s : Store) → Consistent golden s → StartsSound (boot k s)
+  pub boot_starts : (k : StartCause) (s : Store) → Consistent golden s → StartsSound (boot k s)
   unfolding boot
   boot_starts k s a = counted_starts (last (count_trail k s)) (Through-last (Consistent golden) (count_trail k s) (count_through k s a))

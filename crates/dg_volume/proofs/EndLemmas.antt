@@ -15,7 +15,7 @@ use Rattle.dg_volume.specs.Changes.{spent}
 use Rattle.dg_volume.specs.Trails.{committing}
 use Rattle.dg_volume.specs.Start.{Runs, Boot, behind, counts, count_trail, by_gesture, order_waits, complete_pages, is_whole, is_set_to, blank_by, blank_trail, copy_trail, app_of, kept_runs, order_boot, golden_done, finish_trail, golden_copied, golden_stays, golden_by, golden_boot, kept_by, kept_boot, waived_once, boot_counted, boot, sound}
 use Rattle.dg_volume.specs.Ends.{IsGolden, IsOrdered, MayBoot, OnTheWay, Boots}
-use Rattle.dg_volume.specs.declared.volume.Kind.{Kind}
+use Rattle.dg_volume.specs.declared.volume.StartCause.{StartCause}
 use Rattle.dg_volume.proofs.BeginLemmas.{finish_begins, kept_begins, counted_begins}
 
 both_first : (a b : Bool) → (a && b) ≡ true → a ≡ true
@@ -275,7 +275,7 @@ counted_boots s =
 
 -- ---- the short starts are counted
 
-counted_same : (k : Kind) (s : Store) → Same s (last (count_trail k s))
+counted_same : (k : StartCause) (s : Store) → Same s (last (count_trail k s))
 unfolding count_trail
 counted_same k s =
     let t : Store = record (spent s) { gesture = s.gesture + 1 } in
@@ -283,7 +283,7 @@ counted_same k s =
     (λ _. subst (Same s) (sym (last-stepping s (commit_operations s.room) t)) (record { kept = refl; app = refl; order = refl }))
     (λ _. subst (Same s) (sym (last-resting s 0)) (itself s))
 
-counted_way : (k : Kind) (s : Store) (runs : Option Runs) → Through (OnTheWay s runs) (count_trail k s)
+counted_way : (k : StartCause) (s : Store) (runs : Option Runs) → Through (OnTheWay s runs) (count_trail k s)
 unfolding count_trail
 counted_way k s runs =
     let t : Store = record (spent s) { gesture = s.gesture + 1 } in
@@ -291,7 +291,7 @@ counted_way k s runs =
     (λ _. commit_way s s t runs (same_way s s runs (itself s)) (same_way s t runs (record { kept = refl; app = refl; order = refl })))
     (λ _. Through-resting (OnTheWay s runs) s 0 (same_way s s runs (itself s)))
 
-pub boot_boots : (k : Kind) (s : Store) → Boots s (boot k s)
+pub boot_boots : (k : StartCause) (s : Store) → Boots s (boot k s)
 unfolding boot
 boot_boots k s =
     let t = last (count_trail k s) in

@@ -10,7 +10,7 @@ use Rattle.dg_volume.specs.Changes.{spent}
 use Rattle.dg_volume.specs.Trails.{committing}
 use Rattle.dg_volume.specs.Start.{Runs, Boot, behind, counts, count_trail, by_gesture, order_waits, is_set_to, blank_by, blank_trail, copy_trail, app_of, kept_runs, order_boot, golden_done, finish_trail, golden_copied, golden_stays, golden_by, golden_boot, kept_by, kept_boot, waived_once, boot_counted, boot, sound}
 use Rattle.dg_volume.specs.Ends.{blank_commits, blanked, ordered_runs, order_started, golden_started, golden_runs, app_runs, BootEnds}
-use Rattle.dg_volume.specs.declared.volume.Kind.{Kind}
+use Rattle.dg_volume.specs.declared.volume.StartCause.{StartCause}
 use Rattle.dg_volume.proofs.BeginLemmas.{counted_begins, finish_begins}
 
 -- ---- a start is counted
@@ -19,11 +19,11 @@ last_if : (b : Bool) (s next : Store) → last (cond b (committing s next) (rest
 last_if true s next = last-stepping s (commit_operations s.room) next
 last_if false s next = last-resting s 0
 
-pub count_last : (k : Kind) (s : Store) → last (count_trail k s) ≡ cond (counts k s) (record (spent s) { gesture = s.gesture + 1 }) s
+pub count_last : (k : StartCause) (s : Store) → last (count_trail k s) ≡ cond (counts k s) (record (spent s) { gesture = s.gesture + 1 }) s
 unfolding count_trail
 count_last k s = last_if (counts k s) s (record (spent s) { gesture = s.gesture + 1 })
 
-pub counted_ends : (k : Kind) (s : Store) → ((boot k s).runs ≡ (boot_counted (last (count_trail k s))).runs) × (last (boot k s).trail ≡ last (boot_counted (last (count_trail k s))).trail)
+pub counted_ends : (k : StartCause) (s : Store) → ((boot k s).runs ≡ (boot_counted (last (count_trail k s))).runs) × (last (boot k s).trail ≡ last (boot_counted (last (count_trail k s))).trail)
 unfolding boot
 counted_ends k s =
     let t = last (count_trail k s) in

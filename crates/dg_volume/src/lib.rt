@@ -31,5 +31,5 @@ pub use laws::{
 };
 pub use taking::TAKE_COMMITS;
 pub use volume::{
-    FormatFault, InjectFault, Injected, Kept, Kind, MountFault, OrderFault, TakeFault, Volume,
+    FormatFault, InjectFault, Injected, Kept, MountFault, OrderFault, StartCause, TakeFault, Volume,
 };

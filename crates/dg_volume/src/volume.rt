@@ -3,7 +3,7 @@ use dg_control::{Control, IMAGES};
 
 /// Why a mote starts.
 #[derive(Clone, Copy, Debug, PartialEq, Eq)]
-pub enum Kind {
+pub enum StartCause {
     /// Its power came.
     Power,
     /// An order waits.

@@ -6,7 +6,7 @@ use Rattle.dg_nor.specs.Reads.{Looked}
 use Rattle.dg_control.specs.declared.snapshot.Order.{Order}
 use Rattle.dg_volume.specs.Store.{Store}
 use Rattle.dg_volume.specs.Stands.{Stands}
-use Rattle.dg_volume.specs.declared.volume.Kind.TheVariants as kind
+use Rattle.dg_volume.specs.declared.volume.StartCause.TheVariants as kind
 use Rattle.dg_volume.specs.declared.volume.Volume.{Volume}
 use Rattle.dg_mote.specs.Model.{MoteState, maintains}
 use Rattle.dg_mote.specs.Motes.{IsMote}

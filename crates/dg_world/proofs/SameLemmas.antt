@@ -26,7 +26,7 @@ use Rattle.dg_frame.specs.declared.Message.TheVariants.{Advert, Request, Packet,
 use Rattle.dg_bits.specs.Sets.{Numbers}
 use Rattle.dg_mote.specs.Model.{MoteState, Mode, Maintain, Receive, Transmit, Receiving, came, maintains, Turn}
 use Rattle.dg_mote.specs.Summary.{is_own, own_order, same_order, same_entry, entry_for, entry_by, named, ahead_in}
-use Rattle.dg_mote.specs.Adverts.{heed_trail, asks, asking, noting, by_ahead, advert_heard, dropped, on_advert, offer}
+use Rattle.dg_mote.specs.Adverts.{better_trail, asks, asking, noting, by_ahead, advert_heard, dropped, on_advert, offer}
 use Rattle.dg_mote.specs.Requests.{overheard, to_it, on_request, page_request}
 use Rattle.dg_mote.specs.Packets.{is_wanted, accepted, seal_by, takes, on_packet, page_packet}
 use Rattle.dg_mote.specs.Hears.{source_of, on_message, by_message, heard_of}
@@ -65,8 +65,8 @@ module _ (s : Store) where
       let same = eqb-true order.number told.number (and_parts (order.number == told.number) (order.image == told.image) two.0).0 in
       omega (arith, same, told_order wide)
 
-  own_rests : (entries : List Entry) (order : Order) (wide : Bool) → is_own entries order wide s ≡ true → Through (SameShown s) (heed_trail s order)
-  unfolding heed_trail
+  own_rests : (entries : List Entry) (order : Order) (wide : Bool) → is_own entries order wide s ≡ true → Through (SameShown s) (better_trail s order)
+  unfolding better_trail
   own_rests entries order wide own =
       let same = not_better entries order wide own in
       subst (Through (SameShown s)) (sym (ap (λ (b : Bool). cond (b && nat_le 1 s.room) (order_trail s order) (resting s 0)) (le-ltb s.order.number order.number (omega (arith, same))))) (rests 0)
@@ -88,7 +88,7 @@ module _ (s : Store) where
   advert_calm : (m : MoteState) (timer : Timer) (now word source : ℕ) (entries : List Entry) (order : Order) → IsCalm s (advert_heard m timer s now word (offer source entries) order)
   unfolding advert_heard
   advert_calm m timer now word source entries order = λ is.
-      let t = heed_trail s order in
+      let t = better_trail s order in
       let x = last t in
       let h = ahead_own (ahead_in entries x) m timer x now word source entries (is_own entries order m.wide s) is in
       let first = own_rests entries order m.wide h.0 in

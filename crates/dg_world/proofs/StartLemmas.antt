@@ -11,7 +11,7 @@ use Rattle.dg_volume.specs.Store.{Store, App, IsNear}
 use Rattle.dg_volume.specs.Changes.{spent}
 use Rattle.dg_volume.specs.Trails.{committing, clear_trail}
 use Rattle.dg_volume.specs.Start.{Runs, Boot, counts, count_trail, by_gesture, order_waits, blank_by, blank_trail, copy_trail, app_of, kept_runs, order_boot, finish_trail, golden_copied, golden_by, golden_boot, kept_by, kept_boot, waived_once, boot_counted, boot, is_set_to, sound}
-use Rattle.dg_volume.specs.declared.volume.Kind.{Kind}
+use Rattle.dg_volume.specs.declared.volume.StartCause.{StartCause}
 use Rattle.dg_world.specs.Turns.{SameShown}
 
 -- a store that is near another shows the same
@@ -37,7 +37,7 @@ module _ (start : Store) where
   unfolding blank_trail
   blank_same s p = blank_same_by s.app s p
 
-  count_same : (k : Kind) (s : Store) → SameShown start s → Same (count_trail k s)
+  count_same : (k : StartCause) (s : Store) → SameShown start s → Same (count_trail k s)
   unfolding count_trail
   count_same k s p = cond_both (counts k s) _ _ Same (λ _. commit_same s _ p (record { kept = p.kept; order = p.order })) (λ _. Through-resting (SameShown start) s 0 p)
 
@@ -96,13 +96,13 @@ module _ (start : Store) where
       (λ _. kept_same s (s.gesture == short_starts) p))
 
 -- every store of a start's trail shows the same
-pub boot_same_from : (start s : Store) (k : Kind) → SameShown start s → Through (SameShown start) (boot k s).trail
+pub boot_same_from : (start s : Store) (k : StartCause) → SameShown start s → Through (SameShown start) (boot k s).trail
 unfolding boot
 boot_same_from start s k same =
     let p = count_same start k s same in
     Through-joined (SameShown start) (count_trail k s) (boot_counted (last (count_trail k s))).trail p (counted_same start (last (count_trail k s)) (Through-last (SameShown start) (count_trail k s) p))
 
-pub boot_same : (k : Kind) (s : Store) → Through (SameShown s) (boot k s).trail
+pub boot_same : (k : StartCause) (s : Store) → Through (SameShown s) (boot k s).trail
 boot_same k s = boot_same_from s s k (same_shown s)
 
 pub clear_same : (s : Store) → Through (SameShown s) (clear_trail s)

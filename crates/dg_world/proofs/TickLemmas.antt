@@ -23,8 +23,8 @@ use Rattle.dg_volume.specs.Store.{Store, IsNear}
 use Rattle.dg_volume.specs.Stands.{Stands}
 use Rattle.dg_volume.specs.Acts.{Stops}
 use Rattle.dg_volume.specs.Start.{Runs, boot, order_waits, runs_length, runs_crc}
-use Rattle.dg_volume.specs.declared.volume.Kind.{Kind}
-use Rattle.dg_volume.specs.declared.volume.Kind.TheVariants as kind
+use Rattle.dg_volume.specs.declared.volume.StartCause.{StartCause}
+use Rattle.dg_volume.specs.declared.volume.StartCause.TheVariants as kind
 use Rattle.dg_volume.proofs.BeginLemmas.{boot_begins}
 use Rattle.dg_frame.specs.Grammar.{message_of}
 use Rattle.dg_frame.specs.Spelling.{frame_of}
@@ -83,7 +83,7 @@ boot_trail : (o : Option Runs) (t : Trail Store) (id : ℕ) (wide : Bool) (now w
 boot_trail None t id wide now word = refl
 boot_trail (Some r) t id wide now word = refl
 
-module _ (w : RuleWorld) (m : ℕ) (k : Kind) (id : ℕ) (wide : Bool) (now word : ℕ) (old : Option Key) where
+module _ (w : RuleWorld) (m : ℕ) (k : StartCause) (id : ℕ) (wide : Bool) (now word : ℕ) (old : Option Key) where
   abbrev s : Store
   s = store_at w m
 

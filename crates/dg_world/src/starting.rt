@@ -15,7 +15,7 @@ ghost use Rattle.dg_world.specs.Known.{SeesStart};
 use crate::occasion::Occasion;
 use crate::telling::{Fault, StartLine, Telling};
 use crate::world::RunningMote;
-use dg_boot::{BootFault, Kind, Started, start};
+use dg_boot::{BootFault, StartCause, Started, start};
 use dg_mote::Mote;
 use dg_nor::Nor;
 use dg_rules::Key;
@@ -29,7 +29,7 @@ struct Begun {
 
 /// A board starts, and its mote is made anew.
 fn begin<N: Nor>(
-    kind: Kind,
+    kind: StartCause,
     id: u16,
     wide: bool,
     now: u64,
@@ -106,7 +106,7 @@ pub(crate) fn reset<N: Nor>(
     ensures sees { OnOk result (SeesStart telling.new runs.new) }
     ensures same_reference { (N.device board.new).references ≡ (N.device board.old).references }
 {
-    let begun = begin(Kind::Power, id, wide, now, word, board)?;
+    let begun = begin(StartCause::Power, id, wide, now, word, board)?;
     *runs = Some(begun.running);
     telling.started = Some(begun.line);
     Ok(())
@@ -154,15 +154,15 @@ pub(crate) fn restart<N: Nor>(
     requires moment { now < 2 ^ 62 }
     ensures begun { IfOk result (λ line. (w : RuleWorld) (m : ℕ) (old : Option KeyValue) (v : Option RunningMote)
         → Stands (N.device board.old).image (store_at w m)
-        → TurnEnds (Ok (Starts line)) w m (of_effect w (boots Kind.Order (store_at w m) id wide now word) old) v
+        → TurnEnds (Ok (Starts line)) w m (of_effect w (boots StartCause.Order (store_at w m) id wide now word) old) v
         (Some running.new) (N.device board.old) (N.device board.new)) }
     ensures halts { (f : Fault) → result ≡ Err f → (w : RuleWorld) (m : ℕ) (old : Option KeyValue) (v u : Option RunningMote)
         → Stands (N.device board.old).image (store_at w m)
-        → TurnEnds (Err (halt_of f None)) w m (of_effect w (boots Kind.Order (store_at w m) id wide now word) old) v u
+        → TurnEnds (Err (halt_of f None)) w m (of_effect w (boots StartCause.Order (store_at w m) id wide now word) old) v u
         (N.device board.old) (N.device board.new) }
     ensures same_reference { (N.device board.new).references ≡ (N.device board.old).references }
 {
-    match begin(Kind::Order, id, wide, now, word, board) {
+    match begin(StartCause::Order, id, wide, now, word, board) {
         Ok(begun) => {
             *running = begun.running;
             Ok(begun.line)

@@ -4,21 +4,21 @@ use Rattle.dg_volume.specs.Store.{Store}
 use Rattle.dg_volume.specs.Acts.{Acted, Stops}
 use Rattle.dg_nor.proofs.DeviceLemmas.{Ran-none}
 use Rattle.dg_mote.proofs.LentLemmas.{rest_acted}
-use Rattle.dg_mote.proofs.AskLemmas.{heeded, unheeded, order_free}
-use Rattle.dg_mote.proofs.adverts.heed.Goals as goal
+use Rattle.dg_mote.proofs.AskLemmas.{kept_better, not_kept_better, order_free}
+use Rattle.dg_mote.proofs.adverts.keep_better.Goals as goal
 
-pub returns-then-not-heeds-clause-acted : goal.returns-then-not-heeds-clause-acted
-returns-then-not-heeds-clause-acted g c s m =
+pub returns-then-not-keeps_better-clause-acted : goal.returns-then-not-keeps_better-clause-acted
+returns-then-not-keeps_better-clause-acted g c s m =
     let a = g.N.Nor.device c.args.nor.now in
-    let e = sym (c.heeds.ensures s m.tells) ∙ c.if-not-heeds.true in
-    subst (λ (t : Trail Store). Acted t a a c.args.volume.now) (sym (unheeded s c.args.order.now e)) (rest_acted s 0 a a c.args.volume.now m (Ran-none a))
+    let e = sym (c.keeps_better.ensures s m.tells) ∙ c.if-not-keeps_better.true in
+    subst (λ (t : Trail Store). Acted t a a c.args.volume.now) (sym (not_kept_better s c.args.order.now e)) (rest_acted s 0 a a c.args.volume.now m (Ran-none a))
 
 pub unreachable-requires : goal.unreachable-requires
 unreachable-requires g c =
     let s = c.requires.mounted.0 in
     let m = c.requires.mounted.1 in
     let x = c.in-Err-OldOrder in
-    let e = sym (c.heeds.ensures s m.tells) ∙ c.if-not-heeds.false in
+    let e = sym (c.keeps_better.ensures s m.tells) ∙ c.if-not-keeps_better.false in
     let refused = c.order.ensures.refused x.field-0 x.is (λ (y : x.field-0 ≡ _). let k = x.field-0-is in cc) s m in
     let free = order_free s c.args.order.now e in
     cc
@@ -28,7 +28,7 @@ unreachable-requires-in-Err-Worn g c =
     let s = c.requires.mounted.0 in
     let m = c.requires.mounted.1 in
     let x = c.in-Err-Worn in
-    let e = sym (c.heeds.ensures s m.tells) ∙ c.if-not-heeds.false in
+    let e = sym (c.keeps_better.ensures s m.tells) ∙ c.if-not-keeps_better.false in
     let refused = c.order.ensures.refused x.field-0 x.is (λ (y : x.field-0 ≡ _). let k = x.field-0-is in cc) s m in
     let free = order_free s c.args.order.now e in
     cc
@@ -37,12 +37,12 @@ pub returns-in-Ok-clause-acted : goal.returns-in-Ok-clause-acted
 returns-in-Ok-clause-acted g c s m =
     let a = g.N.Nor.device c.args.nor.now in
     let b = g.N.Nor.device c.order.new.nor in
-    let e = sym (c.heeds.ensures s m.tells) ∙ c.if-not-heeds.false in
-    subst (λ (t : Trail Store). Acted t a b c.order.new.self) (sym (heeded s c.args.order.now e)) (c.in-Ok.ensures.acted s m)
+    let e = sym (c.keeps_better.ensures s m.tells) ∙ c.if-not-keeps_better.false in
+    subst (λ (t : Trail Store). Acted t a b c.order.new.self) (sym (kept_better s c.args.order.now e)) (c.in-Ok.ensures.acted s m)
 
 pub returns-in-Err-Stopped-clause-stopped : goal.returns-in-Err-Stopped-clause-stopped
 returns-in-Err-Stopped-clause-stopped g c s m =
     let a = g.N.Nor.device c.args.nor.now in
     let b = g.N.Nor.device c.order.new.nor in
-    let e = sym (c.heeds.ensures s m.tells) ∙ c.if-not-heeds.false in
-    subst (λ (t : Trail Store). Stops t a b) (sym (heeded s c.args.order.now e)) (c.in-Err-Stopped.ensures.stopped (ap Err c.in-Err-Stopped.field-0-is) s m)
+    let e = sym (c.keeps_better.ensures s m.tells) ∙ c.if-not-keeps_better.false in
+    subst (λ (t : Trail Store). Stops t a b) (sym (kept_better s c.args.order.now e)) (c.in-Err-Stopped.ensures.stopped (ap Err c.in-Err-Stopped.field-0-is) s m)
