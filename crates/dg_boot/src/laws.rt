@@ -35,8 +35,8 @@ pub fn a_waived_order_is_not_started()
 /// Program memory is set to what was copied with the last operation of a start, and not before: a stop in any earlier
 /// one leaves it blank, or as it was.
 pub fn an_image_is_set_once_it_is_copied()
-    ensures { (kind : StartCause) (s t : Store) (k : ℕ) → k + 1 < operations (boot kind s).trail → Leaves IsNear (boot kind s).trail k t
-        → (t.app ≡ s.app) ⊎ (t.app ≡ None) }
+    ensures { (kind : StartCause) (s t : Store) (k : ℕ) → k + 1 < operations (boot kind s).trail
+        → Leaves IsNear (boot kind s).trail k t → (t.app ≡ s.app) ⊎ (t.app ≡ None) }
 {}
 
 /// A start has an image where golden is sound, and where program memory is set to golden. So it lacks one only where

@@ -164,7 +164,8 @@ pub fn trails_keep_agreement()
         → row_at table row.image row.version ≡ Some row → Agrees table s → Through (Agrees table) (take_trail s (profile row)) }
     ensures inject { (table : List Row) (s : Store) (row : Row) → row.image < length s.kept
         → row_at table row.image row.version ≡ Some row → Agrees table s → Through (Agrees table) (inject_trail s row) }
-    ensures boot { (table : List Row) (kind : StartCause) (s : Store) → Agrees table s → Through (Agrees table) (boot kind s).trail }
+    ensures boot { (table : List Row) (kind : StartCause) (s : Store) → Agrees table s
+        → Through (Agrees table) (boot kind s).trail }
     // one page more of what is kept of a row, after n operations
     ensures page { (table : List Row) (s : Store) (row : Row) (h : Held) (n : ℕ) → 1 ≤ row.image → row.image < length s.kept
         → row_at table row.image row.version ≡ Some row → held s row.image ≡ Some h → h.version ≡ row.version
