@@ -22,7 +22,7 @@ from_err (Err e) x h = ap Err h
 
 -- ---- what it comes to
 
-pub made_comes : {T : Type 0} (view : T → List ℕ) (r : Result T Stop) (text : List ℕ) (acted may : Device → Device → Type 0) (a b : Device) → Makes view r text → acted a b → OnStore view r (Ends text) acted may a b
+pub made_comes : {T : Type 0} (view : T → List ℕ) (r : Result T Stop) (text : List ℕ) (acted may : Device → Device → Type 0) (a b : Device) → Makes view r text → acted a b → OnStore (told_status r) (told_text view r) (Ends text) acted may a b
 made_comes view (Ok x) text acted may a b m did = record { comes = record { caused = refl; wrote = m; board = did }; of_board = tt; stops = tt }
 made_comes view (Err stops.Memory) text acted may a b m did = record { comes = record { caused = tt; wrote = refl; board = inr did }; of_board = tt; stops = tt }
 made_comes view (Err stops.ReadFault) text acted may a b m did = absurd m
@@ -34,19 +34,19 @@ made_comes view (Err stops.NotAVolume) text acted may a b m did = absurd m
 made_comes view (Err (stops.Refused cause)) text acted may a b m did = absurd m
 made_comes view (Err stops.NoImage) text acted may a b m did = absurd m
 
-pub refused_comes : {T : Type 0} (view : T → List ℕ) (cause : Refusal) (acted may : Device → Device → Type 0) (a b : Device) → Looked a b → OnStore view (Err (stops.Refused cause)) (Refuses cause) acted may a b
+pub refused_comes : {T : Type 0} (view : T → List ℕ) (cause : Refusal) (acted may : Device → Device → Type 0) (a b : Device) → Looked a b → OnStore (stop_status (stops.Refused cause)) (stop_text (stops.Refused cause)) (Refuses cause) acted may a b
 refused_comes view cause acted may a b looked = record { comes = record { caused = refl; wrote = refl; board = looked }; of_board = tt; stops = tt }
 
-pub breaks_comes : {T : Type 0} (view : T → List ℕ) (cause : Refusal) (acted may : Device → Device → Type 0) (a b : Device) → acted a b → OnStore view (Err (stops.Refused cause)) (Breaks cause) acted may a b
+pub breaks_comes : {T : Type 0} (view : T → List ℕ) (cause : Refusal) (acted may : Device → Device → Type 0) (a b : Device) → acted a b → OnStore (stop_status (stops.Refused cause)) (stop_text (stops.Refused cause)) (Breaks cause) acted may a b
 breaks_comes view cause acted may a b did = record { comes = record { caused = refl; wrote = refl; board = did }; of_board = tt; stops = tt }
 
-pub stopped_comes : {T : Type 0} (view : T → List ℕ) (ending : Ending) (acted may : Device → Device → Type 0) (a b : Device) → NeedsBoard ending → may a b → IsStopped a b → OnStore view (Err stops.FlashFault) ending acted may a b
+pub stopped_comes : {T : Type 0} (view : T → List ℕ) (ending : Ending) (acted may : Device → Device → Type 0) (a b : Device) → NeedsBoard ending → may a b → IsStopped a b → OnStore (stop_status stops.FlashFault) (stop_text stops.FlashFault) ending acted may a b
 stopped_comes view ending acted may a b needs held stopped = record { comes = record { caused = needs; wrote = refl; board = held }; of_board = tt; stops = stopped }
 
-pub memory_comes : {T : Type 0} (view : T → List ℕ) (ending : Ending) (acted may : Device → Device → Type 0) (a b : Device) → Looked a b → OnStore view (Err stops.Memory) ending acted may a b
+pub memory_comes : {T : Type 0} (view : T → List ℕ) (ending : Ending) (acted may : Device → Device → Type 0) (a b : Device) → Looked a b → OnStore (stop_status stops.Memory) (stop_text stops.Memory) ending acted may a b
 memory_comes view ending acted may a b looked = record { comes = record { caused = tt; wrote = refl; board = inl looked }; of_board = tt; stops = tt }
 
-pub image_comes : {T : Type 0} (view : T → List ℕ) (acted may : Device → Device → Type 0) (a b : Device) → acted a b → OnStore view (Err stops.NoImage) LacksImage acted may a b
+pub image_comes : {T : Type 0} (view : T → List ℕ) (acted may : Device → Device → Type 0) (a b : Device) → acted a b → OnStore (stop_status stops.NoImage) (stop_text stops.NoImage) LacksImage acted may a b
 image_comes view acted may a b did = record { comes = record { caused = refl; wrote = refl; board = did }; of_board = tt; stops = tt }
 
 -- a board is no input
@@ -108,7 +108,7 @@ leaves_looked statuses.NoBoard ending acted acted2 may may2 a m b needs l f g h 
 leaves_looked statuses.NoImage ending acted acted2 may may2 a m b needs l f g h = left_looked ending acted acted2 a m b needs l f h
 
 pub looked_store : {T : Type 0} (view : T → List ℕ) (r : Result T Stop) (ending : Ending) (acted acted2 may may2 : Device → Device → Type 0) (a m b : Device)
-    → NeedsBoard ending → Looked a m → (acted m b → acted2 a b) → (may m b → may2 a b) → OnStore view r ending acted may m b → OnStore view r ending acted2 may2 a b
+    → NeedsBoard ending → Looked a m → (acted m b → acted2 a b) → (may m b → may2 a b) → OnStore (told_status r) (told_text view r) ending acted may m b → OnStore (told_status r) (told_text view r) ending acted2 may2 a b
 looked_store view r ending acted acted2 may may2 a m b needs l f g h = record {
   comes = record { caused = h.comes.caused; wrote = h.comes.wrote; board = leaves_looked (told_status r) ending acted acted2 may may2 a m b needs l f g h.comes.board };
   of_board = h.of_board;
@@ -154,7 +154,7 @@ reads_image (Ok x) a b h = h.same_image
 reads_image (Err e) a b h = fails_image e a b h
 
 -- a verb that only reads a volume
-pub reads_fail : {T : Type 0} (view : T → List ℕ) (e : Stop) (ending : Ending) (acted : Device → Device → Type 0) (a b : Device) → NeedsBoard ending → FailsOn e a b → OnStore {T = T} view (Err e) ending acted ReadStopped a b
+pub reads_fail : {T : Type 0} (view : T → List ℕ) (e : Stop) (ending : Ending) (acted : Device → Device → Type 0) (a b : Device) → NeedsBoard ending → FailsOn e a b → OnStore (stop_status e) (stop_text e) ending acted ReadStopped a b
 reads_fail view stops.Memory ending acted a b needs h = memory_comes view ending acted ReadStopped a b h
 reads_fail view stops.FlashFault ending acted a b needs h = stopped_comes view ending acted ReadStopped a b needs h (halts_stopped h.halts)
 reads_fail view stops.ReadFault ending acted a b needs h = absurd h
@@ -184,7 +184,7 @@ finds statuses.NoBoard P p = tt
 finds statuses.NoImage P p = p
 
 pub on_volume : {T : Type 0} (view : T → List ℕ) (r : Result T Stop) (by : Store → Ending) (acted may : Option Store → Device → Device → Type 0) (a b : Device)
-    → ((s : Store) → Stands a.image s → OnStore view r (by s) (acted (Some s)) (may (Some s)) a b) → IsVolume a.image → OnBoard (told_status r) (verb_rule (StandsAs a.image) (λ chip. by_store chip by) acted may) (told_text view r) a b
+    → ((s : Store) → Stands a.image s → OnStore (told_status r) (told_text view r) (by s) (acted (Some s)) (may (Some s)) a b) → IsVolume a.image → OnBoard (told_status r) (verb_rule (StandsAs a.image) (λ chip. by_store chip by) acted may) (told_text view r) a b
 on_volume view r by acted may a b h v = record {
   rules = rules;
   found = finds (told_status r) ((chip : Option Store) × StandsAs a.image chip) (Some v.0, v.1);
@@ -222,6 +222,6 @@ unmounted (stops.Refused cause) by acted may a b needs held h = absurd h
 unmounted stops.NoImage by acted may a b needs held h = absurd h
 
 -- a verb that only reads, and came to its text
-pub reads_done : {T : Type 0} (view : T → List ℕ) (r : Result T Stop) (text : List ℕ) (acted : Device → Device → Type 0) (a b : Device) → (Looked a b → acted a b) → ReadsOn r a b → IfOk r (λ t. view t ≡ text) → OnStore view r (Ends text) acted ReadStopped a b
+pub reads_done : {T : Type 0} (view : T → List ℕ) (r : Result T Stop) (text : List ℕ) (acted : Device → Device → Type 0) (a b : Device) → (Looked a b → acted a b) → ReadsOn r a b → IfOk r (λ t. view t ≡ text) → OnStore (told_status r) (told_text view r) (Ends text) acted ReadStopped a b
 reads_done view (Ok x) text acted a b f h is = record { comes = record { caused = refl; wrote = is; board = f h }; of_board = tt; stops = tt }
 reads_done view (Err e) text acted a b f h is = reads_fail view e (Ends text) acted a b tt h

@@ -20,7 +20,7 @@ use Rattle.dg_tool.specs.Pages.{name_in, first_page, kept_bytes}
 use Rattle.dg_tool.specs.Endings.{Ending, Ends, Refuses}
 use Rattle.dg_tool.specs.Verbs.{dump_by, name_by, kept_line, golden_told}
 use Rattle.dg_tool.specs.Done.{NeedsBoard}
-use Rattle.dg_tool.specs.Stops.{or_memory, ReadsOn, OnStore}
+use Rattle.dg_tool.specs.Stops.{or_memory, ReadsOn, OnStore, told_status, told_text}
 
 -- ---- an image
 
@@ -100,7 +100,7 @@ dump_needs (Some h) = test_needs (length h.complete == h.pages) (Ends (written_f
 
 module _ {T : Type 0} (view : T → List ℕ) (r : Result T Stop) (a b : Device) where
   abbrev pub Dumped : Ending → Type 0
-  Dumped ending = OnStore view r ending Looked ReadStopped a b
+  Dumped ending = OnStore (told_status r) (told_text view r) ending Looked ReadStopped a b
 
   pub dumped_whole : (h : Held) → length h.complete ≡ h.pages → Dumped (Ends (written_file (kept_bytes h))) → Dumped (dump_by (Some h))
   dumped_whole h e p = subst Dumped (sym (dump_whole_is h e)) p

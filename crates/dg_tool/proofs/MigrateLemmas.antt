@@ -17,7 +17,7 @@ use Rattle.dg_tool.specs.declared.stop.Stop.TheVariants as stops
 use Rattle.dg_tool.specs.Endings.{Ending, Ends, Refuses, FirstInForm}
 use Rattle.dg_tool.specs.Verbs.{form_told, migrate_by}
 use Rattle.dg_tool.specs.Done.{Migrated, NeedsBoard}
-use Rattle.dg_tool.specs.Stops.{stop_status, Makes, OfBoard, MountFails, OnStore}
+use Rattle.dg_tool.specs.Stops.{stop_status, Makes, OfBoard, MountFails, OnStore, told_status, told_text, stop_text}
 use Rattle.dg_tool.proofs.ComesLemmas.{made_comes, refused_comes, stopped_comes, halts_stopped}
 use Rattle.dg_tool.proofs.VerbLemmas.{looked_same, went, went_looked}
 
@@ -40,17 +40,17 @@ migrate_needs form s = cond_both ((form == old_form) && (s.room == 0)) _ _ Needs
 
 module _ {T : Type 0} (view : T → List ℕ) (form : ℕ) (s : Store) (a b : Device) where
   abbrev pub MigrateDone : Result T Stop → Type 0
-  MigrateDone r = OnStore view r (migrate_by form s) (Migrated form s) (Stops (migrate_trail form s)) a b
+  MigrateDone r = OnStore (told_status r) (told_text view r) (migrate_by form s) (Migrated form s) (Stops (migrate_trail form s)) a b
 
   pub migrate_made : (r : Result T Stop) (v : Volume) → (form ≡ old_form → s.room ≡ 0 → ⊥) → Makes view r form_told → Acted (migrate_trail form s) a b v → HasForm b.image new_form → MigrateDone r
   migrate_made r v fine makes acted written =
-      subst (λ (e : Ending). OnStore view r e (Migrated form s) (Stops (migrate_trail form s)) a b) (sym (migrate_fine form s fine))
+      subst (λ (e : Ending). OnStore (told_status r) (told_text view r) e (Migrated form s) (Stops (migrate_trail form s)) a b) (sym (migrate_fine form s fine))
       (made_comes view r form_told (Migrated form s) (Stops (migrate_trail form s)) a b makes (record { went = went (migrate_trail form s) a b v acted; written = written }))
 
   pub migrate_refused : form ≡ old_form → s.room ≡ 0 → b ≡ a → (room : ℕ) → room ≡ 0 → MigrateDone (Err (stops.Refused (refusals.Worn room)))
   migrate_refused old none same room zero =
-      subst (λ (n : ℕ). OnStore {T = T} view (Err (stops.Refused (refusals.Worn n))) (migrate_by form s) (Migrated form s) (Stops (migrate_trail form s)) a b) (sym zero)
-      (subst (λ (e : Ending). OnStore {T = T} view (Err (stops.Refused (refusals.Worn 0))) e (Migrated form s) (Stops (migrate_trail form s)) a b) (sym (migrate_worn form s old none))
+      subst (λ (n : ℕ). OnStore (stop_status (stops.Refused (refusals.Worn n))) (stop_text (stops.Refused (refusals.Worn n))) (migrate_by form s) (Migrated form s) (Stops (migrate_trail form s)) a b) (sym zero)
+      (subst (λ (e : Ending). OnStore (stop_status (stops.Refused (refusals.Worn 0))) (stop_text (stops.Refused (refusals.Worn 0))) e (Migrated form s) (Stops (migrate_trail form s)) a b) (sym (migrate_worn form s old none))
       (refused_comes view (refusals.Worn 0) (Migrated form s) (Stops (migrate_trail form s)) a b (looked_same a b same)))
 
   pub migrate_stopped : Stops (migrate_trail form s) a b → MigrateDone (Err stops.FlashFault)
@@ -77,5 +77,5 @@ fails_on_board (stops.Refused cause) a b h = tt
 fails_on_board stops.NoImage a b h = tt
 
 -- a form is the other by its number
-pub in_one_form : {T : Type 0} (view : T → List ℕ) (r : Result T Stop) (m n : ℕ) (s : Store) (a b : Device) → m ≡ n → OnStore view r (migrate_by m s) (Migrated m s) (Stops (migrate_trail m s)) a b → OnStore view r (migrate_by n s) (Migrated n s) (Stops (migrate_trail n s)) a b
-in_one_form view r m n s a b e h = subst (λ (k : ℕ). OnStore view r (migrate_by k s) (Migrated k s) (Stops (migrate_trail k s)) a b) e h
+pub in_one_form : {T : Type 0} (view : T → List ℕ) (r : Result T Stop) (m n : ℕ) (s : Store) (a b : Device) → m ≡ n → OnStore (told_status r) (told_text view r) (migrate_by m s) (Migrated m s) (Stops (migrate_trail m s)) a b → OnStore (told_status r) (told_text view r) (migrate_by n s) (Migrated n s) (Stops (migrate_trail n s)) a b
+in_one_form view r m n s a b e h = subst (λ (k : ℕ). OnStore (told_status r) (told_text view r) (migrate_by k s) (Migrated k s) (Stops (migrate_trail k s)) a b) e h

@@ -36,7 +36,7 @@ use Rattle.dg_tool.specs.Endings.{Ending, Ends, Unfit, NoVolume, by_store, Stand
 use Rattle.dg_tool.specs.Verbs.{room_told, format_sized, order_told, order_by, order_cause, have_told, inject_ending_by, inject_cause, inject_into, start_told, power_boot, boot_by}
 use Rattle.dg_tool.specs.Started.{TellsStarted}
 use Rattle.dg_tool.specs.Done.{verb_rule, Went, StopsOn, Booted, BootedOn, NeedsBoard, NeedsInput}
-use Rattle.dg_tool.specs.Stops.{or_memory, told_status, told_text, Makes, Comes, IsStopped, OnStore, OnBoard}
+use Rattle.dg_tool.specs.Stops.{or_memory, told_status, told_text, Makes, Comes, IsStopped, OnStore, OnBoard, stop_status, stop_text}
 use Rattle.dg_tool.proofs.ComesLemmas.{made_comes, refused_comes, stopped_comes, image_comes, halts_stopped, finds}
 
 -- ---- answers
@@ -71,7 +71,7 @@ looked_same a b e = subst (λ (x : Device). Looked a x) (sym e) (Looked-none a)
 
 -- ---- format
 
-unfit_comes : {T : Type 0} (view : T → List ℕ) (cause : Refusal) (acted may : Device → Device → Type 0) (a b : Device) → b ≡ a → OnStore {T = T} view (Err (stops.Refused cause)) (Unfit cause) acted may a b
+unfit_comes : {T : Type 0} (view : T → List ℕ) (cause : Refusal) (acted may : Device → Device → Type 0) (a b : Device) → b ≡ a → OnStore (stop_status (stops.Refused cause)) (stop_text (stops.Refused cause)) (Unfit cause) acted may a b
 unfit_comes view cause acted may a b e = record { comes = record { caused = refl; wrote = refl; board = e }; of_board = tt; stops = tt }
 
 sized_empty : (used : ℕ) (golden : List ℕ) → length golden ≡ 0 → format_sized used golden ≡ Unfit refusals.Empty
@@ -101,21 +101,21 @@ sized_fits used golden some fits =
     sized_some used golden some ∙ ap (λ (b : Bool). cond b (Unfit (refusals.TooLarge (length golden))) (Ends (room_told (most_room - used)))) (fits_test most_bytes (length golden) fits)
 
 -- a verb that any board may be given to
-pub any_board : {T : Type 0} (view : T → List ℕ) (r : Result T Stop) (ending : Ending) (acted may : Device → Device → Type 0) (a b : Device) → OnStore view r ending acted may a b → OnBoard (told_status r) (verb_rule (λ chip. Unit {0}) (λ chip. ending) (λ chip. acted) (λ chip. may)) (told_text view r) a b
+pub any_board : {T : Type 0} (view : T → List ℕ) (r : Result T Stop) (ending : Ending) (acted may : Device → Device → Type 0) (a b : Device) → OnStore (told_status r) (told_text view r) ending acted may a b → OnBoard (told_status r) (verb_rule (λ chip. Unit {0}) (λ chip. ending) (λ chip. acted) (λ chip. may)) (told_text view r) a b
 any_board view r ending acted may a b h = record { rules = λ chip _. h.comes; found = finds (told_status r) ((chip : Option Store) × Unit {0}) (None, tt); of_board = h.of_board; stops = h.stops }
 
 module _ {T : Type 0} (view : T → List ℕ) (used : ℕ) (golden : List ℕ) (acted may : Device → Device → Type 0) (a b : Device) where
-  pub formatted : (r : Result T Stop) → (length golden ≡ 0 → ⊥) → (most_bytes < length golden → ⊥) → Makes view r (room_told (most_room - used)) → acted a b → OnStore view r (format_sized used golden) acted may a b
-  formatted r some fits makes did = subst (λ (e : Ending). OnStore view r e acted may a b) (sym (sized_fits used golden some fits)) (made_comes view r (room_told (most_room - used)) acted may a b makes did)
+  pub formatted : (r : Result T Stop) → (length golden ≡ 0 → ⊥) → (most_bytes < length golden → ⊥) → Makes view r (room_told (most_room - used)) → acted a b → OnStore (told_status r) (told_text view r) (format_sized used golden) acted may a b
+  formatted r some fits makes did = subst (λ (e : Ending). OnStore (told_status r) (told_text view r) e acted may a b) (sym (sized_fits used golden some fits)) (made_comes view r (room_told (most_room - used)) acted may a b makes did)
 
-  pub format_stopped : (length golden ≡ 0 → ⊥) → (most_bytes < length golden → ⊥) → may a b → IsStopped a b → OnStore {T = T} view (Err stops.FlashFault) (format_sized used golden) acted may a b
+  pub format_stopped : (length golden ≡ 0 → ⊥) → (most_bytes < length golden → ⊥) → may a b → IsStopped a b → OnStore (stop_status stops.FlashFault) (stop_text stops.FlashFault) (format_sized used golden) acted may a b
   format_stopped some fits held stopped = stopped_comes view (format_sized used golden) acted may a b (subst NeedsBoard (sym (sized_fits used golden some fits)) tt) held stopped
 
-  pub format_empty : length golden ≡ 0 → b ≡ a → OnStore {T = T} view (Err (stops.Refused refusals.Empty)) (format_sized used golden) acted may a b
-  format_empty none same = subst (λ (e : Ending). OnStore {T = T} view (Err (stops.Refused refusals.Empty)) e acted may a b) (sym (sized_empty used golden none)) (unfit_comes view refusals.Empty acted may a b same)
+  pub format_empty : length golden ≡ 0 → b ≡ a → OnStore (stop_status (stops.Refused refusals.Empty)) (stop_text (stops.Refused refusals.Empty)) (format_sized used golden) acted may a b
+  format_empty none same = subst (λ (e : Ending). OnStore (stop_status (stops.Refused refusals.Empty)) (stop_text (stops.Refused refusals.Empty)) e acted may a b) (sym (sized_empty used golden none)) (unfit_comes view refusals.Empty acted may a b same)
 
-  pub format_large : (length golden ≡ 0 → ⊥) → most_bytes < length golden → b ≡ a → OnStore {T = T} view (Err (stops.Refused (refusals.TooLarge (length golden)))) (format_sized used golden) acted may a b
-  format_large some large same = subst (λ (e : Ending). OnStore {T = T} view (Err (stops.Refused (refusals.TooLarge (length golden)))) e acted may a b) (sym (sized_large used golden some large)) (unfit_comes view (refusals.TooLarge (length golden)) acted may a b same)
+  pub format_large : (length golden ≡ 0 → ⊥) → most_bytes < length golden → b ≡ a → OnStore (stop_status (stops.Refused (refusals.TooLarge (length golden)))) (stop_text (stops.Refused (refusals.TooLarge (length golden)))) (format_sized used golden) acted may a b
+  format_large some large same = subst (λ (e : Ending). OnStore (stop_status (stops.Refused (refusals.TooLarge (length golden)))) (stop_text (stops.Refused (refusals.TooLarge (length golden)))) e acted may a b) (sym (sized_large used golden some large)) (unfit_comes view (refusals.TooLarge (length golden)) acted may a b same)
 
 -- ---- a trail of the board's store
 
@@ -137,10 +137,10 @@ trail_unmounted trail a b begins (Some s) stands h = read_stops s (trail s) a b 
 
 module _ {T : Type 0} (view : T → List ℕ) (s : Store) (o : Order) (a b : Device) where
   abbrev pub OrderDone : Result T Stop → Type 0
-  OrderDone r = OnStore view r (order_by o (order_refusal s o)) (Went (order_trail s o)) (Stops (order_trail s o)) a b
+  OrderDone r = OnStore (told_status r) (told_text view r) (order_by o (order_refusal s o)) (Went (order_trail s o)) (Stops (order_trail s o)) a b
 
-  by_refusal : (r : Result T Stop) (refusal : Option OrderFault) → order_refusal s o ≡ refusal → OnStore view r (order_by o refusal) (Went (order_trail s o)) (Stops (order_trail s o)) a b → OrderDone r
-  by_refusal r refusal e h = subst (λ (x : Option OrderFault). OnStore view r (order_by o x) (Went (order_trail s o)) (Stops (order_trail s o)) a b) (sym e) h
+  by_refusal : (r : Result T Stop) (refusal : Option OrderFault) → order_refusal s o ≡ refusal → OnStore (told_status r) (told_text view r) (order_by o refusal) (Went (order_trail s o)) (Stops (order_trail s o)) a b → OrderDone r
+  by_refusal r refusal e h = subst (λ (x : Option OrderFault). OnStore (told_status r) (told_text view r) (order_by o x) (Went (order_trail s o)) (Stops (order_trail s o)) a b) (sym e) h
 
   pub order_kept : (r : Result T Stop) (v : Volume) → order_refusal s o ≡ None → Makes view r (order_told o) → Acted (order_trail s o) a b v → OrderDone r
   order_kept r v none makes acted = by_refusal r None none (made_comes view r (order_told o) (Went (order_trail s o)) (Stops (order_trail s o)) a b makes (went (order_trail s o) a b v acted))
@@ -167,10 +167,10 @@ order_needs o (Some fault) = tt
 
 module _ {T : Type 0} (view : T → List ℕ) (s : Store) (row : Row) (a b : Device) where
   abbrev pub InjectDone : Result T Stop → Type 0
-  InjectDone r = OnStore view r (inject_ending_by row (inject_refusal s row)) (Went (inject_trail s row)) (Stops (inject_trail s row)) a b
+  InjectDone r = OnStore (told_status r) (told_text view r) (inject_ending_by row (inject_refusal s row)) (Went (inject_trail s row)) (Stops (inject_trail s row)) a b
 
-  by_fault : (r : Result T Stop) (refusal : Option InjectFault) → inject_refusal s row ≡ refusal → OnStore view r (inject_ending_by row refusal) (Went (inject_trail s row)) (Stops (inject_trail s row)) a b → InjectDone r
-  by_fault r refusal e h = subst (λ (x : Option InjectFault). OnStore view r (inject_ending_by row x) (Went (inject_trail s row)) (Stops (inject_trail s row)) a b) (sym e) h
+  by_fault : (r : Result T Stop) (refusal : Option InjectFault) → inject_refusal s row ≡ refusal → OnStore (told_status r) (told_text view r) (inject_ending_by row refusal) (Went (inject_trail s row)) (Stops (inject_trail s row)) a b → InjectDone r
+  by_fault r refusal e h = subst (λ (x : Option InjectFault). OnStore (told_status r) (told_text view r) (inject_ending_by row x) (Went (inject_trail s row)) (Stops (inject_trail s row)) a b) (sym e) h
 
   pub inject_kept : (r : Result T Stop) (v : Volume) → inject_refusal s row ≡ None → Makes view r (have_told row) → Acted (inject_trail s row) a b v → InjectDone r
   inject_kept r v none makes acted = by_fault r None none (made_comes view r (have_told row) (Went (inject_trail s row)) (Stops (inject_trail s row)) a b makes (went (inject_trail s row) a b v acted))
@@ -198,14 +198,14 @@ booted t a b told h = record {
 }
 
 pub boot_started : {T : Type 0} (view : T → List ℕ) (r : Result T Stop) (s : Store) (a b : Device) (told : Started) → ((x : Runs) → TellsStarted told x → Makes view r (start_told x)) → Starts (power_boot s) a b told
-    → OnStore view r (boot_by (power_boot s).runs) (Booted (power_boot s)) (Stops (power_boot s).trail) a b
+    → OnStore (told_status r) (told_text view r) (boot_by (power_boot s).runs) (Booted (power_boot s)) (Stops (power_boot s).trail) a b
 boot_started view r s a b told makes h =
-    subst (λ (x : Option Runs). OnStore view r (boot_by x) (Booted (power_boot s)) (Stops (power_boot s).trail) a b) (sym h.chosen)
+    subst (λ (x : Option Runs). OnStore (told_status r) (told_text view r) (boot_by x) (Booted (power_boot s)) (Stops (power_boot s).trail) a b) (sym h.chosen)
     (made_comes view r (start_told h.runs) (Booted (power_boot s)) (Stops (power_boot s).trail) a b (makes h.runs (record { image = h.image; version = h.version; length = h.length; crc = h.crc })) (booted (power_boot s) a b told h))
 
-pub boot_lacks : {T : Type 0} (view : T → List ℕ) (s : Store) (a b : Device) → Lacks (power_boot s) a b → OnStore {T = T} view (Err stops.NoImage) (boot_by (power_boot s).runs) (Booted (power_boot s)) (Stops (power_boot s).trail) a b
+pub boot_lacks : {T : Type 0} (view : T → List ℕ) (s : Store) (a b : Device) → Lacks (power_boot s) a b → OnStore (stop_status stops.NoImage) (stop_text stops.NoImage) (boot_by (power_boot s).runs) (Booted (power_boot s)) (Stops (power_boot s).trail) a b
 boot_lacks {T} view s a b h =
-    subst (λ (x : Option Runs). OnStore {T = T} view (Err stops.NoImage) (boot_by x) (Booted (power_boot s)) (Stops (power_boot s).trail) a b) (sym h.none)
+    subst (λ (x : Option Runs). OnStore (stop_status stops.NoImage) (stop_text stops.NoImage) (boot_by x) (Booted (power_boot s)) (Stops (power_boot s).trail) a b) (sym h.none)
     (image_comes view (Booted (power_boot s)) (Stops (power_boot s).trail) a b (record {
       went = record { ran = h.ran; stands = h.stands };
       memory = subst (λ (x : Option Runs). IfSome x (λ r. program b.image (length r.pages) ≡ r.pages)) (sym h.none) tt;

@@ -99,12 +99,12 @@ abbrev pub ReadsOn : {T : Type 0} → Result T Stop → Device → Device → Ty
 ReadsOn (Ok x) a b = Looked a b
 ReadsOn (Err stop) a b = FailsOn stop a b
 
--- what a verb that came to this did on a board that stood for a store, where it ends so by the rules
-pub record OnStore {T : Type 0} (view : T → List ℕ) (told : Result T Stop) (ending : Ending)
-    (acted may : Device → Device → Type 0) (a b : Device) : Type 0 where
-  pub comes : Comes (told_status told) ending acted may (told_text view told) a b
-  pub of_board : OfBoard (told_status told)
-  pub stops : StopsThere (told_status told) a b
+-- what a verb that came to this status and this text did on a board that stood for a store, where it ends so by the rules
+pub record OnStore (status : Status) (text : List ℕ) (ending : Ending) (acted may : Device → Device → Type 0)
+    (a b : Device) : Type 0 where
+  pub comes : Comes status ending acted may text a b
+  pub of_board : OfBoard status
+  pub stops : StopsThere status a b
 
 -- what a verb that goes by this rule does on a board
 pub record OnBoard (status : Status) (rule : VerbRule) (text : List ℕ) (a b : Device) : Type 0 where

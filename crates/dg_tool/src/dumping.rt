@@ -39,7 +39,8 @@ fn dump_whole<N: Nor>(alloc: Global, nor: &mut N, image: u8, pages: u8) -> Resul
     requires known_image { image < slots }
     requires whole { (h : Held) × KeepsImage (N.device nor.old).image image h × (length h.complete ≡ pages) × (h.pages ≡ pages) }
     ensures done { (h : Held) → KeepsImage (N.device nor.old).image image h → length h.complete ≡ pages → h.pages ≡ pages
-        → OnStore (λ text. text.items) result (Ends (written_file (kept_bytes h))) Looked ReadStopped (N.device nor.old)
+        → OnStore (told_status result) (told_text (λ text. text.items) result)
+        (Ends (written_file (kept_bytes h))) Looked ReadStopped (N.device nor.old)
         (N.device nor.new) }
     ensures unchanged { (N.device nor.new).image ≡ (N.device nor.old).image }
 {
@@ -59,7 +60,8 @@ fn dump_mounted<N: Nor>(
     requires known_image { image < images }
     requires mounted { IsMounted (N.device nor.old).image volume.now }
     ensures done { (s : Store) → Mounted (N.device nor.old).image volume.now s
-        → OnStore (λ text. text.items) result (dump_by (held s image)) Looked ReadStopped (N.device nor.old) (N.device nor.new) }
+        → OnStore (told_status result) (told_text (λ text. text.items) result)
+        (dump_by (held s image)) Looked ReadStopped (N.device nor.old) (N.device nor.new) }
     ensures unchanged { (N.device nor.new).image ≡ (N.device nor.old).image }
 {
     match volume.kept(image) {
@@ -73,7 +75,8 @@ fn dump_kept<N: Nor>(alloc: Global, image: u8, nor: &mut N, kept: &Kept) -> Resu
     requires known_image { image < images }
     requires keeps { (h : Held) × KeepsImage (N.device nor.old).image image h × (kept.now ≡ told_held h) }
     ensures done { (h : Held) → KeepsImage (N.device nor.old).image image h → kept.now ≡ told_held h
-        → OnStore (λ text. text.items) result (dump_by (Some h)) Looked ReadStopped (N.device nor.old) (N.device nor.new) }
+        → OnStore (told_status result) (told_text (λ text. text.items) result)
+        (dump_by (Some h)) Looked ReadStopped (N.device nor.old) (N.device nor.new) }
     ensures unchanged { (N.device nor.new).image ≡ (N.device nor.old).image }
 {
     let Kept { done, pages, .. } = *kept;

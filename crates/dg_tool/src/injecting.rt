@@ -67,7 +67,8 @@ fn inject_mounted<N: Nor>(
     requires version { 1 ≤ version }
     requires named { IsTrue (spells_name name.now) }
     ensures { (s : Store) → Mounted (N.device nor.old).image volume.old s
-        → OnStore (λ text. text.items) result (inject_ending_by (row_of image version name.now bytes.now)
+        → OnStore (told_status result) (told_text (λ text. text.items) result)
+        (inject_ending_by (row_of image version name.now bytes.now)
         (inject_refusal s (row_of image version name.now bytes.now)))
         (Went (inject_trail s (row_of image version name.now bytes.now)))
         (Stops (inject_trail s (row_of image version name.now bytes.now))) (N.device nor.old) (N.device nor.new) }

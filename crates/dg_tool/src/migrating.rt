@@ -25,7 +25,8 @@ fn migrate_mounted<N: Nor>(alloc: Global, nor: &mut N, volume: &mut Volume) -> R
     requires mounted { IsMounted (N.device nor.old).image volume.old }
     requires free { NothingLent volume.old }
     ensures { (s : Store) → Mounted (N.device nor.old).image volume.old s
-        → OnStore (λ text. text.items) result (migrate_by (form_of volume.old) s) (Migrated (form_of volume.old) s)
+        → OnStore (told_status result) (told_text (λ text. text.items) result)
+        (migrate_by (form_of volume.old) s) (Migrated (form_of volume.old) s)
         (Stops (migrate_trail (form_of volume.old) s)) (N.device nor.old) (N.device nor.new) }
 {
     a_volume_has_one_form();

@@ -53,7 +53,8 @@ fn order_mounted<N: Nor>(
     requires image { order.now.image < images }
     requires version { 1 ≤ order.now.version }
     ensures { (s : Store) → Mounted (N.device nor.old).image volume.old s
-        → OnStore (λ text. text.items) result (order_by order.now (order_refusal s order.now))
+        → OnStore (told_status result) (told_text (λ text. text.items) result)
+        (order_by order.now (order_refusal s order.now))
         (Went (order_trail s order.now)) (Stops (order_trail s order.now)) (N.device nor.old) (N.device nor.new) }
 {
     match volume.order(nor, order.number, order.image, order.version) {
