@@ -25,32 +25,32 @@ use Rattle.dg_replay.proofs.PlayLemmas.{false_not, later_at, second_at, link_at,
 use Rattle.dg_replay.proofs.LineRanges.{LinesFit, first_fits, IsBehind, not_first, not_second, not_boards, one_more, link_fits, IsKept, kept_behind, line_in_range, in_range}
 
 -- the image with which the boards are formatted
-record Formatted : Type 0 where
-  name : List ℕ
-  used : ℕ
-  content : List ℕ
+pub record Formatted : Type 0 where
+  pub name : List ℕ
+  pub used : ℕ
+  pub content : List ℕ
 
 -- the boards of so many motes are formatted with golden, or they are used as they are
-record ByGolden (motes : ℕ) (table : List Row) (stores : List Store) : Type 0 where
-  golden : Formatted
-  is_golden : IsGolden golden.name golden.used golden.content
-  table_is : table ≡ golden_row golden.name golden.content ∷ []
-  stores_are : stores ≡ replicate motes (fresh golden.name golden.content golden.used)
+pub record ByGolden (motes : ℕ) (table : List Row) (stores : List Store) : Type 0 where
+  pub golden : Formatted
+  pub is_golden : IsGolden golden.name golden.used golden.content
+  pub table_is : table ≡ golden_row golden.name golden.content ∷ []
+  pub stores_are : stores ≡ replicate motes (fresh golden.name golden.content golden.used)
 
 pub record ByBoards (g : Ground) (lines : List Line) (table : List Row) (stores : List Store) : Type 0 where
-  uses : UsesBoards lines
-  table_is : table ≡ g.table
-  stores_are : stores ≡ g.stores
+  pub uses : UsesBoards lines
+  pub table_is : table ≡ g.table
+  pub stores_are : stores ≡ g.stores
 
 abbrev OpensBy : Ground → List Line → ℕ → List Row → List Store → Type 0
 OpensBy g lines motes table stores = ByGolden motes table stores ⊎ ByBoards g lines table stores
 
-record Carries (motes : ℕ) (table : List Row) (stores : List Store) (b : Beginning) : Type 0 where
-  links : List (ℕ × ℕ)
-  fit : AllByRecursion (LinkFits motes) links
-  narrow : List Bool
-  world : b.world ≡ Some (first_world table links narrow stores)
-  count : b.motes ≡ motes
+pub record Carries (motes : ℕ) (table : List Row) (stores : List Store) (b : Beginning) : Type 0 where
+  pub links : List (ℕ × ℕ)
+  pub fit : AllByRecursion (LinkFits motes) links
+  pub narrow : List Bool
+  pub world : b.world ≡ Some (first_world table links narrow stores)
+  pub count : b.motes ≡ motes
 
 -- behind `golden` or `boards` the lines add links and narrow motes alone
 module _ (motes : ℕ) (table : List Row) (stores : List Store) (g : Ground) where
@@ -102,17 +102,17 @@ lacking_none boards place (Sweeps n ∷ lines) behind h = lacking_none boards (p
 -- ---- where a run begins
 
 -- it begins with golden or on the boards as they are, all its items are in their ranges, and so is the place behind them
-record Begun (g : Ground) (lines : List Line) (b : Beginning) (w : World) (items : List Item) (place : Place) : Type 0 where
-  table : List Row
-  stores : List Store
-  opens : OpensBy g lines b.motes table stores
-  links : List (ℕ × ℕ)
-  links_fit : AllByRecursion (LinkFits b.motes) links
-  narrow : List Bool
-  world : w ≡ first_world table links narrow stores
-  few : b.motes ≤ most_motes
-  ranges : AllByRecursion (ItemInRange b.motes) items
-  kept : IsKept b.motes place
+pub record Begun (g : Ground) (lines : List Line) (b : Beginning) (w : World) (items : List Item) (place : Place) : Type 0 where
+  pub table : List Row
+  pub stores : List Store
+  pub opens : OpensBy g lines b.motes table stores
+  pub links : List (ℕ × ℕ)
+  pub links_fit : AllByRecursion (LinkFits b.motes) links
+  pub narrow : List Bool
+  pub world : w ≡ first_world table links narrow stores
+  pub few : b.motes ≤ most_motes
+  pub ranges : AllByRecursion (ItemInRange b.motes) items
+  pub kept : IsKept b.motes place
 
 -- the line that opens the boards was read
 opened : (g : Ground) (all : List Line) (b : Beginning) (place : Place) (line : Line) (lines : List Line) (w : World) (table : List Row) (stores : List Store) → (begin_by g b line).motes ≡ b.motes → (begin_by g b line).world ≡ Some (first_world table [] none_narrow stores)
@@ -173,17 +173,17 @@ all_rest P (x ∷ xs) ys h = all_rest P xs ys h.1
 
 -- What was played of a script begins with chips that are formatted or as they are, and what is left of the line that was begun is in its ranges.
 pub record ScriptRun (g : Ground) (lines : List Line) (b : Beginning) (left : List Item) (played : List Played) (v : World) : Type 0 where
-  table : List Row
-  stores : List Store
-  opens : OpensBy g lines b.motes table stores
-  links : List (ℕ × ℕ)
-  narrow : List Bool
-  begins : b.world ≡ Some (first_world table links narrow stores)
-  plays : Plays (first_world table links narrow stores) played v
-  few : b.motes ≤ most_motes
-  links_fit : AllByRecursion (LinkFits b.motes) links
-  ranges : AllByRecursion (PlayedInRange b.motes) played
-  left_fits : AllByRecursion (ItemInRange b.motes) left
+  pub table : List Row
+  pub stores : List Store
+  pub opens : OpensBy g lines b.motes table stores
+  pub links : List (ℕ × ℕ)
+  pub narrow : List Bool
+  pub begins : b.world ≡ Some (first_world table links narrow stores)
+  pub plays : Plays (first_world table links narrow stores) played v
+  pub few : b.motes ≤ most_motes
+  pub links_fit : AllByRecursion (LinkFits b.motes) links
+  pub ranges : AllByRecursion (PlayedInRange b.motes) played
+  pub left_fits : AllByRecursion (ItemInRange b.motes) left
 
 -- one that plays golden
 pub record GoldenRun (b : Beginning) (left : List Item) (played : List Played) (v : World) : Type 0 where
@@ -201,10 +201,10 @@ ran_network {b = b} g = record { name = g.name; bytes = g.bytes; used = g.used; 
 
 -- and one over the boards as they are
 pub record BoardsRun (g : Ground) (b : Beginning) (left : List Item) (played : List Played) (v : World) : Type 0 where
-  links : List (ℕ × ℕ)
-  narrow : List Bool
-  plays : PlaysBoards g.table g.stores links narrow played v
-  left_fits : AllByRecursion (ItemInRange b.motes) left
+  pub links : List (ℕ × ℕ)
+  pub narrow : List Bool
+  pub plays : PlaysBoards g.table g.stores links narrow played v
+  pub left_fits : AllByRecursion (ItemInRange b.motes) left
 
 golden_is_row : (golden : Formatted) → IsGolden golden.name golden.used golden.content → IsRow (golden_row golden.name golden.content)
 golden_is_row golden h =

@@ -105,10 +105,10 @@ link_fits motes a b two = record { first = two.first; second = two.second; two =
 
 -- P holds of all events of a round over a link, to and fro
 pub record HoldsOver (P : Event → Type 0) (l : ℕ × ℕ) : Type 0 where
-  near : P (paced l.0)
-  far : P (paced l.1)
-  there : P (passed l.0 l.1)
-  back : P (passed l.1 l.0)
+  pub near : P (paced l.0)
+  pub far : P (paced l.1)
+  pub there : P (passed l.0 l.1)
+  pub back : P (passed l.1 l.0)
 
 turned : (P : Event → Type 0) (l : ℕ × ℕ) → HoldsOver P l → HoldsOver P (l.1, l.0)
 turned P l h = record { near = h.far; far = h.near; there = h.back; back = h.there }
@@ -151,10 +151,10 @@ quiet_fits motes l h =
 
 -- The boards are formatted, and there are so many motes. A cut that waits is in its range, and so are the links.
 pub record IsKept (motes : ℕ) (place : Place) : Type 0 where
-  behind : IsBehind place
-  count : place.motes ≡ motes
-  waits : IfSome place.cut FitsCut
-  links : AllByRecursion (LinkFits motes) place.links
+  pub behind : IsBehind place
+  pub count : place.motes ≡ motes
+  pub waits : IfSome place.cut FitsCut
+  pub links : AllByRecursion (LinkFits motes) place.links
 
 kept_next : (motes : ℕ) (place : Place) (line : Line) → IsKept motes place → IsSpelled place line → IsKept motes (place_after place line)
 kept_next motes place Nothing k h = k

@@ -49,7 +49,7 @@ pub script_fault : (ends : Bool) (place : Place) (n : ℕ) (text : List ℕ) (te
 unfolding script_from
 script_fault ends place n text texts fault spelled = ap (λ (o : Result Line LineFault). with_line o (λ l. script_from ends (place_after place l) (n + 1) texts) n) spelled
 
-lines_one : (done : List Line) (line : Line) (rest : List Line) → (done ++ line ∷ []) ++ rest ≡ done ++ line ∷ rest
+pub lines_one : (done : List Line) (line : Line) (rest : List Line) → (done ++ line ∷ []) ++ rest ≡ done ++ line ∷ rest
 lines_one done line rest = append_assoc done (line ∷ []) rest
 
 pub lacking_append : (boards : ℕ) (done more : List Line) → lacking boards done ≡ None → lacking boards more ≡ None → lacking boards (done ++ more) ≡ None
@@ -94,11 +94,11 @@ too_many_played ground done (Some v) ps left run full = record { events = sym (r
 
 -- a run to a world, and items that run from there
 pub record Over (o : Option World) (ps : List Played) (items : List Item) (v : Option World) (t : List ℕ) : Type 0 where
-  now : List Played
-  are : map item_played now ≡ items
-  run : RunsTo o (ps ++ now) v
-  told : t ≡ played_text now
-  few : IfSome v (λ u. u.events ≤ most_events)
+  pub now : List Played
+  pub are : map item_played now ≡ items
+  pub run : RunsTo o (ps ++ now) v
+  pub told : t ≡ played_text now
+  pub few : IfSome v (λ u. u.events ≤ most_events)
 
 over : (o w : Option World) (ps : List Played) (items : List Item) (v : Option World) (t : List ℕ) → RunsTo o ps w → RunsFrom w items v t → Over o ps items v t
 over o None ps items v t run (none, is, told) =
@@ -128,12 +128,12 @@ none_told (p ∷ ps) e = cc
 -- ---- the next line
 
 -- the lines behind one more line
-next_lines : (ends : Bool) (script : Script) (texts : List (List ℕ)) (text : List ℕ) (n : ℕ) (place : Place) (done : List Line) (line : Line) → line_of place text ≡ Ok line → done ++ (script_from ends place n (text ∷ texts)).lines ≡ script.lines
+pub next_lines : (ends : Bool) (script : Script) (texts : List (List ℕ)) (text : List ℕ) (n : ℕ) (place : Place) (done : List Line) (line : Line) → line_of place text ≡ Ok line → done ++ (script_from ends place n (text ∷ texts)).lines ≡ script.lines
     → done ++ line ∷ (script_from ends (place_after place line) (n + 1) texts).lines ≡ script.lines
 next_lines ends script texts text n place done line spelled lines = ap (λ (x : Script). done ++ x.lines) (sym (script_line ends place n text texts line spelled)) ∙ lines
 
 -- the same from the place where they are played
-lines_behind : (ends : Bool) (script : Script) (texts : List (List ℕ)) (text : List ℕ) (n : ℕ) (p q : Player) (done : List Line) (line : Line) → line_of p.place text ≡ Ok line → q.place ≡ place_after p.place line
+pub lines_behind : (ends : Bool) (script : Script) (texts : List (List ℕ)) (text : List ℕ) (n : ℕ) (p q : Player) (done : List Line) (line : Line) → line_of p.place text ≡ Ok line → q.place ≡ place_after p.place line
     → done ++ (script_from ends p.place n (text ∷ texts)).lines ≡ script.lines → (done ++ line ∷ []) ++ (script_from ends q.place (n + 1) texts).lines ≡ script.lines
 lines_behind ends script texts text n p q done line spelled behind lines =
     lines_one done line (script_from ends q.place (n + 1) texts).lines
@@ -240,7 +240,7 @@ behind_line ends script texts text n p q initial old now before mid r t on =
       run = on.run;
     }
 
-items_over : (done : List Line) (ps now : List Played) (items : List Item) → map item_played ps ≡ items_of done → map item_played now ≡ items → map item_played (ps ++ now) ≡ items_of done ++ items
+pub items_over : (done : List Line) (ps now : List Played) (items : List Item) → map item_played ps ≡ items_of done → map item_played now ≡ items → map item_played (ps ++ now) ≡ items_of done ++ items
 items_over done ps now items first next = map-append item_played ps now ∙ ap (λ (xs : List Item). xs ++ map item_played now) first ∙ ap (λ (xs : List Item). items_of done ++ xs) next
 
 -- It began the next line.
@@ -286,10 +286,10 @@ choose (x ∷ xs) (y ∷ ys) = inl (λ e. cc)
 
 -- a line that has items changes nothing of where the run begins, and needs no boards
 pub record IsBusy (line : Line) : Type 0 where
-  begins : (g : Ground) (b : Beginning) → (begin_by g b line).world ≡ b.world
-  plain : is_boards line ≡ false
-  counts : (b : Beginning) → (begin_by no_ground b line).motes ≡ b.motes
-  enough : (boards : ℕ) → lacking_by boards line None ≡ None
+  pub begins : (g : Ground) (b : Beginning) → (begin_by g b line).world ≡ b.world
+  pub plain : is_boards line ≡ false
+  pub counts : (b : Beginning) → (begin_by no_ground b line).motes ≡ b.motes
+  pub enough : (boards : ℕ) → lacking_by boards line None ≡ None
 
 no_items : {A : Type 0} (item : Item) (items : List Item) → [] ≡ item ∷ items → A
 no_items item items e = absurd (cc)
@@ -308,10 +308,10 @@ busy place (Round a b) item items e = record { begins = λ g b. refl; plain = re
 busy place (Sweeps n) item items e = record { begins = λ g b. refl; plain = refl; counts = λ b. refl; enough = λ boards. refl }
 
 -- the items of one more line
-items_with : (done : List Line) (line : Line) (begun : List Item) → item_by (place_behind first_place done) line ≡ begun → items_of (done ++ line ∷ []) ≡ items_of done ++ begun
+pub items_with : (done : List Line) (line : Line) (begun : List Item) → item_by (place_behind first_place done) line ≡ begun → items_of (done ++ line ∷ []) ≡ items_of done ++ begun
 items_with done line begun parts = items_next done line ∙ ap (λ (xs : List Item). items_of done ++ xs) parts
 
-run_with : (ground : Ground) (done : List Line) (line : Line) (ps : List Played) (v : Option World) → IsBusy line → RunsTo (beginning_of ground done).world ps v → RunsTo (beginning_of ground (done ++ line ∷ [])).world ps v
+pub run_with : (ground : Ground) (done : List Line) (line : Line) (ps : List Played) (v : Option World) → IsBusy line → RunsTo (beginning_of ground done).world ps v → RunsTo (beginning_of ground (done ++ line ∷ [])).world ps v
 run_with ground done line ps v busy run =
     subst (λ (o : Option World). RunsTo o ps v) (sym (ap (λ (b : Beginning). b.world) (begin_next ground _ done line) ∙ busy.begins ground (beginning_of ground done))) run
 
@@ -358,3 +358,4 @@ lacks_left v left old new lacks none = let next = lacks_next v left old new lack
 -- the boards are used as they are, or not
 pub uses_or : (b : Bool) → (b ≡ true) ⊎ (b ≡ true → ⊥)
 uses_or true = inl refl
+uses_or false = inr (λ e. cc)

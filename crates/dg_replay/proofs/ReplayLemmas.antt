@@ -33,8 +33,6 @@ use Rattle.dg_replay.proofs.GoldenRuns.{lacking_none}
 use Rattle.dg_replay.proofs.LineRanges.{IsBehind, script_fits}
 use Rattle.dg_replay.proofs.NextLineLemmas.{script_line, script_fault, lacking_append, lacking_next, too_many_played, Over, none_told, few_next, few_items, front_put, front_kept, all_put, at_line, behind_line, in_line, run_of, over_tells, over_bounds, Choice, choose, IsBusy, busy, all_of_line, some_left, lacks_left, uses_or}
 
-uses_or false = inr (λ e. cc)
-
 -- its boards are formatted
 begun_world : (P : World → Type 0) (p : Player) (w v : Option World) (items : List Item) (t : List ℕ) (now : List Device) → InSome v P → RunsFrom w items v t → InWorld p w now → IsBehind p.place
 begun_world P p None v items t now there from kept = absurd (subst (λ (o : Option World). InSome o P) from.1 there)
