@@ -24,11 +24,11 @@ returns-in-Ok g c = λ s mounted.
 
 pub returns-in-Err-Stopped : goal.returns-in-Err-Stopped
 returns-in-Err-Stopped g c = λ s mounted.
-    migrate_stopped _ (form_of c.args.volume.now) s _ _ (c.in-Err-Stopped.ensures.stopped (ap (λ f. Err f) c.in-Err-Stopped.field-0-is) s mounted)
+    migrate_stopped (λ (n : ℕ). []) (form_of c.args.volume.now) s _ _ (c.in-Err-Stopped.ensures.stopped (ap (λ f. Err f) c.in-Err-Stopped.field-0-is) s mounted)
 
 pub returns-in-Err-Worn : goal.returns-in-Err-Worn
 returns-in-Err-Worn g c = λ s mounted.
     let here = ap (λ f. Err f) c.in-Err-Worn.field-0-is in
     let worn = c.in-Err-Worn.ensures.worn.0 here in
     let same = c.in-Err-Worn.ensures.unchanged here in
-    migrate_refused _ (form_of c.args.volume.now) s _ _ worn.0 (sym mounted.tells.room ∙ worn.1) same.0 c.room.result (c.room.ensures ∙ ap room_of same.1 ∙ worn.1)
+    migrate_refused (λ (n : ℕ). []) (form_of c.args.volume.now) s _ _ worn.0 (sym mounted.tells.room ∙ worn.1) same.0 c.room.result (c.room.ensures ∙ ap room_of same.1 ∙ worn.1)
