@@ -17,7 +17,7 @@ use Rattle.dg_tool.specs.declared.refusal.Refusal.TheVariants as refusals
 use Rattle.dg_tool.specs.declared.stop.Stop.{Stop}
 use Rattle.dg_tool.specs.Endings.{Ending, Ends, NoBoards, Refuses, status_of, text_of}
 use Rattle.dg_tool.specs.Done.{NeedsBoard, IsCaused, Wrote, Faulted}
-use Rattle.dg_tool.specs.Stops.{Makes, OnStore}
+use Rattle.dg_tool.specs.Stops.{Makes, OnStore, told_status, told_text}
 use Rattle.dg_tool.proofs.BoardLemmas.{by_some}
 use Rattle.dg_tool.proofs.ComesLemmas.{made_comes, refused_comes, stopped_comes, halts_stopped}
 use Rattle.dg_chain_tool.specs.Verbs.{chain_told, answered, check_by, check_ending, chain_stop}
@@ -32,7 +32,7 @@ answered_needs Misshapen = tt
 
 module _ {T : Type 0} (view : T → List ℕ) (a b : Device) where
   abbrev pub Checked : Result T Stop → Ending → Type 0
-  Checked r ending = OnStore view r ending Looked ReadStopped a b
+  Checked r ending = OnStore (told_status r) (told_text view r) ending Looked ReadStopped a b
 
   pub check_passes : (r : Result T Stop) (n : ℕ) (answer : Answer) → answer ≡ Fine n → Makes view r (chain_told n) → Looked a b → Checked r (answered answer)
   check_passes r n answer is makes looked = subst (λ (x : Answer). Checked r (answered x)) (sym is) (made_comes view r (chain_told n) Looked ReadStopped a b makes looked)

@@ -33,7 +33,7 @@ use Rattle.dg_tool.specs.declared.stop.Stop.TheVariants as stops
 use Rattle.dg_tool.specs.Endings.{Ending}
 use Rattle.dg_tool.specs.Verbs.{have_told, inject_cause}
 use Rattle.dg_tool.specs.Done.{Went, NeedsBoard, NeedsInput}
-use Rattle.dg_tool.specs.Stops.{Makes, OnStore}
+use Rattle.dg_tool.specs.Stops.{Makes, OnStore, stop_status, stop_text, told_status, told_text}
 use Rattle.dg_tool.proofs.ComesLemmas.{made_comes, refused_comes, breaks_comes, stopped_comes, halts_stopped}
 use Rattle.dg_volume.proofs.ReadLemmas.{Looked-none}
 use Rattle.dg_tool.proofs.VerbLemmas.{looked_same}
@@ -91,10 +91,10 @@ went t a b v h = record { ran = h.ran; stands = h.mounted.stands }
 
 module _ {T : Type 0} (view : T → List ℕ) (root : List ℕ) (s : Store) (row : Row) (a b : Device) where
   abbrev pub Received : Result T Stop → Type 0
-  Received r = OnStore view r (receive_to root row s) (Went (receive_trail root s row)) (Stops (receive_trail root s row)) a b
+  Received r = OnStore (told_status r) (told_text view r) (receive_to root row s) (Went (receive_trail root s row)) (Stops (receive_trail root s row)) a b
 
   abbrev By : Result T Stop → Option InjectFault → Option Break → Type 0
-  By r refusal found = OnStore view r (receive_by row refusal found) (Went (receive_trail root s row)) (Stops (receive_trail root s row)) a b
+  By r refusal found = OnStore (told_status r) (told_text view r) (receive_by row refusal found) (Went (receive_trail root s row)) (Stops (receive_trail root s row)) a b
 
   ends_by : (r : Result T Stop) (refusal : Option InjectFault) (found : Option Break) → inject_refusal s row ≡ refusal → foreign_in root s row ≡ found → By r refusal found → Received r
   ends_by r refusal found e f h = subst (λ (o : Option InjectFault). By r o (foreign_in root s row)) (sym e) (subst (λ (o : Option Break). By r refusal o) (sym f) h)
@@ -261,13 +261,13 @@ not_reserved s row some older e = reserved_by (nat_lt s.room 2) s.room (sym (tak
 
 -- ---- what is told of it
 
-pub told_made : {T U : Type 0} (view : T → List ℕ) (x : U) (r : Result T Stop) (text : List ℕ) (ending : Ending) (acted may : Device → Device → Type 0) (a b : Device) → OnStore {T = U} (λ u. text) (Ok x) ending acted may a b → Makes view r text → OnStore view r ending acted may a b
+pub told_made : {T U : Type 0} (view : T → List ℕ) (x : U) (r : Result T Stop) (text : List ℕ) (ending : Ending) (acted may : Device → Device → Type 0) (a b : Device) → OnStore (told_status {T = U} (Ok x)) (told_text {T = U} (λ u. text) (Ok x)) ending acted may a b → Makes view r text → OnStore (told_status r) (told_text view r) ending acted may a b
 told_made view x (Ok t) text ending acted may a b h made = record { comes = record { caused = h.comes.caused; wrote = made ∙ h.comes.wrote; board = h.comes.board }; of_board = tt; stops = tt }
 told_made view x (Err stops.Memory) text ending acted may a b h made = record { comes = record { caused = tt; wrote = refl; board = inr h.comes.board }; of_board = tt; stops = tt }
 told_made view x (Err stop) text ending acted may a b h made = absurd made
 
 -- a stop is one whatever was to be told
-pub told_stop : {T U : Type 0} (view : T → List ℕ) (look : U → List ℕ) (stop : Stop) (ending : Ending) (acted may : Device → Device → Type 0) (a b : Device) → OnStore look (Err stop) ending acted may a b → OnStore view (Err stop) ending acted may a b
+pub told_stop : {T U : Type 0} (view : T → List ℕ) (look : U → List ℕ) (stop : Stop) (ending : Ending) (acted may : Device → Device → Type 0) (a b : Device) → OnStore (stop_status stop) (stop_text stop) ending acted may a b → OnStore (stop_status stop) (stop_text stop) ending acted may a b
 told_stop view look stop ending acted may a b h = record { comes = record { caused = h.comes.caused; wrote = h.comes.wrote; board = h.comes.board }; of_board = h.of_board; stops = h.stops }
 
 -- ---- page 0, and the data pages behind it

@@ -51,7 +51,8 @@ fn check_whole<N: Nor>(
     requires known_image { image < slots }
     requires whole { IsWhole (N.device nor.old).image image }
     ensures done { (h : Held) → KeepsImage (N.device nor.old).image image h
-        → OnStore (λ text. text.items) result (answered (answer_of root.now (drop 1 h.complete))) Looked ReadStopped
+        → OnStore (told_status result) (told_text (λ text. text.items) result)
+        (answered (answer_of root.now (drop 1 h.complete))) Looked ReadStopped
         (N.device nor.old) (N.device nor.new) }
     ensures unchanged { (N.device nor.new).image ≡ (N.device nor.old).image }
 {
@@ -72,7 +73,8 @@ fn check_kept<N: Nor>(
     requires known_image { image < images }
     requires keeps { (h : Held) × KeepsImage (N.device nor.old).image image h × (kept.now ≡ told_held h) }
     ensures done { (h : Held) → KeepsImage (N.device nor.old).image image h → kept.now ≡ told_held h
-        → OnStore (λ text. text.items) result (check_by root.now (Some h)) Looked ReadStopped (N.device nor.old)
+        → OnStore (told_status result) (told_text (λ text. text.items) result)
+        (check_by root.now (Some h)) Looked ReadStopped (N.device nor.old)
         (N.device nor.new) }
     ensures unchanged { (N.device nor.new).image ≡ (N.device nor.old).image }
 {
@@ -95,7 +97,8 @@ fn check_mounted<N: Nor>(
     requires known_image { image < images }
     requires mounted { IsMounted (N.device nor.old).image volume.now }
     ensures done { (s : Store) → Mounted (N.device nor.old).image volume.now s
-        → OnStore (λ text. text.items) result (check_by root.now (held s image)) Looked ReadStopped (N.device nor.old)
+        → OnStore (told_status result) (told_text (λ text. text.items) result)
+        (check_by root.now (held s image)) Looked ReadStopped (N.device nor.old)
         (N.device nor.new) }
     ensures unchanged { (N.device nor.new).image ≡ (N.device nor.old).image }
 {

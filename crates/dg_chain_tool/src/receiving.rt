@@ -40,7 +40,8 @@ fn receive_kept<N: Nor>(
     requires kept { kept_at volume.old new.now.image ≡ Some kept.now }
     requires same_version { kept.now.version ≡ new.now.version }
     ensures ends { (s : Store) → Mounted (N.device nor.old).image volume.old s → let row = received_row new.now in
-        OnStore (λ u. have_told row) result (receive_to root.now row s) (Went (receive_trail root.now s row))
+        OnStore (told_status result) (told_text (λ u. have_told row) result)
+        (receive_to root.now row s) (Went (receive_trail root.now s row))
         (Stops (receive_trail root.now s row)) (N.device nor.old) (N.device nor.new) }
 {
     match is_other(nor, new, kept) {
@@ -80,7 +81,8 @@ fn receive_anew<N: Nor>(
     requires known_image { new.now.image < images }
     requires older { (k : Kept) → kept_at volume.old new.now.image ≡ Some k → k.version < new.now.version }
     ensures ends { (s : Store) → Mounted (N.device nor.old).image volume.old s → let row = received_row new.now in
-        OnStore (λ u. have_told row) result (receive_to root.now row s) (Went (receive_trail root.now s row))
+        OnStore (told_status result) (told_text (λ u. have_told row) result)
+        (receive_to root.now row s) (Went (receive_trail root.now s row))
         (Stops (receive_trail root.now s row)) (N.device nor.old) (N.device nor.new) }
 {
     match volume.take(nor, new.image, &new.profile()) {
@@ -106,7 +108,8 @@ fn receive_new<N: Nor>(
     requires known_image { new.now.image < images }
     requires newest { (k : Kept) → kept_at volume.old new.now.image ≡ Some k → k.version ≤ new.now.version }
     ensures ends { (s : Store) → Mounted (N.device nor.old).image volume.old s → let row = received_row new.now in
-        OnStore (λ u. have_told row) result (receive_to root.now row s) (Went (receive_trail root.now s row))
+        OnStore (told_status result) (told_text (λ u. have_told row) result)
+        (receive_to root.now row s) (Went (receive_trail root.now s row))
         (Stops (receive_trail root.now s row)) (N.device nor.old) (N.device nor.new) }
 {
     match volume.kept(new.image) {
@@ -129,7 +132,8 @@ fn receive_told<N: Nor>(
     requires known_image { new.now.image < images }
     requires newest { (k : Kept) → kept_at volume.old new.now.image ≡ Some k → k.version ≤ new.now.version }
     ensures ends { (s : Store) → Mounted (N.device nor.old).image volume.old s → let row = received_row new.now in
-        OnStore (λ text. text.items) result (receive_to root.now row s) (Went (receive_trail root.now s row))
+        OnStore (told_status result) (told_text (λ text. text.items) result)
+        (receive_to root.now row s) (Went (receive_trail root.now s row))
         (Stops (receive_trail root.now s row)) (N.device nor.old) (N.device nor.new) }
 {
     match receive_new(volume, nor, new, root) {
@@ -155,7 +159,8 @@ fn receive_mounted<N: Nor>(
     requires version { 1 ≤ version }
     requires named { IsTrue (spells_name name.now) }
     ensures { (s : Store) → Mounted (N.device nor.old).image volume.old s → let row = row_of image version name.now bytes.now in
-        OnStore (λ text. text.items) result (receive_to root.now row s) (Went (receive_trail root.now s row))
+        OnStore (told_status result) (told_text (λ text. text.items) result)
+        (receive_to root.now row s) (Went (receive_trail root.now s row))
         (Stops (receive_trail root.now s row)) (N.device nor.old) (N.device nor.new) }
 {
     match injection_fault(volume.kept(image), image, version, bytes) {
