@@ -33,6 +33,7 @@ use Rattle.dg_tool.specs.declared.stop.Stop.TheVariants as stops
 use Rattle.dg_tool.specs.Endings.{Ending}
 use Rattle.dg_tool.specs.Verbs.{have_told, inject_cause}
 use Rattle.dg_tool.specs.Done.{Went, NeedsBoard, NeedsInput}
+use Rattle.dg_base.specs.declared.answers.Status.TheVariants as statuses
 use Rattle.dg_tool.specs.Stops.{Makes, OnStore, stop_status, stop_text, told_status, told_text}
 use Rattle.dg_tool.proofs.ComesLemmas.{made_comes, refused_comes, breaks_comes, stopped_comes, halts_stopped}
 use Rattle.dg_volume.proofs.ReadLemmas.{Looked-none}
@@ -261,14 +262,10 @@ not_reserved s row some older e = reserved_by (nat_lt s.room 2) s.room (sym (tak
 
 -- ---- what is told of it
 
-pub told_made : {T U : Type 0} (view : T → List ℕ) (x : U) (r : Result T Stop) (text : List ℕ) (ending : Ending) (acted may : Device → Device → Type 0) (a b : Device) → OnStore (told_status {T = U} (Ok x)) (told_text {T = U} (λ u. text) (Ok x)) ending acted may a b → Makes view r text → OnStore (told_status r) (told_text view r) ending acted may a b
-told_made view x (Ok t) text ending acted may a b h made = record { comes = record { caused = h.comes.caused; wrote = made ∙ h.comes.wrote; board = h.comes.board }; of_board = tt; stops = tt }
-told_made view x (Err stops.Memory) text ending acted may a b h made = record { comes = record { caused = tt; wrote = refl; board = inr h.comes.board }; of_board = tt; stops = tt }
-told_made view x (Err stop) text ending acted may a b h made = absurd made
-
--- a stop is one whatever was to be told
-pub told_stop : {T U : Type 0} (view : T → List ℕ) (look : U → List ℕ) (stop : Stop) (ending : Ending) (acted may : Device → Device → Type 0) (a b : Device) → OnStore (stop_status stop) (stop_text stop) ending acted may a b → OnStore (stop_status stop) (stop_text stop) ending acted may a b
-told_stop view look stop ending acted may a b h = record { comes = record { caused = h.comes.caused; wrote = h.comes.wrote; board = h.comes.board }; of_board = h.of_board; stops = h.stops }
+pub told_made : {T : Type 0} (view : T → List ℕ) (r : Result T Stop) (text : List ℕ) (ending : Ending) (acted may : Device → Device → Type 0) (a b : Device) → OnStore statuses.Done text ending acted may a b → Makes view r text → OnStore (told_status r) (told_text view r) ending acted may a b
+told_made view (Ok t) text ending acted may a b h made = record { comes = record { caused = h.comes.caused; wrote = made ∙ h.comes.wrote; board = h.comes.board }; of_board = tt; stops = tt }
+told_made view (Err stops.Memory) text ending acted may a b h made = record { comes = record { caused = tt; wrote = refl; board = inr h.comes.board }; of_board = tt; stops = tt }
+told_made view (Err stop) text ending acted may a b h made = absurd made
 
 -- ---- page 0, and the data pages behind it
 

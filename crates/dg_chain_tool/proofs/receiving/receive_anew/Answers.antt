@@ -83,7 +83,7 @@ returns-in-Err g c = record {
       let x = c.in-Err in
       let older = older_told c.args.volume.now s row c.requires.known_image mounted.tells c.requires.older in
       let same = c.profile.ensures in
-      take_fails (λ u. have_told row) c.args.root.now s row (g.N.Nor.device c.args.nor.now) (g.N.Nor.device c.take.new.nor) x.fault c.take_stop.result is c.requires.not_golden older c.take_stop.ensures
+      take_fails (λ (u : ℕ). have_told row) c.args.root.now s row (g.N.Nor.device c.args.nor.now) (g.N.Nor.device c.take.new.nor) x.fault c.take_stop.result is c.requires.not_golden older c.take_stop.ensures
       (subst (λ (p : Outline). UnlessTakeRefused {T = ℕ} (Err x.fault) (take_refusal s p)) same (x.ensures.allowed s mounted))
       (λ other. subst (λ (p : Outline). take_refusal s p ≡ Some x.fault) same (x.ensures.refused x.fault refl other s mounted))
       (λ other. (x.ensures.unchanged x.fault refl other).0)

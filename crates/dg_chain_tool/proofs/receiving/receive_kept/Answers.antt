@@ -24,7 +24,7 @@ returns-then-other g c = record {
       let h = keeps.kept in
       let same = ap (λ (k : Kept). k.version) keeps.told ∙ c.requires.same_version in
       let other : is_other h row ≡ true = sym (c.in-Ok.ensures.other h keeps.stands keeps.told) ∙ c.if-other.true in
-      received_refused (λ u. have_told row) c.args.root.now s row _ _ inject.Taken refusals.Taken (kept_taken s row h is c.requires.not_golden keeps.here same other) refl c.in-Ok.ensures.ends;
+      received_refused (λ (u : ℕ). have_told row) c.args.root.now s row _ _ inject.Taken refusals.Taken (kept_taken s row h is c.requires.not_golden keeps.here same other) refl c.in-Ok.ensures.ends;
 }
 
 pub receive_rest-requires-clause-mounted : goal.receive_rest-requires-clause-mounted
@@ -88,5 +88,5 @@ pub returns-in-Err : goal.returns-in-Err
 returns-in-Err g c = record {
   ends = λ s mounted.
       let row = received_row c.args.new.now in
-      received_stops (λ u. have_told row) c.args.root.now s row _ _ (read_stops s (receive_trail c.args.root.now s row) _ _ (receive_begins c.args.root.now s row) mounted.stands c.in-Err.ensures.ends);
+      received_stops (λ (u : ℕ). have_told row) c.args.root.now s row _ _ (read_stops s (receive_trail c.args.root.now s row) _ _ (receive_begins c.args.root.now s row) mounted.stands c.in-Err.ensures.ends);
 }
