@@ -96,10 +96,10 @@ sized-within fault least most bytes kept h =
     let there = subst P here.1 (within least (length bytes) most here.0) in
     (here.1, there.0, there.1)
 
-record IsContent (least most : ℕ) (content : List ℕ) : Type 0 where
-  low : least ≤ length content
-  high : length content ≤ most
-  bytes : AreBytes content
+pub record IsContent (least most : ℕ) (content : List ℕ) : Type 0 where
+  pub low : least ≤ length content
+  pub high : length content ≤ most
+  pub bytes : AreBytes content
 
 pub sized_content-is : (least most : ℕ) (word bytes : List ℕ) → sized_content least most word ≡ Ok bytes → IsContent least most bytes
 unfolding sized_content

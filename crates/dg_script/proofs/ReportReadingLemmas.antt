@@ -19,7 +19,7 @@ use Rattle.dg_script.specs.declared.report.Cause.{Cause}
 use Rattle.dg_script.specs.declared.report.Cause.TheVariants as cause
 use Rattle.dg_script.specs.declared.report.Report.{Report}
 use Rattle.dg_script.specs.declared.report.Report.TheVariants.{Order, Lost, Have, Start, Off, SentAdvert, SentRequest, SentData, Refused, Taken, End, MoteOn, MoteOff, Kept}
-use Rattle.dg_script.proofs.ReadsBackLemmas.{IsWord, words_spaced, hex_lacks, number}
+use Rattle.dg_script.proofs.WordsReadLemmas.{IsWord, words_spaced, hex_lacks, number}
 
 -- ---- words
 

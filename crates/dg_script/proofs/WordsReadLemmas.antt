@@ -175,10 +175,10 @@ unfolding other_in
 other_mote motes first n is below other = rw (mote motes n is below, ne_eqb n first other) refl
 
 -- a name
-record IsName (name : List ℕ) : Type 0 where
-  word : IsWord name
-  short : length name ≤ 16
-  read : spelled_name name ≡ Ok name
+pub record IsName (name : List ℕ) : Type 0 where
+  pub word : IsWord name
+  pub short : length name ≤ 16
+  pub read : spelled_name name ≡ Ok name
 
 pub name : (bytes : List ℕ) → spells_name bytes ≡ true → IsName bytes
 unfolding spelled_name
@@ -192,10 +192,10 @@ all_bytes : (bytes : List ℕ) → AreBytes bytes → All (λ b. b < 256) bytes
 all_bytes bytes are k d inside = subst (λ (x : ℕ). x < 256) (get_or_default bytes k 0 d inside) (are k)
 
 -- a content
-record IsWritten (least most : ℕ) (bytes : List ℕ) : Type 0 where
-  word : IsWord (content_text bytes)
-  size : length (content_text bytes) ≡ 4 + 2 * length bytes
-  read : sized_content least most (content_text bytes) ≡ Ok bytes
+pub record IsWritten (least most : ℕ) (bytes : List ℕ) : Type 0 where
+  pub word : IsWord (content_text bytes)
+  pub size : length (content_text bytes) ≡ 4 + 2 * length bytes
+  pub read : sized_content least most (content_text bytes) ≡ Ok bytes
 
 pub content : (least most : ℕ) (bytes : List ℕ) → AreBytes bytes → least ≤ length bytes → length bytes ≤ most → IsWritten least most bytes
 unfolding sized_content content_of
@@ -205,10 +205,10 @@ content least most bytes are low high = record {
   read = rw (hex_bytes-hex_text bytes (all_bytes bytes are), le-leb least (length bytes) low, le-leb (length bytes) most high) refl;
 }
 
-record IsMask (bytes : List ℕ) : Type 0 where
-  word : IsWord (hex_text bytes)
-  size : length (hex_text bytes) ≡ 2 * length bytes
-  read : spelled_mask (hex_text bytes) ≡ Ok bytes
+pub record IsMask (bytes : List ℕ) : Type 0 where
+  pub word : IsWord (hex_text bytes)
+  pub size : length (hex_text bytes) ≡ 2 * length bytes
+  pub read : spelled_mask (hex_text bytes) ≡ Ok bytes
 
 pub mask : (bytes : List ℕ) → AreBytes bytes → 1 ≤ length bytes → length bytes ≤ longest_mask → IsMask bytes
 unfolding spelled_mask

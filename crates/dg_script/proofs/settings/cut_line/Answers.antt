@@ -1,6 +1,6 @@
 use Rattle.std.proofs.Common.{rules, ◌≡◌, Ok, sym}
 use Rattle.dg_script.specs.Words.{words_of, two_of}
-use Rattle.dg_script.proofs.LineLemmas.{cut_of-read}
+use Rattle.dg_script.proofs.FieldLemmas.{cut_of-read}
 use Rattle.dg_script.proofs.settings.cut_line.Goals as goal
 
 pub returns : goal.returns
