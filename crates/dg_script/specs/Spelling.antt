@@ -2,6 +2,7 @@
 use Rattle.std.specs.Prelude.{◌≡◌, ℕ, ◌≤◌, List, [], ◌∷◌, ◌++◌, length, take, codes}
 use Rattle.std.specs.List.{flat_map}
 use Rattle.std.specs.Fmt.{decimal}
+use Rattle.std.specs.Int.{to_be_bytes, w16}
 use Rattle.dg_base.specs.Hexadecimal.{hex_text}
 use Rattle.dg_base.specs.declared.events.Event.{Event}
 use Rattle.dg_base.specs.declared.events.Event.TheVariants.{Tick, Hear, Last, Reset, Inject, Order, Frame}
@@ -19,9 +20,10 @@ content_text bytes = codes "hex:" ++ hex_text bytes
 
 -- the text of a field
 abbrev pub field_text : Field → List ℕ
-field_text (field.Word word) = word.now
-field_text (field.Number n) = decimal n
 field_text (field.Small n) = decimal n
+field_text (field.Number n) = decimal n
+field_text (field.Word word) = word.now
+field_text (field.Crc crc) = hex_text (to_be_bytes w16 crc)
 field_text (field.Digits bytes) = hex_text bytes.now
 field_text (field.Content bytes) = content_text bytes.now
 

@@ -8,12 +8,14 @@ use std::alloc::AllocError;
 /// A field of a line.
 #[derive(Clone, Copy)]
 pub enum Field<'a> {
-    /// Bytes as they are.
-    Word(&'a [u8]),
-    /// A number in decimal.
-    Number(u32),
     /// A number below 256 in decimal.
     Small(u8),
+    /// A number in decimal.
+    Number(u32),
+    /// Bytes as they are.
+    Word(&'a [u8]),
+    /// A CRC as four hex digits.
+    Crc(u16),
     /// Bytes as hex digits.
     Digits(&'a [u8]),
     /// Bytes as a content.
@@ -38,9 +40,10 @@ fn push_field(out: &mut Vec<u8>, field: Field) -> Result<(), AllocError>
     ensures kept { length out.old.items ≤ length out.new.items }
 {
     match field {
-        Field::Word(word) => out.extend_from_slice(word),
-        Field::Number(number) => push_u32(out, number),
         Field::Small(number) => push_u32(out, u32::from(number)),
+        Field::Number(number) => push_u32(out, number),
+        Field::Word(word) => out.extend_from_slice(word),
+        Field::Crc(crc) => push_hex(out, &crc.to_be_bytes()),
         Field::Digits(bytes) => push_hex(out, bytes),
         Field::Content(bytes) => push_content(out, bytes),
     }
@@ -79,3 +82,19 @@ pub fn push_line(out: &mut Vec<u8>, word: &[u8], fields: &[Field]) -> Result<(),
     out.push(b'\n')?;
     Ok(())
 }
+
+/// Appends the line that a table has for a value: its pattern, the word of the line, and at most seven fields behind that.
+macro_rules! push_line_of {
+    ($out:expr, $value:expr; $($said:pat => $word:expr $(, $field:expr)*;)+) => {{
+        let mut fields = [Small(0); 7];
+        match $value {
+            $($said => {
+                let mut count: usize = 0;
+                $(fields[count] = $field; count += 1;)*
+                push_line($out, $word, &fields[..count])
+            })+
+        }
+    }};
+}
+
+pub(crate) use push_line_of;
