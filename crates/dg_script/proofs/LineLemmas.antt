@@ -23,7 +23,7 @@ use Rattle.dg_script.specs.declared.place.Place.{Place}
 use Rattle.dg_script.specs.declared.verbs.Verb.{Verb}
 use Rattle.dg_script.specs.declared.verbs.Verb.TheVariants as verb
 use Rattle.dg_script.proofs.ResultLemmas.{bound, guarded_ok, tested}
-use Rattle.dg_script.proofs.FieldLemmas.{same_of_ok, cut_with-is, number_in-fits, within, ranged_in-within, mote_in-below, other_in-other, name_of-name, sized_content-is, mask_of-bytes}
+use Rattle.dg_script.proofs.FieldLemmas.{same_of_ok, cut_with-is, number_in-fits, ranged_in-within, mote_in-below, other_in-other, name_of-name, sized_content-is, mask_of-bytes}
 
 -- ---- lines
 

@@ -1,5 +1,5 @@
 -- A line that is written is read as the same.
-use Rattle.std.proofs.Common.{◌≡◌, ℕ, ◌+◌, ◌<◌, ◌≤◌, true, false, List, [], ◌∷◌, ◌++◌, length, Ok, decimal, refl, arith}
+use Rattle.std.proofs.Common.{◌≡◌, ℕ, ◌<◌, ◌≤◌, true, false, List, [], ◌∷◌, ◌++◌, length, Ok, decimal, refl, arith}
 use Rattle.dg_base.specs.Hexadecimal.{hex_text}
 use Rattle.dg_base.specs.Sizes.{longest_frame}
 use Rattle.dg_base.specs.declared.events.Event.{Event}

@@ -13,7 +13,6 @@ use Rattle.dg_words.specs.Cells.{AreBytes}
 use Rattle.dg_base.specs.Hexadecimal.{hex_text, hex_digit}
 use Rattle.dg_base.specs.Texts.{spells_name, is_name_byte}
 use Rattle.dg_base.specs.Sizes.{longest_mask}
-use Rattle.dg_base.specs.declared.events.Event.TheVariants.{Tick, Hear, Last, Reset, Inject, Order, Frame}
 use Rattle.dg_base.proofs.NumberLemmas.{number_of-decimal}
 use Rattle.dg_base.proofs.HexLemmas.{hex_bytes-hex_text, length-hex_text}
 use Rattle.dg_script.specs.Sizes.{most_line}
@@ -25,9 +24,7 @@ use Rattle.dg_script.specs.Lines.{fields_of, played_verb, is_comment, line_of}
 use Rattle.dg_script.specs.Fitting.{StandsBy}
 use Rattle.dg_script.specs.Spelling.{content_text}
 use Rattle.dg_script.specs.declared.fault.LineFault.{LineFault}
-use Rattle.dg_script.specs.declared.fault.LineFault.TheVariants as fault
 use Rattle.dg_script.specs.declared.line.Line.{Line}
-use Rattle.dg_script.specs.declared.line.Line.TheVariants.{Motes, Golden, Boards, Link, Narrow, Image, Cut, Round, Sweeps}
 use Rattle.dg_script.specs.declared.place.Place.{Place}
 use Rattle.dg_script.specs.declared.verbs.Verb.{Verb}
 use Rattle.dg_script.specs.declared.verbs.Verb.TheVariants as verb
