@@ -20,38 +20,6 @@ use dg_mote::Heard;
 use dg_nor::{Nor, Stopped};
 use dg_rules::Cause;
 
-/// A mote that is on hears a frame. What its chip keeps is told by its own volume.
-fn hear_on<N: Nor>(
-    running: &mut RunningMote,
-    now: u64,
-    word: u32,
-    bytes: &[u8],
-    board: &mut N,
-    telling: &mut Telling,
-) -> Result<(), Fault>
-    requires mote { IsTimelyMote (N.device board.old).image now running.old }
-    requires moment { now < 2 ^ 62 }
-    requires nothing { IsNothing telling.old }
-    ensures ends { (w : RuleWorld) (m : ℕ) (r : Running) → Stands (N.device board.old).image (store_at w m)
-        → MoteStands (N.device board.old).image (Some running.old) (store_at w m) (Some r)
-        → TurnEnds (turned result telling.new) w m (of_effect w (frame_effect r.mote (store_at w m) now word bytes.now)
-        (Some r.key)) (Some running.old) (Some running.new) (N.device board.old) (N.device board.new) }
-    ensures sees { OnOk result (telling.new.orderly ≡ None) }
-    ensures same_reference { (N.device board.new).references ≡ (N.device board.old).references }
-{
-    telling.before = Some(show(running.mote.volume()));
-    match running.mote.hear(board, now, word, bytes) {
-        Ok(heard) => {
-            if is_quiet(heard) {
-                return Ok(());
-            }
-            telling.after = Some(show(running.mote.volume()));
-            Ok(())
-        }
-        Err(Stopped) => Err(Fault::Stopped),
-    }
-}
-
 /// Whether what a chip keeps, and its order, are surely as they were before such an answer.
 fn is_quiet(heard: Heard) -> bool
     ensures { IsTrue result → IsQuiet heard }
@@ -69,7 +37,7 @@ fn is_quiet(heard: Heard) -> bool
     }
 }
 
-/// A frame is heard.
+/// A frame is heard, by a mote that is on. What its chip keeps is told by its own volume.
 pub(crate) fn hear<N: Nor>(
     runs: &mut Option<RunningMote>,
     now: u64,
@@ -90,12 +58,20 @@ pub(crate) fn hear<N: Nor>(
     ensures sees { OnOk result (SeesMote telling.new runs.new (N.device board.old).image (N.device board.new).image) }
     ensures same_reference { (N.device board.new).references ≡ (N.device board.old).references }
 {
-    match runs {
-        None => {
-            telling.refused = Some(Cause::Off);
+    let Some(running) = runs else {
+        telling.refused = Some(Cause::Off);
+        return Ok(());
+    };
+    telling.before = Some(show(running.mote.volume()));
+    match running.mote.hear(board, now, word, bytes) {
+        Ok(heard) => {
+            if is_quiet(heard) {
+                return Ok(());
+            }
+            telling.after = Some(show(running.mote.volume()));
             Ok(())
         }
-        Some(running) => hear_on(running, now, word, bytes, board, telling),
+        Err(Stopped) => Err(Fault::Stopped),
     }
 }
 
