@@ -19,6 +19,7 @@ pub mod CountLemmas
 pub mod FormatLemmas
 pub mod StepLemmas
 pub mod DoneLemmas
+pub mod WholeLemmas
 pub mod FinishLemmas
 pub mod PlaceLemmas
 pub mod SoundLemmas

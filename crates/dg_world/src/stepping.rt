@@ -224,27 +224,6 @@ fn look_after_cut<N: Nor>(
     Ok(Some(orderly))
 }
 
-/// A step without a cut at the board of its mote, whose frame is left in the outbox. There is room for what is told of it.
-fn step_whole<N: Nor>(
-    occasion: &Occasion<'_>,
-    runs: &mut Option<RunningMote>,
-    event: &Event,
-    board: &mut N,
-    telling: &mut Telling,
-    out: &mut Vec<Report>,
-) -> Result<(), Fault>
-    requires room { vec_len out.old + MOST_LINES ≤ vec_capacity out.old }
-    requires fits { (motes : ℕ) × StepInRange motes (step_of event.now None) × (motes ≤ most_motes) }
-    requires may { MayHappen occasion.now event.now (N.device board.old) runs.old }
-    requires nothing { IsNothing telling.old }
-    ensures { StepDid result occasion.now (step_of event.now None) telling.new
-        (station (N.device board.old) runs.old out.old.items) (station (N.device board.new) runs.new out.new.items) }
-{
-    happen(occasion, runs, event, board, telling)?;
-    push_told(occasion.mote, telling, occasion.loud, out);
-    Ok(())
-}
-
 /// A step with this cut at the board of its mote, which is off after it where it blew. There is room for what is told of it.
 fn step_cut<N: Nor>(
     occasion: &Occasion<'_>,
@@ -295,7 +274,11 @@ pub(crate) fn step_at<N: Nor>(
         (station (N.device board.old) runs.old out.old.items) (station (N.device board.new) runs.new out.new.items) }
 {
     match cut {
-        None => step_whole(occasion, runs, event, board, telling, out),
+        None => {
+            happen(occasion, runs, event, board, telling)?;
+            push_told(occasion.mote, telling, occasion.loud, out);
+            Ok(())
+        }
         Some(cut) => step_cut(occasion, runs, event, cut, board, telling, out),
     }
 }
