@@ -26,6 +26,7 @@ use Rattle.dg_world.specs.declared.world.WorldFault.{WorldFault}
 use Rattle.dg_world.specs.declared.world.WorldFault.TheVariants.{Flash, TooMany as TooManyFault, Memory as MemoryFault}
 use Rattle.dg_world.proofs.CountLemmas.{NoneRose_then}
 use Rattle.dg_world.specs.Applied.{Applied, OneBoard, FlashAt, RunEnded}
+use Rattle.dg_world.specs.Deployments.{deployed}
 use Rattle.dg_world.specs.declared.world.World.{World as KeptWorld}
 use Rattle.dg_replay.specs.Boards.{WorldStands, ItemStops, LacksImage, EventNext}
 use Rattle.dg_replay.specs.Playing.{KeepsMotes, ItemsRun, ItemsPlayed, ItemsBegun, ItemsPlayedAs, IsOneTooMany, StopsInItem}
@@ -129,33 +130,33 @@ MayStep k old x = (z : World) × IsWorld k old z × StepInRange (length z.sites)
 step_within : (k : KeptWorld) (old : List Device) (w : World) (x : Step) → IsWorld k old w → MayStep k old x → mote_of x.event < length w.sites
 step_within k old w x is (z, at, fits) = subst (λ (n : ℕ). mote_of x.event < n) (sites_same k old z w at is) (event_within (length z.sites) x.event fits.event)
 
-applied_runs : (w : World) (x : Step) (loud : Bool) (v2 : KeptWorld) (old new : List Device) (before reports : List Report) → before ≡ [] → (a : Applied w x loud v2 old new before reports) → ItemsRun w (Happened x loud ∷ []) a.world (report_text reports)
-applied_runs w x loud v2 old new before reports none a =
+applied_runs : (w : World) (x : Step) (loud : Bool) (v v2 : KeptWorld) (old new : List Device) (before reports : List Report) → before ≡ [] → (a : Applied w x loud (deployed v old before) (deployed v2 new reports)) → ItemsRun w (Happened x loud ∷ []) a.world (report_text reports)
+applied_runs w x loud v v2 old new before reports none a =
     let told : reports ≡ filter (is_told loud) a.reports = a.told_now ∙ ap (λ (rs : List Report). rs ++ filter (is_told loud) a.reports) none in
     items_run_one w a.world (Happened x loud) reports (a.reports, a.step, told) a.stood.few_events
 
-applied_stands : (w : World) (x : Step) (loud : Bool) (v v2 : KeptWorld) (initial old new : List Device) (before reports : List Report) → MayStep v old x → IsWorld v old w → WorldStands w initial old → (a : Applied w x loud v2 old new before reports) → WorldStands a.world initial new
+applied_stands : (w : World) (x : Step) (loud : Bool) (v v2 : KeptWorld) (initial old new : List Device) (before reports : List Report) → MayStep v old x → IsWorld v old w → WorldStands w initial old → (a : Applied w x loud (deployed v old before) (deployed v2 new reports)) → WorldStands a.world initial new
 applied_stands w x loud v v2 initial old new before reports may is stands a =
     stands_next w a.world v2 (mote_of x.event) initial old new (step_within v old w x is may) (step_counts w a.world x a.reports a.step).sites a.stood a.boards a.calm stands
 
 -- an event was applied, and told
-applied_played : (w : World) (x : Step) (loud : Bool) (v v2 : KeptWorld) (initial old new : List Device) (before reports : List Report) (told_before told : List ℕ) → before ≡ [] → MayStep v old x → Applied w x loud v2 old new before reports
+applied_played : (w : World) (x : Step) (loud : Bool) (v v2 : KeptWorld) (initial old new : List Device) (before reports : List Report) (told_before told : List ℕ) → before ≡ [] → MayStep v old x → Applied w x loud (deployed v old before) (deployed v2 new reports)
     → told ≡ told_before ++ report_text reports → IsWorld v old w → WorldStands w initial old → ItemsPlayed w (Happened x loud ∷ []) v2 initial new told_before told
 applied_played w x loud v v2 initial old new before reports told_before told none may a is_told is stands =
     record {
       world = a.world;
       text = report_text reports;
-      runs = applied_runs w x loud v2 old new before reports none a;
+      runs = applied_runs w x loud v v2 old new before reports none a;
       kept_now = a.stood;
       boards = applied_stands w x loud v v2 initial old new before reports may is stands a;
       told_now = is_told;
     }
 
 -- it was applied, and there was no memory to tell it
-pub applied_untold : (w : World) (x : Step) (loud : Bool) (v v2 : KeptWorld) (initial old new : List Device) (before reports : List Report) → before ≡ [] → MayStep v old x → Applied w x loud v2 old new before reports → IsWorld v old w → WorldStands w initial old
+pub applied_untold : (w : World) (x : Step) (loud : Bool) (v v2 : KeptWorld) (initial old new : List Device) (before reports : List Report) → before ≡ [] → MayStep v old x → Applied w x loud (deployed v old before) (deployed v2 new reports) → IsWorld v old w → WorldStands w initial old
     → ItemsBegun w (Happened x loud ∷ []) (λ u left text. WorldStands u initial new)
 applied_untold w x loud v v2 initial old new before reports none may a is stands =
-    begun_all w a.world (Happened x loud ∷ []) (report_text reports) (λ u left text. WorldStands u initial new) (applied_runs w x loud v2 old new before reports none a) (applied_stands w x loud v v2 initial old new before reports may is stands a)
+    begun_all w a.world (Happened x loud ∷ []) (report_text reports) (λ u left text. WorldStands u initial new) (applied_runs w x loud v v2 old new before reports none a) (applied_stands w x loud v v2 initial old new before reports may is stands a)
 
 -- there was no memory to apply it
 pub nothing_applied : (w : World) (items : List Item) (v : KeptWorld) (initial old new : List Device) → IsWorld v old w → new ≡ old → WorldStands w initial old → ItemsBegun w items (λ u left text. WorldStands u initial new)
@@ -198,7 +199,7 @@ ended_in w x loud v initial old new told may is e stands =
     (record { next = record { step = x; loud = loud; more = []; is = refl }; after = e.world; ends = e.ends; boards = ended_stands w x v initial old new may is e stands }, sym (append-nil told))
 
 -- it was applied, and this came of telling it
-pub told_as : (r : Result (Unit {0}) Stop) (w : World) (x : Step) (loud : Bool) (v v2 : KeptWorld) (initial old new : List Device) (before reports : List Report) (told_before told : List ℕ) → before ≡ [] → MayStep v old x → Applied w x loud v2 old new before reports
+pub told_as : (r : Result (Unit {0}) Stop) (w : World) (x : Step) (loud : Bool) (v v2 : KeptWorld) (initial old new : List Device) (before reports : List Report) (told_before told : List ℕ) → before ≡ [] → MayStep v old x → Applied w x loud (deployed v old before) (deployed v2 new reports)
     → OnOk r (told ≡ told_before ++ report_text reports) → OnErr r (r ≡ Err Memory) → IsWorld v old w → WorldStands w initial old → ItemsPlayedAs r w (Happened x loud ∷ []) v2 initial new told_before told
 told_as (Ok u) w x loud v v2 initial old new before reports told_before told none may a is_told memory is stands = applied_played w x loud v v2 initial old new before reports told_before told none may a is_told is stands
 told_as (Err stop) w x loud v v2 initial old new before reports told_before told none may a is_told memory is stands =
@@ -210,8 +211,8 @@ pub goes_on : (r : Result (Unit {0}) Stop) (k k2 : KeptWorld) (old new : List De
 goes_on (Ok u) k k2 old new goes = goes
 goes_on (Err stop) k k2 old new goes = tt
 
-pub applied_goes : (w : World) (x : Step) (loud : Bool) (v2 : KeptWorld) (old new : List Device) (before reports : List Report) → Applied w x loud v2 old new before reports → (u : World) × IsWorld v2 new u × (length u.sites ≡ length w.sites)
-applied_goes w x loud v2 old new before reports a = (a.world, a.stood, (step_counts w a.world x a.reports a.step).sites)
+pub applied_goes : (w : World) (x : Step) (loud : Bool) (v v2 : KeptWorld) (old new : List Device) (before reports : List Report) → Applied w x loud (deployed v old before) (deployed v2 new reports) → (u : World) × IsWorld v2 new u × (length u.sites ≡ length w.sites)
+applied_goes w x loud v v2 old new before reports a = (a.world, a.stood, (step_counts w a.world x a.reports a.step).sites)
 
 -- ---- declarations
 

@@ -14,6 +14,7 @@ use Rattle.dg_script.specs.declared.report.Report.{Report}
 use Rattle.dg_world.specs.Worlds.{IsWorld}
 use Rattle.dg_world.specs.Counts.{NoneRose}
 use Rattle.dg_world.specs.Applied.{Applied, OneBoard, FlashAt, RunEnded}
+use Rattle.dg_world.specs.Deployments.{deployed}
 use Rattle.dg_world.specs.declared.world.World.{World as KeptWorld}
 use Rattle.dg_world.proofs.CountLemmas.{NoneRose_then}
 use Rattle.dg_trial.specs.Schedule.{Part, only}
@@ -83,7 +84,7 @@ step_within motes k old w x is m =
     subst (λ (n : ℕ). mote_of x.event < n) (sites_same k old m.world w m.is is) (event_within (length m.world.sites) x.event (step_fits motes m.world x m.may).event)
 
 -- it was applied, as the step of a part
-pub applied_played : (motes : ℕ) (w : World) (x : Step) (p : Part) (v v2 : KeptWorld) (initial old new : List Device) (before reports : List Report) → MayPlayOver motes v old (only x) → p (length w.sent) ≡ x → Applied w x false v2 old new before reports
+pub applied_played : (motes : ℕ) (w : World) (x : Step) (p : Part) (v v2 : KeptWorld) (initial old new : List Device) (before reports : List Report) → MayPlayOver motes v old (only x) → p (length w.sent) ≡ x → Applied w x false (deployed v old before) (deployed v2 new reports)
     → IsWorld v old w → WorldStands w initial old → PartsPlayed w (p ∷ []) v2 initial new
 applied_played motes w x p v v2 initial old new before reports may at a is stands =
     record {

@@ -11,8 +11,9 @@ use Rattle.dg_rules.specs.Steps.{WorldStep}
 use Rattle.dg_rules.specs.Ranges.{StepInRange, EventInRange}
 use Rattle.dg_rules.specs.Consistency.{WorldConsistent, StopsConsistent}
 use Rattle.dg_world.specs.Airs.{Carries}
-use Rattle.dg_world.specs.Applied.{FlashAt}
-use Rattle.dg_world.specs.Applying.{Deployment, IsOf, ApplyDone, ApplyMade}
+use Rattle.dg_world.specs.Deployments.{Deployment}
+use Rattle.dg_world.specs.Applied.{Applied, FlashAt}
+use Rattle.dg_world.specs.Applying.{IsOf, ApplyDone, ApplyMade}
 use Rattle.dg_world.specs.declared.air.Air.{Air}
 use Rattle.dg_world.specs.declared.world.WorldFault.{WorldFault}
 use Rattle.dg_world.specs.declared.world.WorldFault.TheVariants.{Memory, Flash, TooMany, NotAVolume, NoImage}
@@ -90,7 +91,7 @@ module _ (x : Step) (loud : Bool) (a b : Deployment) (air : Air) (z : RuleWorld)
   was_applied : ApplyMade (Ok tt) x loud Roomy b → ApplyDone (Ok tt) x loud a b
   was_applied m =
       record {
-        applied = λ w at. m.ends w (roomy w at) (fits_in w at);
+        applied = λ w at. given w (m.ends w (roomy w at) (fits_in w at));
         too_many = λ e. absurd (no_fault TooMany e);
         full = λ w at full. absurd (not_full w at full);
         unchanged = λ e. absurd (⊎_elim (λ y. no_fault TooMany y) (λ y. no_fault Memory y) e);
@@ -103,12 +104,15 @@ module _ (x : Step) (loud : Bool) (a b : Deployment) (air : Air) (z : RuleWorld)
         inject_reads = λ w k old new at. m.inject_reads w k old new (roomy w at);
         unseen = λ w at unseen. ((m.unseen w (roomy w at) (fits_in w at) unseen).0, λ board e. no_fault (Flash board) e);
         consistent = λ golden here.
-            applied_consistent golden a.world b.world a.boards b.boards z x loud a.told b.told is fits here (stepped golden) (m.ends here.world (roomy here.world here.stands) (fits_in here.world here.stands));
+            applied_consistent golden a b z x loud is fits here (stepped golden) (given here.world (m.ends here.world (roomy here.world here.stands) (fits_in here.world here.stands)));
         stops_consistent = λ golden board e. absurd (no_fault (Flash board) e);
       }
     where
       no_fault : (f : WorldFault) → ◌≡◌ {A = Result (Unit {0}) WorldFault} (Ok tt) (Err f) → ⊥
       no_fault f e = cc
+
+      given : (w : RuleWorld) → Applied w x loud Roomy b → Applied w x loud a b
+      given w y = record { world = y.world; reports = y.reports; step = y.step; stood = y.stood; told_now = y.told_now; boards = y.boards; calm = y.calm; memory = y.memory }
 
   was_stopped : (n : ℕ) → ApplyMade (Err (Flash n)) x loud Roomy b → ApplyDone (Err (Flash n)) x loud a b
   was_stopped n m =

@@ -31,7 +31,8 @@ use Rattle.dg_world.specs.Airs.{sent_now}
 use Rattle.dg_world.specs.Worlds.{MoteStands, SiteStands}
 use Rattle.dg_world.specs.Turns.{turn_frame, turn_lines}
 use Rattle.dg_world.specs.Cuts.{EventIsWhole, EventIsCut, EventPlayed}
-use Rattle.dg_world.specs.Stepped.{CutChangesAre, CutTold, StepDone, Stepped}
+use Rattle.dg_world.specs.Hosts.{host}
+use Rattle.dg_world.specs.Stepped.{CutChangesAre, StepDone, Stepped, station}
 use Rattle.dg_world.specs.declared.shown.Shown.{Shown}
 use Rattle.dg_world.specs.declared.world.RunningMote.{RunningMote}
 use Rattle.dg_world.specs.declared.telling.Telling.{Telling}
@@ -39,6 +40,7 @@ use Rattle.dg_world.specs.declared.telling.Fault.{Fault}
 use Rattle.dg_world.specs.declared.telling.Fault.TheVariants as fault
 use Rattle.dg_world.specs.Tellings.{halt_of, stepped}
 use Rattle.dg_world.proofs.ShownLemmas.{cut_told}
+use Rattle.dg_world.proofs.StepLemmas.{ReadAndTold}
 use Rattle.dg_world.specs.Turn.{EventTurn, Refused, Rests, Sends, Changes, Starts, Whole, Cut, Halt, Stopped, NotAVolume, NoImage}
 
 same_deed : (d e : Deed) → Goes d ≡ Goes e → d ≡ e
@@ -94,7 +96,7 @@ none_sent w m (Some frame) e = absurd cc
 
 pub refused_done : (w : RuleWorld) (x : Step) (loud : Bool) (v u : Option RunningMote) (frame : Option (List ℕ)) (why : Cause) (a b : Device) (start end : List Report) → mote_of x.event < length w.sites
     → SiteStands a v (site w (mote_of x.event)) → does w x.event ≡ Refuses why → b.image ≡ a.image → u ≡ v → frame ≡ turn_frame (Refused why) → end ≡ start ++ filter (is_told loud) (turn_lines (mote_of x.event) (Refused why))
-    → StepDone w x loud u frame b start end
+    → StepDone w x loud frame start (station b u end)
 refused_done w x loud v u frame why a b start end known stands is same at none told =
     let here = site w (mote_of x.event) in
     let P : List ℕ → Option RunningMote → Type 0 = λ c o. MoteStands c o here.store here.runs in
@@ -117,7 +119,7 @@ refused_done w x loud v u frame why a b start end known stands is same at none t
     }
 
 pub whole_done : (w : RuleWorld) (x : Step) (loud : Bool) (u : Option RunningMote) (frame : Option (List ℕ)) (turn : EventTurn) (b : Device) (start end : List Report)
-    → EventIsWhole w (mote_of x.event) (does w x.event) x.cut u b.image turn → frame ≡ turn_frame turn → end ≡ start ++ filter (is_told loud) (turn_lines (mote_of x.event) turn) → StepDone w x loud u frame b start end
+    → EventIsWhole w (mote_of x.event) (does w x.event) x.cut u b.image turn → frame ≡ turn_frame turn → end ≡ start ++ filter (is_told loud) (turn_lines (mote_of x.event) turn) → StepDone w x loud frame start (station b u end)
 whole_done w x loud u frame turn b start end is sends told =
     let m = mote_of x.event in
     let d = is.deed in
@@ -145,7 +147,7 @@ whole_done w x loud u frame turn b start end is sends told =
     }
 
 pub cut_done : (w : RuleWorld) (x : Step) (loud : Bool) (before : Option Shown) (b c : Device) (start mid end : List Report) → (is : EventIsCut w (mote_of x.event) (does w x.event) x.cut b.image before)
-    → CutChangesAre (mote_of x.event) before is.leaves.store start mid → end ≡ mid ++ Off (mote_of x.event) ∷ [] → c.image ≡ b.image → StepDone w x loud None None c start end
+    → CutChangesAre (mote_of x.event) before is.leaves.store start mid → end ≡ mid ++ Off (mote_of x.event) ∷ [] → c.image ≡ b.image → StepDone w x loud None start (station c None end)
 cut_done w x loud before b c start mid end is lines off same =
     let m = mote_of x.event in
     let d = is.deed in
@@ -172,8 +174,8 @@ cut_done w x loud before b c start mid end is lines off same =
 -- ---- what the step ends with
 
 pub step_turn : (w : RuleWorld) (x : Step) (loud : Bool) (v u : Option RunningMote) (frame : Option (List ℕ)) (turn : EventTurn) (a b : Device) (start end : List Report) → mote_of x.event < length w.sites → SiteStands a v (site w (mote_of x.event))
-    → EventPlayed (Ok (Whole turn)) w (mote_of x.event) (does w x.event) x.cut v u a b → frame ≡ turn_frame turn → end ≡ start ++ filter (is_told loud) (turn_lines (mote_of x.event) turn)
-    → Stepped (Ok frame) w x loud u a b start end
+    → EventPlayed (Ok (Whole turn)) w (mote_of x.event) (does w x.event) x.cut (host a v) (host b u) → frame ≡ turn_frame turn → end ≡ start ++ filter (is_told loud) (turn_lines (mote_of x.event) turn)
+    → Stepped (Ok frame) w x loud (station a v start) (station b u end)
 step_turn w x loud v u frame (Refused why) a b start end known stands p sends told =
     record { ends = refused_done w x loud v u frame why a b start end known stands p.ends.0 p.ends.1 p.ends.2 sends told; endures = p.endures; count = p.count }
 step_turn w x loud v u frame Rests a b start end known stands p sends told = record { ends = whole_done w x loud u frame Rests b start end p.ends sends told; endures = p.endures; count = p.count }
@@ -196,53 +198,53 @@ cut_itself : (cut : Option PowerCut) → IfSome cut (λ c. before_cut cut ≤ c.
 cut_itself None = tt
 cut_itself (Some c) = omega arith
 
-pub step_cut : {T : Type 0} (w : RuleWorld) (x : Step) (loud : Bool) (v u : Option RunningMote) (before : Option Shown) (q : Result T Fault) (y : T) (a b c : Device) (start mid end : List Report) → (p : EventPlayed (Ok (Cut before)) w (mote_of x.event) (does w x.event) x.cut v u a b)
-    → q ≡ Ok y → CutTold q (mote_of x.event) before p.ends.leaves.store b c start mid → end ≡ mid ++ Off (mote_of x.event) ∷ [] → Stepped (Ok None) w x loud None a c start end
+pub step_cut : {T : Type 0} (w : RuleWorld) (x : Step) (loud : Bool) (v u : Option RunningMote) (before : Option Shown) (q : Result T Fault) (y : T) (a b c : Device) (start mid end : List Report) → (p : EventPlayed (Ok (Cut before)) w (mote_of x.event) (does w x.event) x.cut (host a v) (host b u))
+    → q ≡ Ok y → ReadAndTold q (mote_of x.event) before p.ends.leaves.store b c start mid → end ≡ mid ++ Off (mote_of x.event) ∷ [] → Stepped (Ok None) w x loud (station a v start) (station c None end)
 step_cut {T} w x loud v u before q y a b c start mid end p is told off =
-    let l : CutTold (Ok y) (mote_of x.event) before p.ends.leaves.store b c start mid = subst (λ (z : Result T Fault). CutTold z (mote_of x.event) before p.ends.leaves.store b c start mid) is told in
+    let l : ReadAndTold (Ok y) (mote_of x.event) before p.ends.leaves.store b c start mid = subst (λ (z : Result T Fault). ReadAndTold z (mote_of x.event) before p.ends.leaves.store b c start mid) is told in
     record {
-      ends = cut_done w x loud before b c start mid end p.ends l.0 off l.1.same_image;
-      endures = Endures_then (beneath_of a) (beneath_of b) (beneath_of c) p.endures l.1.endures;
-      count = l.2 ∙ p.count;
+      ends = cut_done w x loud before b c start mid end p.ends l.0 off l.1.0.same_image;
+      endures = Endures_then (beneath_of a) (beneath_of b) (beneath_of c) p.endures l.1.0.endures;
+      count = l.1.1 ∙ p.count;
     }
 
-cut_halts : (T : Type 0) (f : Fault) (w : RuleWorld) (x : Step) (loud : Bool) (v u o : Option RunningMote) (before k : Option Shown) (a b c : Device) (start end : List Report) → (p : EventPlayed (Ok (Cut before)) w (mote_of x.event) (does w x.event) x.cut v u a b)
-    → CutTold {T = T} (Err f) (mote_of x.event) before p.ends.leaves.store b c start end → Stepped (Err (halt_of f k)) w x loud o a c start end
+cut_halts : (T : Type 0) (f : Fault) (w : RuleWorld) (x : Step) (loud : Bool) (v u o : Option RunningMote) (before k : Option Shown) (a b c : Device) (start end : List Report) → (p : EventPlayed (Ok (Cut before)) w (mote_of x.event) (does w x.event) x.cut (host a v) (host b u))
+    → ReadAndTold {T = T} (Err f) (mote_of x.event) before p.ends.leaves.store b c start end → Stepped (Err (halt_of f k)) w x loud (station a v start) (station c o end)
 cut_halts T fault.Stopped w x loud v u o before k a b c start end p lines = record {
   ends = (
     record {
-      stopped = lines.0;
+      stopped = lines.1.0;
       done = before_cut x.cut;
       within = cut_within x.cut p.ends.deed (does w x.event) (store_at w (mote_of x.event)) p.ends.goes p.ends.blown;
       uncut = cut_itself x.cut;
-      leaves = subst (λ i. MayLeave Stands IsNear (trail_of (does w x.event) (store_at w (mote_of x.event))) (before_cut x.cut) i) (sym lines.1.same_image)
+      leaves = subst (λ i. MayLeave Stands IsNear (trail_of (does w x.event) (store_at w (mote_of x.event))) (before_cut x.cut) i) (sym lines.1.1.same_image)
           (subst (λ (y : Does). MayLeave Stands IsNear (trail_of y (store_at w (mote_of x.event))) (before_cut x.cut) b.image) (sym p.ends.goes) p.ends.leaves);
     },
-    lines.2,
+    lines.0,
   );
-  endures = Endures_then (beneath_of a) (beneath_of b) (beneath_of c) p.endures lines.1.endures;
+  endures = Endures_then (beneath_of a) (beneath_of b) (beneath_of c) p.endures lines.1.1.endures;
   count = tt;
 }
-cut_halts T fault.NotAVolume w x loud v u o before k a b c start end p lines = absurd lines
-cut_halts T fault.NoImage w x loud v u o before k a b c start end p lines = absurd lines
+cut_halts T fault.NotAVolume w x loud v u o before k a b c start end p lines = absurd lines.0
+cut_halts T fault.NoImage w x loud v u o before k a b c start end p lines = absurd lines.0
 
 pub step_cut_halts : {T : Type 0} (r : Result (Unit {0}) Fault) (q : Result T Fault) (t : Telling) (f : Fault) (w : RuleWorld) (x : Step) (loud : Bool) (v u o : Option RunningMote) (before : Option Shown) (a b c : Device) (start end : List Report) → IsErrAnd r (λ e. e ≡ f) → q ≡ Err f
-    → (p : EventPlayed (Ok (Cut before)) w (mote_of x.event) (does w x.event) x.cut v u a b) → CutTold q (mote_of x.event) before p.ends.leaves.store b c start end → Stepped (stepped r t) w x loud o a c start end
+    → (p : EventPlayed (Ok (Cut before)) w (mote_of x.event) (does w x.event) x.cut (host a v) (host b u)) → ReadAndTold q (mote_of x.event) before p.ends.leaves.store b c start end → Stepped (stepped r t) w x loud (station a v start) (station c o end)
 step_cut_halts {T} (Ok y) q t f w x loud v u o before a b c start end is e p lines = absurd is
 step_cut_halts {T} (Err y) q t f w x loud v u o before a b c start end is e p lines =
-    let P : Fault → Type 0 = λ z. Stepped (Err (halt_of z t.before)) w x loud o a c start end in
-    subst P (sym is) (cut_halts T f w x loud v u o before t.before a b c start end p (subst (λ (z : Result T Fault). CutTold z (mote_of x.event) before p.ends.leaves.store b c start end) e lines))
+    let P : Fault → Type 0 = λ z. Stepped (Err (halt_of z t.before)) w x loud (station a v start) (station c o end) in
+    subst P (sym is) (cut_halts T f w x loud v u o before t.before a b c start end p (subst (λ (z : Result T Fault). ReadAndTold z (mote_of x.event) before p.ends.leaves.store b c start end) e lines))
 
-pub step_halts : (h : Halt) (w : RuleWorld) (x : Step) (loud : Bool) (v u : Option RunningMote) (a b : Device) (told : List Report) → EventPlayed (Err h) w (mote_of x.event) (does w x.event) x.cut v u a b → Stepped (Err h) w x loud u a b told told
+pub step_halts : (h : Halt) (w : RuleWorld) (x : Step) (loud : Bool) (v u : Option RunningMote) (a b : Device) (told : List Report) → EventPlayed (Err h) w (mote_of x.event) (does w x.event) x.cut (host a v) (host b u) → Stepped (Err h) w x loud (station a v told) (station b u told)
 step_halts (Stopped k) w x loud v u a b told p = record { ends = (p.ends, refl); endures = p.endures; count = tt }
 step_halts NotAVolume w x loud v u a b told p = absurd p.ends
 step_halts NoImage w x loud v u a b told p = record { ends = (p.ends, refl); endures = p.endures; count = p.count }
 
 pub step_fails : (r : Result (Unit {0}) Fault) (f : Fault) (t : Telling) (w : RuleWorld) (x : Step) (loud : Bool) (v u : Option RunningMote) (a b : Device) (told : List Report) → IsErrAnd r (λ e. e ≡ f)
-    → EventPlayed (Err (halt_of f t.before)) w (mote_of x.event) (does w x.event) x.cut v u a b → Stepped (stepped r t) w x loud u a b told told
+    → EventPlayed (Err (halt_of f t.before)) w (mote_of x.event) (does w x.event) x.cut (host a v) (host b u) → Stepped (stepped r t) w x loud (station a v told) (station b u told)
 step_fails (Ok y) f t w x loud v u a b told is p = absurd is
 step_fails (Err e) f t w x loud v u a b told is p =
-    let P : Fault → Type 0 = λ z. Stepped (Err (halt_of z t.before)) w x loud u a b told told in
+    let P : Fault → Type 0 = λ z. Stepped (Err (halt_of z t.before)) w x loud (station a v told) (station b u told) in
     subst P (sym is) (step_halts (halt_of f t.before) w x loud v u a b told p)
 
 -- the mote of a step that fits is one of the world
@@ -255,5 +257,5 @@ event_mote motes (Reset m dt word) fits = fits
 event_mote motes (Inject m image version dt word) fits = fits.0
 event_mote motes (OrderEvent m number image version dt word) fits = fits.0
 
-pub told_at : {T : Type 0} (r : Result T Fault) (m n : ℕ) (before : Option Shown) (s : Store) (a b : Device) (start end : List Report) → m ≡ n → CutTold r m before s a b start end → CutTold r n before s a b start end
-told_at r m n before s a b start end e told = subst (λ (k : ℕ). CutTold r k before s a b start end) e told
+pub told_at : {T : Type 0} (r : Result T Fault) (m n : ℕ) (before : Option Shown) (s : Store) (a b : Device) (start end : List Report) → m ≡ n → ReadAndTold r m before s a b start end → ReadAndTold r n before s a b start end
+told_at r m n before s a b start end e told = subst (λ (k : ℕ). ReadAndTold r k before s a b start end) e told

@@ -21,6 +21,7 @@ use Rattle.dg_script.specs.declared.report.Cause.TheVariants as cause
 use Rattle.dg_world.specs.Shareds.{IsShared}
 use Rattle.dg_world.specs.Worlds.{MoteStands, SiteStands}
 use Rattle.dg_world.specs.Turns.{TurnEnds}
+use Rattle.dg_world.specs.Hosts.{host}
 use Rattle.dg_world.specs.declared.starting.Begun.{Begun}
 use Rattle.dg_world.specs.Occasions.{HappensIn}
 use Rattle.dg_world.specs.declared.occasion.Occasion.{Occasion}
@@ -29,26 +30,26 @@ use Rattle.dg_world.specs.Turn.{EventTurn, Refused, Starts, Halt}
 
 -- what `happen` ensures
 abbrev pub Happens : Result EventTurn Halt → RuleWorld → Occasion → (v u : Option RunningMote) → Device → Device → Event → Type 0
-Happens r w o v u a b event = HappensIn o w event a v → TurnEnds r w (mote_of event) (does w event) v u a b
+Happens r w o v u a b event = HappensIn o w event a v → TurnEnds r w (mote_of event) (does w event) (host a v) (host b u)
 
 module _ (r : Result EventTurn Halt) (w : RuleWorld) (o : Occasion) (v u : Option RunningMote) (a b : Device) where
   -- at the mote and the moment of the event
   placed : (m moment : ℕ) (D : ℕ → ℕ → Does) → o.mote ≡ m → o.moment ≡ moment
-      → (SiteStands a v (site w o.mote) → TurnEnds r w o.mote (D o.mote o.moment) v u a b) → SiteStands a v (site w m) → TurnEnds r w m (D m moment) v u a b
+      → (SiteStands a v (site w o.mote) → TurnEnds r w o.mote (D o.mote o.moment) (host a v) (host b u)) → SiteStands a v (site w m) → TurnEnds r w m (D m moment) (host a v) (host b u)
   placed m moment D here at ends =
-      subst (λ (k : ℕ). SiteStands a v (site w k) → TurnEnds r w k (D k moment) v u a b) here
-      (subst (λ (n : ℕ). SiteStands a v (site w o.mote) → TurnEnds r w o.mote (D o.mote n) v u a b) at ends)
+      subst (λ (k : ℕ). SiteStands a v (site w k) → TurnEnds r w k (D k moment) (host a v) (host b u)) here
+      (subst (λ (n : ℕ). SiteStands a v (site w o.mote) → TurnEnds r w o.mote (D o.mote n) (host a v) (host b u)) at ends)
 
   -- at the moment of the event
-  at_moment : (m : ℕ) (D : ℕ → Does) (moment : ℕ) → o.moment ≡ moment → TurnEnds r w m (D o.moment) v u a b → TurnEnds r w m (D moment) v u a b
-  at_moment m D moment e ends = subst (λ (n : ℕ). TurnEnds r w m (D n) v u a b) e ends
+  at_moment : (m : ℕ) (D : ℕ → Does) (moment : ℕ) → o.moment ≡ moment → TurnEnds r w m (D o.moment) (host a v) (host b u) → TurnEnds r w m (D moment) (host a v) (host b u)
+  at_moment m D moment e ends = subst (λ (n : ℕ). TurnEnds r w m (D n) (host a v) (host b u)) e ends
 
-  pub tick_happens : (m dt word : ℕ) → (SiteStands a v (site w m) → TurnEnds r w m (tick_does w (store_at w m) (site w m).runs o.moment word) v u a b) → Happens r w o v u a b (Tick m dt word)
+  pub tick_happens : (m dt word : ℕ) → (SiteStands a v (site w m) → TurnEnds r w m (tick_does w (store_at w m) (site w m).runs o.moment word) (host a v) (host b u)) → Happens r w o v u a b (Tick m dt word)
   unfolding does
   tick_happens m dt word ends = λ on. at_moment m (λ n. tick_does w (store_at w m) (site w m).runs n word) _ on.moment (ends on.stands)
 
   pub hear_happens : (m dt word number : ℕ) → o.mote ≡ m
-      → (IsShared o.shared.now w → SiteStands a v (site w o.mote) → TurnEnds r w o.mote (unless_off (site w o.mote).runs (heard_sent w o.mote o.moment word (frame_at w number))) v u a b)
+      → (IsShared o.shared.now w → SiteStands a v (site w o.mote) → TurnEnds r w o.mote (unless_off (site w o.mote).runs (heard_sent w o.mote o.moment word (frame_at w number))) (host a v) (host b u))
       → Happens r w o v u a b (Hear m dt word number)
   unfolding does
   hear_happens m dt word number here ends = λ on.
@@ -56,26 +57,26 @@ module _ (r : Result EventTurn Halt) (w : RuleWorld) (o : Occasion) (v u : Optio
 
   pub last_happens : (from to dt word : ℕ) → o.mote ≡ to
       → (IsShared o.shared.now w → SiteStands a v (site w o.mote)
-      → TurnEnds r w o.mote (unless_off (site w o.mote).runs (if linked w from o.mote then heard_last w from o.mote o.moment word (last_frame w from) else Refuses cause.Link)) v u a b)
+      → TurnEnds r w o.mote (unless_off (site w o.mote).runs (if linked w from o.mote then heard_last w from o.mote o.moment word (last_frame w from) else Refuses cause.Link)) (host a v) (host b u))
       → Happens r w o v u a b (Last from to dt word)
   unfolding does
   last_happens from to dt word here ends = λ on.
       placed to _ (λ k n. unless_off (site w k).runs (if linked w from k then heard_last w from k n word (last_frame w from) else Refuses cause.Link)) here on.moment (ends on.shared) on.stands
 
-  pub frame_happens : (m dt word : ℕ) (bytes : List ℕ) → (SiteStands a v (site w m) → TurnEnds r w m (hear_by w (store_at w m) (site w m).runs o.moment word bytes) v u a b) → Happens r w o v u a b (Frame m dt word bytes)
+  pub frame_happens : (m dt word : ℕ) (bytes : List ℕ) → (SiteStands a v (site w m) → TurnEnds r w m (hear_by w (store_at w m) (site w m).runs o.moment word bytes) (host a v) (host b u)) → Happens r w o v u a b (Frame m dt word bytes)
   unfolding does
   frame_happens m dt word bytes ends = λ on. at_moment m (λ n. hear_by w (store_at w m) (site w m).runs n word bytes) _ on.moment (ends on.stands)
 
   pub reset_happens : (m dt word : ℕ) → o.mote ≡ m
       → (IsShared o.shared.now w → Stands a.image (store_at w o.mote)
-      → TurnEnds r w o.mote (of_effect w (reset_effect (store_at w o.mote) o.mote (wide_at w o.mote) o.moment word) None) v u a b)
+      → TurnEnds r w o.mote (of_effect w (reset_effect (store_at w o.mote) o.mote (wide_at w o.mote) o.moment word) None) (host a v) (host b u))
       → Happens r w o v u a b (Reset m dt word)
   unfolding does
   reset_happens m dt word here ends = λ on.
       placed m _ (λ k n. of_effect w (reset_effect (store_at w k) k (wide_at w k) n word) None) here on.moment (λ stands. ends on.shared stands.stands) on.stands
 
   pub inject_happens : (m image version dt word : ℕ) → o.mote ≡ m
-      → (IsShared o.shared.now w → SiteStands a v (site w o.mote) → TurnEnds r w o.mote (if knows (wide_at w o.mote) image then injects w o.mote image version o.moment word else Refuses cause.Image) v u a b)
+      → (IsShared o.shared.now w → SiteStands a v (site w o.mote) → TurnEnds r w o.mote (if knows (wide_at w o.mote) image then injects w o.mote image version o.moment word else Refuses cause.Image) (host a v) (host b u))
       → Happens r w o v u a b (Inject m image version dt word)
   unfolding does
   inject_happens m image version dt word here ends = λ on.
@@ -83,7 +84,7 @@ module _ (r : Result EventTurn Halt) (w : RuleWorld) (o : Occasion) (v u : Optio
 
   pub order_happens : (m number image version dt word : ℕ) → o.mote ≡ m
       → (let order : Order = record { number = number; image = image; version = version } in
-      IsShared o.shared.now w → SiteStands a v (site w o.mote) → TurnEnds r w o.mote (if knows (wide_at w o.mote) image then orders w o.mote order o.moment word else Refuses cause.Image) v u a b)
+      IsShared o.shared.now w → SiteStands a v (site w o.mote) → TurnEnds r w o.mote (if knows (wide_at w o.mote) image then orders w o.mote order o.moment word else Refuses cause.Image) (host a v) (host b u))
       → Happens r w o v u a b (OrderEvent m number image version dt word)
   unfolding does
   order_happens m number image version dt word here ends = λ on.
@@ -91,8 +92,8 @@ module _ (r : Result EventTurn Halt) (w : RuleWorld) (o : Occasion) (v u : Optio
       placed m _ (λ k n. if knows (wide_at w k) image then orders w k order n word else Refuses cause.Image) here on.moment (ends on.shared) on.stands
 
   -- a mote that is on does what is asked of it
-  pub not_off : (m : ℕ) (D : Does) (c : List ℕ) (s : Store) (y : Option Running) → MoteStands c v s y → is_none v ≡ false → TurnEnds r w m D v u a b → TurnEnds r w m (unless_off y D) v u a b
-  not_off m D c s y stands on ends = subst (λ (x : Does). TurnEnds r w m x v u a b) (sym (is_on v y stands on)) ends
+  pub not_off : (m : ℕ) (D : Does) (c : List ℕ) (s : Store) (y : Option Running) → MoteStands c v s y → is_none v ≡ false → TurnEnds r w m D (host a v) (host b u) → TurnEnds r w m (unless_off y D) (host a v) (host b u)
+  not_off m D c s y stands on ends = subst (λ (x : Does). TurnEnds r w m x (host a v) (host b u)) (sym (is_on v y stands on)) ends
     where
       is_on : (x : Option RunningMote) (y : Option Running) → MoteStands c x s y → is_none x ≡ false → unless_off y D ≡ D
       is_on None y stands on = absurd cc
@@ -100,29 +101,29 @@ module _ (r : Result EventTurn Halt) (w : RuleWorld) (o : Occasion) (v u : Optio
       is_on (Some x) (Some y) stands on = refl
 
 -- one that is off refuses it
-pub is_off : (w : RuleWorld) (m : ℕ) (D : Does) (v : Option RunningMote) (c : List ℕ) (s : Store) (o : Option Running) (a : Device) → MoteStands c v s o → is_none v ≡ true → Looked a a → TurnEnds (Ok (Refused cause.Off)) w m (unless_off o D) v v a a
+pub is_off : (w : RuleWorld) (m : ℕ) (D : Does) (v : Option RunningMote) (c : List ℕ) (s : Store) (o : Option Running) (a : Device) → MoteStands c v s o → is_none v ≡ true → Looked a a → TurnEnds (Ok (Refused cause.Off)) w m (unless_off o D) (host a v) (host a v)
 is_off w m D None c s None a stands off looked = (refl, looked, refl)
 is_off w m D None c s (Some r) a stands off looked = absurd stands
 is_off w m D (Some v) c s o a stands off looked = absurd cc
 
 -- which frame is heard
-pub refuses_at : {A : Type 0} (D : A → Does) (x y : A) (why : Cause) (w : RuleWorld) (m : ℕ) (v : Option RunningMote) (a : Device) → x ≡ y → D y ≡ Refuses why → Looked a a → TurnEnds (Ok (Refused why)) w m (D x) v v a a
+pub refuses_at : {A : Type 0} (D : A → Does) (x y : A) (why : Cause) (w : RuleWorld) (m : ℕ) (v : Option RunningMote) (a : Device) → x ≡ y → D y ≡ Refuses why → Looked a a → TurnEnds (Ok (Refused why)) w m (D x) (host a v) (host a v)
 refuses_at D x y why w m v a e is looked = (ap D e ∙ is, looked, refl)
 
-pub ends_at : {A : Type 0} (D : A → Does) (x y : A) (r : Result EventTurn Halt) (w : RuleWorld) (m : ℕ) (v u : Option RunningMote) (a b : Device) → x ≡ y → TurnEnds r w m (D y) v u a b → TurnEnds r w m (D x) v u a b
-ends_at D x y r w m v u a b e ends = subst (λ z. TurnEnds r w m (D z) v u a b) (sym e) ends
+pub ends_at : {A : Type 0} (D : A → Does) (x y : A) (r : Result EventTurn Halt) (w : RuleWorld) (m : ℕ) (v u : Option RunningMote) (a b : Device) → x ≡ y → TurnEnds r w m (D y) (host a v) (host b u) → TurnEnds r w m (D x) (host a v) (host b u)
+ends_at D x y r w m v u a b e ends = subst (λ z. TurnEnds r w m (D z) (host a v) (host b u)) (sym e) ends
 
 -- ---- starts by power
 
-pub reset_starts : (x : Begun) (w : RuleWorld) (m id : ℕ) (wide : Bool) (now word : ℕ) (v : Option RunningMote) (a b : Device) → m ≡ id → TurnEnds (Ok (Starts x.line)) w m (of_effect w (boots kind.Power (store_at w m) id wide now word) None) v (Some x.running) a b
-    → TurnEnds (Ok (Starts x.line)) w m (of_effect w (reset_effect (store_at w m) m wide now word) None) v (Some x.running) a b
+pub reset_starts : (x : Begun) (w : RuleWorld) (m id : ℕ) (wide : Bool) (now word : ℕ) (v : Option RunningMote) (a b : Device) → m ≡ id → TurnEnds (Ok (Starts x.line)) w m (of_effect w (boots kind.Power (store_at w m) id wide now word) None) (host a v) (host b (Some x.running))
+    → TurnEnds (Ok (Starts x.line)) w m (of_effect w (reset_effect (store_at w m) m wide now word) None) (host a v) (host b (Some x.running))
 unfolding reset_effect
-reset_starts x w m id wide now word v a b at ends = subst (λ (n : ℕ). TurnEnds (Ok (Starts x.line)) w m (of_effect w (boots kind.Power (store_at w m) n wide now word) None) v (Some x.running) a b) (sym at) ends
+reset_starts x w m id wide now word v a b at ends = subst (λ (n : ℕ). TurnEnds (Ok (Starts x.line)) w m (of_effect w (boots kind.Power (store_at w m) n wide now word) None) (host a v) (host b (Some x.running))) (sym at) ends
 
-pub reset_halts : (h : Halt) (w : RuleWorld) (m id : ℕ) (wide : Bool) (now word : ℕ) (v u : Option RunningMote) (a b : Device) → m ≡ id → TurnEnds (Err h) w m (of_effect w (boots kind.Power (store_at w m) id wide now word) None) v u a b
-    → TurnEnds (Err h) w m (of_effect w (reset_effect (store_at w m) m wide now word) None) v u a b
+pub reset_halts : (h : Halt) (w : RuleWorld) (m id : ℕ) (wide : Bool) (now word : ℕ) (v u : Option RunningMote) (a b : Device) → m ≡ id → TurnEnds (Err h) w m (of_effect w (boots kind.Power (store_at w m) id wide now word) None) (host a v) (host b u)
+    → TurnEnds (Err h) w m (of_effect w (reset_effect (store_at w m) m wide now word) None) (host a v) (host b u)
 unfolding reset_effect
-reset_halts h w m id wide now word v u a b at ends = subst (λ (n : ℕ). TurnEnds (Err h) w m (of_effect w (boots kind.Power (store_at w m) n wide now word) None) v u a b) (sym at) ends
+reset_halts h w m id wide now word v u a b at ends = subst (λ (n : ℕ). TurnEnds (Err h) w m (of_effect w (boots kind.Power (store_at w m) n wide now word) None) (host a v) (host b u)) (sym at) ends
 
 -- ---- reloading
 
@@ -145,11 +146,11 @@ none_told o result b told is = ap not told ∙ twice result ∙ is
 -- ---- images that a narrow mote does not know
 
 -- what it knows is done, and all else refused
-pub known_ends : (D : Does) (r : Result EventTurn Halt) (w : RuleWorld) (m : ℕ) (v u : Option RunningMote) (a b : Device) (x known : Bool) → x ≡ known → known ≡ true → TurnEnds r w m D v u a b
-    → TurnEnds r w m (if x then D else Refuses cause.Image) v u a b
-known_ends D r w m v u a b x known same is ends = subst (λ (y : Bool). TurnEnds r w m (if y then D else Refuses cause.Image) v u a b) (sym (same ∙ is)) ends
+pub known_ends : (D : Does) (r : Result EventTurn Halt) (w : RuleWorld) (m : ℕ) (v u : Option RunningMote) (a b : Device) (x known : Bool) → x ≡ known → known ≡ true → TurnEnds r w m D (host a v) (host b u)
+    → TurnEnds r w m (if x then D else Refuses cause.Image) (host a v) (host b u)
+known_ends D r w m v u a b x known same is ends = subst (λ (y : Bool). TurnEnds r w m (if y then D else Refuses cause.Image) (host a v) (host b u)) (sym (same ∙ is)) ends
 
-pub unknown_ends : (D : Does) (w : RuleWorld) (m : ℕ) (v : Option RunningMote) (a : Device) (x known : Bool) → x ≡ known → known ≡ false → Looked a a → TurnEnds (Ok (Refused cause.Image)) w m (if x then D else Refuses cause.Image) v v a a
+pub unknown_ends : (D : Does) (w : RuleWorld) (m : ℕ) (v : Option RunningMote) (a : Device) (x known : Bool) → x ≡ known → known ≡ false → Looked a a → TurnEnds (Ok (Refused cause.Image)) w m (if x then D else Refuses cause.Image) (host a v) (host a v)
 unknown_ends D w m v a x known same is looked = (ap (λ (y : Bool). if y then D else Refuses cause.Image) (same ∙ is), looked, refl)
 
 -- which images a mote knows, by its width

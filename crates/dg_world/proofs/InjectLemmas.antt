@@ -29,6 +29,7 @@ use Rattle.dg_script.specs.declared.report.Cause.TheVariants as cause
 use Rattle.dg_world.specs.Shown.{Shows}
 use Rattle.dg_world.specs.Worlds.{MoteStands}
 use Rattle.dg_world.specs.Turns.{DeedWent, TurnEnds}
+use Rattle.dg_world.specs.Hosts.{host}
 use Rattle.dg_world.specs.declared.shown.Shown.{Shown}
 use Rattle.dg_world.specs.declared.world.RunningMote.{RunningMote}
 use Rattle.dg_world.proofs.ShownLemmas.{changes_told}
@@ -58,7 +59,7 @@ acts_went w m now word t table v u a b before after acted shows after_shows mote
   };
 }
 
-stopped_with : (w : RuleWorld) (m : ℕ) (does : Does) (v u : Option RunningMote) (a b : Device) (before : Shown) → Stops (trail_of does (store_at w m)) a b → Shows before (store_at w m) → TurnEnds (Err (Stopped (Some before))) w m does v u a b
+stopped_with : (w : RuleWorld) (m : ℕ) (does : Does) (v u : Option RunningMote) (a b : Device) (before : Shown) → Stops (trail_of does (store_at w m)) a b → Shows before (store_at w m) → TurnEnds (Err (Stopped (Some before))) w m does (host a v) (host b u)
 stopped_with w m does v u a b before stops shows = record { stops = stops; shows = λ whole blown. shows }
 
 same_device : (a b : Device) → b ≡ a → Looked a b
@@ -72,19 +73,19 @@ order_begins w m now word o (Some e) = begins_resting (store_at w m) 0
 
 pub ordered : (w : RuleWorld) (m now word : ℕ) (o : Order) (v : Volume) (p u : Option RunningMote) (a b c : Device) (before after : Shown) (refusal : Option OrderFault) → refusal ≡ None → Looked a b → Acted (order_trail (store_at w m) o) b c v
     → Shows before (store_at w m) → Shows after (last (order_trail (store_at w m) o)) → MoteStands c.image u (last (order_trail (store_at w m) o)) (reloaded (site w m).runs now word)
-    → TurnEnds (Ok (Changes before after)) w m (order_unless refusal w m o now word) p u a c
+    → TurnEnds (Ok (Changes before after)) w m (order_unless refusal w m o now word) (host a p) (host c u)
 ordered w m now word o v p u a b c before after refusal none looked acted shows after_shows mote =
-    subst (λ (x : Option OrderFault). TurnEnds (Ok (Changes before after)) w m (order_unless x w m o now word) p u a c) (sym none)
+    subst (λ (x : Option OrderFault). TurnEnds (Ok (Changes before after)) w m (order_unless x w m o now word) (host a p) (host c u)) (sym none)
     (turn_after (Ok (Changes before after)) w m (order_unless None w m o now word) p u a b c looked (acts_went w m now word (order_trail (store_at w m) o) w.table v u b c before after acted shows after_shows mote))
 
 pub order_stopped : (w : RuleWorld) (m now word : ℕ) (o : Order) (p u : Option RunningMote) (a b c : Device) (before : Shown) (refusal : Option OrderFault) → refusal ≡ None → Looked a b → Stops (order_trail (store_at w m) o) b c
-    → Shows before (store_at w m) → TurnEnds (Err (Stopped (Some before))) w m (order_unless refusal w m o now word) p u a c
+    → Shows before (store_at w m) → TurnEnds (Err (Stopped (Some before))) w m (order_unless refusal w m o now word) (host a p) (host c u)
 order_stopped w m now word o p u a b c before refusal none looked stops shows =
-    subst (λ (x : Option OrderFault). TurnEnds (Err (Stopped (Some before))) w m (order_unless x w m o now word) p u a c) (sym none)
+    subst (λ (x : Option OrderFault). TurnEnds (Err (Stopped (Some before))) w m (order_unless x w m o now word) (host a p) (host c u)) (sym none)
     (turn_after (Err (Stopped (Some before))) w m (order_unless None w m o now word) p u a b c looked (stopped_with w m (order_unless None w m o now word) p u b c before stops shows))
 
 pub order_refused : (w : RuleWorld) (m now word : ℕ) (o : Order) (p : Option RunningMote) (a b c : Device) (refusal : Option OrderFault) (e : OrderFault) (why : Cause) → refusal ≡ Some e → why ≡ order_cause e → Looked a b → c ≡ b
-    → TurnEnds (Ok (Refused why)) w m (order_unless refusal w m o now word) p p a c
+    → TurnEnds (Ok (Refused why)) w m (order_unless refusal w m o now word) (host a p) (host c p)
 order_refused w m now word o p a b c refusal e why some told looked same =
     turn_after (Ok (Refused why)) w m (order_unless refusal w m o now word) p p a b c looked
     (ap (λ (x : Option OrderFault). order_unless x w m o now word) some ∙ ap Refuses (sym told), same_device b c same, refl)
@@ -100,9 +101,9 @@ inject_begun w m now word row = injects_begin w m now word row (inject_refusal (
 
 pub injected : (w : RuleWorld) (m now word : ℕ) (row : Row) (v : Volume) (p u : Option RunningMote) (a b c : Device) (before after : Shown) (refusal : Option InjectFault) → refusal ≡ None → Looked a b → Acted (inject_trail (store_at w m) row) b c v
     → Shows before (store_at w m) → Shows after (last (inject_trail (store_at w m) row)) → MoteStands c.image u (last (inject_trail (store_at w m) row)) (reloaded (site w m).runs now word)
-    → TurnEnds (Ok (Changes before after)) w m (inject_unless refusal w m row now word) p u a c
+    → TurnEnds (Ok (Changes before after)) w m (inject_unless refusal w m row now word) (host a p) (host c u)
 injected w m now word row v p u a b c before after refusal none looked acted shows after_shows mote =
-    subst (λ (x : Option InjectFault). TurnEnds (Ok (Changes before after)) w m (inject_unless x w m row now word) p u a c) (sym none)
+    subst (λ (x : Option InjectFault). TurnEnds (Ok (Changes before after)) w m (inject_unless x w m row now word) (host a p) (host c u)) (sym none)
     (turn_after (Ok (Changes before after)) w m (inject_unless None w m row now word) p u a b c looked (acts_went w m now word (inject_trail (store_at w m) row) (with_row w.table row) v u b c before after acted shows after_shows mote))
 
 refused_trail : (s : Store) (row : Row) (e : InjectFault) → inject_refusal s row ≡ Some e → inject_trail s row ≡ resting s 0
@@ -110,10 +111,10 @@ unfolding inject_trail
 refused_trail s row e is = ap (λ (x : Option InjectFault). inject_by x s row) is
 
 pub inject_stopped : (w : RuleWorld) (m now word : ℕ) (row : Row) (p u : Option RunningMote) (a b c : Device) (before : Shown) → (inject_refusal (store_at w m) row ≡ None) ⊎ (inject_refusal (store_at w m) row ≡ Some inject.Taken) → Looked a b
-    → Stops (inject_trail (store_at w m) row) b c → Shows before (store_at w m) → TurnEnds (Err (Stopped (Some before))) w m (inject_unless (inject_refusal (store_at w m) row) w m row now word) p u a c
+    → Stops (inject_trail (store_at w m) row) b c → Shows before (store_at w m) → TurnEnds (Err (Stopped (Some before))) w m (inject_unless (inject_refusal (store_at w m) row) w m row now word) (host a p) (host c u)
 inject_stopped w m now word row p u a b c before why looked stops shows =
     let s = store_at w m in
-    let P : Option InjectFault → Type 0 = λ x. TurnEnds (Err (Stopped (Some before))) w m (inject_unless x w m row now word) p u a c in
+    let P : Option InjectFault → Type 0 = λ x. TurnEnds (Err (Stopped (Some before))) w m (inject_unless x w m row now word) (host a p) (host c u) in
     ⊎_elim
     (λ none. subst P (sym none)
     (turn_after (Err (Stopped (Some before))) w m (inject_unless None w m row now word) p u a b c looked (stopped_with w m (inject_unless None w m row now word) p u b c before stops shows)))
@@ -133,7 +134,7 @@ looked_by (inject.Worn room) a b same looked = same_device a b (same (λ is. cc)
 looked_by inject.Taken a b same looked = looked refl
 
 pub inject_refused : (w : RuleWorld) (m now word : ℕ) (row : Row) (p : Option RunningMote) (a b c : Device) (refusal : Option InjectFault) (e : InjectFault) (why : Cause) → refusal ≡ Some e → why ≡ inject_cause row e → Looked a b
-    → (e ≢ inject.Taken → c ≡ b) → (e ≡ inject.Taken → Looked b c) → TurnEnds (Ok (Refused why)) w m (inject_unless refusal w m row now word) p p a c
+    → (e ≢ inject.Taken → c ≡ b) → (e ≡ inject.Taken → Looked b c) → TurnEnds (Ok (Refused why)) w m (inject_unless refusal w m row now word) (host a p) (host c p)
 inject_refused w m now word row p a b c refusal e why some told looked same taken =
     turn_after (Ok (Refused why)) w m (inject_unless refusal w m row now word) p p a b c looked
     (ap (λ (x : Option InjectFault). inject_unless x w m row now word) some ∙ ap Refuses (sym told), looked_by e b c same taken, refl)
@@ -186,10 +187,10 @@ pub inject_faulted : (w : RuleWorld) (m now word : ℕ) (row : Row) (p : Option 
     → (e ≡ inject.Stopped → r ≡ Err (Stopped (Some before))) → (e ≢ inject.Stopped → r ≡ Ok (Refused (inject_cause row e)))
     → UnlessInjectRefused {T = Injected} (Err e) (inject_refusal (store_at w m) row) → (e ≢ inject.Stopped → inject_refusal (store_at w m) row ≡ Some e) → Looked a b
     → (e ≢ inject.Stopped → e ≢ inject.Taken → c ≡ b) → (e ≡ inject.Taken → Looked b c) → (e ≡ inject.Stopped → Stops (inject_trail (store_at w m) row) b c) → Shows before (store_at w m)
-    → TurnEnds r w m (inject_unless (inject_refusal (store_at w m) row) w m row now word) p p a c
+    → TurnEnds r w m (inject_unless (inject_refusal (store_at w m) row) w m row now word) (host a p) (host c p)
 inject_faulted w m now word row p a b c before e r stopped refused allowed some looked same taken stops shows =
     let does = inject_unless (inject_refusal (store_at w m) row) w m row now word in
-    let P : Result EventTurn Halt → Type 0 = λ x. TurnEnds x w m does p p a c in
+    let P : Result EventTurn Halt → Type 0 = λ x. TurnEnds x w m does (host a p) (host c p) in
     ⊎_elim
     (λ is. subst P (sym (stopped is)) (inject_stopped w m now word row p p a b c before (inject_not_refused e (inject_refusal (store_at w m) row) is allowed) looked (stops is) shows))
     (λ other. subst P (sym (refused other)) (inject_refused w m now word row p a b c (inject_refusal (store_at w m) row) e (inject_cause row e) (some other) refl looked (same other) taken))
@@ -197,9 +198,9 @@ inject_faulted w m now word row p a b c before e r stopped refused allowed some 
 
 -- which injection an event is
 pub known_image : (r : Result EventTurn Halt) (w : RuleWorld) (m now word : ℕ) (image : ℕ) (known : Option Row) (row : Row) (v u : Option RunningMote) (a b : Device) → (image == 0) ≡ false → known ≡ Some row
-    → TurnEnds r w m (inject_row w m (Some row) now word) v u a b → TurnEnds r w m (if image == 0 then Refuses cause.Reserved else inject_row w m known now word) v u a b
+    → TurnEnds r w m (inject_row w m (Some row) now word) (host a v) (host b u) → TurnEnds r w m (if image == 0 then Refuses cause.Reserved else inject_row w m known now word) (host a v) (host b u)
 known_image r w m now word image known row v u a b other some ends =
-    let P : Bool → Option Row → Type 0 = λ x o. TurnEnds r w m (if x then Refuses cause.Reserved else inject_row w m o now word) v u a b in
+    let P : Bool → Option Row → Type 0 = λ x o. TurnEnds r w m (if x then Refuses cause.Reserved else inject_row w m o now word) (host a v) (host b u) in
     subst (λ (x : Bool). P x known) (sym other) (subst (P false) (sym some) ends)
 
 pub order_is_stopped : (e : OrderFault) → (e ≡ order_fault.Stopped) ⊎ (e ≢ order_fault.Stopped)
@@ -212,10 +213,10 @@ pub order_faulted : (w : RuleWorld) (m now word : ℕ) (o : Order) (p : Option R
     → (e ≡ order_fault.Stopped → r ≡ Err (Stopped (Some before))) → (e ≢ order_fault.Stopped → r ≡ Ok (Refused (order_cause e)))
     → UnlessOrderRefused {T = Unit {0}} (Err e) (order_refusal (store_at w m) o) → (e ≢ order_fault.Stopped → order_refusal (store_at w m) o ≡ Some e) → Looked a b
     → (e ≢ order_fault.Stopped → c ≡ b) → (e ≡ order_fault.Stopped → Stops (order_trail (store_at w m) o) b c) → Shows before (store_at w m)
-    → TurnEnds r w m (order_unless (order_refusal (store_at w m) o) w m o now word) p p a c
+    → TurnEnds r w m (order_unless (order_refusal (store_at w m) o) w m o now word) (host a p) (host c p)
 order_faulted w m now word o p a b c before e r stopped refused allowed some looked same stops shows =
     let does = order_unless (order_refusal (store_at w m) o) w m o now word in
-    let P : Result EventTurn Halt → Type 0 = λ x. TurnEnds x w m does p p a c in
+    let P : Result EventTurn Halt → Type 0 = λ x. TurnEnds x w m does (host a p) (host c p) in
     ⊎_elim
     (λ is. subst P (sym (stopped is)) (order_stopped w m now word o p p a b c before (order_refusal (store_at w m) o) (order_not_refused e (order_refusal (store_at w m) o) is allowed) looked (stops is) shows))
     (λ other. subst P (sym (refused other)) (order_refused w m now word o p a b c (order_refusal (store_at w m) o) e (order_cause e) (some other) refl looked (same other)))

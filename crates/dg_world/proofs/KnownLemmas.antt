@@ -25,6 +25,7 @@ use Rattle.dg_world.specs.Worlds.{MoteStands}
 use Rattle.dg_world.specs.Turn.{EventTurn, Refused, Rests, Sends, Changes, Starts, Whole}
 use Rattle.dg_world.specs.Turns.{TurnEnds}
 use Rattle.dg_world.specs.Cuts.{PlayEnds, ended}
+use Rattle.dg_world.specs.Hosts.{host}
 use Rattle.dg_world.specs.Tellings.{turn_by, turn_of, halt_of, turned, ended_as}
 use Rattle.dg_world.specs.declared.shown.Shown.{Shown}
 use Rattle.dg_world.specs.declared.telling.StartLine.{StartLine}
@@ -184,11 +185,11 @@ module _ (w : RuleWorld) (known : Bool) (u : Option RunningMote) (c d : List ℕ
   cut_sees e None x = λ off. (λ is. absurd (x.0 is), x.1)
 
 -- which turn a refusal is
-pub turn_refused : (w : RuleWorld) (m : ℕ) (D : Does) (v u : Option RunningMote) (a b : Device) (turn : EventTurn) → TurnEnds (Ok turn) w m D v u a b → (why : Cause) → turn ≡ Refused why → D ≡ Refuses why
-turn_refused w m D v u a b turn ends why is = let x : TurnEnds (Ok (Refused why)) w m D v u a b = subst (λ (y : EventTurn). TurnEnds (Ok y) w m D v u a b) is ends in x.0
+pub turn_refused : (w : RuleWorld) (m : ℕ) (D : Does) (v u : Option RunningMote) (a b : Device) (turn : EventTurn) → TurnEnds (Ok turn) w m D (host a v) (host b u) → (why : Cause) → turn ≡ Refused why → D ≡ Refuses why
+turn_refused w m D v u a b turn ends why is = let x : TurnEnds (Ok (Refused why)) w m D (host a v) (host b u) = subst (λ (y : EventTurn). TurnEnds (Ok y) w m D (host a v) (host b u)) is ends in x.0
 
-pub play_refused : (w : RuleWorld) (m : ℕ) (D : Does) (cut : Option PowerCut) (v u : Option RunningMote) (a b : Device) (turn : EventTurn) → PlayEnds (Ok (Whole turn)) w m D cut v u a b → (why : Cause) → turn ≡ Refused why → D ≡ Refuses why
-play_refused w m D cut v u a b turn ends why is = let x : PlayEnds (Ok (Whole (Refused why))) w m D cut v u a b = subst (λ (y : EventTurn). PlayEnds (Ok (Whole y)) w m D cut v u a b) is ends in x.0
+pub play_refused : (w : RuleWorld) (m : ℕ) (D : Does) (cut : Option PowerCut) (v u : Option RunningMote) (a b : Device) (turn : EventTurn) → PlayEnds (Ok (Whole turn)) w m D cut (host a v) (host b u) → (why : Cause) → turn ≡ Refused why → D ≡ Refuses why
+play_refused w m D cut v u a b turn ends why is = let x : PlayEnds (Ok (Whole (Refused why))) w m D cut (host a v) (host b u) = subst (λ (y : EventTurn). PlayEnds (Ok (Whole y)) w m D cut (host a v) (host b u)) is ends in x.0
 
 pub refuses_goes : (A : Type 0) (D : Does) (why : Cause) → (d : Deed) → D ≡ Goes d → D ≡ Refuses why → A
 refuses_goes A D why d goes refuses = let e : Goes d ≡ Refuses why = sym goes ∙ refuses in absurd cc
@@ -196,14 +197,14 @@ refuses_goes A D why d goes refuses = let e : Goes d ≡ Refuses why = sym goes 
 same_refusal : (x y : Cause) → Refuses x ≡ Refuses y → x ≡ y
 same_refusal x y e = cc
 
-pub refused_turn : (w : RuleWorld) (m : ℕ) (D : Does) (v u : Option RunningMote) (a b : Device) (turn : EventTurn) → TurnEnds (Ok turn) w m D v u a b → (why : Cause) → D ≡ Refuses why → turn ≡ Refused why
+pub refused_turn : (w : RuleWorld) (m : ℕ) (D : Does) (v u : Option RunningMote) (a b : Device) (turn : EventTurn) → TurnEnds (Ok turn) w m D (host a v) (host b u) → (why : Cause) → D ≡ Refuses why → turn ≡ Refused why
 refused_turn w m D v u a b (Refused x) ends why is = ap Refused (same_refusal x why (sym ends.0 ∙ is))
 refused_turn w m D v u a b Rests ends why is = refuses_goes _ D why ends.deed ends.goes is
 refused_turn w m D v u a b (Sends bytes) ends why is = refuses_goes _ D why ends.deed ends.goes is
 refused_turn w m D v u a b (Changes p q) ends why is = refuses_goes _ D why ends.deed ends.goes is
 refused_turn w m D v u a b (Starts x) ends why is = refuses_goes _ D why ends.deed ends.goes is
 
-pub refused_play : (w : RuleWorld) (m : ℕ) (D : Does) (cut : Option PowerCut) (v u : Option RunningMote) (a b : Device) (turn : EventTurn) → PlayEnds (Ok (Whole turn)) w m D cut v u a b → (why : Cause) → D ≡ Refuses why → turn ≡ Refused why
+pub refused_play : (w : RuleWorld) (m : ℕ) (D : Does) (cut : Option PowerCut) (v u : Option RunningMote) (a b : Device) (turn : EventTurn) → PlayEnds (Ok (Whole turn)) w m D cut (host a v) (host b u) → (why : Cause) → D ≡ Refuses why → turn ≡ Refused why
 refused_play w m D cut v u a b (Refused x) ends why is = ap Refused (same_refusal x why (sym ends.0 ∙ is))
 refused_play w m D cut v u a b Rests ends why is = refuses_goes _ D why ends.deed ends.goes is
 refused_play w m D cut v u a b (Sends bytes) ends why is = refuses_goes _ D why ends.deed ends.goes is

@@ -35,8 +35,9 @@ use Rattle.dg_world.specs.Neighbours.{KnowsLinks}
 use Rattle.dg_world.specs.Worlds.{MoteStands, SiteStands, MayRun, IsWorld}
 use Rattle.dg_world.specs.Counts.{NoneRose}
 use Rattle.dg_world.specs.Applied.{OneBoard, Applied, FlashAt, RunEnded, ApplyEnds, fault_of}
+use Rattle.dg_world.specs.Deployments.{deployed}
 use Rattle.dg_world.specs.Cuts.{IsStopped, IsLacking}
-use Rattle.dg_world.specs.Stepped.{StepDone, Stepped}
+use Rattle.dg_world.specs.Stepped.{StepDone, Stepped, station}
 use Rattle.dg_world.specs.declared.air.Air.{Air}
 use Rattle.dg_world.specs.declared.images.Images.{Images}
 use Rattle.dg_world.specs.declared.world.WorldFault.{WorldFault}
@@ -119,7 +120,7 @@ pub record KnownKeeps (v u : World) (i : ℕ) (b : Device) : Type 0 where
   pub others : (k : ℕ) → k ≢ i → known_of u k ≡ known_of v k
   pub here : known_of u i ≡ true → IsOrderlyChip b.image
 
-module _ (v u : World) (bs : List Device) (w : RuleWorld) (x : Step) (loud : Bool) (i : ℕ) (runs : Option RunningMote) (frame : Option (List ℕ)) (b : Device) (start end : List Report) (is : IsWorld v bs w) (at : i ≡ mote_of x.event) (known : i < length w.sites) (moves : Moves v u i (w.moment + dt_of x.event) runs frame) (keeps : KnownKeeps v u i b) (s : StepDone w x loud runs frame b start end) where
+module _ (v u : World) (bs : List Device) (w : RuleWorld) (x : Step) (loud : Bool) (i : ℕ) (runs : Option RunningMote) (frame : Option (List ℕ)) (b : Device) (start end : List Report) (is : IsWorld v bs w) (at : i ≡ mote_of x.event) (known : i < length w.sites) (moves : Moves v u i (w.moment + dt_of x.event) runs frame) (keeps : KnownKeeps v u i b) (s : StepDone w x loud frame start (station b runs end)) where
   sites_are : s.world.sites ≡ set w.sites i s.here
   sites_are = s.sites ∙ ap (λ (j : ℕ). set w.sites j s.here) (sym at)
 
@@ -182,7 +183,7 @@ module _ (v u : World) (bs : List Device) (w : RuleWorld) (x : Step) (loud : Boo
     orderly = orderly_then;
   }
 
-  pub applied : (a : Device) → v.events < most_events → dt_of x.event < 2 ^ 32 → WorldTimely s.world → slice_get bs i ≡ Some a → Endures (beneath_of a) (beneath_of b) → b.faults ≡ a.faults → Applied w x loud u bs (set bs i b) start end
+  pub applied : (a : Device) → v.events < most_events → dt_of x.event < 2 ^ 32 → WorldTimely s.world → slice_get bs i ≡ Some a → Endures (beneath_of a) (beneath_of b) → b.faults ≡ a.faults → Applied w x loud (deployed v bs start) (deployed u (set bs i b) end)
   applied a few short timely here endures stays =
       let wide : i < length bs = omega (arith, known, is.boards_enough) in
       record {
@@ -269,14 +270,14 @@ runs_at v bs w i now a runs is known here read later =
     let s = stands_at v bs w i i a runs is refl known here read in
     may_run a.image runs (site w i).store (site w i).runs w.moment now (omega (arith, later, is.moment)) s.mote (is.timely i known)
 
-pub halts_at : (h : Halt) (f : WorldFault) (v u : World) (bs : List Device) (w : RuleWorld) (x : Step) (loud : Bool) (runs : Option RunningMote) (i mote : ℕ) (a b : Device) (start end : List Report) → f ≡ fault_of h mote → i ≡ mote → IsWorld v bs w → i ≡ mote_of x.event → i < length w.sites
-    → slice_get bs i ≡ Some a → Stepped (Err h) w x loud runs a b start end → ApplyEnds (Err f) w x loud u bs (set bs i b) start end
-halts_at (Stopped k) f v u bs w x loud runs i mote a b start end is_fault same is at known here s =
-    let P : WorldFault → Type 0 = λ y. ApplyEnds (Err y) w x loud u bs (set bs i b) start end in
+pub halts_at : (h : Halt) (f : WorldFault) (v u : World) (bs : List Device) (w : RuleWorld) (x : Step) (loud : Bool) (was runs : Option RunningMote) (i mote : ℕ) (a b : Device) (start end : List Report) → f ≡ fault_of h mote → i ≡ mote → IsWorld v bs w → i ≡ mote_of x.event → i < length w.sites
+    → slice_get bs i ≡ Some a → Stepped (Err h) w x loud (station a was start) (station b runs end) → ApplyEnds (Err f) w x loud (deployed v bs start) (deployed u (set bs i b) end)
+halts_at (Stopped k) f v u bs w x loud was runs i mote a b start end is_fault same is at known here s =
+    let P : WorldFault → Type 0 = λ y. ApplyEnds (Err y) w x loud (deployed v bs start) (deployed u (set bs i b) end) in
     subst P (sym is_fault) (subst (λ (j : ℕ). FlashAt w x j bs (set bs i b)) same (flashed v bs w x i a b is at known here s.endures s.ends.0), s.ends.1)
-halts_at NotAVolume f v u bs w x loud runs i mote a b start end is_fault same is at known here s = absurd s.ends
-halts_at NoImage f v u bs w x loud runs i mote a b start end is_fault same is at known here s =
-    let P : WorldFault → Type 0 = λ y. ApplyEnds (Err y) w x loud u bs (set bs i b) start end in
+halts_at NotAVolume f v u bs w x loud was runs i mote a b start end is_fault same is at known here s = absurd s.ends
+halts_at NoImage f v u bs w x loud was runs i mote a b start end is_fault same is at known here s =
+    let P : WorldFault → Type 0 = λ y. ApplyEnds (Err y) w x loud (deployed v bs start) (deployed u (set bs i b) end) in
     subst P (sym is_fault) (lacked v bs w x i a b is at known here s.endures s.count s.ends.0, s.ends.1)
 
 -- a step that fits one world that the code stands for fits every one
@@ -284,16 +285,16 @@ pub fits_each : (v : World) (bs : List Device) (w u : RuleWorld) (x : Step) → 
 fits_each v bs w u x is other fits = subst (λ (n : ℕ). StepInRange n x) (is.motes ∙ sym other.motes) fits
 
 -- the same over boards that are given by an equation
-pub applied_at : (v u : World) (bs cs : List Device) (w : RuleWorld) (x : Step) (loud : Bool) (i : ℕ) (runs : Option RunningMote) (frame : Option (List ℕ)) (a b : Device) (start end : List Report) → cs ≡ set bs i b → IsWorld v bs w → i ≡ mote_of x.event → i < length w.sites → v.events < most_events → dt_of x.event < 2 ^ 32
-    → Moves v u i (w.moment + dt_of x.event) runs frame → KnownKeeps v u i b → slice_get bs i ≡ Some a → (s : Stepped (Ok frame) w x loud runs a b start end) → ((z : RuleWorld) (reports : List Report) → WorldStep w x z reports → WorldTimely z) → Applied w x loud u bs cs start end
-applied_at v u bs cs w x loud i runs frame a b start end e is at known few short moves keeps here s timely =
-    subst (λ (ds : List Device). Applied w x loud u bs ds start end) (sym e)
+pub applied_at : (v u : World) (bs cs : List Device) (w : RuleWorld) (x : Step) (loud : Bool) (i : ℕ) (was runs : Option RunningMote) (frame : Option (List ℕ)) (a b : Device) (start end : List Report) → cs ≡ set bs i b → IsWorld v bs w → i ≡ mote_of x.event → i < length w.sites → v.events < most_events → dt_of x.event < 2 ^ 32
+    → Moves v u i (w.moment + dt_of x.event) runs frame → KnownKeeps v u i b → slice_get bs i ≡ Some a → (s : Stepped (Ok frame) w x loud (station a was start) (station b runs end)) → ((z : RuleWorld) (reports : List Report) → WorldStep w x z reports → WorldTimely z) → Applied w x loud (deployed v bs start) (deployed u cs end)
+applied_at v u bs cs w x loud i was runs frame a b start end e is at known few short moves keeps here s timely =
+    subst (λ (ds : List Device). Applied w x loud (deployed v bs start) (deployed u ds end)) (sym e)
     (applied v u bs w x loud i runs frame b start end is at known moves keeps s.ends a few short (timely s.ends.world s.ends.reports s.ends.step) here s.endures s.count)
 
-pub halts_there : (h : Halt) (f : WorldFault) (v u : World) (bs cs : List Device) (w : RuleWorld) (x : Step) (loud : Bool) (runs : Option RunningMote) (i mote : ℕ) (a b : Device) (start end : List Report) → cs ≡ set bs i b → f ≡ fault_of h mote → i ≡ mote → IsWorld v bs w → i ≡ mote_of x.event → i < length w.sites
-    → slice_get bs i ≡ Some a → Stepped (Err h) w x loud runs a b start end → ApplyEnds (Err f) w x loud u bs cs start end
-halts_there h f v u bs cs w x loud runs i mote a b start end e is_fault same is at known here s =
-    subst (λ (ds : List Device). ApplyEnds (Err f) w x loud u bs ds start end) (sym e) (halts_at h f v u bs w x loud runs i mote a b start end is_fault same is at known here s)
+pub halts_there : (h : Halt) (f : WorldFault) (v u : World) (bs cs : List Device) (w : RuleWorld) (x : Step) (loud : Bool) (was runs : Option RunningMote) (i mote : ℕ) (a b : Device) (start end : List Report) → cs ≡ set bs i b → f ≡ fault_of h mote → i ≡ mote → IsWorld v bs w → i ≡ mote_of x.event → i < length w.sites
+    → slice_get bs i ≡ Some a → Stepped (Err h) w x loud (station a was start) (station b runs end) → ApplyEnds (Err f) w x loud (deployed v bs start) (deployed u cs end)
+halts_there h f v u bs cs w x loud was runs i mote a b start end e is_fault same is at known here s =
+    subst (λ (ds : List Device). ApplyEnds (Err f) w x loud (deployed v bs start) (deployed u ds end)) (sym e) (halts_at h f v u bs w x loud was runs i mote a b start end is_fault same is at known here s)
 
 pub sent_at : (m i : ℕ) (frame : Option (List ℕ)) (before : List Sent) (air : Air) → i ≡ m → Carries air (before ++ sent_now m frame) → Carries air (before ++ sent_now i frame)
 sent_at m i frame before air same carries = subst (λ (j : ℕ). Carries air (before ++ sent_now j frame)) (sym same) carries

@@ -11,20 +11,21 @@ use Rattle.dg_base.specs.declared.events.Step.{Step}
 use Rattle.dg_script.specs.declared.report.Report.{Report}
 use Rattle.dg_world.specs.Worlds.{IsWorld}
 use Rattle.dg_world.specs.Applied.{Applied, FlashAt, BoardsAreConsistent, BoardIsConsistent}
+use Rattle.dg_world.specs.Deployments.{Deployment}
 use Rattle.dg_world.specs.declared.world.World.{World}
 
 -- a world has as many motes as the code's
 pub same_count : (v : World) (boards : List Device) (w x : RuleWorld) → IsWorld v boards w → IsWorld v boards x → length w.sites ≡ length x.sites
 same_count v boards w x a b = a.motes ∙ sym b.motes
 
-pub applied_consistent : (golden : Row) (v u : World) (old new : List Device) (w : RuleWorld) (x : Step) (loud : Bool) (before told : List Report) → IsWorld v old w → StepInRange (length w.sites) x → (here : BoardsAreConsistent golden v old)
+pub applied_consistent : (golden : Row) (a b : Deployment) (w : RuleWorld) (x : Step) (loud : Bool) → IsWorld a.world a.boards w → StepInRange (length w.sites) x → (here : BoardsAreConsistent golden a.world a.boards)
     → ((y z : RuleWorld) (reports : List Report) → WorldConsistent golden y → StepInRange (length y.sites) x → WorldStep y x z reports → WorldConsistent golden z)
-    → Applied here.world x loud u old new before told → BoardsAreConsistent golden u new
-applied_consistent golden v u old new w x loud before told is fits here keep applied =
+    → Applied here.world x loud a b → BoardsAreConsistent golden b.world b.boards
+applied_consistent golden a b w x loud is fits here keep applied =
     record {
       world = applied.world;
       stands = applied.stood;
-      consistent = keep here.world applied.world applied.reports here.consistent (subst (λ (n : ℕ). StepInRange n x) (same_count v old w here.world is here.stands) fits) applied.step;
+      consistent = keep here.world applied.world applied.reports here.consistent (subst (λ (n : ℕ). StepInRange n x) (same_count a.world a.boards w here.world is here.stands) fits) applied.step;
     }
 
 pub flash_consistent : (golden : Row) (v : World) (old new : List Device) (w : RuleWorld) (x : Step) (board : ℕ) → IsWorld v old w → StepInRange (length w.sites) x → (here : BoardsAreConsistent golden v old)

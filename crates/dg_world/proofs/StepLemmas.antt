@@ -10,7 +10,7 @@ use Rattle.dg_nor.proofs.MaskLemmas.{Endures_ran, Endures_halts}
 use Rattle.dg_volume.specs.Store.{Store}
 use Rattle.dg_script.specs.declared.report.Report.{Report}
 use Rattle.dg_world.specs.Shown.{Shows, changes_shown}
-use Rattle.dg_world.specs.Stepped.{BoardOnlyRead, CutChangesAre, CutTold}
+use Rattle.dg_world.specs.Stepped.{BoardOnlyRead, CutChangesAre, CutTold, CutRead}
 use Rattle.dg_world.specs.declared.shown.Shown.{Shown}
 use Rattle.dg_world.proofs.ShownLemmas.{changes_same, changes_told}
 use Rattle.dg_world.specs.declared.telling.Fault.{Fault}
@@ -42,36 +42,39 @@ pub something_changed : (m : ℕ) (before : Option Shown) (x : Shown) (t : Store
 something_changed m before x t start end some told = subst (λ (o : Option Shown). CutChangesAre m o t start end) (sym some) told
 
 -- they were found in a reading
-pub read_told : {T : Type 0} (y : T) (m : ℕ) (before : Option Shown) (t : Store) (a b : Device) (start end : List Report) → CutChangesAre m before t start end → Looked a b → CutTold {T = T} (Ok y) m before t a b start end
-read_told y m before t a b start end changes looked = (changes, looked_read a b looked, looked.ran.faults)
+abbrev pub ReadAndTold : {T : Type 0} → Result T Fault → ℕ → Option Shown → Store → Device → Device → List Report → List Report → Type 0
+ReadAndTold r m before t a b start end = CutTold r m before t start end × CutRead r a b
 
-pub unread_told : {T : Type 0} (y : T) (m : ℕ) (before : Option Shown) (t : Store) (a : Device) (told : List Report) → before ≡ None → CutTold {T = T} (Ok y) m before t a a told told
-unread_told y m before t a told none = (nothing_changed m before t told none, same_read a, refl)
+pub read_told : {T : Type 0} (y : T) (m : ℕ) (before : Option Shown) (t : Store) (a b : Device) (start end : List Report) → CutChangesAre m before t start end → Looked a b → ReadAndTold {T = T} (Ok y) m before t a b start end
+read_told y m before t a b start end changes looked = (changes, (looked_read a b looked, looked.ran.faults))
 
-stopped_told : (T : Type 0) (f : Fault) (m : ℕ) (before : Option Shown) (t : Store) (a b : Device) (told : List Report) → (f ≡ fault.Stopped) × ReadStopped a b → CutTold {T = T} (Err f) m before t a b told told
+pub unread_told : {T : Type 0} (y : T) (m : ℕ) (before : Option Shown) (t : Store) (a : Device) (told : List Report) → before ≡ None → ReadAndTold {T = T} (Ok y) m before t a a told told
+unread_told y m before t a told none = (nothing_changed m before t told none, (same_read a, refl))
+
+stopped_told : (T : Type 0) (f : Fault) (m : ℕ) (before : Option Shown) (t : Store) (a b : Device) (told : List Report) → (f ≡ fault.Stopped) × ReadStopped a b → ReadAndTold {T = T} (Err f) m before t a b told told
 stopped_told T f m before t a b told x =
-    let P : Fault → Type 0 = λ y. CutTold {T = T} (Err y) m before t a b told told in
-    subst P (sym x.0) (x.1.halts.stopped, stopped_read a b x.1, refl)
+    let P : Fault → Type 0 = λ y. ReadAndTold {T = T} (Err y) m before t a b told told in
+    subst P (sym x.0) (refl, (x.1.halts.stopped, stopped_read a b x.1))
 
-pub reading_stopped : {T : Type 0} (r : Result T Fault) (f : Fault) (m : ℕ) (before : Option Shown) (t : Store) (a b : Device) (told : List Report) → IsErrAnd r (λ e. e ≡ f) → (f ≡ fault.Stopped) × ReadStopped a b → CutTold r m before t a b told told
+pub reading_stopped : {T : Type 0} (r : Result T Fault) (f : Fault) (m : ℕ) (before : Option Shown) (t : Store) (a b : Device) (told : List Report) → IsErrAnd r (λ e. e ≡ f) → (f ≡ fault.Stopped) × ReadStopped a b → ReadAndTold r m before t a b told told
 reading_stopped (Ok u) f m before t a b told is x = absurd is
 reading_stopped {T} (Err e) f m before t a b told is x =
-    let P : Fault → Type 0 = λ y. CutTold {T = T} (Err y) m before t a b told told in
+    let P : Fault → Type 0 = λ y. ReadAndTold {T = T} (Err y) m before t a b told told in
     subst P (sym is) (stopped_told T f m before t a b told x)
 
 -- a reading that was handed on
-pub as_read : {T U : Type 0} (r : Result T Fault) (q : Result U Fault) (x : T) (y : U) (m : ℕ) (before : Option Shown) (t : Store) (a b : Device) (start end : List Report) → r ≡ Ok x → q ≡ Ok y → CutTold r m before t a b start end → CutTold q m before t a b start end
+pub as_read : {T U : Type 0} (r : Result T Fault) (q : Result U Fault) (x : T) (y : U) (m : ℕ) (before : Option Shown) (t : Store) (a b : Device) (start end : List Report) → r ≡ Ok x → q ≡ Ok y → ReadAndTold r m before t a b start end → ReadAndTold q m before t a b start end
 as_read {T} {U} r q x y m before t a b start end is then told =
-    let here : CutTold {T = T} (Ok x) m before t a b start end = subst (λ (z : Result T Fault). CutTold z m before t a b start end) is told in
-    subst (λ (z : Result U Fault). CutTold z m before t a b start end) (sym then) here
+    let here : ReadAndTold {T = T} (Ok x) m before t a b start end = subst (λ (z : Result T Fault). ReadAndTold z m before t a b start end) is told in
+    subst (λ (z : Result U Fault). ReadAndTold z m before t a b start end) (sym then) here
 
-failed_by : (T U : Type 0) (f : Fault) (m : ℕ) (before : Option Shown) (t : Store) (a b : Device) (start end : List Report) → CutTold {T = T} (Err f) m before t a b start end → CutTold {T = U} (Err f) m before t a b start end
+failed_by : (T U : Type 0) (f : Fault) (m : ℕ) (before : Option Shown) (t : Store) (a b : Device) (start end : List Report) → ReadAndTold {T = T} (Err f) m before t a b start end → ReadAndTold {T = U} (Err f) m before t a b start end
 failed_by T U fault.Stopped m before t a b start end told = told
-failed_by T U fault.NotAVolume m before t a b start end told = absurd told
-failed_by T U fault.NoImage m before t a b start end told = absurd told
+failed_by T U fault.NotAVolume m before t a b start end told = absurd told.0
+failed_by T U fault.NoImage m before t a b start end told = absurd told.0
 
-pub as_failed : {T U : Type 0} (r : Result T Fault) (q : Result U Fault) (f : Fault) (m : ℕ) (before : Option Shown) (t : Store) (a b : Device) (start end : List Report) → r ≡ Err f → IsErrAnd q (λ e. e ≡ f) → CutTold r m before t a b start end → CutTold q m before t a b start end
+pub as_failed : {T U : Type 0} (r : Result T Fault) (q : Result U Fault) (f : Fault) (m : ℕ) (before : Option Shown) (t : Store) (a b : Device) (start end : List Report) → r ≡ Err f → IsErrAnd q (λ e. e ≡ f) → ReadAndTold r m before t a b start end → ReadAndTold q m before t a b start end
 as_failed r (Ok y) f m before t a b start end is same told = absurd same
 as_failed {T} {U} r (Err e) f m before t a b start end is same told =
-    let here : CutTold {T = T} (Err f) m before t a b start end = subst (λ (z : Result T Fault). CutTold z m before t a b start end) is told in
-    subst (λ (z : Fault). CutTold {T = U} (Err z) m before t a b start end) (sym same) (failed_by T U f m before t a b start end here)
+    let here : ReadAndTold {T = T} (Err f) m before t a b start end = subst (λ (z : Result T Fault). ReadAndTold z m before t a b start end) is told in
+    subst (λ (z : Fault). ReadAndTold {T = U} (Err z) m before t a b start end) (sym same) (failed_by T U f m before t a b start end here)

@@ -8,6 +8,7 @@ use Rattle.dg_rules.specs.Events.{Does}
 use Rattle.dg_script.specs.declared.report.Cause.{Cause}
 use Rattle.dg_world.specs.Turn.{EventTurn, Refused, Rests, Changes, Starts}
 use Rattle.dg_world.specs.Turns.{turn_frame, turn_sent, TurnEnds}
+use Rattle.dg_world.specs.Hosts.{host}
 use Rattle.dg_world.specs.Tellings.{turn_by, turn_of, halt_of, turned}
 use Rattle.dg_world.specs.declared.shown.Shown.{Shown}
 use Rattle.dg_world.specs.declared.telling.StartLine.{StartLine}
@@ -68,14 +69,14 @@ frame_told t = frame_by (sent_in t.outbox) t.refused t.started t.before t.after
 -- ---- how it ends
 
 module _ (w : RuleWorld) (m : ℕ) (does : Does) (v u : Option RunningMote) (a b : Device) where
-  pub told_as : (t x : EventTurn) → t ≡ x → TurnEnds (Ok x) w m does v u a b → TurnEnds (Ok t) w m does v u a b
-  told_as t x e ends = subst (λ (y : EventTurn). TurnEnds (Ok y) w m does v u a b) (sym e) ends
+  pub told_as : (t x : EventTurn) → t ≡ x → TurnEnds (Ok x) w m does (host a v) (host b u) → TurnEnds (Ok t) w m does (host a v) (host b u)
+  told_as t x e ends = subst (λ (y : EventTurn). TurnEnds (Ok y) w m does (host a v) (host b u)) (sym e) ends
 
-  pub halts_as : (f : Fault) (p q : Option Shown) → p ≡ q → TurnEnds (Err (halt_of f q)) w m does v u a b → TurnEnds (Err (halt_of f p)) w m does v u a b
-  halts_as f p q e ends = subst (λ (x : Option Shown). TurnEnds (Err (halt_of f x)) w m does v u a b) (sym e) ends
+  pub halts_as : (f : Fault) (p q : Option Shown) → p ≡ q → TurnEnds (Err (halt_of f q)) w m does (host a v) (host b u) → TurnEnds (Err (halt_of f p)) w m does (host a v) (host b u)
+  halts_as f p q e ends = subst (λ (x : Option Shown). TurnEnds (Err (halt_of f x)) w m does (host a v) (host b u)) (sym e) ends
 
   -- a fault that is handed on
-  pub turned_err : {T : Type 0} (r : Result T Fault) (f : Fault) (t : Telling) (before : Option Shown) → IsErrAnd r (λ e. e ≡ f) → t.before ≡ before → TurnEnds (Err (halt_of f before)) w m does v u a b → TurnEnds (turned r t) w m does v u a b
+  pub turned_err : {T : Type 0} (r : Result T Fault) (f : Fault) (t : Telling) (before : Option Shown) → IsErrAnd r (λ e. e ≡ f) → t.before ≡ before → TurnEnds (Err (halt_of f before)) w m does (host a v) (host b u) → TurnEnds (turned r t) w m does (host a v) (host b u)
   turned_err (Ok x) f t before is none ends = absurd is
   turned_err (Err e) f t before is none ends =
-      subst (λ (x : Fault). TurnEnds (Err (halt_of x t.before)) w m does v u a b) (sym is) (halts_as f t.before before none ends)
+      subst (λ (x : Fault). TurnEnds (Err (halt_of x t.before)) w m does (host a v) (host b u)) (sym is) (halts_as f t.before before none ends)

@@ -49,6 +49,7 @@ use Rattle.dg_script.specs.declared.report.Report.TheVariants.{Start}
 use Rattle.dg_world.specs.Shown.{Shows}
 use Rattle.dg_world.specs.Worlds.{MoteStands}
 use Rattle.dg_world.specs.Turns.{SameShown, IsQuiet, BeginsOver, turn_frame, turn_sent, turn_lines, sent_shown, DeedWent, Lacked, TurnEnds}
+use Rattle.dg_world.specs.Hosts.{host}
 use Rattle.dg_world.specs.declared.starting.Begun.{Begun}
 use Rattle.dg_world.specs.declared.shown.Shown.{Shown}
 use Rattle.dg_world.specs.declared.telling.StartLine.{StartLine}
@@ -66,7 +67,7 @@ use Rattle.dg_world.specs.Turn.{EventTurn, Refused, Changes, Starts, Halt, Stopp
 
 -- a stop on a trail of stores that all show the same
 pub stopped_same : (w : RuleWorld) (m : ℕ) (does : Does) (v u : Option RunningMote) (a b : Device) → Through (SameShown (store_at w m)) (trail_of does (store_at w m)) → Stops (trail_of does (store_at w m)) a b
-    → TurnEnds (Err (Stopped None)) w m does v u a b
+    → TurnEnds (Err (Stopped None)) w m does (host a v) (host b u)
 stopped_same w m does v u a b through stops = record { stops = stops; shows = λ whole blown k t l. leaves_same (store_at w m) (trail_of does (store_at w m)) k t through l }
 
 -- ---- starts
@@ -94,7 +95,7 @@ module _ (w : RuleWorld) (m : ℕ) (k : StartCause) (id : ℕ) (wide : Bool) (no
   starts o = of_effect w (boot_by o t id wide now word) old
 
   pub started : (v : Option RunningMote) (a b : Device) (told : Started) (x : Begun) → BeginsOver told id wide now word x → BootStarts (boot k s) a b told
-      → TurnEnds (Ok (Starts x.line)) w m (of_effect w (boots k s id wide now word) old) v (Some x.running) a b
+      → TurnEnds (Ok (Starts x.line)) w m (of_effect w (boots k s id wide now word) old) (host a v) (host b (Some x.running))
   started v a b told x over g =
       let r = g.runs in
       let e : changes m s (last t) ≡ [] = changes_same m s (last t) (Through-last (SameShown s) t (boot_same k s)) in
@@ -113,7 +114,7 @@ module _ (w : RuleWorld) (m : ℕ) (k : StartCause) (id : ℕ) (wide : Bool) (no
         };
       }
 
-  start_stopped : (v u : Option RunningMote) (a b : Device) → Stops t a b → TurnEnds (Err (Stopped None)) w m (of_effect w (boots k s id wide now word) old) v u a b
+  start_stopped : (v u : Option RunningMote) (a b : Device) → Stops t a b → TurnEnds (Err (Stopped None)) w m (of_effect w (boots k s id wide now word) old) (host a v) (host b u)
   start_stopped v u a b stops =
       let e : t ≡ (boots k s id wide now word).trail = sym (boot_trail (boot k s).runs t id wide now word) in
       stopped_same w m (of_effect w (boots k s id wide now word) old) v u a b (subst (Through (SameShown s)) e (boot_same k s)) (subst (λ (x : Trail Store). Stops x a b) e stops)
@@ -128,7 +129,7 @@ module _ (w : RuleWorld) (m : ℕ) (k : StartCause) (id : ℕ) (wide : Bool) (no
   }
 
   abbrev Ends : (v u : Option RunningMote) (a b : Device) → Fault → Type 0
-  Ends v u a b f = TurnEnds (Err (halt_of f None)) w m (of_effect w (boots k s id wide now word) old) v u a b
+  Ends v u a b f = TurnEnds (Err (halt_of f None)) w m (of_effect w (boots k s id wide now word) old) (host a v) (host b u)
 
   pub begin_stopped : (T : Type 0) (f : Fault) (v u : Option RunningMote) (a b : Device) → failed T fault.Stopped ≡ failed T f → Stops t a b → Ends v u a b f
   begin_stopped T f v u a b is stops = subst (Ends v u a b) (same_fault T fault.Stopped f is) (start_stopped v u a b stops)
@@ -199,7 +200,7 @@ sent_frame : (o : Option (List ℕ)) → turn_frame (turn_sent o) ≡ o
 sent_frame None = refl
 sent_frame (Some bytes) = refl
 
-sent_turn : (o : Option (List ℕ)) (w : RuleWorld) (m : ℕ) (does : Does) (v u : Option RunningMote) (a b : Device) → DeedWent w m does u a b (turn_sent o) → TurnEnds (Ok (turn_sent o)) w m does v u a b
+sent_turn : (o : Option (List ℕ)) (w : RuleWorld) (m : ℕ) (does : Does) (v u : Option RunningMote) (a b : Device) → DeedWent w m does u a b (turn_sent o) → TurnEnds (Ok (turn_sent o)) w m does (host a v) (host b u)
 sent_turn None w m does v u a b x = x
 sent_turn (Some bytes) w m does v u a b x = x
 
@@ -234,9 +235,9 @@ module _ (w : RuleWorld) (m : ℕ) (r : Running) (now word : ℕ) where
 
   -- it sends a frame, or rests
   pub tick_acts : (v u : RunningMote) (a b : Device) (d : Did) (o : Option (List ℕ)) (turn : EventTurn) → turn ≡ turn_sent o → (d ≡ did.Sent) ⊎ (d ≡ did.Idle) → v.key ≡ r.key → u.key ≡ v.key → Done step a b u.mote d → o ≡ option_map frame_of step.sent
-      → IfSome step.sent (IsRead true) → TurnEnds (Ok turn) w m ticks (Some v) (Some u) a b
+      → IfSome step.sent (IsRead true) → TurnEnds (Ok turn) w m ticks (host a (Some v)) (host b (Some u))
   tick_acts v u a b d o turn is_turn is key same done sent read =
-      subst (λ (x : EventTurn). TurnEnds (Ok x) w m ticks (Some v) (Some u) a b) (sym is_turn) (sent_turn o w m ticks (Some v) (Some u) a b (tick_went v u a b d o is key same done sent read))
+      subst (λ (x : EventTurn). TurnEnds (Ok x) w m ticks (host a (Some v)) (host b (Some u))) (sym is_turn) (sent_turn o w m ticks (Some v) (Some u) a b (tick_went v u a b d o is key same done sent read))
 
   -- ---- it is stopped
 
@@ -262,7 +263,7 @@ module _ (w : RuleWorld) (m : ℕ) (r : Running) (now word : ℕ) where
       subst (λ (x : Trail Store). Stops (joined step.trail x) a b) (sym (boot_trail (boot kind.Order at).runs t step.mote.id step.mote.wide now word))
       (Halted-joined_first Stands IsNear step.trail t begins.works (sym begins.first) stops)
 
-  pub tick_stopped : (v u : Option RunningMote) (a b : Device) → Stops step.trail a b → TurnEnds (Err (Stopped None)) w m ticks v u a b
+  pub tick_stopped : (v u : Option RunningMote) (a b : Device) → Stops step.trail a b → TurnEnds (Err (Stopped None)) w m ticks (host a v) (host b u)
   unfolding tick_effect
   tick_stopped v u a b stops = stopped_same w m ticks v u a b (first_same step.answer) (stops_first step.answer a b stops)
 
@@ -303,15 +304,15 @@ module _ (w : RuleWorld) (m : ℕ) (r : Running) (now word : ℕ) where
       ∙ ap (λ (x : Bool). of_effect w (boots kind.Order here r.mote.id x now word) (Some r.key)) (width ∙ done.mote.wide ∙ ap (λ (t : Turn Did). t.mote.wide) is)
 
   pub restart_starts : (u : RunningMote) (x : Begun) (v : Option RunningMote) (a b c : Device) (id : ℕ) (wide : Bool) → id ≡ u.mote.id → wide ≡ u.mote.wide → step ≡ rested → Done step a b u.mote did.Restart
-      → TurnEnds (Ok (Starts x.line)) w m (of_effect w (boots kind.Order here id wide now word) (Some r.key)) v (Some x.running) b c → TurnEnds (Ok (Starts x.line)) w m ticks v (Some x.running) a c
+      → TurnEnds (Ok (Starts x.line)) w m (of_effect w (boots kind.Order here id wide now word) (Some r.key)) (host b v) (host c (Some x.running)) → TurnEnds (Ok (Starts x.line)) w m ticks (host a v) (host c (Some x.running))
   restart_starts u x v a b c id wide at width is done ends =
-      subst (λ (y : Does). TurnEnds (Ok (Starts x.line)) w m y v (Some x.running) a c) (same_start u a b id wide at width is done ∙ sym (restarts_is is))
+      subst (λ (y : Does). TurnEnds (Ok (Starts x.line)) w m y (host a v) (host c (Some x.running))) (same_start u a b id wide at width is done ∙ sym (restarts_is is))
       (start_after w m (of_effect w (boots kind.Order here id wide now word) (Some r.key)) (Some x.running) a b c x.line (ran_none u a b is done) ends)
 
   pub restart_halts : (u : RunningMote) (h : Halt) (v n : Option RunningMote) (a b c : Device) (id : ℕ) (wide : Bool) → id ≡ u.mote.id → wide ≡ u.mote.wide → step ≡ rested → Done step a b u.mote did.Restart
-      → TurnEnds (Err h) w m (of_effect w (boots kind.Order here id wide now word) (Some r.key)) v n b c → TurnEnds (Err h) w m ticks v n a c
+      → TurnEnds (Err h) w m (of_effect w (boots kind.Order here id wide now word) (Some r.key)) (host b v) (host c n) → TurnEnds (Err h) w m ticks (host a v) (host c n)
   restart_halts u h v n a b c id wide at width is done ends =
-      subst (λ (y : Does). TurnEnds (Err h) w m y v n a c) (same_start u a b id wide at width is done ∙ sym (restarts_is is))
+      subst (λ (y : Does). TurnEnds (Err h) w m y (host a v) (host c n)) (same_start u a b id wide at width is done ∙ sym (restarts_is is))
       (halt_after h w m (of_effect w (boots kind.Order here id wide now word) (Some r.key)) v n a b c (ran_none u a b is done) ends)
 
 -- ---- heard frames
@@ -324,7 +325,7 @@ module _ (w : RuleWorld) (m : ℕ) (r : Running) (now word : ℕ) (bytes : List 
   hears = of_effect w (frame_effect r.mote (store_at w m) now word bytes) (Some r.key)
 
   pub hear_changes : (v u : RunningMote) (a b : Device) (d : Heard) (before after : Shown) → v.key ≡ r.key → u.key ≡ v.key → Done heard a b u.mote d → Shows before (store_at w m) → Shows after (last heard.trail)
-      → TurnEnds (Ok (Changes before after)) w m hears (Some v) (Some u) a b
+      → TurnEnds (Ok (Changes before after)) w m hears (host a (Some v)) (host b (Some u))
   unfolding frame_effect
   hear_changes v u a b d before after key same done shows after_shows = record {
     deed = record { trail = heard.trail; table = w.table; started = None; sent = None; runs = Some (Some (record { key = r.key; mote = heard.mote })) };
@@ -342,7 +343,7 @@ module _ (w : RuleWorld) (m : ℕ) (r : Running) (now word : ℕ) (bytes : List 
   }
 
   -- nothing changed that is reported
-  pub hear_rests : (v u : RunningMote) (a b : Device) (d : Heard) → v.key ≡ r.key → u.key ≡ v.key → Done heard a b u.mote d → IsQuiet d → TurnEnds (Ok Rests) w m hears (Some v) (Some u) a b
+  pub hear_rests : (v u : RunningMote) (a b : Device) (d : Heard) → v.key ≡ r.key → u.key ≡ v.key → Done heard a b u.mote d → IsQuiet d → TurnEnds (Ok Rests) w m hears (host a (Some v)) (host b (Some u))
   unfolding frame_effect
   hear_rests v u a b d key same done is =
       let through = heard_calm (store_at w m) r.mote now word bytes (subst IsQuiet done.answers is) in
@@ -362,28 +363,28 @@ module _ (w : RuleWorld) (m : ℕ) (r : Running) (now word : ℕ) (bytes : List 
         };
       }
 
-  pub hear_stopped : (v u : Option RunningMote) (a b : Device) (before : Shown) → Stops heard.trail a b → Shows before (store_at w m) → TurnEnds (Err (Stopped (Some before))) w m hears v u a b
+  pub hear_stopped : (v u : Option RunningMote) (a b : Device) (before : Shown) → Stops heard.trail a b → Shows before (store_at w m) → TurnEnds (Err (Stopped (Some before))) w m hears (host a v) (host b u)
   unfolding frame_effect
   hear_stopped v u a b before stops shows = record { stops = stops; shows = λ whole blown. shows }
 
 -- ---- motes that are on or off
 
 -- a mote that is off refuses
-when_off : (D : Option Running → Does) (w : RuleWorld) (m : ℕ) (c : List ℕ) (s : Store) (o : Option Running) (a : Device) → D None ≡ Refuses cause.Off → MoteStands c None s o → TurnEnds (Ok (Refused cause.Off)) w m (D o) None None a a
+when_off : (D : Option Running → Does) (w : RuleWorld) (m : ℕ) (c : List ℕ) (s : Store) (o : Option Running) (a : Device) → D None ≡ Refuses cause.Off → MoteStands c None s o → TurnEnds (Ok (Refused cause.Off)) w m (D o) (host a None) (host a None)
 when_off D w m c s None a is stands = (is, Looked-none a, refl)
 when_off D w m c s (Some r) a is stands = absurd stands
 
-pub off_as : (D : Option Running → Does) (w : RuleWorld) (m : ℕ) (c : List ℕ) (s : Store) (o : Option Running) (v : Option RunningMote) (a : Device) → D None ≡ Refuses cause.Off → v ≡ None → MoteStands c v s o → TurnEnds (Ok (Refused cause.Off)) w m (D o) v v a a
+pub off_as : (D : Option Running → Does) (w : RuleWorld) (m : ℕ) (c : List ℕ) (s : Store) (o : Option Running) (v : Option RunningMote) (a : Device) → D None ≡ Refuses cause.Off → v ≡ None → MoteStands c v s o → TurnEnds (Ok (Refused cause.Off)) w m (D o) (host a v) (host a v)
 off_as D w m c s o v a refuses is stands =
-    subst (λ (x : Option RunningMote). TurnEnds (Ok (Refused cause.Off)) w m (D o) x x a a) (sym is)
+    subst (λ (x : Option RunningMote). TurnEnds (Ok (Refused cause.Off)) w m (D o) (host a x) (host a x)) (sym is)
     (when_off D w m c s o a refuses (subst (λ (x : Option RunningMote). MoteStands c x s o) is stands))
 
 when_on : (D : Option Running → Does) (r : Result EventTurn Halt) (w : RuleWorld) (m : ℕ) (v : RunningMote) (u : Option RunningMote) (c : List ℕ) (s : Store) (o : Option Running) (a b : Device) → MoteStands c (Some v) s o
-    → ((x : Running) → MoteStands c (Some v) s (Some x) → TurnEnds r w m (D (Some x)) (Some v) u a b) → TurnEnds r w m (D o) (Some v) u a b
+    → ((x : Running) → MoteStands c (Some v) s (Some x) → TurnEnds r w m (D (Some x)) (host a (Some v)) (host b u)) → TurnEnds r w m (D o) (host a (Some v)) (host b u)
 when_on D r w m v u c s None a b stands on = absurd stands
 when_on D r w m v u c s (Some x) a b stands on = on x stands
 
 pub on_as : (D : Option Running → Does) (r : Result EventTurn Halt) (w : RuleWorld) (m : ℕ) (p : Option RunningMote) (v : RunningMote) (u : Option RunningMote) (c : List ℕ) (s : Store) (o : Option Running) (a b : Device) → p ≡ Some v → MoteStands c p s o
-    → ((x : Running) → MoteStands c (Some v) s (Some x) → TurnEnds r w m (D (Some x)) (Some v) u a b) → TurnEnds r w m (D o) p u a b
+    → ((x : Running) → MoteStands c (Some v) s (Some x) → TurnEnds r w m (D (Some x)) (host a (Some v)) (host b u)) → TurnEnds r w m (D o) (host a p) (host b u)
 on_as D r w m p v u c s o a b is stands on =
-    subst (λ (x : Option RunningMote). TurnEnds r w m (D o) x u a b) (sym is) (when_on D r w m v u c s o a b (subst (λ (x : Option RunningMote). MoteStands c x s o) is stands) on)
+    subst (λ (x : Option RunningMote). TurnEnds r w m (D o) (host a x) (host b u)) (sym is) (when_on D r w m v u c s o a b (subst (λ (x : Option RunningMote). MoteStands c x s o) is stands) on)

@@ -14,6 +14,7 @@ use Rattle.dg_world.specs.Stepped.{StepDid, Station, station}
 use Rattle.dg_world.specs.Tellings.{turn_of, halt_of, turned}
 use Rattle.dg_world.specs.Turn.{Whole}
 use Rattle.dg_world.specs.Turns.{turn_lines, TurnEnds}
+use Rattle.dg_world.specs.Hosts.{host}
 use Rattle.dg_world.specs.Unseen.{RefusesUnseen}
 use Rattle.dg_world.specs.declared.occasion.Occasion.{Occasion}
 use Rattle.dg_world.specs.declared.telling.Fault.{Fault}
@@ -25,7 +26,7 @@ use Rattle.dg_world.proofs.TellingLemmas.{frame_told}
 
 -- what the clauses of `happen` say
 pub record HappenedSo (r : Result (Unit {0}) Fault) (o : Occasion) (event : Event) (t : Telling) (a b : Station) : Type 0 where
-  pub ends : (w : RuleWorld) → HappensIn o w event a.board a.runs → TurnEnds (turned r t) w (mote_of event) (does w event) a.runs b.runs a.board b.board
+  pub ends : (w : RuleWorld) → HappensIn o w event a.board a.runs → TurnEnds (turned r t) w (mote_of event) (does w event) (host a.board a.runs) (host b.board b.runs)
   pub unseen : (w : RuleWorld) → HappensIn o w event a.board a.runs → RefusesUnseen (does w event) → (b.board ≡ a.board) × OnErr r ⊥
   pub sees : OnOk r (EventSees event t b.runs a.board.image b.board.image)
   pub reads : EventReads event o.known (OnErr r ⊥) t.refused a.board b.board

@@ -13,7 +13,7 @@ use Rattle.dg_base.specs.declared.events.Event.TheVariants.{Tick, Hear, Last, Re
 use Rattle.dg_base.specs.declared.events.Step.{Step}
 use Rattle.dg_script.specs.declared.report.Report.{Report}
 use Rattle.dg_world.specs.Cuts.{IsStopped, IsLacking}
-use Rattle.dg_world.specs.Stepped.{StepDone}
+use Rattle.dg_world.specs.Stepped.{StepDone, station}
 use Rattle.dg_world.specs.declared.telling.Fault.{Fault}
 use Rattle.dg_world.specs.declared.telling.Fault.TheVariants as fault
 use Rattle.dg_world.specs.declared.world.RunningMote.{RunningMote}
@@ -46,7 +46,7 @@ uncut event = record { event = event; cut = None }
 pub record AloneDone (w : RuleWorld) (event : Event) (u : Option RunningMote) (frame : Option (List ℕ)) (new : Device) : Type
     0 where
   pub told : List Report
-  pub done : StepDone w (uncut event) true u frame new [] told
+  pub done : StepDone w (uncut event) true frame [] (station new u told)
 
 -- What the event answers from a board that stood for the mote's store.
 abbrev pub AloneEnds : Result Outbox Fault → RuleWorld → Event → Option RunningMote → Device → Type 0

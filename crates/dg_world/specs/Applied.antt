@@ -24,6 +24,7 @@ use Rattle.dg_world.specs.declared.world.WorldFault.TheVariants.{Memory, Flash, 
 use Rattle.dg_world.specs.declared.world.WorldFault.TheVariants.{NoImage as NoImageFault}
 use Rattle.dg_world.specs.declared.world.World.{World}
 use Rattle.dg_world.specs.Worlds.{IsWorld}
+use Rattle.dg_world.specs.Deployments.{Deployment}
 use Rattle.dg_world.specs.Counts.{NoneRose}
 use Rattle.dg_world.specs.Turn.{Halt, Stopped, NotAVolume, NoImage}
 
@@ -35,19 +36,18 @@ pub record OneBoard (board : ℕ) (old new : List Device) : Type 0 where
   pub endures : (m : ℕ) (a b : Device) → slice_get old m ≡ Some a → slice_get new m ≡ Some b
       → Endures (beneath_of a) (beneath_of b)
 
--- a step was applied: what the rules allow, told as it should be. No board's count rose, also where a cut blew.
--- Where something was started, its pages stand in program memory
-pub record Applied (w : RuleWorld) (x : Step) (loud : Bool) (v : World) (old new : List Device)
-    (told_before told : List Report) : Type 0 where
+-- A step was applied to a, which is b then: what the rules allow, told as it should be. No board's count rose, also where a cut
+-- blew. Where something was started, its pages stand in program memory.
+pub record Applied (w : RuleWorld) (x : Step) (loud : Bool) (a b : Deployment) : Type 0 where
   pub world : RuleWorld
   pub reports : List Report
   pub step : WorldStep w x world reports
-  pub stood : IsWorld v new world
-  pub told_now : told ≡ told_before ++ filter (is_told loud) reports
-  pub boards : OneBoard (mote_of x.event) old new
-  pub calm : NoneRose old new
-  pub memory : (d : Deed) (r : Runs) (b : Device) → does w x.event ≡ Goes d → blows x.cut d.trail ≡ false → d.started ≡ Some r
-      → slice_get new (mote_of x.event) ≡ Some b → program b.image (length r.pages) ≡ r.pages
+  pub stood : IsWorld b.world b.boards world
+  pub told_now : b.told ≡ a.told ++ filter (is_told loud) reports
+  pub boards : OneBoard (mote_of x.event) a.boards b.boards
+  pub calm : NoneRose a.boards b.boards
+  pub memory : (d : Deed) (r : Runs) (c : Device) → does w x.event ≡ Goes d → blows x.cut d.trail ≡ false → d.started ≡ Some r
+      → slice_get b.boards (mote_of x.event) ≡ Some c → program c.image (length r.pages) ≡ r.pages
 
 -- A board stopped: it is that of the event's mote, and stands for a store that the event's trail leaves where so many operations
 -- were done. A cut that the step has did not come before.
@@ -97,14 +97,13 @@ fault_of (Stopped before) mote = Flash mote
 fault_of NotAVolume mote = NotAVolumeFault
 fault_of NoImage mote = NoImageFault
 
-abbrev pub ApplyEnds : Result (Unit {0}) WorldFault → RuleWorld → Step → (loud : Bool) → World → List Device → List Device
-    → List Report → List Report → Type 0
-ApplyEnds (Ok u) w x loud v old new told_before told = Applied w x loud v old new told_before told
-ApplyEnds (Err (Flash board)) w x loud v old new told_before told = FlashAt w x board old new × (told ≡ told_before)
-ApplyEnds (Err NoImageFault) w x loud v old new told_before told = RunEnded w x old new × (told ≡ told_before)
-ApplyEnds (Err NotAVolumeFault) w x loud v old new told_before told = ⊥
-ApplyEnds (Err Memory) w x loud v old new told_before told = ⊥
-ApplyEnds (Err TooMany) w x loud v old new told_before told = ⊥
+abbrev pub ApplyEnds : Result (Unit {0}) WorldFault → RuleWorld → Step → (loud : Bool) → (a b : Deployment) → Type 0
+ApplyEnds (Ok u) w x loud a b = Applied w x loud a b
+ApplyEnds (Err (Flash board)) w x loud a b = FlashAt w x board a.boards b.boards × (b.told ≡ a.told)
+ApplyEnds (Err NoImageFault) w x loud a b = RunEnded w x a.boards b.boards × (b.told ≡ a.told)
+ApplyEnds (Err NotAVolumeFault) w x loud a b = ⊥
+ApplyEnds (Err Memory) w x loud a b = ⊥
+ApplyEnds (Err TooMany) w x loud a b = ⊥
 
 -- ---- whatever frames carry
 

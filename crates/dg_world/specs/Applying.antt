@@ -13,18 +13,10 @@ use Rattle.dg_world.specs.Known.{known_of, OrderTakes, InjectTakes}
 use Rattle.dg_world.specs.Knows.{KnowsThen}
 use Rattle.dg_world.specs.Unseen.{RefusesUnseen}
 use Rattle.dg_world.specs.Worlds.{IsWorld}
+use Rattle.dg_world.specs.Deployments.{Deployment}
 use Rattle.dg_world.specs.declared.world.World.{World}
 use Rattle.dg_world.specs.declared.world.WorldFault.{WorldFault}
 use Rattle.dg_world.specs.declared.world.WorldFault.TheVariants.{Memory, Flash, TooMany, NotAVolume, NoImage}
-
--- a world with its boards, and what was told so far
-pub record Deployment : Type 0 where
-  pub world : World
-  pub boards : List Device
-  pub told : List Report
-
-abbrev pub deployed : World → List Device → List Report → Deployment
-deployed world boards told = record { world = world; boards = boards; told = told }
 
 -- it stands for world w by the rules
 abbrev pub IsOf : Deployment → RuleWorld → Type 0
@@ -32,7 +24,7 @@ IsOf a w = IsWorld a.world a.boards w
 
 -- What a step made of a, which is b then, and what it answers.
 pub record ApplyDone (r : Result (Unit {0}) WorldFault) (x : Step) (loud : Bool) (a b : Deployment) : Type 0 where
-  pub applied : OnOk r ((w : RuleWorld) → IsOf a w → Applied w x loud b.world a.boards b.boards a.told b.told)
+  pub applied : OnOk r ((w : RuleWorld) → IsOf a w → Applied w x loud a b)
   -- a world that has made all its events tells it, and only such a one
   pub too_many : r ≡ Err TooMany → (w : RuleWorld) → IsOf a w → w.events ≡ most_events
   pub full : (w : RuleWorld) → IsOf a w → w.events ≡ most_events → r ≡ Err TooMany
@@ -62,8 +54,7 @@ pub record ApplyDone (r : Result (Unit {0}) WorldFault) (x : Step) (loud : Bool)
 
 -- The same where there is room for all that a step needs: it is not refused for want of memory, nor for want of events.
 pub record ApplyMade (r : Result (Unit {0}) WorldFault) (x : Step) (loud : Bool) (a b : Deployment) : Type 0 where
-  pub ends : (w : RuleWorld) → IsOf a w → StepInRange (length w.sites) x
-      → ApplyEnds r w x loud b.world a.boards b.boards a.told b.told
+  pub ends : (w : RuleWorld) → IsOf a w → StepInRange (length w.sites) x → ApplyEnds r w x loud a b
   pub known : OnOk r ((w : RuleWorld) → IsOf a w → StepInRange (length w.sites) x → KnowsThen w x.event a.world b.world b.boards)
   pub order_reads : (w : RuleWorld) (m : ℕ) (old new : Device) → IsOf a w → m ≡ mote_of x.event → known_of a.world m ≡ true
       → slice_get a.boards m ≡ Some old → slice_get b.boards m ≡ Some new → OrderTakes x.event old new

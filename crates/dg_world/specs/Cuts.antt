@@ -11,6 +11,7 @@ use Rattle.dg_rules.specs.Steps.{blows, before_cut}
 use Rattle.dg_base.specs.declared.events.Cut.{Cut as PowerCut}
 use Rattle.dg_world.specs.Turns.{TellsDeed, BeforeShows}
 use Rattle.dg_world.specs.Counts.{CountStays}
+use Rattle.dg_world.specs.Hosts.{Host}
 use Rattle.dg_world.specs.declared.shown.Shown.{Shown}
 use Rattle.dg_world.specs.declared.world.RunningMote.{RunningMote}
 use Rattle.dg_world.specs.Turn.{EventTurn, Refused, Rests, Sends, Changes, Starts, Halt, Stopped, NotAVolume, NoImage, TurnEnded}
@@ -57,22 +58,22 @@ pub record IsLacking (does : Does) (cut : Option PowerCut) (image : List ℕ) : 
   pub whole : blows cut deed.trail ≡ false
   pub stands : Stands image (last deed.trail)
 
-abbrev pub PlayEnds : Result TurnEnded Halt → RuleWorld → (m : ℕ) → Does → Option PowerCut → (v u : Option RunningMote)
-    → Device → Device → Type 0
-PlayEnds (Ok (Whole (Refused why))) w m does cut v u old new = (does ≡ Refuses why) × (new.image ≡ old.image) × (u ≡ v)
-PlayEnds (Ok (Whole Rests)) w m does cut v u old new = EventIsWhole w m does cut u new.image Rests
-PlayEnds (Ok (Whole (Sends frame))) w m does cut v u old new = EventIsWhole w m does cut u new.image (Sends frame)
-PlayEnds (Ok (Whole (Changes a b))) w m does cut v u old new = EventIsWhole w m does cut u new.image (Changes a b)
-PlayEnds (Ok (Whole (Starts x))) w m does cut v u old new = EventIsWhole w m does cut u new.image (Starts x)
-PlayEnds (Ok (Cut before)) w m does cut v u old new = EventIsCut w m does cut new.image before
-PlayEnds (Err (Stopped before)) w m does cut v u old new = IsStopped w m does cut new
-PlayEnds (Err NoImage) w m does cut v u old new = IsLacking does cut new.image
-PlayEnds (Err NotAVolume) w m does cut v u old new = ⊥
+-- What an event answers whose power may have been cut. The host was a and is b.
+abbrev pub PlayEnds : Result TurnEnded Halt → RuleWorld → (m : ℕ) → Does → Option PowerCut → (a b : Host) → Type 0
+PlayEnds (Ok (Whole (Refused why))) w m does cut a b = (does ≡ Refuses why) × (b.board.image ≡ a.board.image) × (b.runs ≡ a.runs)
+PlayEnds (Ok (Whole Rests)) w m does cut a b = EventIsWhole w m does cut b.runs b.board.image Rests
+PlayEnds (Ok (Whole (Sends frame))) w m does cut a b = EventIsWhole w m does cut b.runs b.board.image (Sends frame)
+PlayEnds (Ok (Whole (Changes old new))) w m does cut a b = EventIsWhole w m does cut b.runs b.board.image (Changes old new)
+PlayEnds (Ok (Whole (Starts x))) w m does cut a b = EventIsWhole w m does cut b.runs b.board.image (Starts x)
+PlayEnds (Ok (Cut before)) w m does cut a b = EventIsCut w m does cut b.board.image before
+PlayEnds (Err (Stopped before)) w m does cut a b = IsStopped w m does cut b.board
+PlayEnds (Err NoImage) w m does cut a b = IsLacking does cut b.board.image
+PlayEnds (Err NotAVolume) w m does cut a b = ⊥
 
 -- The event ended so, and the board's count did not fall: it is stopped only where it was, or where its count rose. The count
 -- stays unless the board stopped, also where a cut blew.
 pub record EventPlayed (r : Result TurnEnded Halt) (w : RuleWorld) (m : ℕ) (does : Does) (cut : Option PowerCut)
-    (v u : Option RunningMote) (old new : Device) : Type 0 where
-  pub ends : PlayEnds r w m does cut v u old new
-  pub endures : Endures (beneath_of old) (beneath_of new)
-  pub count : CountStays r old new
+    (a b : Host) : Type 0 where
+  pub ends : PlayEnds r w m does cut a b
+  pub endures : Endures (beneath_of a.board) (beneath_of b.board)
+  pub count : CountStays r a.board b.board

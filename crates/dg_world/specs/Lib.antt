@@ -2,6 +2,8 @@ pub mod Images
 pub mod Airs
 pub mod Neighbours
 pub mod Shareds
+pub mod Hosts
+pub mod Deployments
 pub mod Worlds
 pub mod Knows
 pub mod Occasions

@@ -45,51 +45,19 @@ pub record CutChangesAre (m : ℕ) (before : Option Shown) (t : Store) (told_bef
       → lines ≡ changes m s t
   pub told_now : told ≡ told_before ++ lines
 
--- they were found in a reading of the board, which stands for t
-abbrev pub CutTold : {T : Type 0} → Result T Fault → ℕ → Option Shown → Store → Device → Device → List Report → List Report
-    → Type 0
-CutTold (Ok u) m before t old new told_before told = CutChangesAre m before t told_before told × BoardOnlyRead old new
-    × (new.faults ≡ old.faults)
-CutTold (Err fault.Stopped) m before t old new told_before told =
-    (new.stopped ≡ true) × BoardOnlyRead old new × (told ≡ told_before)
-CutTold (Err fault.NotAVolume) m before t old new told_before told = ⊥
-CutTold (Err fault.NoImage) m before t old new told_before told = ⊥
+-- they were told by what was found on the board, which stands for t
+abbrev pub CutTold : {T : Type 0} → Result T Fault → (m : ℕ) → Option Shown → Store → (told_before told : List Report) → Type 0
+CutTold (Ok u) m before t told_before told = CutChangesAre m before t told_before told
+CutTold (Err fault.Stopped) m before t told_before told = told ≡ told_before
+CutTold (Err fault.NotAVolume) m before t told_before told = ⊥
+CutTold (Err fault.NoImage) m before t told_before told = ⊥
 
--- A step was done at its board, which stood for the mote's store: what the rules allow, where the mote and the board are then,
--- what was told, and what was sent.
-pub record StepDone (w : RuleWorld) (x : Step) (loud : Bool) (u : Option RunningMote) (frame : Option (List ℕ)) (new : Device)
-    (told_before told : List Report) : Type 0 where
-  pub world : RuleWorld
-  pub reports : List Report
-  pub step : WorldStep w x world reports
-  pub told_now : told ≡ told_before ++ filter (is_told loud) reports
-  pub here : Site
-  pub moment : world.moment ≡ w.moment + dt_of x.event
-  pub events : world.events ≡ w.events + 1
-  pub declared : world.declared ≡ w.declared
-  pub links : world.links ≡ w.links
-  pub narrow : world.narrow ≡ w.narrow
-  pub sent : world.sent ≡ w.sent ++ sent_now (mote_of x.event) frame
-  pub sites : world.sites ≡ slice_set w.sites (mote_of x.event) here
-  pub stands : Stands new.image here.store
-  pub mote : MoteStands new.image u here.store here.runs
-  pub memory : (d : Deed) (r : Runs) → does w x.event ≡ Goes d → blows x.cut d.trail ≡ false → d.started ≡ Some r
-      → program new.image (length r.pages) ≡ r.pages
-
-abbrev pub StepEnds : Result (Option (List ℕ)) Halt → RuleWorld → Step → (loud : Bool) → Option RunningMote → Device
-    → List Report → List Report → Type 0
-StepEnds (Ok frame) w x loud u new told_before told = StepDone w x loud u frame new told_before told
-StepEnds (Err (Stopped b)) w x loud u new told_before told = IsStopped w (mote_of x.event) (does w x.event) x.cut new
-    × (told ≡ told_before)
-StepEnds (Err NoImage) w x loud u new told_before told = IsLacking (does w x.event) x.cut new.image × (told ≡ told_before)
-StepEnds (Err NotAVolume) w x loud u new told_before told = ⊥
-
--- the step ended so at its board, whose count did not fall, and stays unless the board stopped, and left this of its mote
-pub record Stepped (r : Result (Option (List ℕ)) Halt) (w : RuleWorld) (x : Step) (loud : Bool) (u : Option RunningMote)
-    (old new : Device) (told_before told : List Report) : Type 0 where
-  pub ends : StepEnds r w x loud u new told_before told
-  pub endures : Endures (beneath_of old) (beneath_of new)
-  pub count : CountStays r old new
+-- for which it was read
+abbrev pub CutRead : {T : Type 0} → Result T Fault → Device → Device → Type 0
+CutRead (Ok u) old new = BoardOnlyRead old new × (new.faults ≡ old.faults)
+CutRead (Err fault.Stopped) old new = (new.stopped ≡ true) × BoardOnlyRead old new
+CutRead (Err fault.NotAVolume) old new = ⊥
+CutRead (Err fault.NoImage) old new = ⊥
 
 -- a board with what the mote there runs, and what was told so far
 pub record Station : Type 0 where
@@ -100,10 +68,46 @@ pub record Station : Type 0 where
 abbrev pub station : Device → Option RunningMote → List Report → Station
 station board runs told = record { board = board; runs = runs; told = told }
 
+-- A step was done at its board, which stood for the mote's store: what the rules allow, where the mote and the board are then,
+-- what was told, and what was sent. The station of the mote is b.
+pub record StepDone (w : RuleWorld) (x : Step) (loud : Bool) (frame : Option (List ℕ)) (told_before : List Report)
+    (b : Station) : Type 0 where
+  pub world : RuleWorld
+  pub reports : List Report
+  pub step : WorldStep w x world reports
+  pub told_now : b.told ≡ told_before ++ filter (is_told loud) reports
+  pub here : Site
+  pub moment : world.moment ≡ w.moment + dt_of x.event
+  pub events : world.events ≡ w.events + 1
+  pub declared : world.declared ≡ w.declared
+  pub links : world.links ≡ w.links
+  pub narrow : world.narrow ≡ w.narrow
+  pub sent : world.sent ≡ w.sent ++ sent_now (mote_of x.event) frame
+  pub sites : world.sites ≡ slice_set w.sites (mote_of x.event) here
+  pub stands : Stands b.board.image here.store
+  pub mote : MoteStands b.board.image b.runs here.store here.runs
+  pub memory : (d : Deed) (r : Runs) → does w x.event ≡ Goes d → blows x.cut d.trail ≡ false → d.started ≡ Some r
+      → program b.board.image (length r.pages) ≡ r.pages
+
+abbrev pub StepEnds : Result (Option (List ℕ)) Halt → RuleWorld → Step → (loud : Bool) → (told_before : List Report) → Station
+    → Type 0
+StepEnds (Ok frame) w x loud told_before b = StepDone w x loud frame told_before b
+StepEnds (Err (Stopped before)) w x loud told_before b = IsStopped w (mote_of x.event) (does w x.event) x.cut b.board
+    × (b.told ≡ told_before)
+StepEnds (Err NoImage) w x loud told_before b = IsLacking (does w x.event) x.cut b.board.image × (b.told ≡ told_before)
+StepEnds (Err NotAVolume) w x loud told_before b = ⊥
+
+-- The step ended so at its board, whose count did not fall, and stays unless the board stopped. The station of its mote was a
+-- and is b.
+pub record Stepped (r : Result (Option (List ℕ)) Halt) (w : RuleWorld) (x : Step) (loud : Bool) (a b : Station) : Type 0 where
+  pub ends : StepEnds r w x loud a.told b
+  pub endures : Endures (beneath_of a.board) (beneath_of b.board)
+  pub count : CountStays r a.board b.board
+
 -- What a step did at the station of its mote that answers r and has this to tell.
 pub record StepDid (r : Result (Unit {0}) Fault) (o : Occasion) (x : Step) (t : Telling) (a b : Station) : Type 0 where
   pub steps : (w : RuleWorld) → StepInRange (length w.sites) x → HappensIn o w x.event a.board a.runs
-      → Stepped (stepped r t) w x o.loud b.runs a.board b.board a.told b.told
+      → Stepped (stepped r t) w x o.loud a b
   pub sees : OnOk r ((w : RuleWorld) → HappensIn o w x.event a.board a.runs
       → StepSees w x.event o.known t.orderly b.runs a.board.image b.board.image)
   pub order_reads : IsTrue o.known → OrderTakes x.event a.board b.board

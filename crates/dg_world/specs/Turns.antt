@@ -24,6 +24,7 @@ use Rattle.dg_script.specs.declared.report.Report.{Report}
 use Rattle.dg_script.specs.declared.report.Report.TheVariants.{Start, Refused as RefusedLine}
 use Rattle.dg_world.specs.Shown.{Shows, changes_shown}
 use Rattle.dg_world.specs.Worlds.{MoteStands}
+use Rattle.dg_world.specs.Hosts.{Host}
 use Rattle.dg_world.specs.declared.starting.Begun.{Begun}
 use Rattle.dg_world.specs.declared.world.RunningMote.{RunningMote}
 use Rattle.dg_world.specs.declared.shown.Shown.{Shown}
@@ -110,13 +111,13 @@ pub record Lacked (does : Does) (old new : Device) : Type 0 where
   pub ran : Ran (operations deed.trail) old new
   pub stands : Stands new.image (last deed.trail)
 
--- What an event answers that does this at mote m, from a board that stood for the mote's store. Its mote was v and is u.
-abbrev pub TurnEnds : Result EventTurn Halt → RuleWorld → (m : ℕ) → Does → (v u : Option RunningMote) → Device → Device → Type 0
-TurnEnds (Ok (Refused why)) w m does v u old new = (does ≡ Refuses why) × Looked old new × (u ≡ v)
-TurnEnds (Ok Rests) w m does v u old new = DeedWent w m does u old new Rests
-TurnEnds (Ok (Sends bytes)) w m does v u old new = DeedWent w m does u old new (Sends bytes)
-TurnEnds (Ok (Changes a b)) w m does v u old new = DeedWent w m does u old new (Changes a b)
-TurnEnds (Ok (Starts x)) w m does v u old new = DeedWent w m does u old new (Starts x)
-TurnEnds (Err (Stopped before)) w m does v u old new = StoppedOn does (store_at w m) old new before
-TurnEnds (Err NoImage) w m does v u old new = Lacked does old new
-TurnEnds (Err NotAVolume) w m does v u old new = ⊥
+-- What an event answers that does this at mote m, from a board that stood for the mote's store: the host was a and is b.
+abbrev pub TurnEnds : Result EventTurn Halt → RuleWorld → (m : ℕ) → Does → (a b : Host) → Type 0
+TurnEnds (Ok (Refused why)) w m does a b = (does ≡ Refuses why) × Looked a.board b.board × (b.runs ≡ a.runs)
+TurnEnds (Ok Rests) w m does a b = DeedWent w m does b.runs a.board b.board Rests
+TurnEnds (Ok (Sends bytes)) w m does a b = DeedWent w m does b.runs a.board b.board (Sends bytes)
+TurnEnds (Ok (Changes old new)) w m does a b = DeedWent w m does b.runs a.board b.board (Changes old new)
+TurnEnds (Ok (Starts x)) w m does a b = DeedWent w m does b.runs a.board b.board (Starts x)
+TurnEnds (Err (Stopped before)) w m does a b = StoppedOn does (store_at w m) a.board b.board before
+TurnEnds (Err NoImage) w m does a b = Lacked does a.board b.board
+TurnEnds (Err NotAVolume) w m does a b = ⊥

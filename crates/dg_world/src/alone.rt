@@ -5,6 +5,7 @@ ghost use Rattle.dg_rules.specs.Events.{does, mote_of, dt_of};
 ghost use Rattle.dg_world.specs.Alone.{IsAlone, IsReset, PlaysAlone, Powers};
 ghost use Rattle.dg_world.specs.Tellings.{IsNothing, turned};
 ghost use Rattle.dg_world.specs.Turns.{TurnEnds};
+ghost use Rattle.dg_world.specs.Hosts.{host};
 ghost use Rattle.dg_world.specs.Worlds.{SiteStands, MayRun};
 
 use crate::hearing::hear;
@@ -57,7 +58,7 @@ fn happen_alone<N: Nor>(
     ensures ends { (w : RuleWorld) → SiteStands (N.device board.old) runs.old (site w (mote_of event.now))
         → now ≡ w.moment + dt_of event.now
         → wide_at w (mote_of event.now) ≡ true → TurnEnds (turned result telling.new) w (mote_of event.now)
-        (does w event.now) runs.old runs.new (N.device board.old) (N.device board.new) }
+        (does w event.now) (host (N.device board.old) runs.old) (host (N.device board.new) runs.new) }
     ensures powers { IsReset event.now → Powers result (N.device board.old) (N.device board.new) }
 {
     match event {

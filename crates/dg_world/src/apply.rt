@@ -7,7 +7,8 @@ ghost use Rattle.dg_rules.specs.Ranges.{StepInRange};
 ghost use Rattle.dg_world.specs.Worlds.{IsWorld};
 ghost use Rattle.dg_world.specs.Occasions.{step_of};
 ghost use Rattle.dg_world.specs.Applied.{fault_of};
-ghost use Rattle.dg_world.specs.Applying.{ApplyDone, ApplyMade, deployed};
+ghost use Rattle.dg_world.specs.Applying.{ApplyDone, ApplyMade};
+ghost use Rattle.dg_world.specs.Deployments.{deployed};
 ghost use Rattle.dg_world.specs.Tellings.{halt_of};
 ghost use Rattle.dg_world.specs.declared.shown.Shown.{Shown};
 

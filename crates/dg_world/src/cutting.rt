@@ -8,6 +8,7 @@ ghost use Rattle.dg_rules.specs.Events.{does, mote_of};
 ghost use Rattle.dg_rules.specs.Ranges.{EventInRange, CutInRange};
 ghost use Rattle.dg_world.specs.Occasions.{MayHappen, HappensIn};
 ghost use Rattle.dg_world.specs.Cuts.{ended, EventPlayed};
+ghost use Rattle.dg_world.specs.Hosts.{host};
 ghost use Rattle.dg_world.specs.Tellings.{IsNothing, turned, ended_as};
 ghost use Rattle.dg_world.specs.Unseen.{RefusesUnseen};
 ghost use Rattle.dg_world.specs.Known.{EventReads, EventSees};
@@ -65,8 +66,8 @@ pub(crate) fn play_cut<N: Nor>(
     requires may { MayHappen occasion.now event.now (N.device board.old) runs.old }
     requires nothing { IsNothing telling.old }
     ensures played { (w : RuleWorld) → HappensIn occasion.now w event.now (N.device board.old) runs.old
-        → EventPlayed (ended_as result telling.new) w (mote_of event.now) (does w event.now) (Some cut.now) runs.old runs.new
-        (N.device board.old) (N.device board.new) }
+        → EventPlayed (ended_as result telling.new) w (mote_of event.now) (does w event.now) (Some cut.now)
+        (host (N.device board.old) runs.old) (host (N.device board.new) runs.new) }
     ensures unseen { (w : RuleWorld) → HappensIn occasion.now w event.now (N.device board.old) runs.old
         → RefusesUnseen (does w event.now) → (board.new ≡ board.old) × (result ≡ Ok Power.Stays) }
     ensures reads { EventReads event.now occasion.now.known (result ≡ Ok Power.Stays) telling.new.refused (N.device board.old)

@@ -5,6 +5,7 @@ ghost use Rattle.dg_rules.specs.Events.{does, mote_of};
 ghost use Rattle.dg_rules.specs.Ranges.{EventInRange};
 ghost use Rattle.dg_rules.specs.Sizes.{most_motes};
 ghost use Rattle.dg_world.specs.Turns.{TurnEnds};
+ghost use Rattle.dg_world.specs.Hosts.{host};
 ghost use Rattle.dg_world.specs.Unseen.{RefusesUnseen};
 ghost use Rattle.dg_world.specs.Tellings.{IsNothing, turned};
 ghost use Rattle.dg_world.specs.Known.{EventSees, EventReads};
@@ -33,8 +34,8 @@ pub(crate) fn happen<N: Nor>(
     requires may { MayHappen occasion.now event.now (N.device board.old) runs.old }
     requires nothing { IsNothing telling.old }
     ensures ends { (w : RuleWorld) → HappensIn occasion.now w event.now (N.device board.old) runs.old
-        → TurnEnds (turned result telling.new) w (mote_of event.now) (does w event.now) runs.old runs.new (N.device board.old)
-        (N.device board.new) }
+        → TurnEnds (turned result telling.new) w (mote_of event.now) (does w event.now)
+        (host (N.device board.old) runs.old) (host (N.device board.new) runs.new) }
     // an event that is refused without a look at the chip uses no board
     ensures unseen { (w : RuleWorld) → HappensIn occasion.now w event.now (N.device board.old) runs.old
         → RefusesUnseen (does w event.now) → (board.new ≡ board.old) × OnErr result ⊥ }

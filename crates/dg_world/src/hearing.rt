@@ -8,6 +8,7 @@ ghost use Rattle.dg_rules.specs.Sizes.{most_motes};
 ghost use Rattle.dg_world.specs.Shareds.{IsShared};
 ghost use Rattle.dg_world.specs.Worlds.{MoteStands, SiteStands, IsTimelyMote, MayRun};
 ghost use Rattle.dg_world.specs.Turns.{IsQuiet, TurnEnds};
+ghost use Rattle.dg_world.specs.Hosts.{host};
 ghost use Rattle.dg_world.specs.Unseen.{RefusesUnseen};
 ghost use Rattle.dg_world.specs.Tellings.{IsNothing, turned};
 ghost use Rattle.dg_world.specs.Known.{SeesMote};
@@ -51,7 +52,7 @@ pub(crate) fn hear<N: Nor>(
     requires nothing { IsNothing telling.old }
     ensures ends { (w : RuleWorld) (m : ℕ) → SiteStands (N.device board.old) runs.old (site w m)
         → TurnEnds (turned result telling.new) w m (hear_by w (store_at w m)
-        (site w m).runs now word bytes.now) runs.old runs.new (N.device board.old) (N.device board.new) }
+        (site w m).runs now word bytes.now) (host (N.device board.old) runs.old) (host (N.device board.new) runs.new) }
     ensures unseen { (w : RuleWorld) (m : ℕ) → SiteStands (N.device board.old) runs.old (site w m)
         → RefusesUnseen (hear_by w (store_at w m) (site w m).runs now word bytes.now)
         → (board.new ≡ board.old) × OnErr result ⊥ }
@@ -91,7 +92,7 @@ pub(crate) fn hear_numbered<N: Nor>(
         → TurnEnds (turned result telling.new) w occasion.now.mote
         (unless_off (site w occasion.now.mote).runs (heard_sent w occasion.now.mote occasion.now.moment word
         (frame_at w number)))
-        runs.old runs.new (N.device board.old) (N.device board.new) }
+        (host (N.device board.old) runs.old) (host (N.device board.new) runs.new) }
     ensures unseen { (w : RuleWorld) → IsShared occasion.now.shared.now w
         → SiteStands (N.device board.old) runs.old (site w occasion.now.mote)
         → RefusesUnseen (unless_off (site w occasion.now.mote).runs (heard_sent w occasion.now.mote occasion.now.moment word
@@ -144,7 +145,7 @@ pub(crate) fn hear_last<N: Nor>(
         → TurnEnds (turned result telling.new) w occasion.now.mote
         (unless_off (site w occasion.now.mote).runs (if linked w from occasion.now.mote
         then heard_last w from occasion.now.mote occasion.now.moment word (last_frame w from) else Refuses Cause.Link))
-        runs.old runs.new (N.device board.old) (N.device board.new) }
+        (host (N.device board.old) runs.old) (host (N.device board.new) runs.new) }
     ensures unseen { (w : RuleWorld) → IsShared occasion.now.shared.now w
         → SiteStands (N.device board.old) runs.old (site w occasion.now.mote)
         → RefusesUnseen (unless_off (site w occasion.now.mote).runs (if linked w from occasion.now.mote

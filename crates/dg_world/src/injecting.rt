@@ -12,6 +12,7 @@ ghost use Rattle.dg_world.specs.Images.{Declares, row_of_image};
 ghost use Rattle.dg_world.specs.Shareds.{IsShared};
 ghost use Rattle.dg_world.specs.Worlds.{MoteStands, SiteStands, MayRun};
 ghost use Rattle.dg_world.specs.Turns.{TurnEnds};
+ghost use Rattle.dg_world.specs.Hosts.{host};
 ghost use Rattle.dg_world.specs.Unseen.{RefusesUnseen};
 ghost use Rattle.dg_world.specs.Tellings.{IsNothing, turned, turn_of};
 ghost use Rattle.dg_world.specs.Known.{IsKnownChip, SeesOrder, SeesInjected, InjectReads};
@@ -57,7 +58,7 @@ fn inject_image<N: Nor>(
     requires nothing { IsNothing telling.old }
     ensures ends { (w : RuleWorld) (m : ℕ) → SiteStands (N.device board.old) runs.old (site w m)
         → TurnEnds (turned result telling.new) w m (inject_row w m (Some (row_of_image key image.now)) occasion.now.moment word)
-        runs.old runs.new (N.device board.old) (N.device board.new) }
+        (host (N.device board.old) runs.old) (host (N.device board.new) runs.new) }
     ensures sees { OnOk result (IsSomeAnd telling.new.orderly (λ orderly. SeesOrder orderly (N.device board.new).image)) }
     ensures reads { OnOk result (InjectReads occasion.now.known telling.new.refused (N.device board.old) (N.device board.new)) }
     ensures same_reference { (N.device board.new).references ≡ (N.device board.old).references }
@@ -120,7 +121,7 @@ fn inject<N: Nor>(
         → TurnEnds (turned result telling.new) w m
         (if key.image == 0 then Refuses Cause.Reserved else inject_row w m
         (row_at w.declared key.image key.version) occasion.now.moment word)
-        runs.old runs.new (N.device board.old) (N.device board.new) }
+        (host (N.device board.old) runs.old) (host (N.device board.new) runs.new) }
     ensures unseen { (w : RuleWorld) (m : ℕ) → Declares occasion.now.shared.now.images w.declared
         → RefusesUnseen
         (if key.image == 0 then Refuses Cause.Reserved else inject_row w m
@@ -169,7 +170,7 @@ pub(crate) fn inject_known<N: Nor>(
         → SiteStands (N.device board.old) runs.old (site w occasion.now.mote)
         → TurnEnds (turned result telling.new) w occasion.now.mote (if knows (wide_at w occasion.now.mote) key.image
         then injects w occasion.now.mote key.image key.version occasion.now.moment word else Refuses Cause.Image)
-        runs.old runs.new (N.device board.old) (N.device board.new) }
+        (host (N.device board.old) runs.old) (host (N.device board.new) runs.new) }
     ensures unseen { (w : RuleWorld) → IsShared occasion.now.shared.now w
         → RefusesUnseen (if knows (wide_at w occasion.now.mote) key.image
         then injects w occasion.now.mote key.image key.version occasion.now.moment word else Refuses Cause.Image)

@@ -7,6 +7,7 @@ ghost use Rattle.dg_rules.specs.Events.{Refuses, order_cause, order_unless, know
 ghost use Rattle.dg_world.specs.Shareds.{IsShared};
 ghost use Rattle.dg_world.specs.Worlds.{SiteStands, MayRun};
 ghost use Rattle.dg_world.specs.Turns.{TurnEnds};
+ghost use Rattle.dg_world.specs.Hosts.{host};
 ghost use Rattle.dg_world.specs.Unseen.{RefusesUnseen};
 ghost use Rattle.dg_world.specs.Tellings.{IsNothing, turned, turn_of};
 ghost use Rattle.dg_world.specs.Known.{IsKnownChip, SeesOrder, SeesInjected, OrderReads};
@@ -41,7 +42,7 @@ fn order<N: Nor>(
         → TurnEnds (turned result telling.new) w m
         (order_unless (order_refusal (store_at w m) (record { number = number; image = key.image; version = key.version })) w m
         (record { number = number; image = key.image; version = key.version }) occasion.now.moment word)
-        runs.old runs.new (N.device board.old) (N.device board.new) }
+        (host (N.device board.old) runs.old) (host (N.device board.new) runs.new) }
     ensures sees { OnOk result (IsSomeAnd telling.new.orderly (λ orderly. SeesOrder orderly (N.device board.new).image)) }
     ensures reads { OrderReads occasion.now.known (N.device board.old) (N.device board.new) }
     ensures same_reference { (N.device board.new).references ≡ (N.device board.old).references }
@@ -86,7 +87,7 @@ pub(crate) fn order_known<N: Nor>(
         then orders w occasion.now.mote
         (record { number = number; image = key.image; version = key.version }) occasion.now.moment word
         else Refuses Cause.Image)
-        runs.old runs.new (N.device board.old) (N.device board.new) }
+        (host (N.device board.old) runs.old) (host (N.device board.new) runs.new) }
     ensures unseen { (w : RuleWorld) → IsShared occasion.now.shared.now w
         → RefusesUnseen (if knows (wide_at w occasion.now.mote) key.image
         then orders w occasion.now.mote

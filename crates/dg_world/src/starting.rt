@@ -8,6 +8,7 @@ ghost use Rattle.dg_base.specs.declared.events.Key.{Key as KeyValue};
 ghost use Rattle.dg_world.specs.Shareds.{IsShared};
 ghost use Rattle.dg_world.specs.Turn.{Starts};
 ghost use Rattle.dg_world.specs.Turns.{BeginsOver, TurnEnds};
+ghost use Rattle.dg_world.specs.Hosts.{host};
 ghost use Rattle.dg_world.specs.Alone.{Powers};
 ghost use Rattle.dg_world.specs.Tellings.{IsNothing, halt_of, turned};
 ghost use Rattle.dg_world.specs.Known.{SeesStart};
@@ -39,12 +40,12 @@ fn begin<N: Nor>(
     requires moment { now < 2 ^ 62 }
     ensures begun { IfOk result (λ b. (w : RuleWorld) (m : ℕ) (old : Option KeyValue) (v : Option RunningMote)
         → Stands (N.device board.old).image (store_at w m)
-        → TurnEnds (Ok (Starts b.line)) w m (of_effect w (boots kind (store_at w m) id wide now word) old) v (Some b.running)
-        (N.device board.old) (N.device board.new)) }
+        → TurnEnds (Ok (Starts b.line)) w m (of_effect w (boots kind (store_at w m) id wide now word) old)
+        (host (N.device board.old) v) (host (N.device board.new) (Some b.running))) }
     ensures halts { (f : Fault) → result ≡ Err f → (w : RuleWorld) (m : ℕ) (old : Option KeyValue) (v u : Option RunningMote)
         → Stands (N.device board.old).image (store_at w m)
-        → TurnEnds (Err (halt_of f None)) w m (of_effect w (boots kind (store_at w m) id wide now word) old) v u
-        (N.device board.old) (N.device board.new) }
+        → TurnEnds (Err (halt_of f None)) w m (of_effect w (boots kind (store_at w m) id wide now word) old)
+        (host (N.device board.old) v) (host (N.device board.new) u) }
     ensures powers { Powers result (N.device board.old) (N.device board.new) }
     ensures same_reference { (N.device board.new).references ≡ (N.device board.old).references }
 {
@@ -101,7 +102,7 @@ pub(crate) fn reset<N: Nor>(
     requires nothing { IsNothing telling.old }
     ensures ends { (w : RuleWorld) (m : ℕ) → m ≡ id → Stands (N.device board.old).image (store_at w m)
         → TurnEnds (turned result telling.new) w m (of_effect w (reset_effect
-        (store_at w m) m wide now word) None) runs.old runs.new (N.device board.old) (N.device board.new) }
+        (store_at w m) m wide now word) None) (host (N.device board.old) runs.old) (host (N.device board.new) runs.new) }
     ensures powers { Powers result (N.device board.old) (N.device board.new) }
     ensures sees { OnOk result (SeesStart telling.new runs.new) }
     ensures same_reference { (N.device board.new).references ≡ (N.device board.old).references }
@@ -126,7 +127,7 @@ pub(crate) fn reset_here<N: Nor>(
         → TurnEnds (turned result telling.new) w occasion.now.mote (of_effect w
         (reset_effect (store_at w occasion.now.mote) occasion.now.mote
         (wide_at w occasion.now.mote) occasion.now.moment word) None)
-        runs.old runs.new (N.device board.old) (N.device board.new) }
+        (host (N.device board.old) runs.old) (host (N.device board.new) runs.new) }
     ensures sees { OnOk result (SeesStart telling.new runs.new) }
     ensures same_reference { (N.device board.new).references ≡ (N.device board.old).references }
 {
@@ -154,12 +155,12 @@ pub(crate) fn restart<N: Nor>(
     requires moment { now < 2 ^ 62 }
     ensures begun { IfOk result (λ line. (w : RuleWorld) (m : ℕ) (old : Option KeyValue) (v : Option RunningMote)
         → Stands (N.device board.old).image (store_at w m)
-        → TurnEnds (Ok (Starts line)) w m (of_effect w (boots StartCause.Order (store_at w m) id wide now word) old) v
-        (Some running.new) (N.device board.old) (N.device board.new)) }
+        → TurnEnds (Ok (Starts line)) w m (of_effect w (boots StartCause.Order (store_at w m) id wide now word) old)
+        (host (N.device board.old) v) (host (N.device board.new) (Some running.new))) }
     ensures halts { (f : Fault) → result ≡ Err f → (w : RuleWorld) (m : ℕ) (old : Option KeyValue) (v u : Option RunningMote)
         → Stands (N.device board.old).image (store_at w m)
-        → TurnEnds (Err (halt_of f None)) w m (of_effect w (boots StartCause.Order (store_at w m) id wide now word) old) v u
-        (N.device board.old) (N.device board.new) }
+        → TurnEnds (Err (halt_of f None)) w m (of_effect w (boots StartCause.Order (store_at w m) id wide now word) old)
+        (host (N.device board.old) v) (host (N.device board.new) u) }
     ensures same_reference { (N.device board.new).references ≡ (N.device board.old).references }
 {
     match begin(StartCause::Order, id, wide, now, word, board) {

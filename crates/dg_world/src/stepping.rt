@@ -16,7 +16,7 @@ ghost use Rattle.dg_world.specs.Occasions.{step_of, MayHappen};
 ghost use Rattle.dg_world.specs.Turn.{Refused, Starts};
 ghost use Rattle.dg_world.specs.Turns.{turn_lines, sent_shown};
 ghost use Rattle.dg_world.specs.Tellings.{IsNothing, turn_of};
-ghost use Rattle.dg_world.specs.Stepped.{CutChangesAre, CutTold, StepDid, station};
+ghost use Rattle.dg_world.specs.Stepped.{CutChangesAre, CutTold, CutRead, StepDid, station};
 ghost use Rattle.dg_world.specs.Known.{IsKnownChip, IsOrder, MakesKnown, SeesOrder, SeesCut};
 
 use crate::cutting::play_cut;
@@ -155,7 +155,8 @@ fn look_again<N: Nor>(
     requires known_chip { IsTrue known → IsKnownChip (N.device board.old).image }
     requires room { vec_len out.old + MOST_CHANGES ≤ vec_capacity out.old }
     ensures told { (s : Store) → Stands (N.device board.old).image s
-        → CutTold result mote before.now s (N.device board.old) (N.device board.new) out.old.items out.new.items }
+        → CutTold result mote before.now s out.old.items out.new.items
+        × CutRead result (N.device board.old) (N.device board.new) }
     ensures sees { IfOk result (λ orderly. SeesOrder orderly (N.device board.new).image) }
     ensures took { IsTrue known → (n : ℕ) → RemountBytes (N.device board.old).image n
         → Took n (N.device board.old) (N.device board.new) }
@@ -209,7 +210,8 @@ fn look_after_cut<N: Nor>(
     requires known_chip { (known ≡ true) → IsOrder event.now → IsKnownChip (N.device board.old).image }
     requires room { vec_len out.old + MOST_CHANGES ≤ vec_capacity out.old }
     ensures told { (s : Store) → Stands (N.device board.old).image s
-        → CutTold result mote before.now s (N.device board.old) (N.device board.new) out.old.items out.new.items }
+        → CutTold result mote before.now s out.old.items out.new.items
+        × CutRead result (N.device board.old) (N.device board.new) }
     ensures sees { IfOk result (λ seen. (w : RuleWorld) → SeesCut w event.now known seen (N.device board.new).image) }
     ensures took { (known ≡ true) → IsOrder event.now → (n : ℕ) → RemountBytes (N.device board.old).image n
         → Took n (N.device board.old) (N.device board.new) }

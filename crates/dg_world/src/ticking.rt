@@ -6,6 +6,7 @@ ghost use Rattle.dg_rules.specs.World.{World as RuleWorld, Running, site, store_
 ghost use Rattle.dg_rules.specs.Events.{of_effect, tick_does};
 ghost use Rattle.dg_world.specs.Worlds.{MoteStands, SiteStands, IsTimelyMote, MayRun};
 ghost use Rattle.dg_world.specs.Turns.{TurnEnds};
+ghost use Rattle.dg_world.specs.Hosts.{host};
 ghost use Rattle.dg_world.specs.Unseen.{RefusesUnseen};
 ghost use Rattle.dg_world.specs.Tellings.{IsNothing, turned};
 ghost use Rattle.dg_world.specs.Known.{SeesMote};
@@ -32,7 +33,7 @@ fn tick_on<N: Nor>(
     ensures ends { (w : RuleWorld) (m : ℕ) (r : Running) → Stands (N.device board.old).image (store_at w m)
         → MoteStands (N.device board.old).image (Some running.old) (store_at w m) (Some r)
         → TurnEnds (turned result telling.new) w m (of_effect w (tick_effect r.mote (store_at w m) now word) (Some r.key))
-        (Some running.old) (Some running.new) (N.device board.old) (N.device board.new) }
+        (host (N.device board.old) (Some running.old)) (host (N.device board.new) (Some running.new)) }
     ensures sees { OnOk result (telling.new.orderly ≡ None) }
     ensures same_reference { (N.device board.new).references ≡ (N.device board.old).references }
 {
@@ -65,8 +66,8 @@ pub(crate) fn tick<N: Nor>(
     requires moment { now < 2 ^ 62 }
     requires nothing { IsNothing telling.old }
     ensures ends { (w : RuleWorld) (m : ℕ) → SiteStands (N.device board.old) runs.old (site w m)
-        → TurnEnds (turned result telling.new) w m (tick_does w (store_at w m) (site w m).runs now word) runs.old runs.new
-        (N.device board.old) (N.device board.new) }
+        → TurnEnds (turned result telling.new) w m (tick_does w (store_at w m) (site w m).runs now word)
+        (host (N.device board.old) runs.old) (host (N.device board.new) runs.new) }
     ensures unseen { (w : RuleWorld) (m : ℕ) → SiteStands (N.device board.old) runs.old (site w m)
         → RefusesUnseen (tick_does w (store_at w m) (site w m).runs now word)
         → (board.new ≡ board.old) × OnErr result ⊥ }

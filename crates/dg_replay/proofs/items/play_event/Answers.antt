@@ -11,7 +11,7 @@ returns-in-Ok-clause-played g c = λ w initial is stands.
 pub returns-in-Ok-clause-goes_on : goal.returns-in-Ok-clause-goes_on
 returns-in-Ok-clause-goes_on g c =
     goes_on c.tell.result c.args.world.now c.apply.new.self _ _
-    (λ w is. applied_goes w (step_of c.args.event.now (option_copied c.args.cut)) c.args.loud c.apply.new.self _ _ c.clear.new.self.items c.apply.new.out.items (c.in-Ok.ensures.applied w is))
+    (λ w is. applied_goes w (step_of c.args.event.now (option_copied c.args.cut)) c.args.loud c.args.world.now c.apply.new.self _ _ c.clear.new.self.items c.apply.new.out.items (c.in-Ok.ensures.applied w is))
 
 pub returns-in-Err-Memory-clause-played : goal.returns-in-Err-Memory-clause-played
 returns-in-Err-Memory-clause-played g c = λ w initial is stands.

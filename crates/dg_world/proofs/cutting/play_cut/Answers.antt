@@ -9,6 +9,7 @@ use Rattle.dg_rules.specs.Events.{does, mote_of}
 use Rattle.dg_world.specs.Worlds.{MoteStands, SiteStands, MayRun}
 use Rattle.dg_world.specs.declared.world.RunningMote.{RunningMote}
 use Rattle.dg_world.specs.Cuts.{ended, EventPlayed}
+use Rattle.dg_world.specs.Hosts.{host}
 use Rattle.dg_world.specs.Tellings.{turned, ended_as}
 use Rattle.dg_world.proofs.CutLemmas.{is_fused, fused, played_as}
 use Rattle.dg_world.proofs.UnseenLemmas.{ended_on}
@@ -54,7 +55,7 @@ returns-clause-played g c = λ w on.
     let e = c.end_turn.ensures t
     ∙ ap (λ b. ended (b && not c.is_stopped-stopped.result) (turned c.happen-done.result t)) c.blown-blown.ensures
     ∙ ap (λ b. ended (c.happen-done.new.board.blown && not b) (turned c.happen-done.result t)) awake in
-    let P : g.row.N.Denot → Type 0 = λ x. EventPlayed (ended_as c.end_turn.result t) w m (does w c.args.event.now) (Some cut) v u (device c.args.board.now) (device x) in
+    let P : g.row.N.Denot → Type 0 = λ x. EventPlayed (ended_as c.end_turn.result t) w m (does w c.args.event.now) (Some cut) (host (device c.args.board.now) v) (host (device x) u) in
     subst P (sym last) (played_as (ended_as c.end_turn.result t) _ (Some cut) (Some cut) w m (does w c.args.event.now) v u _ _ e refl p)
 
 pub returns-clause-unseen : goal.returns-clause-unseen

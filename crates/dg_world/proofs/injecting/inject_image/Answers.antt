@@ -7,6 +7,7 @@ use Rattle.dg_rules.specs.Events.{inject_row, inject_cause}
 use Rattle.dg_world.specs.Images.{row_of_image}
 use Rattle.dg_world.specs.Turn.{Changes}
 use Rattle.dg_world.specs.Turns.{TurnEnds}
+use Rattle.dg_world.specs.Hosts.{host}
 use Rattle.dg_world.specs.Tellings.{turn_of, turned}
 use Rattle.dg_world.specs.declared.telling.Telling.{Telling}
 use Rattle.dg_world.proofs.TellingLemmas.{turned_err, told_as, is_changed, is_refused}
@@ -40,7 +41,7 @@ returns-in-Ok-clause-ends g c = λ w m stands.
     let e = c.in-Ok.ensures in
     let ends = e.ends s mounted in
     let acted = ends.acted in
-    let P : Row → Type 0 = λ x. TurnEnds (Ok (Changes c.show.result c.show-in-Ok.result)) w m (inject_row w m (Some x) c.args.occasion.now.moment c.args.word) c.args.runs.now u a b in
+    let P : Row → Type 0 = λ x. TurnEnds (Ok (Changes c.show.result c.show-in-Ok.result)) w m (inject_row w m (Some x) c.args.occasion.now.moment c.args.word) (host a c.args.runs.now) (host b u) in
     told_as w m _ _ _ _ _ _ _ (is_changed _ _ _ c.show.result c.show-in-Ok.result n.sent n.refused n.started)
     (subst P same
     (injected w m c.args.occasion.now.moment c.args.word row _ c.args.runs.now u a _ b c.show.result c.show-in-Ok.result (inject_refusal s row) ends.allowed c.in_ok-volume.ensures.looked acted
@@ -63,7 +64,7 @@ returns-in_err-inject_fault-in-Err-clause-ends g c = λ w m stands.
     let told = c.inject_fault.ensures in
     let from = c.from_residual-in_err-inject_fault-in-Err in
     let t : Telling = record c.args.telling.now { before = Some c.show.result } in
-    let P : Row → Type 0 = λ x. TurnEnds (turned from.result t) w m (inject_row w m (Some x) c.args.occasion.now.moment c.args.word) v v a b in
+    let P : Row → Type 0 = λ x. TurnEnds (turned from.result t) w m (inject_row w m (Some x) c.args.occasion.now.moment c.args.word) (host a v) (host b v) in
     subst P same
     (inject_faulted w m c.args.occasion.now.moment c.args.word row v a _ b c.show.result fault (turned from.result t)
     (stop_stopped (fault ≡ inject.Stopped) c.inject_fault.result q.field-0.0 from.result t c.show.result q.was from.ensures.1 refl told.stopped)
@@ -88,7 +89,7 @@ returns-in_ok-inject_fault-in-Err-clause-ends g c = λ w m stands.
     let q = c.in_ok-inject_fault-in-Err in
     let told = c.inject_fault.ensures in
     let t : Telling = record c.args.telling.now { refused = Some q.field-0; before = Some c.show.result } in
-    let P : Row → Type 0 = λ x. TurnEnds (Ok (turn_of t)) w m (inject_row w m (Some x) c.args.occasion.now.moment c.args.word) v v a b in
+    let P : Row → Type 0 = λ x. TurnEnds (Ok (turn_of t)) w m (inject_row w m (Some x) c.args.occasion.now.moment c.args.word) (host a v) (host b v) in
     subst P same
     (inject_faulted w m c.args.occasion.now.moment c.args.word row v a _ b c.show.result fault (Ok (turn_of t))
     (cause_stopped (fault ≡ inject.Stopped) c.inject_fault.result q.field-0 (Ok (turn_of t)) c.show.result q.was told.stopped)

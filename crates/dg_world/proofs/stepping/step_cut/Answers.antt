@@ -6,7 +6,7 @@ use Rattle.dg_script.specs.declared.report.Report.TheVariants.{Off}
 use Rattle.dg_world.specs.Occasions.{step_of}
 use Rattle.dg_world.specs.Turns.{turn_lines}
 use Rattle.dg_world.specs.Tellings.{turn_of, ended_as}
-use Rattle.dg_world.specs.Stepped.{Stepped}
+use Rattle.dg_world.specs.Stepped.{Stepped, station}
 use Rattle.dg_world.specs.declared.telling.Power.{Power}
 use Rattle.dg_world.proofs.CutLemmas.{played_as}
 use Rattle.dg_world.proofs.TellingLemmas.{frame_told}
@@ -80,7 +80,7 @@ returns-in_ok-orderly-in-Cut g c =
     record {
       steps = λ w fits on.
           let p = played_as _ (ended_as c.play_cut.result t) x.cut (Some c.args.cut.now) w m (does w event) _ _ _ _ (sym (ap (λ r. ended_as r t) was)) refl (c.play_cut.ensures.played w on) in
-          let P : Option (List ℕ) → Type 0 = λ sent. Stepped (Ok sent) w x o.loud None a (g.N.Nor.device c.look_after_cut.new.board) told c.push_reserved.new.self.items in
+          let P : Option (List ℕ) → Type 0 = λ sent. Stepped (Ok sent) w x o.loud (station a c.args.runs.now told) (station (g.N.Nor.device c.look_after_cut.new.board) None c.push_reserved.new.self.items) in
           subst P (sym c.new-telling.ensures)
           (step_cut w x o.loud _ _ t.before c.look_after_cut.result _ _ _ _ told c.look_after_cut.new.out.items c.push_reserved.new.self.items p c.in_ok-orderly-in-Cut.was
           (told_at c.look_after_cut.result o.mote m t.before p.ends.leaves.store _ _ _ _ same (c.look_after_cut.ensures.told p.ends.leaves.store p.ends.leaves.stands_for))

@@ -1,6 +1,7 @@
 use Rattle.std.proofs.Common.{◌≡◌, List, length, map, drop, option_copied, refl, sym, subst, arith}
 use Rattle.dg_script.specs.declared.report.Report.{Report}
-use Rattle.dg_world.specs.Applying.{deployed, ApplyMade}
+use Rattle.dg_world.specs.Deployments.{deployed}
+use Rattle.dg_world.specs.Applying.{ApplyMade}
 use Rattle.dg_world.specs.Occasions.{step_of}
 use Rattle.dg_world.specs.Worlds.{IsWorld}
 use Rattle.dg_world.specs.declared.world.World.{World}

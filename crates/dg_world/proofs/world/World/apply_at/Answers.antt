@@ -98,7 +98,7 @@ returns-in-Ok g c =
           (c.in-Ok.ensures.sees w (record { shared = is.shared; stands = stands w is; moment = now w is })) after (on_control b.image c.step_at.new.runs stepped.ends.here.store stepped.ends.here.runs stepped.ends.mote) in
           let others : (k : ℕ) → k ≢ i → set.contains c.note.new.boards k ≡ known_of v k = λ k other. c.note.ensures.others k (λ e. other (e ∙ sym c.from-index.ensures)) in
           let noted = ap (λ (j : ℕ). set.contains c.note.new.boards j) c.from-index.ensures ∙ c.note.ensures.here in
-          applied_at v _ bs _ w x c.args.loud i c.step_at.new.runs (sent_in t.outbox) _ b c.args.out.now.items c.step_at.new.out.items put is at (within w is) c.requires.few short
+          applied_at v _ bs _ w x c.args.loud i _ c.step_at.new.runs (sent_in t.outbox) _ b c.args.out.now.items c.step_at.new.out.items put is at (within w is) c.requires.few short
           (record { moment_then = now w is; events = refl; images = refl; links = refl; narrow = refl; sends = λ before carries. sent_at c.mote_at-mote.result i (sent_in t.outbox) before c.send.new.self c.from-index.ensures (c.send.ensures before carries); motes = refl })
           (record { others = others; here = λ known. (iff.0 (sym noted ∙ known)).0 }) here stepped
           (λ z reports step. c.agreement_is_kept.ensures.timely w z x reports is.timely fits step);
@@ -149,7 +149,7 @@ returns-in-Err g c =
     record {
       ends = λ w is fits.
           let stepped = c.in-Err.ensures.steps w fits (record { shared = is.shared; stands = stands w is; moment = now w is }) in
-          halts_there (halt_of c.in-Err.fault t.before) c.fault_at.result v _ bs _ w x c.args.loud _ i c.mote_at-mote.result _ b c.args.out.now.items c.step_at.new.out.items put (c.fault_at.ensures t.before) c.from-index.ensures is at (within w is) here stepped;
+          halts_there (halt_of c.in-Err.fault t.before) c.fault_at.result v _ bs _ w x c.args.loud _ _ i c.mote_at-mote.result _ b c.args.out.now.items c.step_at.new.out.items put (c.fault_at.ensures t.before) c.from-index.ensures is at (within w is) here stepped;
       known = tt;
       order_reads = λ w m p q is same known old new.
           said_at (λ d e. OrderTakes event d e) bs _ i m _ b p q put (omega (arith, wide, length-map boards device)) here (at ∙ sym same) old new (c.step_at.ensures.order_reads (is_known m same known));
