@@ -1,33 +1,46 @@
 -- What a step answers that is not begun, and one that is.
-use Rattle.std.proofs.Common.{◌≡◌, ℕ, ◌<◌, ◌≤◌, Bool, List, ◌++◌, length, take, refl, ◌∙◌, subst, ⊎_elim, arith}
-use Rattle.std.proofs.lemmas.List.{take-append-le, take_all}
-use Rattle.std.specs.Prelude.{Result, Ok, Err}
+use Rattle.std.proofs.Common.{◌≡◌, ℕ, ◌<◌, ◌≤◌, Bool, true, List, length, refl, subst, ⊎_elim, arith}
+use Rattle.std.specs.Prelude.{Result, Some, Ok, Err, OnOk, OnErr, slice_get}
+use Rattle.dg_nor.specs.Device.{Device}
 use Rattle.dg_object.specs.Object.{Row}
 use Rattle.dg_base.specs.declared.events.Step.{Step}
 use Rattle.dg_script.specs.declared.report.Report.{Report}
 use Rattle.dg_rules.specs.Sizes.{most_events}
 use Rattle.dg_rules.specs.World.{World as RuleWorld, Sent}
+use Rattle.dg_rules.specs.Events.{does, mote_of}
 use Rattle.dg_rules.specs.Steps.{WorldStep}
 use Rattle.dg_rules.specs.Ranges.{StepInRange, EventInRange}
 use Rattle.dg_rules.specs.Consistency.{WorldConsistent, StopsConsistent}
 use Rattle.dg_world.specs.Airs.{Carries}
 use Rattle.dg_world.specs.Deployments.{Deployment}
 use Rattle.dg_world.specs.Applied.{Applied, FlashAt}
-use Rattle.dg_world.specs.Applying.{IsOf, ApplyDone, ApplyMade}
+use Rattle.dg_world.specs.Applying.{IsOf, ApplyDone}
+use Rattle.dg_world.specs.Known.{known_of, OrderTakes, InjectTakes}
+use Rattle.dg_world.specs.Knows.{KnowsThen}
+use Rattle.dg_world.specs.Unseen.{RefusesUnseen}
 use Rattle.dg_world.specs.declared.air.Air.{Air}
 use Rattle.dg_world.specs.declared.world.WorldFault.{WorldFault}
 use Rattle.dg_world.specs.declared.world.WorldFault.TheVariants.{Memory, Flash, TooMany, NotAVolume, NoImage}
 use Rattle.dg_world.proofs.KnownLemmas.{same_takes}
-use Rattle.dg_world.proofs.PlaceLemmas.{reserved}
+use Rattle.dg_world.proofs.PlaceLemmas.{ApplyEnds, reserved}
 use Rattle.dg_world.proofs.SoundLemmas.{same_count, applied_consistent, flash_consistent}
-
--- the elements of a vector that were lent as a slice
-pub given_back : {A : Type 0} (n : ℕ) (now rest : List A) → n ≡ length now → take n (now ++ rest) ≡ now
-given_back n now rest e = take-append-le n now rest (omega (arith, e)) ∙ take_all n now (omega (arith, e))
 
 -- another fault
 other : {A : Type 0} (e f : WorldFault) → ◌≡◌ {A = Result (Unit {0}) WorldFault} (Err e) (Err f) → (e ≡ f → A) → A
 other e f same go = go (let g : e ≡ f = cc in g)
+
+-- What a step that was begun made of a, which is b then: there is room for all that it needs, so that it is not refused for want
+-- of memory, nor for want of events.
+pub record ApplyMade (r : Result (Unit {0}) WorldFault) (x : Step) (loud : Bool) (a b : Deployment) : Type 0 where
+  pub ends : (w : RuleWorld) → IsOf a w → StepInRange (length w.sites) x → ApplyEnds r w x loud a b
+  pub known : OnOk r ((w : RuleWorld) → IsOf a w → StepInRange (length w.sites) x → KnowsThen w x.event a.world b.world b.boards)
+  pub order_reads : (w : RuleWorld) (m : ℕ) (old new : Device) → IsOf a w → m ≡ mote_of x.event → known_of a.world m ≡ true
+      → slice_get a.boards m ≡ Some old → slice_get b.boards m ≡ Some new → OrderTakes x.event old new
+  pub inject_reads : OnOk r ((w : RuleWorld) (m : ℕ) (old new : Device) → IsOf a w → m ≡ mote_of x.event
+      → known_of a.world m ≡ true → slice_get a.boards m ≡ Some old → slice_get b.boards m ≡ Some new
+      → InjectTakes w x.event old new)
+  pub unseen : (w : RuleWorld) → IsOf a w → StepInRange (length w.sites) x → RefusesUnseen (does w x.event)
+      → (b.boards ≡ a.boards) × OnErr r ⊥
 
 -- A world that has made all its events makes no more.
 pub full_done : (x : Step) (loud : Bool) (a : Deployment) → most_events ≤ a.world.events → ApplyDone (Err TooMany) x loud a a

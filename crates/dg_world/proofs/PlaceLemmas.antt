@@ -34,13 +34,14 @@ use Rattle.dg_world.specs.declared.links.Links.{Links}
 use Rattle.dg_world.specs.Neighbours.{KnowsLinks}
 use Rattle.dg_world.specs.Worlds.{MoteStands, SiteStands, MayRun, IsWorld}
 use Rattle.dg_world.specs.Counts.{NoneRose}
-use Rattle.dg_world.specs.Applied.{OneBoard, Applied, FlashAt, RunEnded, ApplyEnds, fault_of}
-use Rattle.dg_world.specs.Deployments.{deployed}
+use Rattle.dg_world.specs.Applied.{OneBoard, Applied, FlashAt, RunEnded, fault_of}
+use Rattle.dg_world.specs.Deployments.{Deployment, deployed}
 use Rattle.dg_world.specs.Cuts.{IsStopped, IsLacking}
 use Rattle.dg_world.specs.Stepped.{StepDone, Stepped, station}
 use Rattle.dg_world.specs.declared.air.Air.{Air}
 use Rattle.dg_world.specs.declared.images.Images.{Images}
 use Rattle.dg_world.specs.declared.world.WorldFault.{WorldFault}
+use Rattle.dg_world.specs.declared.world.WorldFault.TheVariants as world_fault
 use Rattle.dg_world.specs.declared.world.World.{World}
 use Rattle.dg_world.specs.declared.world.RunningMote.{RunningMote}
 use Rattle.dg_world.specs.Turn.{Halt, Stopped, NotAVolume, NoImage}
@@ -269,6 +270,15 @@ pub runs_at : (v : World) (bs : List Device) (w : RuleWorld) (i now : ℕ) (a : 
 runs_at v bs w i now a runs is known here read later =
     let s = stands_at v bs w i i a runs is refl known here read in
     may_run a.image runs (site w i).store (site w i).runs w.moment now (omega (arith, later, is.moment)) s.mote (is.timely i known)
+
+-- what a step answers that was begun
+abbrev pub ApplyEnds : Result (Unit {0}) WorldFault → RuleWorld → Step → (loud : Bool) → (a b : Deployment) → Type 0
+ApplyEnds (Ok u) w x loud a b = Applied w x loud a b
+ApplyEnds (Err (world_fault.Flash board)) w x loud a b = FlashAt w x board a.boards b.boards × (b.told ≡ a.told)
+ApplyEnds (Err world_fault.NoImage) w x loud a b = RunEnded w x a.boards b.boards × (b.told ≡ a.told)
+ApplyEnds (Err world_fault.NotAVolume) w x loud a b = ⊥
+ApplyEnds (Err world_fault.Memory) w x loud a b = ⊥
+ApplyEnds (Err world_fault.TooMany) w x loud a b = ⊥
 
 pub halts_at : (h : Halt) (f : WorldFault) (v u : World) (bs : List Device) (w : RuleWorld) (x : Step) (loud : Bool) (was runs : Option RunningMote) (i mote : ℕ) (a b : Device) (start end : List Report) → f ≡ fault_of h mote → i ≡ mote → IsWorld v bs w → i ≡ mote_of x.event → i < length w.sites
     → slice_get bs i ≡ Some a → Stepped (Err h) w x loud (station a was start) (station b runs end) → ApplyEnds (Err f) w x loud (deployed v bs start) (deployed u (set bs i b) end)

@@ -1,6 +1,5 @@
 -- What a step does to a world and its boards.
 use Rattle.std.specs.Prelude.{◌≡◌, ◌≢◌, ◌⊎◌, ℕ, ◌-◌, ◌<◌, ◌≤◌, Bool, true, false, List, ◌++◌, length, slice_get, Some, IfSome}
-use Rattle.std.specs.Prelude.{Result, Ok, Err}
 use Rattle.std.specs.List.{filter}
 use Rattle.dg_words.specs.Counts.{Rose}
 use Rattle.dg_nor.specs.Device.{Device, Endures}
@@ -20,7 +19,7 @@ use Rattle.dg_rules.specs.Steps.{WorldStep, EndsRun, blows}
 use Rattle.dg_base.specs.declared.events.Step.{Step}
 use Rattle.dg_script.specs.declared.report.Report.{Report}
 use Rattle.dg_world.specs.declared.world.WorldFault.{WorldFault}
-use Rattle.dg_world.specs.declared.world.WorldFault.TheVariants.{Memory, Flash, TooMany, NotAVolume as NotAVolumeFault}
+use Rattle.dg_world.specs.declared.world.WorldFault.TheVariants.{Flash, NotAVolume as NotAVolumeFault}
 use Rattle.dg_world.specs.declared.world.WorldFault.TheVariants.{NoImage as NoImageFault}
 use Rattle.dg_world.specs.declared.world.World.{World}
 use Rattle.dg_world.specs.Worlds.{IsWorld}
@@ -96,14 +95,6 @@ abbrev pub fault_of : Halt → ℕ → WorldFault
 fault_of (Stopped before) mote = Flash mote
 fault_of NotAVolume mote = NotAVolumeFault
 fault_of NoImage mote = NoImageFault
-
-abbrev pub ApplyEnds : Result (Unit {0}) WorldFault → RuleWorld → Step → (loud : Bool) → (a b : Deployment) → Type 0
-ApplyEnds (Ok u) w x loud a b = Applied w x loud a b
-ApplyEnds (Err (Flash board)) w x loud a b = FlashAt w x board a.boards b.boards × (b.told ≡ a.told)
-ApplyEnds (Err NoImageFault) w x loud a b = RunEnded w x a.boards b.boards × (b.told ≡ a.told)
-ApplyEnds (Err NotAVolumeFault) w x loud a b = ⊥
-ApplyEnds (Err Memory) w x loud a b = ⊥
-ApplyEnds (Err TooMany) w x loud a b = ⊥
 
 -- ---- whatever frames carry
 

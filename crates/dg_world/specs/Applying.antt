@@ -1,20 +1,17 @@
 -- All that is promised of a step of a world.
-use Rattle.std.specs.Prelude.{◌≡◌, ◌⊎◌, ℕ, true, Bool, List, length, slice_get, Some, IfSome, OnOk, OnErr, Result, Err}
+use Rattle.std.specs.Prelude.{◌≡◌, ◌⊎◌, ℕ, true, Bool, slice_get, Some, IfSome, OnOk, OnErr, Result, Err}
 use Rattle.dg_nor.specs.Device.{Device}
 use Rattle.dg_object.specs.Object.{Row}
 use Rattle.dg_base.specs.declared.events.Step.{Step}
-use Rattle.dg_script.specs.declared.report.Report.{Report}
 use Rattle.dg_rules.specs.Sizes.{most_events}
 use Rattle.dg_rules.specs.World.{World as RuleWorld}
 use Rattle.dg_rules.specs.Events.{does, mote_of}
-use Rattle.dg_rules.specs.Ranges.{StepInRange}
-use Rattle.dg_world.specs.Applied.{Applied, FlashAt, RunEnded, ApplyEnds, BoardsAreConsistent, BoardIsConsistent}
+use Rattle.dg_world.specs.Applied.{Applied, FlashAt, RunEnded, BoardsAreConsistent, BoardIsConsistent}
 use Rattle.dg_world.specs.Known.{known_of, OrderTakes, InjectTakes}
 use Rattle.dg_world.specs.Knows.{KnowsThen}
 use Rattle.dg_world.specs.Unseen.{RefusesUnseen}
 use Rattle.dg_world.specs.Worlds.{IsWorld}
 use Rattle.dg_world.specs.Deployments.{Deployment}
-use Rattle.dg_world.specs.declared.world.World.{World}
 use Rattle.dg_world.specs.declared.world.WorldFault.{WorldFault}
 use Rattle.dg_world.specs.declared.world.WorldFault.TheVariants.{Memory, Flash, TooMany, NotAVolume, NoImage}
 
@@ -51,15 +48,3 @@ pub record ApplyDone (r : Result (Unit {0}) WorldFault) (x : Step) (loud : Bool)
       → BoardsAreConsistent golden b.world b.boards)
   pub stops_consistent : (golden : Row) (board : ℕ) → r ≡ Err (Flash board) → BoardsAreConsistent golden a.world a.boards
       → IfSome (slice_get b.boards board) (BoardIsConsistent golden)
-
--- The same where there is room for all that a step needs: it is not refused for want of memory, nor for want of events.
-pub record ApplyMade (r : Result (Unit {0}) WorldFault) (x : Step) (loud : Bool) (a b : Deployment) : Type 0 where
-  pub ends : (w : RuleWorld) → IsOf a w → StepInRange (length w.sites) x → ApplyEnds r w x loud a b
-  pub known : OnOk r ((w : RuleWorld) → IsOf a w → StepInRange (length w.sites) x → KnowsThen w x.event a.world b.world b.boards)
-  pub order_reads : (w : RuleWorld) (m : ℕ) (old new : Device) → IsOf a w → m ≡ mote_of x.event → known_of a.world m ≡ true
-      → slice_get a.boards m ≡ Some old → slice_get b.boards m ≡ Some new → OrderTakes x.event old new
-  pub inject_reads : OnOk r ((w : RuleWorld) (m : ℕ) (old new : Device) → IsOf a w → m ≡ mote_of x.event
-      → known_of a.world m ≡ true → slice_get a.boards m ≡ Some old → slice_get b.boards m ≡ Some new
-      → InjectTakes w x.event old new)
-  pub unseen : (w : RuleWorld) → IsOf a w → StepInRange (length w.sites) x → RefusesUnseen (does w x.event)
-      → (b.boards ≡ a.boards) × OnErr r ⊥

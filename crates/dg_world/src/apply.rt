@@ -1,13 +1,11 @@
 //! The steps of a world.
-ghost use Rattle.std.specs.Prelude.{◌≡◌, ◌+◌, ◌<◌, ◌≤◌, Option, map, length, vec_len, option_copied};
-ghost use Rattle.std.specs.Vec.{vec_capacity};
-ghost use Rattle.dg_rules.specs.Sizes.{most_events};
+ghost use Rattle.std.specs.Prelude.{◌≡◌, Option, map, length, option_copied};
 ghost use Rattle.dg_rules.specs.World.{World as RuleWorld};
 ghost use Rattle.dg_rules.specs.Ranges.{StepInRange};
 ghost use Rattle.dg_world.specs.Worlds.{IsWorld};
 ghost use Rattle.dg_world.specs.Occasions.{step_of};
 ghost use Rattle.dg_world.specs.Applied.{fault_of};
-ghost use Rattle.dg_world.specs.Applying.{ApplyDone, ApplyMade};
+ghost use Rattle.dg_world.specs.Applying.{ApplyDone};
 ghost use Rattle.dg_world.specs.Deployments.{deployed};
 ghost use Rattle.dg_world.specs.Tellings.{halt_of};
 ghost use Rattle.dg_world.specs.declared.shown.Shown.{Shown};
@@ -41,6 +39,7 @@ impl World {
             (deployed self.new (map N.device boards.new.items) out.new.items) }
     {
         consistency_is_kept();
+        agreement_is_kept();
         if self.events >= MOST_EVENTS {
             return Err(WorldFault::TooMany);
         }
@@ -50,28 +49,6 @@ impl World {
         if out.reserve(MOST_LINES).is_err() {
             return Err(WorldFault::Memory);
         }
-        self.apply_at(boards.as_mut_slice(), event, cut, loud, out)
-    }
-
-    /// The same, where one event more may be applied and there is room for what it tells and for a frame that is sent.
-    fn apply_at<N: Nor>(
-        &mut self,
-        boards: &mut [N],
-        event: &Event,
-        cut: Option<&Cut>,
-        loud: bool,
-        out: &mut Vec<Report>,
-    ) -> Result<(), WorldFault>
-        requires world { (w : RuleWorld) × IsWorld self.old (map N.device boards.old) w
-            × StepInRange (length w.sites) (step_of event.now (option_copied cut)) }
-        requires few { self.old.events < most_events }
-        requires room { vec_len out.old + MOST_LINES ≤ vec_capacity out.old }
-        requires place { vec_len self.old.shared.air.frames + 1 ≤ vec_capacity self.old.shared.air.frames }
-        ensures { ApplyMade result (step_of event.now (option_copied cut.entry)) loud
-            (deployed self.old (map N.device boards.old) out.old.items)
-            (deployed self.new (map N.device boards.new) out.new.items) }
-    {
-        agreement_is_kept();
         let mote = mote_at(event);
         let index = usize::from(mote);
         let moment = self.moment + u64::from(dt_at(event));
