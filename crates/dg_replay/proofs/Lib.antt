@@ -24,6 +24,7 @@ pub mod LiftLemmas
 pub mod LineByLine
 pub mod UsedLemmas
 pub mod FollowingLemmas
+pub mod WayLemmas
 pub mod LinesReadLemmas
 pub mod InputLemmas
 pub mod RunLemmas

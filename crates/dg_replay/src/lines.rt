@@ -15,7 +15,7 @@ use crate::stop::Stop;
 use dg_base::{Sink, WriteFailed};
 use dg_nor::Nor;
 use dg_script::{Line, LineFault, Place, read_line};
-use std::alloc::Global;
+use std::alloc::{AllocError, Global};
 
 /// Writes a piece.
 pub fn put_piece<K: Sink>(out: &mut K, piece: &[u8]) -> Result<(), Stop>
@@ -102,9 +102,12 @@ pub fn play_text<K: Sink, N: Nor>(
     ensures unfailed { result ≢ Err Stop.WriteFault → K.faults out.new ≡ K.faults out.old }
 {
     told.text.clear();
-    let line = next_line(alloc, text, number, &player.place)?;
-    match play_line(alloc, line, player, boards, told) {
-        Ok(()) => write_told(out, &told.text),
+    let mut line = next_line(alloc, text, number, &player.place)?;
+    match play_line(alloc, &mut line, player, boards, told) {
+        Ok(()) => match player.place.pass(line) {
+            Ok(()) => write_told(out, &told.text),
+            Err(AllocError) => Err(Stop::Memory),
+        },
         Err(stop) => Err(write_begun(out, &told.text, stop)),
     }
 }

@@ -179,9 +179,9 @@ fn take_bytes(alloc: Global, bytes: &mut Bytes) -> Bytes
     mem::replace(bytes, Bytes::new(Vec::new(alloc)))
 }
 
-/// Plays a line where the player stands. The bytes of an image are taken out of it, which its place does not go on by. A cut
-/// waits for its event. What is told of the line is appended.
-fn play_here<N: Nor>(
+/// Plays a line where the player stands, whose place does not go on behind it yet. The bytes of an image are taken out of the
+/// line, which its place does not go on by. A cut waits for its event. What is told of the line is appended.
+pub fn play_line<N: Nor>(
     alloc: Global,
     line: &mut Line,
     player: &mut Player,
@@ -197,8 +197,7 @@ fn play_here<N: Nor>(
     ensures linked { (a b : ℕ) → line.new ≡ Line.Link a b → boards.new.items ≡ boards.old.items }
 {
     match line {
-        Line::Nothing => Ok(()),
-        Line::Cut(_) => Ok(()),
+        Line::Nothing | Line::Cut(_) => Ok(()),
         Line::Motes(motes) => play_motes(*motes, boards),
         Line::Golden {
             name,
@@ -236,29 +235,5 @@ fn play_here<N: Nor>(
             let links = player.place.links.as_slice();
             play_sweeps(&mut player.world, links, *count, boards, told)
         }
-    }
-}
-
-/// Plays a line that was read, and then the player's place goes on behind it. What is told of it is appended.
-pub fn play_line<N: Nor>(
-    alloc: Global,
-    mut line: Line,
-    player: &mut Player,
-    boards: &mut Vec<N>,
-    told: &mut Told,
-) -> Result<(), Stop>
-    requires may { MayPlay line player.old (map N.device boards.old.items) }
-    ensures played { (done : List Line) (w : Option RuleWorld) (initial : List Device) (table : List Row)
-        → Stood player.old done w initial (map N.device boards.old.items)
-        → PlayedAs table result player.new done w line told.old.text.items told.new.text.items initial
-        (map N.device boards.old.items) (map N.device boards.new.items) }
-    ensures behind { OnOk result (player.new.place ≡ place_after player.old.place line) }
-{
-    match play_here(alloc, &mut line, player, boards, told) {
-        Ok(()) => match player.place.pass(line) {
-            Ok(()) => Ok(()),
-            Err(AllocError) => Err(Stop::Memory),
-        },
-        Err(stop) => Err(stop),
     }
 }
