@@ -1,18 +1,28 @@
 -- The way of a line: it is played where the player stands, then the place goes on behind it, and what is told of it is written.
-use Rattle.std.proofs.Common.{◌≡◌, ◌⊎◌, inl, inr, ℕ, List, refl, sym, subst}
-use Rattle.std.specs.Prelude.{Option}
+use Rattle.std.proofs.Common.{◌≡◌, ◌≢◌, ◌⊎◌, inl, inr, ℕ, ◌+◌, Bool, List, [], ◌++◌, Ok, Err, Some, refl, sym, ◌∙◌, subst}
+use Rattle.std.specs.Prelude.{Option, Result, OnOk, OnErr}
+use Rattle.dg_base.specs.Outside.{Puts, PutsFront}
 use Rattle.dg_base.specs.declared.events.Cut.{Cut as CutOfPower}
 use Rattle.dg_nor.specs.Device.{Device}
 use Rattle.dg_object.specs.Object.{Row}
 use Rattle.dg_rules.specs.World.{World}
 use Rattle.dg_script.specs.Fitting.{FitsLine}
+use Rattle.dg_script.specs.LineReading.{Reading, NextAnswer}
+use Rattle.dg_script.specs.Lines.{line_of}
 use Rattle.dg_script.specs.Places.{place_after}
 use Rattle.dg_script.specs.declared.line.Line.{Line}
 use Rattle.dg_script.specs.declared.line.Line.TheVariants.{Nothing, Cut}
 use Rattle.dg_script.specs.declared.place.Place.{Place}
-use Rattle.dg_replay.specs.Playing.{Stood, PlayedLine, gone_on}
+use Rattle.dg_replay.specs.Following.{GivenPlayed, NextPlayed, AllAsBefore}
+use Rattle.dg_replay.specs.Playing.{Stood, PlayedLine, PlayedAs, gone_on}
+use Rattle.dg_replay.specs.Replaying.{NotFound, BegunWritten}
+use Rattle.dg_replay.specs.declared.halt.Halt.{Halt}
 use Rattle.dg_replay.specs.declared.player.Player.{Player}
-use Rattle.dg_replay.proofs.SilentLemmas.{nothing_played, cut_played}
+use Rattle.dg_replay.specs.declared.stop.Stop.{Stop}
+use Rattle.dg_replay.specs.declared.stop.Stop.TheVariants.{Memory, WriteFault}
+use Rattle.dg_replay.proofs.FollowingLemmas.{TextPlays, given_next}
+use Rattle.dg_replay.proofs.SilentLemmas.{nothing_played, cut_played, stop_as}
+use Rattle.dg_replay.proofs.TextLemmas.{told_as, begun_as, not_found_as}
 
 -- nothing is to do in an empty line, nor in one whose cut waits for its event
 pub waits_played : (table : List Row) (p : Player) (done : List Line) (w : Option World) (line : Line) (told : List ℕ) (initial now : List Device) → (line ≡ Nothing) ⊎ ((cut : CutOfPower) × (line ≡ Cut cut)) → FitsLine p.place.motes line → Stood p done w initial now
@@ -26,3 +36,46 @@ waits_played table p done w line told initial now (inr (cut, is)) fits s =
 pub passed_played : (table : List Row) (p : Player) (place : Place) (done : List Line) (w : Option World) (line passed : Line) (told_before told : List ℕ) (initial now : List Device) → place ≡ place_after p.place passed
     → PlayedLine table (gone_on p passed) done w line told_before told initial now → PlayedLine table (record p { place = place }) done w line told_before told initial now
 passed_played table p place done w line passed told_before told initial now behind played = subst (λ (x : Place). PlayedLine table (record p { place = x }) done w line told_before told initial now) (sym behind) played
+
+-- ---- what is played of a text
+
+-- what is promised of a line that is played where the player stands
+abbrev pub LinePlays : Result (Unit {0}) Stop → (p q : Player) → Line → (told_before told : List ℕ) → (old now : List Device) → Type 0
+LinePlays r p q line told_before told old now = (done : List Line) (w : Option World) (initial : List Device) (table : List Row) → Stood p done w initial old → PlayedAs table r q done w line told_before told initial old now
+
+-- no line was found
+pub text_unread : (stop : Stop) (text : List ℕ) (number : ℕ) (p : Player) (old : List Device) (before : Option (List ℕ)) (failed : Type 0) → NotFound p.place text number stop → TextPlays (Err stop) text number p p old old before before failed
+text_unread stop text number p old before failed missing = λ done w initial table s. not_found_as table stop text number p p done w initial old before failed missing
+
+-- a line was played, its place went on, and what is told of it was written, or a front of it
+pub text_played : (r : Result (Unit {0}) Stop) (text : List ℕ) (number : ℕ) (p q : Player) (place : Place) (old now : List Device) (line passed : Line) (cleared told shown : List ℕ) (before after : Option (List ℕ)) (failed : Type 0)
+    → line_of p.place text ≡ Ok line → cleared ≡ [] → shown ≡ told → LinePlays (Ok tt) p (gone_on q passed) line cleared told old now → place_after q.place passed ≡ place_after p.place line → place ≡ place_after q.place passed
+    → OnOk r (Puts before after shown) → OnErr r (PutsFront before after shown × (shown ≢ [])) → OnErr r ((r ≡ Err WriteFault) × failed)
+    → TextPlays r text number p (record q { place = place }) old now before after failed
+text_played r text number p q place old now line passed cleared told shown before after failed spelled clear same plays behind at ok cut cause = λ done w initial table s.
+    let there : PlayedLine table (gone_on q passed) done w line [] told initial now = subst (λ (xs : List ℕ). PlayedLine table (gone_on q passed) done w line xs told initial now) clear (plays done w initial table s) in
+    let to : PlayedLine table (gone_on q passed) done w line [] shown initial now = subst (λ (xs : List ℕ). PlayedLine table (gone_on q passed) done w line [] xs initial now) (sym same) there in
+    told_as table r text number p (record q { place = place }) done w initial old now before after failed line shown spelled (passed_played table q place done w line passed [] shown initial now at to) (at ∙ behind) ok cut cause
+
+-- a line was not played, or begun, and what is told of that was written, or a front of it
+pub text_begun : (stop result : Stop) (text : List ℕ) (number : ℕ) (p q gone : Player) (old now : List Device) (line : Line) (cleared told shown : List ℕ) (before after : Option (List ℕ)) (failed : Type 0)
+    → line_of p.place text ≡ Ok line → cleared ≡ [] → shown ≡ told → LinePlays (Err stop) p gone line cleared told old now → BegunWritten stop result shown before after failed
+    → TextPlays (Err result) text number p q old now before after failed
+text_begun stop result text number p q gone old now line cleared told shown before after failed spelled clear same plays written = λ done w initial table s.
+    let there : PlayedAs table (Err stop) gone done w line [] told initial old now = subst (λ (xs : List ℕ). PlayedAs table (Err stop) gone done w line xs told initial old now) clear (plays done w initial table s) in
+    let to : PlayedAs table (Err stop) gone done w line [] shown initial old now = subst (λ (xs : List ℕ). PlayedAs table (Err stop) gone done w line [] xs initial old now) (sym same) there in
+    begun_as table stop result text number p q done w initial old now before after failed line shown spelled (stop_as table stop gone q done w line [] shown initial old now to) written
+
+-- there was no memory for the place behind a line that left the boards as they were
+pub text_forgotten : (text : List ℕ) (number : ℕ) (p q : Player) (old now : List Device) (before : Option (List ℕ)) (failed : Type 0) → now ≡ old → TextPlays (Err Memory) text number p q old now before before failed
+text_forgotten text number p q old now before failed same = λ done w initial table s. inl (record { boards = same; told = refl })
+
+-- what is answered where the next line was given, and this became of it
+pub given_answer : (r : Result Bool Halt) (o : Option ℕ) (n : ℕ) (text : List ℕ) (old new : Reading) (at_end read_failed : Type 0) (Took : List ℕ → Type 0) (p q : Player) (was now : List Device) (before after : Option (List ℕ)) (failed : Type 0) → o ≡ Some n → text ≡ new.text
+    → ((more : List ℕ) × Took more × NextAnswer (Ok o) (old.ahead ++ more) old new at_end read_failed) → GivenPlayed r (λ x. TextPlays x text n p q was now before after failed)
+    → (more : List ℕ) × Took more × NextPlayed r (old.ahead ++ more) old new at_end read_failed (AllAsBefore p q was now before after) (λ x t. TextPlays x t (old.number + 1) p q was now before after failed)
+given_answer r o n text old new at_end read_failed Took p q was now before after failed some same a played = (
+  a.0,
+  a.1,
+  given_next r o n text (old.ahead ++ a.0) old new at_end read_failed (AllAsBefore p q was now before after) (λ x t k. TextPlays x t k p q was now before after failed) some same a.2 played,
+)

@@ -12,14 +12,14 @@ ghost use Rattle.dg_replay.specs.Replaying.{TextAnswer, InputAnswer};
 
 use crate::halt::Halt;
 use crate::items::Told;
-use crate::lines::play_text;
-use crate::player::Player;
+use crate::lines::{next_line, write_begun, write_told};
+use crate::player::{Player, play_line};
 use crate::stop::Stop;
 use dg_base::{Sink, Source};
 use dg_nor::Nor;
 use dg_rules::scripts_with_golden;
 use dg_script::{LineFault, LineReader, ReadStop};
-use std::alloc::Global;
+use std::alloc::{AllocError, Global};
 
 /// Why a replay ends at a line that could not be read.
 fn halted(stop: ReadStop) -> Halt
@@ -61,15 +61,25 @@ fn play_next<S: Source, K: Sink, N: Nor>(
     ensures counts { K.faults out.old ≤ K.faults out.new }
     ensures unfailed { result ≢ Err (Halt.Stopped Stop.WriteFault) → K.faults out.new ≡ K.faults out.old }
 {
-    match reader.next(input) {
-        Ok(Some(number)) => {
-            match play_text(alloc, reader.text(), number, player, boards, out, told) {
+    let number = match reader.next(input) {
+        Ok(Some(number)) => number,
+        Ok(None) => return Ok(false),
+        Err(stop) => return Err(halted(stop)),
+    };
+    let mut line = match next_line(alloc, reader.text(), number, &player.place) {
+        Ok(line) => line,
+        Err(stop) => return Err(Halt::Stopped(stop)),
+    };
+    told.text.clear();
+    match play_line(alloc, &mut line, player, boards, told) {
+        Ok(()) => match player.place.pass(line) {
+            Ok(()) => match write_told(out, &told.text) {
                 Ok(()) => Ok(true),
                 Err(stop) => Err(Halt::Stopped(stop)),
-            }
-        }
-        Ok(None) => Ok(false),
-        Err(stop) => Err(halted(stop)),
+            },
+            Err(AllocError) => Err(Halt::Stopped(Stop::Memory)),
+        },
+        Err(stop) => Err(Halt::Stopped(write_begun(out, &told.text, stop))),
     }
 }
 

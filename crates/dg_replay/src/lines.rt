@@ -1,21 +1,13 @@
-//! Plays a line and writes what it reports.
-ghost use Rattle.std.specs.Prelude.{◌≡◌, ◌≢◌, ◌≤◌, [], List, Option, map, OnOk, OnErr, MatchResult, Err};
+//! Reads the text of a line, and writes what is told of one that was played.
+ghost use Rattle.std.specs.Prelude.{◌≡◌, ◌≢◌, ◌≤◌, [], OnOk, OnErr, MatchResult, Err};
 ghost use Rattle.dg_words.specs.Counts.{Rose};
 ghost use Rattle.dg_base.specs.Outside.{Puts, PutsFront};
-ghost use Rattle.dg_nor.specs.Device.{Device};
-ghost use Rattle.dg_object.specs.Object.{Row};
-ghost use Rattle.dg_rules.specs.World.{World};
-ghost use Rattle.dg_replay.specs.Playing.{Stood, Ready};
-ghost use Rattle.dg_replay.specs.Replaying.{LineFound, NotFound, StopsAtLine, BegunWritten, TextAnswer};
-ghost use Rattle.dg_script.specs.declared.line.Line.{Line};
+ghost use Rattle.dg_replay.specs.Replaying.{LineFound, NotFound, StopsAtLine, BegunWritten};
 
-use crate::items::Told;
-use crate::player::{Player, play_line};
 use crate::stop::Stop;
 use dg_base::{Sink, WriteFailed};
-use dg_nor::Nor;
 use dg_script::{Line, LineFault, Place, read_line};
-use std::alloc::{AllocError, Global};
+use std::alloc::Global;
 
 /// Writes a piece.
 pub fn put_piece<K: Sink>(out: &mut K, piece: &[u8]) -> Result<(), Stop>
@@ -32,7 +24,7 @@ pub fn put_piece<K: Sink>(out: &mut K, piece: &[u8]) -> Result<(), Stop>
 }
 
 /// Writes what is told of a line, in one piece, where it is something.
-fn write_told<K: Sink>(out: &mut K, text: &[u8]) -> Result<(), Stop>
+pub fn write_told<K: Sink>(out: &mut K, text: &[u8]) -> Result<(), Stop>
     ensures ok { OnOk result (Puts (K.written out.old) (K.written out.new) text.now) }
     ensures cut { OnErr result (PutsFront (K.written out.old) (K.written out.new) text.now × (text.now ≢ [])) }
     ensures cause { OnErr result ((result ≡ Err Stop.WriteFault) × Rose (K.faults out.old) (K.faults out.new)) }
@@ -46,7 +38,7 @@ fn write_told<K: Sink>(out: &mut K, text: &[u8]) -> Result<(), Stop>
 }
 
 /// Writes what is told of the items of a line before the one at which the replay stops, and answers why it does.
-fn write_begun<K: Sink>(out: &mut K, text: &[u8], stop: Stop) -> Stop
+pub fn write_begun<K: Sink>(out: &mut K, text: &[u8], stop: Stop) -> Stop
     ensures written { BegunWritten stop result text.now (K.written out.old) (K.written out.new)
         (Rose (K.faults out.old) (K.faults out.new)) }
     ensures counts { K.faults out.old ≤ K.faults out.new }
@@ -73,41 +65,11 @@ fn stop_at(line: u32, fault: LineFault) -> Stop
 }
 
 /// Reads the text of a line that stands at this place.
-fn next_line(alloc: Global, text: &[u8], number: u32, place: &Place) -> Result<Line, Stop>
+pub fn next_line(alloc: Global, text: &[u8], number: u32, place: &Place) -> Result<Line, Stop>
     ensures { MatchResult result (LineFound place.now text.now) (NotFound place.now text.now number) }
 {
     match read_line(alloc, text, place) {
         Ok(line) => Ok(line),
         Err(fault) => Err(stop_at(number, fault)),
-    }
-}
-
-/// Reads the text of line `number`, plays it and writes what it reports.
-pub fn play_text<K: Sink, N: Nor>(
-    alloc: Global,
-    text: &[u8],
-    number: u32,
-    player: &mut Player,
-    boards: &mut Vec<N>,
-    out: &mut K,
-    told: &mut Told,
-) -> Result<(), Stop>
-    requires { Ready player.old (map N.device boards.old.items) }
-    ensures played { (done : List Line) (w : Option World) (initial : List Device) (table : List Row)
-        → Stood player.old done w initial (map N.device boards.old.items)
-        → TextAnswer table result text.now number player.old player.new done w initial (map N.device boards.old.items)
-        (map N.device boards.new.items)
-        (K.written out.old) (K.written out.new) (Rose (K.faults out.old) (K.faults out.new)) }
-    ensures counts { K.faults out.old ≤ K.faults out.new }
-    ensures unfailed { result ≢ Err Stop.WriteFault → K.faults out.new ≡ K.faults out.old }
-{
-    told.text.clear();
-    let mut line = next_line(alloc, text, number, &player.place)?;
-    match play_line(alloc, &mut line, player, boards, told) {
-        Ok(()) => match player.place.pass(line) {
-            Ok(()) => write_told(out, &told.text),
-            Err(AllocError) => Err(Stop::Memory),
-        },
-        Err(stop) => Err(write_begun(out, &told.text, stop)),
     }
 }
