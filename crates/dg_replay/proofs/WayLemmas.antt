@@ -1,26 +1,35 @@
 -- The way of a line: it is played where the player stands, then the place goes on behind it, and what is told of it is written.
-use Rattle.std.proofs.Common.{◌≡◌, ◌≢◌, ◌⊎◌, inl, inr, ℕ, ◌+◌, Bool, List, [], ◌++◌, Ok, Err, Some, refl, sym, ◌∙◌, subst}
+use Rattle.std.proofs.Common.{◌≡◌, ◌≢◌, ◌⊎◌, inl, inr, ℕ, ◌+◌, ◌≤◌, Bool, List, [], ◌++◌, length, Ok, Err, Some, refl, sym, ◌∙◌, subst}
 use Rattle.std.specs.Prelude.{Option, Result, OnOk, OnErr}
-use Rattle.dg_base.specs.Outside.{Puts, PutsFront}
+use Rattle.dg_base.specs.Outside.{Puts, PutsFront, Takes, AtEnd}
+use Rattle.dg_base.specs.declared.answers.Status.{Status}
+use Rattle.dg_base.specs.declared.answers.Status.TheVariants as status
 use Rattle.dg_base.specs.declared.events.Cut.{Cut as CutOfPower}
 use Rattle.dg_nor.specs.Device.{Device}
 use Rattle.dg_object.specs.Object.{Row}
 use Rattle.dg_rules.specs.World.{World}
+use Rattle.dg_words.specs.Counts.{Rose}
 use Rattle.dg_script.specs.Fitting.{FitsLine}
 use Rattle.dg_script.specs.LineReading.{Reading, NextAnswer}
 use Rattle.dg_script.specs.Lines.{line_of}
 use Rattle.dg_script.specs.Places.{place_after}
+use Rattle.dg_script.specs.Sizes.{most_used_bytes}
 use Rattle.dg_script.specs.declared.line.Line.{Line}
 use Rattle.dg_script.specs.declared.line.Line.TheVariants.{Nothing, Cut}
 use Rattle.dg_script.specs.declared.place.Place.{Place}
+use Rattle.dg_replay.specs.Around.{Around}
+use Rattle.dg_replay.specs.Done.{ReplayDone}
+use Rattle.dg_replay.specs.Ending.{ending_of, script_of}
 use Rattle.dg_replay.specs.Following.{GivenPlayed, NextPlayed, AllAsBefore}
 use Rattle.dg_replay.specs.Playing.{Stood, PlayedLine, PlayedAs, gone_on}
-use Rattle.dg_replay.specs.Replaying.{NotFound, BegunWritten}
+use Rattle.dg_replay.specs.Replaying.{NotFound, BegunWritten, StopEnds, ScriptReplayed}
 use Rattle.dg_replay.specs.declared.halt.Halt.{Halt}
+use Rattle.dg_replay.specs.declared.halt.Halt.TheVariants.{Stopped}
 use Rattle.dg_replay.specs.declared.player.Player.{Player}
 use Rattle.dg_replay.specs.declared.stop.Stop.{Stop}
 use Rattle.dg_replay.specs.declared.stop.Stop.TheVariants.{Memory, WriteFault}
 use Rattle.dg_replay.proofs.FollowingLemmas.{TextPlays, given_next}
+use Rattle.dg_replay.proofs.RunLemmas.{HeadlineLaw, replay_done, replayed_of}
 use Rattle.dg_replay.proofs.SilentLemmas.{nothing_played, cut_played, stop_as}
 use Rattle.dg_replay.proofs.TextLemmas.{told_as, begun_as, not_found_as}
 
@@ -79,3 +88,17 @@ given_answer r o n text old new at_end read_failed Took p q was now before after
   a.1,
   given_next r o n text (old.ahead ++ a.0) old new at_end read_failed (AllAsBefore p q was now before after) (λ x t k. TextPlays x t k p q was now before after failed) some same a.2 played,
 )
+
+-- ---- how a replay ends
+
+-- what a replay did whose script was replayed
+pub replay_ended : (s : Status) (a b : Around) → HeadlineLaw → (bytes : List ℕ) → Takes a.left b.left bytes
+    → ((table : List Row) → (length bytes ≤ most_used_bytes + 1) × ScriptReplayed table s (script_of bytes) (ending_of (length a.boards) bytes) bytes (AtEnd b.left) a.boards b.boards a.written b.written (Rose a.reads b.reads) (Rose a.writes b.writes))
+    → (s ≢ status.ReadFault → b.reads ≡ a.reads) → (s ≢ status.WriteFault → b.writes ≡ a.writes) → ReplayDone s a b
+replay_ended s a b law bytes taken came reads writes = replay_done s a b law (λ table. let r = came table in replayed_of s bytes a b taken r.0 r.1 reads writes)
+
+-- a replay that does not end with WriteFault did not stop at a write
+pub stopped_unfailed : (halt : Halt) (stop : Stop) (s : Status) (before after : Option (List ℕ)) (failed : Type 0) → halt ≡ Stopped stop → StopEnds stop s before after failed → s ≢ status.WriteFault → ◌≢◌ {A = Result (Player × ℕ) Halt} (Err halt) (Err (Stopped WriteFault))
+stopped_unfailed halt stop s before after failed is ends other = λ e.
+    let same : stop ≡ WriteFault = cc in
+    other ((subst (λ (x : Stop). StopEnds x s before after failed) same ends).0)

@@ -4,13 +4,16 @@ ghost use Rattle.dg_mote.specs.Sizes.{BuffersFit, ValuesAreSmall};
 ghost use Rattle.dg_replay.specs.Around.{around};
 ghost use Rattle.dg_replay.specs.Done.{ReplayDone};
 
-use crate::ends::replay_lines;
+use crate::ends::{end_at_stop, end_script};
+use crate::finish::end_with;
+use crate::following::play_lines;
+use crate::halt::Halt;
 use crate::laws::replays_keep_the_rules;
 use dg_base::{Sink, Source, Status};
 use dg_mote::a_mote_buffers_little;
 use dg_nor::Nor;
 use dg_script::LineReader;
-use std::alloc::{AllocError, Global};
+use std::alloc::Global;
 
 /// Replays the script that `input` spells over the boards, and writes the report to `out`. A status other than
 /// [`Status::Done`] writes its line last, where it has one.
@@ -37,8 +40,13 @@ pub fn replay<S: Source, K: Sink, N: Nor>(
 {
     replays_keep_the_rules();
     a_mote_buffers_little();
-    match LineReader::new(alloc) {
-        Ok(mut reader) => replay_lines(alloc, &mut reader, input, boards, out),
-        Err(AllocError) => Status::Memory,
+    let Ok(mut reader) = LineReader::new(alloc) else {
+        return Status::Memory;
+    };
+    match play_lines(alloc, &mut reader, input, boards, out) {
+        Ok((player, number)) => end_script(alloc, &player, number, boards, out),
+        Err(Halt::ReadFault) => Status::ReadFault,
+        Err(Halt::TooLong) => end_with(out, b"toolong\n", Status::TooLong),
+        Err(Halt::Stopped(stop)) => end_at_stop(alloc, out, stop),
     }
 }

@@ -1,28 +1,23 @@
 //! How a replay ends.
-ghost use Rattle.std.specs.Prelude.{⊤, ◌≡◌, ◌≢◌, ◌⊎◌, ◌+◌, ◌≤◌, ℕ, true, false, List, [], Option, map, length};
+ghost use Rattle.std.specs.Prelude.{⊤, ◌≡◌, ◌≢◌, ◌⊎◌, ◌≤◌, ℕ, true, false, List, [], Option, map, length};
 ghost use Rattle.dg_words.specs.Counts.{Rose};
-ghost use Rattle.dg_base.specs.Outside.{Takes, AtEnd};
 ghost use Rattle.dg_nor.specs.Device.{Device};
 ghost use Rattle.dg_object.specs.Object.{Row};
 ghost use Rattle.dg_script.specs.Script.{Script};
-ghost use Rattle.dg_script.specs.Sizes.{most_used_bytes};
-ghost use Rattle.dg_replay.specs.Ending.{ending_from, ending_of, script_of};
+ghost use Rattle.dg_replay.specs.Ending.{ending_from};
 ghost use Rattle.dg_replay.specs.Near.{behind_lines};
 ghost use Rattle.dg_replay.specs.Playing.{Ready};
 ghost use Rattle.dg_replay.specs.Replaying.{StopEnds, Reached, ScriptReplayed};
 
 use crate::finish::{end_at_line, end_with, end_without_boards, finish};
-use crate::following::play_lines;
-use crate::halt::Halt;
 use crate::player::Player;
 use crate::stop::Stop;
-use dg_base::{Sink, Source, Status};
+use dg_base::{Sink, Status};
 use dg_nor::Nor;
-use dg_script::LineReader;
 use std::alloc::Global;
 
 /// The status of a replay that stopped, whose last line is written where it has one.
-fn end_at_stop<K: Sink>(alloc: Global, out: &mut K, stop: Stop) -> Status
+pub fn end_at_stop<K: Sink>(alloc: Global, out: &mut K, stop: Stop) -> Status
     ensures full { stop ≡ Stop.TooMany → (result ≡ Status.TooMany) ⊎ (result ≡ Status.WriteFault) }
     ensures ends { StopEnds stop result (K.written out.old) (K.written out.new) (Rose (K.faults out.old) (K.faults out.new)) }
     ensures counts { K.faults out.old ≤ K.faults out.new }
@@ -41,7 +36,7 @@ fn end_at_stop<K: Sink>(alloc: Global, out: &mut K, stop: Stop) -> Status
 }
 
 /// Ends a replay all of whose lines were played, where its input is not too long.
-fn end_script<K: Sink, N: Nor>(
+pub fn end_script<K: Sink, N: Nor>(
     alloc: Global,
     player: &Player,
     number: u32,
@@ -60,35 +55,5 @@ fn end_script<K: Sink, N: Nor>(
     match player.place.end_fault() {
         Some(fault) => end_at_line(alloc, out, number, fault),
         None => finish(alloc, &player.world, boards, out),
-    }
-}
-
-/// Replays the script that an input spells, line by line.
-pub fn replay_lines<S: Source, K: Sink, N: Nor>(
-    alloc: Global,
-    reader: &mut LineReader,
-    input: &mut S,
-    boards: &mut Vec<N>,
-    out: &mut K,
-) -> Status
-    requires none { reader.old.ahead ≡ [] }
-    requires unread { reader.old.passed ≡ 0 }
-    requires first { reader.old.number ≡ 0 }
-    ensures replayed { (bytes : List ℕ) × Takes (S.left input.old) (S.left input.new) bytes × (length bytes ≤ most_used_bytes + 1)
-        × ((table : List Row) → ScriptReplayed table result (script_of bytes)
-        (ending_of (length (map N.device boards.old.items)) bytes) bytes (AtEnd (S.left input.new))
-        (map N.device boards.old.items) (map N.device boards.new.items)
-        (K.written out.old) (K.written out.new) (Rose (S.faults input.old) (S.faults input.new))
-        (Rose (K.faults out.old) (K.faults out.new))) }
-    ensures reads { S.faults input.old ≤ S.faults input.new }
-    ensures unread { result ≢ Status.ReadFault → S.faults input.new ≡ S.faults input.old }
-    ensures counts { K.faults out.old ≤ K.faults out.new }
-    ensures unfailed { result ≢ Status.WriteFault → K.faults out.new ≡ K.faults out.old }
-{
-    match play_lines(alloc, reader, input, boards, out) {
-        Ok((player, number)) => end_script(alloc, &player, number, boards, out),
-        Err(Halt::ReadFault) => Status::ReadFault,
-        Err(Halt::TooLong) => end_with(out, b"toolong\n", Status::TooLong),
-        Err(Halt::Stopped(stop)) => end_at_stop(alloc, out, stop),
     }
 }
