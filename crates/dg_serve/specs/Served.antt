@@ -28,6 +28,17 @@ pub record Outside : Type 0 where
   pub failures : ℕ
   pub boards : List Device
 
+abbrev pub outside : (written : Option (List ℕ)) (faults : ℕ) (clock : Option Answers) (inboxes : Option Inboxes) (failures : ℕ)
+    (boards : List Device) → Outside
+outside written faults clock inboxes failures boards = record {
+  written = written;
+  faults = faults;
+  clock = clock;
+  inboxes = inboxes;
+  failures = failures;
+  boards = boards;
+}
+
 -- how the boards, the link and the clock are left, by why the service ended before its turns were over, if it did
 abbrev pub LeftBy : Option Stop → (motes : ℕ) → Moment → Course → (last : Moment) → List Device → Outside → Type 0
 LeftBy None motes s c last first after =

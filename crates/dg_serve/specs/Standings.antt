@@ -25,6 +25,7 @@ use Rattle.dg_seed.specs.Words.{generator_of}
 use Rattle.dg_serve.specs.Services.{Part, Moment, PartsDone, Course, course, Steps, handed_to, neighbours_by}
 use Rattle.dg_serve.specs.Traces.{UntoldLast, event_lines}
 use Rattle.dg_serve.specs.Endings.{BoardsStand, EventEnds, BoardsLeft, HandedToFirst, LinkLeft, ClockLeft}
+use Rattle.dg_serve.specs.Served.{Outside}
 use Rattle.dg_serve.specs.declared.service.Service.{Service}
 use Rattle.dg_serve.specs.declared.stop.Stop.{Stop}
 use Rattle.dg_serve.specs.declared.stop.Stop.TheVariants as stop
@@ -40,6 +41,20 @@ pub record Standing : Type 0 where
   pub reached : ℕ
   pub written : Option (List ℕ)
   pub faults : ℕ
+
+-- a service amid this outside, whose link has so many motes, and whose clock reached this
+abbrev pub service_standing : Service → Outside → (addressees reached : ℕ) → Standing
+service_standing service around addressees reached = record {
+  service = service;
+  boards = around.boards;
+  inboxes = around.inboxes;
+  addressees = addressees;
+  failures = around.failures;
+  clock = around.clock;
+  reached = reached;
+  written = around.written;
+  faults = around.faults;
+}
 
 -- The code stands for a moment of a service whose boards were these when it began. The power of the first motes came, and
 -- its time is ahead of the rules' by so much.

@@ -5,6 +5,7 @@ ghost use Rattle.dg_base.specs.declared.answers.Status.TheVariants.{BadInput};
 ghost use Rattle.dg_mote.specs.Sizes.{BuffersFit, ValuesAreSmall};
 ghost use Rattle.dg_netcfg.specs.Readings.{IsAllowed};
 ghost use Rattle.dg_serve.specs.Networks.{NetworkServed, around_service, fault_line};
+ghost use Rattle.dg_serve.specs.Served.{outside};
 ghost use Rattle.dg_serve.specs.Spelled.{NetworkRead, Spells, TellsNone, TellsLine, no_profile_of};
 
 use crate::serving::{serve, tell_last};
@@ -46,23 +47,11 @@ pub fn serve_network<S: Source, K: Sink, N: Nor, L: Link, C: Clock>(
     requires turns { turns ≤ 1000000 }
     ensures served { NetworkServed result seed turns
         (around_service (S.left input.old) (S.faults input.old)
-        (record {
-          written = K.written out.old;
-          faults = K.faults out.old;
-          clock = C.told clock.old;
-          inboxes = L.inboxes link.old;
-          failures = L.faults link.old;
-          boards = map N.device boards.old.items;
-        }))
+        (outside (K.written out.old) (K.faults out.old) (C.told clock.old) (L.inboxes link.old) (L.faults link.old)
+        (map N.device boards.old.items)))
         (around_service (S.left input.new) (S.faults input.new)
-        (record {
-          written = K.written out.new;
-          faults = K.faults out.new;
-          clock = C.told clock.new;
-          inboxes = L.inboxes link.new;
-          failures = L.faults link.new;
-          boards = map N.device boards.new.items;
-        })) }
+        (outside (K.written out.new) (K.faults out.new) (C.told clock.new) (L.inboxes link.new) (L.faults link.new)
+        (map N.device boards.new.items))) }
     // All arrays of bytes that are alive at once in a mote's call have no more than 256, and beside the outbox and its sets
     // none lies in the value of a mote.
     ensures buffers { BuffersFit × ValuesAreSmall }

@@ -12,8 +12,10 @@ ghost use Rattle.dg_script.specs.declared.line.Line.TheVariants.{Happens};
 ghost use Rattle.dg_world.specs.Alone.{IsAlone, IsReset};
 ghost use Rattle.dg_world.specs.Worlds.{MayRun};
 ghost use Rattle.dg_serve.specs.Each.{each};
+ghost use Rattle.dg_serve.specs.Served.{outside};
 ghost use Rattle.dg_serve.specs.Services.{Begins, Looks, Ticks, Moment, beginning, turn_of_all, plan};
 ghost use Rattle.dg_serve.specs.Standings.{Ready, StandsFor, StandsForSome, GoesOn, HappenEnds, begun_before, stretch};
+ghost use Rattle.dg_serve.specs.Standings.{service_standing};
 
 use crate::handing::{hand_on, receive};
 use crate::playing::play;
@@ -66,40 +68,13 @@ impl Service {
         requires off { IsReset event → slice_index_or self.old.motes.items mote None ≡ None }
         requires some { IsReset event ⊎ ((told : Option Answers) × (reached : ℕ) × (first : List Device) × (s : Moment)
             × StandsFor profile.now.motes (begun_before profile.now.motes event) profile.now.links (dt_of event) first s
-            (record {
-              service = self.old;
-              boards = map N.device boards.old;
-              inboxes = L.inboxes link.old;
-              addressees = L.mote_count link.old;
-              failures = L.faults link.old;
-              clock = told;
-              reached = reached;
-              written = K.written out.old;
-              faults = K.faults out.old;
-            })) }
+            (service_standing self.old (outside (K.written out.old) (K.faults out.old) told (L.inboxes link.old)
+            (L.faults link.old) (map N.device boards.old)) (L.mote_count link.old) reached)) }
         ensures ends { (told : Option Answers) (reached : ℕ) → HappenEnds result profile.now.motes profile.now.links event
-            (record {
-              service = self.old;
-              boards = map N.device boards.old;
-              inboxes = L.inboxes link.old;
-              addressees = L.mote_count link.old;
-              failures = L.faults link.old;
-              clock = told;
-              reached = reached;
-              written = K.written out.old;
-              faults = K.faults out.old;
-            })
-            (record {
-              service = self.new;
-              boards = map N.device boards.new;
-              inboxes = L.inboxes link.new;
-              addressees = L.mote_count link.new;
-              failures = L.faults link.new;
-              clock = told;
-              reached = reached;
-              written = K.written out.new;
-              faults = K.faults out.new;
-            }) }
+            (service_standing self.old (outside (K.written out.old) (K.faults out.old) told (L.inboxes link.old)
+            (L.faults link.old) (map N.device boards.old)) (L.mote_count link.old) reached)
+            (service_standing self.new (outside (K.written out.new) (K.faults out.new) told (L.inboxes link.new)
+            (L.faults link.new) (map N.device boards.new)) (L.mote_count link.new) reached) }
     {
         agreement_is_kept();
         let line = Line::Happens(event);
@@ -125,41 +100,14 @@ impl Service {
         requires allowed { IsAllowed profile.now }
         requires known { mote < profile.now.motes }
         requires ready { Ready profile.now.motes mote
-            (record {
-              service = self.old;
-              boards = map N.device boards.old;
-              inboxes = L.inboxes link.old;
-              addressees = L.mote_count link.old;
-              failures = L.faults link.old;
-              clock = C.told clock.old;
-              reached = C.reached clock.old;
-              written = K.written out.old;
-              faults = K.faults out.old;
-            }) }
+            (service_standing self.old (outside (K.written out.old) (K.faults out.old) (C.told clock.old) (L.inboxes link.old)
+            (L.faults link.old) (map N.device boards.old)) (L.mote_count link.old) (C.reached clock.old)) }
         requires early { self.old.timeline.moment < 2 ^ 60 }
         ensures goes { GoesOn result profile.now.motes profile.now.links (stretch mote (mote + 1) (Begins mote ∷ []))
-            (record {
-              service = self.old;
-              boards = map N.device boards.old;
-              inboxes = L.inboxes link.old;
-              addressees = L.mote_count link.old;
-              failures = L.faults link.old;
-              clock = C.told clock.old;
-              reached = C.reached clock.old;
-              written = K.written out.old;
-              faults = K.faults out.old;
-            })
-            (record {
-              service = self.new;
-              boards = map N.device boards.new;
-              inboxes = L.inboxes link.new;
-              addressees = L.mote_count link.new;
-              failures = L.faults link.new;
-              clock = C.told clock.new;
-              reached = C.reached clock.new;
-              written = K.written out.new;
-              faults = K.faults out.new;
-            }) }
+            (service_standing self.old (outside (K.written out.old) (K.faults out.old) (C.told clock.old) (L.inboxes link.old)
+            (L.faults link.old) (map N.device boards.old)) (L.mote_count link.old) (C.reached clock.old))
+            (service_standing self.new (outside (K.written out.new) (K.faults out.new) (C.told clock.new) (L.inboxes link.new)
+            (L.faults link.new) (map N.device boards.new)) (L.mote_count link.new) (C.reached clock.new)) }
     {
         let draw = self.timeline.draw(clock);
         let event = Event::Reset {
@@ -183,54 +131,18 @@ impl Service {
         requires allowed { IsAllowed profile.now }
         requires known { mote < profile.now.motes }
         requires ready { Ready profile.now.motes profile.now.motes
-            (record {
-              service = self.old;
-              boards = map N.device boards.old;
-              inboxes = L.inboxes link.old;
-              addressees = L.mote_count link.old;
-              failures = L.faults link.old;
-              clock = C.told clock.old;
-              reached = C.reached clock.old;
-              written = K.written out.old;
-              faults = K.faults out.old;
-            }) }
+            (service_standing self.old (outside (K.written out.old) (K.faults out.old) (C.told clock.old) (L.inboxes link.old)
+            (L.faults link.old) (map N.device boards.old)) (L.mote_count link.old) (C.reached clock.old)) }
         requires early { self.old.timeline.moment < 2 ^ 60 }
         requires some { StandsForSome profile.now.motes profile.now.motes profile.now.links
-            (record {
-              service = self.old;
-              boards = map N.device boards.old;
-              inboxes = L.inboxes link.old;
-              addressees = L.mote_count link.old;
-              failures = L.faults link.old;
-              clock = C.told clock.old;
-              reached = C.reached clock.old;
-              written = K.written out.old;
-              faults = K.faults out.old;
-            }) }
+            (service_standing self.old (outside (K.written out.old) (K.faults out.old) (C.told clock.old) (L.inboxes link.old)
+            (L.faults link.old) (map N.device boards.old)) (L.mote_count link.old) (C.reached clock.old)) }
         ensures goes { GoesOn result profile.now.motes profile.now.links
             (stretch profile.now.motes profile.now.motes (Looks mote ∷ []))
-            (record {
-              service = self.old;
-              boards = map N.device boards.old;
-              inboxes = L.inboxes link.old;
-              addressees = L.mote_count link.old;
-              failures = L.faults link.old;
-              clock = C.told clock.old;
-              reached = C.reached clock.old;
-              written = K.written out.old;
-              faults = K.faults out.old;
-            })
-            (record {
-              service = self.new;
-              boards = map N.device boards.new;
-              inboxes = L.inboxes link.new;
-              addressees = L.mote_count link.new;
-              failures = L.faults link.new;
-              clock = C.told clock.new;
-              reached = C.reached clock.new;
-              written = K.written out.new;
-              faults = K.faults out.new;
-            }) }
+            (service_standing self.old (outside (K.written out.old) (K.faults out.old) (C.told clock.old) (L.inboxes link.old)
+            (L.faults link.old) (map N.device boards.old)) (L.mote_count link.old) (C.reached clock.old))
+            (service_standing self.new (outside (K.written out.new) (K.faults out.new) (C.told clock.new) (L.inboxes link.new)
+            (L.faults link.new) (map N.device boards.new)) (L.mote_count link.new) (C.reached clock.new)) }
     {
         match receive(self.alloc, link, mote)? {
             Some(bytes) => {
@@ -260,54 +172,18 @@ impl Service {
         requires allowed { IsAllowed profile.now }
         requires known { mote < profile.now.motes }
         requires ready { Ready profile.now.motes profile.now.motes
-            (record {
-              service = self.old;
-              boards = map N.device boards.old;
-              inboxes = L.inboxes link.old;
-              addressees = L.mote_count link.old;
-              failures = L.faults link.old;
-              clock = C.told clock.old;
-              reached = C.reached clock.old;
-              written = K.written out.old;
-              faults = K.faults out.old;
-            }) }
+            (service_standing self.old (outside (K.written out.old) (K.faults out.old) (C.told clock.old) (L.inboxes link.old)
+            (L.faults link.old) (map N.device boards.old)) (L.mote_count link.old) (C.reached clock.old)) }
         requires early { self.old.timeline.moment < 2 ^ 60 }
         requires some { StandsForSome profile.now.motes profile.now.motes profile.now.links
-            (record {
-              service = self.old;
-              boards = map N.device boards.old;
-              inboxes = L.inboxes link.old;
-              addressees = L.mote_count link.old;
-              failures = L.faults link.old;
-              clock = C.told clock.old;
-              reached = C.reached clock.old;
-              written = K.written out.old;
-              faults = K.faults out.old;
-            }) }
+            (service_standing self.old (outside (K.written out.old) (K.faults out.old) (C.told clock.old) (L.inboxes link.old)
+            (L.faults link.old) (map N.device boards.old)) (L.mote_count link.old) (C.reached clock.old)) }
         ensures goes { GoesOn result profile.now.motes profile.now.links
             (stretch profile.now.motes profile.now.motes (Ticks mote ∷ []))
-            (record {
-              service = self.old;
-              boards = map N.device boards.old;
-              inboxes = L.inboxes link.old;
-              addressees = L.mote_count link.old;
-              failures = L.faults link.old;
-              clock = C.told clock.old;
-              reached = C.reached clock.old;
-              written = K.written out.old;
-              faults = K.faults out.old;
-            })
-            (record {
-              service = self.new;
-              boards = map N.device boards.new;
-              inboxes = L.inboxes link.new;
-              addressees = L.mote_count link.new;
-              failures = L.faults link.new;
-              clock = C.told clock.new;
-              reached = C.reached clock.new;
-              written = K.written out.new;
-              faults = K.faults out.new;
-            }) }
+            (service_standing self.old (outside (K.written out.old) (K.faults out.old) (C.told clock.old) (L.inboxes link.old)
+            (L.faults link.old) (map N.device boards.old)) (L.mote_count link.old) (C.reached clock.old))
+            (service_standing self.new (outside (K.written out.new) (K.faults out.new) (C.told clock.new) (L.inboxes link.new)
+            (L.faults link.new) (map N.device boards.new)) (L.mote_count link.new) (C.reached clock.new)) }
     {
         let draw = self.timeline.draw(clock);
         let event = Event::Tick {
@@ -331,54 +207,18 @@ impl Service {
         requires allowed { IsAllowed profile.now }
         requires known { mote < profile.now.motes }
         requires ready { Ready profile.now.motes profile.now.motes
-            (record {
-              service = self.old;
-              boards = map N.device boards.old;
-              inboxes = L.inboxes link.old;
-              addressees = L.mote_count link.old;
-              failures = L.faults link.old;
-              clock = C.told clock.old;
-              reached = C.reached clock.old;
-              written = K.written out.old;
-              faults = K.faults out.old;
-            }) }
+            (service_standing self.old (outside (K.written out.old) (K.faults out.old) (C.told clock.old) (L.inboxes link.old)
+            (L.faults link.old) (map N.device boards.old)) (L.mote_count link.old) (C.reached clock.old)) }
         requires early { self.old.timeline.moment < 2 ^ 59 }
         requires some { StandsForSome profile.now.motes profile.now.motes profile.now.links
-            (record {
-              service = self.old;
-              boards = map N.device boards.old;
-              inboxes = L.inboxes link.old;
-              addressees = L.mote_count link.old;
-              failures = L.faults link.old;
-              clock = C.told clock.old;
-              reached = C.reached clock.old;
-              written = K.written out.old;
-              faults = K.faults out.old;
-            }) }
+            (service_standing self.old (outside (K.written out.old) (K.faults out.old) (C.told clock.old) (L.inboxes link.old)
+            (L.faults link.old) (map N.device boards.old)) (L.mote_count link.old) (C.reached clock.old)) }
         ensures goes { GoesOn result profile.now.motes profile.now.links
             (stretch profile.now.motes profile.now.motes (Looks mote ∷ Ticks mote ∷ []))
-            (record {
-              service = self.old;
-              boards = map N.device boards.old;
-              inboxes = L.inboxes link.old;
-              addressees = L.mote_count link.old;
-              failures = L.faults link.old;
-              clock = C.told clock.old;
-              reached = C.reached clock.old;
-              written = K.written out.old;
-              faults = K.faults out.old;
-            })
-            (record {
-              service = self.new;
-              boards = map N.device boards.new;
-              inboxes = L.inboxes link.new;
-              addressees = L.mote_count link.new;
-              failures = L.faults link.new;
-              clock = C.told clock.new;
-              reached = C.reached clock.new;
-              written = K.written out.new;
-              faults = K.faults out.new;
-            }) }
+            (service_standing self.old (outside (K.written out.old) (K.faults out.old) (C.told clock.old) (L.inboxes link.old)
+            (L.faults link.old) (map N.device boards.old)) (L.mote_count link.old) (C.reached clock.old))
+            (service_standing self.new (outside (K.written out.new) (K.faults out.new) (C.told clock.new) (L.inboxes link.new)
+            (L.faults link.new) (map N.device boards.new)) (L.mote_count link.new) (C.reached clock.new)) }
     {
         self.look(profile, mote, boards, link, clock, out)?;
         self.tick(profile, mote, boards, link, clock, out)?;
@@ -396,42 +236,15 @@ impl Service {
     ) -> Result<(), Stop>
         requires allowed { IsAllowed profile.now }
         requires ready { Ready profile.now.motes 0
-            (record {
-              service = self.old;
-              boards = map N.device boards.old;
-              inboxes = L.inboxes link.old;
-              addressees = L.mote_count link.old;
-              failures = L.faults link.old;
-              clock = C.told clock.old;
-              reached = C.reached clock.old;
-              written = K.written out.old;
-              faults = K.faults out.old;
-            }) }
+            (service_standing self.old (outside (K.written out.old) (K.faults out.old) (C.told clock.old) (L.inboxes link.old)
+            (L.faults link.old) (map N.device boards.old)) (L.mote_count link.old) (C.reached clock.old)) }
         requires early { self.old.timeline.moment ≡ 0 }
         ensures goes { GoesOn result profile.now.motes profile.now.links
             (stretch 0 profile.now.motes (beginning profile.now.motes))
-            (record {
-              service = self.old;
-              boards = map N.device boards.old;
-              inboxes = L.inboxes link.old;
-              addressees = L.mote_count link.old;
-              failures = L.faults link.old;
-              clock = C.told clock.old;
-              reached = C.reached clock.old;
-              written = K.written out.old;
-              faults = K.faults out.old;
-            })
-            (record {
-              service = self.new;
-              boards = map N.device boards.new;
-              inboxes = L.inboxes link.new;
-              addressees = L.mote_count link.new;
-              failures = L.faults link.new;
-              clock = C.told clock.new;
-              reached = C.reached clock.new;
-              written = K.written out.new;
-              faults = K.faults out.new;
-            }) }
+            (service_standing self.old (outside (K.written out.old) (K.faults out.old) (C.told clock.old) (L.inboxes link.old)
+            (L.faults link.old) (map N.device boards.old)) (L.mote_count link.old) (C.reached clock.old))
+            (service_standing self.new (outside (K.written out.new) (K.faults out.new) (C.told clock.new) (L.inboxes link.new)
+            (L.faults link.new) (map N.device boards.new)) (L.mote_count link.new) (C.reached clock.new)) }
     {
         for mote in 0..profile.motes {
             self.begin(profile, mote, boards, link, clock, out)?;
@@ -450,54 +263,18 @@ impl Service {
     ) -> Result<(), Stop>
         requires allowed { IsAllowed profile.now }
         requires ready { Ready profile.now.motes profile.now.motes
-            (record {
-              service = self.old;
-              boards = map N.device boards.old;
-              inboxes = L.inboxes link.old;
-              addressees = L.mote_count link.old;
-              failures = L.faults link.old;
-              clock = C.told clock.old;
-              reached = C.reached clock.old;
-              written = K.written out.old;
-              faults = K.faults out.old;
-            }) }
+            (service_standing self.old (outside (K.written out.old) (K.faults out.old) (C.told clock.old) (L.inboxes link.old)
+            (L.faults link.old) (map N.device boards.old)) (L.mote_count link.old) (C.reached clock.old)) }
         requires early { self.old.timeline.moment < 2 ^ 58 }
         requires some { StandsForSome profile.now.motes profile.now.motes profile.now.links
-            (record {
-              service = self.old;
-              boards = map N.device boards.old;
-              inboxes = L.inboxes link.old;
-              addressees = L.mote_count link.old;
-              failures = L.faults link.old;
-              clock = C.told clock.old;
-              reached = C.reached clock.old;
-              written = K.written out.old;
-              faults = K.faults out.old;
-            }) }
+            (service_standing self.old (outside (K.written out.old) (K.faults out.old) (C.told clock.old) (L.inboxes link.old)
+            (L.faults link.old) (map N.device boards.old)) (L.mote_count link.old) (C.reached clock.old)) }
         ensures goes { GoesOn result profile.now.motes profile.now.links
             (stretch profile.now.motes profile.now.motes (turn_of_all profile.now.motes))
-            (record {
-              service = self.old;
-              boards = map N.device boards.old;
-              inboxes = L.inboxes link.old;
-              addressees = L.mote_count link.old;
-              failures = L.faults link.old;
-              clock = C.told clock.old;
-              reached = C.reached clock.old;
-              written = K.written out.old;
-              faults = K.faults out.old;
-            })
-            (record {
-              service = self.new;
-              boards = map N.device boards.new;
-              inboxes = L.inboxes link.new;
-              addressees = L.mote_count link.new;
-              failures = L.faults link.new;
-              clock = C.told clock.new;
-              reached = C.reached clock.new;
-              written = K.written out.new;
-              faults = K.faults out.new;
-            }) }
+            (service_standing self.old (outside (K.written out.old) (K.faults out.old) (C.told clock.old) (L.inboxes link.old)
+            (L.faults link.old) (map N.device boards.old)) (L.mote_count link.old) (C.reached clock.old))
+            (service_standing self.new (outside (K.written out.new) (K.faults out.new) (C.told clock.new) (L.inboxes link.new)
+            (L.faults link.new) (map N.device boards.new)) (L.mote_count link.new) (C.reached clock.new)) }
     {
         for mote in 0..profile.motes {
             self.take_part(profile, mote, boards, link, clock, out)?;
@@ -518,42 +295,15 @@ impl Service {
         requires allowed { IsAllowed profile.now }
         requires few { turns ≤ 1000000 }
         requires ready { Ready profile.now.motes 0
-            (record {
-              service = self.old;
-              boards = map N.device boards.old;
-              inboxes = L.inboxes link.old;
-              addressees = L.mote_count link.old;
-              failures = L.faults link.old;
-              clock = C.told clock.old;
-              reached = C.reached clock.old;
-              written = K.written out.old;
-              faults = K.faults out.old;
-            }) }
+            (service_standing self.old (outside (K.written out.old) (K.faults out.old) (C.told clock.old) (L.inboxes link.old)
+            (L.faults link.old) (map N.device boards.old)) (L.mote_count link.old) (C.reached clock.old)) }
         requires early { self.old.timeline.moment ≡ 0 }
         ensures goes { GoesOn result profile.now.motes profile.now.links
             (stretch 0 profile.now.motes (plan profile.now.motes turns))
-            (record {
-              service = self.old;
-              boards = map N.device boards.old;
-              inboxes = L.inboxes link.old;
-              addressees = L.mote_count link.old;
-              failures = L.faults link.old;
-              clock = C.told clock.old;
-              reached = C.reached clock.old;
-              written = K.written out.old;
-              faults = K.faults out.old;
-            })
-            (record {
-              service = self.new;
-              boards = map N.device boards.new;
-              inboxes = L.inboxes link.new;
-              addressees = L.mote_count link.new;
-              failures = L.faults link.new;
-              clock = C.told clock.new;
-              reached = C.reached clock.new;
-              written = K.written out.new;
-              faults = K.faults out.new;
-            }) }
+            (service_standing self.old (outside (K.written out.old) (K.faults out.old) (C.told clock.old) (L.inboxes link.old)
+            (L.faults link.old) (map N.device boards.old)) (L.mote_count link.old) (C.reached clock.old))
+            (service_standing self.new (outside (K.written out.new) (K.faults out.new) (C.told clock.new) (L.inboxes link.new)
+            (L.faults link.new) (map N.device boards.new)) (L.mote_count link.new) (C.reached clock.new)) }
     {
         self.begin_all(profile, boards, link, clock, out)?;
         self.play_turns(turns, profile, boards, link, clock, out)?;
@@ -573,54 +323,18 @@ impl Service {
         requires allowed { IsAllowed profile.now }
         requires few { turns ≤ 1000000 }
         requires ready { Ready profile.now.motes profile.now.motes
-            (record {
-              service = self.old;
-              boards = map N.device boards.old;
-              inboxes = L.inboxes link.old;
-              addressees = L.mote_count link.old;
-              failures = L.faults link.old;
-              clock = C.told clock.old;
-              reached = C.reached clock.old;
-              written = K.written out.old;
-              faults = K.faults out.old;
-            }) }
+            (service_standing self.old (outside (K.written out.old) (K.faults out.old) (C.told clock.old) (L.inboxes link.old)
+            (L.faults link.old) (map N.device boards.old)) (L.mote_count link.old) (C.reached clock.old)) }
         requires early { self.old.timeline.moment < 2 ^ 40 }
         requires some { StandsForSome profile.now.motes profile.now.motes profile.now.links
-            (record {
-              service = self.old;
-              boards = map N.device boards.old;
-              inboxes = L.inboxes link.old;
-              addressees = L.mote_count link.old;
-              failures = L.faults link.old;
-              clock = C.told clock.old;
-              reached = C.reached clock.old;
-              written = K.written out.old;
-              faults = K.faults out.old;
-            }) }
+            (service_standing self.old (outside (K.written out.old) (K.faults out.old) (C.told clock.old) (L.inboxes link.old)
+            (L.faults link.old) (map N.device boards.old)) (L.mote_count link.old) (C.reached clock.old)) }
         ensures goes { GoesOn result profile.now.motes profile.now.links
             (stretch profile.now.motes profile.now.motes (each turns (λ turn. turn_of_all profile.now.motes)))
-            (record {
-              service = self.old;
-              boards = map N.device boards.old;
-              inboxes = L.inboxes link.old;
-              addressees = L.mote_count link.old;
-              failures = L.faults link.old;
-              clock = C.told clock.old;
-              reached = C.reached clock.old;
-              written = K.written out.old;
-              faults = K.faults out.old;
-            })
-            (record {
-              service = self.new;
-              boards = map N.device boards.new;
-              inboxes = L.inboxes link.new;
-              addressees = L.mote_count link.new;
-              failures = L.faults link.new;
-              clock = C.told clock.new;
-              reached = C.reached clock.new;
-              written = K.written out.new;
-              faults = K.faults out.new;
-            }) }
+            (service_standing self.old (outside (K.written out.old) (K.faults out.old) (C.told clock.old) (L.inboxes link.old)
+            (L.faults link.old) (map N.device boards.old)) (L.mote_count link.old) (C.reached clock.old))
+            (service_standing self.new (outside (K.written out.new) (K.faults out.new) (C.told clock.new) (L.inboxes link.new)
+            (L.faults link.new) (map N.device boards.new)) (L.mote_count link.new) (C.reached clock.new)) }
     {
         for _turn in 0..turns {
             self.play_turn(profile, boards, link, clock, out)?;

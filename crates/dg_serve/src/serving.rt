@@ -6,7 +6,7 @@ ghost use Rattle.dg_mote.specs.Sizes.{BuffersFit, ValuesAreSmall};
 ghost use Rattle.dg_netcfg.specs.Readings.{IsAllowed};
 ghost use Rattle.dg_nor.specs.Device.{Device};
 ghost use Rattle.dg_serve.specs.Traces.{last_line};
-ghost use Rattle.dg_serve.specs.Served.{Served, TooFewBoards};
+ghost use Rattle.dg_serve.specs.Served.{Served, TooFewBoards, outside};
 ghost use Rattle.dg_serve.specs.Ran.{ServiceOpens, OpensLink, RanTo, LineWritten, TellsStop, TellsTooFew};
 
 use crate::service::Service;
@@ -36,39 +36,15 @@ pub fn serve<K: Sink, N: Nor, L: Link, C: Clock>(
     requires allowed { IsAllowed profile.now }
     requires turns { turns ≤ 1000000 }
     ensures served { profile.now.motes ≤ vec_len boards.old → Served result profile.now seed turns
-        (record {
-          written = K.written out.old;
-          faults = K.faults out.old;
-          clock = C.told clock.old;
-          inboxes = L.inboxes link.old;
-          failures = L.faults link.old;
-          boards = map N.device boards.old.items;
-        })
-        (record {
-          written = K.written out.new;
-          faults = K.faults out.new;
-          clock = C.told clock.new;
-          inboxes = L.inboxes link.new;
-          failures = L.faults link.new;
-          boards = map N.device boards.new.items;
-        }) }
+        (outside (K.written out.old) (K.faults out.old) (C.told clock.old) (L.inboxes link.old) (L.faults link.old)
+        (map N.device boards.old.items))
+        (outside (K.written out.new) (K.faults out.new) (C.told clock.new) (L.inboxes link.new) (L.faults link.new)
+        (map N.device boards.new.items)) }
     ensures too_few { vec_len boards.old < profile.now.motes → TooFewBoards result profile.now
-        (record {
-          written = K.written out.old;
-          faults = K.faults out.old;
-          clock = C.told clock.old;
-          inboxes = L.inboxes link.old;
-          failures = L.faults link.old;
-          boards = map N.device boards.old.items;
-        })
-        (record {
-          written = K.written out.new;
-          faults = K.faults out.new;
-          clock = C.told clock.new;
-          inboxes = L.inboxes link.new;
-          failures = L.faults link.new;
-          boards = map N.device boards.new.items;
-        }) }
+        (outside (K.written out.old) (K.faults out.old) (C.told clock.old) (L.inboxes link.old) (L.faults link.old)
+        (map N.device boards.old.items))
+        (outside (K.written out.new) (K.faults out.new) (C.told clock.new) (L.inboxes link.new) (L.faults link.new)
+        (map N.device boards.new.items)) }
     // All arrays of bytes that are alive at once in a mote's call have no more than 256, and beside the outbox and its sets
     // none lies in the value of a mote.
     ensures buffers { BuffersFit × ValuesAreSmall }
@@ -107,22 +83,10 @@ fn serve_boards<K: Sink, N: Nor, L: Link, C: Clock>(
     requires turns { turns ≤ 1000000 }
     requires enough { profile.now.motes ≤ length boards.old }
     ensures ran { RanTo result profile.now seed turns
-        (record {
-          written = K.written out.old;
-          faults = K.faults out.old;
-          clock = C.told clock.old;
-          inboxes = L.inboxes link.old;
-          failures = L.faults link.old;
-          boards = map N.device boards.old;
-        })
-        (record {
-          written = K.written out.new;
-          faults = K.faults out.new;
-          clock = C.told clock.new;
-          inboxes = L.inboxes link.new;
-          failures = L.faults link.new;
-          boards = map N.device boards.new;
-        }) }
+        (outside (K.written out.old) (K.faults out.old) (C.told clock.old) (L.inboxes link.old) (L.faults link.old)
+        (map N.device boards.old))
+        (outside (K.written out.new) (K.faults out.new) (C.told clock.new) (L.inboxes link.new) (L.faults link.new)
+        (map N.device boards.new)) }
 {
     let mut service = open_service(alloc, profile, link, clock, seed, out)?;
     service.run(turns, profile, boards, link, clock, out)
@@ -139,23 +103,9 @@ fn open_service<K: Sink, L: Link, C: Clock>(
 ) -> Result<Service, Stop>
     requires allowed { IsAllowed profile.now }
     ensures opens { (boards : List Device) → ServiceOpens result profile.now seed
-        (record {
-          written = K.written out.old;
-          faults = K.faults out.old;
-          clock = C.told clock.old;
-          inboxes = L.inboxes link.old;
-          failures = L.faults link.old;
-          boards = boards;
-        }) (L.mote_count link.new)
-        (C.reached clock.new)
-        (record {
-          written = K.written out.new;
-          faults = K.faults out.new;
-          clock = C.told clock.new;
-          inboxes = L.inboxes link.new;
-          failures = L.faults link.new;
-          boards = boards;
-        }) }
+        (outside (K.written out.old) (K.faults out.old) (C.told clock.old) (L.inboxes link.old) (L.faults link.old) boards)
+        (L.mote_count link.new) (C.reached clock.new)
+        (outside (K.written out.new) (K.faults out.new) (C.told clock.new) (L.inboxes link.new) (L.faults link.new) boards) }
 {
     let motes = all_off(alloc, profile.motes)?;
     let mut text = Vec::new(alloc);
