@@ -19,7 +19,7 @@ use Rattle.dg_serve.specs.Services.{Moment, Course, course, plan}
 use Rattle.dg_serve.specs.Endings.{StoresOf, begins}
 use Rattle.dg_serve.specs.Traces.{UntoldLast, trace, lines_text, head_lines, event_lines, last_line}
 use Rattle.dg_serve.specs.Standings.{Standing, StandsFor, Ready, BoardEndures, BoardIsCalm, BoardsAreUsed, Went, PartsHalted, GoesOn, stretch}
-use Rattle.dg_serve.specs.Served.{Outside, LeftBy, Wrote, BoardsEndure, Causes, Began, Hindered, Served, TooFewBoards}
+use Rattle.dg_serve.specs.Served.{Outside, LeftBy, Wrote, BoardsEndure, Causes, Began, Hindered, Served, TooFewBoards, outside}
 use Rattle.dg_serve.specs.Ran.{status_of, IsOpened, WroteBy, ServiceRan, RanTo, LineWritten, TellsStop, TellsTooFew}
 use Rattle.dg_serve.specs.declared.stop.Stop.{Stop}
 use Rattle.dg_serve.specs.declared.stop.Stop.TheVariants as stop
@@ -28,7 +28,7 @@ use Rattle.dg_serve.proofs.StartLemmas.{stands_first}
 
 -- what is outside of where the code stands
 abbrev pub outside_of : Standing → Outside
-outside_of p = record { written = p.written; faults = p.faults; clock = p.clock; inboxes = p.inboxes; failures = p.failures; boards = p.boards }
+outside_of p = outside p.written p.faults p.clock p.inboxes p.failures p.boards
 
 -- ---- boards
 

@@ -3,7 +3,8 @@ use Rattle.std.proofs.lemmas.List.{length-map}
 use Rattle.std.specs.Prelude.{slice_index_or, None}
 use Rattle.dg_base.specs.declared.events.Event.TheVariants.{Reset}
 use Rattle.dg_serve.specs.Services.{Begins}
-use Rattle.dg_serve.specs.Standings.{Standing}
+use Rattle.dg_serve.specs.Standings.{Standing, service_standing}
+use Rattle.dg_serve.specs.Served.{outside}
 use Rattle.dg_serve.proofs.TurnLemmas.{DrawnTo, part_ends, begins_part, may_begin}
 use Rattle.dg_serve.proofs.service.Service.begin.Goals as goal
 
@@ -53,8 +54,8 @@ happen-requires-clause-some g c =
 
 pub returns : goal.returns
 returns g c =
-    let p : Standing = record { service = c.args.self.now; boards = map g.N.Nor.device c.args.boards.now; inboxes = g.L.Link.inboxes c.args.link.now; addressees = g.L.Link.mote_count c.args.link.now; failures = g.L.Link.faults c.args.link.now; clock = g.C.Clock.told c.args.clock.now; reached = g.C.Clock.reached c.args.clock.now; written = g.K.Sink.written c.args.out.now; faults = g.K.Sink.faults c.args.out.now } in
-    let m : Standing = record { service = record { motes = c.args.self.now.motes; timeline = c.draw-draw.new.self; text = c.args.self.now.text; alloc = c.args.self.now.alloc }; boards = map g.N.Nor.device c.args.boards.now; inboxes = g.L.Link.inboxes c.args.link.now; addressees = g.L.Link.mote_count c.args.link.now; failures = g.L.Link.faults c.args.link.now; clock = g.C.Clock.told c.draw-draw.new.clock; reached = g.C.Clock.reached c.draw-draw.new.clock; written = g.K.Sink.written c.args.out.now; faults = g.K.Sink.faults c.args.out.now } in
+    let p : Standing = service_standing c.args.self.now (outside (g.K.Sink.written c.args.out.now) (g.K.Sink.faults c.args.out.now) (g.C.Clock.told c.args.clock.now) (g.L.Link.inboxes c.args.link.now) (g.L.Link.faults c.args.link.now) (map g.N.Nor.device c.args.boards.now)) (g.L.Link.mote_count c.args.link.now) (g.C.Clock.reached c.args.clock.now) in
+    let m : Standing = service_standing (record { motes = c.args.self.now.motes; timeline = c.draw-draw.new.self; text = c.args.self.now.text; alloc = c.args.self.now.alloc }) (outside (g.K.Sink.written c.args.out.now) (g.K.Sink.faults c.args.out.now) (g.C.Clock.told c.draw-draw.new.clock) (g.L.Link.inboxes c.args.link.now) (g.L.Link.faults c.args.link.now) (map g.N.Nor.device c.args.boards.now)) (g.L.Link.mote_count c.args.link.now) (g.C.Clock.reached c.draw-draw.new.clock) in
     let d : DrawnTo p m c.draw-draw.result.dt c.draw-draw.result.word = record { draws = record { dt_is = c.draw-draw.ensures.dt; rises = c.draw-draw.ensures.rises; answered = c.draw-draw.ensures.told; word_is = c.draw-draw.ensures.word; moment = c.draw-draw.ensures.moment; fits = record { dt = c.draw-draw.ensures.short; word = c.draw-draw.ensures.drawn } }; boards = refl; motes = refl; written = refl; failures = refl; faults = refl; addressees = refl; reached = c.draw-draw.ensures.goes_on; known = c.draw-draw.ensures.reached; short = c.draw-draw.ensures.short } in
     record {
       goes = part_ends c.args.profile.now.motes c.args.mote (c.args.mote + 1) c.args.profile.now.links (Begins c.args.mote) (λ dt word. Reset c.args.mote dt word) [] c.draw-draw.result.dt c.draw-draw.result.word p m _ d (begins_part c.args.profile.now.motes c.args.mote p.inboxes c.requires.known) c.happen.result c.requires.ready (c.happen.ensures.ends (g.C.Clock.told c.draw-draw.new.clock) (g.C.Clock.reached c.draw-draw.new.clock)) refl refl;

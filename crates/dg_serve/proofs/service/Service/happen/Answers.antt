@@ -6,9 +6,10 @@ use Rattle.dg_mote.specs.Motes.{sent_in}
 use Rattle.dg_world.specs.Alone.{IsAlone}
 use Rattle.dg_world.specs.Worlds.{MayRun}
 use Rattle.std.specs.Vec.{with_items}
-use Rattle.dg_serve.specs.Standings.{Standing, HandedToSome, handed_by}
+use Rattle.dg_serve.specs.Standings.{Standing, HandedToSome, handed_by, service_standing}
 use Rattle.dg_script.specs.declared.line.Line.TheVariants.{Happens}
 use Rattle.dg_serve.specs.declared.stop.Stop.TheVariants as stop
+use Rattle.dg_serve.specs.Served.{outside}
 use Rattle.dg_serve.proofs.HappenLemmas.{err_exit, event_is, text_is, setting_of, written_back, memory_ends, stopped_ends, err_as, link_counts, fits_more, is_played, untold_ends, unsent_ends, done_ends}
 use Rattle.dg_serve.proofs.service.Service.happen.Goals as goal
 
@@ -49,8 +50,8 @@ returns-in_err-sent g c =
     let x = c.in_err-sent.ensures.played in
     record {
       ends = λ told reached.
-          let p : Standing = record { service = c.args.self.now; boards = map g.N.Nor.device c.args.boards.now; inboxes = g.L.Link.inboxes c.args.link.now; addressees = g.L.Link.mote_count c.args.link.now; failures = g.L.Link.faults c.args.link.now; clock = told; reached = reached; written = g.K.Sink.written c.args.out.now; faults = g.K.Sink.faults c.args.out.now } in
-          let q : Standing = record { service = record { motes = with_items c.args.self.now.motes c.play.new.motes; timeline = c.args.self.now.timeline; text = c.write_event.new.text; alloc = c.args.self.now.alloc }; boards = map g.N.Nor.device c.play.new.boards; inboxes = g.L.Link.inboxes c.args.link.now; addressees = g.L.Link.mote_count c.args.link.now; failures = g.L.Link.faults c.args.link.now; clock = told; reached = reached; written = g.K.Sink.written c.args.out.now; faults = g.K.Sink.faults c.args.out.now } in
+          let p : Standing = service_standing c.args.self.now (outside (g.K.Sink.written c.args.out.now) (g.K.Sink.faults c.args.out.now) told (g.L.Link.inboxes c.args.link.now) (g.L.Link.faults c.args.link.now) (map g.N.Nor.device c.args.boards.now)) (g.L.Link.mote_count c.args.link.now) reached in
+          let q : Standing = service_standing (record { motes = with_items c.args.self.now.motes c.play.new.motes; timeline = c.args.self.now.timeline; text = c.write_event.new.text; alloc = c.args.self.now.alloc }) (outside (g.K.Sink.written c.args.out.now) (g.K.Sink.faults c.args.out.now) told (g.L.Link.inboxes c.args.link.now) (g.L.Link.faults c.args.link.now) (map g.N.Nor.device c.play.new.boards)) (g.L.Link.mote_count c.args.link.now) reached in
           err_exit c.from_residual-in_err-sent.result c.in_err-sent.field-0.0 c.args.profile.now.motes c.args.profile.now.links c.args.event p q c.from_residual-in_err-sent.ensures.1
           (stopped_ends c.args.profile.now.motes c.args.mote c.args.profile.now.links c.args.event x.0 c.in_err-sent.field-0.0 p q x.1 c.requires.alone c.requires.at
           (setting_of c.args.profile.now.motes c.args.mote c.args.event c.told_event-told.result.now x.0 p q c.as_mut_slice.result.now c.play.new.motes (event_is c.args.event c.told_event-told.result.now c.told_event-told.ensures) c.as_mut_slice.ensures.value (written_back c.args.self.now c.as_mut_slice.result.now c.play.new.motes c.args.mote (slice_index_or c.play.new.motes c.args.mote None) c.as_mut_slice.ensures.value c.play.ensures.motes) c.play.ensures.motes x.2 refl c.requires.known c.requires.motes c.requires.off)
@@ -63,8 +64,8 @@ returns-in_err-put g c =
     let text = text_is c.args.event c.as_slice.result.now c.write_event.new.text.items c.as_slice.ensures.value c.in_ok-write_event.ensures in
     record {
       ends = λ told reached.
-          let p : Standing = record { service = c.args.self.now; boards = map g.N.Nor.device c.args.boards.now; inboxes = g.L.Link.inboxes c.args.link.now; addressees = g.L.Link.mote_count c.args.link.now; failures = g.L.Link.faults c.args.link.now; clock = told; reached = reached; written = g.K.Sink.written c.args.out.now; faults = g.K.Sink.faults c.args.out.now } in
-          let q : Standing = record { service = record { motes = with_items c.args.self.now.motes c.play.new.motes; timeline = c.args.self.now.timeline; text = c.write_event.new.text; alloc = c.args.self.now.alloc }; boards = map g.N.Nor.device c.play.new.boards; inboxes = g.L.Link.inboxes c.args.link.now; addressees = g.L.Link.mote_count c.args.link.now; failures = g.L.Link.faults c.args.link.now; clock = told; reached = reached; written = g.K.Sink.written c.put.new.out; faults = g.K.Sink.faults c.put.new.out } in
+          let p : Standing = service_standing c.args.self.now (outside (g.K.Sink.written c.args.out.now) (g.K.Sink.faults c.args.out.now) told (g.L.Link.inboxes c.args.link.now) (g.L.Link.faults c.args.link.now) (map g.N.Nor.device c.args.boards.now)) (g.L.Link.mote_count c.args.link.now) reached in
+          let q : Standing = service_standing (record { motes = with_items c.args.self.now.motes c.play.new.motes; timeline = c.args.self.now.timeline; text = c.write_event.new.text; alloc = c.args.self.now.alloc }) (outside (g.K.Sink.written c.put.new.out) (g.K.Sink.faults c.put.new.out) told (g.L.Link.inboxes c.args.link.now) (g.L.Link.faults c.args.link.now) (map g.N.Nor.device c.play.new.boards)) (g.L.Link.mote_count c.args.link.now) reached in
           err_exit c.from_residual-in_err-put.result stop.Write c.args.profile.now.motes c.args.profile.now.links c.args.event p q (err_as c.from_residual-in_err-put.result c.in_err-put.field-0.0 stop.Write c.from_residual-in_err-put.ensures.1 c.in_err-put.ensures.cause)
           (untold_ends c.args.profile.now.motes c.args.profile.now.links c.args.event c.in_ok-sent.sent p q (is_played c.args.profile.now.motes c.args.mote c.args.profile.now.links c.args.event x.0 c.in_ok-sent.sent p q x.1 c.requires.alone c.requires.at (setting_of c.args.profile.now.motes c.args.mote c.args.event c.told_event-told.result.now x.0 p q c.as_mut_slice.result.now c.play.new.motes (event_is c.args.event c.told_event-told.result.now c.told_event-told.ensures) c.as_mut_slice.ensures.value (written_back c.args.self.now c.as_mut_slice.result.now c.play.new.motes c.args.mote (slice_index_or c.play.new.motes c.args.mote None) c.as_mut_slice.ensures.value c.play.ensures.motes) c.play.ensures.motes x.2 refl c.requires.known c.requires.motes c.requires.off) c.agreement_is_kept.ensures.timely c.requires.ranges c.requires.some refl)
           (subst (λ t. PutsFront (g.K.Sink.written c.args.out.now) (g.K.Sink.written c.put.new.out) t) text c.in_err-put.ensures.err) refl refl c.in_err-put.ensures.counts c.in_err-put.ensures.failed);
@@ -83,8 +84,8 @@ returns-in_err-hand_on g c =
     let counts = link_counts c.in_err-hand_on.field-0.0 _ _ c.in_err-hand_on.ensures.cause c.in_err-hand_on.ensures.counts in
     record {
       ends = λ told reached.
-          let p : Standing = record { service = c.args.self.now; boards = map g.N.Nor.device c.args.boards.now; inboxes = g.L.Link.inboxes c.args.link.now; addressees = g.L.Link.mote_count c.args.link.now; failures = g.L.Link.faults c.args.link.now; clock = told; reached = reached; written = g.K.Sink.written c.args.out.now; faults = g.K.Sink.faults c.args.out.now } in
-          let q : Standing = record { service = record { motes = with_items c.args.self.now.motes c.play.new.motes; timeline = c.args.self.now.timeline; text = c.write_event.new.text; alloc = c.args.self.now.alloc }; boards = map g.N.Nor.device c.play.new.boards; inboxes = g.L.Link.inboxes c.hand_on.new.link; addressees = g.L.Link.mote_count c.hand_on.new.link; failures = g.L.Link.faults c.hand_on.new.link; clock = told; reached = reached; written = g.K.Sink.written c.put.new.out; faults = g.K.Sink.faults c.put.new.out } in
+          let p : Standing = service_standing c.args.self.now (outside (g.K.Sink.written c.args.out.now) (g.K.Sink.faults c.args.out.now) told (g.L.Link.inboxes c.args.link.now) (g.L.Link.faults c.args.link.now) (map g.N.Nor.device c.args.boards.now)) (g.L.Link.mote_count c.args.link.now) reached in
+          let q : Standing = service_standing (record { motes = with_items c.args.self.now.motes c.play.new.motes; timeline = c.args.self.now.timeline; text = c.write_event.new.text; alloc = c.args.self.now.alloc }) (outside (g.K.Sink.written c.put.new.out) (g.K.Sink.faults c.put.new.out) told (g.L.Link.inboxes c.hand_on.new.link) (g.L.Link.faults c.hand_on.new.link) (map g.N.Nor.device c.play.new.boards)) (g.L.Link.mote_count c.hand_on.new.link) reached in
           err_exit c.from_residual-in_err-hand_on.result stop.Link c.args.profile.now.motes c.args.profile.now.links c.args.event p q (err_as c.from_residual-in_err-hand_on.result c.in_err-hand_on.field-0.0 stop.Link c.from_residual-in_err-hand_on.ensures.1 c.in_err-hand_on.ensures.cause)
           (unsent_ends c.args.profile.now.motes c.args.profile.now.links c.args.event c.in_ok-sent.sent p q (is_played c.args.profile.now.motes c.args.mote c.args.profile.now.links c.args.event x.0 c.in_ok-sent.sent p q x.1 c.requires.alone c.requires.at (setting_of c.args.profile.now.motes c.args.mote c.args.event c.told_event-told.result.now x.0 p q c.as_mut_slice.result.now c.play.new.motes (event_is c.args.event c.told_event-told.result.now c.told_event-told.ensures) c.as_mut_slice.ensures.value (written_back c.args.self.now c.as_mut_slice.result.now c.play.new.motes c.args.mote (slice_index_or c.play.new.motes c.args.mote None) c.as_mut_slice.ensures.value c.play.ensures.motes) c.play.ensures.motes x.2 refl c.requires.known c.requires.motes c.requires.off) c.agreement_is_kept.ensures.timely c.requires.ranges c.requires.some refl)
           (subst (λ t. Puts (g.K.Sink.written c.args.out.now) (g.K.Sink.written c.put.new.out) t) text c.in_ok-put.ensures.ok)
@@ -98,8 +99,8 @@ returns g c =
     let text = text_is c.args.event c.as_slice.result.now c.write_event.new.text.items c.as_slice.ensures.value c.in_ok-write_event.ensures in
     record {
       ends = λ told reached.
-          let p : Standing = record { service = c.args.self.now; boards = map g.N.Nor.device c.args.boards.now; inboxes = g.L.Link.inboxes c.args.link.now; addressees = g.L.Link.mote_count c.args.link.now; failures = g.L.Link.faults c.args.link.now; clock = told; reached = reached; written = g.K.Sink.written c.args.out.now; faults = g.K.Sink.faults c.args.out.now } in
-          let q : Standing = record { service = record { motes = with_items c.args.self.now.motes c.play.new.motes; timeline = c.args.self.now.timeline; text = c.write_event.new.text; alloc = c.args.self.now.alloc }; boards = map g.N.Nor.device c.play.new.boards; inboxes = g.L.Link.inboxes c.hand_on.new.link; addressees = g.L.Link.mote_count c.hand_on.new.link; failures = g.L.Link.faults c.hand_on.new.link; clock = told; reached = reached; written = g.K.Sink.written c.put.new.out; faults = g.K.Sink.faults c.put.new.out } in
+          let p : Standing = service_standing c.args.self.now (outside (g.K.Sink.written c.args.out.now) (g.K.Sink.faults c.args.out.now) told (g.L.Link.inboxes c.args.link.now) (g.L.Link.faults c.args.link.now) (map g.N.Nor.device c.args.boards.now)) (g.L.Link.mote_count c.args.link.now) reached in
+          let q : Standing = service_standing (record { motes = with_items c.args.self.now.motes c.play.new.motes; timeline = c.args.self.now.timeline; text = c.write_event.new.text; alloc = c.args.self.now.alloc }) (outside (g.K.Sink.written c.put.new.out) (g.K.Sink.faults c.put.new.out) told (g.L.Link.inboxes c.hand_on.new.link) (g.L.Link.faults c.hand_on.new.link) (map g.N.Nor.device c.play.new.boards)) (g.L.Link.mote_count c.hand_on.new.link) reached in
           done_ends c.args.profile.now.motes c.args.profile.now.links c.args.event c.in_ok-sent.sent p q (is_played c.args.profile.now.motes c.args.mote c.args.profile.now.links c.args.event x.0 c.in_ok-sent.sent p q x.1 c.requires.alone c.requires.at (setting_of c.args.profile.now.motes c.args.mote c.args.event c.told_event-told.result.now x.0 p q c.as_mut_slice.result.now c.play.new.motes (event_is c.args.event c.told_event-told.result.now c.told_event-told.ensures) c.as_mut_slice.ensures.value (written_back c.args.self.now c.as_mut_slice.result.now c.play.new.motes c.args.mote (slice_index_or c.play.new.motes c.args.mote None) c.as_mut_slice.ensures.value c.play.ensures.motes) c.play.ensures.motes x.2 refl c.requires.known c.requires.motes c.requires.off) c.agreement_is_kept.ensures.timely c.requires.ranges c.requires.some refl)
           (subst (λ t. Puts (g.K.Sink.written c.args.out.now) (g.K.Sink.written c.put.new.out) t) text c.in_ok-put.ensures.ok)
           (subst (λ m. g.L.Link.inboxes c.hand_on.new.link ≡ option_map (handed_by c.args.profile.now.links c.args.profile.now.motes m (sent_in c.in_ok-sent.sent)) (g.L.Link.inboxes c.args.link.now)) (sym c.requires.at) c.in_ok-hand_on.ensures.ok)

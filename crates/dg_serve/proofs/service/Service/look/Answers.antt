@@ -2,7 +2,8 @@ use Rattle.std.proofs.Common.{map, refl, ◌∙◌, arith, inr}
 use Rattle.std.proofs.lemmas.List.{length-map}
 use Rattle.dg_base.specs.declared.events.Event.TheVariants.{Frame}
 use Rattle.dg_serve.specs.Services.{Looks}
-use Rattle.dg_serve.specs.Standings.{Standing}
+use Rattle.dg_serve.specs.Standings.{Standing, service_standing}
+use Rattle.dg_serve.specs.Served.{outside}
 use Rattle.dg_serve.proofs.TurnLemmas.{DrawnTo, part_ends, looks_part, some_drawn, may_at}
 use Rattle.dg_serve.proofs.LookLemmas.{none_came, look_fails, came_is, none_is, look_exit}
 use Rattle.dg_serve.proofs.service.Service.look.Goals as goal
@@ -12,7 +13,7 @@ receive-requires g c = omega (arith, c.requires.known, c.requires.ready.addresse
 
 pub returns-in_err-bytes : goal.returns-in_err-bytes
 returns-in_err-bytes g c =
-    let p : Standing = record { service = c.args.self.now; boards = map g.N.Nor.device c.args.boards.now; inboxes = g.L.Link.inboxes c.args.link.now; addressees = g.L.Link.mote_count c.args.link.now; failures = g.L.Link.faults c.args.link.now; clock = g.C.Clock.told c.args.clock.now; reached = g.C.Clock.reached c.args.clock.now; written = g.K.Sink.written c.args.out.now; faults = g.K.Sink.faults c.args.out.now } in
+    let p : Standing = service_standing c.args.self.now (outside (g.K.Sink.written c.args.out.now) (g.K.Sink.faults c.args.out.now) (g.C.Clock.told c.args.clock.now) (g.L.Link.inboxes c.args.link.now) (g.L.Link.faults c.args.link.now) (map g.N.Nor.device c.args.boards.now)) (g.L.Link.mote_count c.args.link.now) (g.C.Clock.reached c.args.clock.now) in
     record {
       goes = look_exit c.args.profile.now.motes c.args.mote c.args.profile.now.links p _ c.from_residual.result c.in_err-bytes.field-0.0 c.from_residual.ensures.1 (look_fails c.args.profile.now.motes c.args.mote c.args.profile.now.links p _ refl refl refl refl refl c.in_err-bytes.field-0.0 c.in_err-bytes.ensures.received c.in_err-bytes.ensures.counts);
     }
@@ -52,8 +53,8 @@ happen-requires-clause-moment g c = omega (arith, c.draw-draw.ensures.moment, c.
 
 pub happen-requires-clause-may : goal.happen-requires-clause-may
 happen-requires-clause-may g c =
-    let p : Standing = record { service = c.args.self.now; boards = map g.N.Nor.device c.args.boards.now; inboxes = g.L.Link.inboxes c.args.link.now; addressees = g.L.Link.mote_count c.args.link.now; failures = g.L.Link.faults c.args.link.now; clock = g.C.Clock.told c.args.clock.now; reached = g.C.Clock.reached c.args.clock.now; written = g.K.Sink.written c.args.out.now; faults = g.K.Sink.faults c.args.out.now } in
-    let m : Standing = record { service = record { motes = c.args.self.now.motes; timeline = c.draw-draw.new.self; text = c.args.self.now.text; alloc = c.args.self.now.alloc }; boards = map g.N.Nor.device c.args.boards.now; inboxes = g.L.Link.inboxes c.receive.new.link; addressees = g.L.Link.mote_count c.receive.new.link; failures = g.L.Link.faults c.receive.new.link; clock = g.C.Clock.told c.draw-draw.new.clock; reached = g.C.Clock.reached c.draw-draw.new.clock; written = g.K.Sink.written c.args.out.now; faults = g.K.Sink.faults c.args.out.now } in
+    let p : Standing = service_standing c.args.self.now (outside (g.K.Sink.written c.args.out.now) (g.K.Sink.faults c.args.out.now) (g.C.Clock.told c.args.clock.now) (g.L.Link.inboxes c.args.link.now) (g.L.Link.faults c.args.link.now) (map g.N.Nor.device c.args.boards.now)) (g.L.Link.mote_count c.args.link.now) (g.C.Clock.reached c.args.clock.now) in
+    let m : Standing = service_standing (record { motes = c.args.self.now.motes; timeline = c.draw-draw.new.self; text = c.args.self.now.text; alloc = c.args.self.now.alloc }) (outside (g.K.Sink.written c.args.out.now) (g.K.Sink.faults c.args.out.now) (g.C.Clock.told c.draw-draw.new.clock) (g.L.Link.inboxes c.receive.new.link) (g.L.Link.faults c.receive.new.link) (map g.N.Nor.device c.args.boards.now)) (g.L.Link.mote_count c.receive.new.link) (g.C.Clock.reached c.draw-draw.new.clock) in
     let d : DrawnTo p m c.draw-draw.result.dt c.draw-draw.result.word = record { draws = record { dt_is = c.draw-draw.ensures.dt; rises = c.draw-draw.ensures.rises; answered = c.draw-draw.ensures.told; word_is = c.draw-draw.ensures.word; moment = c.draw-draw.ensures.moment; fits = record { dt = c.draw-draw.ensures.short; word = c.draw-draw.ensures.drawn } }; boards = refl; motes = refl; written = refl; failures = c.in_ok-bytes.ensures.counts; faults = refl; addressees = c.in_ok-bytes.ensures.same_motes; reached = c.draw-draw.ensures.goes_on; known = c.draw-draw.ensures.reached; short = c.draw-draw.ensures.short } in
     may_at c.args.profile.now.motes c.draw-draw.result.dt c.args.mote c.args.profile.now.links m c.requires.known (some_drawn c.args.profile.now.motes c.args.profile.now.motes c.args.profile.now.links p m c.draw-draw.result.dt c.draw-draw.result.word d c.requires.some)
 
@@ -62,16 +63,16 @@ happen-requires-clause-off g c = λ reset. absurd reset
 
 pub happen-requires-clause-some : goal.happen-requires-clause-some
 happen-requires-clause-some g c =
-    let p : Standing = record { service = c.args.self.now; boards = map g.N.Nor.device c.args.boards.now; inboxes = g.L.Link.inboxes c.args.link.now; addressees = g.L.Link.mote_count c.args.link.now; failures = g.L.Link.faults c.args.link.now; clock = g.C.Clock.told c.args.clock.now; reached = g.C.Clock.reached c.args.clock.now; written = g.K.Sink.written c.args.out.now; faults = g.K.Sink.faults c.args.out.now } in
-    let m : Standing = record { service = record { motes = c.args.self.now.motes; timeline = c.draw-draw.new.self; text = c.args.self.now.text; alloc = c.args.self.now.alloc }; boards = map g.N.Nor.device c.args.boards.now; inboxes = g.L.Link.inboxes c.receive.new.link; addressees = g.L.Link.mote_count c.receive.new.link; failures = g.L.Link.faults c.receive.new.link; clock = g.C.Clock.told c.draw-draw.new.clock; reached = g.C.Clock.reached c.draw-draw.new.clock; written = g.K.Sink.written c.args.out.now; faults = g.K.Sink.faults c.args.out.now } in
+    let p : Standing = service_standing c.args.self.now (outside (g.K.Sink.written c.args.out.now) (g.K.Sink.faults c.args.out.now) (g.C.Clock.told c.args.clock.now) (g.L.Link.inboxes c.args.link.now) (g.L.Link.faults c.args.link.now) (map g.N.Nor.device c.args.boards.now)) (g.L.Link.mote_count c.args.link.now) (g.C.Clock.reached c.args.clock.now) in
+    let m : Standing = service_standing (record { motes = c.args.self.now.motes; timeline = c.draw-draw.new.self; text = c.args.self.now.text; alloc = c.args.self.now.alloc }) (outside (g.K.Sink.written c.args.out.now) (g.K.Sink.faults c.args.out.now) (g.C.Clock.told c.draw-draw.new.clock) (g.L.Link.inboxes c.receive.new.link) (g.L.Link.faults c.receive.new.link) (map g.N.Nor.device c.args.boards.now)) (g.L.Link.mote_count c.receive.new.link) (g.C.Clock.reached c.draw-draw.new.clock) in
     let d : DrawnTo p m c.draw-draw.result.dt c.draw-draw.result.word = record { draws = record { dt_is = c.draw-draw.ensures.dt; rises = c.draw-draw.ensures.rises; answered = c.draw-draw.ensures.told; word_is = c.draw-draw.ensures.word; moment = c.draw-draw.ensures.moment; fits = record { dt = c.draw-draw.ensures.short; word = c.draw-draw.ensures.drawn } }; boards = refl; motes = refl; written = refl; failures = c.in_ok-bytes.ensures.counts; faults = refl; addressees = c.in_ok-bytes.ensures.same_motes; reached = c.draw-draw.ensures.goes_on; known = c.draw-draw.ensures.reached; short = c.draw-draw.ensures.short } in
     let x = some_drawn c.args.profile.now.motes c.args.profile.now.motes c.args.profile.now.links p m c.draw-draw.result.dt c.draw-draw.result.word d c.requires.some in
     inr (m.clock, m.reached, x.0, x.1, x.2)
 
 pub returns-in-Some : goal.returns-in-Some
 returns-in-Some g c =
-    let p : Standing = record { service = c.args.self.now; boards = map g.N.Nor.device c.args.boards.now; inboxes = g.L.Link.inboxes c.args.link.now; addressees = g.L.Link.mote_count c.args.link.now; failures = g.L.Link.faults c.args.link.now; clock = g.C.Clock.told c.args.clock.now; reached = g.C.Clock.reached c.args.clock.now; written = g.K.Sink.written c.args.out.now; faults = g.K.Sink.faults c.args.out.now } in
-    let m : Standing = record { service = record { motes = c.args.self.now.motes; timeline = c.draw-draw.new.self; text = c.args.self.now.text; alloc = c.args.self.now.alloc }; boards = map g.N.Nor.device c.args.boards.now; inboxes = g.L.Link.inboxes c.receive.new.link; addressees = g.L.Link.mote_count c.receive.new.link; failures = g.L.Link.faults c.receive.new.link; clock = g.C.Clock.told c.draw-draw.new.clock; reached = g.C.Clock.reached c.draw-draw.new.clock; written = g.K.Sink.written c.args.out.now; faults = g.K.Sink.faults c.args.out.now } in
+    let p : Standing = service_standing c.args.self.now (outside (g.K.Sink.written c.args.out.now) (g.K.Sink.faults c.args.out.now) (g.C.Clock.told c.args.clock.now) (g.L.Link.inboxes c.args.link.now) (g.L.Link.faults c.args.link.now) (map g.N.Nor.device c.args.boards.now)) (g.L.Link.mote_count c.args.link.now) (g.C.Clock.reached c.args.clock.now) in
+    let m : Standing = service_standing (record { motes = c.args.self.now.motes; timeline = c.draw-draw.new.self; text = c.args.self.now.text; alloc = c.args.self.now.alloc }) (outside (g.K.Sink.written c.args.out.now) (g.K.Sink.faults c.args.out.now) (g.C.Clock.told c.draw-draw.new.clock) (g.L.Link.inboxes c.receive.new.link) (g.L.Link.faults c.receive.new.link) (map g.N.Nor.device c.args.boards.now)) (g.L.Link.mote_count c.receive.new.link) (g.C.Clock.reached c.draw-draw.new.clock) in
     let d : DrawnTo p m c.draw-draw.result.dt c.draw-draw.result.word = record { draws = record { dt_is = c.draw-draw.ensures.dt; rises = c.draw-draw.ensures.rises; answered = c.draw-draw.ensures.told; word_is = c.draw-draw.ensures.word; moment = c.draw-draw.ensures.moment; fits = record { dt = c.draw-draw.ensures.short; word = c.draw-draw.ensures.drawn } }; boards = refl; motes = refl; written = refl; failures = c.in_ok-bytes.ensures.counts; faults = refl; addressees = c.in_ok-bytes.ensures.same_motes; reached = c.draw-draw.ensures.goes_on; known = c.draw-draw.ensures.reached; short = c.draw-draw.ensures.short } in
     let came = came_is c.in_ok-bytes.field-0 c.in-Some.bytes c.args.mote _ _ c.in-Some.is c.in_ok-bytes.ensures.received in
     record {
@@ -80,6 +81,6 @@ returns-in-Some g c =
 
 pub returns-in-None : goal.returns-in-None
 returns-in-None g c =
-    let p : Standing = record { service = c.args.self.now; boards = map g.N.Nor.device c.args.boards.now; inboxes = g.L.Link.inboxes c.args.link.now; addressees = g.L.Link.mote_count c.args.link.now; failures = g.L.Link.faults c.args.link.now; clock = g.C.Clock.told c.args.clock.now; reached = g.C.Clock.reached c.args.clock.now; written = g.K.Sink.written c.args.out.now; faults = g.K.Sink.faults c.args.out.now } in
+    let p : Standing = service_standing c.args.self.now (outside (g.K.Sink.written c.args.out.now) (g.K.Sink.faults c.args.out.now) (g.C.Clock.told c.args.clock.now) (g.L.Link.inboxes c.args.link.now) (g.L.Link.faults c.args.link.now) (map g.N.Nor.device c.args.boards.now)) (g.L.Link.mote_count c.args.link.now) (g.C.Clock.reached c.args.clock.now) in
     let x = none_is c.in_ok-bytes.field-0 c.args.mote _ _ c.in-None.is c.in_ok-bytes.ensures.received in
     record { goes = none_came c.args.profile.now.motes c.args.mote c.args.profile.now.links p (g.L.Link.inboxes c.receive.new.link) (g.L.Link.mote_count c.receive.new.link) (g.L.Link.faults c.receive.new.link) x.1 c.in_ok-bytes.ensures.same_motes c.in_ok-bytes.ensures.counts c.requires.ready x.0 }

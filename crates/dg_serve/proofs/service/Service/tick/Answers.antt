@@ -2,7 +2,8 @@ use Rattle.std.proofs.Common.{[], map, refl, arith, inr}
 use Rattle.std.proofs.lemmas.List.{length-map}
 use Rattle.dg_base.specs.declared.events.Event.TheVariants.{Tick}
 use Rattle.dg_serve.specs.Services.{Ticks}
-use Rattle.dg_serve.specs.Standings.{Standing}
+use Rattle.dg_serve.specs.Standings.{Standing, service_standing}
+use Rattle.dg_serve.specs.Served.{outside}
 use Rattle.dg_serve.proofs.TurnLemmas.{DrawnTo, part_ends, ticks_part, some_drawn, may_at}
 use Rattle.dg_serve.proofs.service.Service.tick.Goals as goal
 
@@ -41,8 +42,8 @@ happen-requires-clause-moment g c = omega (arith, c.draw-draw.ensures.moment, c.
 
 pub happen-requires-clause-may : goal.happen-requires-clause-may
 happen-requires-clause-may g c =
-    let p : Standing = record { service = c.args.self.now; boards = map g.N.Nor.device c.args.boards.now; inboxes = g.L.Link.inboxes c.args.link.now; addressees = g.L.Link.mote_count c.args.link.now; failures = g.L.Link.faults c.args.link.now; clock = g.C.Clock.told c.args.clock.now; reached = g.C.Clock.reached c.args.clock.now; written = g.K.Sink.written c.args.out.now; faults = g.K.Sink.faults c.args.out.now } in
-    let m : Standing = record { service = record { motes = c.args.self.now.motes; timeline = c.draw-draw.new.self; text = c.args.self.now.text; alloc = c.args.self.now.alloc }; boards = map g.N.Nor.device c.args.boards.now; inboxes = g.L.Link.inboxes c.args.link.now; addressees = g.L.Link.mote_count c.args.link.now; failures = g.L.Link.faults c.args.link.now; clock = g.C.Clock.told c.draw-draw.new.clock; reached = g.C.Clock.reached c.draw-draw.new.clock; written = g.K.Sink.written c.args.out.now; faults = g.K.Sink.faults c.args.out.now } in
+    let p : Standing = service_standing c.args.self.now (outside (g.K.Sink.written c.args.out.now) (g.K.Sink.faults c.args.out.now) (g.C.Clock.told c.args.clock.now) (g.L.Link.inboxes c.args.link.now) (g.L.Link.faults c.args.link.now) (map g.N.Nor.device c.args.boards.now)) (g.L.Link.mote_count c.args.link.now) (g.C.Clock.reached c.args.clock.now) in
+    let m : Standing = service_standing (record { motes = c.args.self.now.motes; timeline = c.draw-draw.new.self; text = c.args.self.now.text; alloc = c.args.self.now.alloc }) (outside (g.K.Sink.written c.args.out.now) (g.K.Sink.faults c.args.out.now) (g.C.Clock.told c.draw-draw.new.clock) (g.L.Link.inboxes c.args.link.now) (g.L.Link.faults c.args.link.now) (map g.N.Nor.device c.args.boards.now)) (g.L.Link.mote_count c.args.link.now) (g.C.Clock.reached c.draw-draw.new.clock) in
     let d : DrawnTo p m c.draw-draw.result.dt c.draw-draw.result.word = record { draws = record { dt_is = c.draw-draw.ensures.dt; rises = c.draw-draw.ensures.rises; answered = c.draw-draw.ensures.told; word_is = c.draw-draw.ensures.word; moment = c.draw-draw.ensures.moment; fits = record { dt = c.draw-draw.ensures.short; word = c.draw-draw.ensures.drawn } }; boards = refl; motes = refl; written = refl; failures = refl; faults = refl; addressees = refl; reached = c.draw-draw.ensures.goes_on; known = c.draw-draw.ensures.reached; short = c.draw-draw.ensures.short } in
     may_at c.args.profile.now.motes c.draw-draw.result.dt c.args.mote c.args.profile.now.links m c.requires.known (some_drawn c.args.profile.now.motes c.args.profile.now.motes c.args.profile.now.links p m c.draw-draw.result.dt c.draw-draw.result.word d c.requires.some)
 
@@ -51,16 +52,16 @@ happen-requires-clause-off g c = λ reset. absurd reset
 
 pub happen-requires-clause-some : goal.happen-requires-clause-some
 happen-requires-clause-some g c =
-    let p : Standing = record { service = c.args.self.now; boards = map g.N.Nor.device c.args.boards.now; inboxes = g.L.Link.inboxes c.args.link.now; addressees = g.L.Link.mote_count c.args.link.now; failures = g.L.Link.faults c.args.link.now; clock = g.C.Clock.told c.args.clock.now; reached = g.C.Clock.reached c.args.clock.now; written = g.K.Sink.written c.args.out.now; faults = g.K.Sink.faults c.args.out.now } in
-    let m : Standing = record { service = record { motes = c.args.self.now.motes; timeline = c.draw-draw.new.self; text = c.args.self.now.text; alloc = c.args.self.now.alloc }; boards = map g.N.Nor.device c.args.boards.now; inboxes = g.L.Link.inboxes c.args.link.now; addressees = g.L.Link.mote_count c.args.link.now; failures = g.L.Link.faults c.args.link.now; clock = g.C.Clock.told c.draw-draw.new.clock; reached = g.C.Clock.reached c.draw-draw.new.clock; written = g.K.Sink.written c.args.out.now; faults = g.K.Sink.faults c.args.out.now } in
+    let p : Standing = service_standing c.args.self.now (outside (g.K.Sink.written c.args.out.now) (g.K.Sink.faults c.args.out.now) (g.C.Clock.told c.args.clock.now) (g.L.Link.inboxes c.args.link.now) (g.L.Link.faults c.args.link.now) (map g.N.Nor.device c.args.boards.now)) (g.L.Link.mote_count c.args.link.now) (g.C.Clock.reached c.args.clock.now) in
+    let m : Standing = service_standing (record { motes = c.args.self.now.motes; timeline = c.draw-draw.new.self; text = c.args.self.now.text; alloc = c.args.self.now.alloc }) (outside (g.K.Sink.written c.args.out.now) (g.K.Sink.faults c.args.out.now) (g.C.Clock.told c.draw-draw.new.clock) (g.L.Link.inboxes c.args.link.now) (g.L.Link.faults c.args.link.now) (map g.N.Nor.device c.args.boards.now)) (g.L.Link.mote_count c.args.link.now) (g.C.Clock.reached c.draw-draw.new.clock) in
     let d : DrawnTo p m c.draw-draw.result.dt c.draw-draw.result.word = record { draws = record { dt_is = c.draw-draw.ensures.dt; rises = c.draw-draw.ensures.rises; answered = c.draw-draw.ensures.told; word_is = c.draw-draw.ensures.word; moment = c.draw-draw.ensures.moment; fits = record { dt = c.draw-draw.ensures.short; word = c.draw-draw.ensures.drawn } }; boards = refl; motes = refl; written = refl; failures = refl; faults = refl; addressees = refl; reached = c.draw-draw.ensures.goes_on; known = c.draw-draw.ensures.reached; short = c.draw-draw.ensures.short } in
     let x = some_drawn c.args.profile.now.motes c.args.profile.now.motes c.args.profile.now.links p m c.draw-draw.result.dt c.draw-draw.result.word d c.requires.some in
     inr (m.clock, m.reached, x.0, x.1, x.2)
 
 pub returns : goal.returns
 returns g c =
-    let p : Standing = record { service = c.args.self.now; boards = map g.N.Nor.device c.args.boards.now; inboxes = g.L.Link.inboxes c.args.link.now; addressees = g.L.Link.mote_count c.args.link.now; failures = g.L.Link.faults c.args.link.now; clock = g.C.Clock.told c.args.clock.now; reached = g.C.Clock.reached c.args.clock.now; written = g.K.Sink.written c.args.out.now; faults = g.K.Sink.faults c.args.out.now } in
-    let m : Standing = record { service = record { motes = c.args.self.now.motes; timeline = c.draw-draw.new.self; text = c.args.self.now.text; alloc = c.args.self.now.alloc }; boards = map g.N.Nor.device c.args.boards.now; inboxes = g.L.Link.inboxes c.args.link.now; addressees = g.L.Link.mote_count c.args.link.now; failures = g.L.Link.faults c.args.link.now; clock = g.C.Clock.told c.draw-draw.new.clock; reached = g.C.Clock.reached c.draw-draw.new.clock; written = g.K.Sink.written c.args.out.now; faults = g.K.Sink.faults c.args.out.now } in
+    let p : Standing = service_standing c.args.self.now (outside (g.K.Sink.written c.args.out.now) (g.K.Sink.faults c.args.out.now) (g.C.Clock.told c.args.clock.now) (g.L.Link.inboxes c.args.link.now) (g.L.Link.faults c.args.link.now) (map g.N.Nor.device c.args.boards.now)) (g.L.Link.mote_count c.args.link.now) (g.C.Clock.reached c.args.clock.now) in
+    let m : Standing = service_standing (record { motes = c.args.self.now.motes; timeline = c.draw-draw.new.self; text = c.args.self.now.text; alloc = c.args.self.now.alloc }) (outside (g.K.Sink.written c.args.out.now) (g.K.Sink.faults c.args.out.now) (g.C.Clock.told c.draw-draw.new.clock) (g.L.Link.inboxes c.args.link.now) (g.L.Link.faults c.args.link.now) (map g.N.Nor.device c.args.boards.now)) (g.L.Link.mote_count c.args.link.now) (g.C.Clock.reached c.draw-draw.new.clock) in
     let d : DrawnTo p m c.draw-draw.result.dt c.draw-draw.result.word = record { draws = record { dt_is = c.draw-draw.ensures.dt; rises = c.draw-draw.ensures.rises; answered = c.draw-draw.ensures.told; word_is = c.draw-draw.ensures.word; moment = c.draw-draw.ensures.moment; fits = record { dt = c.draw-draw.ensures.short; word = c.draw-draw.ensures.drawn } }; boards = refl; motes = refl; written = refl; failures = refl; faults = refl; addressees = refl; reached = c.draw-draw.ensures.goes_on; known = c.draw-draw.ensures.reached; short = c.draw-draw.ensures.short } in
     record {
       goes = part_ends c.args.profile.now.motes c.args.profile.now.motes c.args.profile.now.motes c.args.profile.now.links (Ticks c.args.mote) (λ dt word. Tick c.args.mote dt word) [] c.draw-draw.result.dt c.draw-draw.result.word p m _ d (ticks_part c.args.profile.now.motes c.args.mote p.inboxes) c.happen.result c.requires.ready (c.happen.ensures.ends (g.C.Clock.told c.draw-draw.new.clock) (g.C.Clock.reached c.draw-draw.new.clock)) refl refl;
