@@ -32,7 +32,6 @@ use Rattle.dg_world.specs.Mounted.{StandFor}
 use Rattle.dg_replay.specs.Replaying.{ToldBefore, StopEnds, Reached, HasFew, StopsAtText, StopsInTaken, ByRules, ReadyToEnd, EndsWith, FinishesWith, ScriptReplayed}
 use Rattle.dg_replay.specs.declared.player.Player.{Player}
 use Rattle.dg_script.specs.declared.line.Line.{Line}
-use Rattle.dg_script.specs.declared.line.Line.TheVariants.{Cut}
 use Rattle.dg_replay.specs.declared.stop.Stop.{Stop}
 use Rattle.dg_replay.specs.declared.stop.Stop.TheVariants.{Memory, BadInput, WriteFault, FlashFault, TooMany, NoBoard, NoImage, NotAVolume}
 use Rattle.dg_replay.proofs.NearLemmas.{near_later}

@@ -24,7 +24,6 @@ use Rattle.dg_replay.specs.Replaying.{HasFew, ReadyToEnd, EndsWith, ScriptReplay
 use Rattle.dg_base.specs.declared.events.Step.{Step}
 use Rattle.dg_script.specs.declared.line.Line.{Line}
 use Rattle.dg_script.specs.declared.line.Line.TheVariants.{Nothing, Motes, Golden, Boards as BoardsLine, Link, Narrow, Image, Cut, Happens, Round, Sweeps}
-use Rattle.dg_replay.specs.declared.stop.Stop.TheVariants.{Memory, WriteFault}
 use Rattle.dg_replay.proofs.ItemLemmas.{items_split, items_first, events_among-append}
 
 wrote_whole : {table : List Row} {script : Script} (e : Ending) (c : Progress table script) (text : List ℕ) → IsWholeReport e c text → Wrote (status_of e) e c text

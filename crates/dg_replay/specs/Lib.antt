@@ -5,6 +5,7 @@ pub mod WholeLines
 pub mod Fronts
 pub mod Near
 pub mod Around
+pub mod Stages
 pub mod Outcome
 pub mod Promised
 pub mod Done

@@ -31,6 +31,7 @@ use Rattle.dg_replay.specs.Boards.{LacksImage}
 use Rattle.dg_script.specs.Items.{Item, Declares, Happens as Happened, item_by, items_of, place_behind}
 use Rattle.dg_replay.specs.Items.{Ground, UsesBoards, beginning_of, motes_in, lacking_by}
 use Rattle.dg_replay.specs.Outcome.{IsGround, item_played, played_text, RunsTo}
+use Rattle.dg_replay.specs.Stages.{Basis, DoneSoFar, Telling}
 use Rattle.dg_replay.specs.declared.player.Player.{Player}
 use Rattle.dg_replay.specs.declared.stop.Stop.{Stop}
 use Rattle.dg_replay.specs.declared.stop.Stop.TheVariants.{Memory, BadInput, WriteFault, FlashFault, TooMany, NoBoard, NoImage}
@@ -77,22 +78,22 @@ pub record StopsInItem (w : World) (left : List Item) (initial now : List Device
   pub stopped : BoardStopped (length w.sites) initial now
   pub there : ItemStops left (Some w) stopped.board stopped.after.image initial now
 
--- what playing items answers
-abbrev pub ItemsPlayedAs : Result (Unit {0}) Stop → World → List Item → KeptWorld → (initial now : List Device)
-    → (told_before told : List ℕ) → Type 0
-ItemsPlayedAs (Ok u) w items kept initial now told_before told = ItemsPlayed w items kept initial now told_before told
-ItemsPlayedAs (Err Memory) w items kept initial now told_before told =
-    ItemsBegun w items (λ v left text. WorldStands v initial now)
-ItemsPlayedAs (Err TooMany) w items kept initial now told_before told =
-    ItemsBegun w items (λ v left text. IsOneTooMany v left × WorldStands v initial now × (told ≡ told_before ++ text))
-ItemsPlayedAs (Err FlashFault) w items kept initial now told_before told =
-    ItemsBegun w items (λ v left text. StopsInItem v left initial now × (told ≡ told_before ++ text))
-ItemsPlayedAs (Err NoImage) w items kept initial now told_before told =
-    ItemsBegun w items (λ v left text. LacksImage v left initial now × (told ≡ told_before ++ text))
-ItemsPlayedAs (Err NotAVolume) w items kept initial now told_before told = ⊥
-ItemsPlayedAs (Err (NoBoard motes boards)) w items kept initial now told_before told = ⊥
-ItemsPlayedAs (Err (BadInput n fault)) w items kept initial now told_before told = ⊥
-ItemsPlayedAs (Err WriteFault) w items kept initial now told_before told = ⊥
+-- What playing items answers, where this was told before, and b are the boards and what is told then.
+abbrev pub ItemsPlayedAs : Result (Unit {0}) Stop → World → List Item → KeptWorld → (initial : List Device)
+    → (told_before : List ℕ) → (b : Telling) → Type 0
+ItemsPlayedAs (Ok u) w items kept initial told_before b = ItemsPlayed w items kept initial b.boards told_before b.told
+ItemsPlayedAs (Err Memory) w items kept initial told_before b =
+    ItemsBegun w items (λ v left text. WorldStands v initial b.boards)
+ItemsPlayedAs (Err TooMany) w items kept initial told_before b =
+    ItemsBegun w items (λ v left text. IsOneTooMany v left × WorldStands v initial b.boards × (b.told ≡ told_before ++ text))
+ItemsPlayedAs (Err FlashFault) w items kept initial told_before b =
+    ItemsBegun w items (λ v left text. StopsInItem v left initial b.boards × (b.told ≡ told_before ++ text))
+ItemsPlayedAs (Err NoImage) w items kept initial told_before b =
+    ItemsBegun w items (λ v left text. LacksImage v left initial b.boards × (b.told ≡ told_before ++ text))
+ItemsPlayedAs (Err NotAVolume) w items kept initial told_before b = ⊥
+ItemsPlayedAs (Err (NoBoard motes boards)) w items kept initial told_before b = ⊥
+ItemsPlayedAs (Err (BadInput n fault)) w items kept initial told_before b = ⊥
+ItemsPlayedAs (Err WriteFault) w items kept initial told_before b = ⊥
 
 -- the world that is kept stands for one with as many motes as before
 abbrev pub KeepsMotes : Result (Unit {0}) Stop → (before after : KeptWorld) → (old new : List Device) → Type 0
@@ -181,15 +182,15 @@ LineRuns table initial done line w v text = (g : Ground) (played : List Played) 
     → map item_played played ≡ items_of done → RunsTo (beginning_of g done).world played w
     → RunsOn table initial done line v text played
 
--- A line was played, and this is told of it.
-pub record PlayedLine (table : List Row) (q : Player) (done : List Line) (w : Option World) (line : Line)
-    (told_before told : List ℕ) (initial now : List Device) : Type 0 where
+-- A line was played behind others, and this is told of it.
+pub record PlayedLine (basis : Basis) (q : Player) (behind : DoneSoFar) (line : Line) (told_before : List ℕ)
+    (b : Telling) : Type 0 where
   pub world : Option World
   pub text : List ℕ
-  pub told_now : told ≡ told_before ++ text
-  pub runs : LineRuns table initial done line w world text
-  pub stood : Stood q (done ++ line ∷ []) world initial now
-  pub boards_enough : lacking_by (length initial) line None ≡ None
+  pub told_now : b.told ≡ told_before ++ text
+  pub runs : LineRuns basis.table basis.boards behind.lines line behind.world world text
+  pub stood : Stood q (behind.lines ++ line ∷ []) world basis.boards b.boards
+  pub boards_enough : lacking_by (length basis.boards) line None ≡ None
 
 -- items run from a world, and none where there is no world yet
 abbrev pub RunsFrom : Option World → List Item → Option World → List ℕ → Type 0
@@ -215,26 +216,26 @@ pub record LacksBoards (line : Line) (motes boards : ℕ) (initial old new : Lis
   pub missing : boards < motes
   pub same : new ≡ old
 
--- what playing a line answers, from a player and boards that stand for world w behind these lines
-abbrev pub PlayedAs : (table : List Row) → Result (Unit {0}) Stop → Player → List Line → Option World → Line
-    → (told_before told : List ℕ) → (initial old new : List Device) → Type 0
-PlayedAs table (Ok u) q done w line told_before told initial old new = PlayedLine table q done w line told_before told initial new
-PlayedAs table (Err Memory) q done w line told_before told initial old new =
-    LineBegun done line w (λ v left text. BoardsStand v initial new)
-PlayedAs table (Err (NoBoard motes boards)) q done w line told_before told initial old new =
-    LacksBoards line motes boards initial old new
-PlayedAs table (Err FlashFault) q done w line told_before told initial old new = UsesBoard line
-    × LineBegun done line w (λ v left text. StoppedIn (motes_in done) (line ∷ []) left v initial new
-    × (told ≡ told_before ++ text))
-PlayedAs table (Err TooMany) q done w line told_before told initial old new =
-    LineBegun done line w (λ v left text. InSome v (λ u. IsOneTooMany u left) × BoardsStand v initial new
-    × (told ≡ told_before ++ text))
-PlayedAs table (Err NoImage) q done w line told_before told initial old new =
-    LineBegun done line w (λ v left text. InSome v (λ u. LacksImage u left initial new) × (told ≡ told_before ++ text))
-PlayedAs table (Err NotAVolume) q done w line told_before told initial old new =
-    (line ≡ Boards) × NoVolumeIn (motes_in done) initial new
-PlayedAs table (Err (BadInput n fault)) q done w line told_before told initial old new = ⊥
-PlayedAs table (Err WriteFault) q done w line told_before told initial old new = ⊥
+-- What playing a line answers, from a player and boards that stand for the world behind other lines. The boards and what is
+-- told were a before it, and are b then.
+abbrev pub PlayedAs : Basis → Result (Unit {0}) Stop → Player → (behind : DoneSoFar) → Line → (a b : Telling) → Type 0
+PlayedAs basis (Ok u) q behind line a b = PlayedLine basis q behind line a.told b
+PlayedAs basis (Err Memory) q behind line a b =
+    LineBegun behind.lines line behind.world (λ v left text. BoardsStand v basis.boards b.boards)
+PlayedAs basis (Err (NoBoard motes boards)) q behind line a b = LacksBoards line motes boards basis.boards a.boards b.boards
+PlayedAs basis (Err FlashFault) q behind line a b = UsesBoard line
+    × LineBegun behind.lines line behind.world (λ v left text.
+    StoppedIn (motes_in behind.lines) (line ∷ []) left v basis.boards b.boards × (b.told ≡ a.told ++ text))
+PlayedAs basis (Err TooMany) q behind line a b =
+    LineBegun behind.lines line behind.world (λ v left text. InSome v (λ u. IsOneTooMany u left)
+    × BoardsStand v basis.boards b.boards × (b.told ≡ a.told ++ text))
+PlayedAs basis (Err NoImage) q behind line a b =
+    LineBegun behind.lines line behind.world (λ v left text. InSome v (λ u. LacksImage u left basis.boards b.boards)
+    × (b.told ≡ a.told ++ text))
+PlayedAs basis (Err NotAVolume) q behind line a b =
+    (line ≡ Boards) × NoVolumeIn (motes_in behind.lines) basis.boards b.boards
+PlayedAs basis (Err (BadInput n fault)) q behind line a b = ⊥
+PlayedAs basis (Err WriteFault) q behind line a b = ⊥
 
 -- ---- the parts of a line
 

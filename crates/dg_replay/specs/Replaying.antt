@@ -27,6 +27,7 @@ use Rattle.dg_replay.specs.Outcome.{Progress, ReachesEnding, AtTooMany, closing,
 use Rattle.dg_replay.specs.Outcome.{RunsTo, item_played, played_text, told_of, IsSettled, AreWhole, AllWhole, NextIsWhole}
 use Rattle.dg_replay.specs.Outcome.{DoneIsWhole, ReadEnough, ReadsNear, NoVolumeThere, NoImageThere, no_volume_line}
 use Rattle.dg_replay.specs.Outcome.{no_image_line}
+use Rattle.dg_replay.specs.Stages.{based_on, done_so_far, telling}
 use Rattle.dg_replay.specs.Playing.{Stood, PlayedLine, LineBegun, IsOneTooMany, LacksBoards, Grounded}
 use Rattle.dg_replay.specs.declared.player.Player.{Player}
 use Rattle.dg_script.specs.declared.line.Line.{Line}
@@ -45,7 +46,7 @@ pub record TextPlayed (table : List Row) (text : List ℕ) (p q : Player) (done 
   pub line : Line
   pub spelled : line_of p.place text ≡ Ok line
   pub told : List ℕ
-  pub to : PlayedLine table q done w line [] told initial now
+  pub to : PlayedLine (based_on table initial) q (done_so_far done w) line [] (telling now told)
   pub behind : q.place ≡ place_after p.place line
 
 -- and what is told of it was written

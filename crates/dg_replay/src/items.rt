@@ -15,6 +15,7 @@ ghost use Rattle.dg_world.specs.Worlds.{IsWorld};
 ghost use Rattle.dg_world.specs.Occasions.{step_of};
 ghost use Rattle.dg_replay.specs.Boards.{WorldStands};
 ghost use Rattle.dg_replay.specs.Playing.{ItemsPlayedAs, KeepsMotes};
+ghost use Rattle.dg_replay.specs.Stages.{telling};
 
 use crate::stop::Stop;
 use dg_base::{Bytes, Cut, Event, Key};
@@ -68,8 +69,8 @@ pub fn play_image(
 ) -> Result<(), Stop>
     requires fits { FitsImage key.image key.version name content }
     ensures { (boards initial : List Device) (w : RuleWorld) → IsWorld world.old boards w → WorldStands w initial boards
-        → ItemsPlayedAs result w (Declares (row_of key.image key.version name content) ∷ []) world.new initial boards
-        told.old.text.items told.new.text.items }
+        → ItemsPlayedAs result w (Declares (row_of key.image key.version name content) ∷ []) world.new initial
+        told.old.text.items (telling boards told.new.text.items) }
 {
     let Key { image, version } = key;
     told.reports.clear();
@@ -100,7 +101,7 @@ pub fn play_event<N: Nor>(
     ensures played { (w : RuleWorld) (initial : List Device) → IsWorld world.old (map N.device boards.old.items) w
         → WorldStands w initial (map N.device boards.old.items)
         → ItemsPlayedAs result w (Happens (step_of event.now (option_copied cut.entry)) loud ∷ []) world.new initial
-        (map N.device boards.new.items) told.old.text.items told.new.text.items }
+        told.old.text.items (telling (map N.device boards.new.items) told.new.text.items) }
 {
     told.reports.clear();
     match world.apply(boards, event, cut, loud, &mut told.reports) {
@@ -125,8 +126,8 @@ pub fn play_round<N: Nor>(
     ensures goes_on { KeepsMotes result world.old world.new (map N.device boards.old.items) (map N.device boards.new.items) }
     ensures played { (w : RuleWorld) (initial : List Device) → IsWorld world.old (map N.device boards.old.items) w
         → WorldStands w initial (map N.device boards.old.items)
-        → ItemsPlayedAs result w (quietly (round a b)) world.new initial (map N.device boards.new.items) told.old.text.items
-        told.new.text.items }
+        → ItemsPlayedAs result w (quietly (round a b)) world.new initial told.old.text.items
+        (telling (map N.device boards.new.items) told.new.text.items) }
 {
     for event in round(a, b) {
         play_event(world, &event, None, false, boards, told)?;
@@ -146,8 +147,8 @@ fn play_both<N: Nor>(
     ensures goes_on { KeepsMotes result world.old world.new (map N.device boards.old.items) (map N.device boards.new.items) }
     ensures played { (w : RuleWorld) (initial : List Device) → IsWorld world.old (map N.device boards.old.items) w
         → WorldStands w initial (map N.device boards.old.items)
-        → ItemsPlayedAs result w (quietly (round a b ++ round b a)) world.new initial (map N.device boards.new.items)
-        told.old.text.items told.new.text.items }
+        → ItemsPlayedAs result w (quietly (round a b ++ round b a)) world.new initial told.old.text.items
+        (telling (map N.device boards.new.items) told.new.text.items) }
 {
     play_round(world, a, b, boards, told)?;
     play_round(world, b, a, boards, told)?;
@@ -166,8 +167,8 @@ fn play_sweep<N: Nor>(
     ensures goes_on { KeepsMotes result world.old world.new (map N.device boards.old.items) (map N.device boards.new.items) }
     ensures played { (w : RuleWorld) (initial : List Device) → IsWorld world.old (map N.device boards.old.items) w
         → WorldStands w initial (map N.device boards.old.items)
-        → ItemsPlayedAs result w (quietly (sweep links.now)) world.new initial (map N.device boards.new.items)
-        told.old.text.items told.new.text.items }
+        → ItemsPlayedAs result w (quietly (sweep links.now)) world.new initial told.old.text.items
+        (telling (map N.device boards.new.items) told.new.text.items) }
 {
     for link in links {
         play_both(world, link.0, link.1, boards, told)?;
@@ -187,8 +188,8 @@ pub fn play_sweeps<N: Nor>(
         × AllByRecursion (LinkFits (length w.sites)) links.now }
     ensures { (w : RuleWorld) (initial : List Device) → IsWorld world.old (map N.device boards.old.items) w
         → WorldStands w initial (map N.device boards.old.items)
-        → ItemsPlayedAs result w (quietly (times count (sweep links.now))) world.new initial (map N.device boards.new.items)
-        told.old.text.items told.new.text.items }
+        → ItemsPlayedAs result w (quietly (times count (sweep links.now))) world.new initial told.old.text.items
+        (telling (map N.device boards.new.items) told.new.text.items) }
 {
     for _ in 0..count {
         play_sweep(world, links, boards, told)?;

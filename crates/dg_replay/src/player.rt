@@ -8,6 +8,7 @@ ghost use Rattle.dg_script.specs.Places.{first_place, place_after};
 ghost use Rattle.dg_rules.specs.World.{World as RuleWorld};
 ghost use Rattle.dg_object.specs.Object.{Row};
 ghost use Rattle.dg_replay.specs.Playing.{Stood, MayPlay, gone_on, Counted, PlayedAs, FormattedAs, MountedAs, mount_stop};
+ghost use Rattle.dg_replay.specs.Stages.{based_on, done_so_far, telling};
 
 use crate::items::{Told, play_event, play_image, play_round, play_sweeps};
 use crate::stop::Stop;
@@ -102,9 +103,9 @@ fn play_golden<N: Nor>(
     requires unready { player.old.place.ready ≡ false }
     ensures played { (done : List Line) (w : Option RuleWorld) (initial : List Device) (table : List Row) (told : List ℕ)
         → Stood player.old done w initial (map N.device boards.old.items)
-        → PlayedAs table result (gone_on player.new (Line.Golden name.now used content.now)) done w
-        (Line.Golden name.now used content.now) told told initial (map N.device boards.old.items)
-        (map N.device boards.new.items) }
+        → PlayedAs (based_on table initial) result (gone_on player.new (Line.Golden name.now used content.now))
+        (done_so_far done w) (Line.Golden name.now used content.now) (telling (map N.device boards.old.items) told)
+        (telling (map N.device boards.new.items) told) }
     ensures place { player.new.place ≡ player.old.place }
 {
     let motes = player.place.motes;
@@ -154,8 +155,8 @@ fn play_boards<N: Nor>(alloc: Global, player: &mut Player, boards: &mut Vec<N>) 
     requires unready { player.old.place.ready ≡ false }
     ensures played { (done : List Line) (w : Option RuleWorld) (initial : List Device) (table : List Row) (told : List ℕ)
         → Stood player.old done w initial (map N.device boards.old.items)
-        → PlayedAs table result (gone_on player.new Line.Boards) done w Line.Boards told told initial
-        (map N.device boards.old.items) (map N.device boards.new.items) }
+        → PlayedAs (based_on table initial) result (gone_on player.new Line.Boards) (done_so_far done w) Line.Boards
+        (telling (map N.device boards.old.items) told) (telling (map N.device boards.new.items) told) }
     ensures place { player.new.place ≡ player.old.place }
 {
     let motes = player.place.motes;
@@ -191,8 +192,9 @@ pub fn play_line<N: Nor>(
     requires may { MayPlay line.old player.old (map N.device boards.old.items) }
     ensures played { (done : List Line) (w : Option RuleWorld) (initial : List Device) (table : List Row)
         → Stood player.old done w initial (map N.device boards.old.items)
-        → PlayedAs table result (gone_on player.new line.new) done w line.old told.old.text.items told.new.text.items initial
-        (map N.device boards.old.items) (map N.device boards.new.items) }
+        → PlayedAs (based_on table initial) result (gone_on player.new line.new) (done_so_far done w) line.old
+        (telling (map N.device boards.old.items) told.old.text.items)
+        (telling (map N.device boards.new.items) told.new.text.items) }
     ensures behind { place_after player.new.place line.new ≡ place_after player.old.place line.old }
     ensures linked { (a b : ℕ) → line.new ≡ Line.Link a b → boards.new.items ≡ boards.old.items }
 {
