@@ -20,6 +20,7 @@ use Rattle.dg_replay.specs.declared.halt.Halt.{Halt}
 use Rattle.dg_replay.specs.declared.halt.Halt.TheVariants.{ReadFault, TooLong, Stopped}
 use Rattle.dg_replay.specs.declared.player.Player.{Player}
 use Rattle.dg_replay.specs.declared.stop.Stop.{Stop}
+use Rattle.dg_replay.specs.Stages.{based_on, done_so_far, replay_state, line_read, bytes_taken}
 use Rattle.dg_replay.specs.declared.stop.Stop.TheVariants.{BadInput}
 
 above : (n m : ℕ) → m < n → nat_le n m ≡ false
@@ -34,7 +35,7 @@ pub first_of_last : (bytes : List ℕ) (A : Type 0) (new : Reading) (text rest :
 first_of_last bytes A new text rest f = record { line = f.line; parts = f.parts; is = ⊎_elim (λ l. inl l) (λ l. inr (l.0, l.1, l.2.0)) f.is }
 
 pub next_given : (r : Result Bool Halt) (n : ℕ) (bytes : List ℕ) (old new : Reading) (A F N : Type 0) (P : Result (Unit {0}) Stop → List ℕ → Type 0)
-    → NextAnswer (Ok (Some n)) bytes old new A F → GivenPlayed r (λ x. P x new.text) → NextPlayed r bytes old new A F N P
+    → NextAnswer (Ok (Some n)) bytes old new A F → GivenPlayed r (λ x. P x new.text) → NextPlayed r (bytes_taken bytes A) old new F N P
 next_given (Ok true) n bytes old new A F N P g h = (g.1, h)
 next_given (Ok false) n bytes old new A F N P g h = absurd h
 next_given (Err ReadFault) n bytes old new A F N P g h = absurd h
@@ -43,20 +44,20 @@ next_given (Err (Stopped stop)) n bytes old new A F N P g h =
     (new.text, new.ahead, record { first = first_of_last bytes A new new.text new.ahead g.1.first; used = g.1.used; near = g.1.near }, h)
 
 pub next_halted : (stop : ReadStop) (halt : Halt) (bytes : List ℕ) (old new : Reading) (A F N : Type 0) (P : Result (Unit {0}) Stop → List ℕ → Type 0) → HaltedAs stop halt → NextAnswer (Err stop) bytes old new A F → N
-    → ((text : List ℕ) → most_line < length text → P (Err (BadInput (old.number + 1) line_fault.Long)) text) → NextPlayed (Err halt) bytes old new A F N P
-next_halted read_stop.ReadFault halt bytes old new A F N P is h none long = subst (λ (x : Halt). NextPlayed (Err x) bytes old new A F N P) (sym is) (h.0, h.1, h.2, none)
-next_halted read_stop.TooLong halt bytes old new A F N P is h none long = subst (λ (x : Halt). NextPlayed (Err x) bytes old new A F N P) (sym is) (h, none)
+    → ((text : List ℕ) → most_line < length text → P (Err (BadInput (old.number + 1) line_fault.Long)) text) → NextPlayed (Err halt) (bytes_taken bytes A) old new F N P
+next_halted read_stop.ReadFault halt bytes old new A F N P is h none long = subst (λ (x : Halt). NextPlayed (Err x) (bytes_taken bytes A) old new F N P) (sym is) (h.0, h.1, h.2, none)
+next_halted read_stop.TooLong halt bytes old new A F N P is h none long = subst (λ (x : Halt). NextPlayed (Err x) (bytes_taken bytes A) old new F N P) (sym is) (h, none)
 next_halted (read_stop.Long line) halt bytes old new A F N P is h none long =
-    subst (λ (x : Halt). NextPlayed (Err x) bytes old new A F N P) (sym (is ∙ ap (λ (k : ℕ). Stopped (BadInput k line_fault.Long)) h.0))
+    subst (λ (x : Halt). NextPlayed (Err x) (bytes_taken bytes A) old new F N P) (sym (is ∙ ap (λ (k : ℕ). Stopped (BadInput k line_fault.Long)) h.0))
     (h.1.text, h.1.rest, record { first = h.1.first; used = h.1.used; near = h.1.near }, long h.1.text h.1.long)
 
 -- what is played of a text, from a player that stands behind lines
 abbrev pub TextPlays : Result (Unit {0}) Stop → (text : List ℕ) → (number : ℕ) → (p q : Player) → (old now : List Device) → (mid after : Option (List ℕ)) → (failed : Type 0) → Type 0
-TextPlays r text number p q old now mid after failed = (done : List Line) (w : Option World) (initial : List Device) (table : List Row) → Stood p done w initial old → TextAnswer table r text number p q done w initial old now mid after failed
+TextPlays r text number p q old now mid after failed = (done : List Line) (w : Option World) (initial : List Device) (table : List Row) → Stood p done w initial old → TextAnswer (based_on table initial) r (line_read text number) (done_so_far done w) (replay_state p old mid) (replay_state q now after) failed
 
 -- a line that was given was played
 pub given_next : (r : Result Bool Halt) (o : Option ℕ) (n : ℕ) (text bytes : List ℕ) (old new : Reading) (A F N : Type 0) (P : Result (Unit {0}) Stop → List ℕ → ℕ → Type 0) → o ≡ Some n → text ≡ new.text
-    → NextAnswer (Ok o) bytes old new A F → GivenPlayed r (λ x. P x text n) → NextPlayed r bytes old new A F N (λ x t. P x t (old.number + 1))
+    → NextAnswer (Ok o) bytes old new A F → GivenPlayed r (λ x. P x text n) → NextPlayed r (bytes_taken bytes A) old new F N (λ x t. P x t (old.number + 1))
 given_next r o n text bytes old new A F N P some same h played =
     let g : NextAnswer (Ok (Some n)) bytes old new A F = subst (λ (x : Option ℕ). NextAnswer (Ok x) bytes old new A F) some h in
     let at : n ≡ old.number + 1 = g.0 ∙ g.1.number in

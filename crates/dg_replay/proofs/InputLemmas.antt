@@ -23,6 +23,7 @@ use Rattle.dg_replay.specs.declared.halt.Halt.{Halt}
 use Rattle.dg_replay.specs.declared.halt.Halt.TheVariants.{ReadFault, TooLong, Stopped}
 use Rattle.dg_replay.specs.declared.player.Player.{Player}
 use Rattle.dg_replay.specs.declared.stop.Stop.{Stop}
+use Rattle.dg_replay.specs.Stages.{bytes_taken}
 use Rattle.dg_replay.specs.declared.stop.Stop.TheVariants.{Memory, BadInput, WriteFault, FlashFault, TooMany, NoBoard, NoImage, NotAVolume}
 use Rattle.dg_replay.proofs.EndLemmas.{script_all, script_over, stop_ending, bounds_done}
 use Rattle.dg_replay.proofs.FollowingLemmas.{TextPlays}
@@ -272,11 +273,11 @@ lines_ready a b reader number p initial now before after i = let r = i.played.re
 -- ---- one turn of the loop
 
 -- a line was given and played, and no line was left
-pub given_of : (given : Bool) (bytes : List ℕ) (old new : Reading) (A F N : Type 0) (P : Result (Unit {0}) Stop → List ℕ → Type 0) → given ≡ true → NextPlayed (Ok given) bytes old new A F N P → Gives bytes old new A × P (Ok tt) new.text
-given_of given bytes old new A F N P e h = subst (λ (b : Bool). NextPlayed (Ok b) bytes old new A F N P) e h
+pub given_of : (given : Bool) (bytes : List ℕ) (old new : Reading) (A F N : Type 0) (P : Result (Unit {0}) Stop → List ℕ → Type 0) → given ≡ true → NextPlayed (Ok given) (bytes_taken bytes A) old new F N P → Gives bytes old new A × P (Ok tt) new.text
+given_of given bytes old new A F N P e h = subst (λ (b : Bool). NextPlayed (Ok b) (bytes_taken bytes A) old new F N P) e h
 
-pub none_of : (given : Bool) (bytes : List ℕ) (old new : Reading) (A F N : Type 0) (P : Result (Unit {0}) Stop → List ℕ → Type 0) → given ≡ false → NextPlayed (Ok given) bytes old new A F N P → IsAtEnd bytes old new A × N
-none_of given bytes old new A F N P e h = subst (λ (b : Bool). NextPlayed (Ok b) bytes old new A F N P) e h
+pub none_of : (given : Bool) (bytes : List ℕ) (old new : Reading) (A F N : Type 0) (P : Result (Unit {0}) Stop → List ℕ → Type 0) → given ≡ false → NextPlayed (Ok given) (bytes_taken bytes A) old new F N P → IsAtEnd bytes old new A × N
+none_of given bytes old new A F N P e h = subst (λ (b : Bool). NextPlayed (Ok b) (bytes_taken bytes A) old new F N P) e h
 
 -- fewer bytes are left
 pub less_left : (n m k : ℕ) → n < m → m ≤ k → k - m < k - n
@@ -289,12 +290,12 @@ halt_is (Err e) halt h = ap Err (sym h)
 -- the replay halts
 pub lines_halted : (law : ImageIsFound) (r : Result (Player × ℕ) Halt) (halt : Halt) (a b c : Option (List ℕ)) (old new : Reading) (more : List ℕ) (number : ℕ) (p q : Player) (initial was now : List Device) (before mid after : Option (List ℕ)) (at_end rose reads failed writes : Type 0)
     → (rose → reads) → (failed → writes) → IsErrAnd r (λ e. e ≡ halt) → LinesRead a b old number p initial was before mid → Takes b c more
-    → NextPlayed (Err halt) (old.ahead ++ more) old new at_end rose (AllAsBefore p q was now mid after) (λ x t. TextPlays x t (old.number + 1) p q was now mid after failed)
+    → NextPlayed (Err halt) (bytes_taken (old.ahead ++ more) at_end) old new rose (AllAsBefore p q was now mid after) (λ x t. TextPlays x t (old.number + 1) p q was now mid after failed)
     → Comes a c r at_end reads initial now before after writes
 lines_halted law r halt a b c old new more number p q initial was now before mid after at_end rose reads failed writes spread widen is i taken h =
     subst (λ (x : Result (Player × ℕ) Halt). Comes a c x at_end reads initial now before after writes) (halt_is r halt is) (by_halt halt h)
   where
-    by_halt : (x : Halt) → NextPlayed (Err x) (old.ahead ++ more) old new at_end rose (AllAsBefore p q was now mid after) (λ y t. TextPlays y t (old.number + 1) p q was now mid after failed) → Comes a c (Err x) at_end reads initial now before after writes
+    by_halt : (x : Halt) → NextPlayed (Err x) (bytes_taken (old.ahead ++ more) at_end) old new rose (AllAsBefore p q was now mid after) (λ y t. TextPlays y t (old.number + 1) p q was now mid after failed) → Comes a c (Err x) at_end reads initial now before after writes
     by_halt ReadFault k = lines_failed a b c reads rose writes spread old more number p q initial was now before mid after at_end i taken k
     by_halt TooLong k = lines_over a b c reads writes old more number p q initial was now before mid after at_end i taken k
     by_halt (Stopped stop) k = lines_stopped law stop a b c reads old more number p q initial was now before mid after at_end failed writes widen i taken k.0 k.1 k.2 (λ done w table s. k.3 done w initial table s)

@@ -16,6 +16,7 @@ use Rattle.dg_replay.specs.Playing.{Stood}
 use Rattle.dg_replay.specs.Near.{behind_line, behind_lines}
 use Rattle.dg_replay.specs.Replaying.{TextTold, TextAnswer, Reached, StopsThere}
 use Rattle.dg_replay.specs.declared.player.Player.{Player}
+use Rattle.dg_replay.specs.Stages.{based_on, done_so_far, replay_state, line_read}
 use Rattle.dg_replay.specs.declared.stop.Stop.{Stop}
 use Rattle.dg_replay.proofs.FrontLemmas.{lines_front}
 use Rattle.dg_replay.proofs.GoldenLemmas.{ImageIsFound, image_found}
@@ -55,7 +56,7 @@ behind_more front text line given behind l more =
 
 -- one more line was played, and what is told of it was written
 pub front_next : (front text line : List ℕ) (given : ℕ) (p q : Player) (initial old now : List Device) (before mid after : Option (List ℕ)) → FrontPlayed front given p initial old before mid → IsLine text line
-    → ((done : List Line) (w : Option World) (table : List Row) → Stood p done w initial old → TextTold table text p q done w initial now mid after) → FrontPlayed (front ++ line) (given + 1) q initial now before after
+    → ((done : List Line) (w : Option World) (table : List Row) → Stood p done w initial old → TextTold (based_on table initial) text (done_so_far done w) (replay_state p old mid) (replay_state q now after)) → FrontPlayed (front ++ line) (given + 1) q initial now before after
 front_next front text line given p q initial old now before mid after f l told = record {
   is = front_more front text line l;
   behind = behind_more front text line given f.behind l;
@@ -68,7 +69,7 @@ front_next front text line given p q initial old now before mid after f l told =
 -- the replay stopped at the text that follows, whatever texts follow that
 pub text_stopped : (law : ImageIsFound) (stop : Stop) (front text : List ℕ) (given : ℕ) (p q : Player) (initial old now : List Device) (before mid after : Option (List ℕ)) (failed worse : Type 0) → (failed → worse)
     → FrontPlayed front given p initial old before mid
-    → ((done : List Line) (w : Option World) (table : List Row) → Stood p done w initial old → TextAnswer table (Err stop) text (given + 1) p q done w initial old now mid after failed)
+    → ((done : List Line) (w : Option World) (table : List Row) → Stood p done w initial old → TextAnswer (based_on table initial) (Err stop) (line_read text (given + 1)) (done_so_far done w) (replay_state p old mid) (replay_state q now after) failed)
     → (table : List Row) (ends : Bool) (more : List (List ℕ)) → StopsThere table stop (script_from ends first_place 1 (lines front ++ text ∷ more)) (given + 1) initial now before after worse
 text_stopped law stop front text given p q initial old now before mid after failed worse spread f answer table ends more =
     let r = f.reached table ends (text ∷ more) in
@@ -80,7 +81,7 @@ text_stopped law stop front text given p q initial old now before mid after fail
 -- the same at one more line
 pub front_stopped : (law : ImageIsFound) (stop : Stop) (front text line : List ℕ) (given : ℕ) (p q : Player) (initial old now : List Device) (before mid after : Option (List ℕ)) (failed worse : Type 0) → (failed → worse)
     → FrontPlayed front given p initial old before mid → IsLine text line
-    → ((done : List Line) (w : Option World) (table : List Row) → Stood p done w initial old → TextAnswer table (Err stop) text (given + 1) p q done w initial old now mid after failed)
+    → ((done : List Line) (w : Option World) (table : List Row) → Stood p done w initial old → TextAnswer (based_on table initial) (Err stop) (line_read text (given + 1)) (done_so_far done w) (replay_state p old mid) (replay_state q now after) failed)
     → (table : List Row) (ends : Bool) (more : List (List ℕ)) → StopsThere table stop (script_from ends first_place 1 (lines (front ++ line) ++ more)) (given + 1) initial now before after worse
 front_stopped law stop front text line given p q initial old now before mid after failed worse spread f l answer table ends more =
     subst (λ (ts : List (List ℕ)). StopsThere table stop (script_from ends first_place 1 ts) (given + 1) initial now before after worse) (sym (texts_next front text line more f.is l))

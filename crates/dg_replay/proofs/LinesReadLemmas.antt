@@ -21,6 +21,7 @@ use Rattle.dg_replay.specs.Playing.{Stood}
 use Rattle.dg_replay.specs.Replaying.{TextAnswer, Reached, InputAnswer}
 use Rattle.dg_replay.specs.declared.halt.Halt.{Halt}
 use Rattle.dg_replay.specs.declared.player.Player.{Player}
+use Rattle.dg_replay.specs.Stages.{based_on, done_so_far, replay_state, line_read}
 use Rattle.dg_replay.specs.declared.stop.Stop.{Stop}
 use Rattle.dg_replay.proofs.EndLemmas.{script_all}
 use Rattle.dg_replay.proofs.FrontLemmas.{lines_front}
@@ -57,7 +58,7 @@ lines_first left reader p initial before none unread first place = record {
 
 -- what is played of a text, from a player that stands behind lines
 abbrev pub PlaysText : Result (Unit {0}) Stop → (text : List ℕ) → (number : ℕ) → (p q : Player) → (initial old now : List Device) → (mid after : Option (List ℕ)) → (failed : Type 0) → Type 0
-PlaysText r text number p q initial old now mid after failed = (done : List Line) (w : Option World) (table : List Row) → Stood p done w initial old → TextAnswer table r text number p q done w initial old now mid after failed
+PlaysText r text number p q initial old now mid after failed = (done : List Line) (w : Option World) (table : List Row) → Stood p done w initial old → TextAnswer (based_on table initial) r (line_read text number) (done_so_far done w) (replay_state p old mid) (replay_state q now after) failed
 
 -- the bytes that came behind the lines
 pub joined : (a b c : Option (List ℕ)) (front ahead more : List ℕ) → Takes a b (front ++ ahead) → Takes b c more → Takes a c (front ++ (ahead ++ more))

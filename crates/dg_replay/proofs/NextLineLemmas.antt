@@ -23,6 +23,7 @@ use Rattle.dg_replay.specs.Ending.{events_in, InBounds}
 use Rattle.dg_replay.specs.Outcome.{Progress, AtTooMany, RunsTo, item_played, played_text}
 use Rattle.dg_replay.specs.Playing.{InWorld, RunsOn, RunsFrom, LineBegun, IsOneTooMany}
 use Rattle.dg_replay.specs.Replaying.{TextPlayed, TextTold, Reached, PlayedFront}
+use Rattle.dg_replay.specs.Stages.{based_on, done_so_far, replay_state}
 use Rattle.dg_replay.specs.declared.player.Player.{Player}
 use Rattle.dg_replay.proofs.ItemLemmas.{some_is, items_next, begin_next, plays_append, played_more, runs_from_none, run_counts}
 use Rattle.dg_world.specs.Mounted.{StandFor}
@@ -151,7 +152,7 @@ few_items done ps items few = subst (λ (xs : List Item). events_among xs ≤ mo
 
 -- the next line was played, and what is told of it was written
 pub reached_next : {table : List Row} (ends : Bool) (script : Script) (texts : List (List ℕ)) (text : List ℕ) (n : ℕ) (p q : Player) (initial old now : List Device) (before mid after : Option (List ℕ))
-    → (r : Reached table ends script (text ∷ texts) n p initial old before mid) → TextTold table text p q r.done r.last initial now mid after → Reached table ends script texts (n + 1) q initial now before after
+    → (r : Reached table ends script (text ∷ texts) n p initial old before mid) → TextTold (based_on table initial) text (done_so_far r.done r.last) (replay_state p old mid) (replay_state q now after) → Reached table ends script texts (n + 1) q initial now before after
 reached_next ends script texts text n p q initial old now before mid after r t =
     let line = t.played.line in
     let to = t.played.to in
@@ -222,7 +223,7 @@ at_line ends script texts n p initial now before mid r =
 
 -- It played one more line.
 abbrev pub behind_line : {table : List Row} (ends : Bool) (script : Script) (texts : List (List ℕ)) (text : List ℕ) (n : ℕ) (p q : Player) (initial old now : List Device) (before mid : Option (List ℕ))
-    → (r : Reached table ends script (text ∷ texts) n p initial old before mid) → (t : TextPlayed table text p q r.done r.last initial now) → RunsOn table initial r.done t.line t.to.world t.to.text r.played → Progress table script
+    → (r : Reached table ends script (text ∷ texts) n p initial old before mid) → (t : TextPlayed (based_on table initial) text (done_so_far r.done r.last) p q now) → RunsOn table initial r.done t.line t.to.world t.to.text r.played → Progress table script
 behind_line ends script texts text n p q initial old now before mid r t on =
     record {
       done = r.done ++ t.line ∷ [];

@@ -26,6 +26,7 @@ use Rattle.dg_replay.specs.Playing.{InWorld, Stood, Ready, Joined, RunsOn, RunsF
 use Rattle.dg_replay.specs.Replaying.{TextPlayed, TextCut, TextRead, NothingDone, TextAnswer, CutAtStop, CutAtTooMany, CutAtImage, Reached, PlayedFront, PlayedUpTo, HasFew, ToldBefore, StopsThere}
 use Rattle.dg_replay.specs.declared.player.Player.{Player}
 use Rattle.dg_replay.specs.declared.stop.Stop.{Stop}
+use Rattle.dg_replay.specs.Stages.{based_on, done_so_far, replay_state, line_read, span}
 use Rattle.dg_replay.specs.declared.stop.Stop.TheVariants.{Memory, BadInput, WriteFault, FlashFault, TooMany, NoBoard, NoImage, NotAVolume}
 use Rattle.std.specs.List.{list_any}
 use Rattle.dg_replay.proofs.StandLemmas.{grounded_next}
@@ -97,7 +98,7 @@ told_all done ps items =
 
 -- all that was told before a line that was played was written
 told_line : {table : List Row} (ends : Bool) (script : Script) (texts : List (List ℕ)) (text : List ℕ) (n : ℕ) (p q : Player) (initial old now : List Device) (before mid : Option (List ℕ))
-    → (r : Reached table ends script (text ∷ texts) n p initial old before mid) → (t : TextPlayed table text p q r.done r.last initial now) → (on : RunsOn table initial r.done t.line t.to.world t.to.text r.played) → (told : List ℕ) (k : ℕ) → told ≡ t.to.text
+    → (r : Reached table ends script (text ∷ texts) n p initial old before mid) → (t : TextPlayed (based_on table initial) text (done_so_far r.done r.last) p q now) → (on : RunsOn table initial r.done t.line t.to.world t.to.text r.played) → (told : List ℕ) (k : ℕ) → told ≡ t.to.text
     → ToldBefore n (behind_line ends script texts text n p q initial old now before mid r t on) (played_text r.played ++ take k told)
 told_line ends script texts text n p q initial old now before mid r t on told k same =
     ⊎_elim
@@ -123,7 +124,7 @@ told_line ends script texts text n p q initial old now before mid r t on told k 
 
 -- a line was played, and what is told of it was not all written
 cut_told : {table : List Row} (ends : Bool) (script : Script) (texts : List (List ℕ)) (text : List ℕ) (n : ℕ) (p q : Player) (initial old now : List Device) (before mid after : Option (List ℕ))
-    → (r : Reached table ends script (text ∷ texts) n p initial old before mid) → TextCut table text p q r.done r.last initial now mid after → PlayedFront table script initial before after (λ c text. BoardsLeft status.WriteFault c initial now × ToldBefore n c text × Unit {0})
+    → (r : Reached table ends script (text ∷ texts) n p initial old before mid) → TextCut (based_on table initial) text (done_so_far r.done r.last) (replay_state p old mid) (replay_state q now after) → PlayedFront table script initial before after (λ c text. BoardsLeft status.WriteFault c initial now × ToldBefore n c text × Unit {0})
 cut_told ends script texts text n p q initial old now before mid after r t =
     let to = t.played.to in
     let line = t.played.line in
@@ -149,8 +150,8 @@ told_begun ends script texts text n p initial old before mid line r spelled b o 
 
 -- a line was begun, and so
 cut_begun : {table : List Row} (ends : Bool) (script : Script) (texts : List (List ℕ)) (text : List ℕ) (n : ℕ) (p : Player) (initial old now : List Device) (before mid after : Option (List ℕ)) (line : Line) (r : Reached table ends script (text ∷ texts) n p initial old before mid)
-    → line_of p.place text ≡ Ok line → (b : LineBegun r.done line r.last (λ v left t. CutAtStop r.done line v left t initial now mid after ⊎ (CutAtTooMany v left t initial now mid after ⊎ CutAtImage v left t initial now mid after)))
-    → CutAtStop r.done line b.world b.left b.text initial now mid after ⊎ (CutAtTooMany b.world b.left b.text initial now mid after ⊎ CutAtImage b.world b.left b.text initial now mid after)
+    → line_of p.place text ≡ Ok line → (b : LineBegun r.done line r.last (λ v left t. CutAtStop r.done line v left t (span initial now mid after) ⊎ (CutAtTooMany v left t (span initial now mid after) ⊎ CutAtImage v left t (span initial now mid after))))
+    → CutAtStop r.done line b.world b.left b.text (span initial now mid after) ⊎ (CutAtTooMany b.world b.left b.text (span initial now mid after) ⊎ CutAtImage b.world b.left b.text (span initial now mid after))
     → (InSome b.world (λ u. LacksImage u b.left initial now) → UsesBoards r.done) → PlayedFront table script initial before after (λ c text. BoardsLeft status.WriteFault c initial now × ToldBefore n c text × Unit {0})
 cut_begun ends script texts text n p initial old now before mid after line r spelled b (inl (some, stop, cut)) uses =
     let o = run_of ends script texts text n p initial old before mid line r b in
@@ -286,7 +287,7 @@ image_uses r found line spelled begun left parts world told runs lacks =
 -- a stop at a line, behind the lines that were done
 pub stopped_at : {table : List Row} (stop : Stop) (ends : Bool) (script : Script) (texts : List (List ℕ)) (text : List ℕ) (n : ℕ) (p q : Player) (initial old now : List Device) (before mid after : Option (List ℕ)) (failed worse : Type 0) → (failed → worse)
     → (r : Reached table ends script (text ∷ texts) n p initial old before mid) → ((UsesBoards r.done → ⊥) → TextRead text p (λ line. LineBegun r.done line r.last (λ v left t. InSome v (λ u. LacksImage u left initial now))) → ⊥)
-    → TextAnswer table (Err stop) text n p q r.done r.last initial old now mid after failed → StopsThere table stop script n initial now before after worse
+    → TextAnswer (based_on table initial) (Err stop) (line_read text n) (done_so_far r.done r.last) (replay_state p old mid) (replay_state q now after) failed → StopsThere table stop script n initial now before after worse
 stopped_at Memory ends script texts text n p q initial old now before mid after failed worse spread r found (inl none) = nothing_more ends script (text ∷ texts) n p initial old now before mid after r none
 stopped_at Memory ends script texts text n p q initial old now before mid after failed worse spread r found (inr (t, none)) =
     memory_begun ends script texts text n p initial old now before mid after t.line r t.spelled t.there (choose t.there.begun t.there.left) none

@@ -16,7 +16,7 @@ use Rattle.dg_replay.specs.Playing.{PlayedLine, PlayedAs, LineBegun}
 use Rattle.dg_replay.specs.Replaying.{NotFound, StopsAtLine, TextPlayed, TextAnswer, BegunWritten}
 use Rattle.dg_replay.specs.declared.player.Player.{Player}
 use Rattle.dg_replay.specs.declared.stop.Stop.{Stop}
-use Rattle.dg_replay.specs.Stages.{based_on, done_so_far, telling}
+use Rattle.dg_replay.specs.Stages.{based_on, done_so_far, telling, replay_state, line_read}
 use Rattle.dg_replay.specs.declared.stop.Stop.TheVariants.{Memory, BadInput, WriteFault, FlashFault, TooMany, NoBoard, NoImage, NotAVolume}
 
 same_stop : (s t : Stop) → ◌≡◌ {A = Result (Unit {0}) Stop} (Err s) (Err t) → s ≡ t
@@ -30,36 +30,36 @@ begun_then f b = record { begun = b.begun; left = b.left; parts = b.parts; world
 pub told_as : (table : List Row) (r : Result (Unit {0}) Stop) (text : List ℕ) (number : ℕ) (p q : Player) (done : List Line) (w : Option World) (initial old new : List Device) (before after : Option (List ℕ)) (failed : Type 0) (line : Line) (told : List ℕ)
     → line_of p.place text ≡ Ok line → PlayedLine (based_on table initial) q (done_so_far done w) line [] (telling new told) → q.place ≡ place_after p.place line
     → OnOk r (Puts before after told) → OnErr r (PutsFront before after told × (told ≢ [])) → OnErr r ((r ≡ Err WriteFault) × failed)
-    → TextAnswer table r text number p q done w initial old new before after failed
+    → TextAnswer (based_on table initial) r (line_read text number) (done_so_far done w) (replay_state p old before) (replay_state q new after) failed
 told_as table (Ok u) text number p q done w initial old new before after failed line told spelled to behind ok cut cause =
     record { played = record { line = line; spelled = spelled; told = told; to = to; behind = behind }; written = ok }
 told_as table (Err s) text number p q done w initial old new before after failed line told spelled to behind ok cut cause =
-    let P : Stop → Type 0 = λ x. TextAnswer table (Err x) text number p q done w initial old new before after failed in
-    let played : TextPlayed table text p q done w initial new = record { line = line; spelled = spelled; told = told; to = to; behind = behind } in
+    let P : Stop → Type 0 = λ x. TextAnswer (based_on table initial) (Err x) (line_read text number) (done_so_far done w) (replay_state p old before) (replay_state q new after) failed in
+    let played : TextPlayed (based_on table initial) text (done_so_far done w) p q new = record { line = line; spelled = spelled; told = told; to = to; behind = behind } in
     subst P (sym (same_stop s WriteFault cause.0)) (cause.1, inl (record { played = played; written = cut.0 }))
 
 -- a line was not played, or begun, and what is told of that was written, or a front of it
 pub begun_as : (table : List Row) (stop result : Stop) (text : List ℕ) (number : ℕ) (p q : Player) (done : List Line) (w : Option World) (initial old new : List Device) (before after : Option (List ℕ)) (failed : Type 0) (line : Line) (told : List ℕ)
     → line_of p.place text ≡ Ok line → PlayedAs (based_on table initial) (Err stop) q (done_so_far done w) line (telling old []) (telling new told) → BegunWritten stop result told before after failed
-    → TextAnswer table (Err result) text number p q done w initial old new before after failed
+    → TextAnswer (based_on table initial) (Err result) (line_read text number) (done_so_far done w) (replay_state p old before) (replay_state q new after) failed
 begun_as table Memory result text number p q done w initial old new before after failed line told spelled played (is, none) =
-    let P : Stop → Type 0 = λ x. TextAnswer table (Err x) text number p q done w initial old new before after failed in
+    let P : Stop → Type 0 = λ x. TextAnswer (based_on table initial) (Err x) (line_read text number) (done_so_far done w) (replay_state p old before) (replay_state q new after) failed in
     subst P (sym is) (inr (record { line = line; spelled = spelled; there = played }, none))
 begun_as table (NoBoard m b) result text number p q done w initial old new before after failed line told spelled played (is, none) =
-    let P : Stop → Type 0 = λ x. TextAnswer table (Err x) text number p q done w initial old new before after failed in
+    let P : Stop → Type 0 = λ x. TextAnswer (based_on table initial) (Err x) (line_read text number) (done_so_far done w) (replay_state p old before) (replay_state q new after) failed in
     subst P (sym is) (record { line = line; spelled = spelled; there = played }, none)
 begun_as table NotAVolume result text number p q done w initial old new before after failed line told spelled played (is, none) =
-    let P : Stop → Type 0 = λ x. TextAnswer table (Err x) text number p q done w initial old new before after failed in
+    let P : Stop → Type 0 = λ x. TextAnswer (based_on table initial) (Err x) (line_read text number) (done_so_far done w) (replay_state p old before) (replay_state q new after) failed in
     subst P (sym is) (record { line = line; spelled = spelled; there = played }, none)
 begun_as table NoImage result text number p q done w initial old new before after failed line told spelled played (inl (is, put)) =
-    let P : Stop → Type 0 = λ x. TextAnswer table (Err x) text number p q done w initial old new before after failed in
+    let P : Stop → Type 0 = λ x. TextAnswer (based_on table initial) (Err x) (line_read text number) (done_so_far done w) (replay_state p old before) (replay_state q new after) failed in
     subst P (sym is) (record {
       line = line;
       spelled = spelled;
       there = begun_then (λ v left t h. (h.0, subst (λ (xs : List ℕ). Puts before after xs) h.1 put)) played;
     })
 begun_as table NoImage result text number p q done w initial old new before after failed line told spelled played (inr (is, rose, some, cut)) =
-    let P : Stop → Type 0 = λ x. TextAnswer table (Err x) text number p q done w initial old new before after failed in
+    let P : Stop → Type 0 = λ x. TextAnswer (based_on table initial) (Err x) (line_read text number) (done_so_far done w) (replay_state p old before) (replay_state q new after) failed in
     subst P (sym is) (
       rose,
       inr (record {
@@ -69,14 +69,14 @@ begun_as table NoImage result text number p q done w initial old new before afte
       }),
     )
 begun_as table FlashFault result text number p q done w initial old new before after failed line told spelled played (inl (is, put)) =
-    let P : Stop → Type 0 = λ x. TextAnswer table (Err x) text number p q done w initial old new before after failed in
+    let P : Stop → Type 0 = λ x. TextAnswer (based_on table initial) (Err x) (line_read text number) (done_so_far done w) (replay_state p old before) (replay_state q new after) failed in
     subst P (sym is) (record {
       line = line;
       spelled = spelled;
       there = (played.0, begun_then (λ v left t h. (h.0, subst (λ (xs : List ℕ). Puts before after xs) h.1 put)) played.1);
     })
 begun_as table FlashFault result text number p q done w initial old new before after failed line told spelled played (inr (is, rose, some, cut)) =
-    let P : Stop → Type 0 = λ x. TextAnswer table (Err x) text number p q done w initial old new before after failed in
+    let P : Stop → Type 0 = λ x. TextAnswer (based_on table initial) (Err x) (line_read text number) (done_so_far done w) (replay_state p old before) (replay_state q new after) failed in
     subst P (sym is) (
       rose,
       inr (record {
@@ -86,14 +86,14 @@ begun_as table FlashFault result text number p q done w initial old new before a
       }),
     )
 begun_as table TooMany result text number p q done w initial old new before after failed line told spelled played (inl (is, put)) =
-    let P : Stop → Type 0 = λ x. TextAnswer table (Err x) text number p q done w initial old new before after failed in
+    let P : Stop → Type 0 = λ x. TextAnswer (based_on table initial) (Err x) (line_read text number) (done_so_far done w) (replay_state p old before) (replay_state q new after) failed in
     subst P (sym is) (record {
       line = line;
       spelled = spelled;
       there = begun_then (λ v left t h. (h.0, h.1, subst (λ (xs : List ℕ). Puts before after xs) h.2 put)) played;
     })
 begun_as table TooMany result text number p q done w initial old new before after failed line told spelled played (inr (is, rose, some, cut)) =
-    let P : Stop → Type 0 = λ x. TextAnswer table (Err x) text number p q done w initial old new before after failed in
+    let P : Stop → Type 0 = λ x. TextAnswer (based_on table initial) (Err x) (line_read text number) (done_so_far done w) (replay_state p old before) (replay_state q new after) failed in
     subst P (sym is) (
       rose,
       inr (record {
@@ -107,12 +107,12 @@ begun_as table WriteFault result text number p q done w initial old new before a
 
 -- no line was found
 pub not_found_as : (table : List Row) (stop : Stop) (text : List ℕ) (number : ℕ) (p q : Player) (done : List Line) (w : Option World) (initial now : List Device) (before : Option (List ℕ)) (failed : Type 0)
-    → NotFound p.place text number stop → TextAnswer table (Err stop) text number p q done w initial now now before before failed
+    → NotFound p.place text number stop → TextAnswer (based_on table initial) (Err stop) (line_read text number) (done_so_far done w) (replay_state p now before) (replay_state q now before) failed
 not_found_as table stop text number p q done w initial now before failed (inl memory) =
-    let P : Stop → Type 0 = λ x. TextAnswer table (Err x) text number p q done w initial now now before before failed in
+    let P : Stop → Type 0 = λ x. TextAnswer (based_on table initial) (Err x) (line_read text number) (done_so_far done w) (replay_state p now before) (replay_state q now before) failed in
     subst P (sym memory) (inl (record { boards = refl; told = refl }))
 not_found_as table stop text number p q done w initial now before failed (inr (fault, is, read)) =
-    let P : Stop → Type 0 = λ x. TextAnswer table (Err x) text number p q done w initial now now before before failed in
+    let P : Stop → Type 0 = λ x. TextAnswer (based_on table initial) (Err x) (line_read text number) (done_so_far done w) (replay_state p now before) (replay_state q now before) failed in
     subst P (sym is) (refl, read, record { boards = refl; told = refl })
 
 -- a line was not read

@@ -27,7 +27,7 @@ use Rattle.dg_replay.specs.declared.halt.Halt.{Halt}
 use Rattle.dg_replay.specs.declared.halt.Halt.TheVariants.{Stopped}
 use Rattle.dg_replay.specs.declared.player.Player.{Player}
 use Rattle.dg_replay.specs.declared.stop.Stop.{Stop}
-use Rattle.dg_replay.specs.Stages.{based_on, done_so_far, telling}
+use Rattle.dg_replay.specs.Stages.{based_on, done_so_far, telling, bytes_taken}
 use Rattle.dg_replay.specs.declared.stop.Stop.TheVariants.{Memory, WriteFault}
 use Rattle.dg_replay.proofs.FollowingLemmas.{TextPlays, given_next}
 use Rattle.dg_replay.proofs.RunLemmas.{HeadlineLaw, replay_done, replayed_of}
@@ -83,7 +83,7 @@ text_forgotten text number p q old now before failed same = λ done w initial ta
 -- what is answered where the next line was given, and this became of it
 pub given_answer : (r : Result Bool Halt) (o : Option ℕ) (n : ℕ) (text : List ℕ) (old new : Reading) (at_end read_failed : Type 0) (Took : List ℕ → Type 0) (p q : Player) (was now : List Device) (before after : Option (List ℕ)) (failed : Type 0) → o ≡ Some n → text ≡ new.text
     → ((more : List ℕ) × Took more × NextAnswer (Ok o) (old.ahead ++ more) old new at_end read_failed) → GivenPlayed r (λ x. TextPlays x text n p q was now before after failed)
-    → (more : List ℕ) × Took more × NextPlayed r (old.ahead ++ more) old new at_end read_failed (AllAsBefore p q was now before after) (λ x t. TextPlays x t (old.number + 1) p q was now before after failed)
+    → (more : List ℕ) × Took more × NextPlayed r (bytes_taken (old.ahead ++ more) at_end) old new read_failed (AllAsBefore p q was now before after) (λ x t. TextPlays x t (old.number + 1) p q was now before after failed)
 given_answer r o n text old new at_end read_failed Took p q was now before after failed some same a played = (
   a.0,
   a.1,

@@ -5,6 +5,7 @@ use Rattle.dg_script.specs.LineReading.{Reading, most_kept, most_used_bytes, Has
 use Rattle.dg_script.specs.declared.fault.LineFault.TheVariants as line_fault
 use Rattle.dg_script.specs.declared.line_reader.ReadStop.{ReadStop}
 use Rattle.dg_script.specs.declared.line_reader.ReadStop.TheVariants as read_stop
+use Rattle.dg_replay.specs.Stages.{BytesTaken}
 use Rattle.dg_replay.specs.declared.player.Player.{Player}
 use Rattle.dg_replay.specs.declared.halt.Halt.{Halt}
 use Rattle.dg_replay.specs.declared.halt.Halt.TheVariants.{ReadFault, TooLong, Stopped}
@@ -38,12 +39,12 @@ GivenPlayed (Err TooLong) P = ⊥
 GivenPlayed (Err (Stopped stop)) P = P (Err stop)
 
 -- what reading and playing the next line answers, where these are the bytes that were there and those that came
-abbrev pub NextPlayed : Result Bool Halt → (bytes : List ℕ) → (old new : Reading) → (at_end read_failed nothing : Type 0)
+abbrev pub NextPlayed : Result Bool Halt → (taken : BytesTaken) → (old new : Reading) → (read_failed nothing : Type 0)
     → (P : Result (Unit {0}) Stop → (text : List ℕ) → Type 0) → Type 0
-NextPlayed (Ok true) bytes old new at_end failed nothing P = Gives bytes old new at_end × P (Ok tt) new.text
-NextPlayed (Ok false) bytes old new at_end failed nothing P = IsAtEnd bytes old new at_end × nothing
-NextPlayed (Err ReadFault) bytes old new at_end failed nothing P =
-    failed × HasNoEnd bytes × (old.passed + length bytes ≤ most_used_bytes) × nothing
-NextPlayed (Err TooLong) bytes old new at_end failed nothing P = IsTooLong bytes old × nothing
-NextPlayed (Err (Stopped stop)) bytes old new at_end failed nothing P =
-    (text : List ℕ) × (rest : List ℕ) × LineTaken bytes old at_end text rest × P (Err stop) text
+NextPlayed (Ok true) taken old new failed nothing P = Gives taken.bytes old new taken.at_end × P (Ok tt) new.text
+NextPlayed (Ok false) taken old new failed nothing P = IsAtEnd taken.bytes old new taken.at_end × nothing
+NextPlayed (Err ReadFault) taken old new failed nothing P =
+    failed × HasNoEnd taken.bytes × (old.passed + length taken.bytes ≤ most_used_bytes) × nothing
+NextPlayed (Err TooLong) taken old new failed nothing P = IsTooLong taken.bytes old × nothing
+NextPlayed (Err (Stopped stop)) taken old new failed nothing P =
+    (text : List ℕ) × (rest : List ℕ) × LineTaken taken.bytes old taken.at_end text rest × P (Err stop) text

@@ -27,7 +27,7 @@ use Rattle.dg_replay.specs.Outcome.{Progress, ReachesEnding, AtTooMany, closing,
 use Rattle.dg_replay.specs.Outcome.{RunsTo, item_played, played_text, told_of, IsSettled, AreWhole, AllWhole, NextIsWhole}
 use Rattle.dg_replay.specs.Outcome.{DoneIsWhole, ReadEnough, ReadsNear, NoVolumeThere, NoImageThere, no_volume_line}
 use Rattle.dg_replay.specs.Outcome.{no_image_line}
-use Rattle.dg_replay.specs.Stages.{based_on, done_so_far, telling}
+use Rattle.dg_replay.specs.Stages.{Basis, DoneSoFar, ReplayState, LineRead, Span, telling, span}
 use Rattle.dg_replay.specs.Playing.{Stood, PlayedLine, LineBegun, IsOneTooMany, LacksBoards, Grounded}
 use Rattle.dg_replay.specs.declared.player.Player.{Player}
 use Rattle.dg_script.specs.declared.line.Line.{Line}
@@ -40,26 +40,23 @@ use Rattle.dg_replay.specs.declared.stop.Stop.{Stop}
 use Rattle.dg_replay.specs.declared.stop.Stop.TheVariants.{Memory, BadInput, WriteFault, FlashFault, TooMany, NoBoard, NoImage}
 use Rattle.dg_replay.specs.declared.stop.Stop.TheVariants.{NotAVolume}
 
--- The line that a text spells was played, from a player and boards that stand for world w behind some lines.
-pub record TextPlayed (table : List Row) (text : List ℕ) (p q : Player) (done : List Line) (w : Option World)
-    (initial now : List Device) : Type 0 where
+-- The line that a text spells was played, from a player and boards that stand for the world behind some lines.
+pub record TextPlayed (basis : Basis) (text : List ℕ) (so_far : DoneSoFar) (p q : Player) (now : List Device) : Type 0 where
   pub line : Line
   pub spelled : line_of p.place text ≡ Ok line
   pub told : List ℕ
-  pub to : PlayedLine (based_on table initial) q (done_so_far done w) line [] (telling now told)
+  pub to : PlayedLine basis q so_far line [] (telling now told)
   pub behind : q.place ≡ place_after p.place line
 
 -- and what is told of it was written
-pub record TextTold (table : List Row) (text : List ℕ) (p q : Player) (done : List Line) (w : Option World)
-    (initial now : List Device) (before after : Option (List ℕ)) : Type 0 where
-  pub played : TextPlayed table text p q done w initial now
-  pub written : Puts before after played.told
+pub record TextTold (basis : Basis) (text : List ℕ) (behind : DoneSoFar) (a b : ReplayState) : Type 0 where
+  pub played : TextPlayed basis text behind a.player b.player b.boards
+  pub written : Puts a.written b.written played.told
 
 -- or a front of it
-pub record TextCut (table : List Row) (text : List ℕ) (p q : Player) (done : List Line) (w : Option World)
-    (initial now : List Device) (before after : Option (List ℕ)) : Type 0 where
-  pub played : TextPlayed table text p q done w initial now
-  pub written : PutsFront before after played.told
+pub record TextCut (basis : Basis) (text : List ℕ) (behind : DoneSoFar) (a b : ReplayState) : Type 0 where
+  pub played : TextPlayed basis text behind a.player b.player b.boards
+  pub written : PutsFront a.written b.written played.told
 
 -- nothing was done
 pub record NothingDone (old new : List Device) (before after : Option (List ℕ)) : Type 0 where
@@ -91,22 +88,19 @@ NotFound place text number stop =
 
 -- a board stopped within a line of which these items are left, and what is told of the others, which is something,
 -- was not all written
-abbrev pub CutAtStop : (done : List Line) → Line → Option World → (left : List Item) → (text : List ℕ)
-    → (initial new : List Device) → (before after : Option (List ℕ)) → Type 0
-CutAtStop done line v left text initial new before after =
-    (text ≢ []) × StoppedIn (motes_in done) (line ∷ []) left v initial new × PutsFront before after text
+abbrev pub CutAtStop : (done : List Line) → Line → Option World → (left : List Item) → (text : List ℕ) → Span → Type 0
+CutAtStop done line v left text s =
+    (text ≢ []) × StoppedIn (motes_in done) (line ∷ []) left v s.initial s.now × PutsFront s.before s.after text
 
 -- the same where an event was not played, since there were a million before it
-abbrev pub CutAtTooMany : Option World → (left : List Item) → (text : List ℕ) → (initial new : List Device)
-    → (before after : Option (List ℕ)) → Type 0
-CutAtTooMany v left text initial new before after =
-    InSome v (λ u. IsOneTooMany u left) × BoardsStand v initial new × PutsFront before after text
+abbrev pub CutAtTooMany : Option World → (left : List Item) → (text : List ℕ) → Span → Type 0
+CutAtTooMany v left text s =
+    InSome v (λ u. IsOneTooMany u left) × BoardsStand v s.initial s.now × PutsFront s.before s.after text
 
 -- the same where an event found no image to start, which no script with golden meets
-abbrev pub CutAtImage : Option World → (left : List Item) → (text : List ℕ) → (initial new : List Device)
-    → (before after : Option (List ℕ)) → Type 0
-CutAtImage v left text initial new before after =
-    (text ≢ []) × InSome v (λ u. LacksImage u left initial new) × PutsFront before after text
+abbrev pub CutAtImage : Option World → (left : List Item) → (text : List ℕ) → Span → Type 0
+CutAtImage v left text s =
+    (text ≢ []) × InSome v (λ u. LacksImage u left s.initial s.now) × PutsFront s.before s.after text
 
 -- all of it was written, or a front
 abbrev pub BegunWrittenOr : Stop → Stop → (text : List ℕ) → (before after : Option (List ℕ)) → (write_failed : Type 0) → Type 0
@@ -120,32 +114,40 @@ BegunWritten FlashFault result text before after failed = BegunWrittenOr FlashFa
 BegunWritten NoImage result text before after failed = BegunWrittenOr NoImage result text before after failed
 BegunWritten stop result text before after failed = (result ≡ stop) × (after ≡ before)
 
--- what playing a text answers, from player p and world w behind some lines
-abbrev pub TextAnswer : (table : List Row) → Result (Unit {0}) Stop → (text : List ℕ) → ℕ → (p q : Player) → List Line
-    → Option World → (initial old new : List Device) → (before after : Option (List ℕ)) → (write_failed : Type 0) → Type 0
-TextAnswer table (Ok u) text number p q done w initial old new before after failed =
-    TextTold table text p q done w initial new before after
-TextAnswer table (Err Memory) text number p q done w initial old new before after failed = NothingDone old new before after
-    ⊎ (TextRead text p (λ line. LineBegun done line w (λ v left t. BoardsStand v initial new)) × (after ≡ before))
-TextAnswer table (Err (BadInput line fault)) text number p q done w initial old new before after failed =
-    (line ≡ number) × (line_of p.place text ≡ Err fault) × NothingDone old new before after
-TextAnswer table (Err WriteFault) text number p q done w initial old new before after failed =
-    failed × (TextCut table text p q done w initial new before after
-    ⊎ TextRead text p (λ line. LineBegun done line w (λ v left t. CutAtStop done line v left t initial new before after
-    ⊎ (CutAtTooMany v left t initial new before after ⊎ CutAtImage v left t initial new before after))))
-TextAnswer table (Err FlashFault) text number p q done w initial old new before after failed =
-    TextRead text p (λ line. UsesBoard line × LineBegun done line w
-    (λ v left t. StoppedIn (motes_in done) (line ∷ []) left v initial new × Puts before after t))
-TextAnswer table (Err TooMany) text number p q done w initial old new before after failed =
-    TextRead text p (λ line. LineBegun done line w (λ v left t. InSome v (λ u. IsOneTooMany u left)
-    × BoardsStand v initial new × Puts before after t))
-TextAnswer table (Err (NoBoard motes boards)) text number p q done w initial old new before after failed =
-    TextRead text p (λ line. LacksBoards line motes boards initial old new) × (after ≡ before)
-TextAnswer table (Err NoImage) text number p q done w initial old new before after failed =
-    TextRead text p (λ line. LineBegun done line w (λ v left t. InSome v (λ u. LacksImage u left initial new)
-    × Puts before after t))
-TextAnswer table (Err NotAVolume) text number p q done w initial old new before after failed =
-    TextRead text p (λ line. (line ≡ Boards) × NoVolumeIn (motes_in done) initial new) × (after ≡ before)
+-- items of a line behind others were played, and what is told of them was not all written, since a write failed
+abbrev pub BegunAndCut : (initial : List Device) → (behind : DoneSoFar) → (a b : ReplayState) → Line → Type 0
+BegunAndCut initial behind a b line = LineBegun behind.lines line behind.world
+    (λ v left t. CutAtStop behind.lines line v left t (span initial b.boards a.written b.written)
+    ⊎ (CutAtTooMany v left t (span initial b.boards a.written b.written)
+    ⊎ CutAtImage v left t (span initial b.boards a.written b.written)))
+
+-- What playing the text of a line answers behind some lines. The player, the boards and what was written were a before it,
+-- and are b then.
+abbrev pub TextAnswer : Basis → Result (Unit {0}) Stop → LineRead → (behind : DoneSoFar) → (a b : ReplayState)
+    → (write_failed : Type 0) → Type 0
+TextAnswer basis (Ok u) read behind a b failed = TextTold basis read.text behind a b
+TextAnswer basis (Err Memory) read behind a b failed = NothingDone a.boards b.boards a.written b.written
+    ⊎ (TextRead read.text a.player (λ line. LineBegun behind.lines line behind.world
+    (λ v left t. BoardsStand v basis.boards b.boards)) × (b.written ≡ a.written))
+TextAnswer basis (Err (BadInput line fault)) read behind a b failed = (line ≡ read.number)
+    × (line_of a.player.place read.text ≡ Err fault) × NothingDone a.boards b.boards a.written b.written
+TextAnswer basis (Err WriteFault) read behind a b failed = failed × (TextCut basis read.text behind a b
+    ⊎ TextRead read.text a.player (BegunAndCut basis.boards behind a b))
+TextAnswer basis (Err FlashFault) read behind a b failed = TextRead read.text a.player (λ line. UsesBoard line
+    × LineBegun behind.lines line behind.world (λ v left t.
+    StoppedIn (motes_in behind.lines) (line ∷ []) left v basis.boards b.boards × Puts a.written b.written t))
+TextAnswer basis (Err TooMany) read behind a b failed = TextRead read.text a.player (λ line.
+    LineBegun behind.lines line behind.world (λ v left t. InSome v (λ u. IsOneTooMany u left)
+    × BoardsStand v basis.boards b.boards × Puts a.written b.written t))
+TextAnswer basis (Err (NoBoard motes boards)) read behind a b failed =
+    TextRead read.text a.player (λ line. LacksBoards line motes boards basis.boards a.boards b.boards)
+    × (b.written ≡ a.written)
+TextAnswer basis (Err NoImage) read behind a b failed = TextRead read.text a.player (λ line.
+    LineBegun behind.lines line behind.world (λ v left t. InSome v (λ u. LacksImage u left basis.boards b.boards)
+    × Puts a.written b.written t))
+TextAnswer basis (Err NotAVolume) read behind a b failed =
+    TextRead read.text a.player (λ line. (line ≡ Boards) × NoVolumeIn (motes_in behind.lines) basis.boards b.boards)
+    × (b.written ≡ a.written)
 
 -- These texts are left of a script, and what comes before them was played.
 pub record Reached (table : List Row) (ends : Bool) (script : Script) (texts : List (List ℕ)) (number : ℕ) (p : Player)

@@ -1,9 +1,10 @@
--- Where a replay stands: what it is held against, how far it came, and what it told.
+-- Where a replay stands: what it is held against, how far it came, and what stands outside then.
 use Rattle.std.specs.Prelude.{ℕ, List, Option}
 use Rattle.dg_nor.specs.Device.{Device}
 use Rattle.dg_object.specs.Object.{Row}
 use Rattle.dg_rules.specs.World.{World}
 use Rattle.dg_script.specs.declared.line.Line.{Line}
+use Rattle.dg_replay.specs.declared.player.Player.{Player}
 
 -- What a replay is held against: a table of images, and the boards as they were when it began.
 pub record Basis : Type 0 where
@@ -28,3 +29,38 @@ pub record Telling : Type 0 where
 
 abbrev pub telling : (boards : List Device) (told : List ℕ) → Telling
 telling boards told = record { boards = boards; told = told }
+
+-- The state of a replay: its player, the boards, and what was written, where that is told.
+pub record ReplayState : Type 0 where
+  pub player : Player
+  pub boards : List Device
+  pub written : Option (List ℕ)
+
+abbrev pub replay_state : (player : Player) (boards : List Device) (written : Option (List ℕ)) → ReplayState
+replay_state player boards written = record { player = player; boards = boards; written = written }
+
+-- The text of a line, and its number.
+pub record LineRead : Type 0 where
+  pub text : List ℕ
+  pub number : ℕ
+
+abbrev pub line_read : (text : List ℕ) (number : ℕ) → LineRead
+line_read text number = record { text = text; number = number }
+
+-- The boards when a replay began and now, and what was written before and now, where that is told.
+pub record Span : Type 0 where
+  pub initial : List Device
+  pub now : List Device
+  pub before : Option (List ℕ)
+  pub after : Option (List ℕ)
+
+abbrev pub span : (initial now : List Device) (before after : Option (List ℕ)) → Span
+span initial now before after = record { initial = initial; now = now; before = before; after = after }
+
+-- Bytes that were taken of an input, and whether that is its end.
+pub record BytesTaken : Type 1 where
+  pub bytes : List ℕ
+  pub at_end : Type 0
+
+abbrev pub bytes_taken : (bytes : List ℕ) (at_end : Type 0) → BytesTaken
+bytes_taken bytes at_end = record { bytes = bytes; at_end = at_end }

@@ -9,6 +9,7 @@ ghost use Rattle.dg_script.specs.declared.line.Line.{Line};
 ghost use Rattle.dg_replay.specs.Following.{HaltedAs, NextPlayed, AllAsBefore};
 ghost use Rattle.dg_replay.specs.Playing.{Stood, Ready};
 ghost use Rattle.dg_replay.specs.Replaying.{TextAnswer, InputAnswer};
+ghost use Rattle.dg_replay.specs.Stages.{based_on, done_so_far, replay_state, line_read, bytes_taken};
 
 use crate::halt::Halt;
 use crate::items::Told;
@@ -47,15 +48,16 @@ fn play_next<S: Source, K: Sink, N: Nor>(
 ) -> Result<bool, Halt>
     requires { Ready player.old (map N.device boards.old.items) }
     ensures answer { (more : List ℕ) × Takes (S.left input.old) (S.left input.new) more
-        × NextPlayed result (reader.old.ahead ++ more) reader.old reader.new (AtEnd (S.left input.new))
+        × NextPlayed result (bytes_taken (reader.old.ahead ++ more) (AtEnd (S.left input.new))) reader.old reader.new
         (Rose (S.faults input.old) (S.faults input.new))
         (AllAsBefore player.old player.new (map N.device boards.old.items) (map N.device boards.new.items)
         (K.written out.old) (K.written out.new))
         (λ r text. (done : List Line) (w : Option World) (initial : List Device) (table : List Row)
         → Stood player.old done w initial (map N.device boards.old.items)
-        → TextAnswer table r text (reader.old.number + 1) player.old player.new done w initial
-        (map N.device boards.old.items) (map N.device boards.new.items)
-        (K.written out.old) (K.written out.new) (Rose (K.faults out.old) (K.faults out.new))) }
+        → TextAnswer (based_on table initial) r (line_read text (reader.old.number + 1)) (done_so_far done w)
+        (replay_state player.old (map N.device boards.old.items) (K.written out.old))
+        (replay_state player.new (map N.device boards.new.items) (K.written out.new))
+        (Rose (K.faults out.old) (K.faults out.new))) }
     ensures reads { S.faults input.old ≤ S.faults input.new }
     ensures unread { result ≢ Err Halt.ReadFault → S.faults input.new ≡ S.faults input.old }
     ensures counts { K.faults out.old ≤ K.faults out.new }
