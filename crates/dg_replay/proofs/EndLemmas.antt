@@ -33,6 +33,7 @@ use Rattle.dg_replay.specs.Replaying.{ToldBefore, StopEnds, Reached, HasFew, Sto
 use Rattle.dg_replay.specs.declared.player.Player.{Player}
 use Rattle.dg_script.specs.declared.line.Line.{Line}
 use Rattle.dg_replay.specs.declared.stop.Stop.{Stop}
+use Rattle.dg_replay.specs.Stages.{span, bytes_taken}
 use Rattle.dg_replay.specs.declared.stop.Stop.TheVariants.{Memory, BadInput, WriteFault, FlashFault, TooMany, NoBoard, NoImage, NotAVolume}
 use Rattle.dg_replay.proofs.NearLemmas.{near_later}
 use Rattle.dg_replay.proofs.EndingLemmas.{ended, below_is_false, over_is, few_events, few_ending, fault_ending, board_ending, many_ending}
@@ -44,19 +45,19 @@ EndsBy TooMany e = e ≡ TooManyEvents
 EndsBy (NoBoard motes boards) e = e ≡ NoBoards motes boards
 EndsBy stop e = Unit {0}
 
-pub stop_ending : {table : List Row} (stop : Stop) (over : Bool) (script : Script) (W V : Progress table script → Type 0) (number : ℕ) (initial now : List Device) (before after : Option (List ℕ)) (failed : Type 0)
-    → StopsAtText table stop script W V number initial now before after failed → EndsBy stop (ending_from (length initial) over script)
-stop_ending Memory over script W V number initial now before after failed f = tt
-stop_ending (BadInput line fault) over script W V number initial now before after failed (same, f) = fault_ending over script initial line fault f.there.3 f.there.1
-stop_ending WriteFault over script W V number initial now before after failed f = tt
-stop_ending FlashFault over script W V number initial now before after failed f = tt
-stop_ending TooMany over script W V number initial now before after failed f = many_ending over script initial f.came f.there.2 f.there.0
-stop_ending (NoBoard motes boards) over script W V number initial now before after failed f =
+pub stop_ending : {table : List Row} (stop : Stop) (over : Bool) (script : Script) (W : Progress table script → Type 0) (number : ℕ) (initial now : List Device) (before after : Option (List ℕ)) (failed : Type 0)
+    → StopsAtText table stop script W number (span initial now before after) failed → EndsBy stop (ending_from (length initial) over script)
+stop_ending Memory over script W number initial now before after failed f = tt
+stop_ending (BadInput line fault) over script W number initial now before after failed (same, f) = fault_ending over script initial line fault f.there.3 f.there.1
+stop_ending WriteFault over script W number initial now before after failed f = tt
+stop_ending FlashFault over script W number initial now before after failed f = tt
+stop_ending TooMany over script W number initial now before after failed f = many_ending over script initial f.came f.there.2 f.there.0
+stop_ending (NoBoard motes boards) over script W number initial now before after failed f =
     let same : boards ≡ length initial = f.there.0.0 in
     let short : length initial < motes = subst (λ (n : ℕ). n < motes) same f.there.0.1 in
     board_ending over script initial motes f.came.done f.there.1.0 short f.there.3 (ap (λ (ls : List Line). f.came.done ++ ls) (sym f.there.1.1) ∙ f.came.lines) ∙ ap (λ (n : ℕ). NoBoards motes n) (sym same)
-stop_ending NoImage over script W V number initial now before after failed f = tt
-stop_ending NotAVolume over script W V number initial now before after failed f = tt
+stop_ending NoImage over script W number initial now before after failed f = tt
+stop_ending NotAVolume over script W number initial now before after failed f = tt
 
 -- boards end the replay, and the last line was not all written
 cut_at_end : {table : List Row} (result : Status) (script : Script) (over : Bool) (input : List ℕ) (at_end : Type 0) (number : ℕ) (initial now : List Device) (before mid after : Option (List ℕ)) (later reads worse : Type 0) → (later → worse) → FewBytesBehind number input
@@ -89,7 +90,7 @@ lacks_next (Some u) left old new lacks = lacks.next
 -- the end of a replay that stopped
 pub stopped_ends : {table : List Row} (stop : Stop) (result : Status) (script : Script) (over : Bool) (input : List ℕ) (at_end : Type 0) (number : ℕ) (initial now : List Device) (before mid after : Option (List ℕ)) (failed later reads worse : Type 0)
     → (failed → worse) → (later → worse) → FewBytesBehind number input → ByRules stop (at_end ⊎ IsSettled (length initial) input)
-    → StopsInTaken table stop script input at_end number initial now before mid failed → StopEnds stop result mid after later → ScriptReplayed table result script (ending_from (length initial) over script) input at_end initial now before after reads worse
+    → StopsInTaken table stop script (bytes_taken input at_end) number (span initial now before mid) failed → StopEnds stop result mid after later → ScriptReplayed table result script (ending_from (length initial) over script) input at_end initial now before after reads worse
 stopped_ends {table} Memory result script over input at_end number initial now before mid after failed later reads worse spread widen near settled f (same, told) =
     let made : ScriptReplayed table status.Memory script (ending_from (length initial) over script) input at_end initial now before after reads worse = record {
       came = f.came;
@@ -145,7 +146,7 @@ stopped_ends {table} TooMany result script over input at_end number initial now 
     subst (λ (x : Ending). ScriptReplayed table result script x input at_end initial now before after reads worse) (sym e)
     (ended result script TooManyEvents _ input at_end initial now before mid after later reads worse widen ready settled f.there.3 (λ text. tt) done)
 stopped_ends {table} (NoBoard motes boards) result script over input at_end number initial now before mid after failed later reads worse spread widen near settled f done =
-    let e = stop_ending (NoBoard motes boards) over script (λ c. at_end ⊎ DoneIsWhole input c.done c.rest c.begun) (λ c. at_end ⊎ NextIsWhole input c.done c.rest) number initial now before mid failed f in
+    let e = stop_ending (NoBoard motes boards) over script (λ c. at_end ⊎ DoneIsWhole input c.done c.rest c.begun) number initial now before mid failed f in
     let ready : ReadyToEnd table script (NoBoards motes boards) (ending_line (NoBoards motes boards)) initial now before mid = record { came = f.came; told = f.told; boards = f.there.2; all = f.there.1; line = refl; limits = f.limits; stood = f.stood } in
     subst (λ (x : Ending). ScriptReplayed table result script x input at_end initial now before after reads worse) (sym e)
     (ended result script (NoBoards motes boards) _ input at_end initial now before mid after later reads worse widen ready settled f.there.4 (λ text. tt) done)
@@ -183,21 +184,21 @@ stopped_ends {table} NotAVolume result script over input at_end number initial n
     cut_at_end result script over input at_end number initial now before mid after later reads worse widen near f.came no_volume_line (inl (f.there.0.more, f.there.0.next, refl)) f.told f.limits f.stood (inr (inr (inl f.there.0))) f.there.1 f.there.2 same cut rose
 
 -- a script all of whose lines were played
-lines_done : {table : List Row} (ends : Bool) (script : Script) (n : ℕ) (p : Player) (initial now : List Device) (before mid : Option (List ℕ)) → (r : Reached table ends script [] n p initial now before mid) → r.done ++ [] ≡ script.lines
+lines_done : {table : List Row} (ends : Bool) (script : Script) (n : ℕ) (p : Player) (initial now : List Device) (before mid : Option (List ℕ)) → (r : Reached table ends script [] n p (span initial now before mid)) → r.done ++ [] ≡ script.lines
 unfolding script_from
 lines_done ends script n p initial now before mid r = r.lines
 
-fault_done : {table : List Row} (ends : Bool) (script : Script) (n : ℕ) (p : Player) (initial now : List Device) (before mid : Option (List ℕ)) → (r : Reached table ends script [] n p initial now before mid) → end_fault ends p.place n ≡ script.fault
+fault_done : {table : List Row} (ends : Bool) (script : Script) (n : ℕ) (p : Player) (initial now : List Device) (before mid : Option (List ℕ)) → (r : Reached table ends script [] n p (span initial now before mid)) → end_fault ends p.place n ≡ script.fault
 unfolding script_from
 fault_done ends script n p initial now before mid r = r.fault
 
-few_done : {table : List Row} (ends : Bool) (script : Script) (n : ℕ) (p : Player) (initial now : List Device) (before mid : Option (List ℕ)) → (r : Reached table ends script [] n p initial now before mid) → HasFew script initial
+few_done : {table : List Row} (ends : Bool) (script : Script) (n : ℕ) (p : Player) (initial now : List Device) (before mid : Option (List ℕ)) → (r : Reached table ends script [] n p (span initial now before mid)) → HasFew script initial
 few_done ends script n p initial now before mid r =
     let same : r.done ≡ script.lines = sym (append-nil r.done) ∙ lines_done ends script n p initial now before mid r in
     record { events = subst (λ (ls : List Line). events_in ls ≤ most_events) same r.few; boards_enough = subst (λ (ls : List Line). lacking (length initial) ls ≡ None) same r.boards_enough }
 
 -- as far as that
-abbrev came_to : {table : List Row} (ends : Bool) (script : Script) (n : ℕ) (p : Player) (initial now : List Device) (before mid : Option (List ℕ)) (last : Option World) → (r : Reached table ends script [] n p initial now before mid) → r.last ≡ last → Progress table script
+abbrev came_to : {table : List Row} (ends : Bool) (script : Script) (n : ℕ) (p : Player) (initial now : List Device) (before mid : Option (List ℕ)) (last : Option World) → (r : Reached table ends script [] n p (span initial now before mid)) → r.last ≡ last → Progress table script
 came_to ends script n p initial now before mid last r is =
     record {
       done = r.done;
@@ -215,11 +216,11 @@ came_to ends script n p initial now before mid last r is =
       run = subst (λ (o : Option World). RunsTo (beginning_of r.ground r.done).world r.played o) is r.run;
     }
 
-pub bounds_done : {table : List Row} (ends : Bool) (script : Script) (n : ℕ) (p : Player) (initial now : List Device) (before mid : Option (List ℕ)) → (r : Reached table ends script [] n p initial now before mid) → InBounds (length initial) r.done (map item_played r.played)
+pub bounds_done : {table : List Row} (ends : Bool) (script : Script) (n : ℕ) (p : Player) (initial now : List Device) (before mid : Option (List ℕ)) → (r : Reached table ends script [] n p (span initial now before mid)) → InBounds (length initial) r.done (map item_played r.played)
 bounds_done ends script n p initial now before mid r = record { boards_enough = r.boards_enough; few_events = subst (λ (xs : List Item). events_among xs ≤ most_events) (sym r.items) r.few }
 
 -- the last line of a report is to be written
-abbrev ready_done : {table : List Row} (ends : Bool) (script : Script) (e : Ending) (n : ℕ) (p : Player) (initial now : List Device) (before mid : Option (List ℕ)) → (r : Reached table ends script [] n p initial now before mid) → ((c : Progress table script) → c.rest ≡ [] → ReachesEnding e c)
+abbrev ready_done : {table : List Row} (ends : Bool) (script : Script) (e : Ending) (n : ℕ) (p : Player) (initial now : List Device) (before mid : Option (List ℕ)) → (r : Reached table ends script [] n p (span initial now before mid)) → ((c : Progress table script) → c.rest ≡ [] → ReachesEnding e c)
     → ((w : Option World) → closing e w ≡ ending_line e) → ReadyToEnd table script e (ending_line e) initial now before mid
 ready_done ends script e n p initial now before mid r all closes =
     let came = came_to ends script n p initial now before mid r.last r refl in
@@ -232,7 +233,7 @@ nothing_near n input e = omega (arith, ap length e)
 -- an input that is too long
 pub over_ends : {table : List Row} (result : Status) (script : Script) (input : List ℕ) (at_end : Type 0) (n : ℕ) (p : Player) (initial now : List Device) (before mid after : Option (List ℕ)) (failed reads worse : Type 0) → (failed → worse)
     → IsSettled (length initial) input → ((c : Progress table script) → DoneIsWhole input c.done c.rest c.begun)
-    → Reached table false script [] n p initial now before mid → EndsWith result status.TooLong (ending_line Over) mid after failed → ScriptReplayed table result script (ending_from (length initial) true script) input at_end initial now before after reads worse
+    → Reached table false script [] n p (span initial now before mid) → EndsWith result status.TooLong (ending_line Over) mid after failed → ScriptReplayed table result script (ending_from (length initial) true script) input at_end initial now before after reads worse
 over_ends {table} result script input at_end n p initial now before mid after failed reads worse spread settled whole r done =
     let e : ending_from (length initial) true script ≡ Over =
     few_ending true script initial (few_done false script n p initial now before mid r) ∙ ap (λ (f : Option (ℕ × LineFault)). by_fault true f) (sym (fault_done false script n p initial now before mid r)) in
@@ -242,7 +243,7 @@ over_ends {table} result script input at_end n p initial now before mid after fa
 
 -- a script that ends before its second line, or behind a cut
 pub short_ends : {table : List Row} (result : Status) (script : Script) (input : List ℕ) (n : ℕ) (fault : LineFault) (p : Player) (initial now : List Device) (before mid after : Option (List ℕ)) (failed reads worse : Type 0) → (failed → worse) → fault_at_end p.place ≡ Some fault → behind_lines n input ≡ []
-    → Reached table true script [] n p initial now before mid → EndsWith result status.BadInput (ending_line (FaultAt n fault)) mid after failed → ScriptReplayed table result script (ending_from (length initial) false script) input ⊤ initial now before after reads worse
+    → Reached table true script [] n p (span initial now before mid) → EndsWith result status.BadInput (ending_line (FaultAt n fault)) mid after failed → ScriptReplayed table result script (ending_from (length initial) false script) input ⊤ initial now before after reads worse
 short_ends {table} result script input n fault p initial now before mid after failed reads worse spread early behind r done =
     let is : script.fault ≡ Some (n, fault) = sym (fault_done true script n p initial now before mid r) ∙ ap (λ (o : Option LineFault). numbered n o) early in
     let e = fault_ending false script initial n fault (few_done true script n p initial now before mid r) is in
@@ -252,7 +253,7 @@ short_ends {table} result script input n fault p initial now before mid after fa
 
 -- a player that is behind the second line has a world
 finish_as : {table : List Row} (result : Status) (script : Script) (input : List ℕ) (w : World) (n : ℕ) (p : Player) (initial now new : List Device) (before mid after : Option (List ℕ)) (failed reads worse : Type 0) → (failed → worse)
-    → (r : Reached table true script [] n p initial now before mid) → r.last ≡ Some w → motes_in r.done ≡ length w.sites → FinishesWith result w initial new mid after failed → ScriptReplayed table result script Ends input ⊤ initial new before after reads worse
+    → (r : Reached table true script [] n p (span initial now before mid)) → r.last ≡ Some w → motes_in r.done ≡ length w.sites → FinishesWith result w initial new mid after failed → ScriptReplayed table result script Ends input ⊤ initial new before after reads worse
 finish_as result script input w n p initial now new before mid after failed reads worse spread r is count (inl (ends, boards)) =
     let came = came_to true script n p initial now before mid (Some w) r is in
     ended result script Ends (report_text (final_lines w)) input ⊤ initial new before mid after failed reads worse spread
@@ -295,7 +296,7 @@ finishes_in p now none r = from r.world r.kept
 
 -- a script that ended
 pub script_ends : {table : List Row} (result : Status) (script : Script) (input : List ℕ) (n : ℕ) (p : Player) (initial now new : List Device) (before mid after : Option (List ℕ)) (failed reads worse : Type 0) → (failed → worse) → fault_at_end p.place ≡ None
-    → (r : Reached table true script [] n p initial now before mid) → ((w : World) → IsWorld p.world now w → WorldStands w initial now → FinishesWith result w initial new mid after failed)
+    → (r : Reached table true script [] n p (span initial now before mid)) → ((w : World) → IsWorld p.world now w → WorldStands w initial now → FinishesWith result w initial new mid after failed)
     → ScriptReplayed table result script (ending_from (length initial) false script) input ⊤ initial new before after reads worse
 script_ends {table} result script input n p initial now new before mid after failed reads worse spread none r finishes =
     let world = kept_world p r.last initial now (is_ready p.place none) r.stood.world r.stood.boards in

@@ -34,6 +34,7 @@ use Rattle.dg_replay.specs.Promised.{FramesAreHonest}
 use Rattle.dg_replay.specs.Boards.{LacksImage, InSome}
 use Rattle.dg_replay.specs.Playing.{LineBegun, RunsFrom}
 use Rattle.dg_replay.specs.Replaying.{Reached, TextRead}
+use Rattle.dg_replay.specs.Stages.{span}
 use Rattle.dg_replay.specs.declared.player.Player.{Player}
 use Rattle.dg_replay.proofs.ItemLemmas.{motes_same, runs_append, runs_from_none}
 use Rattle.dg_nor.specs.Device.{Device}
@@ -243,7 +244,7 @@ line_finds law ground done line played (Some w) world begun left text old new al
     let g = golden_run ground done (line ∷ []) begun left (played ++ now.played) u alone fit (one_fits _ line spelled) parts more (runs_append (beginning_of ground done).world w u played now.played run now.run) in
     golden_finds law (beginning_of ground done) left (played ++ now.played) u old new g (subst (λ (o : Option World). InSome o (λ z. LacksImage z left old new)) is lacks)
 
-pub image_found : {table : List Row} → ImageIsFound → (ends : Bool) (spells : Script) (texts : List (List ℕ)) (n : ℕ) (p : Player) (initial now : List Device) (before mid : Option (List ℕ)) → LinesFit first_place spells.lines → (r : Reached table ends spells texts n p initial now before mid) → (UsesBoards r.done → ⊥)
+pub image_found : {table : List Row} → ImageIsFound → (ends : Bool) (spells : Script) (texts : List (List ℕ)) (n : ℕ) (p : Player) (initial now : List Device) (before mid : Option (List ℕ)) → LinesFit first_place spells.lines → (r : Reached table ends spells texts n p (span initial now before mid)) → (UsesBoards r.done → ⊥)
     → (text : List ℕ) (old new : List Device) → TextRead text p (λ line. LineBegun r.done line r.last (λ v left t. InSome v (λ u. LacksImage u left old new))) → ⊥
 image_found law ends spells texts n p initial now before mid fit r alone text old new read =
     let begun = read.there in

@@ -16,14 +16,14 @@ use Rattle.dg_replay.specs.Ending.{script_of, has_unused_bytes, used, ending_of}
 use Rattle.dg_replay.specs.Fronts.{IsFront}
 use Rattle.dg_replay.specs.Following.{LineTaken, AllAsBefore, NextPlayed}
 use Rattle.dg_replay.specs.Near.{behind_lines}
-use Rattle.dg_replay.specs.Outcome.{Progress, IsSettled, NextIsWhole, DoneIsWhole, AllRead, AllWhole, AreWhole}
+use Rattle.dg_replay.specs.Outcome.{Progress, IsSettled, AllRead, AllWhole, AreWhole}
 use Rattle.dg_replay.specs.Playing.{Ready}
-use Rattle.dg_replay.specs.Replaying.{Reached, PlayedUpTo, StopsAtText, StopsThere, StopsInTaken, ByRules}
+use Rattle.dg_replay.specs.Replaying.{Reached, PlayedUpTo, StopsAtText, StopsThere, IsWholeAt, StopsInTaken, ByRules}
 use Rattle.dg_replay.specs.declared.halt.Halt.{Halt}
 use Rattle.dg_replay.specs.declared.halt.Halt.TheVariants.{ReadFault, TooLong, Stopped}
 use Rattle.dg_replay.specs.declared.player.Player.{Player}
 use Rattle.dg_replay.specs.declared.stop.Stop.{Stop}
-use Rattle.dg_replay.specs.Stages.{bytes_taken}
+use Rattle.dg_replay.specs.Stages.{span, bytes_taken}
 use Rattle.dg_replay.specs.declared.stop.Stop.TheVariants.{Memory, BadInput, WriteFault, FlashFault, TooMany, NoBoard, NoImage, NotAVolume}
 use Rattle.dg_replay.proofs.EndLemmas.{script_all, script_over, stop_ending, bounds_done}
 use Rattle.dg_replay.proofs.FollowingLemmas.{TextPlays}
@@ -37,10 +37,10 @@ use Rattle.dg_replay.proofs.UsedLemmas.{whole_of_taken, over_used, all_read}
 use Rattle.dg_replay.proofs.LinesReadLemmas.{LinesRead, PlaysText, joined, joined_line, last_text, behind_last, then_none, Comes, at_number}
 
 -- where nothing was played
-pub reached_same : {table : List Row} (ends : Bool) (script : Script) (n : ℕ) (p q : Player) (initial was now : List Device) (before mid after : Option (List ℕ)) → AllAsBefore p q was now mid after → Reached table ends script [] n p initial was before mid → Reached table ends script [] n q initial now before after
+pub reached_same : {table : List Row} (ends : Bool) (script : Script) (n : ℕ) (p q : Player) (initial was now : List Device) (before mid after : Option (List ℕ)) → AllAsBefore p q was now mid after → Reached table ends script [] n p (span initial was before mid) → Reached table ends script [] n q (span initial now before after)
 reached_same {table} ends script n p q initial was now before mid after same r =
-    subst (λ (o : Option (List ℕ)). Reached table ends script [] n q initial now before o) (sym same.told)
-    (subst (λ (ds : List Device). Reached table ends script [] n q initial ds before mid) (sym same.boards) (subst (λ (x : Player). Reached table ends script [] n x initial was before mid) (sym same.player) r))
+    subst (λ (o : Option (List ℕ)). Reached table ends script [] n q (span initial now before o)) (sym same.told)
+    (subst (λ (ds : List Device). Reached table ends script [] n q (span initial ds before mid)) (sym same.boards) (subst (λ (x : Player). Reached table ends script [] n x (span initial was before mid)) (sym same.player) r))
 
 -- no line was left
 pub lines_end : (a b c : Option (List ℕ)) (reads writes : Type 0) (old new : Reading) (more : List ℕ) (number : ℕ) (p q : Player) (initial was now : List Device) (before mid after : Option (List ℕ)) (at_end : Type 0)
@@ -53,8 +53,8 @@ lines_end a b c reads writes old new more number p q initial was now before mid 
     let few : length input ≤ most_used_bytes = omega (arith, i.passed, i.used) in
     let behind : behind_lines i.given input ≡ [] = ap (behind_lines i.given) (sym (append-nil input)) ∙ f.behind [] in
     let script : script_from true first_place 1 (lines input ++ []) ≡ script_of input = ap (λ (ls : List (List ℕ)). script_from true first_place 1 ls) (append-nil (lines input)) ∙ sym (script_all input few) in
-    let r : (table : List Row) → Reached table true (script_of input) [] (i.given + 1) p initial was before mid =
-    λ table. subst (λ (s : Script). Reached table true s [] (i.given + 1) p initial was before mid) script (f.reached table true []) in (
+    let r : (table : List Row) → Reached table true (script_of input) [] (i.given + 1) p (span initial was before mid) =
+    λ table. subst (λ (s : Script). Reached table true s [] (i.given + 1) p (span initial was before mid)) script (f.reached table true []) in (
       input,
       all,
       λ table. (
@@ -69,15 +69,15 @@ lines_end a b c reads writes old new more number p q initial was now before mid 
 
 -- the script of the lines that were read so far
 front_reached : {table : List Row} (front : List ℕ) (given : ℕ) (p : Player) (initial now : List Device) (before after : Option (List ℕ)) → FrontPlayed front given p initial now before after
-    → Reached table false (script_from false first_place 1 (lines front)) [] (given + 1) p initial now before after
+    → Reached table false (script_from false first_place 1 (lines front)) [] (given + 1) p (span initial now before after)
 front_reached {table} front given p initial now before after f =
-    subst (λ (ls : List (List ℕ)). Reached table false (script_from false first_place 1 ls) [] (given + 1) p initial now before after) (append-nil (lines front)) (f.reached table false [])
+    subst (λ (ls : List (List ℕ)). Reached table false (script_from false first_place 1 ls) [] (given + 1) p (span initial now before after)) (append-nil (lines front)) (f.reached table false [])
 
 whole_read : (front bytes : List ℕ) (done : List Line) → IsFront front → HasNoEnd bytes → AllRead (lines front) done → AllWhole (front ++ bytes) done
 whole_read front bytes done is none all = subst (λ (xs : List ℕ). AllRead (lines xs) done) (sym (whole_of_taken front bytes is none)) all
 
 read_stopped : {table : List Row} (front bytes : List ℕ) (given : ℕ) (p : Player) (initial now : List Device) (before after : Option (List ℕ)) → IsFront front → length front ≤ most_used_bytes → HasNoEnd bytes
-    → Reached table false (script_from false first_place 1 (lines front)) [] (given + 1) p initial now before after
+    → Reached table false (script_from false first_place 1 (lines front)) [] (given + 1) p (span initial now before after)
     → PlayedUpTo table (script_of (front ++ bytes)) initial before after (λ c. (c.begun ≡ []) × BoardsStand c.last initial now × AreWhole (front ++ bytes) c.done × AllWhole (front ++ bytes) c.done)
 read_stopped front bytes given p initial now before after is few none r =
     let first : Script = script_from false first_place 1 (lines front) in
@@ -96,7 +96,7 @@ pub lines_failed : (a b c : Option (List ℕ)) (reads failed writes : Type 0) �
 lines_failed a b c reads failed writes spread old more number p q initial was now before mid after at_end i taken (rose, none, fits, same) =
     let bytes : List ℕ = old.ahead ++ more in
     let few : length (i.front ++ bytes) ≤ most_used_bytes = omega (arith, length-append i.front bytes, i.passed, fits) in
-    let r : (table : List Row) → Reached table false (script_from false first_place 1 (lines i.front)) [] (i.given + 1) q initial now before after =
+    let r : (table : List Row) → Reached table false (script_from false first_place 1 (lines i.front)) [] (i.given + 1) q (span initial now before after) =
     λ table. reached_same false (script_from false first_place 1 (lines i.front)) (i.given + 1) p q initial was now before mid after same (front_reached i.front i.given p initial was before mid i.played) in (
       i.front ++ bytes,
       joined a b c i.front old.ahead more i.taken taken,
@@ -114,26 +114,26 @@ lines_over a b c reads writes old more number p q initial was now before mid aft
     let none : HasNoEnd (take (most_used_bytes - length i.front) bytes) = subst (λ k. HasNoEnd (take (most_used_bytes - k) bytes)) i.passed over.none in
     let uses : used input ≡ i.front = over_used i.front bytes i.played.is few (omega (arith, long)) none in
     let script : script_from false first_place 1 (lines i.front) ≡ script_of input = sym (script_over input i.front (omega (arith, long)) uses) in
-    let r : (table : List Row) → Reached table false (script_from false first_place 1 (lines i.front)) [] (i.given + 1) q initial now before after =
+    let r : (table : List Row) → Reached table false (script_from false first_place 1 (lines i.front)) [] (i.given + 1) q (span initial now before after) =
     λ table. reached_same false (script_from false first_place 1 (lines i.front)) (i.given + 1) p q initial was now before mid after same (front_reached i.front i.given p initial was before mid i.played) in (
       input,
       joined a b c i.front old.ahead more i.taken taken,
-      λ table. (long, (i.given + 1, q, subst (λ (s : Script). Reached table false s [] (i.given + 1) q initial now before after) script (r table))),
+      λ table. (long, (i.given + 1, q, subst (λ (s : Script). Reached table false s [] (i.given + 1) q (span initial now before after)) script (r table))),
     )
 
 -- ---- a line at which a replay stops
 
 -- a stop is known by more of what was done
-stops_with : {table : List Row} (stop : Stop) (script : Script) (W V : Progress table script → Type 0) (number : ℕ) (initial now : List Device) (before after : Option (List ℕ)) (failed : Type 0) → ((c : Progress table script) → W c) → ((c : Progress table script) → V c)
-    → StopsThere table stop script number initial now before after failed → StopsAtText table stop script W V number initial now before after failed
-stops_with Memory script W V number initial now before after failed w v f = record { came = f.came; text = f.text; more = f.more; told = f.told; whole = f.whole; limits = f.limits; stood = f.stood; there = (f.there.0, w f.came) }
-stops_with (BadInput line fault) script W V number initial now before after failed w v (same, f) = (same, record { came = f.came; told = f.told; limits = f.limits; stood = f.stood; there = (f.there.0, f.there.1, f.there.2, f.there.3, w f.came) })
-stops_with WriteFault script W V number initial now before after failed w v (rose, f) = (rose, record { came = f.came; text = f.text; more = f.more; told = f.told; whole = f.whole; limits = f.limits; stood = f.stood; there = (f.there.0, f.there.1, w f.came) })
-stops_with FlashFault script W V number initial now before after failed w v f = record { came = f.came; told = f.told; limits = f.limits; stood = f.stood; there = (f.there.0, f.there.1, v f.came) }
-stops_with TooMany script W V number initial now before after failed w v f = record { came = f.came; told = f.told; limits = f.limits; stood = f.stood; there = (f.there.0, f.there.1, f.there.2, w f.came) }
-stops_with (NoBoard motes boards) script W V number initial now before after failed w v f = record { came = f.came; told = f.told; limits = f.limits; stood = f.stood; there = (f.there.0, f.there.1, f.there.2, f.there.3, w f.came) }
-stops_with NoImage script W V number initial now before after failed w v f = record { came = f.came; told = f.told; limits = f.limits; stood = f.stood; there = (f.there.0, f.there.1, f.there.2, f.there.3, v f.came) }
-stops_with NotAVolume script W V number initial now before after failed w v f = record { came = f.came; told = f.told; limits = f.limits; stood = f.stood; there = (f.there.0, f.there.1, v f.came) }
+stops_with : {table : List Row} (stop : Stop) (script : Script) (W : Progress table script → Type 0) (number : ℕ) (initial now : List Device) (before after : Option (List ℕ)) (failed : Type 0) → ((c : Progress table script) → W c)
+    → StopsThere table stop script number (span initial now before after) failed → StopsAtText table stop script W number (span initial now before after) failed
+stops_with Memory script W number initial now before after failed w f = record { came = f.came; text = f.text; more = f.more; told = f.told; whole = f.whole; limits = f.limits; stood = f.stood; there = (f.there.0, w f.came) }
+stops_with (BadInput line fault) script W number initial now before after failed w (same, f) = (same, record { came = f.came; told = f.told; limits = f.limits; stood = f.stood; there = (f.there.0, f.there.1, f.there.2, f.there.3, w f.came) })
+stops_with WriteFault script W number initial now before after failed w (rose, f) = (rose, record { came = f.came; text = f.text; more = f.more; told = f.told; whole = f.whole; limits = f.limits; stood = f.stood; there = (f.there.0, f.there.1, w f.came) })
+stops_with FlashFault script W number initial now before after failed w f = record { came = f.came; told = f.told; limits = f.limits; stood = f.stood; there = (f.there.0, f.there.1, w f.came) }
+stops_with TooMany script W number initial now before after failed w f = record { came = f.came; told = f.told; limits = f.limits; stood = f.stood; there = (f.there.0, f.there.1, f.there.2, w f.came) }
+stops_with (NoBoard motes boards) script W number initial now before after failed w f = record { came = f.came; told = f.told; limits = f.limits; stood = f.stood; there = (f.there.0, f.there.1, f.there.2, f.there.3, w f.came) }
+stops_with NoImage script W number initial now before after failed w f = record { came = f.came; told = f.told; limits = f.limits; stood = f.stood; there = (f.there.0, f.there.1, f.there.2, f.there.3, w f.came) }
+stops_with NotAVolume script W number initial now before after failed w f = record { came = f.came; told = f.told; limits = f.limits; stood = f.stood; there = (f.there.0, f.there.1, w f.came) }
 
 by_rules : (stop : Stop) {S : Type 0} → S → ByRules stop S
 by_rules Memory s = tt
@@ -145,7 +145,7 @@ by_rules (NoBoard motes boards) s = s
 by_rules NoImage s = tt
 by_rules NotAVolume s = tt
 
-lacking_of : (table : List Row) (stop : Stop) (script : Script) (number : ℕ) (initial now : List Device) (before after : Option (List ℕ)) (failed : Type 0) → StopsThere table stop script number initial now before after failed → stop ≡ TooMany → lacking (length initial) script.lines ≡ None
+lacking_of : (table : List Row) (stop : Stop) (script : Script) (number : ℕ) (initial now : List Device) (before after : Option (List ℕ)) (failed : Type 0) → StopsThere table stop script number (span initial now before after) failed → stop ≡ TooMany → lacking (length initial) script.lines ≡ None
 lacking_of table TooMany script number initial now before after failed f e = f.there.2
 lacking_of table Memory script number initial now before after failed f e = absurd cc
 lacking_of table (BadInput line fault) script number initial now before after failed f e = absurd cc
@@ -157,21 +157,21 @@ lacking_of table NotAVolume script number initial now before after failed f e = 
 
 abbrev same_ending : (table : List Row) (stop : Stop) (input more : List ℕ) (number : ℕ) (initial now : List Device) (before after : Option (List ℕ)) (failed : Type 0) → Type 0
 same_ending table stop input more number initial now before after failed =
-    StopsThere table stop (script_of (input ++ more)) number initial now before after failed → StopsThere table stop (script_of input) number initial now before after failed → ByRules stop (ending_of (length initial) (input ++ more) ≡ ending_of (length initial) input)
+    StopsThere table stop (script_of (input ++ more)) number (span initial now before after) failed → StopsThere table stop (script_of input) number (span initial now before after) failed → ByRules stop (ending_of (length initial) (input ++ more) ≡ ending_of (length initial) input)
 
 ends_same : (table : List Row) (stop : Stop) (input more : List ℕ) (number : ℕ) (initial now : List Device) (before after : Option (List ℕ)) (failed : Type 0) → same_ending table stop input more number initial now before after failed
 ends_same table Memory input more number initial now before after failed f g = tt
 ends_same table (BadInput line fault) input more number initial now before after failed f g =
-    stop_ending (BadInput line fault) (has_unused_bytes (input ++ more)) (script_of (input ++ more)) (λ c. Unit {0}) (λ c. Unit {0}) number initial now before after failed f
-    ∙ sym (stop_ending (BadInput line fault) (has_unused_bytes input) (script_of input) (λ c. Unit {0}) (λ c. Unit {0}) number initial now before after failed g)
+    stop_ending (BadInput line fault) (has_unused_bytes (input ++ more)) (script_of (input ++ more)) (λ c. Unit {0}) number initial now before after failed f
+    ∙ sym (stop_ending (BadInput line fault) (has_unused_bytes input) (script_of input) (λ c. Unit {0}) number initial now before after failed g)
 ends_same table WriteFault input more number initial now before after failed f g = tt
 ends_same table FlashFault input more number initial now before after failed f g = tt
 ends_same table TooMany input more number initial now before after failed f g =
-    stop_ending TooMany (has_unused_bytes (input ++ more)) (script_of (input ++ more)) (λ c. Unit {0}) (λ c. Unit {0}) number initial now before after failed f
-    ∙ sym (stop_ending TooMany (has_unused_bytes input) (script_of input) (λ c. Unit {0}) (λ c. Unit {0}) number initial now before after failed g)
+    stop_ending TooMany (has_unused_bytes (input ++ more)) (script_of (input ++ more)) (λ c. Unit {0}) number initial now before after failed f
+    ∙ sym (stop_ending TooMany (has_unused_bytes input) (script_of input) (λ c. Unit {0}) number initial now before after failed g)
 ends_same table (NoBoard motes boards) input more number initial now before after failed f g =
-    stop_ending (NoBoard motes boards) (has_unused_bytes (input ++ more)) (script_of (input ++ more)) (λ c. Unit {0}) (λ c. Unit {0}) number initial now before after failed f
-    ∙ sym (stop_ending (NoBoard motes boards) (has_unused_bytes input) (script_of input) (λ c. Unit {0}) (λ c. Unit {0}) number initial now before after failed g)
+    stop_ending (NoBoard motes boards) (has_unused_bytes (input ++ more)) (script_of (input ++ more)) (λ c. Unit {0}) number initial now before after failed f
+    ∙ sym (stop_ending (NoBoard motes boards) (has_unused_bytes input) (script_of input) (λ c. Unit {0}) number initial now before after failed g)
 ends_same table NoImage input more number initial now before after failed f g = tt
 ends_same table NotAVolume input more number initial now before after failed f g = tt
 
@@ -188,22 +188,22 @@ settled_by NotAVolume input at_end n same = tt
 
 -- whatever follows whole lines
 module _ (table : List Row) (stop : Stop) (front rest : List ℕ) (is : IsFront front) (few : length front ≤ most_used_bytes) (number : ℕ) (initial now : List Device) (before after : Option (List ℕ)) (failed : Type 0)
-    (all : (ends : Bool) (more : List (List ℕ)) → StopsThere table stop (script_from ends first_place 1 (lines front ++ more)) number initial now before after failed) where
-  in_more : (more : List ℕ) → StopsThere table stop (script_of (front ++ more)) number initial now before after failed
+    (all : (ends : Bool) (more : List (List ℕ)) → StopsThere table stop (script_from ends first_place 1 (lines front ++ more)) number (span initial now before after) failed) where
+  in_more : (more : List ℕ) → StopsThere table stop (script_of (front ++ more)) number (span initial now before after) failed
   in_more more =
       let u = used_begins front more is few in
-      subst (λ (s : Script). StopsThere table stop s number initial now before after failed) (sym (script_begins (front ++ more) (lines front) u.0 u.1)) (all (not (has_unused_bytes (front ++ more))) u.0)
+      subst (λ (s : Script). StopsThere table stop s number (span initial now before after) failed) (sym (script_begins (front ++ more) (lines front) u.0 u.1)) (all (not (has_unused_bytes (front ++ more))) u.0)
 
-  in_front : StopsThere table stop (script_from false first_place 1 (lines front)) number initial now before after failed
-  in_front = subst (λ (ls : List (List ℕ)). StopsThere table stop (script_from false first_place 1 ls) number initial now before after failed) (append-nil (lines front)) (all false [])
+  in_front : StopsThere table stop (script_from false first_place 1 (lines front)) number (span initial now before after) failed
+  in_front = subst (λ (ls : List (List ℕ)). StopsThere table stop (script_from false first_place 1 ls) number (span initial now before after) failed) (append-nil (lines front)) (all false [])
 
-  behind_more_bytes : (more : List ℕ) → StopsThere table stop (script_of ((front ++ rest) ++ more)) number initial now before after failed
-  behind_more_bytes more = subst (λ (xs : List ℕ). StopsThere table stop (script_of xs) number initial now before after failed) (sym (append_assoc front rest more)) (in_more (rest ++ more))
+  behind_more_bytes : (more : List ℕ) → StopsThere table stop (script_of ((front ++ rest) ++ more)) number (span initial now before after) failed
+  behind_more_bytes more = subst (λ (xs : List ℕ). StopsThere table stop (script_of xs) number (span initial now before after) failed) (sym (append_assoc front rest more)) (in_more (rest ++ more))
 
   pub settles : (at_end : Type 0) → ByRules stop (at_end ⊎ IsSettled (length initial) (front ++ rest))
   settles at_end = settled_by stop (front ++ rest) at_end (length initial) (λ more. ends_same table stop (front ++ rest) more number initial now before after failed (behind_more_bytes more) (in_more rest))
 
-  pub stops_in : (at_end : Type 0) → StopsInTaken table stop (script_of (front ++ rest)) (front ++ rest) at_end number initial now before after failed
+  pub stops_in : (at_end : Type 0) → StopsInTaken table stop (script_of (front ++ rest)) (bytes_taken (front ++ rest) at_end) number (span initial now before after) failed
   stops_in at_end = stops_here front rest is few at_end number initial now before after failed table stop in_front (lacking_of table stop (script_of (front ++ rest)) number initial now before after failed (in_more rest))
 
 -- it stops at a line that ends in LF
@@ -214,7 +214,7 @@ stopped_whole law stop a c reads at_end front line text rest given p q initial w
     let whole : List ℕ = front ++ line in
     let few : length whole ≤ most_used_bytes = omega (arith, length-append whole rest, fits) in
     let is = front_more front text line l in
-    let all : (table : List Row) (ends : Bool) (more : List (List ℕ)) → StopsThere table stop (script_from ends first_place 1 (lines whole ++ more)) (given + 1) initial now before after worse = front_stopped law stop front text line given p q initial was now before mid after failed worse spread f l (λ done w table s. answer done w table s) in
+    let all : (table : List Row) (ends : Bool) (more : List (List ℕ)) → StopsThere table stop (script_from ends first_place 1 (lines whole ++ more)) (given + 1) (span initial now before after) worse = front_stopped law stop front text line given p q initial was now before mid after failed worse spread f l (λ done w table s. answer done w table s) in
     let behind : behind_lines (given + 1) (whole ++ rest) ≡ rest = behind_more front text line given f.behind l rest in (
       whole ++ rest,
       taken,
@@ -232,8 +232,8 @@ stopped_part : (law : ImageIsFound) (stop : Stop) (a c : Option (List ℕ)) (rea
 stopped_part law stop a c reads at_end front line text given p q initial was now before mid after failed worse spread f taken fits ended l answer =
     let input : List ℕ = front ++ line in
     let spelled : script_from true first_place 1 (lines front ++ text ∷ []) ≡ script_of input = ap (λ (ls : List (List ℕ)). script_from true first_place 1 ls) (sym (last_text front text line f.is l)) ∙ sym (script_all input fits) in
-    let there : (table : List Row) → StopsThere table stop (script_of input) (given + 1) initial now before after worse =
-    λ table. subst (λ (s : Script). StopsThere table stop s (given + 1) initial now before after worse) spelled
+    let there : (table : List Row) → StopsThere table stop (script_of input) (given + 1) (span initial now before after) worse =
+    λ table. subst (λ (s : Script). StopsThere table stop s (given + 1) (span initial now before after) worse) spelled
     (text_stopped law stop front text given p q initial was now before mid after failed worse spread f (λ done w table s. answer done w table s) table true []) in (
       input,
       taken,
@@ -243,7 +243,7 @@ stopped_part law stop a c reads at_end front line text given p q initial was now
         (
           given + 1,
           omega (arith, ap length (behind_last front text line given f.behind l)),
-          stops_with stop (script_of input) (λ c. at_end ⊎ DoneIsWhole input c.done c.rest c.begun) (λ c. at_end ⊎ NextIsWhole input c.done c.rest) (given + 1) initial now before after worse (λ c. inl ended) (λ c. inl ended) (there table),
+          stops_with stop (script_of input) (λ c. at_end ⊎ IsWholeAt stop input c.done c.rest c.begun) (given + 1) initial now before after worse (λ c. inl ended) (there table),
         ),
       ),
     )

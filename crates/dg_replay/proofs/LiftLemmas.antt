@@ -21,6 +21,7 @@ use Rattle.dg_replay.specs.Fronts.{IsFront, BeginsAs}
 use Rattle.dg_replay.specs.Outcome.{Progress, played_text, AtTooMany, BoardsLeft, AreWhole, NextIsWhole, DoneIsWhole}
 use Rattle.dg_replay.specs.Replaying.{PlayedUpTo, HasFew, ToldBefore, StopsThere, StopsInTaken}
 use Rattle.dg_replay.specs.declared.stop.Stop.{Stop}
+use Rattle.dg_replay.specs.Stages.{span, bytes_taken}
 use Rattle.dg_replay.specs.declared.stop.Stop.TheVariants.{Memory, BadInput, WriteFault, FlashFault, TooMany, NoBoard, NoImage, NotAVolume}
 use Rattle.dg_replay.proofs.FrontLemmas.{front_begins}
 
@@ -133,8 +134,8 @@ module _ (front ahead : List ℕ) (is : IsFront front) (few : length front ≤ m
 
   -- A stop at the last line of whole lines is one in every script that begins with them, and the bytes are enough for it.
   module _ (at_end : Type 0) (number : ℕ) (initial now : List Device) (before after : Option (List ℕ)) (failed : Type 0) where
-    fault_here : {table : List Row} (line : ℕ) (fault : LineFault) → StopsThere table (BadInput line fault) (script_from false first_place 1 (lines front)) number initial now before after failed
-        → StopsInTaken table (BadInput line fault) (script_of (front ++ ahead)) (front ++ ahead) at_end number initial now before after failed
+    fault_here : {table : List Row} (line : ℕ) (fault : LineFault) → StopsThere table (BadInput line fault) (script_from false first_place 1 (lines front)) number (span initial now before after) failed
+        → StopsInTaken table (BadInput line fault) (script_of (front ++ ahead)) (bytes_taken (front ++ ahead) at_end) number (span initial now before after) failed
     fault_here {table} line fault (same, f) =
         let first : Script = script_from false first_place 1 (lines front) in
         let input : List ℕ = front ++ ahead in
@@ -145,9 +146,9 @@ module _ (front ahead : List ℕ) (is : IsFront front) (few : length front ≤ m
         let made : P first = record { came = c; told = f.told; limits = f.limits; stood = f.stood; there = (f.there.0, f.there.1, f.there.2, f.there.3, inr all) } in
         (same, subst P (sym (begins_here.fault (line, fault) f.there.1)) made)
 
-    pub stops_here : (table : List Row) (stop : Stop) → StopsThere table stop (script_from false first_place 1 (lines front)) number initial now before after failed
+    pub stops_here : (table : List Row) (stop : Stop) → StopsThere table stop (script_from false first_place 1 (lines front)) number (span initial now before after) failed
         → (stop ≡ TooMany → lacking (length initial) (script_of (front ++ ahead)).lines ≡ None)
-        → StopsInTaken table stop (script_of (front ++ ahead)) (front ++ ahead) at_end number initial now before after failed
+        → StopsInTaken table stop (script_of (front ++ ahead)) (bytes_taken (front ++ ahead) at_end) number (span initial now before after) failed
     stops_here table Memory f enough =
         record { came = lifted begins_here f.came; text = f.text; more = f.more; told = f.told; whole = f.whole; limits = f.limits; stood = f.stood; there = (f.there.0, inr (done_whole f.came begins_here.rest)) }
     stops_here table (BadInput line fault) f enough = fault_here line fault f

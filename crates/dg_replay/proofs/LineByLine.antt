@@ -16,7 +16,7 @@ use Rattle.dg_replay.specs.Playing.{Stood}
 use Rattle.dg_replay.specs.Near.{behind_line, behind_lines}
 use Rattle.dg_replay.specs.Replaying.{TextTold, TextAnswer, Reached, StopsThere}
 use Rattle.dg_replay.specs.declared.player.Player.{Player}
-use Rattle.dg_replay.specs.Stages.{based_on, done_so_far, replay_state, line_read}
+use Rattle.dg_replay.specs.Stages.{based_on, done_so_far, replay_state, line_read, span}
 use Rattle.dg_replay.specs.declared.stop.Stop.{Stop}
 use Rattle.dg_replay.proofs.FrontLemmas.{lines_front}
 use Rattle.dg_replay.proofs.GoldenLemmas.{ImageIsFound, image_found}
@@ -29,7 +29,7 @@ use Rattle.dg_replay.proofs.NextLineLemmas.{reached_next}
 pub record FrontPlayed (front : List ℕ) (given : ℕ) (p : Player) (initial now : List Device) (before after : Option (List ℕ)) : Type 0 where
   pub is : IsFront front
   pub behind : (more : List ℕ) → behind_lines given (front ++ more) ≡ more
-  pub reached : (table : List Row) (ends : Bool) (more : List (List ℕ)) → Reached table ends (script_from ends first_place 1 (lines front ++ more)) more (given + 1) p initial now before after
+  pub reached : (table : List Row) (ends : Bool) (more : List (List ℕ)) → Reached table ends (script_from ends first_place 1 (lines front ++ more)) more (given + 1) p (span initial now before after)
 
 -- nothing was read
 pub front_first : (p : Player) (initial : List Device) (before : Option (List ℕ)) → p.place ≡ first_place → FrontPlayed [] 0 p initial initial before before
@@ -62,7 +62,7 @@ front_next front text line given p q initial old now before mid after f l told =
   behind = behind_more front text line given f.behind l;
   reached = λ table ends more.
       let r = f.reached table ends (text ∷ more) in
-      subst (λ (ts : List (List ℕ)). Reached table ends (script_from ends first_place 1 ts) more (given + 1 + 1) q initial now before after) (sym (texts_next front text line more f.is l))
+      subst (λ (ts : List (List ℕ)). Reached table ends (script_from ends first_place 1 ts) more (given + 1 + 1) q (span initial now before after)) (sym (texts_next front text line more f.is l))
       (reached_next ends (script_from ends first_place 1 (lines front ++ text ∷ more)) more text (given + 1) p q initial old now before mid after r (told r.done r.last table r.stood));
 }
 
@@ -70,7 +70,7 @@ front_next front text line given p q initial old now before mid after f l told =
 pub text_stopped : (law : ImageIsFound) (stop : Stop) (front text : List ℕ) (given : ℕ) (p q : Player) (initial old now : List Device) (before mid after : Option (List ℕ)) (failed worse : Type 0) → (failed → worse)
     → FrontPlayed front given p initial old before mid
     → ((done : List Line) (w : Option World) (table : List Row) → Stood p done w initial old → TextAnswer (based_on table initial) (Err stop) (line_read text (given + 1)) (done_so_far done w) (replay_state p old mid) (replay_state q now after) failed)
-    → (table : List Row) (ends : Bool) (more : List (List ℕ)) → StopsThere table stop (script_from ends first_place 1 (lines front ++ text ∷ more)) (given + 1) initial now before after worse
+    → (table : List Row) (ends : Bool) (more : List (List ℕ)) → StopsThere table stop (script_from ends first_place 1 (lines front ++ text ∷ more)) (given + 1) (span initial now before after) worse
 text_stopped law stop front text given p q initial old now before mid after failed worse spread f answer table ends more =
     let r = f.reached table ends (text ∷ more) in
     let script : Script = script_from ends first_place 1 (lines front ++ text ∷ more) in
@@ -82,7 +82,7 @@ text_stopped law stop front text given p q initial old now before mid after fail
 pub front_stopped : (law : ImageIsFound) (stop : Stop) (front text line : List ℕ) (given : ℕ) (p q : Player) (initial old now : List Device) (before mid after : Option (List ℕ)) (failed worse : Type 0) → (failed → worse)
     → FrontPlayed front given p initial old before mid → IsLine text line
     → ((done : List Line) (w : Option World) (table : List Row) → Stood p done w initial old → TextAnswer (based_on table initial) (Err stop) (line_read text (given + 1)) (done_so_far done w) (replay_state p old mid) (replay_state q now after) failed)
-    → (table : List Row) (ends : Bool) (more : List (List ℕ)) → StopsThere table stop (script_from ends first_place 1 (lines (front ++ line) ++ more)) (given + 1) initial now before after worse
+    → (table : List Row) (ends : Bool) (more : List (List ℕ)) → StopsThere table stop (script_from ends first_place 1 (lines (front ++ line) ++ more)) (given + 1) (span initial now before after) worse
 front_stopped law stop front text line given p q initial old now before mid after failed worse spread f l answer table ends more =
-    subst (λ (ts : List (List ℕ)). StopsThere table stop (script_from ends first_place 1 ts) (given + 1) initial now before after worse) (sym (texts_next front text line more f.is l))
+    subst (λ (ts : List (List ℕ)). StopsThere table stop (script_from ends first_place 1 ts) (given + 1) (span initial now before after) worse) (sym (texts_next front text line more f.is l))
     (text_stopped law stop front text given p q initial old now before mid after failed worse spread f answer table ends more)

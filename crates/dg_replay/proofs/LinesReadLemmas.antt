@@ -21,7 +21,7 @@ use Rattle.dg_replay.specs.Playing.{Stood}
 use Rattle.dg_replay.specs.Replaying.{TextAnswer, Reached, InputAnswer}
 use Rattle.dg_replay.specs.declared.halt.Halt.{Halt}
 use Rattle.dg_replay.specs.declared.player.Player.{Player}
-use Rattle.dg_replay.specs.Stages.{based_on, done_so_far, replay_state, line_read}
+use Rattle.dg_replay.specs.Stages.{based_on, done_so_far, replay_state, line_read, span, bytes_taken, failures}
 use Rattle.dg_replay.specs.declared.stop.Stop.{Stop}
 use Rattle.dg_replay.proofs.EndLemmas.{script_all}
 use Rattle.dg_replay.proofs.FrontLemmas.{lines_front}
@@ -133,10 +133,10 @@ pub then_none : (n : ℕ) (bytes : List ℕ) → behind_lines n bytes ≡ [] →
 then_none n bytes e = behind_next n bytes ∙ ap behind_line e ∙ none_behind
 
 abbrev pub Comes : (a c : Option (List ℕ)) → Result (Player × ℕ) Halt → (at_end read_failed : Type 0) → (initial now : List Device) → (before after : Option (List ℕ)) → (write_failed : Type 0) → Type 0
-Comes a c r at_end reads initial now before after failed = (bytes : List ℕ) × Takes a c bytes × ((table : List Row) → InputAnswer table r bytes at_end reads initial now before after failed)
+Comes a c r at_end reads initial now before after failed = (bytes : List ℕ) × Takes a c bytes × ((table : List Row) → InputAnswer table r (bytes_taken bytes at_end) (span initial now before after) (failures reads failed))
 
-pub at_number : {table : List Row} (script : Script) (n m : ℕ) (q : Player) (initial now : List Device) (before after : Option (List ℕ)) → n ≡ m → Reached table true script [] m q initial now before after → Reached table true script [] n q initial now before after
-at_number {table} script n m q initial now before after e r = subst (λ k. Reached table true script [] k q initial now before after) (sym e) r
+pub at_number : {table : List Row} (script : Script) (n m : ℕ) (q : Player) (initial now : List Device) (before after : Option (List ℕ)) → n ≡ m → Reached table true script [] m q (span initial now before after) → Reached table true script [] n q (span initial now before after)
+at_number {table} script n m q initial now before after e r = subst (λ k. Reached table true script [] k q (span initial now before after)) (sym e) r
 
 -- the last line was read and played
 last_whole : (a c : Option (List ℕ)) (reads writes at_end : Type 0) (front line text : List ℕ) (given number : ℕ) (p q : Player) (initial was now : List Device) (before mid after : Option (List ℕ)) (failed : Type 0)
@@ -154,7 +154,7 @@ last_whole a c reads writes at_end front line text given number p q initial was 
         ended,
         few,
         ap (λ k. behind_lines k input) same ∙ then_none (given + 1) input behind,
-        at_number (script_of input) (number + 1) (given + 1 + 1) q initial now before after same (subst (λ (s : Script). Reached table true s [] (given + 1 + 1) q initial now before after) script (next.reached table true [])),
+        at_number (script_of input) (number + 1) (given + 1 + 1) q initial now before after same (subst (λ (s : Script). Reached table true s [] (given + 1 + 1) q (span initial now before after)) script (next.reached table true [])),
       ),
     )
 
@@ -164,7 +164,7 @@ last_part : (a c : Option (List ℕ)) (reads writes at_end : Type 0) (front line
 last_part a c reads writes at_end front line text given number p q initial was now before mid after failed f numbered taken few ended l told =
     let input : List ℕ = front ++ line in
     let script : Script = script_from true first_place 1 (lines front ++ text ∷ []) in
-    let next : (table : List Row) → Reached table true script [] (given + 1 + 1) q initial now before after =
+    let next : (table : List Row) → Reached table true script [] (given + 1 + 1) q (span initial now before after) =
     λ table. let r = f.reached table true (text ∷ []) in reached_next true script [] text (given + 1) p q initial was now before mid after r (told r.done r.last table r.stood) in
     let same : number + 1 ≡ given + 1 + 1 = ap (λ k. k + 1) numbered in
     let spelled : script ≡ script_of input = ap (λ (ls : List (List ℕ)). script_from true first_place 1 ls) (sym (last_text front text line f.is l)) ∙ sym (script_all input few) in (
@@ -174,7 +174,7 @@ last_part a c reads writes at_end front line text given number p q initial was n
         ended,
         few,
         ap (λ k. behind_lines k input) same ∙ then_none (given + 1) input (behind_last front text line given f.behind l),
-        at_number (script_of input) (number + 1) (given + 1 + 1) q initial now before after same (subst (λ (s : Script). Reached table true s [] (given + 1 + 1) q initial now before after) spelled (next table)),
+        at_number (script_of input) (number + 1) (given + 1 + 1) q initial now before after same (subst (λ (s : Script). Reached table true s [] (given + 1 + 1) q (span initial now before after)) spelled (next table)),
       ),
     )
 

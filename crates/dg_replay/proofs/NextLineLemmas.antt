@@ -23,7 +23,7 @@ use Rattle.dg_replay.specs.Ending.{events_in, InBounds}
 use Rattle.dg_replay.specs.Outcome.{Progress, AtTooMany, RunsTo, item_played, played_text}
 use Rattle.dg_replay.specs.Playing.{InWorld, RunsOn, RunsFrom, LineBegun, IsOneTooMany}
 use Rattle.dg_replay.specs.Replaying.{TextPlayed, TextTold, Reached, PlayedFront}
-use Rattle.dg_replay.specs.Stages.{based_on, done_so_far, replay_state}
+use Rattle.dg_replay.specs.Stages.{based_on, done_so_far, replay_state, span}
 use Rattle.dg_replay.specs.declared.player.Player.{Player}
 use Rattle.dg_replay.proofs.ItemLemmas.{some_is, items_next, begin_next, plays_append, played_more, runs_from_none, run_counts}
 use Rattle.dg_world.specs.Mounted.{StandFor}
@@ -152,7 +152,7 @@ few_items done ps items few = subst (λ (xs : List Item). events_among xs ≤ mo
 
 -- the next line was played, and what is told of it was written
 pub reached_next : {table : List Row} (ends : Bool) (script : Script) (texts : List (List ℕ)) (text : List ℕ) (n : ℕ) (p q : Player) (initial old now : List Device) (before mid after : Option (List ℕ))
-    → (r : Reached table ends script (text ∷ texts) n p initial old before mid) → TextTold (based_on table initial) text (done_so_far r.done r.last) (replay_state p old mid) (replay_state q now after) → Reached table ends script texts (n + 1) q initial now before after
+    → (r : Reached table ends script (text ∷ texts) n p (span initial old before mid)) → TextTold (based_on table initial) text (done_so_far r.done r.last) (replay_state p old mid) (replay_state q now after) → Reached table ends script texts (n + 1) q (span initial now before after)
 reached_next ends script texts text n p q initial old now before mid after r t =
     let line = t.played.line in
     let to = t.played.to in
@@ -203,7 +203,7 @@ all_put before mid after ps qs t told tells put = subst (λ (xs : List ℕ). Put
 -- ---- how far a replay came
 
 -- It began no line behind those that were done.
-abbrev pub at_line : {table : List Row} (ends : Bool) (script : Script) (texts : List (List ℕ)) (n : ℕ) (p : Player) (initial now : List Device) (before mid : Option (List ℕ)) → Reached table ends script texts n p initial now before mid → Progress table script
+abbrev pub at_line : {table : List Row} (ends : Bool) (script : Script) (texts : List (List ℕ)) (n : ℕ) (p : Player) (initial now : List Device) (before mid : Option (List ℕ)) → Reached table ends script texts n p (span initial now before mid) → Progress table script
 at_line ends script texts n p initial now before mid r =
     record {
       done = r.done;
@@ -223,7 +223,7 @@ at_line ends script texts n p initial now before mid r =
 
 -- It played one more line.
 abbrev pub behind_line : {table : List Row} (ends : Bool) (script : Script) (texts : List (List ℕ)) (text : List ℕ) (n : ℕ) (p q : Player) (initial old now : List Device) (before mid : Option (List ℕ))
-    → (r : Reached table ends script (text ∷ texts) n p initial old before mid) → (t : TextPlayed (based_on table initial) text (done_so_far r.done r.last) p q now) → RunsOn table initial r.done t.line t.to.world t.to.text r.played → Progress table script
+    → (r : Reached table ends script (text ∷ texts) n p (span initial old before mid)) → (t : TextPlayed (based_on table initial) text (done_so_far r.done r.last) p q now) → RunsOn table initial r.done t.line t.to.world t.to.text r.played → Progress table script
 behind_line ends script texts text n p q initial old now before mid r t on =
     record {
       done = r.done ++ t.line ∷ [];
@@ -246,7 +246,7 @@ items_over done ps now items first next = map-append item_played ps now ∙ ap (
 
 -- It began the next line.
 abbrev pub in_line : {table : List Row} {P : Option World → List Item → List ℕ → Type 0} (ends : Bool) (script : Script) (texts : List (List ℕ)) (text : List ℕ) (n : ℕ) (p : Player) (initial old : List Device) (before mid : Option (List ℕ)) (line : Line)
-    → (r : Reached table ends script (text ∷ texts) n p initial old before mid) → line_of p.place text ≡ Ok line → (b : LineBegun r.done line r.last P) → Over (beginning_of r.ground r.done).world r.played b.begun b.world b.text → (b.left ≡ [] → b.begun ≡ []) → Progress table script
+    → (r : Reached table ends script (text ∷ texts) n p (span initial old before mid)) → line_of p.place text ≡ Ok line → (b : LineBegun r.done line r.last P) → Over (beginning_of r.ground r.done).world r.played b.begun b.world b.text → (b.left ≡ [] → b.begun ≡ []) → Progress table script
 in_line ends script texts text n p initial old before mid line r spelled b o within =
     record {
       done = r.done;
@@ -265,7 +265,7 @@ in_line ends script texts text n p initial old before mid line r spelled b o wit
     }
 
 pub run_of : {table : List Row} {P : Option World → List Item → List ℕ → Type 0} (ends : Bool) (script : Script) (texts : List (List ℕ)) (text : List ℕ) (n : ℕ) (p : Player) (initial old : List Device) (before mid : Option (List ℕ)) (line : Line)
-    → (r : Reached table ends script (text ∷ texts) n p initial old before mid) → (b : LineBegun r.done line r.last P) → Over (beginning_of r.ground r.done).world r.played b.begun b.world b.text
+    → (r : Reached table ends script (text ∷ texts) n p (span initial old before mid)) → (b : LineBegun r.done line r.last P) → Over (beginning_of r.ground r.done).world r.played b.begun b.world b.text
 run_of ends script texts text n p initial old before mid line r b = over (beginning_of r.ground r.done).world r.last r.played b.begun b.world b.text r.run b.runs
 
 pub over_tells : (o v : Option World) (ps : List Played) (items : List Item) (t : List ℕ) → (x : Over o ps items v t) → played_text (ps ++ x.now) ≡ played_text ps ++ t
@@ -317,7 +317,7 @@ run_with ground done line ps v busy run =
     subst (λ (o : Option World). RunsTo o ps v) (sym (ap (λ (b : Beginning). b.world) (begin_next ground _ done line) ∙ busy.begins ground (beginning_of ground done))) run
 
 abbrev pub all_of_line : {table : List Row} (ends : Bool) (script : Script) (texts : List (List ℕ)) (text : List ℕ) (n : ℕ) (p : Player) (initial old : List Device) (before mid : Option (List ℕ)) (line : Line) (begun : List Item) (v : Option World) (t : List ℕ)
-    → (r : Reached table ends script (text ∷ texts) n p initial old before mid) → line_of p.place text ≡ Ok line → item_by (place_behind first_place r.done) line ≡ begun → IsBusy line → Over (beginning_of r.ground r.done).world r.played begun v t → Progress table script
+    → (r : Reached table ends script (text ∷ texts) n p (span initial old before mid)) → line_of p.place text ≡ Ok line → item_by (place_behind first_place r.done) line ≡ begun → IsBusy line → Over (beginning_of r.ground r.done).world r.played begun v t → Progress table script
 all_of_line ends script texts text n p initial old before mid line begun v t r spelled parts busy o =
     record {
       done = r.done ++ line ∷ [];

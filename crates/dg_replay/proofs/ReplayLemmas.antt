@@ -67,7 +67,7 @@ begun_some : (o v : Option World) (ps : List Played) (begun : List Item) (t : Li
 begun_some o v ps begun t x some none = some (x.told ∙ none_told x.now (x.are ∙ none))
 
 -- memory ran out in a line
-memory_begun : {table : List Row} (ends : Bool) (script : Script) (texts : List (List ℕ)) (text : List ℕ) (n : ℕ) (p : Player) (initial old now : List Device) (before mid after : Option (List ℕ)) (line : Line) (r : Reached table ends script (text ∷ texts) n p initial old before mid)
+memory_begun : {table : List Row} (ends : Bool) (script : Script) (texts : List (List ℕ)) (text : List ℕ) (n : ℕ) (p : Player) (initial old now : List Device) (before mid after : Option (List ℕ)) (line : Line) (r : Reached table ends script (text ∷ texts) n p (span initial old before mid))
     → line_of p.place text ≡ Ok line → (b : LineBegun r.done line r.last (λ v left t. BoardsStand v initial now)) → Choice b.begun b.left → after ≡ mid → PlayedFront table script initial before after (λ c text. BoardsStand c.last initial now × Unit {0})
 memory_begun ends script texts text n p initial old now before mid after line r spelled b (inl within) none =
     let o = run_of ends script texts text n p initial old before mid line r b in
@@ -98,7 +98,7 @@ told_all done ps items =
 
 -- all that was told before a line that was played was written
 told_line : {table : List Row} (ends : Bool) (script : Script) (texts : List (List ℕ)) (text : List ℕ) (n : ℕ) (p q : Player) (initial old now : List Device) (before mid : Option (List ℕ))
-    → (r : Reached table ends script (text ∷ texts) n p initial old before mid) → (t : TextPlayed (based_on table initial) text (done_so_far r.done r.last) p q now) → (on : RunsOn table initial r.done t.line t.to.world t.to.text r.played) → (told : List ℕ) (k : ℕ) → told ≡ t.to.text
+    → (r : Reached table ends script (text ∷ texts) n p (span initial old before mid)) → (t : TextPlayed (based_on table initial) text (done_so_far r.done r.last) p q now) → (on : RunsOn table initial r.done t.line t.to.world t.to.text r.played) → (told : List ℕ) (k : ℕ) → told ≡ t.to.text
     → ToldBefore n (behind_line ends script texts text n p q initial old now before mid r t on) (played_text r.played ++ take k told)
 told_line ends script texts text n p q initial old now before mid r t on told k same =
     ⊎_elim
@@ -124,7 +124,7 @@ told_line ends script texts text n p q initial old now before mid r t on told k 
 
 -- a line was played, and what is told of it was not all written
 cut_told : {table : List Row} (ends : Bool) (script : Script) (texts : List (List ℕ)) (text : List ℕ) (n : ℕ) (p q : Player) (initial old now : List Device) (before mid after : Option (List ℕ))
-    → (r : Reached table ends script (text ∷ texts) n p initial old before mid) → TextCut (based_on table initial) text (done_so_far r.done r.last) (replay_state p old mid) (replay_state q now after) → PlayedFront table script initial before after (λ c text. BoardsLeft status.WriteFault c initial now × ToldBefore n c text × Unit {0})
+    → (r : Reached table ends script (text ∷ texts) n p (span initial old before mid)) → TextCut (based_on table initial) text (done_so_far r.done r.last) (replay_state p old mid) (replay_state q now after) → PlayedFront table script initial before after (λ c text. BoardsLeft status.WriteFault c initial now × ToldBefore n c text × Unit {0})
 cut_told ends script texts text n p q initial old now before mid after r t =
     let to = t.played.to in
     let line = t.played.line in
@@ -138,7 +138,7 @@ cut_told ends script texts text n p q initial old now before mid after r t =
 
 -- all that was told before a line that was begun was written
 told_begun : {table : List Row} {P : Option World → List Item → List ℕ → Type 0} (ends : Bool) (script : Script) (texts : List (List ℕ)) (text : List ℕ) (n : ℕ) (p : Player) (initial old : List Device) (before mid : Option (List ℕ)) (line : Line)
-    → (r : Reached table ends script (text ∷ texts) n p initial old before mid) → (spelled : line_of p.place text ≡ Ok line) → (b : LineBegun r.done line r.last P) → (o : Over (beginning_of r.ground r.done).world r.played b.begun b.world b.text) → (within : b.left ≡ [] → b.begun ≡ []) → (k : ℕ)
+    → (r : Reached table ends script (text ∷ texts) n p (span initial old before mid)) → (spelled : line_of p.place text ≡ Ok line) → (b : LineBegun r.done line r.last P) → (o : Over (beginning_of r.ground r.done).world r.played b.begun b.world b.text) → (within : b.left ≡ [] → b.begun ≡ []) → (k : ℕ)
     → ToldBefore n (in_line ends script texts text n p initial old before mid line r spelled b o within) (played_text r.played ++ take k b.text)
 told_begun ends script texts text n p initial old before mid line r spelled b o within k = record {
   lines = length r.done;
@@ -149,7 +149,7 @@ told_begun ends script texts text n p initial old before mid line r spelled b o 
 }
 
 -- a line was begun, and so
-cut_begun : {table : List Row} (ends : Bool) (script : Script) (texts : List (List ℕ)) (text : List ℕ) (n : ℕ) (p : Player) (initial old now : List Device) (before mid after : Option (List ℕ)) (line : Line) (r : Reached table ends script (text ∷ texts) n p initial old before mid)
+cut_begun : {table : List Row} (ends : Bool) (script : Script) (texts : List (List ℕ)) (text : List ℕ) (n : ℕ) (p : Player) (initial old now : List Device) (before mid after : Option (List ℕ)) (line : Line) (r : Reached table ends script (text ∷ texts) n p (span initial old before mid))
     → line_of p.place text ≡ Ok line → (b : LineBegun r.done line r.last (λ v left t. CutAtStop r.done line v left t (span initial now mid after) ⊎ (CutAtTooMany v left t (span initial now mid after) ⊎ CutAtImage v left t (span initial now mid after))))
     → CutAtStop r.done line b.world b.left b.text (span initial now mid after) ⊎ (CutAtTooMany b.world b.left b.text (span initial now mid after) ⊎ CutAtImage b.world b.left b.text (span initial now mid after))
     → (InSome b.world (λ u. LacksImage u b.left initial now) → UsesBoards r.done) → PlayedFront table script initial before after (λ c text. BoardsLeft status.WriteFault c initial now × ToldBefore n c text × Unit {0})
@@ -184,7 +184,7 @@ cut_begun ends script texts text n p initial old now before mid after line r spe
 
 -- all that was told before a line that was begun was told, whatever follows all that is told of that
 image_told : {table : List Row} {P : Option World → List Item → List ℕ → Type 0} (ends : Bool) (script : Script) (texts : List (List ℕ)) (text : List ℕ) (n : ℕ) (p : Player) (initial old : List Device) (before mid : Option (List ℕ)) (line : Line)
-    → (r : Reached table ends script (text ∷ texts) n p initial old before mid) → (spelled : line_of p.place text ≡ Ok line) → (b : LineBegun r.done line r.last P) → (o : Over (beginning_of r.ground r.done).world r.played b.begun b.world b.text) → (within : b.left ≡ [] → b.begun ≡ []) → (more : List ℕ)
+    → (r : Reached table ends script (text ∷ texts) n p (span initial old before mid)) → (spelled : line_of p.place text ≡ Ok line) → (b : LineBegun r.done line r.last P) → (o : Over (beginning_of r.ground r.done).world r.played b.begun b.world b.text) → (within : b.left ≡ [] → b.begun ≡ []) → (more : List ℕ)
     → ToldBefore n (in_line ends script texts text n p initial old before mid line r spelled b o within) (played_text (r.played ++ o.now) ++ more)
 image_told ends script texts text n p initial old before mid line r spelled b o within more = record {
   lines = length r.done;
@@ -196,7 +196,7 @@ image_told ends script texts text n p initial old before mid line r spelled b o 
 }
 
 -- an event of a line found no image to start
-image_begun : {table : List Row} (ends : Bool) (script : Script) (texts : List (List ℕ)) (text : List ℕ) (n : ℕ) (p : Player) (initial old now : List Device) (before mid after : Option (List ℕ)) (line : Line) (r : Reached table ends script (text ∷ texts) n p initial old before mid)
+image_begun : {table : List Row} (ends : Bool) (script : Script) (texts : List (List ℕ)) (text : List ℕ) (n : ℕ) (p : Player) (initial old now : List Device) (before mid after : Option (List ℕ)) (line : Line) (r : Reached table ends script (text ∷ texts) n p (span initial old before mid))
     → line_of p.place text ≡ Ok line → UsesBoards r.done → LineBegun r.done line r.last (λ v left t. InSome v (λ u. LacksImage u left initial now) × Puts mid after t)
     → PlayedUpTo table script initial before after (λ c. ((line : Line) × (more : List Line) × (c.rest ≡ line ∷ more)) × UsesBoards c.done × NoImageThere c initial now × ((more : List ℕ) → ToldBefore n c (played_text c.played ++ more)) × Unit {0})
 image_begun ends script texts text n p initial old now before mid after line r spelled uses b =
@@ -210,7 +210,7 @@ image_begun ends script texts text n p initial old now before mid after line r s
     }
 
 -- a board stopped in a line
-stop_begun : {table : List Row} (ends : Bool) (script : Script) (texts : List (List ℕ)) (text : List ℕ) (n : ℕ) (p : Player) (initial old now : List Device) (before mid after : Option (List ℕ)) (line : Line) (r : Reached table ends script (text ∷ texts) n p initial old before mid)
+stop_begun : {table : List Row} (ends : Bool) (script : Script) (texts : List (List ℕ)) (text : List ℕ) (n : ℕ) (p : Player) (initial old now : List Device) (before mid after : Option (List ℕ)) (line : Line) (r : Reached table ends script (text ∷ texts) n p (span initial old before mid))
     → line_of p.place text ≡ Ok line → UsesBoard line → LineBegun r.done line r.last (λ v left t. StoppedIn (motes_in r.done) (line ∷ []) left v initial now × Puts mid after t)
     → PlayedUpTo table script initial before after (λ c. ((line : Line) × (more : List Line) × (c.rest ≡ line ∷ more) × UsesBoard line) × BoardStoppedThere c initial now × Unit {0})
 stop_begun ends script texts text n p initial old now before mid after line r spelled uses b =
@@ -226,7 +226,7 @@ stop_begun ends script texts text n p initial old now before mid after line r sp
     }
 
 -- there were too many events in it
-many_begun : {table : List Row} (ends : Bool) (script : Script) (texts : List (List ℕ)) (text : List ℕ) (n : ℕ) (p : Player) (initial old now : List Device) (before mid after : Option (List ℕ)) (line : Line) (r : Reached table ends script (text ∷ texts) n p initial old before mid)
+many_begun : {table : List Row} (ends : Bool) (script : Script) (texts : List (List ℕ)) (text : List ℕ) (n : ℕ) (p : Player) (initial old now : List Device) (before mid after : Option (List ℕ)) (line : Line) (r : Reached table ends script (text ∷ texts) n p (span initial old before mid))
     → line_of p.place text ≡ Ok line → LineBegun r.done line r.last (λ v left t. InSome v (λ u. IsOneTooMany u left) × BoardsStand v initial now × Puts mid after t)
     → PlayedUpTo table script initial before after (λ c. AtTooMany c.left c.played × BoardsStand c.last initial now × (lacking (length initial) script.lines ≡ None) × Unit {0})
 many_begun ends script texts text n p initial old now before mid after line r spelled b =
@@ -248,14 +248,14 @@ many_begun ends script texts text n p initial old now before mid after line r sp
 
 -- nothing was done behind the lines that were done
 nothing_more : {table : List Row} (ends : Bool) (script : Script) (texts : List (List ℕ)) (n : ℕ) (p : Player) (initial old now : List Device) (before mid after : Option (List ℕ))
-    → Reached table ends script texts n p initial old before mid → NothingDone old now mid after → PlayedFront table script initial before after (λ c text. BoardsStand c.last initial now × Unit {0})
+    → Reached table ends script texts n p (span initial old before mid) → NothingDone old now mid after → PlayedFront table script initial before after (λ c text. BoardsStand c.last initial now × Unit {0})
 nothing_more ends script texts n p initial old now before mid after r none =
     front_put script initial before mid after r.played [] (at_line ends script texts n p initial old before mid r) r.told (sym (append-nil (played_text r.played))) (front_kept mid after [] none.told)
     (record { boards_enough = r.boards_enough; few_events = few_items r.done r.played r.items r.few })
     (λ uses. (r.grounded uses).1) (λ k. (subst (λ (ds : List Device). BoardsStand r.last initial ds) (sym none.boards) r.stood.boards, tt))
 
 -- where a line was read and not begun
-at_line_put : {table : List Row} (ends : Bool) (script : Script) (texts : List (List ℕ)) (n : ℕ) (p : Player) (initial old : List Device) (before mid after : Option (List ℕ)) {P : Progress table script → Type 0} → (r : Reached table ends script texts n p initial old before mid) → after ≡ mid
+at_line_put : {table : List Row} (ends : Bool) (script : Script) (texts : List (List ℕ)) (n : ℕ) (p : Player) (initial old : List Device) (before mid after : Option (List ℕ)) {P : Progress table script → Type 0} → (r : Reached table ends script texts n p (span initial old before mid)) → after ≡ mid
     → P (at_line ends script texts n p initial old before mid r) → PlayedUpTo table script initial before after P
 at_line_put ends script texts n p initial old before mid after r none there =
     record {
@@ -267,7 +267,7 @@ at_line_put ends script texts n p initial old before mid after r none there =
     }
 
 -- a script all of whose lines were done
-pub all_done : {table : List Row} (ends : Bool) (script : Script) (texts : List (List ℕ)) (n : ℕ) (p : Player) (initial now : List Device) (before mid : Option (List ℕ)) → (r : Reached table ends script texts n p initial now before mid)
+pub all_done : {table : List Row} (ends : Bool) (script : Script) (texts : List (List ℕ)) (n : ℕ) (p : Player) (initial now : List Device) (before mid : Option (List ℕ)) → (r : Reached table ends script texts n p (span initial now before mid))
     → (script_from ends p.place n texts).lines ≡ [] → HasFew script initial
 all_done ends script texts n p initial now before mid r none =
     let all : r.done ≡ script.lines = sym (append-nil r.done) ∙ ap (λ (ls : List Line). r.done ++ ls) (sym none) ∙ r.lines in
@@ -277,7 +277,7 @@ all_done ends script texts n p initial now before mid r none =
     }
 
 -- no script with golden lacks an image
-image_uses : {table : List Row} {ends : Bool} {script : Script} {texts : List (List ℕ)} {text : List ℕ} {n : ℕ} {p : Player} {initial old now : List Device} {before mid : Option (List ℕ)} (r : Reached table ends script (text ∷ texts) n p initial old before mid)
+image_uses : {table : List Row} {ends : Bool} {script : Script} {texts : List (List ℕ)} {text : List ℕ} {n : ℕ} {p : Player} {initial old now : List Device} {before mid : Option (List ℕ)} (r : Reached table ends script (text ∷ texts) n p (span initial old before mid))
     → ((UsesBoards r.done → ⊥) → TextRead text p (λ line. LineBegun r.done line r.last (λ v left t. InSome v (λ u. LacksImage u left initial now))) → ⊥)
     → (line : Line) → line_of p.place text ≡ Ok line → (begun left : List Item) → item_by (place_behind first_place r.done) line ≡ begun ++ left → (world : Option World) (told : List ℕ) → RunsFrom r.last begun world told
     → InSome world (λ u. LacksImage u left initial now) → UsesBoards r.done
@@ -286,8 +286,8 @@ image_uses r found line spelled begun left parts world told runs lacks =
 
 -- a stop at a line, behind the lines that were done
 pub stopped_at : {table : List Row} (stop : Stop) (ends : Bool) (script : Script) (texts : List (List ℕ)) (text : List ℕ) (n : ℕ) (p q : Player) (initial old now : List Device) (before mid after : Option (List ℕ)) (failed worse : Type 0) → (failed → worse)
-    → (r : Reached table ends script (text ∷ texts) n p initial old before mid) → ((UsesBoards r.done → ⊥) → TextRead text p (λ line. LineBegun r.done line r.last (λ v left t. InSome v (λ u. LacksImage u left initial now))) → ⊥)
-    → TextAnswer (based_on table initial) (Err stop) (line_read text n) (done_so_far r.done r.last) (replay_state p old mid) (replay_state q now after) failed → StopsThere table stop script n initial now before after worse
+    → (r : Reached table ends script (text ∷ texts) n p (span initial old before mid)) → ((UsesBoards r.done → ⊥) → TextRead text p (λ line. LineBegun r.done line r.last (λ v left t. InSome v (λ u. LacksImage u left initial now))) → ⊥)
+    → TextAnswer (based_on table initial) (Err stop) (line_read text n) (done_so_far r.done r.last) (replay_state p old mid) (replay_state q now after) failed → StopsThere table stop script n (span initial now before after) worse
 stopped_at Memory ends script texts text n p q initial old now before mid after failed worse spread r found (inl none) = nothing_more ends script (text ∷ texts) n p initial old now before mid after r none
 stopped_at Memory ends script texts text n p q initial old now before mid after failed worse spread r found (inr (t, none)) =
     memory_begun ends script texts text n p initial old now before mid after t.line r t.spelled t.there (choose t.there.begun t.there.left) none
@@ -340,7 +340,7 @@ stopped_at NotAVolume ends script texts text n p q initial old now before mid af
 
 -- the first line of the script is reached at once
 pub reached_first : {table : List Row} (ends : Bool) (texts : List (List ℕ)) (p : Player) (initial : List Device) (before : Option (List ℕ)) → p.place ≡ first_place
-    → Reached table ends (script_from ends first_place 1 texts) texts 1 p initial initial before before
+    → Reached table ends (script_from ends first_place 1 texts) texts 1 p (span initial initial before before)
 unfolding place_behind items_behind begin_behind lacking
 reached_first {table} ends texts p initial before place =
     record {
@@ -371,8 +371,8 @@ reached_first {table} ends texts p initial before place =
 
 -- the texts that are left, where the next line was found
 pub reached_texts : {table : List Row} (ends : Bool) (script : Script) (texts others : List (List ℕ)) (n : ℕ) (p : Player) (initial now : List Device) (before mid : Option (List ℕ)) → texts ≡ others
-    → Reached table ends script texts n p initial now before mid → Reached table ends script others n p initial now before mid
-reached_texts {table} ends script texts others n p initial now before mid e r = subst (λ (ts : List (List ℕ)). Reached table ends script ts n p initial now before mid) e r
+    → Reached table ends script texts n p (span initial now before mid) → Reached table ends script others n p (span initial now before mid)
+reached_texts {table} ends script texts others n p initial now before mid e r = subst (λ (ts : List (List ℕ)). Reached table ends script ts n p (span initial now before mid)) e r
 
 -- what stands for a world is ready
 pub ready_of : (p : Player) (done : List Line) (w : Option World) (initial now : List Device) → Stood p done w initial now → Ready p now

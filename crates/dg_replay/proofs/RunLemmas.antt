@@ -24,6 +24,7 @@ use Rattle.dg_replay.specs.Replaying.{Reached, PlayedUpTo, InputAnswer, StopEnds
 use Rattle.dg_replay.specs.declared.halt.Halt.{Halt}
 use Rattle.dg_replay.specs.declared.halt.Halt.TheVariants as halts
 use Rattle.dg_replay.specs.declared.stop.Stop.{Stop}
+use Rattle.dg_replay.specs.Stages.{span, bytes_taken, failures}
 use Rattle.dg_replay.specs.declared.player.Player.{Player}
 use Rattle.dg_replay.proofs.EndLemmas.{over_not, is_over-true, over_ends, stopped_ends, in_limits}
 use Rattle.dg_replay.proofs.TakenLemmas.{over_settled, over_done, none_whole, stopped_of_script, known_in_script}
@@ -73,7 +74,7 @@ end_replayed {table} s input at_end old new before after reads writes ended few 
 
 -- an input that is too long
 pub over_replayed : {table : List Row} (s : Status) (input : List ℕ) (at_end : Type 0) (n : ℕ) (p : Player) (old new : List Device) (before mid after : Option (List ℕ)) (failed reads writes : Type 0) → (failed → writes) → length input ≡ most_used_bytes + 1
-    → Reached table false (script_of input) [] n p old new before mid → EndsWith s TooLong (ending_line Over) mid after failed
+    → Reached table false (script_of input) [] n p (span old new before mid) → EndsWith s TooLong (ending_line Over) mid after failed
     → ScriptReplayed table s (script_of input) (ending_of (length old) input) input at_end old new before after reads writes
 over_replayed {table} s input at_end n p old new before mid after failed reads writes spread long r done =
     let over : has_unused_bytes input ≡ true = is_over-true input (omega (arith, long)) in
@@ -91,25 +92,25 @@ failed_replayed input at_end ending old new before after reads writes rose f =
 -- ---- how the lines that were played end
 
 -- a read failed
-pub halt_failed : {table : List Row} (halt : Halt) (input : List ℕ) (at_end reads : Type 0) (old new : List Device) (before after : Option (List ℕ)) (writes worse : Type 0) → halt ≡ halts.ReadFault → InputAnswer table (Err halt) input at_end reads old new before after writes
+pub halt_failed : {table : List Row} (halt : Halt) (input : List ℕ) (at_end reads : Type 0) (old new : List Device) (before after : Option (List ℕ)) (writes worse : Type 0) → halt ≡ halts.ReadFault → InputAnswer table (Err halt) (bytes_taken input at_end) (span old new before after) (failures reads writes)
     → (length input ≤ most_used_bytes + 1) × ScriptReplayed table ReadFault (script_of input) (ending_of (length old) input) input at_end old new before after reads worse
 halt_failed {table} halt input at_end reads old new before after writes worse is answer =
-    let h : InputAnswer table (Err halts.ReadFault) input at_end reads old new before after writes = subst (λ (x : Halt). InputAnswer table (Err x) input at_end reads old new before after writes) is answer in
+    let h : InputAnswer table (Err halts.ReadFault) (bytes_taken input at_end) (span old new before after) (failures reads writes) = subst (λ (x : Halt). InputAnswer table (Err x) (bytes_taken input at_end) (span old new before after) (failures reads writes)) is answer in
     (omega (arith, h.1), failed_replayed input at_end (ending_of (length old) input) old new before after reads worse h.0 h.2)
 
 -- the input is too long
-pub halt_over : {table : List Row} (halt : Halt) (s : Status) (input : List ℕ) (at_end reads : Type 0) (old new : List Device) (before mid after : Option (List ℕ)) (failed later worse : Type 0) → halt ≡ halts.TooLong → (later → worse) → InputAnswer table (Err halt) input at_end reads old new before mid failed
+pub halt_over : {table : List Row} (halt : Halt) (s : Status) (input : List ℕ) (at_end reads : Type 0) (old new : List Device) (before mid after : Option (List ℕ)) (failed later worse : Type 0) → halt ≡ halts.TooLong → (later → worse) → InputAnswer table (Err halt) (bytes_taken input at_end) (span old new before mid) (failures reads failed)
     → EndsWith s TooLong (ending_line Over) mid after later → (length input ≤ most_used_bytes + 1) × ScriptReplayed table s (script_of input) (ending_of (length old) input) input at_end old new before after reads worse
 halt_over {table} halt s input at_end reads old new before mid after failed later worse is widen answer done =
-    let h : InputAnswer table (Err halts.TooLong) input at_end reads old new before mid failed = subst (λ (x : Halt). InputAnswer table (Err x) input at_end reads old new before mid failed) is answer in
+    let h : InputAnswer table (Err halts.TooLong) (bytes_taken input at_end) (span old new before mid) (failures reads failed) = subst (λ (x : Halt). InputAnswer table (Err x) (bytes_taken input at_end) (span old new before mid) (failures reads failed)) is answer in
     (omega (arith, h.0), over_replayed s input at_end h.1.0 h.1.1 old new before mid after later reads worse widen h.0 h.1.2 done)
 
 -- the replay stopped at a line
 pub halt_stopped : {table : List Row} (halt : Halt) (stop : Stop) (s : Status) (input : List ℕ) (at_end reads : Type 0) (old new : List Device) (before mid after : Option (List ℕ)) (failed later worse : Type 0) → halt ≡ halts.Stopped stop → (failed → worse) → (later → worse)
-    → InputAnswer table (Err halt) input at_end reads old new before mid failed → StopEnds stop s mid after later
+    → InputAnswer table (Err halt) (bytes_taken input at_end) (span old new before mid) (failures reads failed) → StopEnds stop s mid after later
     → (length input ≤ most_used_bytes + 1) × ScriptReplayed table s (script_of input) (ending_of (length old) input) input at_end old new before after reads worse
 halt_stopped {table} halt stop s input at_end reads old new before mid after failed later worse is spread widen answer done =
-    let h : InputAnswer table (Err (halts.Stopped stop)) input at_end reads old new before mid failed = subst (λ (x : Halt). InputAnswer table (Err x) input at_end reads old new before mid failed) is answer in
+    let h : InputAnswer table (Err (halts.Stopped stop)) (bytes_taken input at_end) (span old new before mid) (failures reads failed) = subst (λ (x : Halt). InputAnswer table (Err x) (bytes_taken input at_end) (span old new before mid) (failures reads failed)) is answer in
     (omega (arith, h.0), stopped_ends stop s (script_of input) (has_unused_bytes input) input at_end h.2.0 old new before mid after failed later reads worse spread widen h.2.1 h.1 h.2.2 done)
 
 -- what a replay did, where these bytes were taken

@@ -27,7 +27,7 @@ use Rattle.dg_replay.specs.Outcome.{Progress, ReachesEnding, AtTooMany, closing,
 use Rattle.dg_replay.specs.Outcome.{RunsTo, item_played, played_text, told_of, IsSettled, AreWhole, AllWhole, NextIsWhole}
 use Rattle.dg_replay.specs.Outcome.{DoneIsWhole, ReadEnough, ReadsNear, NoVolumeThere, NoImageThere, no_volume_line}
 use Rattle.dg_replay.specs.Outcome.{no_image_line}
-use Rattle.dg_replay.specs.Stages.{Basis, DoneSoFar, ReplayState, LineRead, Span, telling, span}
+use Rattle.dg_replay.specs.Stages.{Basis, DoneSoFar, ReplayState, LineRead, Span, BytesTaken, Failures, telling, span}
 use Rattle.dg_replay.specs.Playing.{Stood, PlayedLine, LineBegun, IsOneTooMany, LacksBoards, Grounded}
 use Rattle.dg_replay.specs.declared.player.Player.{Player}
 use Rattle.dg_script.specs.declared.line.Line.{Line}
@@ -151,7 +151,7 @@ TextAnswer basis (Err NotAVolume) read behind a b failed =
 
 -- These texts are left of a script, and what comes before them was played.
 pub record Reached (table : List Row) (ends : Bool) (script : Script) (texts : List (List ℕ)) (number : ℕ) (p : Player)
-    (initial now : List Device) (before after : Option (List ℕ)) : Type 0 where
+    (s : Span) : Type 0 where
   pub done : List Line
   pub played : List Played
   pub last : Option World
@@ -161,12 +161,12 @@ pub record Reached (table : List Row) (ends : Bool) (script : Script) (texts : L
   pub items : map item_played played ≡ items_of done
   pub ground : Ground
   pub run : RunsTo (beginning_of ground done).world played last
-  pub grounded : Grounded table initial ground done
-  pub told : Puts before after (played_text played)
-  pub stood : Stood p done last initial now
+  pub grounded : Grounded table s.initial ground done
+  pub told : Puts s.before s.after (played_text played)
+  pub stood : Stood p done last s.initial s.now
   pub few : events_in done ≤ most_events
   -- there are boards for the motes of every line that was done
-  pub boards_enough : lacking (length initial) done ≡ None
+  pub boards_enough : lacking (length s.initial) done ≡ None
 
 -- A script was played so far, what was written is a front of what is told of that, and P holds of how far,
 -- and of what was written.
@@ -203,47 +203,52 @@ pub record ToldBefore {table : List Row} {script : Script} (line : ℕ) (c : Pro
   pub more : List ℕ
   pub told : text ≡ told_of lines c ++ more
 
--- Why playing a script stops at the line of this number, and how far it came: W holds of that, or V where a board stopped.
-abbrev pub StopsAtText : (table : List Row) → Stop → (script : Script) → (W V : Progress table script → Type 0)
-    → (number : ℕ) → (initial now : List Device) → (before after : Option (List ℕ)) → (write_failed : Type 0) → Type 0
-StopsAtText table Memory script W V number initial now before after failed =
-    PlayedFront table script initial before after (λ c text. BoardsStand c.last initial now × W c)
-StopsAtText table (BadInput line fault) script W V number initial now before after failed =
-    (line ≡ number) × PlayedUpTo table script initial before after (λ c. (c.rest ≡ []) × (script.fault ≡ Some (line, fault))
-    × BoardsStand c.last initial now × HasFew script initial × W c)
-StopsAtText table WriteFault script W V number initial now before after failed = failed
-    × PlayedFront table script initial before after (λ c text. BoardsLeft status.WriteFault c initial now
+-- Why playing a script stops at the line of this number, and how far it came: W holds of that.
+abbrev pub StopsAtText : (table : List Row) → Stop → (script : Script) → (W : Progress table script → Type 0)
+    → (number : ℕ) → Span → (write_failed : Type 0) → Type 0
+StopsAtText table Memory script W number s failed =
+    PlayedFront table script s.initial s.before s.after (λ c text. BoardsStand c.last s.initial s.now × W c)
+StopsAtText table (BadInput line fault) script W number s failed = (line ≡ number)
+    × PlayedUpTo table script s.initial s.before s.after (λ c. (c.rest ≡ []) × (script.fault ≡ Some (line, fault))
+    × BoardsStand c.last s.initial s.now × HasFew script s.initial × W c)
+StopsAtText table WriteFault script W number s failed = failed
+    × PlayedFront table script s.initial s.before s.after (λ c text. BoardsLeft status.WriteFault c s.initial s.now
     × ToldBefore number c text × W c)
-StopsAtText table FlashFault script W V number initial now before after failed =
-    PlayedUpTo table script initial before after
-    (λ c. ((line : Line) × (more : List Line) × (c.rest ≡ line ∷ more) × UsesBoard line) × BoardStoppedThere c initial now × V c)
-StopsAtText table TooMany script W V number initial now before after failed =
-    PlayedUpTo table script initial before after (λ c. AtTooMany c.left c.played × BoardsStand c.last initial now
-    × (lacking (length initial) script.lines ≡ None) × W c)
-StopsAtText table (NoBoard motes boards) script W V number initial now before after failed =
-    PlayedUpTo table script initial before after
-    (λ c. ((boards ≡ length initial) × (boards < motes)) × ((more : List Line) × (c.rest ≡ Motes motes ∷ more))
-    × BoardsStand c.last initial now × (lacking (length initial) c.done ≡ None) × W c)
-StopsAtText table NoImage script W V number initial now before after failed =
-    PlayedUpTo table script initial before after (λ c. ((line : Line) × (more : List Line) × (c.rest ≡ line ∷ more))
-    × UsesBoards c.done × NoImageThere c initial now
-    × ((more : List ℕ) → ToldBefore number c (played_text c.played ++ more)) × V c)
-StopsAtText table NotAVolume script W V number initial now before after failed =
-    PlayedUpTo table script initial before after (λ c. NoVolumeThere c initial now
-    × ((more : List ℕ) → ToldBefore number c (played_text c.played ++ more)) × V c)
+StopsAtText table FlashFault script W number s failed =
+    PlayedUpTo table script s.initial s.before s.after
+    (λ c. ((line : Line) × (more : List Line) × (c.rest ≡ line ∷ more) × UsesBoard line)
+    × BoardStoppedThere c s.initial s.now × W c)
+StopsAtText table TooMany script W number s failed =
+    PlayedUpTo table script s.initial s.before s.after (λ c. AtTooMany c.left c.played × BoardsStand c.last s.initial s.now
+    × (lacking (length s.initial) script.lines ≡ None) × W c)
+StopsAtText table (NoBoard motes boards) script W number s failed =
+    PlayedUpTo table script s.initial s.before s.after
+    (λ c. ((boards ≡ length s.initial) × (boards < motes)) × ((more : List Line) × (c.rest ≡ Motes motes ∷ more))
+    × BoardsStand c.last s.initial s.now × (lacking (length s.initial) c.done ≡ None) × W c)
+StopsAtText table NoImage script W number s failed =
+    PlayedUpTo table script s.initial s.before s.after (λ c. ((line : Line) × (more : List Line) × (c.rest ≡ line ∷ more))
+    × UsesBoards c.done × NoImageThere c s.initial s.now
+    × ((more : List ℕ) → ToldBefore number c (played_text c.played ++ more)) × W c)
+StopsAtText table NotAVolume script W number s failed =
+    PlayedUpTo table script s.initial s.before s.after (λ c. NoVolumeThere c s.initial s.now
+    × ((more : List ℕ) → ToldBefore number c (played_text c.played ++ more)) × W c)
 
 -- the same where nothing more is said of how far it came
-abbrev pub StopsThere : (table : List Row) → Stop → (script : Script) → (number : ℕ) → (initial now : List Device)
-    → (before after : Option (List ℕ)) → (write_failed : Type 0) → Type 0
-StopsThere table stop script number initial now before after failed =
-    StopsAtText table stop script (λ c. Unit {0}) (λ c. Unit {0}) number initial now before after failed
+abbrev pub StopsThere : (table : List Row) → Stop → (script : Script) → (number : ℕ) → Span → (write_failed : Type 0) → Type 0
+StopsThere table stop script number s failed = StopsAtText table stop script (λ c. Unit {0}) number s failed
+
+-- Each line of which something was done is whole among these bytes, and so is the one at which the boards end the replay.
+abbrev pub IsWholeAt : Stop → (input : List ℕ) → (done rest : List Line) → (begun : List Item) → Type 0
+IsWholeAt FlashFault input done rest begun = NextIsWhole input done rest
+IsWholeAt NoImage input done rest begun = NextIsWhole input done rest
+IsWholeAt NotAVolume input done rest begun = NextIsWhole input done rest
+IsWholeAt stop input done rest begun = DoneIsWhole input done rest begun
 
 -- the same where these bytes were taken, which are enough for what was done
-abbrev pub StopsInTaken : (table : List Row) → Stop → (script : Script) → (input : List ℕ) → (at_end : Type 0) → (number : ℕ)
-    → (initial now : List Device) → (before after : Option (List ℕ)) → (write_failed : Type 0) → Type 0
-StopsInTaken table stop script input at_end number initial now before after failed =
-    StopsAtText table stop script (λ c. at_end ⊎ DoneIsWhole input c.done c.rest c.begun) (λ c. at_end
-    ⊎ NextIsWhole input c.done c.rest) number initial now before after failed
+abbrev pub StopsInTaken : (table : List Row) → Stop → (script : Script) → BytesTaken → (number : ℕ) → Span
+    → (write_failed : Type 0) → Type 0
+StopsInTaken table stop script taken number s failed =
+    StopsAtText table stop script (λ c. taken.at_end ⊎ IsWholeAt stop taken.bytes c.done c.rest c.begun) number s failed
 
 -- where the rules end the script there, S holds
 abbrev pub ByRules : Stop → Type 0 → Type 0
@@ -253,22 +258,19 @@ ByRules (NoBoard motes boards) S = S
 ByRules stop S = Unit {0}
 
 -- What playing the lines of an input as they are read answers, where these bytes were taken.
-abbrev pub InputAnswer : (table : List Row) → Result (Player × ℕ) Halt → (input : List ℕ) → (at_end read_failed : Type 0)
-    → (initial now : List Device) → (before after : Option (List ℕ)) → (write_failed : Type 0) → Type 0
-InputAnswer table (Ok reached) input at_end read_failed initial now before after failed =
-    at_end × (length input ≤ most_used_bytes) × (behind_lines reached.1 input ≡ [])
-    × Reached table true (script_of input) [] reached.1 reached.0 initial now before after
-InputAnswer table (Err ReadFault) input at_end read_failed initial now before after failed =
-    read_failed × (length input ≤ most_used_bytes)
-    × PlayedUpTo table (script_of input) initial before after (λ c. (c.begun ≡ []) × BoardsStand c.last initial now
-    × AreWhole input c.done × AllWhole input c.done)
-InputAnswer table (Err TooLong) input at_end read_failed initial now before after failed =
-    (length input ≡ most_used_bytes + 1) × ((number : ℕ) × (p : Player)
-    × Reached table false (script_of input) [] number p initial now before after)
-InputAnswer table (Err (Stopped stop)) input at_end read_failed initial now before after failed =
-    (length input ≤ most_used_bytes) × ByRules stop (at_end ⊎ IsSettled (length initial) input)
-    × ((number : ℕ) × FewBytesBehind number input
-    × StopsInTaken table stop (script_of input) input at_end number initial now before after failed)
+abbrev pub InputAnswer : (table : List Row) → Result (Player × ℕ) Halt → BytesTaken → Span → Failures → Type 0
+InputAnswer table (Ok reached) taken s failed =
+    taken.at_end × (length taken.bytes ≤ most_used_bytes) × (behind_lines reached.1 taken.bytes ≡ [])
+    × Reached table true (script_of taken.bytes) [] reached.1 reached.0 s
+InputAnswer table (Err ReadFault) taken s failed = failed.read × (length taken.bytes ≤ most_used_bytes)
+    × PlayedUpTo table (script_of taken.bytes) s.initial s.before s.after (λ c. (c.begun ≡ [])
+    × BoardsStand c.last s.initial s.now × AreWhole taken.bytes c.done × AllWhole taken.bytes c.done)
+InputAnswer table (Err TooLong) taken s failed = (length taken.bytes ≡ most_used_bytes + 1)
+    × ((number : ℕ) × (p : Player) × Reached table false (script_of taken.bytes) [] number p s)
+InputAnswer table (Err (Stopped stop)) taken s failed =
+    (length taken.bytes ≤ most_used_bytes) × ByRules stop (taken.at_end ⊎ IsSettled (length s.initial) taken.bytes)
+    × ((number : ℕ) × FewBytesBehind number taken.bytes
+    × StopsInTaken table stop (script_of taken.bytes) taken number s failed.write)
 
 -- A script came to its ending, and the end of its report, which is this piece, is not written yet.
 pub record ReadyToEnd (table : List Row) (script : Script) (ending : Ending) (piece : List ℕ) (initial now : List Device)

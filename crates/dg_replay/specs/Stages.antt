@@ -1,4 +1,4 @@
--- Where a replay stands: what it is held against, how far it came, and what stands outside then.
+-- Where a replay stands: what it is held against, how far it came, what stands outside then, and what may have failed there.
 use Rattle.std.specs.Prelude.{ℕ, List, Option}
 use Rattle.dg_nor.specs.Device.{Device}
 use Rattle.dg_object.specs.Object.{Row}
@@ -64,3 +64,11 @@ pub record BytesTaken : Type 1 where
 
 abbrev pub bytes_taken : (bytes : List ℕ) (at_end : Type 0) → BytesTaken
 bytes_taken bytes at_end = record { bytes = bytes; at_end = at_end }
+
+-- Whether a read failed, and whether a write failed.
+pub record Failures : Type 1 where
+  pub read : Type 0
+  pub write : Type 0
+
+abbrev pub failures : (read write : Type 0) → Failures
+failures read write = record { read = read; write = write }

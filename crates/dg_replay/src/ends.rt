@@ -8,6 +8,7 @@ ghost use Rattle.dg_replay.specs.Ending.{ending_from};
 ghost use Rattle.dg_replay.specs.Near.{behind_lines};
 ghost use Rattle.dg_replay.specs.Playing.{Ready};
 ghost use Rattle.dg_replay.specs.Replaying.{StopEnds, Reached, ScriptReplayed};
+ghost use Rattle.dg_replay.specs.Stages.{span};
 
 use crate::finish::{end_at_line, end_with, end_without_boards, finish};
 use crate::player::Player;
@@ -46,7 +47,7 @@ pub fn end_script<K: Sink, N: Nor>(
     requires { Ready player.now (map N.device boards.old.items) }
     ensures ends { (table : List Row) (script : Script) (input : List ℕ) (initial : List Device) (before : Option (List ℕ))
         (faults : ℕ) → faults ≤ K.faults out.old → behind_lines number input ≡ []
-        → Reached table true script [] number player.now initial (map N.device boards.old.items) before (K.written out.old)
+        → Reached table true script [] number player.now (span initial (map N.device boards.old.items) before (K.written out.old))
         → ScriptReplayed table result script (ending_from (length initial) false script) input ⊤ initial
         (map N.device boards.new.items) before (K.written out.new) ⊥ (Rose faults (K.faults out.new)) }
     ensures counts { K.faults out.old ≤ K.faults out.new }

@@ -9,7 +9,7 @@ ghost use Rattle.dg_script.specs.declared.line.Line.{Line};
 ghost use Rattle.dg_replay.specs.Following.{HaltedAs, NextPlayed, AllAsBefore};
 ghost use Rattle.dg_replay.specs.Playing.{Stood, Ready};
 ghost use Rattle.dg_replay.specs.Replaying.{TextAnswer, InputAnswer};
-ghost use Rattle.dg_replay.specs.Stages.{based_on, done_so_far, replay_state, line_read, bytes_taken};
+ghost use Rattle.dg_replay.specs.Stages.{based_on, done_so_far, replay_state, line_read, span, bytes_taken, failures};
 
 use crate::halt::Halt;
 use crate::items::Told;
@@ -98,9 +98,9 @@ pub fn play_lines<S: Source, K: Sink, N: Nor>(
     requires unread { reader.old.passed ≡ 0 }
     requires first { reader.old.number ≡ 0 }
     ensures answer { (bytes : List ℕ) × Takes (S.left input.old) (S.left input.new) bytes
-        × ((table : List Row) → InputAnswer table result bytes (AtEnd (S.left input.new))
-        (Rose (S.faults input.old) (S.faults input.new)) (map N.device boards.old.items) (map N.device boards.new.items)
-        (K.written out.old) (K.written out.new) (Rose (K.faults out.old) (K.faults out.new))) }
+        × ((table : List Row) → InputAnswer table result (bytes_taken bytes (AtEnd (S.left input.new)))
+        (span (map N.device boards.old.items) (map N.device boards.new.items) (K.written out.old) (K.written out.new))
+        (failures (Rose (S.faults input.old) (S.faults input.new)) (Rose (K.faults out.old) (K.faults out.new)))) }
     ensures reads { S.faults input.old ≤ S.faults input.new }
     ensures unread { result ≢ Err Halt.ReadFault → S.faults input.new ≡ S.faults input.old }
     ensures counts { K.faults out.old ≤ K.faults out.new }
